@@ -1,0 +1,9 @@
+//! A volume is a list of blocks of 512 bytes, cut into regions of one size.
+#![tactic(auto)]
+
+mod geometry;
+mod word;
+
+pub use geometry::{Geometry, Span};
+pub use vx_base::BLOCK;
+pub use word::{put_block, put_hex};

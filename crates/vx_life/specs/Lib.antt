@@ -1,0 +1,4 @@
+pub mod Candidates
+pub mod Entry
+pub mod Life
+pub mod Order

@@ -1,0 +1,49 @@
+-- What stands on a shelf.
+use Rattle.std.specs.Prelude.{◌≡◌, ℕ, Option, Some, None}
+use Rattle.vx_base.specs.Named.{Word, put, SameUnder}
+use Rattle.vx_piece.specs.Seen.{Seen}
+
+-- a device that was taken: its number, and its sectors
+pub record Held : Type 0 where
+  pub device : ℕ
+  pub sectors : ℕ
+
+abbrev pub held_as : Seen → Held
+held_as seen = record { device = seen.device; sectors = seen.sectors }
+
+-- the run is a whole device
+abbrev pub IsWhole : Seen → Type 0
+IsWhole seen = seen.start ≡ 0
+
+-- this device was taken, and no other
+abbrev pub IsOut : Option Held → Seen → Type 0
+IsOut held seen = held ≡ Some (held_as seen)
+
+-- no device has the name
+pub record IsNowhere (name : Word) (free : Word → Option Seen) (held : Word → Option Held) : Type 0 where
+  pub not_free : free name ≡ None
+  pub not_held : held name ≡ None
+
+-- the whole device is held now, and nobody held it before
+pub record IsTaken (name : Word) (seen : Seen) (old new : Word → Option Held) : Type 0 where
+  pub whole : IsWhole seen
+  pub before : old name ≡ None
+  pub after : SameUnder (put name (Some (held_as seen)) old) new
+
+-- it is the device that was told, which is no longer there; a shelf that tells nothing goes on so
+abbrev pub LeavesShelf : Word → Seen → Option (Word → Option Seen) → Option (Word → Option Seen) → Type 0
+LeavesShelf name seen None None = Unit {0}
+LeavesShelf name seen None (Some new) = ⊥
+LeavesShelf name seen (Some old) None = ⊥
+LeavesShelf name seen (Some old) (Some new) = (old name ≡ Some seen) × SameUnder (put name None old) new
+
+-- nobody holds a device of the name now
+abbrev pub IsGiven : Word → (Word → Option Held) → (Word → Option Held) → Type 0
+IsGiven name old new = SameUnder (put name None old) new
+
+-- the device is told again, as it is now
+abbrev pub ComesToShelf : Word → Seen → Option (Word → Option Seen) → Option (Word → Option Seen) → Type 0
+ComesToShelf name seen None None = Unit {0}
+ComesToShelf name seen None (Some new) = ⊥
+ComesToShelf name seen (Some old) None = ⊥
+ComesToShelf name seen (Some old) (Some new) = SameUnder (put name (Some seen) old) new

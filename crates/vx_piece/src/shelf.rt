@@ -1,0 +1,56 @@
+ghost use Rattle.std.specs.Prelude.{◌≡◌, ◌≤◌, ◌↔◌, ℕ, List, Option, IsSome, IfOk, IfSome, OnErr, IsErrOf};
+ghost use Rattle.vx_base.specs.Counts.{Rose};
+ghost use Rattle.vx_base.specs.Named.{Word, SameUnder};
+ghost use Rattle.vx_piece.specs.Seen.{Seen};
+ghost use Rattle.vx_piece.specs.Shelf.{Held, IsWhole, IsOut, IsTaken, LeavesShelf, IsGiven, ComesToShelf, IsNowhere};
+
+use crate::Piece;
+use vx_base::OutOfMemory;
+use vx_names::Name;
+
+/// Why a device could not be taken.
+#[derive(Clone, Copy, Debug, PartialEq, Eq)]
+pub enum ShelfFault {
+    OutOfMemory,
+    /// No device has the name.
+    NoDisk,
+    /// The device was taken and not given back.
+    Held,
+    /// The shelf failed, and its count of faults rose.
+    Failed,
+}
+
+/// A set of whole devices under names.
+pub trait Shelf {
+    type P: Piece;
+
+    /// The devices that nobody holds, where the shelf tells them.
+    ghost free: { Self → Option (Word → Option Seen) };
+
+    /// The devices that were taken and not given back.
+    ghost held: { Self → Word → Option Held };
+
+    /// How often a call of the shelf itself has failed.
+    ghost faults: { Self → ℕ };
+
+    /// Takes a whole device.
+    fn take(&mut self, name: &Name) -> Result<Self::P, ShelfFault>
+        ensures taken { IfOk result (λ piece. IsTaken name.now (Self.P.seen piece) (held self.old) (held self.new)) }
+        ensures left { IfOk result (λ piece. LeavesShelf name.now (Self.P.seen piece) (free self.old) (free self.new)) }
+
+        ensures same { OnErr result (SameUnder (held self.old) (held self.new)) }
+        ensures stays { OnErr result (free self.new ≡ free self.old) }
+        ensures no_disk { IfSome (free self.old) (λ devices. IsErrOf result ShelfFault.NoDisk ↔ IsNowhere name.now devices (held self.old)) }
+        ensures held { IsErrOf result ShelfFault.Held ↔ IsSome (held self.old name.now) }
+        ensures failed { IsErrOf result ShelfFault.Failed → Rose (faults self.old) (faults self.new) }
+
+        ensures later { faults self.old ≤ faults self.new };
+
+    /// Gives back a whole device that was taken under that name.
+    fn give(&mut self, name: &Name, piece: Self::P)
+        requires whole { IsWhole (Self.P.seen piece) }
+        requires out { IsOut (held self.old name.now) (Self.P.seen piece) }
+        ensures given { IsGiven name.now (held self.old) (held self.new) }
+        ensures back { ComesToShelf name.now (Self.P.seen piece) (free self.old) (free self.new) }
+        ensures later { faults self.old ≤ faults self.new };
+}

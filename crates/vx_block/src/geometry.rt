@@ -1,4 +1,4 @@
-ghost use Rattle.std.specs.Prelude.{◌≡◌, ◌+◌, ◌-◌, ◌*◌, ◌/◌, ◌<◌, ◌≤◌, ◌↔◌, min, IsTrue, IsSome, IfSome};
+ghost use Rattle.std.specs.Prelude.{◌≡◌, ◌+◌, ◌-◌, ◌*◌, ◌/◌, ◌<◌, ◌≤◌, ◌↔◌, ℕ, min, IsTrue, None, IsSome, IfSome};
 ghost use Rattle.vx_block.specs.Geometry.{is_geometry};
 
 /// How a volume is cut into regions.
@@ -61,6 +61,17 @@ impl Geometry {
         let start = region * self.region;
         let count = self.region.min(self.length - start);
         Span { start, count }
+    }
+
+    /// How many parts a range of blocks has.
+    pub fn part_count(&self, start: u64, count: u64) -> u64
+        requires some { 0 < count }
+        requires inside { start + count ≤ self.now.length }
+        ensures each { (index : ℕ) → index < result → IsSome (part_at self.now.region start count index) }
+        ensures end { part_at self.now.region start count result ≡ None }
+        ensures few { result ≤ 262144 }
+    {
+        self.region_of(start + count - 1) - self.region_of(start) + 1
     }
 
     /// A part of a range of blocks, by its index: the parts are the range's intersections with the regions, in order.

@@ -5,3 +5,5 @@ pub mod Calls
 pub mod Transcript
 pub mod Text
 pub mod Script
+pub mod Answers
+pub mod Images

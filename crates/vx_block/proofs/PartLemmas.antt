@@ -5,20 +5,8 @@ use Rattle.std.proofs.Math.Nat.{le-div_iff_mul-le, lt-div-mul-add, div-mul-le_se
 use Rattle.std.proofs.lemmas.Nat.{div-mul-add}
 use Rattle.std.proofs.lemmas.Bool.{lt-ltb, le-ltb, cond-true, cond-false, cases_lt}
 use Rattle.vx_block.specs.declared.geometry.Span.{Span}
+use Rattle.vx_block.specs.Parts.{reached, IsPartAt}
 use Rattle.vx_block.specs.Regions.{part_at}
-
--- where the parts before this one end
-abbrev pub reached : ℕ → ℕ → ℕ → ℕ → ℕ
-reached size start count index = max start (min (start + count) ((start / size + index) * size))
-
--- what is known of a part
-pub record IsPartAt (size start count index : ℕ) (span : Span) : Type 0 where
-  pub some : 0 < span.count
-  pub begins : span.start ≡ reached size start count index
-  pub ends : span.start + span.count ≡ reached size start count (index + 1)
-  pub from : start ≤ span.start
-  pub to : span.start + span.count ≤ start + count
-  pub region : span.start / size ≡ start / size + index
 
 module _ (size start count index : ℕ) (sized : 0 < size) (some : 0 < count) where
   next : (start / size + (index + 1)) * size ≡ (start / size + index) * size + size
@@ -68,6 +56,7 @@ module _ (size start count index : ℕ) (sized : 0 < size) (some : 0 < count) wh
               ends = omega (arith, begin, long, lt, n, f.0, f.1, f.2);
               from = omega (arith, begin);
               to = omega (arith, begin, long, lt);
+              few = omega (arith, long, lt);
               region = ap (λ s. s / size) rest ∙ div-mul-add (start / size + index) size (span.start - (start / size + index) * size) (omega (arith, begin, lt, f.1, f.2));
             }
         | inr le ↦ cc (part_none le, e)

@@ -1,3 +1,4 @@
 pub mod Geometry
 pub mod Regions
+pub mod Parts
 pub mod Word

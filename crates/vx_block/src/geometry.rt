@@ -20,6 +20,7 @@ pub struct Span {
 
 impl Geometry {
     ghost use Rattle.vx_block.specs.Regions.{region_count, region_at, part_at};
+    ghost use Rattle.vx_block.specs.Parts.{IsPartAt};
 
     /// Refuses an empty volume, a region of another size, and more than 262,144 regions.
     pub fn new(length: u64, region: u64) -> Option<Geometry>
@@ -79,7 +80,8 @@ impl Geometry {
     pub fn part(&self, start: u64, count: u64, index: u64) -> Option<Span>
         requires some { 0 < count }
         requires inside { start + count ≤ self.now.length }
-        ensures { result ≡ part_at self.now.region start count index }
+        ensures value { result ≡ part_at self.now.region start count index }
+        ensures place { IfSome result (IsPartAt self.now.region start count index) }
     {
         let region = (start / self.region).checked_add(index)?;
         let first = region.checked_mul(self.region)?;

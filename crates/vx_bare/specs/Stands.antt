@@ -77,16 +77,12 @@ abbrev pub Serves : Call → Answer → Seen → List ℕ → Seen → List ℕ 
 Serves call answer old_piece old_numbers piece numbers v =
     (place : ℕ) → StandsFor v.length old_piece old_numbers v.life → (life : Life) × Lives place call v answer life × StandsFor v.length piece numbers life
 
-abbrev pub FaultHasCause : PieceFault → Seen → Seen → Type 0
-FaultHasCause Failed old new = Rose old.faults new.faults
-FaultHasCause PowerLost old new = IsTrue new.cut
-
--- `fault` only where the piece's count rose, `lost` only where it is cut
-abbrev pub AnswerHasCause : Answer → Seen → Seen → Type 0
-AnswerHasCause (Done parts blocks) old new = Unit {0}
-AnswerHasCause (Refused refusal) old new = Unit {0}
-AnswerHasCause (Fault device parts) old new = Rose old.faults new.faults
-AnswerHasCause (Lost parts) old new = IsTrue new.cut
+-- `fault` only of this device and only where the piece's count rose, `lost` only where it is cut
+abbrev pub AnswerHasCause : Word → Answer → Seen → Seen → Type 0
+AnswerHasCause device (Done parts blocks) old new = Unit {0}
+AnswerHasCause device (Refused refusal) old new = Unit {0}
+AnswerHasCause device (Fault named parts) old new = (named ≡ device) × Rose old.faults new.faults
+AnswerHasCause device (Lost parts) old new = IsTrue new.cut
 
 -- the volume lies on the device, and is cut as the geometry says
 pub record HasShape (device : Word) (geometry : Geometry) (v : Volume) : Type 0 where

@@ -5,7 +5,7 @@ ghost use Rattle.vx_world.specs.Form.{is_call, is_range};
 ghost use Rattle.vx_world.specs.World.{Volume};
 ghost use Rattle.vx_world.specs.Calls.{start_of, count_of};
 ghost use Rattle.vx_world.specs.declared.command.Call.TheVariants as calls;
-ghost use Rattle.vx_bare.specs.Stands.{IsSized, HasShape, Serves, AnswerHasCause, FaultHasCause};
+ghost use Rattle.vx_bare.specs.Stands.{IsSized, HasShape, Serves, AnswerHasCause};
 
 use crate::range::{fill_range, read_range};
 use std::alloc::Global;
@@ -72,7 +72,7 @@ impl<P: Piece> Started<P> {
         ensures served { IfOk result (λ answer. (v : Volume) → HasShape self.old.device self.old.geometry v →
             Serves call.now answer (P.seen self.old.piece) self.old.numbers.items (P.seen self.new.piece) self.new.numbers.items v) }
         // A fault is told only where the piece's count rose, and lost only where it is cut.
-        ensures cause { IfOk result (λ answer. AnswerHasCause answer (P.seen self.old.piece) (P.seen self.new.piece)) }
+        ensures cause { IfOk result (λ answer. AnswerHasCause self.old.device answer (P.seen self.old.piece) (P.seen self.new.piece)) }
         ensures kept { Keeps (P.seen self.old.piece) (P.seen self.new.piece) }
         ensures same { (self.new.vol ≡ self.old.vol) × (self.new.device ≡ self.old.device) × (self.new.geometry ≡ self.old.geometry) }
         ensures most { self.new.most ≤ self.old.most + 262144 }
@@ -96,7 +96,7 @@ impl<P: Piece> Started<P> {
         requires room { self.old.most < 2 ^ 62 }
         ensures served { IfOk result (λ answer. (vol : List ℕ) (v : Volume) → HasShape self.old.device self.old.geometry v →
             Serves (calls.Read vol start count) answer (P.seen self.old.piece) self.old.numbers.items (P.seen self.new.piece) self.new.numbers.items v) }
-        ensures cause { IfOk result (λ answer. AnswerHasCause answer (P.seen self.old.piece) (P.seen self.new.piece)) }
+        ensures cause { IfOk result (λ answer. AnswerHasCause self.old.device answer (P.seen self.old.piece) (P.seen self.new.piece)) }
         ensures kept { Keeps (P.seen self.old.piece) (P.seen self.new.piece) }
         ensures same { (self.new.vol ≡ self.old.vol) × (self.new.device ≡ self.old.device) × (self.new.geometry ≡ self.old.geometry) }
         ensures most { self.new.most ≤ self.old.most + 262144 }
@@ -133,7 +133,7 @@ impl<P: Piece> Started<P> {
         requires room { self.old.most < 2 ^ 62 }
         ensures served { IfOk result (λ answer. (vol : List ℕ) (v : Volume) → HasShape self.old.device self.old.geometry v →
             Serves (calls.Fill vol start count byte) answer (P.seen self.old.piece) self.old.numbers.items (P.seen self.new.piece) self.new.numbers.items v) }
-        ensures cause { IfOk result (λ answer. AnswerHasCause answer (P.seen self.old.piece) (P.seen self.new.piece)) }
+        ensures cause { IfOk result (λ answer. AnswerHasCause self.old.device answer (P.seen self.old.piece) (P.seen self.new.piece)) }
         ensures kept { Keeps (P.seen self.old.piece) (P.seen self.new.piece) }
         ensures same { (self.new.vol ≡ self.old.vol) × (self.new.device ≡ self.old.device) × (self.new.geometry ≡ self.old.geometry) }
         ensures most { self.new.most ≤ self.old.most + 262144 }
@@ -186,7 +186,7 @@ fn answer_of(
 ) -> Answer
     ensures done { OnOk outcome (result ≡ Answer.Done parts.items blocks.items) }
     ensures failed { OnErr outcome ((result ≡ Answer.Fault device parts.items) ⊎ (result ≡ Answer.Lost parts.items)) }
-    ensures cause { (old new : Seen) → HasCause old new outcome → AnswerHasCause result old new }
+    ensures cause { (old new : Seen) → HasCause old new outcome → AnswerHasCause device result old new }
 {
     let parts = Parts::from_vec(parts);
     match outcome {

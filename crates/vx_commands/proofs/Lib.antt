@@ -1,0 +1,4 @@
+pub mod Blamed
+pub mod Stepped
+pub mod Moved
+pub mod Bared

@@ -1,0 +1,3 @@
+pub mod System
+pub mod Blame
+pub mod Moves

@@ -1,0 +1,6 @@
+//! Serves the commands of a script on a shelf of devices, one after the other, and writes the line of each answer.
+#![tactic(auto)]
+
+mod system;
+
+pub use system::{bare, call, finish};

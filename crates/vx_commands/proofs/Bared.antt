@@ -1,11 +1,11 @@
 -- A device that is started, or refused, is a step of the world.
-use Rattle.std.proofs.Common.{◌≡◌, ◌⊎◌, ℕ, ◌+◌, ◌≤◌, Bool, true, false, cond, List, [], ◌∷◌, Option, Some, None, subst, sym, ap, ◌∙◌, refl, inl, inr, arith}
-use Rattle.std.specs.Prelude.{MatchBool, MatchOption, IsTrue}
+use Rattle.std.proofs.Common.{◌≡◌, ◌⊎◌, ℕ, ◌+◌, ◌≤◌, Bool, true, false, cond, [], ◌∷◌, Option, Some, None, subst, sym, ap, ◌∙◌, refl, inl, inr, arith}
+use Rattle.std.specs.Prelude.{MatchBool, MatchOption}
 use Rattle.std.specs.Str.{bytes_eq}
 use Rattle.vx_base.specs.Counts.{Rose}
 use Rattle.vx_base.specs.Named.{Word, put, SameUnder}
 use Rattle.vx_base.proofs.CountLemmas.{none_rose}
-use Rattle.vx_base.proofs.NamedLemmas.{put_same, put_put, bytes_eq_same}
+use Rattle.vx_base.proofs.NamedLemmas.{bytes_eq_same}
 use Rattle.vx_block.specs.Geometry.{is_geometry}
 use Rattle.vx_piece.specs.Seen.{Seen}
 use Rattle.vx_piece.specs.Shelf.{LeavesShelf, ComesToShelf}
@@ -15,16 +15,15 @@ use Rattle.vx_bare.specs.Stands.{IsAmongTold}
 use Rattle.vx_world.specs.declared.answer.Answer.{Answer}
 use Rattle.vx_world.specs.declared.answer.Answer.TheVariants.{Done, Refused, Fault}
 use Rattle.vx_world.specs.declared.answer.Refusal.TheVariants.{NoDisk, Regions}
-use Rattle.vx_world.specs.World.{World, Device, Volume, IsRefused}
+use Rattle.vx_world.specs.World.{World, Device, IsRefused}
 use Rattle.vx_world.specs.Images.{IsDeviceOf, IsImage}
-use Rattle.vx_world.specs.Answers.{all_faults_told}
 use Rattle.vx_world.specs.Bare.{BareStep, bare_volume, IsBare, IsShelfFault}
 use Rattle.vx_bare.specs.declared.started.Started.{Started}
 use Rattle.vx_commands.specs.System.{StandWith, Stand, Starts, IsStarted, IsFresh}
-use Rattle.vx_commands.specs.Blame.{AreBlamed, HasBlame, free_at, faults_in, cut_in}
-use Rattle.vx_commands.specs.Moves.{State, Moves}
+use Rattle.vx_commands.specs.Blame.{AreBlamed, free_at, faults_in}
+use Rattle.vx_commands.specs.Moves.{Moves}
 use Rattle.vx_commands.proofs.Blamed.{silent, same_blame}
-use Rattle.vx_commands.proofs.Moved.{state, stays}
+use Rattle.vx_commands.proofs.Moved.{state}
 
 nothing_there : (slot : Option Seen) (dev : Option Device) → slot ≡ None → IsDeviceOf slot dev → dev ≡ None
 nothing_there None None e h = refl

@@ -1,17 +1,16 @@
 -- What the answer of one command lays to devices and to the shelf.
-use Rattle.std.proofs.Common.{◌≡◌, ℕ, ◌+◌, ◌≤◌, Bool, true, false, cond, List, [], ◌∷◌, Option, Some, None, refl, sym, ap, ◌∙◌, arith, subst}
-use Rattle.std.specs.Prelude.{IsTrue, ◌||◌}
+use Rattle.std.proofs.Common.{◌≡◌, ℕ, ◌+◌, ◌≤◌, Bool, true, false, cond, List, [], ◌∷◌, Option, Some, refl, sym, ap, arith, subst}
+use Rattle.std.specs.Prelude.{IsTrue}
 use Rattle.std.specs.Str.{bytes_eq}
 use Rattle.std.proofs.lemmas.Bool.{cond-true}
 use Rattle.vx_base.specs.Counts.{Rose}
 use Rattle.vx_base.specs.Named.{Word}
-use Rattle.vx_base.proofs.CountLemmas.{none_rose}
+use Rattle.vx_base.proofs.CountLemmas.{none_rose, rose_and_later}
 use Rattle.vx_base.proofs.NamedLemmas.{bytes_eq_self}
 use Rattle.vx_piece.specs.Seen.{Seen, Keeps}
-use Rattle.vx_life.specs.declared.Part.{Part}
 use Rattle.vx_world.specs.declared.answer.Answer.{Answer}
 use Rattle.vx_world.specs.declared.answer.Answer.TheVariants.{Done, Refused, Fault, Lost}
-use Rattle.vx_world.specs.Answers.{all_faults_told, some_lost, faults_told}
+use Rattle.vx_world.specs.Answers.{all_faults_told, some_lost}
 use Rattle.vx_bare.specs.Stands.{AnswerHasCause}
 use Rattle.vx_commands.specs.Blame.{AreBlamed, HasBlame, faults_in, cut_in}
 
@@ -66,4 +65,20 @@ same_blame answers old old' new new' shelf shelf' before after h = record {
   counts = λ name. subst (λ o. AreBlamed (all_faults_told name answers) (faults_in o) (faults_in (new' name)) shelf shelf') (sym (before name)) (subst (λ o. AreBlamed (all_faults_told name answers) (faults_in (old name)) (faults_in o) shelf shelf') (sym (after name)) (h.counts name));
   lost = λ e. let l = h.lost e in (l.0, subst (λ o. IsTrue (cut_in o)) (sym (after l.0)) l.1);
   cuts = λ name e. subst (λ o. IsTrue (cut_in o)) (sym (after name)) (h.cuts name (subst (λ o. IsTrue (cut_in o)) (before name) e));
+}
+
+-- the shelf's count may go on to rise
+pub blame_later : (answers : List Answer) (old new : Word → Option Seen) (s t u : ℕ) → t ≤ u → HasBlame answers old new s t → HasBlame answers old new s u
+blame_later answers old new s t u later h = record {
+  counts = λ name. let a = h.counts name in record { own = a.own; shelfs = a.shelfs; all = a.all; device_rose = a.device_rose; shelf_rose = rose_and_later a.shelfs s t u a.shelf_rose later };
+  lost = h.lost;
+  cuts = h.cuts;
+}
+
+-- nothing was laid to anyone where nothing was answered
+pub none_told : (old new : Word → Option Seen) (s t : ℕ) → ((name : Word) → new name ≡ old name) → s ≤ t → HasBlame [] old new s t
+none_told old new s t same later = record {
+  counts = λ name. none_blamed _ _ _ _ (omega (arith, ap faults_in (same name))) later;
+  lost = λ h. cc;
+  cuts = λ name h. subst (λ o. IsTrue (cut_in o)) (sym (same name)) h;
 }

@@ -1,5 +1,5 @@
 -- A call moves the shelf and its started volume from a world to a world.
-use Rattle.std.proofs.Common.{◌≡◌, ℕ, ◌+◌, ◌<◌, ◌≤◌, Bool, true, false, cond, List, [], ◌∷◌, Option, Some, None, subst, sym, ap, ◌∙◌, refl, arith}
+use Rattle.std.proofs.Common.{◌≡◌, ℕ, ◌+◌, ◌<◌, ◌≤◌, false, cond, List, [], ◌∷◌, Option, Some, None, ap, ◌∙◌, refl, arith}
 use Rattle.std.specs.Str.{bytes_eq}
 use Rattle.std.proofs.lemmas.Bool.{cond-false, cond-true}
 use Rattle.vx_base.specs.Named.{Word}
@@ -9,15 +9,14 @@ use Rattle.vx_piece.specs.Shelf.{ComesToShelf}
 use Rattle.vx_life.specs.declared.Part.{Part}
 use Rattle.vx_world.specs.declared.command.Call.{Call}
 use Rattle.vx_world.specs.declared.answer.Answer.{Answer}
-use Rattle.vx_world.specs.declared.answer.Answer.TheVariants.{Done, Refused, Fault, Lost}
+use Rattle.vx_world.specs.declared.answer.Answer.TheVariants.{Refused, Lost}
 use Rattle.vx_world.specs.declared.answer.Refusal.{Refusal}
 use Rattle.vx_world.specs.declared.answer.Refusal.TheVariants.{NotStarted, Range}
 use Rattle.vx_world.specs.World.{World, Volume}
 use Rattle.vx_world.specs.Calls.{volume_of, start_of, count_of, CallStep}
 use Rattle.vx_bare.specs.declared.started.Started.{Started}
 use Rattle.vx_bare.specs.Stands.{HasShape, IsSized, Serves, AnswerHasCause}
-use Rattle.vx_commands.specs.System.{StandWith, Stand, ComesBack}
-use Rattle.vx_commands.specs.Blame.{free_at, seen_at}
+use Rattle.vx_commands.specs.System.{Stand}
 use Rattle.vx_commands.specs.Moves.{State, StandsFor, Moves}
 use Rattle.vx_commands.proofs.Blamed.{silent, blamed, same_blame}
 use Rattle.vx_commands.proofs.Stepped.{IsNotLost, stepped, lost, not_started, past_end}

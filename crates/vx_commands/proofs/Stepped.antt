@@ -1,12 +1,12 @@
 -- A call that is served is a step of the world.
-use Rattle.std.proofs.Common.{◌≡◌, ◌≢◌, ◌⊎◌, ℕ, ◌+◌, ◌<◌, ◌≤◌, Bool, true, false, cond, List, [], ◌∷◌, Option, Some, None, subst, sym, ap, ◌∙◌, refl, inl, inr, arith, ltb}
+use Rattle.std.proofs.Common.{◌≡◌, ℕ, ◌+◌, ◌<◌, ◌≤◌, Bool, true, false, cond, List, Option, Some, None, subst, sym, ap, ◌∙◌, refl, inl, inr, ltb}
 use Rattle.std.specs.Prelude.{MatchOption, MatchBool}
 use Rattle.std.proofs.lemmas.Bool.{le-ltb, lt-ltb, cond-true}
 use Rattle.std.specs.Str.{bytes_eq}
 use Rattle.vx_base.specs.Blocks.{Contents}
 use Rattle.vx_base.specs.Named.{Word, put}
 use Rattle.vx_base.proofs.NamedLemmas.{bytes_eq_self, put_same, put_other, name_cases}
-use Rattle.vx_piece.specs.Seen.{Seen, Keeps}
+use Rattle.vx_piece.specs.Seen.{Seen}
 use Rattle.vx_piece.specs.Shelf.{ComesToShelf}
 use Rattle.vx_life.specs.Candidates.{Candidates, IsChosen}
 use Rattle.vx_life.specs.declared.Part.{Part}
@@ -17,11 +17,11 @@ use Rattle.vx_world.specs.declared.answer.Answer.{Answer}
 use Rattle.vx_world.specs.declared.answer.Answer.TheVariants.{Done, Refused, Fault, Lost}
 use Rattle.vx_world.specs.declared.answer.Refusal.TheVariants.{NotStarted, Range}
 use Rattle.vx_world.specs.World.{World, Device, Volume, IsRefused, IsCutOff, DeviceStands}
-use Rattle.vx_world.specs.Images.{IsDeviceOf, IsImage}
+use Rattle.vx_world.specs.Images.{IsDeviceOf}
 use Rattle.vx_world.specs.Calls.{volume_of, start_of, count_of, Lives, Tells, world_with, WorldAfter, IsServed, CallStep}
 use Rattle.vx_bare.specs.declared.started.Started.{Started}
 use Rattle.vx_bare.specs.Stands.{IsAmongTold, StandsFor as LifeStands, HasShape, IsSized, Serves}
-use Rattle.vx_commands.specs.System.{IsVolumeOf, StandWith, Stand}
+use Rattle.vx_commands.specs.System.{IsVolumeOf, StandWith}
 
 abbrev pub IsNotLost : Answer → Type 0
 IsNotLost (Lost parts) = ⊥

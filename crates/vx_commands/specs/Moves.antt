@@ -1,5 +1,5 @@
 -- A command that is served: from a world to a world.
-use Rattle.std.specs.Prelude.{◌≡◌, ℕ, [], ◌∷◌, List, Option}
+use Rattle.std.specs.Prelude.{ℕ, [], ◌∷◌, Option}
 use Rattle.vx_base.specs.Named.{Word}
 use Rattle.vx_piece.specs.Seen.{Seen}
 use Rattle.vx_world.specs.declared.answer.Answer.{Answer}

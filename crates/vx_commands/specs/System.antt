@@ -1,9 +1,10 @@
 -- What a started volume and a shelf stand for.
-use Rattle.std.specs.Prelude.{◌≡◌, ℕ, ◌≤◌, MatchBool, slice_index, [], Option, Some, None}
+use Rattle.std.specs.Prelude.{◌≡◌, ℕ, ◌≤◌, MatchBool, false, slice_index, [], Option, Some, None}
+use Rattle.std.specs.Str.{bytes_eq}
 use Rattle.vx_base.specs.Named.{Word, put, SameUnder}
 use Rattle.vx_block.specs.Geometry.{is_geometry}
 use Rattle.vx_piece.specs.Seen.{Seen}
-use Rattle.vx_piece.specs.Shelf.{Held, IsWhole, IsOut, IsGiven, ComesToShelf}
+use Rattle.vx_piece.specs.Shelf.{Held, IsWhole, IsOut, ComesToShelf}
 use Rattle.vx_world.specs.declared.answer.Answer.{Answer}
 use Rattle.vx_world.specs.declared.answer.Answer.TheVariants.{Done, Refused}
 use Rattle.vx_world.specs.declared.answer.Refusal.TheVariants.{Regions}
@@ -36,9 +37,15 @@ pub record IsHeldFrom {P : Type 0} (seen : P → Seen) (held : Word → Option H
   pub sized : IsSized (seen s.piece) s.geometry.length
   pub whole : IsWhole (seen s.piece)
   pub out : IsOut (held s.device) (seen s.piece)
+  pub others : (name : Word) → bytes_eq s.device name ≡ false → held name ≡ None
 
+-- nobody holds a device of the shelf
+abbrev pub NoneHeld : (Word → Option Held) → Type 0
+NoneHeld held = (name : Word) → held name ≡ None
+
+-- what is held of the shelf is the started volume's device alone
 abbrev pub Holds : {P : Type 0} → (P → Seen) → (Word → Option Held) → Option (Started P) → Type 0
-Holds seen held None = Unit {0}
+Holds seen held None = NoneHeld held
 Holds seen held (Some s) = IsHeldFrom seen held s
 
 -- no number of the started volume is above this one
@@ -46,18 +53,10 @@ abbrev pub HasDrawn : {P : Type 0} → ℕ → Option (Started P) → Type 0
 HasDrawn most None = Unit {0}
 HasDrawn most (Some s) = s.most ≤ most
 
--- the started volume's device goes back to the shelf, and is told again where the shelf tells its devices
-abbrev pub IsGivenBack : {P : Type 0} → (P → Seen) → Option (Started P) → (Word → Option Held) → (Word → Option Held) → Type 0
-IsGivenBack seen None old new = SameUnder old new
-IsGivenBack seen (Some s) old new = IsGiven s.device old new
-
+-- the started volume's device is told again where the shelf tells its devices
 abbrev pub ComesBack : {P : Type 0} → (P → Seen) → Option (Started P) → Option (Word → Option Seen) → Option (Word → Option Seen) → Type 0
 ComesBack seen None old new = new ≡ old
 ComesBack seen (Some s) old new = ComesToShelf s.device (seen s.piece) old new
-
--- nobody holds a device of the shelf
-abbrev pub NoneHeld : (Word → Option Held) → Type 0
-NoneHeld held = (name : Word) → held name ≡ None
 
 -- the same devices are told, or none as before
 abbrev pub SameFree : Option (Word → Option Seen) → Option (Word → Option Seen) → Type 0

@@ -1,12 +1,13 @@
 //! A shelf with at most one started volume.
-ghost use Rattle.std.specs.Prelude.{◌≡◌, ◌+◌, ◌^◌, ◌<◌, ◌≤◌, ℕ, IsTrue, IfOk, OnOk, OnErr, None, []};
-ghost use Rattle.vx_base.specs.Named.{SameUnder};
-ghost use Rattle.vx_piece.specs.Shelf.{IsWhole, IsOut, IsGiven, ComesToShelf};
+ghost use Rattle.std.specs.Prelude.{◌≡◌, ◌+◌, ◌^◌, ◌<◌, ◌≤◌, ℕ, IsTrue, IfOk, OnOk, OnErr, None, [], false};
+ghost use Rattle.std.specs.Str.{bytes_eq};
+ghost use Rattle.vx_base.specs.Named.{Word};
+ghost use Rattle.vx_piece.specs.Shelf.{IsWhole, IsOut, ComesToShelf};
 ghost use Rattle.vx_world.specs.Form.{is_call};
 ghost use Rattle.vx_world.specs.World.{World};
 ghost use Rattle.vx_world.specs.Calls.{CallStep, volume_of, start_of, count_of};
 ghost use Rattle.vx_world.specs.Bare.{BareStep};
-ghost use Rattle.vx_commands.specs.System.{Stand, Holds, HasDrawn, IsGivenBack, ComesBack, NoneHeld, SameFree, Starts};
+ghost use Rattle.vx_commands.specs.System.{Stand, Holds, HasDrawn, ComesBack, NoneHeld, SameFree, Starts};
 ghost use Rattle.vx_commands.specs.Moves.{Moves};
 
 use std::alloc::Global;
@@ -89,7 +90,8 @@ pub fn bare<S: Shelf>(
         Moves S.P.seen (BareStep vol device) x.0 w
         (record { free = S.free shelf.old; faults = S.faults shelf.old; started = None })
         (record { free = S.free shelf.new; faults = S.faults shelf.new; started = x.1 })) }
-    ensures refused { OnErr result (SameUnder (S.held shelf.old) (S.held shelf.new) × SameFree (S.free shelf.old) (S.free shelf.new)) }
+    ensures none { OnErr result (NoneHeld (S.held shelf.new)) }
+    ensures refused { OnErr result (SameFree (S.free shelf.old) (S.free shelf.new)) }
     ensures later { S.faults shelf.old ≤ S.faults shelf.new }
 {
     match shelf.take(&device) {
@@ -114,10 +116,12 @@ fn start<S: Shelf>(
 ) -> Result<(Answer, Option<Started<S::P>>), OutOfMemory>
     requires whole { IsWhole (S.P.seen piece) }
     requires out { IsOut (S.held shelf.old device) (S.P.seen piece) }
+    requires others { (name : Word) → bytes_eq device name ≡ false → S.held shelf.old name ≡ None }
     ensures holds { IfOk result (λ x. Holds S.P.seen (S.held shelf.new) x.1) }
     ensures drawn { IfOk result (λ x. HasDrawn 0 x.1) }
     ensures started { IfOk result (λ x. Starts S.P.seen vol device piece (S.free shelf.old) (S.free shelf.new) x.1 x.0) }
-    ensures refused { OnErr result (IsGiven device (S.held shelf.old) (S.held shelf.new) × ComesToShelf device (S.P.seen piece) (S.free shelf.old) (S.free shelf.new)) }
+    ensures none { OnErr result (NoneHeld (S.held shelf.new)) }
+    ensures refused { OnErr result (ComesToShelf device (S.P.seen piece) (S.free shelf.old) (S.free shelf.new)) }
     ensures later { S.faults shelf.old ≤ S.faults shelf.new }
 {
     let Some(geometry) = Geometry::new(piece.sectors(), REGION) else {
@@ -146,7 +150,7 @@ fn nothing(alloc: Global) -> Answer
 /// Gives the device of a volume that is used up back to the shelf.
 pub fn finish<S: Shelf>(volume: Option<Started<S::P>>, shelf: &mut S)
     requires holds { Holds S.P.seen (S.held shelf.old) volume }
-    ensures given { IsGivenBack S.P.seen volume (S.held shelf.old) (S.held shelf.new) }
+    ensures none { NoneHeld (S.held shelf.new) }
     ensures back { ComesBack S.P.seen volume (S.free shelf.old) (S.free shelf.new) }
     ensures later { S.faults shelf.old ≤ S.faults shelf.new }
 {

@@ -1,6 +1,5 @@
-use Rattle.std.proofs.Common.{◌≡◌, ◌≤◌, ◌∙◌, [], ap, refl, rules, Some, None, subst, sym, arith}
+use Rattle.std.proofs.Common.{◌≡◌, [], rules, arith}
 use Rattle.std.proofs.lemmas.Result.{IfOk-weaker}
-use Rattle.vx_world.specs.declared.answer.Answer.TheVariants as answers
 use Rattle.vx_commands.proofs.Bared.{no_disk, failed, starts}
 use Rattle.vx_commands.proofs.system.bare.Goals as goal
 

@@ -1,12 +1,8 @@
-use Rattle.std.proofs.Common.{◌≡◌, ◌≤◌, ◌+◌, Bool, false, true, Option, Some, None, rules, refl, sym, ap, ◌∙◌, subst, arith}
+use Rattle.std.proofs.Common.{◌≡◌, false, rules}
 use Rattle.std.specs.Str.{bytes_eq}
-use Rattle.vx_world.specs.declared.answer.Answer.TheVariants as answers
-use Rattle.vx_world.specs.declared.answer.Refusal.TheVariants as refusals
-use Rattle.vx_world.specs.Calls.{volume_of, start_of, count_of, CallStep}
-use Rattle.vx_commands.specs.System.{Stand, ComesBack}
-use Rattle.vx_commands.specs.Moves.{Moves}
+use Rattle.vx_world.specs.Calls.{volume_of}
 use Rattle.vx_commands.proofs.Stepped.{not_lost}
-use Rattle.vx_commands.proofs.Moved.{state, other_moves, range_moves, served_moves, lost_moves}
+use Rattle.vx_commands.proofs.Moved.{other_moves, range_moves, served_moves, lost_moves}
 use Rattle.vx_commands.proofs.system.call.Goals as goal
 
 pub returns-then-ne-clause-step : goal.returns-then-ne-clause-step

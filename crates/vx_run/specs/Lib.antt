@@ -1,0 +1,4 @@
+pub mod Reader
+pub mod Reading
+pub mod Source
+pub mod Top

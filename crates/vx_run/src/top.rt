@@ -1,0 +1,118 @@
+ghost use Rattle.std.specs.Prelude.{◌≡◌, ◌≢◌, ◌⊎◌, ◌↔◌, ◌<◌, ◌≤◌, ℕ, List, true, false, map, length, codes};
+ghost use Rattle.vx_base.specs.Counts.{Rose};
+ghost use Rattle.vx_commands.specs.System.{NoneHeld};
+ghost use Rattle.vx_run.specs.Top.{is_form, longest, HasPassedMore, HasPassedFew, TellsLine, IsSpelledRun, IsSpelledStop, IsCarriedThrough, IsCutOff, IsNoScript};
+ghost use Rattle.vx_run.specs.Reader.{IsSpelled};
+ghost use Rattle.vx_world.specs.declared.command.Command.{Command};
+
+use crate::reader::read_script;
+use crate::source::{Unread, read_all};
+use crate::words::folder_of;
+use std::alloc::Global;
+use vx_commands::{Stop, run_commands};
+use vx_flow::{Sink, Source};
+use vx_piece::Shelf;
+
+/// Runs the script of the source on the shelf, and writes the line of each answer to the sink. It answers the status:
+/// 0 all answers are fine, 1 the words are not `--images DIR`, 2 the bytes are no script, 3 the source failed, 4 the
+/// sink failed, 5 some answer is not fine, 6 memory was wanting, 7 the script has more than 16,777,216 bytes.
+pub fn run<S: Shelf, A: Source, B: Sink>(
+    alloc: Global,
+    words: &[&str],
+    shelf: &mut S,
+    source: &mut A,
+    sink: &mut B,
+) -> u8
+    requires here { NoneHeld (S.held shelf.old) }
+
+    // At 0 and 5, over a shelf, a source and a sink that tell what they hold: the source was read to its end, its bytes
+    // spell commands, there is one transcript of these from the world that is read from the devices, its text was
+    // written, the devices stand for its last world, and each fault or loss that it tells has its cause. At 0 all its
+    // answers are fine, and at 5 they are not.
+    ensures fine { result ≡ 0 → IsCarriedThrough (A.left source.old) (A.left source.new)
+        (record { free = S.free shelf.old; faults = S.faults shelf.old }) (B.taken sink.old)
+        (record { free = S.free shelf.new; faults = S.faults shelf.new }) (B.taken sink.new) true }
+    ensures not_fine { result ≡ 5 → IsCarriedThrough (A.left source.old) (A.left source.new)
+        (record { free = S.free shelf.old; faults = S.faults shelf.old }) (B.taken sink.old)
+        (record { free = S.free shelf.new; faults = S.faults shelf.new }) (B.taken sink.new) false }
+
+    // At 4 the same holds of the commands that were begun, and a front of their text was written; so it does at 6, or
+    // nothing was begun.
+    ensures sink_failed { result ≡ 4 → IsCutOff (A.left source.old) (A.left source.new)
+        (record { free = S.free shelf.old; faults = S.faults shelf.old }) (B.taken sink.old)
+        (record { free = S.free shelf.new; faults = S.faults shelf.new }) (B.taken sink.new) }
+    ensures no_memory { result ≡ 6 → ((shelf.new ≡ shelf.old) × (sink.new ≡ sink.old)) ⊎ IsCutOff (A.left source.old) (A.left source.new)
+        (record { free = S.free shelf.old; faults = S.faults shelf.old }) (B.taken sink.old)
+        (record { free = S.free shelf.new; faults = S.faults shelf.new }) (B.taken sink.new) }
+
+    // At 1 and 2 the line of the status was written, and at 3 and 7 nothing; no device was touched.
+    ensures usage { result ≡ 1 → TellsLine (codes "usage: vxrun --images DIR\n") (B.taken sink.old) (B.taken sink.new) (B.faults sink.old) (B.faults sink.new) × (source.new ≡ source.old) }
+    ensures script { result ≡ 2 → TellsLine (codes "script\n") (B.taken sink.old) (B.taken sink.new) (B.faults sink.old) (B.faults sink.new) × IsNoScript (A.left source.old) (A.left source.new) }
+    ensures silent { (result ≡ 3) ⊎ (result ≡ 7) → sink.new ≡ sink.old }
+    ensures untouched { (result ≡ 1) ⊎ ((result ≡ 2) ⊎ ((result ≡ 3) ⊎ (result ≡ 7))) → shelf.new ≡ shelf.old }
+
+    // Each status has its cause.
+    ensures known { result ≤ 7 }
+    ensures words { (result ≡ 1) ↔ (is_form (map (λ w. w.now) words.now) ≡ false) }
+    ensures source { result ≡ 3 → Rose (A.faults source.old) (A.faults source.new) }
+    ensures sink { result ≡ 4 → Rose (B.faults sink.old) (B.faults sink.new) }
+    ensures too_long { result ≡ 7 → HasPassedMore (A.passed source.old) (A.passed source.new) }
+    ensures not_too_long { result ≢ 7 → HasPassedFew (A.passed source.old) (A.passed source.new) }
+
+    // All devices are given back.
+    ensures back { NoneHeld (S.held shelf.new) }
+{
+    if folder_of(words).is_none() {
+        tell(sink, b"usage: vxrun --images DIR\n");
+        return 1;
+    }
+    match read_all(alloc, source) {
+        Ok(bytes) => run_bytes(alloc, shelf, sink, bytes.as_slice()),
+        Err(Unread::Failed) => 3,
+        Err(Unread::TooLong) => 7,
+        Err(Unread::OutOfMemory) => 6,
+    }
+}
+
+/// Writes the line of a status. Where the sink fails, a front of it is written.
+fn tell<B: Sink>(sink: &mut B, line: &[u8])
+    ensures { TellsLine line.now (B.taken sink.old) (B.taken sink.new) (B.faults sink.old) (B.faults sink.new) }
+{
+    let _ = sink.write(line);
+}
+
+/// Runs the script that the bytes spell.
+fn run_bytes<S: Shelf, B: Sink>(alloc: Global, shelf: &mut S, sink: &mut B, bytes: &[u8]) -> u8
+    requires here { NoneHeld (S.held shelf.old) }
+    requires few { length bytes.now ≤ longest }
+    ensures fine { result ≡ 0 → IsSpelledRun bytes.now
+        (record { free = S.free shelf.old; faults = S.faults shelf.old }) (B.taken sink.old)
+        (record { free = S.free shelf.new; faults = S.faults shelf.new }) (B.taken sink.new) true }
+    ensures not_fine { result ≡ 5 → IsSpelledRun bytes.now
+        (record { free = S.free shelf.old; faults = S.faults shelf.old }) (B.taken sink.old)
+        (record { free = S.free shelf.new; faults = S.faults shelf.new }) (B.taken sink.new) false }
+    ensures sink_failed { result ≡ 4 → IsSpelledStop bytes.now
+        (record { free = S.free shelf.old; faults = S.faults shelf.old }) (B.taken sink.old)
+        (record { free = S.free shelf.new; faults = S.faults shelf.new }) (B.taken sink.new) }
+    ensures no_memory { result ≡ 6 → ((shelf.new ≡ shelf.old) × (sink.new ≡ sink.old)) ⊎ IsSpelledStop bytes.now
+        (record { free = S.free shelf.old; faults = S.faults shelf.old }) (B.taken sink.old)
+        (record { free = S.free shelf.new; faults = S.faults shelf.new }) (B.taken sink.new) }
+    ensures script { result ≡ 2 → TellsLine (codes "script\n") (B.taken sink.old) (B.taken sink.new) (B.faults sink.old) (B.faults sink.new) × ((commands : List Command) → IsSpelled bytes.now commands → ⊥) × (shelf.new ≡ shelf.old) }
+    ensures known { (result ≡ 0) ⊎ ((result ≡ 2) ⊎ ((result ≡ 4) ⊎ ((result ≡ 5) ⊎ (result ≡ 6)))) }
+    ensures sink { result ≡ 4 → Rose (B.faults sink.old) (B.faults sink.new) }
+    ensures back { NoneHeld (S.held shelf.new) }
+{
+    match read_script(alloc, bytes) {
+        Err(_) => 6,
+        Ok(None) => {
+            tell(sink, b"script\n");
+            2
+        }
+        Ok(Some(script)) => match run_commands(alloc, shelf, sink, script.commands.as_slice()) {
+            Ok(true) => 0,
+            Ok(false) => 5,
+            Err(Stop::OutOfMemory) => 6,
+            Err(Stop::SinkFailed) => 4,
+        },
+    }
+}

@@ -1,6 +1,6 @@
 -- A well formed stage stays so, whatever the plexes hold: what is kept, with all blocks alike.
-use Rattle.std.proofs.Common.{◌≡◌, ◌≢◌, ℕ, ◌+◌, ◌*◌, ◌<◌, ◌≤◌, ◌^◌, ◌⊎◌, inl, inr, Bool, true, false, refl, sym, ◌∙◌, ap, subst, arith, cond, List, [], ◌∷◌}
-use Rattle.std.specs.Prelude.{◌&&◌, ◌||◌, not, ◌==◌, IsTrue}
+use Rattle.std.proofs.Common.{◌≡◌, ◌≢◌, ℕ, ◌<◌, ◌^◌, inl, Bool, true, false, refl, sym, subst, arith, cond, List, []}
+use Rattle.std.specs.Prelude.{◌&&◌, ◌||◌, not}
 use Rattle.vx_core.specs.declared.stage.Job.{Job}
 use Rattle.vx_core.specs.declared.stage.Event.{Event}
 use Rattle.vx_core.specs.declared.stage.Act.{Act}
@@ -11,37 +11,34 @@ use Rattle.vx_core.specs.declared.stage.Stage.{Stage}
 use Rattle.vx_core.specs.declared.stage.Job.TheVariants.{Read as ReadJob, Write as WriteJob, Copy as CopyJob, Settle, Clear}
 use Rattle.vx_core.specs.declared.stage.Event.TheVariants.{Begin, Marked, MarkFailed, Unmarked, UnmarkFailed, Wrote, WriteFailed, Got, ReadFailed, Cut}
 use Rattle.vx_core.specs.declared.stage.Act.TheVariants.{Mark, Unmark, WriteCall, WriteRegion, ReadCall, ReadRegion, Done, Skipped, Fault, Lost}
-use Rattle.vx_core.specs.declared.stage.Step.TheVariants.{Mark as AtMark, Write as AtWrite, MarkFailed as AtMarkFailed, Find as AtFind, Equal as AtEqual, Copy as AtCopy, Unmark as AtUnmark, Read as AtRead}
+use Rattle.vx_core.specs.declared.stage.Step.TheVariants.{Write as AtWrite, MarkFailed as AtMarkFailed, Equal as AtEqual, Read as AtRead}
 use Rattle.vx_core.specs.declared.stage.Phase.TheVariants.{Settled, Unsettled, Dead, Busy}
 use Rattle.vx_base.specs.Blocks.{Contents, is_in}
-use Rattle.vx_life.specs.Candidates.{Values, IsAmong, Candidates}
-use Rattle.vx_life.specs.Entry.{Entry, candidates_of, IsHistory}
-use Rattle.vx_mask.specs.Mask.{has, only, union, without, lowest, above_lowest}
-use Rattle.vx_mask.specs.Marks.{Marks, AllGain, AllLose, SomeLoseLoose, SomeGain, SomeLose, MayGain, MayLose, MayTidy}
-use Rattle.vx_mask.proofs.MaskLemmas.{has-zero, has-union, has-without, has-only_same, has-only_other, has-lowest, has-lt, lowest-lt, without-lt, union-lt, only-lt, without-less, not_empty, one, two, same_as_only, apart_from_only, empty_from_test, some_from_test}
-use Rattle.vx_mask.proofs.Sets.{in_union, union_parts, union_cases, out_union, in_without, without_parts, out_without, out_without_left, out_of, left_out, same_or_not}
-use Rattle.vx_mask.proofs.Tests.{not_both, true_or_false, or_from_left, or_from_right, or_cases, or_none, and_not, and_not_parts, both_parts, and_none, right_false, never_true, not_before}
-use Rattle.vx_core.specs.Table.{current, need, freed_by, act_at, read_act, ended, busy, work, write, read_from, copy, settle, start, written, wrote, level, marked_failed, got, offered, read_failed, answered, begun, goes_on, next_of, NamesAct, IsNamed}
-use Rattle.vx_core.specs.History.{Call, Pending, NoCall, Reads, Writes, entry_of, with_pending, overlaid, no_values, IsRecord, AreCounted, AreOrdered, AllOf, MayPrecede, IsNextCall, MayBegin, number_after}
-use Rattle.vx_core.specs.Region.{Disks, Fixed, Around, RegionState, told, Gets, MayGet, SameMarks, SameBlocks, SameDisks, GoesWell, GoesWrong, MayAnswer, Becomes, Answers, CallOf, AreOf, ReadGives, FitsIn, entries_after, pending_after, around_after}
-use Rattle.vx_core.specs.Soundness.{MayHold, freeing, IsStray, IsBetween, IsUnmarked, Agree, IsData, IsDataIn, IsDirty, IsDirtyIn, IsOpen, IsOpenStep, IsSound, IsSoundUnder, IsMarkedForWrite, AreMarkedForWrite, MarkedIn}
-use Rattle.vx_core.specs.Form.{AreMasks, IsStage, IsParted, IsLevel, IsFinding, FormAt, FormIn, IsFormed, MayCome}
-use Rattle.vx_core.specs.Kept.{HasReached, AreLevel, ContentsAt, ContentsIn, CallIn, IsKept, Keeps}
+use Rattle.vx_life.specs.Candidates.{IsAmong}
+use Rattle.vx_life.specs.Entry.{candidates_of}
+use Rattle.vx_mask.specs.Mask.{has, lowest}
+use Rattle.vx_mask.specs.Marks.{Marks}
+use Rattle.vx_mask.proofs.MaskLemmas.{has-lowest}
+use Rattle.vx_core.specs.Table.{current, act_at, read_act, offered, next_of}
+use Rattle.vx_core.specs.History.{Call, Pending, NoCall, Reads, Writes, with_pending, overlaid, IsRecord, IsNextCall, MayBegin}
+use Rattle.vx_core.specs.Region.{Disks, Around, GoesWell, GoesWrong, MayAnswer, Becomes, CallOf, AreOf, ReadGives, FitsIn}
+use Rattle.vx_core.specs.Form.{FormAt, IsFormed, MayCome}
+use Rattle.vx_core.specs.Kept.{HasReached, ContentsAt, ContentsIn, CallIn, IsKept}
 use Rattle.vx_life.specs.Candidates.{Any, or_also}
 use Rattle.vx_core.proofs.Ends.{sound_from_ends}
 use Rattle.vx_core.proofs.Keeps.{keeps}
 
 -- a region round the stage whose blocks are all alike, with a log that shows `bits`
-abbrev no_block : List ℕ
+abbrev pub no_block : List ℕ
 no_block = []
 
-abbrev alike : ℕ → Contents
+abbrev pub alike : ℕ → Contents
 alike k i = no_block
 
-abbrev first_call : Call
+abbrev pub first_call : Call
 first_call = record { session = 0; place = 0; part = record { region = 0; epoch = 0; number = 1 }; start = 0; count = 0 }
 
-abbrev blank_call : Job → Pending
+abbrev pub blank_call : Job → Pending
 blank_call ReadJob = Reads first_call
 blank_call WriteJob = Writes first_call (alike 0)
 blank_call (CopyJob k) = NoCall
@@ -52,7 +49,7 @@ abbrev blank_pending : Phase → Pending
 blank_pending (Busy w) = blank_call w.job
 blank_pending phase = NoCall
 
-abbrev blank_last : Pending → ℕ
+abbrev pub blank_last : Pending → ℕ
 blank_last NoCall = 0
 blank_last (Reads call) = 1
 blank_last (Writes call values) = 1
@@ -115,12 +112,12 @@ any_missed : (b : Bool) (v : List ℕ) → IsAmong (cond b Any Any) v
 any_missed true v = tt
 any_missed false v = tt
 
-among_blank : (call : Pending) (i : ℕ) (v : List ℕ) → IsAmong (candidates_of (λ k. Any) (with_pending call []) i) v
+pub among_blank : (call : Pending) (i : ℕ) (v : List ℕ) → IsAmong (candidates_of (λ k. Any) (with_pending call []) i) v
 among_blank NoCall i v = tt
 among_blank (Reads call) i v = any_missed (is_in call.start call.count i) v
 among_blank (Writes call values) i v = any_among (is_in call.start call.count i) (values i) v
 
-record_blank : (job : Job) → IsRecord 0 0 (λ k. Any) (with_pending (blank_call job) []) (blank_last (blank_call job))
+pub record_blank : (job : Job) → IsRecord 0 0 (λ k. Any) (with_pending (blank_call job) []) (blank_last (blank_call job))
 record_blank ReadJob = record { legal = (tt, tt); counted = (refl, refl, omega arith, refl); ordered = (tt, tt) }
 record_blank WriteJob = record { legal = (tt, tt); counted = (refl, refl, omega arith, refl); ordered = (tt, tt) }
 record_blank (CopyJob k) = record { legal = tt; counted = refl; ordered = tt }
@@ -224,7 +221,7 @@ gives_alike s w step event held fits form = tt
 next_blank : IsNextCall 0 0 [] first_call
 next_blank = record { here = refl; number = refl; order = tt }
 
-begin_blank : (job : Job) → MayBegin 0 0 [] (blank_call job)
+pub begin_blank : (job : Job) → MayBegin 0 0 [] (blank_call job)
 begin_blank ReadJob = next_blank
 begin_blank WriteJob = next_blank
 begin_blank (CopyJob k) = tt

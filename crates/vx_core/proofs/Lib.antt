@@ -21,3 +21,4 @@ pub mod ScheduleLaws
 pub mod Settles
 pub mod Walk
 pub mod Writing
+pub mod WrongLaws

@@ -1,32 +1,14 @@
 -- Entries in the order of their numbers keep the order of a history.
-use Rattle.std.proofs.Common.{◌≡◌, ◌≢◌, ℕ, ◌+◌, ◌*◌, ◌<◌, ◌≤◌, ◌^◌, ◌⊎◌, inl, inr, Bool, true, false, refl, sym, ◌∙◌, ap, subst, arith, cond, List, [], ◌∷◌}
-use Rattle.std.specs.Prelude.{◌&&◌, ◌||◌, not, ◌==◌, IsTrue}
-use Rattle.vx_core.specs.declared.stage.Job.{Job}
-use Rattle.vx_core.specs.declared.stage.Event.{Event}
-use Rattle.vx_core.specs.declared.stage.Act.{Act}
-use Rattle.vx_core.specs.declared.stage.Step.{Step}
-use Rattle.vx_core.specs.declared.stage.Work.{Work}
-use Rattle.vx_core.specs.declared.stage.Phase.{Phase}
-use Rattle.vx_core.specs.declared.stage.Stage.{Stage}
-use Rattle.vx_core.specs.declared.stage.Job.TheVariants.{Read as ReadJob, Write as WriteJob, Copy as CopyJob, Settle, Clear}
-use Rattle.vx_core.specs.declared.stage.Event.TheVariants.{Begin, Marked, MarkFailed, Unmarked, UnmarkFailed, Wrote, WriteFailed, Got, ReadFailed, Cut}
-use Rattle.vx_core.specs.declared.stage.Act.TheVariants.{Mark, Unmark, WriteCall, WriteRegion, ReadCall, ReadRegion, Done, Skipped, Fault, Lost}
-use Rattle.vx_core.specs.declared.stage.Step.TheVariants.{Mark as AtMark, Write as AtWrite, MarkFailed as AtMarkFailed, Find as AtFind, Equal as AtEqual, Copy as AtCopy, Unmark as AtUnmark, Read as AtRead}
-use Rattle.vx_core.specs.declared.stage.Phase.TheVariants.{Settled, Unsettled, Dead, Busy}
-use Rattle.vx_base.specs.Blocks.{Contents, is_in}
-use Rattle.vx_life.specs.Candidates.{Values, IsAmong, Candidates}
-use Rattle.vx_life.specs.Entry.{Entry, candidates_of, IsHistory}
-use Rattle.vx_mask.specs.Mask.{has, only, union, without, lowest, above_lowest}
-use Rattle.vx_mask.specs.Marks.{Marks, AllGain, AllLose, SomeLoseLoose, SomeGain, SomeLose, MayGain, MayLose, MayTidy}
-use Rattle.vx_mask.proofs.MaskLemmas.{has-zero, has-union, has-without, has-only_same, has-only_other, has-lowest, has-lt, lowest-lt, without-lt, union-lt, only-lt, without-less, not_empty, one, two, same_as_only, apart_from_only, empty_from_test, some_from_test}
-use Rattle.vx_mask.proofs.Sets.{in_union, union_parts, union_cases, out_union, in_without, without_parts, out_without, out_without_left, out_of, left_out, same_or_not}
-use Rattle.vx_mask.proofs.Tests.{not_both, true_or_false, or_from_left, or_from_right, or_cases, or_none, and_not, and_not_parts, both_parts, and_none, right_false, never_true, not_before}
-use Rattle.vx_core.specs.Table.{current, need, freed_by, act_at, read_act, ended, busy, work, write, read_from, copy, settle, start, written, wrote, level, marked_failed, got, offered, read_failed, answered, begun, goes_on, next_of, NamesAct, IsNamed}
-use Rattle.vx_core.specs.History.{Call, Pending, NoCall, Reads, Writes, entry_of, with_pending, overlaid, no_values, IsRecord, AreCounted, AreOrdered, AllOf, MayPrecede, IsNextCall, MayBegin, number_after}
-use Rattle.vx_core.specs.Region.{Disks, Fixed, Around, RegionState, told, Gets, MayGet, SameMarks, SameBlocks, SameDisks, GoesWell, GoesWrong, MayAnswer, Becomes, Answers, CallOf, AreOf, ReadGives, FitsIn, entries_after, pending_after, around_after}
-use Rattle.vx_core.specs.Soundness.{MayHold, freeing, IsStray, IsBetween, IsUnmarked, Agree, IsData, IsDataIn, IsDirty, IsDirtyIn, IsOpen, IsOpenStep, IsSound, IsSoundUnder, IsMarkedForWrite, AreMarkedForWrite, MarkedIn}
-use Rattle.vx_core.specs.Form.{AreMasks, IsStage, IsParted, IsLevel, IsFinding, FormAt, FormIn, IsFormed, MayCome}
-use Rattle.vx_core.specs.Kept.{HasReached, AreLevel, ContentsAt, ContentsIn, CallIn, IsKept, Keeps}
+use Rattle.std.proofs.Common.{◌++◌}
+use Rattle.std.proofs.lemmas.List.{reverse-append}
+use Rattle.std.specs.Prelude.{reverse}
+use Rattle.vx_life.specs.Candidates.{Candidates}
+use Rattle.vx_life.specs.Entry.{IsHistory, IsLegal, ReadsAmong, candidates_after, candidates_of}
+use Rattle.std.proofs.Common.{◌≡◌, ◌≢◌, ℕ, ◌+◌, ◌<◌, ◌≤◌, ◌⊎◌, inl, inr, Bool, refl, sym, ◌∙◌, ap, subst, arith, List, [], ◌∷◌}
+use Rattle.std.specs.Prelude.{◌&&◌, ◌==◌}
+use Rattle.vx_life.specs.Entry.{Entry}
+use Rattle.vx_mask.proofs.Sets.{same_or_not}
+use Rattle.vx_core.specs.History.{AreCounted, AreOrdered, AllOf, MayPrecede}
 use Rattle.std.proofs.lemmas.Bool.Decides.{nat_tests}
 use Rattle.std.proofs.lemmas.List.Elements.{Contains-append_cases, Contains-push_cases}
 use Rattle.std.proofs.lemmas.List.Sums.{sum_by-cons}
@@ -194,3 +176,30 @@ of_pair d e (inr (inr h)) =
 pub in_order : (region last : ℕ) (es : List Entry) → AreCounted region 0 es last → AreOrdered es → IsInOrder es
 in_order region last es counted ordered =
     record { numbered = numbered region last es counted; pairs = λ d e in_d in_e. of_pair d e (pair region 0 last es counted ordered d e in_d in_e) }
+
+-- ---- the oldest first
+
+-- the candidates after these entries, the oldest first
+abbrev forward : Candidates → List Entry → Candidates
+forward first [] = first
+forward first (e ∷ es) = forward (candidates_after e first) es
+
+forward_push : (first : Candidates) (xs : List Entry) (e : Entry) → forward first (xs ++ e ∷ []) ≡ candidates_after e (forward first xs)
+forward_push first [] e = refl
+forward_push first (x ∷ xs) e = forward_push (candidates_after x first) xs e
+
+forward_reverse : (first : Candidates) (es : List Entry) → forward first (reverse es) ≡ candidates_of first es
+forward_reverse first [] = refl
+forward_reverse first (e ∷ es) =
+    ap (forward first) (reverse-append (e ∷ []) es) ∙ forward_push first (reverse es) e ∙ ap (candidates_after e) (forward_reverse first es)
+
+legal_push : (first : Candidates) (xs : List Entry) (e : Entry) → IsLegal first xs → ReadsAmong e.kind (forward first xs) e → IsLegal first (xs ++ e ∷ [])
+legal_push first [] e h reads = (reads, tt)
+legal_push first (x ∷ xs) e h reads = (h.0, legal_push (candidates_after x first) xs e h.1 reads)
+
+-- a history told with the newest entry first is legal in its order
+pub history_legal : (first : Candidates) (es : List Entry) → IsHistory first es → IsLegal first (reverse es)
+history_legal first [] h = tt
+history_legal first (e ∷ es) h =
+    subst (λ (xs : List Entry). IsLegal first xs) (sym (reverse-append (e ∷ []) es))
+    (legal_push first (reverse es) e (history_legal first es h.1) (subst (λ (c : Candidates). ReadsAmong e.kind c e) (sym (forward_reverse first es)) h.0))

@@ -1,17 +1,13 @@
 -- What each event keeps: soundness, and what a job under way knows beside.
-use Rattle.std.specs.Prelude.{◌≡◌, ◌≢◌, ℕ, Bool, true, false, ◌⊎◌}
-use Rattle.vx_core.specs.declared.stage.Job.{Job}
+use Rattle.std.specs.Prelude.{◌≡◌, ◌≢◌, ℕ, true, false, ◌⊎◌}
 use Rattle.vx_core.specs.declared.stage.Event.{Event}
 use Rattle.vx_core.specs.declared.stage.Act.{Act}
 use Rattle.vx_core.specs.declared.stage.Step.{Step}
 use Rattle.vx_core.specs.declared.stage.Work.{Work}
 use Rattle.vx_core.specs.declared.stage.Phase.{Phase}
 use Rattle.vx_core.specs.declared.stage.Stage.{Stage}
-use Rattle.vx_core.specs.declared.stage.Job.TheVariants.{Read as ReadJob, Write as WriteJob, Copy as CopyJob, Settle, Clear}
-use Rattle.vx_core.specs.declared.stage.Event.TheVariants.{Begin, Marked, MarkFailed, Unmarked, UnmarkFailed, Wrote, WriteFailed, Got, ReadFailed, Cut}
-use Rattle.vx_core.specs.declared.stage.Act.TheVariants.{Mark, Unmark, WriteCall, WriteRegion, ReadCall, ReadRegion, Done, Skipped, Fault, Lost}
-use Rattle.vx_core.specs.declared.stage.Step.TheVariants.{Mark as AtMark, Write as AtWrite, MarkFailed as AtMarkFailed, Find as AtFind, Equal as AtEqual, Copy as AtCopy, Unmark as AtUnmark, Read as AtRead}
-use Rattle.vx_core.specs.declared.stage.Phase.TheVariants.{Settled, Unsettled, Dead, Busy}
+use Rattle.vx_core.specs.declared.stage.Step.TheVariants.{Write as AtWrite, MarkFailed as AtMarkFailed, Equal as AtEqual}
+use Rattle.vx_core.specs.declared.stage.Phase.TheVariants.{Busy}
 use Rattle.vx_base.specs.Blocks.{Contents}
 use Rattle.vx_mask.specs.Mask.{has}
 use Rattle.vx_core.specs.Table.{current}

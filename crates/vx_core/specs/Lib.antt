@@ -10,3 +10,4 @@ pub mod Region
 pub mod Schedule
 pub mod Soundness
 pub mod Table
+pub mod Wrong

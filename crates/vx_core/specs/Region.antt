@@ -1,16 +1,13 @@
 -- The state of one region, and what may become of it by each event.
-use Rattle.std.specs.Prelude.{◌≡◌, ◌≢◌, ℕ, Bool, IsTrue, true, false, List, ◌∷◌, ◌⊎◌}
+use Rattle.std.specs.Prelude.{◌≡◌, ◌≢◌, ℕ, Bool, IsTrue, true, List, ◌∷◌, ◌⊎◌}
 use Rattle.vx_core.specs.declared.stage.Job.{Job}
 use Rattle.vx_core.specs.declared.stage.Event.{Event}
 use Rattle.vx_core.specs.declared.stage.Act.{Act}
-use Rattle.vx_core.specs.declared.stage.Step.{Step}
-use Rattle.vx_core.specs.declared.stage.Work.{Work}
 use Rattle.vx_core.specs.declared.stage.Phase.{Phase}
 use Rattle.vx_core.specs.declared.stage.Stage.{Stage}
 use Rattle.vx_core.specs.declared.stage.Job.TheVariants.{Read as ReadJob, Write as WriteJob, Copy as CopyJob, Settle, Clear}
 use Rattle.vx_core.specs.declared.stage.Event.TheVariants.{Begin, Marked, MarkFailed, Unmarked, UnmarkFailed, Wrote, WriteFailed, Got, ReadFailed, Cut}
 use Rattle.vx_core.specs.declared.stage.Act.TheVariants.{Mark, Unmark, WriteCall, WriteRegion, ReadCall, ReadRegion, Done, Skipped, Fault, Lost}
-use Rattle.vx_core.specs.declared.stage.Step.TheVariants.{Mark as AtMark, Write as AtWrite, MarkFailed as AtMarkFailed, Find as AtFind, Equal as AtEqual, Copy as AtCopy, Unmark as AtUnmark, Read as AtRead}
 use Rattle.vx_core.specs.declared.stage.Phase.TheVariants.{Settled, Unsettled, Dead, Busy}
 use Rattle.vx_base.specs.Blocks.{Contents, is_in}
 use Rattle.vx_life.specs.declared.EntryKind.TheVariants.{Read as ReadKind, Write as WriteKind}
@@ -19,7 +16,7 @@ use Rattle.vx_life.specs.Entry.{Entry}
 use Rattle.vx_mask.specs.Mask.{has}
 use Rattle.vx_mask.specs.Marks.{Marks, AllGain, AllLose, MayGain, MayLose}
 use Rattle.vx_core.specs.Table.{act_at}
-use Rattle.vx_core.specs.History.{Call, Pending, NoCall, Reads, Writes, entry_of, with_pending, overlaid, MayBegin, number_after}
+use Rattle.vx_core.specs.History.{Pending, NoCall, Reads, Writes, entry_of, with_pending, overlaid, MayBegin, number_after}
 
 -- what the devices hold of the region: the blocks of each plex, as the volume counts them, and the marks on the copies of the log
 pub record Disks : Type 0 where

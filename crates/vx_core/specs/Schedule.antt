@@ -1,19 +1,10 @@
 -- Whole schedules: any happenings, in any number of regions.
-use Rattle.std.specs.Prelude.{◌≡◌, ℕ, ◌<◌, ◌^◌, ◌==◌, true, false, Bool, List, [], ◌∷◌, if◌then◌else◌}
-use Rattle.vx_core.specs.declared.stage.Job.{Job}
+use Rattle.std.specs.Prelude.{◌≡◌, ℕ, ◌==◌, true, false, List, [], ◌∷◌, reverse, if◌then◌else◌}
 use Rattle.vx_core.specs.declared.stage.Event.{Event}
-use Rattle.vx_core.specs.declared.stage.Act.{Act}
-use Rattle.vx_core.specs.declared.stage.Step.{Step}
-use Rattle.vx_core.specs.declared.stage.Work.{Work}
 use Rattle.vx_core.specs.declared.stage.Phase.{Phase}
-use Rattle.vx_core.specs.declared.stage.Stage.{Stage}
-use Rattle.vx_core.specs.declared.stage.Job.TheVariants.{Read as ReadJob, Write as WriteJob, Copy as CopyJob, Settle, Clear}
-use Rattle.vx_core.specs.declared.stage.Event.TheVariants.{Begin, Marked, MarkFailed, Unmarked, UnmarkFailed, Wrote, WriteFailed, Got, ReadFailed, Cut}
-use Rattle.vx_core.specs.declared.stage.Act.TheVariants.{Mark, Unmark, WriteCall, WriteRegion, ReadCall, ReadRegion, Done, Skipped, Fault, Lost}
-use Rattle.vx_core.specs.declared.stage.Step.TheVariants.{Mark as AtMark, Write as AtWrite, MarkFailed as AtMarkFailed, Find as AtFind, Equal as AtEqual, Copy as AtCopy, Unmark as AtUnmark, Read as AtRead}
-use Rattle.vx_core.specs.declared.stage.Phase.TheVariants.{Settled, Unsettled, Dead, Busy}
+use Rattle.vx_core.specs.declared.stage.Phase.TheVariants.{Busy}
 use Rattle.vx_base.specs.Blocks.{Contents}
-use Rattle.vx_life.specs.Entry.{IsHistory}
+use Rattle.vx_life.specs.Entry.{IsLegal}
 use Rattle.vx_life.specs.Order.{IsInOrder}
 use Rattle.vx_mask.specs.Mask.{has}
 use Rattle.vx_mask.specs.Marks.{Marks, MayTidy}
@@ -73,7 +64,8 @@ pub record IsFresh (r : RegionState) : Type 0 where
 -- at this moment the region is sound, and its entries are a legal history in order
 pub record IsGood (r : RegionState) : Type 0 where
   pub sound : IsSound r.stage r.stage.phase r.around
-  pub legal : IsHistory r.around.fixed.first r.around.entries
+  -- the entries, the oldest first
+  pub legal : IsLegal r.around.fixed.first (reverse r.around.entries)
   pub history : IsRecord r.around.fixed.region r.around.fixed.from r.around.fixed.first (told r.around) r.around.last
   -- where the numbers began with 1, they are those of a life
   pub in_order : r.around.fixed.from ≡ 0 → IsInOrder (told r.around)

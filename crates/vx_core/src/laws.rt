@@ -4,6 +4,7 @@
 ghost use Rattle.vx_core.specs.Plexes.{PutKeeps, SetOffKeeps, SetOnKeeps, TakeKeeps};
 ghost use Rattle.vx_core.specs.Recovery.{EachCopyLoadsSound, EachRecovers, ReadsLowestFirst};
 ghost use Rattle.vx_core.specs.Schedule.{EachStaysSound};
+ghost use Rattle.vx_core.specs.Wrong.{AMarkedPlexMayLie, ForgetsAMark, LeavesTheFailedPlexUnmarked, ReadsAMarkedPlex, SettlesFromAMarkedPlex, SettlesThoughAWriteFailed, TakesAFailedMark, UnmarksBeforeTheCopy, WritesBeforeTheMark};
 
 /// Over every list of events that fit, in any number of regions, each region stays sound, and its entries are a legal
 /// history in order.
@@ -32,4 +33,17 @@ pub fn plexes_keep()
     ensures off { SetOffKeeps }
     ensures taken { TakeKeeps }
     ensures put { PutKeeps }
+{}
+
+/// That soundness refuses wrong answers, whatever the table says: each would break what is kept.
+pub fn wrong_answers_break()
+    ensures unmarked_write { WritesBeforeTheMark }
+    ensures failed_mark { TakesAFailedMark }
+    ensures forgotten_mark { ForgetsAMark }
+    ensures early_unmark { UnmarksBeforeTheCopy }
+    ensures marked_read { ReadsAMarkedPlex }
+    ensures marked_contents { AMarkedPlexMayLie }
+    ensures marked_source { SettlesFromAMarkedPlex }
+    ensures missed_plex { LeavesTheFailedPlexUnmarked }
+    ensures missed_settling { SettlesThoughAWriteFailed }
 {}

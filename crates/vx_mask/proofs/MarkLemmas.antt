@@ -1,10 +1,10 @@
 -- What follows of marks that change.
-use Rattle.std.proofs.Common.{◌≡◌, ℕ, ◌⊎◌, inl, inr, Bool, true, false, refl, sym, ◌∙◌, ap}
+use Rattle.std.proofs.Common.{◌≡◌, ℕ, ◌⊎◌, inl, inr, Bool, true, false, refl, sym, ◌∙◌}
 use Rattle.std.specs.Prelude.{◌&&◌, ◌||◌, not}
 use Rattle.vx_mask.specs.Mask.{has}
 use Rattle.vx_mask.specs.Marks.{Marks, AllGain, AllLose, SomeLoseLoose, MayTidy}
 use Rattle.vx_mask.proofs.MaskLemmas.{has-zero}
-use Rattle.vx_mask.proofs.Tests.{not_both, or_from_left, or_none, or_cases, and_not_parts, true_or_false}
+use Rattle.vx_mask.proofs.Tests.{not_both, or_from_left, or_cases, and_not_parts}
 
 or_zero : (b z : Bool) → z ≡ false → b ≡ (b || z)
 or_zero true z none = refl

@@ -1,8 +1,8 @@
 -- Unions and differences of masks, as sets.
-use Rattle.std.proofs.Common.{◌≡◌, ◌≢◌, ℕ, ◌<◌, ◌⊎◌, inl, inr, true, false, sym, ◌∙◌, arith}
+use Rattle.std.proofs.Common.{◌≡◌, ◌≢◌, ℕ, ◌⊎◌, inl, inr, true, false, sym, ◌∙◌, arith}
 use Rattle.std.proofs.lemmas.Bool.{cases_order}
 use Rattle.vx_mask.specs.Mask.{has, only, union, without}
-use Rattle.vx_mask.proofs.MaskLemmas.{has-union, has-without, has-only_same, same_as_only}
+use Rattle.vx_mask.proofs.MaskLemmas.{has-union, has-without, same_as_only}
 use Rattle.vx_mask.proofs.Tests.{not_both, true_or_false, or_from_left, or_from_right, or_cases, or_neither, or_none, and_not, and_not_parts, and_not_out}
 
 pub in_union : (a b k : ℕ) → (has a k ≡ true) ⊎ (has b k ≡ true) → has (union a b) k ≡ true

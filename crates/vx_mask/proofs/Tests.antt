@@ -1,5 +1,5 @@
 -- Facts of tests, as the laws of masks and marks use them.
-use Rattle.std.proofs.Common.{◌≡◌, ◌⊎◌, inl, inr, Bool, true, false, refl, cond}
+use Rattle.std.proofs.Common.{◌≡◌, ◌⊎◌, inl, inr, Bool, true, false, refl}
 use Rattle.std.specs.Prelude.{◌&&◌, ◌||◌, not}
 
 pub not_both : {A : Type 0} {b : Bool} → b ≡ true → b ≡ false → A

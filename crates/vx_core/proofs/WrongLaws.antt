@@ -1,37 +1,32 @@
 -- Answers that are wrong break what is kept, whatever the table says.
-use Rattle.std.proofs.Common.{◌≡◌, ◌≢◌, ℕ, ◌+◌, ◌*◌, ◌<◌, ◌≤◌, ◌^◌, ◌⊎◌, inl, inr, Bool, true, false, refl, sym, ◌∙◌, ap, subst, arith, cond, List, [], ◌∷◌}
-use Rattle.std.specs.Prelude.{◌&&◌, ◌||◌, not, ◌==◌, IsTrue}
+use Rattle.std.proofs.Common.{◌≡◌, ◌≢◌, ℕ, ◌<◌, inl, inr, Bool, true, false, refl, sym, ◌∙◌, ap, subst, arith, List, [], ◌∷◌}
+use Rattle.std.specs.Prelude.{◌&&◌, ◌||◌, not, ◌==◌}
 use Rattle.vx_core.specs.declared.stage.Job.{Job}
 use Rattle.vx_core.specs.declared.stage.Event.{Event}
-use Rattle.vx_core.specs.declared.stage.Act.{Act}
-use Rattle.vx_core.specs.declared.stage.Step.{Step}
 use Rattle.vx_core.specs.declared.stage.Work.{Work}
 use Rattle.vx_core.specs.declared.stage.Phase.{Phase}
 use Rattle.vx_core.specs.declared.stage.Stage.{Stage}
-use Rattle.vx_core.specs.declared.stage.Job.TheVariants.{Read as ReadJob, Write as WriteJob, Copy as CopyJob, Settle, Clear}
-use Rattle.vx_core.specs.declared.stage.Event.TheVariants.{Begin, Marked, MarkFailed, Unmarked, UnmarkFailed, Wrote, WriteFailed, Got, ReadFailed, Cut}
-use Rattle.vx_core.specs.declared.stage.Act.TheVariants.{Mark, Unmark, WriteCall, WriteRegion, ReadCall, ReadRegion, Done, Skipped, Fault, Lost}
-use Rattle.vx_core.specs.declared.stage.Step.TheVariants.{Mark as AtMark, Write as AtWrite, MarkFailed as AtMarkFailed, Find as AtFind, Equal as AtEqual, Copy as AtCopy, Unmark as AtUnmark, Read as AtRead}
-use Rattle.vx_core.specs.declared.stage.Phase.TheVariants.{Settled, Unsettled, Dead, Busy}
-use Rattle.vx_base.specs.Blocks.{Contents, is_in}
-use Rattle.vx_life.specs.Candidates.{Values, IsAmong, Candidates}
-use Rattle.vx_life.specs.Entry.{Entry, candidates_of, IsHistory}
-use Rattle.vx_mask.specs.Mask.{has, only, union, without, lowest, above_lowest}
-use Rattle.vx_mask.specs.Marks.{Marks, AllGain, AllLose, SomeLoseLoose, SomeGain, SomeLose, MayGain, MayLose, MayTidy}
-use Rattle.vx_mask.proofs.MaskLemmas.{has-zero, has-union, has-without, has-only_same, has-only_other, has-lowest, has-lt, lowest-lt, without-lt, union-lt, only-lt, without-less, not_empty, one, two, same_as_only, apart_from_only, empty_from_test, some_from_test}
-use Rattle.vx_mask.proofs.Sets.{in_union, union_parts, union_cases, out_union, in_without, without_parts, out_without, out_without_left, out_of, left_out, same_or_not}
-use Rattle.vx_mask.proofs.Tests.{not_both, true_or_false, or_from_left, or_from_right, or_cases, or_none, and_not, and_not_parts, both_parts, and_none, right_false, never_true, not_before}
-use Rattle.vx_core.specs.Table.{current, need, freed_by, act_at, read_act, ended, busy, work, write, read_from, copy, settle, start, written, wrote, level, marked_failed, got, offered, read_failed, answered, begun, goes_on, next_of, NamesAct, IsNamed}
-use Rattle.vx_core.specs.History.{Call, Pending, NoCall, Reads, Writes, entry_of, with_pending, overlaid, no_values, IsRecord, AreCounted, AreOrdered, AllOf, MayPrecede, IsNextCall, MayBegin, number_after}
-use Rattle.vx_core.specs.Region.{Disks, Fixed, Around, RegionState, told, Gets, MayGet, SameMarks, SameBlocks, SameDisks, GoesWell, GoesWrong, MayAnswer, Becomes, Answers, CallOf, AreOf, ReadGives, FitsIn, entries_after, pending_after, around_after}
-use Rattle.vx_core.specs.Soundness.{MayHold, freeing, IsStray, IsBetween, IsUnmarked, Agree, IsData, IsDataIn, IsDirty, IsDirtyIn, IsOpen, IsOpenStep, IsSound, IsSoundUnder, IsMarkedForWrite, AreMarkedForWrite, MarkedIn}
-use Rattle.vx_core.specs.Form.{AreMasks, IsStage, IsParted, IsLevel, IsFinding, FormAt, FormIn, IsFormed, MayCome}
-use Rattle.vx_core.specs.Kept.{HasReached, AreLevel, ContentsAt, ContentsIn, CallIn, IsKept, Keeps}
+use Rattle.vx_core.specs.declared.stage.Job.TheVariants.{Read as ReadJob, Write as WriteJob, Copy as CopyJob, Settle}
+use Rattle.vx_core.specs.declared.stage.Event.TheVariants.{Begin, Marked, MarkFailed, Got}
+use Rattle.vx_core.specs.declared.stage.Step.TheVariants.{Mark as AtMark, Write as AtWrite, Equal as AtEqual, Read as AtRead}
+use Rattle.vx_core.specs.declared.stage.Phase.TheVariants.{Settled, Unsettled, Busy}
+use Rattle.vx_base.specs.Blocks.{Contents}
+use Rattle.vx_mask.specs.Mask.{has, only, union, without, lowest}
+use Rattle.vx_mask.specs.Marks.{Marks}
+use Rattle.vx_mask.proofs.MaskLemmas.{has-zero, has-union, has-without, has-only_same, has-only_other, has-lt, union-lt, only-lt, not_empty, same_as_only}
+use Rattle.vx_mask.proofs.Sets.{in_union, union_cases, out_union, in_without, without_parts, out_without_left, out_of}
+use Rattle.vx_mask.proofs.Tests.{not_both, true_or_false, and_none}
+use Rattle.vx_core.specs.Table.{need, work}
+use Rattle.vx_core.specs.History.{Call, Pending, NoCall, Writes, with_pending, overlaid, IsRecord}
+use Rattle.vx_core.specs.Region.{Disks, Around, FitsIn}
+use Rattle.vx_core.specs.Soundness.{freeing, IsOpenStep, AreMarkedForWrite, MarkedIn}
+use Rattle.vx_core.specs.Form.{AreMasks, IsParted, IsLevel, FormIn, IsFormed}
+use Rattle.vx_core.specs.Kept.{HasReached, AreLevel, ContentsIn, CallIn, IsKept}
 use Rattle.std.proofs.lemmas.Bool.Decides.{nat_tests}
 use Rattle.vx_life.specs.Candidates.{Any}
 use Rattle.vx_mask.proofs.MarkLemmas.{lose_none}
 use Rattle.vx_life.specs.Candidates.{OneOf}
-use Rattle.vx_core.specs.Wrong.{AMarkedPlexMayLie, job_at, Lacks, WritesBeforeTheMark, IsMarking, written_with, TakesAFailedMark, ForgetsAMark, UnmarksBeforeTheCopy, ReadsAMarkedPlex, SettlesFromAMarkedPlex, two_plexes, LeavesTheFailedPlexUnmarked, SettlesThoughAWriteFailed}
+use Rattle.vx_core.specs.Wrong.{AMarkedPlexMayLie, job_at, Lacks, WritesBeforeTheMark, TakesAFailedMark, ForgetsAMark, UnmarksBeforeTheCopy, ReadsAMarkedPlex, SettlesFromAMarkedPlex, two_plexes, LeavesTheFailedPlexUnmarked, SettlesThoughAWriteFailed}
 use Rattle.vx_core.proofs.Begins.{need_has}
 use Rattle.vx_core.proofs.Ends.{sound_from_ends, ends_from_sound}
 use Rattle.vx_core.proofs.FormLaws.{blank_call, blank_last, among_blank, record_blank, begin_blank}

@@ -1,17 +1,15 @@
 -- Answers that are wrong, whatever the table says: each would break what is kept.
 use Rattle.std.specs.Prelude.{◌≡◌, ◌≢◌, ℕ, Bool, true, false}
 use Rattle.vx_core.specs.declared.stage.Job.{Job}
-use Rattle.vx_core.specs.declared.stage.Event.{Event}
 use Rattle.vx_core.specs.declared.stage.Act.{Act}
 use Rattle.vx_core.specs.declared.stage.Step.{Step}
 use Rattle.vx_core.specs.declared.stage.Work.{Work}
-use Rattle.vx_core.specs.declared.stage.Phase.{Phase}
 use Rattle.vx_core.specs.declared.stage.Stage.{Stage}
-use Rattle.vx_core.specs.declared.stage.Job.TheVariants.{Read as ReadJob, Write as WriteJob, Copy as CopyJob, Settle, Clear}
-use Rattle.vx_core.specs.declared.stage.Event.TheVariants.{Begin, Marked, MarkFailed, Unmarked, UnmarkFailed, Wrote, WriteFailed, Got, ReadFailed, Cut}
-use Rattle.vx_core.specs.declared.stage.Act.TheVariants.{Mark, Unmark, WriteCall, WriteRegion, ReadCall, ReadRegion, Done, Skipped, Fault, Lost}
-use Rattle.vx_core.specs.declared.stage.Step.TheVariants.{Mark as AtMark, Write as AtWrite, MarkFailed as AtMarkFailed, Find as AtFind, Equal as AtEqual, Copy as AtCopy, Unmark as AtUnmark, Read as AtRead}
-use Rattle.vx_core.specs.declared.stage.Phase.TheVariants.{Settled, Unsettled, Dead, Busy}
+use Rattle.vx_core.specs.declared.stage.Job.TheVariants.{Read as ReadJob, Write as WriteJob, Copy as CopyJob, Settle}
+use Rattle.vx_core.specs.declared.stage.Event.TheVariants.{Begin, Marked, MarkFailed, WriteFailed, Got}
+use Rattle.vx_core.specs.declared.stage.Act.TheVariants.{Done}
+use Rattle.vx_core.specs.declared.stage.Step.TheVariants.{Mark as AtMark, Write as AtWrite, Find as AtFind, Equal as AtEqual, Unmark as AtUnmark, Read as AtRead}
+use Rattle.vx_core.specs.declared.stage.Phase.TheVariants.{Settled, Unsettled, Busy}
 use Rattle.vx_mask.specs.Mask.{has, only, union, without, lowest}
 use Rattle.vx_core.specs.Table.{current, need, busy, ended, work, read_from}
 use Rattle.vx_core.specs.Form.{IsFormed}

@@ -1,0 +1,13 @@
+pub mod Causes
+pub mod Follow
+pub mod Form
+pub mod History
+pub mod Kept
+pub mod Plexes
+pub mod Progress
+pub mod Recovery
+pub mod Region
+pub mod Schedule
+pub mod Soundness
+pub mod Table
+pub mod Wrong

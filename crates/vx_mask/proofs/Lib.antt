@@ -1,0 +1,4 @@
+pub mod MarkLemmas
+pub mod MaskLemmas
+pub mod Sets
+pub mod Tests

@@ -1,2 +1,5 @@
+pub mod Bads
+pub mod Device
+pub mod MemPiece
 pub mod Seen
 pub mod Shelf

@@ -1,8 +1,12 @@
 //! Owned runs of sectors of one device, and a set of whole devices.
 #![tactic(auto)]
 
+mod bad;
+mod mem_piece;
 mod piece;
 mod shelf;
 
+pub use bad::Bad;
+pub use mem_piece::{Counts, MemPiece};
 pub use piece::{Piece, PieceFault};
 pub use shelf::{Shelf, ShelfFault};

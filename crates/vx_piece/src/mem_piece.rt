@@ -72,6 +72,27 @@ impl MemPiece {
     }
 }
 
+impl MemPiece {
+    ghost use Rattle.vx_piece.specs.MemPiece.{mem_seen};
+
+    /// The empty run behind its last sector.
+    pub(crate) fn end(&self, alloc: Global) -> MemPiece
+        ensures device { (mem_seen result).device ≡ (mem_seen self.now).device }
+        ensures start { (mem_seen result).start ≡ (mem_seen self.now).start + (mem_seen self.now).sectors }
+        ensures empty { (mem_seen result).sectors ≡ 0 }
+    {
+        MemPiece {
+            device: self.device,
+            start: self.start + self.sectors(),
+            bytes: Vec::new(alloc),
+            bad: Vec::new(alloc),
+            faults: 0,
+            writes: 0,
+            stop: None,
+        }
+    }
+}
+
 impl Piece for MemPiece {
     ghost use Rattle.vx_piece.specs.MemPiece.{mem_seen, bads_of, good_of, HasCounted, WritesGood, PartsBads};
 
@@ -104,8 +125,7 @@ impl Piece for MemPiece {
     {
         let count = (into.len() / BLOCK) as u64;
         if touch(&mut self.bad, self.start + at, count, false) < count {
-            self.faults = self.faults.saturating_add(1);
-            return Err(PieceFault::Failed);
+            return Err(failed(&mut self.faults));
         }
         copy_out(&self.bytes, at as usize, into);
         Ok(())
@@ -129,8 +149,7 @@ impl Piece for MemPiece {
         let good = touch(&mut self.bad, self.start + at, count, true);
         copy_in(&mut self.bytes, at as usize, from, good as usize);
         if good < count {
-            self.faults = self.faults.saturating_add(1);
-            return Err(PieceFault::Failed);
+            return Err(failed(&mut self.faults));
         }
         Ok(())
     }
@@ -203,6 +222,15 @@ impl Piece for MemPiece {
     fn arm(&mut self, stop: Option<u64>) {
         self.stop = stop;
     }
+}
+
+/// Counts a failure.
+fn failed(faults: &mut u64) -> PieceFault
+    ensures counted { faults.new ≡ later_count faults.old 1 }
+    ensures answer { result ≡ PieceFault.Failed }
+{
+    *faults = faults.saturating_add(1);
+    PieceFault::Failed
 }
 
 /// The bytes behind the first `at` sectors.

@@ -1,1 +1,4 @@
 pub mod Flow
+pub mod Limit
+pub mod MemSink
+pub mod MemSource

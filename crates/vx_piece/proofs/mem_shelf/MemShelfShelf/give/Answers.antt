@@ -1,0 +1,32 @@
+use Rattle.vx_piece.proofs.Taken.{nowhere, given, comes, given_at_rest}
+use Rattle.vx_piece.proofs.mem_shelf.MemShelfShelf.give.Goals as goal
+
+pub invariant_of-self : goal.invariant_of-self
+invariant_of-self c =
+    let found = rw c.as_slice.ensures.value at c.in-Some.ensures in
+    let place = c.index_mut-place.result.now in
+    record { at_rest = given_at_rest c.args.self.now.places.items c.args.name.now c.in-Some.i place place c.args.piece c.args.self.now.at_rest found.0 found.1 c.index_mut-place.ensures.value c.requires.whole c.requires.out }
+
+pub returns-in-Some-clause-given : goal.returns-in-Some-clause-given
+returns-in-Some-clause-given c =
+    let found = rw c.as_slice.ensures.value at c.in-Some.ensures in
+    let place = c.index_mut-place.result.now in
+    given c.args.self.now.places.items c.args.name.now c.in-Some.i place place c.args.piece c.args.self.now.at_rest found.0 found.1 c.index_mut-place.ensures.value c.requires.whole c.requires.out
+
+pub returns-in-Some-clause-back : goal.returns-in-Some-clause-back
+returns-in-Some-clause-back c =
+    let found = rw c.as_slice.ensures.value at c.in-Some.ensures in
+    let place = c.index_mut-place.result.now in
+    comes c.args.self.now.places.items c.args.name.now c.in-Some.i place place c.args.piece c.args.self.now.at_rest found.0 found.1 c.index_mut-place.ensures.value c.requires.whole c.requires.out
+
+pub returns-in-None-clause-given : goal.returns-in-None-clause-given
+returns-in-None-clause-given c =
+    let missing = rw c.as_slice.ensures.value at c.in-None.ensures in
+    let none = (nowhere c.args.self.now.places.items c.args.name.now missing).not_held in
+    absurd (cc (c.requires.out, none))
+
+pub returns-in-None-clause-back : goal.returns-in-None-clause-back
+returns-in-None-clause-back c =
+    let missing = rw c.as_slice.ensures.value at c.in-None.ensures in
+    let none = (nowhere c.args.self.now.places.items c.args.name.now missing).not_held in
+    absurd (cc (c.requires.out, none))

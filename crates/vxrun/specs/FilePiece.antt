@@ -1,0 +1,29 @@
+-- What a piece of a file shows: it tells nothing of what its sectors hold, and it is never cut.
+use Rattle.std.specs.Prelude.{ℕ, false, None}
+use Rattle.vx_piece.specs.Seen.{Seen}
+use Rattle.vxrun.specs.declared.file_piece.FilePiece.{FilePiece}
+
+abbrev pub file_seen : {R : Type 0} → FilePiece R → Seen
+file_seen p = record {
+  device = p.device;
+  start = p.start;
+  sectors = p.sectors;
+  told = None;
+  faults = p.faults;
+  writes = p.writes;
+  cut = false;
+  stop = p.stop;
+}
+
+-- a whole device that no call has met
+abbrev pub new_file : ℕ → ℕ → Seen
+new_file device sectors = record {
+  device = device;
+  start = 0;
+  sectors = sectors;
+  told = None;
+  faults = 0;
+  writes = 0;
+  cut = false;
+  stop = None;
+}

@@ -1,0 +1,12 @@
+-- What a shelf of files tells: which devices are held, and how often it failed.
+use Rattle.std.specs.Prelude.{ℕ, Option}
+use Rattle.vx_base.specs.Named.{Word}
+use Rattle.vx_piece.specs.Shelf.{Held}
+use Rattle.vxrun.specs.Known.{held_in}
+use Rattle.vxrun.specs.declared.file_shelf.FileShelf.{FileShelf}
+
+abbrev pub held_by_files : {R : Type 0} → FileShelf R → Word → Option Held
+held_by_files s = held_in s.known.items
+
+abbrev pub shelf_faults : {R : Type 0} → FileShelf R → ℕ
+shelf_faults s = s.faults

@@ -5,8 +5,6 @@ use Rattle.vx_names.specs.Place.{IsPlace}
 use Rattle.vx_names.specs.declared.attr.Attr.{Attr}
 use Rattle.vx_names.specs.declared.attr.AttrFault.{AttrFault}
 use Rattle.vx_names.specs.declared.attr.AttrFault.TheVariants.{BadAttr}
-use Rattle.vx_names.specs.declared.name.NameFault.{NameFault}
-use Rattle.vx_names.specs.declared.name.NameFault.TheVariants.{BadName}
 
 abbrev pub value_word : Option (List ℕ) → List ℕ
 value_word None = 45 ∷ []
@@ -32,6 +30,3 @@ IsAttrWord word = (a : Attr) × IsTrue (is_attr a) × (word ≡ attr_word a)
 
 abbrev pub IsBadAttr : List ℕ → AttrFault → Type 0
 IsBadAttr word (BadAttr place) = IsPlace IsAttrWord word place
-
-abbrev pub IsBadValue : List ℕ → NameFault → Type 0
-IsBadValue word (BadName place) = IsPlace IsValueWord word place

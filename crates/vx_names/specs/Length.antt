@@ -1,5 +1,7 @@
 -- A length is a number, then none or one of the letters of a unit; it is told in sectors.
 use Rattle.std.specs.Prelude.{◌≡◌, ℕ, ◌+◌, ◌*◌, ◌^◌, ◌<◌, ◌≤◌, ◌==◌, nat_lt, IsTrue, if◌then◌else◌, List, [], ◌∷◌, ◌++◌, drop}
+use Rattle.std.specs.List.{prefix_len}
+use Rattle.vx_names.specs.Form.{begins_with}
 use Rattle.vx_names.specs.Number.{is_digit, is_numeral, digits_value}
 use Rattle.vx_names.specs.Place.{IsPlace}
 use Rattle.vx_names.specs.declared.length.LengthFault.{LengthFault}
@@ -32,17 +34,15 @@ pub record Measures (word : List ℕ) (sectors : ℕ) : Type 0 where
 abbrev pub IsBadLength : List ℕ → LengthFault → Type 0
 IsBadLength word (BadLength place) = IsPlace IsLengthWord word place
 
--- how many digits stand at the front
-abbrev pub digits_front : List ℕ → ℕ
-digits_front [] = 0
-digits_front (d ∷ ds) = if is_digit d then digits_front ds + 1 else 0
-
 -- the bytes of the longest number at the front
 abbrev pub numeral_front : List ℕ → ℕ
-numeral_front [] = 0
-numeral_front (d ∷ ds) = if d == 48 then 1 else digits_front (d ∷ ds)
+numeral_front word = if begins_with 48 word then 1 else prefix_len is_digit word
 
 -- whether the letter of a unit stands at the front
 abbrev pub unit_front : List ℕ → ℕ
 unit_front [] = 0
 unit_front (u ∷ us) = if nat_lt 0 (unit_sectors (u ∷ [])) then 1 else 0
+
+-- the end of the longest front of the word with which a length begins
+abbrev pub length_place : List ℕ → ℕ
+length_place word = if numeral_front word == 0 then 0 else numeral_front word + unit_front (drop (numeral_front word) word)

@@ -1,7 +1,11 @@
 ghost use Rattle.std.specs.Prelude.{◌≡◌, ◌++◌, List, ℕ, Option, IsTrue, IfOk, IfErr, OnOk, Ok};
-ghost use Rattle.vx_names.specs.Attribute.{is_attr, is_value, value_word, attr_word, IsBadAttr, IsBadValue};
+ghost use Rattle.std.specs.Prelude.{◌∷◌, IfSome, IfNone};
+ghost use Rattle.vx_names.specs.Attribute.{is_attr, is_value, value_word, attr_word, IsBadAttr, IsAttrWord, IsValueWord};
+ghost use Rattle.vx_names.specs.Form.{is_name};
+ghost use Rattle.vx_names.specs.Named.{name_front};
+ghost use Rattle.vx_names.specs.Place.{IsPlace};
 
-use crate::name::{Name, NameFault, name_front};
+use crate::name::{Name, after, begins_with, name_front};
 use vx_base::OutOfMemory;
 
 /// An attribute: a name and its value, which may be none.
@@ -27,13 +31,16 @@ impl Attr {
         ensures place { IfErr result (IsBadAttr word.now) }
     {
         let front = name_front(word);
-        let (name, rest) = word.split_at(front);
-        match (Name::read(name), rest) {
-            (Ok(name), [b'=', value @ ..]) => match read_value(value) {
-                Ok(value) => Ok(Attr { name, value }),
-                Err(NameFault::BadName(place)) => Err(AttrFault::BadAttr(front as u64 + 1 + place)),
-            },
-            _ => Err(AttrFault::BadAttr(front as u64)),
+        let Ok(name) = Name::read(&word[..front]) else {
+            return Err(AttrFault::BadAttr(front as u64));
+        };
+        let rest = after(word, front);
+        if !begins_with(rest, b'=') {
+            return Err(AttrFault::BadAttr(front as u64));
+        }
+        match read_value(after(rest, 1)) {
+            Ok(value) => Ok(Attr { name, value }),
+            Err(place) => Err(AttrFault::BadAttr((front + 1 + place) as u64)),
         }
     }
 
@@ -52,15 +59,18 @@ impl Attr {
     }
 }
 
-/// The value that the word spells; `-` is none.
-fn read_value(word: &[u8]) -> Result<Option<Name>, NameFault>
+/// The value that the word spells, or its place; `-` is none.
+fn read_value(word: &[u8]) -> Result<Option<Name>, usize>
     ensures spelled { IfOk result (λ value. word.now ≡ value_word value) }
     ensures form { IfOk result (λ value. IsTrue (is_value value)) }
-    ensures place { IfErr result (IsBadValue word.now) }
+    ensures not { IfErr result (λ _. IsValueWord word.now → ⊥) }
+    ensures place { IfErr result (IsPlace IsValueWord word.now) }
 {
-    match word {
-        [b'-'] => Ok(None),
-        [b'-', ..] => Err(NameFault::BadName(1)),
-        _ => Ok(Some(Name::read(word)?)),
+    if begins_with(word, b'-') {
+        return if word.len() == 1 { Ok(None) } else { Err(1) };
+    }
+    match Name::read(word) {
+        Ok(name) => Ok(Some(name)),
+        Err(_) => Err(name_front(word)),
     }
 }

@@ -1,7 +1,10 @@
-ghost use Rattle.std.specs.Prelude.{◌≡◌, ℕ, List, IfOk, IfErr, Ok};
-ghost use Rattle.vx_names.specs.Length.{unit_sectors, Measures, IsBadLength, digits_front, numeral_front, unit_front};
+ghost use Rattle.std.specs.Prelude.{◌≡◌, ℕ, List, IfOk, IfErr, Ok, ◌≤◌, length};
+ghost use Rattle.std.specs.List.{prefix_len};
+ghost use Rattle.vx_names.specs.Number.{is_digit};
+ghost use Rattle.vx_names.specs.Length.{unit_sectors, Measures, IsBadLength, length_place, numeral_front, unit_front};
 
-use crate::number::{CAP, capped_value, is_digit};
+use crate::name::begins_with;
+use crate::number::{CAP, capped_value, is_digit, is_numeral};
 
 /// A word that is no length.
 #[derive(Clone, Copy, Debug, PartialEq, Eq)]
@@ -19,14 +22,26 @@ pub fn read_length(word: &[u8]) -> Result<u64, LengthFault>
     let front = numeral_front(word);
     let (digits, unit) = word.split_at(front);
     let each = unit_sectors(unit);
-    if front == 0 || each == 0 {
-        return Err(LengthFault::BadLength((front + unit_front(unit)) as u64));
+    if !is_numeral(digits) || each == 0 {
+        return Err(LengthFault::BadLength(length_place(word) as u64));
     }
-    let count = capped_value(digits) * each;
-    if count == 0 || count > CAP {
+    let sectors = capped_value(digits) * each;
+    if sectors == 0 || sectors > CAP {
         return Err(LengthFault::BadLength(word.len() as u64));
     }
-    Ok(count)
+    Ok(sectors)
+}
+
+/// The end of the longest front of the word with which a length begins.
+fn length_place(word: &[u8]) -> usize
+    ensures { result ≡ length_place word.now }
+{
+    let front = numeral_front(word);
+    if front == 0 {
+        0
+    } else {
+        front + unit_front(&word[front..])
+    }
 }
 
 fn unit_sectors(unit: &[u8]) -> u64
@@ -42,21 +57,20 @@ fn unit_sectors(unit: &[u8]) -> u64
 }
 
 fn numeral_front(word: &[u8]) -> usize
-    ensures { result ≡ numeral_front word.now }
+    ensures bytes { result ≡ numeral_front word.now }
+    ensures inside { result ≤ length word.now }
 {
-    match word {
-        [b'0', ..] => 1,
-        _ => digits_front(word),
+    if begins_with(word, b'0') {
+        1
+    } else {
+        digits_front(word)
     }
 }
 
 fn digits_front(word: &[u8]) -> usize
-    ensures { result ≡ digits_front word.now }
+    ensures { result ≡ prefix_len is_digit word.now }
 {
-    match word {
-        [digit, rest @ ..] if is_digit(*digit) => digits_front(rest) + 1,
-        _ => 0,
-    }
+    word.iter().take_while(|b| is_digit(**b)).count()
 }
 
 fn unit_front(unit: &[u8]) -> usize

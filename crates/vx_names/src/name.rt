@@ -1,14 +1,14 @@
 ghost use Rattle.std.specs.Prelude.{◌≡◌, ◌↔◌, List, ℕ, IsTrue, IsOk, IfOk};
-ghost use Rattle.std.specs.List.{list_all};
-ghost use Rattle.std.specs.Prelude.{◌++◌, decimal, false, length, min, ◌≤◌, IfErr, OnOk};
+ghost use Rattle.std.specs.List.{list_all, prefix_len};
+ghost use Rattle.std.specs.Prelude.{◌++◌, drop, decimal, false, length, min, ◌≤◌, IfErr, OnOk};
 ghost use Rattle.std.proofs.Common.{rules};
 ghost use Rattle.std.specs.Cmp.{partial_order_from_own_ties};
 ghost use Rattle.std.specs.Cmp.Rules.{comparing};
 ghost use Rattle.std.specs.Cmp.Lexicographic.{slice_cmp};
 ghost use Rattle.std.specs.Ordering.{nat_cmp, as_partial_cmp};
 ghost use Rattle.std.specs.Str.{bytes_eq};
-ghost use Rattle.vx_names.specs.Form.{is_name, begins_well, is_letter_or_digit, is_name_byte};
-ghost use Rattle.vx_names.specs.Named.{IsBadName, leading, name_front};
+ghost use Rattle.vx_names.specs.Form.{is_name, begins_well, begins_with, is_letter_or_digit, is_name_byte};
+ghost use Rattle.vx_names.specs.Named.{IsBadName, name_front};
 
 use itoa::Buffer;
 use std::cmp::Ordering;
@@ -145,17 +145,17 @@ pub(crate) fn name_front(word: &[u8]) -> usize
     ensures bytes { result ≡ name_front word.now }
     ensures inside { result ≤ length word.now }
 {
-    if begins_well(word) { leading(word).min(31) } else { 0 }
+    if begins_well(word) {
+        leading(word).min(31)
+    } else {
+        0
+    }
 }
 
 fn leading(word: &[u8]) -> usize
-    ensures bytes { result ≡ leading word.now }
-    ensures inside { result ≤ length word.now }
+    ensures { result ≡ prefix_len is_name_byte word.now }
 {
-    match word {
-        [byte, rest @ ..] if is_name_byte(*byte) => leading(rest) + 1,
-        _ => 0,
-    }
+    word.iter().take_while(|b| is_name_byte(**b)).count()
 }
 
 fn has_form(word: &[u8]) -> bool
@@ -176,6 +176,23 @@ fn begins_well(word: &[u8]) -> bool
     match word {
         [] => false,
         [first, ..] => is_letter_or_digit(*first),
+    }
+}
+
+/// The word without its first bytes.
+pub(crate) fn after(word: &[u8], count: usize) -> &[u8]
+    requires { count ≤ length word.now }
+    ensures { result.now ≡ drop count word.now }
+{
+    word.split_at(count).1
+}
+
+pub(crate) fn begins_with(word: &[u8], byte: u8) -> bool
+    ensures { result ≡ begins_with byte word.now }
+{
+    match word {
+        [] => false,
+        [first, ..] => *first == byte,
     }
 }
 

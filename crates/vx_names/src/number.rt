@@ -43,7 +43,9 @@ pub(crate) fn is_numeral(word: &[u8]) -> bool
 {
     match word {
         [] => false,
-        [first, rest @ ..] => is_digit(*first) && all_digits(rest) && (rest.is_empty() || *first != b'0'),
+        [first, rest @ ..] => is_digit(*first)
+            && all_digits(rest)
+            && (rest.is_empty() || *first != b'0'),
     }
 }
 

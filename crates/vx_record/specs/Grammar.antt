@@ -36,8 +36,8 @@ AreRecords (r ∷ rs) = IsRecord r × AreRecords rs
 
 -- the text is these records
 pub record Spells (text : List ℕ) (records : List Content) : Type 0 where
-  pub records : AreRecords records
-  pub text : text ≡ records_text records
+  pub valid : AreRecords records
+  pub spelled : text ≡ records_text records
 
 -- the lines of a text, each with its newline; the last may lack it
 abbrev pub with_first : ℕ → List (List ℕ) → List (List ℕ)
@@ -47,6 +47,13 @@ with_first b (line ∷ lines) = (b ∷ line) ∷ lines
 abbrev pub lines : List ℕ → List (List ℕ)
 lines [] = []
 lines (b ∷ bs) = if b == 10 then (b ∷ []) ∷ lines bs else with_first b (lines bs)
+
+-- the lines of records, one by one
+abbrev pub record_lines : Content → List (List ℕ)
+record_lines r = head_line r.kind r.name ∷ map attr_line r.attrs
+
+abbrev pub records_lines : List Content → List (List ℕ)
+records_lines records = flat_map record_lines records
 
 -- some text of the grammar has the same first lines, so many
 pub record GoesOn (count : ℕ) (text : List ℕ) : Type 0 where

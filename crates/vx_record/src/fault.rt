@@ -1,4 +1,4 @@
-use vx_base::OutOfMemory;
+use std::alloc::{AllocError, AllocFailed};
 
 /// Why a text was not read.
 #[derive(Clone, Copy, Debug, PartialEq, Eq)]
@@ -8,13 +8,24 @@ pub enum RecordFault {
     OutOfMemory,
 }
 
-impl From<OutOfMemory> for RecordFault {
+impl From<AllocError> for RecordFault {
     ghost use Rattle.std.specs.Prelude.{◌≡◌};
-    ghost use Rattle.vx_record.specs.declared.fault.RecordFault.TheVariants.{OutOfMemory as Memory};
+    ghost use Rattle.vx_record.specs.declared.fault.RecordFault.TheVariants.{OutOfMemory};
 
-    ghost from_gives = { λ _ e. e ≡ Memory };
+    ghost from_gives = { λ _ e. e ≡ OutOfMemory };
 
-    fn from(_refused: OutOfMemory) -> RecordFault {
+    fn from(_refused: AllocError) -> RecordFault {
+        RecordFault::OutOfMemory
+    }
+}
+
+impl<T: Drop> From<AllocFailed<T>> for RecordFault {
+    ghost use Rattle.std.specs.Prelude.{◌≡◌};
+    ghost use Rattle.vx_record.specs.declared.fault.RecordFault.TheVariants.{OutOfMemory};
+
+    ghost from_gives = { λ _ e. e ≡ OutOfMemory };
+
+    fn from(_refused: AllocFailed<T>) -> RecordFault {
         RecordFault::OutOfMemory
     }
 }

@@ -1,10 +1,11 @@
-ghost use Rattle.std.specs.Prelude.{◌≡◌, ◌+◌, ◌^◌, ◌<◌, ◌≤◌, ◌∷◌, ◌++◌, ℕ, List, length, map, drop, IsTrue, IfOk, IfErr};
+ghost use Rattle.std.specs.Prelude.{◌≡◌, ◌+◌, ◌^◌, ◌<◌, ◌≤◌, ◌∷◌, ◌++◌, ℕ, List, length, map, drop, [], IsTrue, IfOk, IfErr, OnOk};
 ghost use Rattle.std.specs.List.{list_all};
 ghost use Rattle.vx_names.specs.Attribute.{is_attr};
 ghost use Rattle.vx_record.specs.Content.{Content};
 ghost use Rattle.vx_record.specs.Grammar.{IsRecord, Spells, IsReadFault, IsReadAs, attr_line, lines, record_lines};
 ghost use Rattle.vx_record.specs.Reading.{AddsAttr, IsLineFault, IsAttrsFault, IsRecordFault};
 ghost use Rattle.vx_record.specs.Table.{attrs_fit};
+ghost use Rattle.vx_record.specs.declared.fault.RecordFault.TheVariants.{OutOfMemory};
 
 use crate::column::{Column, columns};
 use crate::fault::RecordFault;
@@ -12,13 +13,14 @@ use crate::line::{line_len, read_attr, read_head};
 use crate::lists::{Attrs, Records};
 use crate::record::Record;
 use std::alloc::Global;
-use vx_names::Attr;
+use vx_names::{Attr, Name};
 
-/// A record, and the bytes of its lines.
+/// A record, the bytes of its lines, and how many lines these are.
 #[derive(Drop)]
 struct Found {
     record: Record,
     used: usize,
+    lines: u64,
 }
 
 /// Attributes, and the bytes of their lines.
@@ -39,9 +41,14 @@ pub fn read(alloc: Global, text: &[u8]) -> Result<Records, RecordFault>
     let mut line = 1;
     while at < text.len() {
         let found = read_record(alloc, text.split_at(at).1, line)?;
-        line += 1 + found.record.attrs.as_slice().len() as u64;
-        at += found.used;
-        records.push(found.record)?;
+        let Found {
+            record,
+            used,
+            lines,
+        } = found;
+        records.push(record)?;
+        at += used;
+        line += lines;
     }
     Ok(Records::from_vec(records))
 }
@@ -53,6 +60,7 @@ fn read_record(alloc: Global, text: &[u8], line: u64) -> Result<Found, RecordFau
     ensures lines { IfOk result (λ f. lines text.now ≡ record_lines f.record ++ lines (drop f.used text.now)) }
     ensures valid { IfOk result (λ f. IsRecord f.record) }
     ensures used { IfOk result (λ f. (0 < f.used) × (f.used ≤ length text.now)) }
+    ensures count { IfOk result (λ f. f.lines ≡ length (record_lines f.record)) }
     ensures fault { IfErr result (IsRecordFault line (lines text.now)) }
 {
     let head_len = line_len(text);
@@ -61,6 +69,7 @@ fn read_record(alloc: Global, text: &[u8], line: u64) -> Result<Found, RecordFau
         return Err(RecordFault::BadRecord(line));
     };
     let found = read_attrs(alloc, columns(head.kind), rest, line + 1)?;
+    let lines = 1 + found.attrs.as_slice().len() as u64;
     let record = Record {
         kind: head.kind,
         name: head.name,
@@ -69,6 +78,7 @@ fn read_record(alloc: Global, text: &[u8], line: u64) -> Result<Found, RecordFau
     Ok(Found {
         record,
         used: head_len + found.used,
+        lines,
     })
 }
 
@@ -110,9 +120,26 @@ fn take_attr(
     ensures fault { IfErr result (IsLineFault line column (lines text.now)) }
 {
     let len = line_len(text);
-    let Some(attr) = read_attr(text.split_at(len).0, column) else {
-        return Err(RecordFault::BadRecord(line));
-    };
-    attrs.push(attr)?;
-    Ok(len)
+    match read_attr(text.split_at(len).0, column) {
+        Some(attr) => {
+            push_attr(attrs, attr.name, attr.value)?;
+            Ok(len)
+        }
+        None => Err(RecordFault::BadRecord(line)),
+    }
+}
+
+/// Adds an attribute; its parts stand apart, since the prover wants to see their types here.
+fn push_attr(
+    attrs: &mut Vec<Attr>,
+    name: Name,
+    value: Option<Name>,
+) -> Result<(), RecordFault>
+    ensures ok { OnOk result (attrs.new.items ≡ attrs.old.items ++ record { name = name; value = value } ∷ []) }
+    ensures err { IfErr result (λ e. e ≡ OutOfMemory) }
+{
+    match attrs.push(Attr { name, value }) {
+        Ok(()) => Ok(()),
+        Err(_) => Err(RecordFault::OutOfMemory),
+    }
 }

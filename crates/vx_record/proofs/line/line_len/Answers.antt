@@ -1,4 +1,4 @@
-use Rattle.std.proofs.Common.{arith}
+use Rattle.std.proofs.Common.{◌+◌, arith}
 use Rattle.std.proofs.lemmas.List.Sums.{prefix_len-le-length}
 use Rattle.vx_record.proofs.ReadLines.{first_line, is_other}
 use Rattle.vx_record.proofs.line.line_len.Goals as goal

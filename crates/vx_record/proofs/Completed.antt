@@ -1,9 +1,8 @@
 -- A record whose attributes begin well can be completed.
-use Rattle.std.specs.Prelude.{◌&&◌, codes}
-use Rattle.std.proofs.Common.{◌≡◌, ℕ, true, false, Option, None, Some, List, [], ◌∷◌, ◌++◌, length, map, refl, sym, ◌∙◌, ap}
+use Rattle.std.specs.Prelude.{codes}
+use Rattle.std.proofs.Common.{◌≡◌, ℕ, true, Option, None, Some, List, [], ◌∷◌, ◌++◌, refl}
 use Rattle.std.specs.List.{list_all}
 use Rattle.std.proofs.lemmas.Bool.{and_parts, and_from, false≢true}
-use Rattle.std.proofs.lemmas.List.Folds.{list_all-append}
 use Rattle.vx_base.proofs.NamedLemmas.{bytes_eq_self}
 use Rattle.vx_names.specs.Form.{is_name}
 use Rattle.vx_names.specs.Attribute.{is_attr, is_value}

@@ -1,10 +1,10 @@
 -- The first line of a text, and what it is.
-use Rattle.std.specs.Prelude.{◌==◌, ◌&&◌, not, nat_le, codes}
-use Rattle.std.proofs.Common.{◌≡◌, ◌⊎◌, ℕ, zero, suc, ◌+◌, ◌-◌, ◌<◌, ◌≤◌, min, Bool, true, false, cond, Option, None, Some, List, [], ◌∷◌, ◌++◌, length, take, drop, get_or, refl, sym, ◌∙◌, ap, subst, arith, add-one, append_assoc, length-append, inl, inr, eq-eqb}
+use Rattle.std.specs.Prelude.{◌==◌, ◌&&◌, not, nat_le}
+use Rattle.std.proofs.Common.{◌≡◌, ◌⊎◌, ℕ, zero, suc, ◌+◌, ◌-◌, ◌<◌, ◌≤◌, min, Bool, true, false, Some, List, [], ◌∷◌, ◌++◌, length, take, drop, get_or, refl, sym, ◌∙◌, ap, subst, arith, add-one, length-append, inl, inr, eq-eqb}
 use Rattle.std.specs.List.{prefix_len, list_all}
-use Rattle.std.proofs.lemmas.Bool.{and_parts, cond-true, cond-false, false≢true, eqb-true, leb-true, le-leb, and_from, not_from_true, not_from_false}
+use Rattle.std.proofs.lemmas.Bool.{and_parts, cond-true, cond-false, eqb-true, leb-true, le-leb, and_from, not_from_true, not_from_false}
 use Rattle.std.proofs.lemmas.List.{take_more}
-use Rattle.std.proofs.Math.Seq.{take-length, take-append_seam, drop-append_seam}
+use Rattle.std.proofs.Math.Seq.{take-length}
 use Rattle.vx_base.proofs.NamedLemmas.{true_or_false}
 use Rattle.vx_names.proofs.Fronts.{front_ends}
 use Rattle.vx_record.specs.Grammar.{with_first, lines}
@@ -69,7 +69,7 @@ both_ends : (first : ℕ) (w : List ℕ) → 2 ≤ length w → get_or w 0 0 ≡
 both_ends first w long front last =
     let whole : length w - 1 + 1 ≡ length w = omega arith in
     let split : w ≡ take (length w - 1) w ++ 10 ∷ [] =
-        sym (take-length w) ∙ ap (λ (k : ℕ). take k w) (sym whole) ∙ take_more w (length w - 1) 0 (omega arith) ∙ ap (λ (b : ℕ). take (length w - 1) w ++ b ∷ []) last in
+    sym (take-length w) ∙ ap (λ (k : ℕ). take k w) (sym whole) ∙ take_more w (length w - 1) 0 (omega arith) ∙ ap (λ (b : ℕ). take (length w - 1) w ++ b ∷ []) last in
     split ∙ ap (λ (x : List ℕ). x ++ 10 ∷ []) (headed first (length w - 1) w (omega arith) (omega arith) front)
 
 -- what stands in a line between the byte and the newline
@@ -89,5 +89,5 @@ last_of m first = rw add-one (last_of_more first m)
 pub enclosed_again : (first : ℕ) (w m : List ℕ) → w ≡ first ∷ m ++ 10 ∷ [] → is_enclosed first w ≡ true
 enclosed_again first w m e = subst (λ (x : List ℕ). is_enclosed first x ≡ true) (sym e)
     (and_from _ _ (and_from _ _ (le-leb 2 (length (first ∷ m ++ 10 ∷ [])) (omega (arith, length-append m (10 ∷ [])))) (eq-eqb first first refl))
-      (eq-eqb (get_or (first ∷ m ++ 10 ∷ []) (length (first ∷ m ++ 10 ∷ []) - 1) 0) 10
-        (ap (λ (k : ℕ). get_or (first ∷ m ++ 10 ∷ []) k 0) (let k : length (first ∷ m ++ 10 ∷ []) - 1 ≡ length m + 1 = omega (arith, length-append m (10 ∷ [])) in k) ∙ last_of m first)))
+    (eq-eqb (get_or (first ∷ m ++ 10 ∷ []) (length (first ∷ m ++ 10 ∷ []) - 1) 0) 10
+    (ap (λ (k : ℕ). get_or (first ∷ m ++ 10 ∷ []) k 0) (let k : length (first ∷ m ++ 10 ∷ []) - 1 ≡ length m + 1 = omega (arith, length-append m (10 ∷ [])) in k) ∙ last_of m first)))

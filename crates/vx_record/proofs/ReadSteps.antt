@@ -1,14 +1,13 @@
 -- One more attribute or record of a text, and the fault that stops it.
-use Rattle.std.specs.Prelude.{◌&&◌}
-use Rattle.std.proofs.Common.{get_or, add-one, drop-cons, ◌≡◌, ℕ, ◌+◌, ◌<◌, ◌≤◌, true, List, [], ◌∷◌, ◌++◌, length, map, take, drop, refl, sym, ◌∙◌, ap, subst, arith, append_assoc, length-append, inl, inr}
+use Rattle.std.proofs.Common.{get_or, add-one, drop-cons, ◌≡◌, ℕ, ◌+◌, ◌<◌, true, List, [], ◌∷◌, ◌++◌, length, map, take, drop, refl, sym, ◌∙◌, ap, arith, append_assoc, length-append, inr}
 use Rattle.std.specs.List.{list_all}
 use Rattle.std.proofs.lemmas.Bool.{and_parts, and_from}
-use Rattle.std.proofs.lemmas.List.{append-nil, drop-drop, take-append-drop}
+use Rattle.std.proofs.lemmas.List.{drop-drop, take-append-drop}
 use Rattle.std.proofs.lemmas.List.Folds.{list_all-append}
 use Rattle.vx_names.specs.Attribute.{is_attr}
 use Rattle.vx_names.specs.declared.attr.Attr.{Attr}
 use Rattle.vx_record.specs.Grammar.{attr_line, head_line, lines}
-use Rattle.vx_record.specs.Reading.{AddsAttr, IsLineFault, IsAttrsFault, IsRecordFault, StopsInAttrs}
+use Rattle.vx_record.specs.Reading.{AddsAttr, IsLineFault, IsAttrsFault, IsRecordFault}
 use Rattle.vx_record.specs.Table.{attrs_fit, attr_fits, columns}
 use Rattle.vx_record.specs.declared.column.Column.{Column}
 use Rattle.vx_record.specs.declared.kind.Kind.{Kind}

@@ -1,24 +1,24 @@
 -- The line at which a text stops being records is the first that does not fit.
-use Rattle.std.specs.Prelude.{Result, Ok, Err}
-use Rattle.std.proofs.Common.{◌≡◌, ◌⊎◌, ℕ, zero, suc, ◌+◌, ◌-◌, ◌<◌, ◌≤◌, Bool, true, false, List, [], ◌∷◌, ◌++◌, length, map, take, drop, refl, sym, ◌∙◌, ap, subst, arith, add-one, append_assoc, length-append, inl, inr}
+use Rattle.std.specs.Prelude.{Err}
+use Rattle.std.proofs.Common.{◌≡◌, ℕ, suc, ◌+◌, ◌-◌, ◌≤◌, true, List, [], ◌∷◌, ◌++◌, length, map, take, drop, refl, sym, ◌∙◌, ap, subst, arith, append_assoc, length-append, inl, inr}
 use Rattle.std.specs.List.{list_all}
 use Rattle.std.proofs.lemmas.Bool.{and_parts, and_from, false≢true}
-use Rattle.std.proofs.lemmas.List.{append-nil, drop-take}
+use Rattle.std.proofs.lemmas.List.{append-nil, drop-take, drop-drop}
+use Rattle.std.proofs.Math.ListN.{drop_of_length-le}
 use Rattle.std.proofs.lemmas.List.Folds.{list_all-append}
-use Rattle.std.proofs.Math.Seq.{take-append_seam, drop-append_seam, take-append-add}
-use Rattle.vx_names.specs.Form.{is_name}
+use Rattle.std.proofs.Math.Seq.{take-append_seam, drop-append_seam}
 use Rattle.vx_names.specs.Attribute.{is_attr}
 use Rattle.vx_names.specs.declared.attr.Attr.{Attr}
 use Rattle.vx_record.specs.Content.{Content}
 use Rattle.vx_record.specs.Grammar.{AreRecords, IsRecord, Spells, GoesOn, IsBadLine, IsReadFault, IsReadAs, head_line, attr_line, records_text, record_lines, records_lines, lines}
-use Rattle.vx_record.specs.Reading.{StopsInAttrs, StopsAtHead, StopsBehindHead, Stops, IsNoAttr, IsRecordFault}
+use Rattle.vx_record.specs.Reading.{Stops, IsNoAttr, IsRecordFault}
 use Rattle.vx_record.specs.Table.{columns, attrs_fit, attr_fits}
 use Rattle.vx_record.specs.declared.column.Column.{Column}
 use Rattle.vx_record.specs.declared.kind.Kind.{Kind}
 use Rattle.vx_record.specs.declared.fault.RecordFault.{RecordFault}
 use Rattle.vx_record.specs.declared.fault.RecordFault.TheVariants as faults
 use Rattle.vx_record.proofs.Completed.{completed, completed_fit, completed_are, fit-append}
-use Rattle.vx_record.proofs.Joined.{lines_of_records, joined, joined_lines, joined_records, records_same, records_append, head_same, record_length, fit_length, length_map}
+use Rattle.vx_record.proofs.Joined.{lines_of_records, joined, joined_lines, joined_records, records_same, records_append, lines_few, head_same, record_length, fit_length, length_map}
 use Rattle.vx_record.proofs.ValidRecords.{AreRecords-push}
 
 -- a text whose lines are those of records is these records
@@ -63,7 +63,7 @@ first_differs (r ∷ ss) all count h (inr s) e =
     let counted : count ≡ suc (length inner.attrs) = omega (arith, s.at, inner.at) in
     let fit : attrs_fit (inner.before ++ inner.column ∷ inner.behind) r.attrs ≡ true = subst (λ (cs : List Column). attrs_fit cs r.attrs ≡ true) (ap columns kinds ∙ inner.columns) h.0.form in
     attrs_differ inner.before inner.behind inner.column r.attrs inner.attrs (records_lines ss) inner.rest fit h.0.attrs (sym (fit_length inner.before inner.attrs inner.fit)) inner.stops
-      (subst (λ (n : ℕ). take n (map attr_line r.attrs ++ records_lines ss) ≡ take n (map attr_line inner.attrs ++ inner.rest)) counted (tails ∙ ap (take count) inner.lines))
+    (subst (λ (n : ℕ). take n (map attr_line r.attrs ++ records_lines ss) ≡ take n (map attr_line inner.attrs ++ inner.rest)) counted (tails ∙ ap (take count) inner.lines))
 
 drop_front : (front xs : List (List ℕ)) (n m : ℕ) → length front ≡ n → drop n (take (n + m) (front ++ xs)) ≡ take m xs
 drop_front front xs n m len = drop-take n m (front ++ xs) ∙ ap (take m) (ap (λ (k : ℕ). drop k (front ++ xs)) (sym len) ∙ drop-append_seam front xs)
@@ -80,11 +80,11 @@ differ (r ∷ rs) (s ∷ ss) all count h k stops e =
     let size : suc (length (records_lines (r ∷ rs)) + count) ≡ length (record_lines r) + suc (length (records_lines rs) + count) = omega (arith, length-append (record_lines r) (records_lines rs)) in
     let whole : records_lines (r ∷ rs) ++ all ≡ record_lines r ++ (records_lines rs ++ all) = append_assoc (record_lines r) (records_lines rs) all in
     let cut : take (length (record_lines r) + suc (length (records_lines rs) + count)) (record_lines s ++ records_lines ss) ≡ take (length (record_lines r) + suc (length (records_lines rs) + count)) (record_lines r ++ (records_lines rs ++ all)) =
-        subst (λ (j : ℕ). take j (record_lines s ++ records_lines ss) ≡ take j (record_lines r ++ (records_lines rs ++ all))) size (e ∙ ap (take (suc (length (records_lines (r ∷ rs)) + count))) whole) in
+    subst (λ (j : ℕ). take j (record_lines s ++ records_lines ss) ≡ take j (record_lines r ++ (records_lines rs ++ all))) size (e ∙ ap (take (suc (length (records_lines (r ∷ rs)) + count))) whole) in
     differ rs ss all count h.1 k.1 stops
-      (sym (drop_front (record_lines s) (records_lines ss) (length (record_lines r)) (suc (length (records_lines rs) + count)) len)
-       ∙ ap (drop (length (record_lines r))) cut
-       ∙ drop_front (record_lines r) (records_lines rs ++ all) (length (record_lines r)) (suc (length (records_lines rs) + count)) refl)
+    (sym (drop_front (record_lines s) (records_lines ss) (length (record_lines r)) (suc (length (records_lines rs) + count)) len)
+    ∙ ap (drop (length (record_lines r))) cut
+    ∙ drop_front (record_lines r) (records_lines rs ++ all) (length (record_lines r)) (suc (length (records_lines rs) + count)) refl)
 
 are-append : (rs : List Content) (r : Content) → AreRecords rs → IsRecord r → AreRecords (rs ++ r ∷ [])
 are-append rs r h k = AreRecords-push rs r h k
@@ -117,25 +117,25 @@ goes_before text rs all count h e (inr s) =
     let more : List Column = inner.column ∷ inner.behind in
     let r : Content = complete s.kind s.name inner.attrs (inner.column ∷ inner.behind) in
     let form : attrs_fit (columns s.kind) (inner.attrs ++ completed (inner.column ∷ inner.behind)) ≡ true =
-        subst (λ (cs : List Column). attrs_fit cs (inner.attrs ++ completed (inner.column ∷ inner.behind)) ≡ true) (sym inner.columns)
-        (fit-append inner.before (inner.column ∷ inner.behind) inner.attrs (completed (inner.column ∷ inner.behind)) inner.fit (completed_fit (inner.column ∷ inner.behind))) in
+    subst (λ (cs : List Column). attrs_fit cs (inner.attrs ++ completed (inner.column ∷ inner.behind)) ≡ true) (sym inner.columns)
+    (fit-append inner.before (inner.column ∷ inner.behind) inner.attrs (completed (inner.column ∷ inner.behind)) inner.fit (completed_fit (inner.column ∷ inner.behind))) in
     let valid : IsRecord (complete s.kind s.name inner.attrs (inner.column ∷ inner.behind)) = record {
-          name = s.named;
-          attrs = list_all-append is_attr inner.attrs (completed (inner.column ∷ inner.behind)) ∙ and_from _ _ inner.names (completed_are (inner.column ∷ inner.behind));
-          form = form;
-        } in
+      name = s.named;
+      attrs = list_all-append is_attr inner.attrs (completed (inner.column ∷ inner.behind)) ∙ and_from _ _ inner.names (completed_are (inner.column ∷ inner.behind));
+      form = form;
+    } in
     let front : List (List ℕ) = records_lines rs ++ (head_line s.kind s.name ∷ map attr_line inner.attrs) in
     let back : List (List ℕ) = map attr_line (completed (inner.column ∷ inner.behind)) in
     let ours : records_lines (rs ++ complete s.kind s.name inner.attrs (inner.column ∷ inner.behind) ∷ []) ≡ (records_lines rs ++ (head_line s.kind s.name ∷ map attr_line inner.attrs)) ++ map attr_line (completed (inner.column ∷ inner.behind)) =
-        records_append rs (complete s.kind s.name inner.attrs (inner.column ∷ inner.behind))
-        ∙ ap (λ (t : List (List ℕ)). records_lines rs ++ (head_line s.kind s.name ∷ t)) (map-append inner.attrs (completed (inner.column ∷ inner.behind)))
-        ∙ sym (append_assoc (records_lines rs) (head_line s.kind s.name ∷ map attr_line inner.attrs) (map attr_line (completed (inner.column ∷ inner.behind)))) in
+    records_append rs (complete s.kind s.name inner.attrs (inner.column ∷ inner.behind))
+    ∙ ap (λ (t : List (List ℕ)). records_lines rs ++ (head_line s.kind s.name ∷ t)) (map-append inner.attrs (completed (inner.column ∷ inner.behind)))
+    ∙ sym (append_assoc (records_lines rs) (head_line s.kind s.name ∷ map attr_line inner.attrs) (map attr_line (completed (inner.column ∷ inner.behind)))) in
     let text_is : lines text ≡ (records_lines rs ++ (head_line s.kind s.name ∷ map attr_line inner.attrs)) ++ inner.rest =
-        e ∙ ap (λ (t : List (List ℕ)). records_lines rs ++ t) (s.lines ∙ ap (λ (t : List (List ℕ)). head_line s.kind s.name ∷ t) inner.lines)
-        ∙ sym (append_assoc (records_lines rs) (head_line s.kind s.name ∷ map attr_line inner.attrs) inner.rest) in
+    e ∙ ap (λ (t : List (List ℕ)). records_lines rs ++ t) (s.lines ∙ ap (λ (t : List (List ℕ)). head_line s.kind s.name ∷ t) inner.lines)
+    ∙ sym (append_assoc (records_lines rs) (head_line s.kind s.name ∷ map attr_line inner.attrs) inner.rest) in
     goes_on text (rs ++ complete s.kind s.name inner.attrs (inner.column ∷ inner.behind) ∷ []) (records_lines rs ++ (head_line s.kind s.name ∷ map attr_line inner.attrs)) (map attr_line (completed (inner.column ∷ inner.behind))) inner.rest
-      (length (records_lines rs) + count) (are-append rs (complete s.kind s.name inner.attrs (inner.column ∷ inner.behind)) h valid) ours text_is
-      (omega (arith, length-append (records_lines rs) (head_line s.kind s.name ∷ map attr_line inner.attrs), length_map inner.attrs, s.at, inner.at))
+    (length (records_lines rs) + count) (are-append rs (complete s.kind s.name inner.attrs (inner.column ∷ inner.behind)) h valid) ours text_is
+    (omega (arith, length-append (records_lines rs) (head_line s.kind s.name ∷ map attr_line inner.attrs), length_map inner.attrs, s.at, inner.at))
 
 pub bad_line : (text : List ℕ) (rs : List Content) (all : List (List ℕ)) (count line : ℕ) → AreRecords rs → lines text ≡ records_lines rs ++ all → Stops all count → line ≡ length (records_lines rs) + 1 + count → IsBadLine text line
 bad_line text rs all count line h e stops at =
@@ -160,3 +160,22 @@ read_fault text rs all from faults.OutOfMemory h split count s = tt
 pub read_only : (text : List ℕ) (e : RecordFault) → IsReadFault text e → (rs : List Content) → Spells text rs → IsReadAs rs (Err e)
 read_only text (faults.BadRecord line) bad rs h = not_bad text rs line h bad
 read_only text faults.OutOfMemory bad rs h = tt
+
+-- the records so far have no more lines than the text has bytes
+pub few_lines : (text : List ℕ) (rs : List Content) (rest : List (List ℕ)) → lines text ≡ records_lines rs ++ rest → length (records_lines rs) ≤ length text
+few_lines text rs rest e = omega (arith, ap length e, length-append (records_lines rs) rest, lines_few text)
+
+pub more_records : (text : List ℕ) (rs : List Content) (r : Content) (at used : ℕ) → lines text ≡ records_lines rs ++ lines (drop at text) → lines (drop at text) ≡ record_lines r ++ lines (drop used (drop at text))
+    → lines text ≡ records_lines (rs ++ r ∷ []) ++ lines (drop (at + used) text)
+more_records text rs r at used e f =
+    e ∙ ap (λ (t : List (List ℕ)). records_lines rs ++ t) f
+    ∙ sym (append_assoc (records_lines rs) (record_lines r) (lines (drop used (drop at text))))
+    ∙ ap (λ (t : List (List ℕ)). t ++ lines (drop used (drop at text))) (sym (records_append rs r))
+    ∙ ap (λ (t : List ℕ). records_lines (rs ++ r ∷ []) ++ lines t) (drop-drop used at text)
+
+pub more_length : (rs : List Content) (r : Content) → length (records_lines (rs ++ r ∷ [])) ≡ length (records_lines rs) + length (record_lines r)
+more_length rs r = ap length (records_append rs r) ∙ length-append (records_lines rs) (record_lines r)
+
+-- at the end of the text the records are all of it
+pub whole_text : (text : List ℕ) (rs : List Content) (at : ℕ) → length text ≤ at → AreRecords rs → lines text ≡ records_lines rs ++ lines (drop at text) → Spells text rs
+whole_text text rs at le h e = spells_from text rs h (e ∙ ap (λ (t : List ℕ). records_lines rs ++ lines t) (drop_of_length-le text le) ∙ append-nil (records_lines rs))

@@ -1,5 +1,5 @@
 -- Record text: each record is a line of its kind and name, and a line for each attribute.
-use Rattle.std.specs.Prelude.{◌≡◌, ℕ, ◌+◌, ◌-◌, ◌<◌, ◌==◌, if◌then◌else◌, IsTrue, IfOk, ◌↔◌, Result, Ok, Err, List, [], ◌∷◌, ◌++◌, length, map, take}
+use Rattle.std.specs.Prelude.{◌≡◌, ℕ, ◌-◌, ◌<◌, ◌==◌, if◌then◌else◌, IsTrue, Result, Ok, Err, List, [], ◌∷◌, ◌++◌, map, take}
 use Rattle.std.specs.List.{list_all, flat_map}
 use Rattle.vx_names.specs.Form.{is_name}
 use Rattle.vx_names.specs.Attribute.{is_attr, attr_word}

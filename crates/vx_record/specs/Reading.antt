@@ -1,11 +1,10 @@
 -- How far a text goes on as records.
-use Rattle.std.specs.Prelude.{◌≡◌, ℕ, ◌+◌, ◌-◌, ◌<◌, ◌==◌, ◌&&◌, ◌⊎◌, nat_le, not, if◌then◌else◌, Bool, IsTrue, Option, None, Some, List, [], ◌∷◌, ◌++◌, length, map, drop, codes, slice_index}
+use Rattle.std.specs.Prelude.{◌≡◌, ℕ, ◌+◌, ◌-◌, ◌==◌, ◌&&◌, ◌⊎◌, nat_le, if◌then◌else◌, Bool, IsTrue, Option, None, Some, List, [], ◌∷◌, ◌++◌, length, map, drop, codes, slice_index}
 use Rattle.std.specs.Str.{bytes_eq}
 use Rattle.std.specs.List.{list_all}
 use Rattle.vx_names.specs.Form.{is_name}
 use Rattle.vx_names.specs.Attribute.{is_attr}
 use Rattle.vx_names.specs.declared.attr.Attr.{Attr}
-use Rattle.vx_record.specs.Content.{Content}
 use Rattle.vx_record.specs.Table.{columns, attr_fits, attrs_fit}
 use Rattle.vx_record.specs.Grammar.{head_line, attr_line, lines as text_lines}
 use Rattle.vx_record.specs.declared.kind.Kind.{Kind}

@@ -50,52 +50,139 @@ pub fn columns(kind: Kind) -> &'static [Column]
     }
 }
 
-static GROUP: [Column; 1] = [Column { label: Label::Version, form: Form::Version }];
+static GROUP: [Column; 1] = [Column {
+    label: Label::Version,
+    form: Form::Version,
+}];
 
 static DISK: [Column; 3] = [
-    Column { label: Label::Device, form: Form::Name },
-    Column { label: Label::Slot, form: Form::Number },
-    Column { label: Label::Publen, form: Form::Number },
+    Column {
+        label: Label::Device,
+        form: Form::Name,
+    },
+    Column {
+        label: Label::Slot,
+        form: Form::Number,
+    },
+    Column {
+        label: Label::Publen,
+        form: Form::Number,
+    },
 ];
 
 static SUBDISK: [Column; 6] = [
-    Column { label: Label::Disk, form: Form::Name },
-    Column { label: Label::Off, form: Form::Number },
-    Column { label: Label::Len, form: Form::Number },
-    Column { label: Label::Plex, form: Form::NameOrNone },
-    Column { label: Label::Col, form: Form::Number },
-    Column { label: Label::At, form: Form::Number },
+    Column {
+        label: Label::Disk,
+        form: Form::Name,
+    },
+    Column {
+        label: Label::Off,
+        form: Form::Number,
+    },
+    Column {
+        label: Label::Len,
+        form: Form::Number,
+    },
+    Column {
+        label: Label::Plex,
+        form: Form::NameOrNone,
+    },
+    Column {
+        label: Label::Col,
+        form: Form::Number,
+    },
+    Column {
+        label: Label::At,
+        form: Form::Number,
+    },
 ];
 
 static PLEX: [Column; 7] = [
-    Column { label: Label::Vol, form: Form::NameOrNone },
-    Column { label: Label::Kind, form: Form::PlexKind },
-    Column { label: Label::Layout, form: Form::Layout },
-    Column { label: Label::Ncol, form: Form::Number },
-    Column { label: Label::Unit, form: Form::Number },
-    Column { label: Label::State, form: Form::PlexState },
-    Column { label: Label::Map, form: Form::NumberOrNone },
+    Column {
+        label: Label::Vol,
+        form: Form::NameOrNone,
+    },
+    Column {
+        label: Label::Kind,
+        form: Form::PlexKind,
+    },
+    Column {
+        label: Label::Layout,
+        form: Form::Layout,
+    },
+    Column {
+        label: Label::Ncol,
+        form: Form::Number,
+    },
+    Column {
+        label: Label::Unit,
+        form: Form::Number,
+    },
+    Column {
+        label: Label::State,
+        form: Form::PlexState,
+    },
+    Column {
+        label: Label::Map,
+        form: Form::NumberOrNone,
+    },
 ];
 
 static VOLUME: [Column; 6] = [
-    Column { label: Label::Len, form: Form::Number },
-    Column { label: Label::Region, form: Form::Number },
-    Column { label: Label::Rdpol, form: Form::Policy },
-    Column { label: Label::Prefer, form: Form::NameOrNone },
-    Column { label: Label::State, form: Form::VolState },
-    Column { label: Label::Dco, form: Form::NameOrNone },
+    Column {
+        label: Label::Len,
+        form: Form::Number,
+    },
+    Column {
+        label: Label::Region,
+        form: Form::Number,
+    },
+    Column {
+        label: Label::Rdpol,
+        form: Form::Policy,
+    },
+    Column {
+        label: Label::Prefer,
+        form: Form::NameOrNone,
+    },
+    Column {
+        label: Label::State,
+        form: Form::VolState,
+    },
+    Column {
+        label: Label::Dco,
+        form: Form::NameOrNone,
+    },
 ];
 
 static DATA_CHANGE: [Column; 2] = [
-    Column { label: Label::Vol, form: Form::Name },
-    Column { label: Label::Maps, form: Form::Maps },
+    Column {
+        label: Label::Vol,
+        form: Form::Name,
+    },
+    Column {
+        label: Label::Maps,
+        form: Form::Maps,
+    },
 ];
 
 static SNAPSHOT: [Column; 4] = [
-    Column { label: Label::Vol, form: Form::Name },
-    Column { label: Label::Of, form: Form::Name },
-    Column { label: Label::Map, form: Form::Number },
-    Column { label: Label::Ofmap, form: Form::Number },
+    Column {
+        label: Label::Vol,
+        form: Form::Name,
+    },
+    Column {
+        label: Label::Of,
+        form: Form::Name,
+    },
+    Column {
+        label: Label::Map,
+        form: Form::Number,
+    },
+    Column {
+        label: Label::Ofmap,
+        form: Form::Number,
+    },
 ];
 
 /// Whether the attribute may stand in the column.

@@ -56,7 +56,11 @@ pub(crate) fn read_attr(line: &[u8], column: Column) -> Option<Attr>
     ensures none { IfNone result (IsNoAttr column line.now) }
 {
     let attr = Attr::read(enclosed(b'\t', line)?).ok()?;
-    if fits(column, &attr) { Some(attr) } else { None }
+    if fits(column, &attr) {
+        Some(attr)
+    } else {
+        None
+    }
 }
 
 /// What stands between the byte and the newline at the end.

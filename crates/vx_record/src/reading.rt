@@ -130,11 +130,7 @@ fn take_attr(
 }
 
 /// Adds an attribute; its parts stand apart, since the prover wants to see their types here.
-fn push_attr(
-    attrs: &mut Vec<Attr>,
-    name: Name,
-    value: Option<Name>,
-) -> Result<(), RecordFault>
+fn push_attr(attrs: &mut Vec<Attr>, name: Name, value: Option<Name>) -> Result<(), RecordFault>
     ensures ok { OnOk result (attrs.new.items ≡ attrs.old.items ++ record { name = name; value = value } ∷ []) }
     ensures err { IfErr result (λ e. e ≡ OutOfMemory) }
 {

@@ -1,4 +1,4 @@
-use Rattle.std.proofs.Common.{◌≡◌, ℕ, ◌+◌, ◌-◌, ◌≤◌, ◌++◌, length, drop}
+use Rattle.std.proofs.Common.{◌≡◌, ◌+◌, ◌-◌, ◌≤◌, ◌++◌, length, drop}
 use Rattle.vx_record.specs.Grammar.{AreRecords, lines, records_lines}
 use Rattle.vx_record.proofs.reading.read.Given as goal
 

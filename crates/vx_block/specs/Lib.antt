@@ -1,3 +1,4 @@
 pub mod Geometry
+pub mod Reading
 pub mod Regions
 pub mod Word

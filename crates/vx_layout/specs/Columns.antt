@@ -37,3 +37,7 @@ abbrev pub rest_in : List Strip → ℕ → Option Strip
 rest_in [] sector = None
 rest_in (strip ∷ strips) sector =
     if nat_lt sector strip.count then Some (record { disk = strip.disk; start = strip.start + sector; count = strip.count - sector }) else rest_in strips (sector - strip.count)
+
+-- a column of one strip
+abbrev pub one_strip : ℕ → ℕ → ℕ → List Strip
+one_strip disk start count = (record { disk = disk; start = start; count = count }) ∷ []

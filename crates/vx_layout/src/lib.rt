@@ -7,6 +7,8 @@ mod place;
 mod run;
 mod search;
 mod strip;
+#[cfg(test)]
+mod tests;
 
 pub use column::{Column, Columns};
 pub use layout::Layout;

@@ -1,5 +1,5 @@
 -- Where a block lies: in one column at its own number, or in rows of stripe units over several.
-use Rattle.std.specs.Prelude.{ℕ, ◌+◌, ◌-◌, ◌*◌, ◌/◌, ◌%◌, ◌==◌, nat_lt, if◌then◌else◌, List, [], ◌∷◌, length, slice_index_or, Option, Some, None}
+use Rattle.std.specs.Prelude.{ℕ, ◌+◌, ◌-◌, ◌*◌, ◌/◌, ◌%◌, ◌==◌, ◌&&◌, nat_lt, nat_le, Bool, option_map, if◌then◌else◌, List, [], ◌∷◌, length, slice_index_or, Option, Some, None}
 use Rattle.vx_layout.specs.declared.strip.Strip.{Strip}
 use Rattle.vx_layout.specs.declared.place.Place.{Place}
 
@@ -41,3 +41,16 @@ rest_in (strip ∷ strips) sector =
 -- a column of one strip
 abbrev pub one_strip : ℕ → ℕ → ℕ → List Strip
 one_strip disk start count = (record { disk = disk; start = start; count = count }) ∷ []
+
+-- the strip has the sector of the disk
+abbrev pub has_place : Strip → Place → Bool
+has_place strip place = strip.disk == place.disk && nat_le strip.start place.sector && nat_lt (place.sector - strip.start) strip.count
+
+-- the sector of a column that lies at a place
+abbrev pub sector_at : List Strip → Place → Option ℕ
+sector_at [] place = None
+sector_at (strip ∷ strips) place = if has_place strip place then Some (place.sector - strip.start) else option_map (λ s. strip.count + s) (sector_at strips place)
+
+-- the block at a sector of a column
+abbrev pub block_number : ℕ → List (List Strip) → ℕ → ℕ → ℕ
+block_number unit columns column sector = if length columns == 1 then sector else (sector / unit * length columns + column) * unit + sector % unit

@@ -27,3 +27,4 @@ is_layout unit columns =
     && list_all (is_column (column_length (column_at columns 0))) columns
     && (length columns == 1 || column_length (column_at columns 0) % unit == 0)
     && are_apart (flat_map (λ strips. strips) columns)
+    && nat_lt (column_length (column_at columns 0)) (2 ^ 64)

@@ -4,7 +4,7 @@ ghost use Rattle.vx_layout.specs.Valid.{is_layout};
 use crate::column::Columns;
 use crate::place::Place;
 use crate::run::{Run, Runs};
-use crate::search::{continues, rest_in};
+use crate::search::{continues, rest_in, sector_at};
 use std::alloc::Global;
 use vx_base::OutOfMemory;
 use vx_block::Span;
@@ -20,8 +20,8 @@ pub struct Layout {
 }
 
 impl Layout {
-    ghost use Rattle.std.specs.Prelude.{◌≡◌, ◌<◌, ◌≤◌, ◌+◌, ◌^◌, Some, IfOk};
-    ghost use Rattle.vx_layout.specs.Columns.{capacity, column_of, sector_of, place_of};
+    ghost use Rattle.std.specs.Prelude.{◌≡◌, ◌<◌, ◌≤◌, ◌+◌, ◌^◌, ℕ, Some, IfOk, IfSome, IfNone};
+    ghost use Rattle.vx_layout.specs.Columns.{capacity, column_of, sector_of, place_of, block_number};
     ghost use Rattle.vx_layout.specs.Runs.{IsRun, AreRuns, IsInUnit};
 
     /// Where a block lies.
@@ -34,6 +34,20 @@ impl Layout {
             disk: run.disk,
             sector: run.sector,
         }
+    }
+
+    /// The block that lies at a place, if any.
+    pub fn block_at(&self, place: Place) -> Option<u64>
+        ensures there { IfSome result (λ block. (block < capacity self.now.columns) × (place_of self.now.unit self.now.columns block ≡ Some place)) }
+        ensures only { (block : ℕ) → block < 2 ^ 64 → block < capacity self.now.columns → place_of self.now.unit self.now.columns block ≡ Some place →
+            result ≡ Some block }
+    {
+        for column in 0..self.columns.len() {
+            if let Some(sector) = sector_at(self.columns.strips(column), &place) {
+                return self.block_of(column as u64, sector);
+            }
+        }
+        None
     }
 
     /// The maximal contiguous runs of a range of blocks, in block order.
@@ -79,6 +93,20 @@ impl Layout {
             count: self.most_in_unit(block, most).min(rest.count),
             block,
         }
+    }
+
+    /// The block at a sector of a column, where its number fits.
+    fn block_of(&self, column: u64, sector: u64) -> Option<u64>
+        ensures fits { IfSome result (λ block. block ≡ block_number self.now.unit self.now.columns column sector) }
+        ensures large { IfNone result (2 ^ 64 ≤ block_number self.now.unit self.now.columns column sector) }
+    {
+        if self.columns.len() == 1 {
+            return Some(sector);
+        }
+        let row = (sector / self.unit).checked_mul(self.columns.len() as u64)?;
+        row.checked_add(column)?
+            .checked_mul(self.unit)?
+            .checked_add(sector % self.unit)
     }
 
     fn column_of(&self, block: u64) -> u64

@@ -52,6 +52,8 @@ fn blocks_go_round_three_columns(rt: HostRuntime) -> Result<(), Fail> {
         }
     );
     assert_eq!(rt; layout.place(128), Place { disk: 1, sector: 0 });
+    assert_eq!(rt; layout.block_at(Place { disk: 1, sector: 0 }), Some(128));
+    assert_eq!(rt; layout.block_at(Place { disk: 3, sector: 0 }), None);
     let runs = layout.runs_of(
         alloc,
         Span {

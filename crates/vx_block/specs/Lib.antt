@@ -1,4 +1,5 @@
 pub mod Geometry
+pub mod Reading
 pub mod Regions
 pub mod Parts
 pub mod Word

@@ -2,8 +2,10 @@
 #![tactic(auto)]
 
 mod geometry;
+mod reading;
 mod word;
 
 pub use geometry::{Geometry, Span};
+pub use reading::{BlockFault, read_block};
 pub use vx_base::BLOCK;
 pub use word::{put_block, put_hex};

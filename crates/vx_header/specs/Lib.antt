@@ -1,0 +1,4 @@
+pub mod Nearest
+pub mod Places
+pub mod Sectors
+pub mod Spelled

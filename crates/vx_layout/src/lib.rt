@@ -1,0 +1,17 @@
+//! How the blocks of a plex lie on disks: columns of strips, and the contiguous runs of a range of blocks.
+#![tactic(auto)]
+
+mod column;
+mod layout;
+mod place;
+mod run;
+mod search;
+mod strip;
+#[cfg(test)]
+mod tests;
+
+pub use column::{Column, Columns};
+pub use layout::Layout;
+pub use place::Place;
+pub use run::{Run, Runs};
+pub use strip::Strip;

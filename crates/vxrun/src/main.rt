@@ -6,48 +6,30 @@ mod file_shelf;
 mod known;
 
 use file_shelf::FileShelf;
+use std::process::ExitCode;
 use std::{env, io};
-use vx_names::Name;
-use vx_piece::{Piece, PieceFault, Shelf};
+use vx_flow::{ReaderSource, WriterSink};
+use vx_run::{folder, run};
 
-/// Writes the last sector of the device i0, reads it as often as the first word says, and gives the device back.
-fn main(rt: HostRuntime) -> io::Result<()> {
-    let times = match env::args(&rt)?.nth(1) {
-        Some(word) => word.as_str().parse::<u64>().unwrap_or(1),
-        None => 1,
-    };
-    let Ok(mut shelf) = FileShelf::new(rt.clone()?, ".") else {
-        return println!(rt; "no memory");
-    };
-    let Ok(name) = Name::read(b"i0") else {
-        return println!(rt; "no name");
-    };
-    match shelf.take(&name) {
-        Err(fault) => println!(rt; "{fault:?}"),
-        Ok(mut piece) => {
-            let written = write_last(&mut piece, &[0x41; 512]);
-            let mut into = [0; 512];
-            let read = read_last(&mut piece, &mut into, times);
-            println!(rt; "{written:?} {read:?} {}", into[0])
-        }
-    }
+/// The status where memory was wanting before the run began.
+const NO_MEMORY: u8 = 6;
+
+/// Runs the script of standard input on the devices of a folder, and ends with the status of the run.
+fn main(rt: HostRuntime) -> ExitCode {
+    ExitCode::from(run_script(&rt).unwrap_or(NO_MEMORY))
 }
 
-fn write_last<P: Piece>(piece: &mut P, from: &[u8; 512]) -> Result<(), PieceFault> {
-    let sectors = piece.sectors();
-    if sectors == 0 {
-        return Ok(());
-    }
-    piece.write(sectors - 1, from)
-}
-
-fn read_last<P: Piece>(piece: &mut P, into: &mut [u8; 512], times: u64) -> Result<(), PieceFault> {
-    for _ in 0..times {
-        let sectors = piece.sectors();
-        if sectors == 0 {
-            return Ok(());
-        }
-        piece.read(sectors - 1, into)?;
-    }
-    Ok(())
+fn run_script(rt: &HostRuntime) -> io::Result<u8> {
+    let alloc = rt.alloc();
+    let arguments: Vec<String> = env::args(rt)?.skip(1).collect(alloc)?;
+    let words: Vec<&str> = arguments.iter().map(|word| word.as_str()).collect(alloc)?;
+    let Ok(named) = folder(alloc, words.as_slice()) else {
+        return Ok(NO_MEMORY);
+    };
+    let Ok(mut shelf) = FileShelf::new(rt.clone()?, named.unwrap_or(".")) else {
+        return Ok(NO_MEMORY);
+    };
+    let mut source = ReaderSource::new(rt.stdin());
+    let mut sink = WriterSink::new(rt.stdout());
+    Ok(run(alloc, words.as_slice(), &mut shelf, &mut source, &mut sink))
 }

@@ -6,30 +6,42 @@ mod file_shelf;
 mod known;
 
 use file_shelf::FileShelf;
+use std::alloc::AllocError;
 use std::process::ExitCode;
 use std::{env, io};
 use vx_flow::{ReaderSource, WriterSink};
 use vx_run::{folder, run};
 
-/// The status where memory was wanting before the run began.
-const NO_MEMORY: u8 = 6;
-
-/// Runs the script of standard input on the devices of a folder, and ends with the status of the run.
+/// Runs the script of standard input, and ends with its status. Where memory is wanting before it begins that is 6.
 fn main(rt: HostRuntime) -> ExitCode {
-    ExitCode::from(run_script(&rt).unwrap_or(NO_MEMORY))
+    ExitCode::from(served(&rt).unwrap_or(6))
 }
 
-fn run_script(rt: &HostRuntime) -> io::Result<u8> {
-    let alloc = rt.alloc();
-    let arguments: Vec<String> = env::args(rt)?.skip(1).collect(alloc)?;
-    let words: Vec<&str> = arguments.iter().map(|word| word.as_str()).collect(alloc)?;
-    let Ok(named) = folder(alloc, words.as_slice()) else {
-        return Ok(NO_MEMORY);
+fn served(rt: &HostRuntime) -> Result<u8, AllocError> {
+    let words = words(rt)?;
+    let texts: Vec<&str> = words.iter().map(|word| word.as_str()).collect(rt.alloc())?;
+    let dir = match folder(rt.alloc(), texts.as_slice()) {
+        Ok(dir) => dir.unwrap_or("."),
+        Err(_) => return Err(AllocError),
     };
-    let Ok(mut shelf) = FileShelf::new(rt.clone()?, named.unwrap_or(".")) else {
-        return Ok(NO_MEMORY);
+    let Ok(mut shelf) = FileShelf::new(rt.clone()?, dir) else {
+        return Err(AllocError);
     };
-    let mut source = ReaderSource::new(rt.stdin());
-    let mut sink = WriterSink::new(rt.stdout());
-    Ok(run(alloc, words.as_slice(), &mut shelf, &mut source, &mut sink))
+    let mut source = ReaderSource::new(rt.reader());
+    let mut sink = WriterSink::new(io::writer(rt));
+    Ok(run(
+        rt.alloc(),
+        texts.as_slice(),
+        &mut shelf,
+        &mut source,
+        &mut sink,
+    ))
+}
+
+/// The words behind the program's name. Where one is no text, which no form allows, there are none.
+fn words(rt: &HostRuntime) -> Result<Vec<String>, AllocError> {
+    match env::args(rt) {
+        Ok(words) => words.skip(1).collect(rt.alloc()),
+        Err(_) => Ok(Vec::new(rt.alloc())),
+    }
 }

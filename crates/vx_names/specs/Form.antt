@@ -17,3 +17,8 @@ begins_well (b ∷ bs) = is_letter_or_digit b
 
 abbrev pub is_name : List ℕ → Bool
 is_name bs = begins_well bs && nat_le (length bs) 31 && list_all is_name_byte bs
+
+-- the word begins with the byte
+abbrev pub begins_with : ℕ → List ℕ → Bool
+begins_with b [] = false
+begins_with b (c ∷ cs) = c == b

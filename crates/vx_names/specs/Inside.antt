@@ -1,7 +1,8 @@
 -- A name is kept in 31 bytes, with zeros behind it.
-use Rattle.std.specs.Prelude.{◌≡◌, ℕ, ◌-◌, ◌≤◌, List, ◌++◌, length, take, drop, replicate}
+use Rattle.std.specs.Prelude.{◌≡◌, IsTrue, ℕ, ◌-◌, ◌≤◌, List, ◌++◌, length, take, drop, replicate}
 use Rattle.std.proofs.Common.{arith}
 use Rattle.std.proofs.lemmas.List.{length-take-le, take-append-drop}
+use Rattle.vx_names.specs.Form.{is_name}
 use Rattle.vx_names.specs.declared.name.Name.TheInside.{Inside}
 
 abbrev pub name_bytes : Inside → List ℕ
@@ -11,6 +12,7 @@ pub record IsPadded (n : Inside) : Type 0 where
   pub size : length n.bytes ≡ 31
   pub short : n.len ≤ 31
   pub zeros : drop n.len n.bytes ≡ replicate (31 - n.len) 0
+  pub named : IsTrue (is_name (name_bytes n))
 
 abbrev pub padded : List ℕ → Inside
 padded bs = record { bytes = bs ++ replicate (31 - length bs) 0; len = length bs }

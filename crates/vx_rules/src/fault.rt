@@ -23,7 +23,7 @@ pub enum Limit {
 }
 
 /// Why a configuration is refused.
-#[derive(Clone, Copy)]
+#[derive(Clone, Copy, Debug, PartialEq, Eq)]
 pub enum ObjectFault {
     /// The name stands twice.
     Exists(Name),

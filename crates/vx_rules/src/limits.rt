@@ -50,7 +50,9 @@ pub(crate) fn numbers_fit(object: &Object) -> bool
         Object::GroupRecord(_) => true,
         Object::DiskRecord(disk) => is_short(disk.publen) && disk.slot < 255,
         Object::SubdiskRecord(subdisk) => subdisk_fits(subdisk),
-        Object::PlexRecord(plex) => is_short(plex.unit) && fits_word(plex.ncol) && map_fits(plex.map),
+        Object::PlexRecord(plex) => is_short(plex.unit)
+            && fits_word(plex.ncol)
+            && map_fits(plex.map),
         Object::VolRecord(vol) => is_short(vol.len) && is_short(vol.region),
         Object::DcoRecord(dco) => dco.maps == 32,
         Object::SnapRecord(snap) => snap.map < 255 && snap.ofmap < 255,

@@ -14,10 +14,18 @@ pub(crate) fn relation_fault(all: &[Object], object: &Object) -> Option<ObjectFa
     ensures { result ≡ relation_fault all.now object.now }
 {
     match object {
-        Object::SnapRecord(snap) if !relation_is_alone(all, snap) => Some(ObjectFault::InUse(
-            snap.vol,
-        )),
+        Object::SnapRecord(snap) => in_use(all, snap),
         _ => None,
+    }
+}
+
+fn in_use(all: &[Object], snap: &Snap) -> Option<ObjectFault>
+    ensures { result ≡ unless (relation_is_alone all.now snap.now) (ObjectFault.InUse snap.now.vol) }
+{
+    if relation_is_alone(all, snap) {
+        None
+    } else {
+        Some(ObjectFault::InUse(snap.vol))
     }
 }
 

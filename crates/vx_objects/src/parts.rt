@@ -16,7 +16,9 @@ pub(crate) fn join(records: &[Object], out: &mut Vec<Object>) -> Result<(), Allo
 pub(crate) fn groups(alloc: Global, all: &[Object]) -> Result<Vec<Group>, AllocError>
     ensures { IfOk result (λ found. found.items ≡ filter_map as_group all.now) }
 {
-    all.iter().filter_map(|object| as_group(object)).collect(alloc)
+    all.iter()
+        .filter_map(|object| as_group(object))
+        .collect(alloc)
 }
 
 fn as_group(object: &Object) -> Option<Group>
@@ -31,13 +33,18 @@ fn as_group(object: &Object) -> Option<Group>
 pub(crate) fn group_records(alloc: Global, groups: &[Group]) -> Result<Vec<Object>, AllocError>
     ensures { IfOk result (λ found. found.items ≡ map Object.GroupRecord groups.now) }
 {
-    groups.iter().map(|group| Object::GroupRecord(*group)).collect(alloc)
+    groups
+        .iter()
+        .map(|group| Object::GroupRecord(*group))
+        .collect(alloc)
 }
 
 pub(crate) fn disks(alloc: Global, all: &[Object]) -> Result<Vec<Disk>, AllocError>
     ensures { IfOk result (λ found. found.items ≡ filter_map as_disk all.now) }
 {
-    all.iter().filter_map(|object| as_disk(object)).collect(alloc)
+    all.iter()
+        .filter_map(|object| as_disk(object))
+        .collect(alloc)
 }
 
 fn as_disk(object: &Object) -> Option<Disk>
@@ -52,13 +59,18 @@ fn as_disk(object: &Object) -> Option<Disk>
 pub(crate) fn disk_records(alloc: Global, disks: &[Disk]) -> Result<Vec<Object>, AllocError>
     ensures { IfOk result (λ found. found.items ≡ map Object.DiskRecord disks.now) }
 {
-    disks.iter().map(|disk| Object::DiskRecord(*disk)).collect(alloc)
+    disks
+        .iter()
+        .map(|disk| Object::DiskRecord(*disk))
+        .collect(alloc)
 }
 
 pub(crate) fn subdisks(alloc: Global, all: &[Object]) -> Result<Vec<Subdisk>, AllocError>
     ensures { IfOk result (λ found. found.items ≡ filter_map as_subdisk all.now) }
 {
-    all.iter().filter_map(|object| as_subdisk(object)).collect(alloc)
+    all.iter()
+        .filter_map(|object| as_subdisk(object))
+        .collect(alloc)
 }
 
 fn as_subdisk(object: &Object) -> Option<Subdisk>
@@ -70,16 +82,24 @@ fn as_subdisk(object: &Object) -> Option<Subdisk>
     }
 }
 
-pub(crate) fn subdisk_records(alloc: Global, subdisks: &[Subdisk]) -> Result<Vec<Object>, AllocError>
+pub(crate) fn subdisk_records(
+    alloc: Global,
+    subdisks: &[Subdisk],
+) -> Result<Vec<Object>, AllocError>
     ensures { IfOk result (λ found. found.items ≡ map Object.SubdiskRecord subdisks.now) }
 {
-    subdisks.iter().map(|subdisk| Object::SubdiskRecord(*subdisk)).collect(alloc)
+    subdisks
+        .iter()
+        .map(|subdisk| Object::SubdiskRecord(*subdisk))
+        .collect(alloc)
 }
 
 pub(crate) fn plexes(alloc: Global, all: &[Object]) -> Result<Vec<Plex>, AllocError>
     ensures { IfOk result (λ found. found.items ≡ filter_map as_plex all.now) }
 {
-    all.iter().filter_map(|object| as_plex(object)).collect(alloc)
+    all.iter()
+        .filter_map(|object| as_plex(object))
+        .collect(alloc)
 }
 
 fn as_plex(object: &Object) -> Option<Plex>
@@ -94,13 +114,18 @@ fn as_plex(object: &Object) -> Option<Plex>
 pub(crate) fn plex_records(alloc: Global, plexes: &[Plex]) -> Result<Vec<Object>, AllocError>
     ensures { IfOk result (λ found. found.items ≡ map Object.PlexRecord plexes.now) }
 {
-    plexes.iter().map(|plex| Object::PlexRecord(*plex)).collect(alloc)
+    plexes
+        .iter()
+        .map(|plex| Object::PlexRecord(*plex))
+        .collect(alloc)
 }
 
 pub(crate) fn volumes(alloc: Global, all: &[Object]) -> Result<Vec<Vol>, AllocError>
     ensures { IfOk result (λ found. found.items ≡ filter_map as_vol all.now) }
 {
-    all.iter().filter_map(|object| as_vol(object)).collect(alloc)
+    all.iter()
+        .filter_map(|object| as_vol(object))
+        .collect(alloc)
 }
 
 fn as_vol(object: &Object) -> Option<Vol>
@@ -115,13 +140,18 @@ fn as_vol(object: &Object) -> Option<Vol>
 pub(crate) fn vol_records(alloc: Global, volumes: &[Vol]) -> Result<Vec<Object>, AllocError>
     ensures { IfOk result (λ found. found.items ≡ map Object.VolRecord volumes.now) }
 {
-    volumes.iter().map(|vol| Object::VolRecord(*vol)).collect(alloc)
+    volumes
+        .iter()
+        .map(|vol| Object::VolRecord(*vol))
+        .collect(alloc)
 }
 
 pub(crate) fn dcos(alloc: Global, all: &[Object]) -> Result<Vec<Dco>, AllocError>
     ensures { IfOk result (λ found. found.items ≡ filter_map as_dco all.now) }
 {
-    all.iter().filter_map(|object| as_dco(object)).collect(alloc)
+    all.iter()
+        .filter_map(|object| as_dco(object))
+        .collect(alloc)
 }
 
 fn as_dco(object: &Object) -> Option<Dco>
@@ -136,13 +166,17 @@ fn as_dco(object: &Object) -> Option<Dco>
 pub(crate) fn dco_records(alloc: Global, dcos: &[Dco]) -> Result<Vec<Object>, AllocError>
     ensures { IfOk result (λ found. found.items ≡ map Object.DcoRecord dcos.now) }
 {
-    dcos.iter().map(|dco| Object::DcoRecord(*dco)).collect(alloc)
+    dcos.iter()
+        .map(|dco| Object::DcoRecord(*dco))
+        .collect(alloc)
 }
 
 pub(crate) fn snaps(alloc: Global, all: &[Object]) -> Result<Vec<Snap>, AllocError>
     ensures { IfOk result (λ found. found.items ≡ filter_map as_snap all.now) }
 {
-    all.iter().filter_map(|object| as_snap(object)).collect(alloc)
+    all.iter()
+        .filter_map(|object| as_snap(object))
+        .collect(alloc)
 }
 
 fn as_snap(object: &Object) -> Option<Snap>
@@ -157,5 +191,8 @@ fn as_snap(object: &Object) -> Option<Snap>
 pub(crate) fn snap_records(alloc: Global, snaps: &[Snap]) -> Result<Vec<Object>, AllocError>
     ensures { IfOk result (λ found. found.items ≡ map Object.SnapRecord snaps.now) }
 {
-    snaps.iter().map(|snap| Object::SnapRecord(*snap)).collect(alloc)
+    snaps
+        .iter()
+        .map(|snap| Object::SnapRecord(*snap))
+        .collect(alloc)
 }

@@ -1,0 +1,4 @@
+pub mod Parts
+pub mod Config
+pub mod Edits
+pub mod Applied

@@ -1,0 +1,16 @@
+//! The configuration of a disk group, which is valid at all times, and the edits that lead from one to another.
+#![tactic(auto)]
+
+mod change;
+mod config;
+mod edit;
+mod lists;
+mod parts;
+
+pub use config::Config;
+pub use edit::Edit;
+pub use lists::Listed;
+pub use vx_rules::{
+    Dco, Disk, Group, Limit, Object, ObjectFault, Plex, PlexKind, PlexLayout, PlexState,
+    PolicyKind, PolicyName, Rule, Snap, Subdisk, Vol, VolState, first_broken,
+};

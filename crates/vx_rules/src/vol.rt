@@ -1,0 +1,34 @@
+use crate::VolState;
+use vx_names::Name;
+
+/// How the plex of a read is picked.
+#[derive(Clone, Copy, Debug, PartialEq, Eq)]
+pub enum PolicyKind {
+    Round,
+    Prefer,
+    Select,
+}
+
+/// A policy, with the plex that it prefers.
+#[derive(Clone, Copy)]
+pub enum PolicyName {
+    Round,
+    Prefer(Name),
+    Select,
+}
+
+/// A volume.
+#[derive(Clone, Copy)]
+pub struct Vol {
+    pub name: Name,
+    /// Its sectors.
+    pub len: u64,
+    /// The sectors of a region.
+    pub region: u64,
+    pub rdpol: PolicyKind,
+    /// The preferred plex.
+    pub prefer: Option<Name>,
+    pub state: VolState,
+    /// Its DCO, where it is prepared.
+    pub dco: Option<Name>,
+}

@@ -117,7 +117,7 @@ module _ {P : Type 0} (seen : P → Seen) (call : Call) (s new : Started P) (dev
 
   -- the world once the power is lost
   cut_off : World
-  cut_off = record { devices = put v.device (Some (let d : Device = record { sectors = v.length; contents = chosen.0 } in d)) w.devices; volumes = λ name. None }
+  cut_off = record w { devices = put v.device (Some (let d : Device = record { sectors = v.length; contents = chosen.0 } in d)) w.devices; volumes = λ name. None }
 
   is_cut_off : IsCutOff (world_with (volume_of call) v lived.0 w) cut_off
   unfolding cut_off

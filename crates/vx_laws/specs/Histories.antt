@@ -1,0 +1,34 @@
+-- The history of each volume of a transcript.
+use Rattle.std.specs.Prelude.{◌≡◌, ℕ, ◌-◌, ◌<◌, ◌==◌, MatchBool, List, [], ◌∷◌, Option, Some, None}
+use Rattle.vx_base.specs.Blocks.{Contents}
+use Rattle.vx_base.specs.Named.{Word}
+use Rattle.vx_life.specs.Candidates.{known}
+use Rattle.vx_life.specs.Entry.{Entry, candidates_of, IsHistory}
+use Rattle.vx_life.specs.Life.{Life}
+use Rattle.vx_world.specs.declared.command.Command.{Command}
+use Rattle.vx_world.specs.declared.answer.Answer.{Answer}
+use Rattle.vx_world.specs.World.{World, Volume}
+use Rattle.vx_world.specs.Transcript.{IsTranscript}
+
+-- the numbers of the region's entries, the newest first, are n down to 1
+abbrev pub CountsDown : ℕ → ℕ → List Entry → Type 0
+CountsDown region n [] = n ≡ 0
+CountsDown region n (e ∷ es) = MatchBool (region == e.part.region) ((e.part.number ≡ n) × (0 < n) × CountsDown region (n - 1) es) (CountsDown region n es)
+
+-- the life's entries are a legal history from some contents, its candidates are what they leave, and its numbers count
+pub record HasHistory (life : Life) : Type 0 where
+  pub first : Contents
+  pub legal : IsHistory (known first) life.entries
+  pub now : (k : ℕ) → life.candidates k ≡ candidates_of (known first) life.entries k
+  pub numbers : (region : ℕ) → CountsDown region (life.last region) life.entries
+
+-- each started volume has a history
+abbrev pub HaveHistories : World → Type 0
+HaveHistories w = (vol : Word) (v : Volume) → w.volumes vol ≡ Some v → HasHistory v.life
+
+-- no volume is started
+abbrev pub NoneStarted : World → Type 0
+NoneStarted w = (vol : Word) → w.volumes vol ≡ None
+
+abbrev pub EachVolumeHasAHistory : Type 0
+EachVolumeHasAHistory = (place : ℕ) (old new : World) (commands : List Command) (answers : List Answer) → NoneStarted old → IsTranscript place old commands answers new → HaveHistories new

@@ -32,6 +32,7 @@ pub fn read_all<A: Source>(alloc: Global, source: &mut A) -> Result<Vec<u8>, Unr
     ensures not_too_long { IfOk result (λ _. HasPassedFew (A.passed source.old) (A.passed source.new)) }
     ensures not_too_long_failed { IsErrOf result Unread.Failed → HasPassedFew (A.passed source.old) (A.passed source.new) }
     ensures not_too_long_refused { IsErrOf result Unread.OutOfMemory → HasPassedFew (A.passed source.old) (A.passed source.new) }
+    ensures one_past { A.passed source.new ≤ A.passed source.old + (longest + 1) }
     ensures later { A.faults source.old ≤ A.faults source.new }
 {
     let mut all = Vec::new(alloc);
@@ -76,6 +77,7 @@ fn read_some<A: Source>(
     ensures failed { IsErrOf result Unread.Failed → Rose (A.faults source.old) (A.faults source.new) × (A.passed source.new ≤ A.passed source.old) }
     ensures too_long { IsErrOf result Unread.TooLong → later_count (A.passed source.old) (longest + 1 - vec_len all.old) ≤ A.passed source.new }
     ensures refused { IsErrOf result Unread.OutOfMemory → A.passed source.new ≤ A.passed source.old + (longest - vec_len all.old) }
+    ensures most { A.passed source.new ≤ A.passed source.old + vec_len buffer.old }
     ensures later { A.faults source.old ≤ A.faults source.new }
 {
     match source.read(buffer) {

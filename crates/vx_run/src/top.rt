@@ -1,4 +1,4 @@
-ghost use Rattle.std.specs.Prelude.{◌≡◌, ◌≢◌, ◌⊎◌, ◌↔◌, ◌<◌, ◌≤◌, ℕ, List, true, false, map, length, codes};
+ghost use Rattle.std.specs.Prelude.{◌≡◌, ◌≢◌, ◌⊎◌, ◌↔◌, ◌+◌, ◌<◌, ◌≤◌, ℕ, List, true, false, map, length, codes};
 ghost use Rattle.vx_base.specs.Counts.{Rose};
 ghost use Rattle.vx_commands.specs.System.{NoneHeld};
 ghost use Rattle.vx_run.specs.Top.{is_form, longest, HasPassedMore, HasPassedFew, TellsLine, IsSpelledRun, IsSpelledStop, IsCarriedThrough, IsCutOff, IsNoScript};
@@ -46,7 +46,7 @@ pub fn run<S: Shelf, A: Source, B: Sink>(
         (record { free = S.free shelf.new; faults = S.faults shelf.new }) (B.taken sink.new) }
 
     // At 1 and 2 the line of the status was written, and at 3 and 7 nothing; no device was touched.
-    ensures usage { result ≡ 1 → TellsLine (codes "usage: vxrun --images DIR\n") (B.taken sink.old) (B.taken sink.new) (B.faults sink.old) (B.faults sink.new) × (source.new ≡ source.old) }
+    ensures usage { result ≡ 1 → TellsLine (codes "usage: vxrun --images DIR [--generate N]\n") (B.taken sink.old) (B.taken sink.new) (B.faults sink.old) (B.faults sink.new) × (source.new ≡ source.old) }
     ensures script { result ≡ 2 → TellsLine (codes "script\n") (B.taken sink.old) (B.taken sink.new) (B.faults sink.old) (B.faults sink.new) × IsNoScript (A.left source.old) (A.left source.new) }
     ensures silent { (result ≡ 3) ⊎ (result ≡ 7) → sink.new ≡ sink.old }
     ensures untouched { (result ≡ 1) ⊎ ((result ≡ 2) ⊎ ((result ≡ 3) ⊎ (result ≡ 7))) → shelf.new ≡ shelf.old }
@@ -58,12 +58,13 @@ pub fn run<S: Shelf, A: Source, B: Sink>(
     ensures sink { result ≡ 4 → Rose (B.faults sink.old) (B.faults sink.new) }
     ensures too_long { result ≡ 7 → HasPassedMore (A.passed source.old) (A.passed source.new) }
     ensures not_too_long { result ≢ 7 → HasPassedFew (A.passed source.old) (A.passed source.new) }
+    ensures one_past { A.passed source.new ≤ A.passed source.old + (longest + 1) }
 
     // All devices are given back.
     ensures back { NoneHeld (S.held shelf.new) }
 {
     if folder_of(words).is_none() {
-        tell(sink, b"usage: vxrun --images DIR\n");
+        tell(sink, b"usage: vxrun --images DIR [--generate N]\n");
         return 1;
     }
     match read_all(alloc, source) {

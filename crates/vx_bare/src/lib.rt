@@ -7,3 +7,6 @@ mod range;
 mod started;
 
 pub use started::Started;
+
+#[cfg(test)]
+mod tests;

@@ -123,5 +123,6 @@ module _ {P : Type 0} (seen : P → Seen) (commands : List Command) (free mid fr
         stand = e.stand;
         bytes = r.bytes;
         written = r.written;
+        stopped = r.stopped;
         blame = blame_later r.answers devices e.devices faults faults' faults'' later (same_blame r.answers _ devices _ e.devices faults faults' (λ name. sym (ap (λ f. free_at f name) is)) e.same r.blame);
       }

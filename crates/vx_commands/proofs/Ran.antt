@@ -3,7 +3,7 @@ use Rattle.std.proofs.Common.{◌≡◌, ◌⊎◌, ℕ, ◌+◌, ◌≤◌, Boo
 use Rattle.std.specs.Prelude.{IsTrue, ◌&&◌, ◌||◌, IfOk, IfErr, OnOk, OnErr}
 use Rattle.std.proofs.lemmas.List.Concat.{flat_map-append}
 use Rattle.std.proofs.lemmas.List.Folds.{list_all-append}
-use Rattle.std.proofs.lemmas.List.{append-nil}
+use Rattle.std.proofs.lemmas.List.{append-nil, length-append}
 use Rattle.vx_base.specs.Named.{Word}
 use Rattle.vx_base.proofs.CountLemmas.{rose_then, none_rose}
 use Rattle.vx_piece.specs.Seen.{Seen}
@@ -19,7 +19,7 @@ use Rattle.vx_commands.specs.Blame.{HasBlame, free_at}
 use Rattle.vx_commands.proofs.Blamed.{none_told}
 use Rattle.vx_commands.proofs.Moved.{state}
 use Rattle.vx_commands.specs.Moves.{State, StandsFor, Moves, device_seen}
-use Rattle.vx_commands.specs.Run.{Runs, RunsPartly}
+use Rattle.vx_commands.specs.Run.{HoldsButLast, Runs, RunsPartly}
 
 pub transcript_more : (place : ℕ) (old mid new : World) (cs ds : List Command) (xs ys : List Answer) → IsTranscript place old cs xs mid → IsTranscript (place + length cs) mid ds ys new → IsTranscript place old (cs ++ ds) (xs ++ ys) new
 transcript_more place old mid new [] ds [] ys h k = subst (λ w. IsTranscript place w ds ys new) h (subst (λ p. IsTranscript p mid ds ys new) (omega arith) k)
@@ -69,6 +69,19 @@ front_more : (xs ys : List ℕ) (n : ℕ) → take (length xs + n) (xs ++ ys) �
 front_more [] ys n = ap (λ m. take m ys) (zero-add n)
 front_more (x ∷ xs) ys n = let more : length (x ∷ xs) + n ≡ suc (length xs + n) = omega arith in ap (λ m. take m (x ∷ (xs ++ ys))) more ∙ ap (λ l. x ∷ l) (front_more xs ys n)
 
+text_length : (xs ys : List Answer) → length (text_of (xs ++ ys)) ≡ length (text_of xs) + length (text_of ys)
+text_length xs ys = ap (λ l. length l) (text_more xs ys) ∙ length-append (text_of xs) (text_of ys)
+
+-- the lines of all answers, and then so many bytes of others
+holds_more : (xs ys : List Answer) (n : ℕ) → HoldsButLast ys n → HoldsButLast (xs ++ ys) (length (text_of xs) + n)
+holds_more xs ys n h = record {
+  whole = xs ++ h.whole;
+  last = h.last;
+  parts = ap (λ l. xs ++ l) h.parts ∙ sym (append_assoc xs h.whole h.last);
+  one = h.one;
+  holds = omega (arith, text_length xs h.whole, h.holds);
+}
+
 line_alone : (a : Answer) → text_of (a ∷ []) ≡ line_of a
 line_alone a = append-nil (line_of a)
 
@@ -115,6 +128,7 @@ module _ {P : Type 0} (seen : P → Seen) where
         stands = m.stands;
         bytes = n.0;
         written = n.1 ∙ ap (λ l. Some (text ++ take n.0 l)) (sym (line_alone answer));
+        stopped = record { whole = []; last = answer ∷ []; parts = refl; one = omega arith; holds = omega arith };
         blame = m.blame;
       }
 
@@ -130,6 +144,7 @@ module _ {P : Type 0} (seen : P → Seen) where
     stands = still w stands;
     bytes = 0;
     written = told ∙ ap (λ t. Some t) (sym (append-nil text));
+    stopped = record { whole = []; last = []; parts = refl; one = omega arith; holds = omega arith };
     blame = blame;
   }
 
@@ -159,6 +174,7 @@ module _ {P : Type 0} (seen : P → Seen) where
         stands = b.stands;
         bytes = length (text_of a.answers) + b.bytes;
         written = b.written ∙ ap (λ t. Some t) (append_assoc text (text_of a.answers) (take b.bytes (text_of b.answers)) ∙ ap (λ l. text ++ l) (sym (ap (take (length (text_of a.answers) + b.bytes)) (text_more a.answers b.answers) ∙ front_more (text_of a.answers) (text_of b.answers) b.bytes)));
+        stopped = holds_more a.answers b.answers b.bytes b.stopped;
         blame = blame_then a.answers b.answers _ _ _ _ _ _ a.blame b.blame;
       }
 
@@ -175,6 +191,7 @@ module _ {P : Type 0} (seen : P → Seen) where
         stands = a.stands;
         bytes = a.bytes;
         written = a.written;
+        stopped = a.stopped;
         blame = a.blame;
       }
 

@@ -10,6 +10,7 @@ use Rattle.vx_world.specs.Transcript.{IsTranscript}
 use Rattle.vx_world.specs.Text.{text_of}
 use Rattle.vx_world.specs.Answers.{are_fine}
 use Rattle.vx_commands.specs.Blame.{HasBlame}
+use Rattle.vx_commands.specs.Run.{HoldsButLast}
 
 -- a shelf: the devices that it tells, and its count of faults
 pub record Shelved : Type 0 where
@@ -29,7 +30,8 @@ pub record IsCarriedOut (commands : List Command) (devices : Word → Option See
   pub fine_is : fine ≡ are_fine answers
   pub blame : HasBlame answers devices devices' shelf new.faults
 
--- The same of the first of the commands, those that were begun; of their text a front was written.
+-- The same of the first of the commands, those that were begun; of their text a front was written. No command was begun
+-- where a line before it was not written whole.
 pub record IsCutShort (commands : List Command) (devices : Word → Option Seen) (shelf : ℕ) (text : List ℕ) (new : Shelved) (taken : Option (List ℕ)) : Type 0 where
   pub begun : List Command
   pub left : List Command
@@ -42,6 +44,7 @@ pub record IsCutShort (commands : List Command) (devices : Word → Option Seen)
   pub stand : StandFor devices' last
   pub bytes : ℕ
   pub written : taken ≡ Some (text ++ take bytes (text_of answers))
+  pub stopped : HoldsButLast answers bytes
   pub blame : HasBlame answers devices devices' shelf new.faults
 
 -- over devices that tell what they hold, and behind each text that was taken

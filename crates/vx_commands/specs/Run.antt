@@ -1,5 +1,5 @@
 -- A run of commands, and one that was cut short.
-use Rattle.std.specs.Prelude.{◌≡◌, ℕ, Bool, List, ◌++◌, take, Option, Some}
+use Rattle.std.specs.Prelude.{◌≡◌, ℕ, ◌≤◌, Bool, List, ◌++◌, length, take, Option, Some}
 use Rattle.vx_piece.specs.Seen.{Seen}
 use Rattle.vx_world.specs.declared.command.Command.{Command}
 use Rattle.vx_world.specs.declared.answer.Answer.{Answer}
@@ -21,7 +21,16 @@ pub record HasRun {P : Type 0} (seen : P → Seen) (place : ℕ) (commands : Lis
   pub fine_is : fine ≡ are_fine answers
   pub blame : HasBlame answers (device_seen seen old) (device_seen seen new) old.faults new.faults
 
--- The same of the first of the commands, those that were begun; of their text a front was written.
+-- so many bytes of the text of these answers hold each line but the last
+pub record HoldsButLast (answers : List Answer) (bytes : ℕ) : Type 0 where
+  pub whole : List Answer
+  pub last : List Answer
+  pub parts : answers ≡ whole ++ last
+  pub one : length last ≤ 1
+  pub holds : length (text_of whole) ≤ bytes
+
+-- The same of the first of the commands, those that were begun; of their text a front was written. No command was begun
+-- where a line before it was not written whole.
 pub record HasRunPartly {P : Type 0} (seen : P → Seen) (place : ℕ) (commands : List Command) (w : World) (text : List ℕ) (old new : State P) (taken : Option (List ℕ)) : Type 0 where
   pub begun : List Command
   pub left : List Command
@@ -32,6 +41,7 @@ pub record HasRunPartly {P : Type 0} (seen : P → Seen) (place : ℕ) (commands
   pub stands : StandsFor seen new last
   pub bytes : ℕ
   pub written : taken ≡ Some (text ++ take bytes (text_of answers))
+  pub stopped : HoldsButLast answers bytes
   pub blame : HasBlame answers (device_seen seen old) (device_seen seen new) old.faults new.faults
 
 -- from each world that the old state stands for, and behind each text that was taken

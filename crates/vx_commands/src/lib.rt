@@ -6,3 +6,6 @@ mod system;
 
 pub use lines::{Stop, run_commands};
 pub use system::{bare, call, finish};
+
+#[cfg(test)]
+mod tests;

@@ -10,3 +10,6 @@ pub use reader::{Script, read_script};
 pub use source::{Unread, read_all};
 pub use top::run;
 pub use words::folder;
+
+#[cfg(test)]
+mod tests;

@@ -1,4 +1,5 @@
-/* Runs a program, and writes the seconds that it took and the most memory that it held, in KiB, to a file. */
+/* Runs a program, and writes to a file the seconds that it took, those of them in which a processor worked for it, and
+   the most memory that it held, in KiB. */
 #include <stdio.h>
 #include <stdlib.h>
 #include <sys/resource.h>
@@ -32,7 +33,9 @@ int main(int argc, char **argv) {
         return 2;
     }
     double seconds = (double)(to.tv_sec - from.tv_sec) + (double)(to.tv_nsec - from.tv_nsec) / 1e9;
-    fprintf(file, "%.3f %ld\n", seconds, used.ru_maxrss);
+    double worked = (double)(used.ru_utime.tv_sec + used.ru_stime.tv_sec) +
+                    (double)(used.ru_utime.tv_usec + used.ru_stime.tv_usec) / 1e6;
+    fprintf(file, "%.3f %.3f %ld\n", seconds, worked, used.ru_maxrss);
     fclose(file);
     return WIFEXITED(status) ? WEXITSTATUS(status) : 2;
 }

@@ -6,6 +6,9 @@ use std::fmt;
 pub enum Difference {
     /// The images have one name twice, or one of them has no sector.
     Images,
+    /// Memory was wanting; what was written is a front of what is wanted. No row wants it: it is told where an allocation
+    /// is made to fail.
+    NoMemory,
     /// A line of the answers, counted from 1, as it was written and as it is wanted.
     Answer {
         line: usize,
@@ -29,6 +32,7 @@ impl fmt::Display for Difference {
     fn fmt<W: fmt::Write>(&self, f: &mut fmt::Formatter<W>) -> fmt::Result {
         match self {
             Difference::Images => write!(f, "these images stand on no shelf"),
+            Difference::NoMemory => write!(f, "memory was wanting"),
             Difference::Answer {
                 line,
                 written,

@@ -12,6 +12,9 @@ use vx_flow::{MemSink, MemSource};
 use vx_piece::MemShelf;
 use vx_run::run;
 
+/// The status of a run in which memory was wanting.
+const NO_MEMORY: u8 = 6;
+
 /// Runs the script of the row, and tells the first thing that differs from what is wanted.
 pub fn try_row(alloc: Global, row: &Row) -> Result<Option<Difference>, AllocError> {
     let devices = devices(alloc, row.images.as_slice())?;
@@ -32,7 +35,22 @@ fn try_on(alloc: Global, row: &Row, shelf: &mut MemShelf) -> Result<Option<Diffe
         return Err(AllocError);
     };
     let status = run(alloc, words.as_slice(), shelf, &mut source, &mut sink);
-    if let Some(difference) = compare(alloc, sink.bytes(), fitting(row))? {
+    judge(alloc, row, shelf, status, sink.bytes())
+}
+
+/// The first thing of a run that differs from what is wanted.
+fn judge(
+    alloc: Global,
+    row: &Row,
+    shelf: &MemShelf,
+    status: u8,
+    written: &[u8],
+) -> Result<Option<Difference>, AllocError> {
+    let wanted = fitting(row);
+    if status == NO_MEMORY && wanted.starts_with(written) {
+        return Ok(Some(Difference::NoMemory));
+    }
+    if let Some(difference) = compare(alloc, written, wanted)? {
         return Ok(Some(difference));
     }
     if status != row.status {

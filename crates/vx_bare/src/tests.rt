@@ -1,4 +1,4 @@
-//! A volume is started and served where memory is left.
+//! A volume is started and served where memory is left, and how large it may be.
 use crate::Started;
 use std::test::Fail;
 use vx_block::Geometry;
@@ -59,4 +59,12 @@ fn a_write_is_read_back(rt: HostRuntime) -> Result<(), Fail> {
     assert_eq!(rt; blocks.as_slice().get(511), Some(&0));
     assert_eq!(rt; blocks.as_slice().get(512), Some(&0x42));
     Ok(())
+}
+
+/// Regions of 128 blocks: a volume has 33,554,432 blocks at most.
+#[test]
+fn a_volume_has_262_144_regions_at_most(rt: HostRuntime) {
+    let regions = Geometry::new(33_554_432, 128).map(|geometry| geometry.regions());
+    assert_eq!(rt; regions, Some(262_144));
+    assert_eq!(rt; Geometry::new(33_554_433, 128), None);
 }

@@ -13,6 +13,10 @@ is_form (a ∷ []) = false
 is_form (a ∷ b ∷ []) = bytes_eq a (codes "--images")
 is_form (a ∷ b ∷ c ∷ rest) = false
 
+-- the words are `--images` and this folder
+abbrev pub NamesFolder : List (List ℕ) → List ℕ → Type 0
+NamesFolder words dir = words ≡ codes "--images" ∷ dir ∷ []
+
 -- the most bytes that a script may have
 abbrev pub longest : ℕ
 longest = 16777216

@@ -1,0 +1,118 @@
+//! The lines of a row file.
+use vx_piece::Bad;
+
+/// One line of a row file. Names of images are words that are not read yet.
+#[derive(Clone, Copy)]
+pub enum Line<'a> {
+    /// Nothing, between other lines.
+    Empty,
+    /// `title TEXT`: what the row shows.
+    Title(&'a str),
+    /// `image NAME SECTORS`: a device of zeros.
+    Image {
+        name: &'a str,
+        sectors: u64,
+    },
+    /// `bad NAME START COUNT read|write SKIP TIMES`: sectors of a device whose calls of this kind fail.
+    Bad {
+        name: &'a str,
+        bad: Bad,
+    },
+    /// `source fails at N`: the source fails once N bytes have passed.
+    SourceFails(u64),
+    /// `room N`: the sink takes N bytes.
+    Room(u64),
+    /// `words` and then the words of the command line, where they are not `--images .`.
+    Words(&'a str),
+    /// `> TEXT`: a line of the script.
+    Script(&'a str),
+    /// `no last newline`: the script's last line has none.
+    NoLastNewline,
+    /// `< TEXT`: a line of the answers.
+    Answer(&'a str),
+    /// `holds NAME SECTOR XX`: what all bytes of a sector are at the end.
+    Holds {
+        name: &'a str,
+        sector: u64,
+        byte: u8,
+    },
+    /// `status N`
+    Status(u8),
+}
+
+/// The line that is written so.
+pub fn read_line(text: &str) -> Option<Line<'_>> {
+    if text.is_empty() {
+        return Some(Line::Empty);
+    }
+    let (word, rest) = first_word(text);
+    match word {
+        ">" => Some(Line::Script(rest)),
+        "<" => Some(Line::Answer(rest)),
+        "title" => Some(Line::Title(rest)),
+        "words" => Some(Line::Words(rest)),
+        "image" => read_image(rest),
+        "bad" => read_bad(rest),
+        "holds" => read_holds(rest),
+        _ => read_figure(text),
+    }
+}
+
+/// A line whose rest is a number, or is fixed.
+fn read_figure(text: &str) -> Option<Line<'_>> {
+    if text == "no last newline" {
+        return Some(Line::NoLastNewline);
+    }
+    if let Some(number) = text.strip_prefix("source fails at ") {
+        return Some(Line::SourceFails(number.parse().ok()?));
+    }
+    if let Some(number) = text.strip_prefix("room ") {
+        return Some(Line::Room(number.parse().ok()?));
+    }
+    let number = text.strip_prefix("status ")?;
+    Some(Line::Status(number.parse().ok()?))
+}
+
+/// The text up to the first blank, and the text behind that.
+fn first_word(text: &str) -> (&str, &str) {
+    text.split_once(' ').unwrap_or((text, ""))
+}
+
+fn read_image(text: &str) -> Option<Line<'_>> {
+    let (name, sectors) = text.split_once(' ')?;
+    let sectors = sectors.parse().ok()?;
+    Some(Line::Image { name, sectors })
+}
+
+fn read_bad(text: &str) -> Option<Line<'_>> {
+    let (name, rest) = text.split_once(' ')?;
+    let (start, rest) = read_number(rest)?;
+    let (count, rest) = read_number(rest)?;
+    let (kind, rest) = rest.split_once(' ')?;
+    let (skip, times) = read_number(rest)?;
+    if kind != "read" && kind != "write" {
+        return None;
+    }
+    let bad = Bad {
+        start,
+        count,
+        on_read: kind == "read",
+        on_write: kind == "write",
+        skip,
+        times: times.parse().ok()?,
+    };
+    Some(Line::Bad { name, bad })
+}
+
+fn read_holds(text: &str) -> Option<Line<'_>> {
+    let (name, rest) = text.split_once(' ')?;
+    let (sector, byte) = read_number(rest)?;
+    let byte = u8::from_str_radix(byte, 16).ok()?;
+    Some(Line::Holds { name, sector, byte })
+}
+
+/// The number up to the first blank, and the text behind that.
+fn read_number(text: &str) -> Option<(u64, &str)> {
+    let (number, rest) = text.split_once(' ')?;
+    Some((number.parse().ok()?, rest))
+}

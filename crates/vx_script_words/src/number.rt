@@ -45,7 +45,8 @@ fn is_digit(byte: u8) -> bool
 
 /// A number in a range.
 pub fn number_within(low: u64, high: u64, word: &[u8]) -> Option<u64>
-    ensures { result ≡ within low high (number_of word.now) }
+    ensures value { result ≡ within low high (number_of word.now) }
+    ensures most { IfSome result (λ n. n ≤ high) }
 {
     let n = number_of(word)?;
     if low <= n && n <= high { Some(n) } else { None }

@@ -1,4 +1,5 @@
 use std::marker::Model;
+use vx_base::OutOfMemory;
 use vx_names::Name;
 
 /// Bytes that contracts see as a plain list.
@@ -16,7 +17,15 @@ impl Model for Bytes {
 }
 
 impl Bytes {
-    ghost use Rattle.std.specs.Prelude.{◌≡◌};
+    ghost use Rattle.std.specs.Prelude.{◌≡◌, ◌++◌, OnOk};
+
+    /// Appends bytes.
+    pub fn extend(&mut self, bytes: &[u8]) -> Result<(), OutOfMemory>
+        ensures { OnOk result (self.new ≡ self.old ++ bytes.now) }
+    {
+        self.items.extend_from_slice(bytes)?;
+        Ok(())
+    }
 
     pub fn from_vec(items: Vec<u8>) -> Bytes
         ensures { result ≡ items.items }

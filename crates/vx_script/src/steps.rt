@@ -10,7 +10,9 @@ use crate::{Command, Commands};
 use std::alloc::Global;
 use vx_base::OutOfMemory;
 use vx_names::Name;
-use vx_script_forms::{ACTS, Admin, Block, Bytes, CALLS, COMMANDS, Call, Form, Line, Lines, form_of, group_of};
+use vx_script_forms::{
+    ACTS, Admin, Block, Bytes, CALLS, COMMANDS, Call, Form, Line, Lines, form_of, group_of,
+};
 use vx_script_words::{Stop, first_word, from_word, number_within, past_word};
 
 /// What a line does.
@@ -65,7 +67,13 @@ fn command_step(alloc: Global, done: Commands, line: &[u8]) -> Result<Reader, St
     Ok(opened(alloc, done, group, form, chosen.cut)?)
 }
 
-fn opened(alloc: Global, done: Commands, group: Option<Name>, form: Form, cut: Option<u64>) -> Result<Reader, OutOfMemory>
+fn opened(
+    alloc: Global,
+    done: Commands,
+    group: Option<Name>,
+    form: Form,
+    cut: Option<u64>,
+) -> Result<Reader, OutOfMemory>
     ensures { IfOk result (λ reader. reader ≡ opened done group form cut) }
 {
     match form {
@@ -97,7 +105,13 @@ fn with_command(done: Commands, command: Command) -> Result<Reader, OutOfMemory>
     Ok(Reader { done, begun })
 }
 
-fn making_step(done: Commands, group: Option<Name>, cut: Option<u64>, text: Bytes, line: &[u8]) -> Result<Reader, Stop>
+fn making_step(
+    done: Commands,
+    group: Option<Name>,
+    cut: Option<u64>,
+    text: Bytes,
+    line: &[u8],
+) -> Result<Reader, Stop>
     ensures { MatchResult result (λ reader. making_step done group cut text line.now ≡ Ok reader) (λ stop. Fails stop (making_step done group cut text line.now)) }
 {
     if line == b"end".as_slice() {
@@ -118,7 +132,16 @@ fn with_line(text: Bytes, line: &[u8]) -> Result<Bytes, OutOfMemory>
     Ok(text)
 }
 
-fn inside_step(alloc: Global, done: Commands, cut: Option<u64>, sessions: u32, lines: Lines, calls: u64, sectors: u64, line: &[u8]) -> Result<Reader, Stop>
+fn inside_step(
+    alloc: Global,
+    done: Commands,
+    cut: Option<u64>,
+    sessions: u32,
+    lines: Lines,
+    calls: u64,
+    sectors: u64,
+    line: &[u8],
+) -> Result<Reader, Stop>
     ensures { MatchResult result (λ reader. inside_step done cut sessions lines calls sectors line.now ≡ Ok reader) (λ stop. Fails stop (inside_step done cut sessions lines calls sectors line.now)) }
 {
     if is_passed_over(line) {
@@ -139,7 +162,13 @@ fn inside_step(alloc: Global, done: Commands, cut: Option<u64>, sessions: u32, l
     added(done, cut, sessions, lines, calls, sectors, line.len(), read)
 }
 
-fn ended(done: Commands, cut: Option<u64>, sessions: u32, lines: Lines, rest: &[u8]) -> Result<Reader, Stop>
+fn ended(
+    done: Commands,
+    cut: Option<u64>,
+    sessions: u32,
+    lines: Lines,
+    rest: &[u8],
+) -> Result<Reader, Stop>
     ensures { MatchResult result (λ reader. ended done cut sessions lines rest.now ≡ Ok reader) (λ stop. Fails stop (ended done cut sessions lines rest.now)) }
 {
     let rest = from_word(rest);
@@ -233,7 +262,16 @@ fn line_calls(line: &Line) -> u64
 }
 
 /// A line more of a block, unless it would pass the block's calls or sectors.
-fn added(done: Commands, cut: Option<u64>, sessions: u32, lines: Lines, calls: u64, sectors: u64, whole: usize, line: Line) -> Result<Reader, Stop>
+fn added(
+    done: Commands,
+    cut: Option<u64>,
+    sessions: u32,
+    lines: Lines,
+    calls: u64,
+    sectors: u64,
+    whole: usize,
+    line: Line,
+) -> Result<Reader, Stop>
     ensures { MatchResult result (λ reader. added done cut sessions lines calls sectors whole line ≡ Ok reader) (λ stop. Fails stop (added done cut sessions lines calls sectors whole line)) }
 {
     let calls = calls.saturating_add(line_calls(&line));

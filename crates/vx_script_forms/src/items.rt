@@ -1,8 +1,7 @@
 ghost use Rattle.std.specs.Prelude.{◌≡◌};
 ghost use Rattle.vx_script_forms.specs.Table.{items_of};
 
-use crate::Kind;
-use crate::table;
+use crate::{Kind, table};
 use vx_script_words::Item;
 
 /// The parts of a form, in their order.

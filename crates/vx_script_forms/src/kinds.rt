@@ -41,7 +41,9 @@ pub const COMMANDS: [Kind; 39] = [
     Kind::Data,
     Kind::Sessions,
 ];
+
 pub const CALLS: [Kind; 3] = [Kind::Read, Kind::Fill, Kind::Data];
+
 pub const ACTS: [Kind; 7] = [
     Kind::SnapMake,
     Kind::Reattach,

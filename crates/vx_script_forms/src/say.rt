@@ -1,7 +1,9 @@
 ghost use Rattle.std.specs.Prelude.{◌≡◌, ◌<◌, ◌+◌, IfOk, Some, None, []};
 ghost use Rattle.vx_script_forms.specs.FormOf.{mk_image_form, bare_form, dg_init_form, dg_add_disk_form, dg_import_form, dg_deport_form, disk_unsetup_form, print_m_form, print_ht_form, mirror_form, remove_volume_form, start_form, stop_form, plex_dis_form, plex_dis_rm_form, prepare_form, unprepare_form, add_mir_form, dis_form, split_form, print_snaps_form, recover_form, reattach_form, restore_form, snapback_form, snapback_from_replica_form, plex_det_form, plex_att_form, read_form, fill_form, data_form, vx_make_form, sessions_form, rdpol_round_form, rdpol_select_form, rdpol_prefer_form, broken_off, snap_make_form, concat_of, with_mirrors, concat_attrs, stripe_attrs, assist_make, form_of};
 
-use crate::values::{blocks, byte, disks, maybe_name, maybe_number, maybe_small, name, names, number, pair, small};
+use crate::values::{
+    blocks, byte, disks, maybe_name, maybe_number, maybe_small, name, names, number, pair, small,
+};
 use crate::{Act, Block, Bytes, Call, Form, Kind, Lines, MakeAttrs, WordLayout, WordPolicy};
 use std::alloc::Global;
 use vx_base::OutOfMemory;
@@ -178,7 +180,11 @@ fn prepare_form(values: &[Value]) -> Option<Form>
     let vol = name(values, 3)?;
     let ndcomirs = maybe_number(values, 4)?;
     let region = maybe_number(values, 5)?;
-    Some(Form::Prepare { vol, ndcomirs, region })
+    Some(Form::Prepare {
+        vol,
+        ndcomirs,
+        region,
+    })
 }
 
 fn unprepare_form(values: &[Value]) -> Option<Form>
@@ -248,14 +254,20 @@ fn snapback_form(values: &[Value]) -> Option<Form>
     ensures { result ≡ snapback_form values.now }
 {
     let snap = name(values, 3)?;
-    Some(Form::Acting(Act::Snapback { snap, from_replica: false }))
+    Some(Form::Acting(Act::Snapback {
+        snap,
+        from_replica: false,
+    }))
 }
 
 fn snapback_from_replica_form(values: &[Value]) -> Option<Form>
     ensures { result ≡ snapback_from_replica_form values.now }
 {
     let snap = name(values, 5)?;
-    Some(Form::Acting(Act::Snapback { snap, from_replica: true }))
+    Some(Form::Acting(Act::Snapback {
+        snap,
+        from_replica: true,
+    }))
 }
 
 fn plex_det_form(values: &[Value]) -> Option<Form>
@@ -289,7 +301,12 @@ fn fill_form(values: &[Value]) -> Option<Form>
     let start = number(values, 3)?;
     let count = number(values, 4)?;
     let byte = byte(values, 6)?;
-    Some(Form::Calling(Call::Fill { vol, start, count, byte }))
+    Some(Form::Calling(Call::Fill {
+        vol,
+        start,
+        count,
+        byte,
+    }))
 }
 
 fn data_form(alloc: Global, values: &[Value]) -> Result<Option<Form>, OutOfMemory>
@@ -396,7 +413,13 @@ fn stripe_attrs(values: &[Value]) -> Option<MakeAttrs>
     with_mirrors(Some(WordLayout::Stripe), ncol, unit, values, 8)
 }
 
-fn with_mirrors(layout: Option<WordLayout>, ncol: Option<u32>, unit: Option<u64>, values: &[Value], at: usize) -> Option<MakeAttrs>
+fn with_mirrors(
+    layout: Option<WordLayout>,
+    ncol: Option<u32>,
+    unit: Option<u64>,
+    values: &[Value],
+    at: usize,
+) -> Option<MakeAttrs>
     requires { at < 100 }
     ensures { result ≡ with_mirrors layout ncol unit values.now at }
 {
@@ -413,7 +436,12 @@ fn with_mirrors(layout: Option<WordLayout>, ncol: Option<u32>, unit: Option<u64>
     })
 }
 
-fn assist_make(alloc: Global, values: &[Value], attrs: Option<MakeAttrs>, at: usize) -> Result<Option<Form>, OutOfMemory>
+fn assist_make(
+    alloc: Global,
+    values: &[Value],
+    attrs: Option<MakeAttrs>,
+    at: usize,
+) -> Result<Option<Form>, OutOfMemory>
     ensures { IfOk result (λ found. found ≡ assist_make values.now attrs at) }
 {
     let Some(attrs) = attrs else {

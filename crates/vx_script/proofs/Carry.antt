@@ -1,7 +1,7 @@
 -- What holds of an answer holds of its equals.
-use Rattle.std.proofs.Common.{◌≡◌, ◌∙◌, sym, ap, subst, refl, ℕ, ◌+◌, ◌-◌, ◌≤◌, Bool, true, false, cond, List, [], ◌∷◌, length, Result, Ok, Err, MatchResult, arith}
-use Rattle.vx_script.specs.Lines.{lines_of, lines_from, last_line}
-use Rattle.vx_script.specs.Script.{Faults, Place, commands_from, stepped, script_of}
+use Rattle.std.proofs.Common.{◌≡◌, ◌∙◌, sym, ap, subst, refl, ℕ, ◌+◌, ◌≤◌, Bool, true, false, cond, List, [], ◌∷◌, length, Result, Ok, MatchResult, arith}
+use Rattle.vx_script.specs.Lines.{lines_of}
+use Rattle.vx_script.specs.Script.{Faults, Place, commands_from, stepped}
 use Rattle.vx_script.specs.Steps.{step, open_step}
 use Rattle.vx_script.specs.declared.command.Command.{Command}
 use Rattle.vx_script.specs.declared.fault.ScriptFault.{ScriptFault}

@@ -1,18 +1,15 @@
 -- What each line of a script does: it adds a command, or goes on with one that has lines of its own.
-use Rattle.std.specs.Prelude.{ℕ, ◌+◌, ◌-◌, ◌*◌, ◌/◌, ◌==◌, ◌&&◌, nat_le, nat_lt, Bool, true, false, if◌then◌else◌, Option, Some, None, option_and_then, slice_get, Result, Ok, Err, List, [], ◌∷◌, ◌++◌, length, codes}
+use Rattle.std.specs.Prelude.{ℕ, ◌+◌, ◌/◌, ◌==◌, ◌&&◌, nat_le, true, false, if◌then◌else◌, Option, Some, None, Result, Ok, Err, List, [], ◌∷◌, ◌++◌, length, codes}
 use Rattle.std.specs.Str.{bytes_eq}
-use Rattle.vx_script.specs.Choice.{Choice, choose}
-use Rattle.vx_script.specs.Lines.{is_passed_over, begins_comment, bad_word}
+use Rattle.vx_script.specs.Choice.{choose}
+use Rattle.vx_script.specs.Lines.{is_passed_over, bad_word}
 use Rattle.vx_script.specs.declared.command.Command.{Command}
 use Rattle.vx_script.specs.declared.reader.Open.{Open}
 use Rattle.vx_script.specs.declared.reader.Open.TheVariants.{Closed, Making, Inside}
 use Rattle.vx_script.specs.declared.reader.Reader.{Reader}
 use Rattle.vx_script_forms.specs.FormOf.{form_of}
 use Rattle.vx_script_forms.specs.Table.{commands, calls, acts}
-use Rattle.vx_script_forms.specs.Values.{maybe_name, number, small}
-use Rattle.vx_script_forms.specs.declared.act.Act.{Act}
-use Rattle.vx_script_forms.specs.declared.act.Admin.{Admin}
-use Rattle.vx_script_forms.specs.declared.block.Block.{Block}
+use Rattle.vx_script_forms.specs.Values.{maybe_name}
 use Rattle.vx_script_forms.specs.declared.block.Line.{Line}
 use Rattle.vx_script_forms.specs.declared.block.Line.TheVariants.{Session, Administer}
 use Rattle.vx_script_forms.specs.declared.call.Call.{Call}

@@ -1,9 +1,7 @@
 -- The form that the values of a line say, by the kind of the line.
-use Rattle.std.specs.Prelude.{ℕ, ◌+◌, Bool, true, false, Option, Some, None, option_and_then, slice_get, List, [], ◌∷◌}
+use Rattle.std.specs.Prelude.{ℕ, ◌+◌, true, false, Option, Some, None, option_and_then, slice_get, List, []}
 use Rattle.vx_script_forms.specs.Values.{at, name, number, pair, maybe_name, maybe_number, small, byte, maybe_small, names, disks, blocks}
-use Rattle.vx_script_forms.specs.declared.act.Act.{Act}
 use Rattle.vx_script_forms.specs.declared.act.Act.TheVariants as act
-use Rattle.vx_script_forms.specs.declared.block.Block.{Block}
 use Rattle.vx_script_forms.specs.declared.call.Call.TheVariants as call
 use Rattle.vx_script_forms.specs.declared.form.Form.{Form}
 use Rattle.vx_script_forms.specs.declared.form.Form.TheVariants as form
@@ -13,7 +11,6 @@ use Rattle.vx_script_forms.specs.declared.form.WordLayout.TheVariants as layout
 use Rattle.vx_script_forms.specs.declared.form.WordPolicy.TheVariants as policy
 use Rattle.vx_script_forms.specs.declared.kind.Kind.{Kind}
 use Rattle.vx_script_forms.specs.declared.kind.Kind.TheVariants as kind
-use Rattle.vx_script_words.specs.declared.value.DiskAt.{DiskAt}
 use Rattle.vx_script_words.specs.declared.value.Value.{Value}
 use Rattle.vx_script_words.specs.declared.value.Value.TheVariants as value
 

@@ -1,4 +1,4 @@
-use Rattle.std.proofs.Common.{◌≡◌, ◌∙◌, [], ◌+◌, length, drop, arith}
+use Rattle.std.proofs.Common.{◌+◌, arith}
 use Rattle.std.proofs.lemmas.Grind.{common_steps}
 use Rattle.vx_script.proofs.Splits.{lines_start, take_rest, split_here, split_end}
 use Rattle.vx_script.proofs.lines.split_line.Goals as goal

@@ -1,4 +1,4 @@
-use Rattle.std.proofs.Common.{◌≡◌, [], take, drop}
+use Rattle.std.proofs.Common.{◌≡◌, take, drop}
 use Rattle.vx_script.specs.Lines.{lines_from, lines_of}
 use Rattle.vx_script.proofs.lines.split_line.Given as goal
 

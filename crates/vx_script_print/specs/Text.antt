@@ -1,5 +1,5 @@
 -- The printed text of commands: words parted by one blank, in lines that end with a newline.
-use Rattle.std.specs.Prelude.{ℕ, zero, suc, ◌/◌, Bool, true, false, Option, Some, None, List, [], ◌∷◌, ◌++◌, length, take, drop, codes}
+use Rattle.std.specs.Prelude.{ℕ, zero, suc, ◌/◌, true, false, Option, Some, None, List, [], ◌∷◌, ◌++◌, length, take, drop, codes}
 use Rattle.std.specs.List.{flat_map}
 use Rattle.std.specs.Fmt.{decimal}
 use Rattle.vx_block.specs.Word.{hex, block_word}

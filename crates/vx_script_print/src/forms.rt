@@ -14,10 +14,10 @@ use vx_script_words::Key;
 pub fn put_act(
     alloc: Global,
     group: Option<Name>,
-    act: Act,
+    act: &Act,
     out: &mut Vec<u8>,
 ) -> Result<(), OutOfMemory>
-    ensures { OnOk result (out.new.items ≡ out.old.items ++ act_text group act) }
+    ensures { OnOk result (out.new.items ≡ out.old.items ++ act_text group act.now) }
 {
     match act {
         Act::SnapMake { vol, snap, plex } => put_parts(
@@ -26,7 +26,11 @@ pub fn put_act(
                 Part::First(Key::VxSnap),
                 Part::Group(group),
                 Part::Key(Key::Make),
-                Part::BreakOff { vol, snap, plex },
+                Part::BreakOff {
+                    vol: *vol,
+                    snap: *snap,
+                    plex: *plex,
+                },
             ],
             out,
         ),
@@ -36,8 +40,8 @@ pub fn put_act(
                 Part::First(Key::VxSnap),
                 Part::Group(group),
                 Part::Key(Key::Reattach),
-                Part::Name(snap),
-                Part::Source(vol),
+                Part::Name(*snap),
+                Part::Source(*vol),
             ],
             out,
         ),
@@ -47,8 +51,8 @@ pub fn put_act(
                 Part::First(Key::VxSnap),
                 Part::Group(group),
                 Part::Key(Key::Restore),
-                Part::Name(vol),
-                Part::Source(snap),
+                Part::Name(*vol),
+                Part::Source(*snap),
             ],
             out,
         ),
@@ -61,7 +65,7 @@ pub fn put_act(
                 Part::First(Key::VxAssist),
                 Part::Group(group),
                 Part::Key(Key::Snapback),
-                Part::Name(snap),
+                Part::Name(*snap),
             ],
             out,
         ),
@@ -76,7 +80,7 @@ pub fn put_act(
                 Part::Key(Key::OtherOption),
                 Part::Key(Key::ResyncFromReplica),
                 Part::Key(Key::Snapback),
-                Part::Name(snap),
+                Part::Name(*snap),
             ],
             out,
         ),
@@ -86,7 +90,7 @@ pub fn put_act(
                 Part::First(Key::VxPlex),
                 Part::Group(group),
                 Part::Key(Key::Det),
-                Part::Name(plex),
+                Part::Name(*plex),
             ],
             out,
         ),
@@ -96,8 +100,8 @@ pub fn put_act(
                 Part::First(Key::VxPlex),
                 Part::Group(group),
                 Part::Key(Key::Att),
-                Part::Name(vol),
-                Part::Name(plex),
+                Part::Name(*vol),
+                Part::Name(*plex),
             ],
             out,
         ),
@@ -420,7 +424,7 @@ pub fn put_form(
             put_names(disks.as_slice(), out)
         }
         Form::Rdpol { vol, policy } => put_policy(alloc, group, *vol, *policy, out),
-        Form::Acting(act) => put_act(alloc, group, *act, out),
+        Form::Acting(act) => put_act(alloc, group, act, out),
         Form::Calling(call) => put_call(alloc, call, out),
         Form::Sessions(block) => put_parts(
             alloc,

@@ -72,7 +72,7 @@ fn put_line(alloc: Global, line: &Line, out: &mut Vec<u8>) -> Result<(), OutOfMe
         }
         Line::Administer(admin) => {
             put_text(b"0 ", out)?;
-            put_act(alloc, admin.group, admin.act, out)?;
+            put_act(alloc, admin.group, &admin.act, out)?;
         }
     }
     put_text(b"\n", out)

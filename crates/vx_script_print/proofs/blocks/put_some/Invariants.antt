@@ -4,6 +4,6 @@ use Rattle.vx_script_print.proofs.blocks.put_some.Given as goal
 
 abbrev pub invariant-loop-k : goal.invariant-loop-k
 invariant-loop-k l = record {
-  same : l.out.items ++ some_blocks 512 (l.count - l.k) l.rest ≡ l.fn.out.items ++ some_blocks 512 l.count l.bytes;
-  room : 512 * (l.count - l.k) ≤ length l.rest;
+  same : l.out.items ++ some_blocks 512 (l.count - l._k) l.rest ≡ l.fn.out.items ++ some_blocks 512 l.count l.bytes;
+  room : 512 * (l.count - l._k) ≤ length l.rest;
 }

@@ -1,0 +1,53 @@
+ghost use Rattle.std.specs.Prelude.{◌≡◌, ◌+◌, ◌^◌, ◌<◌, MatchResult, Ok};
+ghost use Rattle.vx_script.specs.Script.{script_of, Faults, finished};
+
+use crate::lines::split_line;
+use crate::reader::{Open, Reader};
+use crate::steps::step;
+use crate::{Commands, ScriptFault};
+use std::alloc::Global;
+use vx_script_words::Stop;
+
+/// The commands of a script, in the order of their lines.
+#[derive(Drop)]
+pub struct Script {
+    pub commands: Commands,
+}
+
+/// The script that a text spells. A fault names the first line that does not fit, and in it the first word that no
+/// line with the same earlier words has, or the byte behind the line where it ends too early.
+#[tactic(auto, unfolding(crate::specs::Script::script_of))]
+pub fn read(alloc: Global, text: &[u8]) -> Result<Script, ScriptFault>
+    ensures { MatchResult result (λ script. script_of text.now ≡ Ok script.commands) (λ fault. Faults fault (script_of text.now)) }
+{
+    let mut reader = Reader {
+        done: Commands::from_vec(Vec::new(alloc)),
+        begun: Open::Closed,
+    };
+    let mut rest = text;
+    let mut number: u64 = 1;
+    while rest.len() > 0 {
+        let (line, next) = split_line(rest);
+        match step(alloc, reader, line) {
+            Ok(more) => reader = more,
+            Err(Stop::OutOfMemory) => return Err(ScriptFault::OutOfMemory),
+            Err(Stop::Left(left)) => {
+                let column = line.len().saturating_sub(left) as u64 + 1;
+                return Err(ScriptFault::Script(number, column));
+            }
+        }
+        rest = next;
+        number += 1;
+    }
+    finished(reader, number)
+}
+
+fn finished(reader: Reader, number: u64) -> Result<Script, ScriptFault>
+    ensures { MatchResult result (λ script. finished reader.begun reader.done number ≡ Ok script.commands) (λ fault. Faults fault (finished reader.begun reader.done number)) }
+{
+    let Reader { done, begun } = reader;
+    match begun {
+        Open::Closed => Ok(Script { commands: done }),
+        _ => Err(ScriptFault::Script(number, 1)),
+    }
+}

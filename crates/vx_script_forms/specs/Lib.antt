@@ -1,0 +1,3 @@
+pub mod FormOf
+pub mod Table
+pub mod Values

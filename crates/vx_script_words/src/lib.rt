@@ -1,0 +1,24 @@
+//! The words of a script: what each has to be, what it says, and how the forms of lines are read and printed word by word.
+#![tactic(auto)]
+
+mod class;
+mod hex;
+mod key;
+mod line;
+mod number;
+mod parts;
+mod read;
+mod stop;
+mod value;
+mod words;
+
+pub use class::{Class, Item, Sort};
+pub use hex::{block_of, byte_of};
+pub use key::{Key, key_text};
+pub use line::{Reading, row};
+pub use number::{length_of, number_of, number_within};
+pub use parts::cut_of;
+pub use read::class_value;
+pub use stop::Stop;
+pub use value::{Bytes, DiskAt, Value};
+pub use words::{first_word, from_word, past, past_word, up_to};

@@ -1,12 +1,12 @@
 -- Attributes that fit their columns, one by one.
-use Rattle.std.specs.Prelude.{◌&&◌, ◌||◌, ◌^◌, codes, decimal}
+use Rattle.std.specs.Prelude.{◌||◌, ◌^◌, codes, decimal}
 use Rattle.std.specs.List.{list_any}
 use Rattle.std.proofs.Common.{◌≡◌, ℕ, zero, suc, ◌+◌, ◌<◌, Bool, true, false, Option, None, Some, List, [], ◌∷◌, ◌++◌, length, drop, get_or, refl, sym, ◌∙◌, ap, subst, arith, drop-cons}
 use Rattle.std.specs.Str.{bytes_eq}
 use Rattle.std.proofs.lemmas.Bool.{and_parts, and_from, false≢true}
 use Rattle.vx_base.specs.Named.{Word}
 use Rattle.vx_base.proofs.NamedLemmas.{bytes_eq_self, bytes_eq_same}
-use Rattle.vx_names.specs.Number.{is_number, digits_value}
+use Rattle.vx_names.specs.Number.{is_number}
 use Rattle.vx_names.specs.declared.attr.Attr.{Attr}
 use Rattle.vx_names.proofs.Numbers.{decimal_number, numeral_spelled}
 use Rattle.vx_record.specs.Table.{column, columns, attr_fits, attrs_fit, value_fits, is_one_of, plex_states, volume_states}
@@ -29,7 +29,6 @@ use Rattle.vx_rules.specs.declared.vol.PolicyKind.{PolicyKind}
 use Rattle.vx_rules.specs.declared.vol.PolicyKind.TheVariants as policy
 use Rattle.vx_rules.specs.Words.{plex_kind_word, layout_word, plex_state_word, vol_state_word, policy_word}
 use Rattle.vx_objects.specs.Fields.{HasValue, column_at}
-use Rattle.vx_record.specs.Content.{Content}
 use Rattle.vx_rules.specs.declared.object.Object.TheVariants.{GroupRecord}
 use Rattle.vx_objects.specs.Printed.{attr, numeral, record_of}
 

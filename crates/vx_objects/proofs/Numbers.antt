@@ -1,12 +1,11 @@
 -- Where no rule is broken, each number is one of a record, and its field holds it.
-use Rattle.std.specs.Prelude.{◌&&◌, ◌||◌, ◌==◌, nat_lt, min, is_none}
-use Rattle.std.proofs.Common.{◌≡◌, ℕ, ◌<◌, Bool, true, false, Option, Some, None, List, [], ◌∷◌, ◌++◌, map, take, drop, refl, sym, ◌∙◌, ap, subst, arith}
+use Rattle.std.specs.Prelude.{◌&&◌, ◌||◌, ◌==◌, is_none}
+use Rattle.std.proofs.Common.{◌≡◌, ℕ, Bool, true, false, Option, Some, None, List, [], ◌∷◌, ◌++◌, map, take, refl, sym, ◌∙◌, ap, arith}
 use Rattle.std.specs.List.{list_all, list_any, filter_map}
 use Rattle.std.proofs.lemmas.Bool.{and_parts, and_from, false≢true}
 use Rattle.std.proofs.lemmas.Bool.Decides.{nat_tests}
 use Rattle.std.proofs.lemmas.List.Folds.{list_all-append, list_any-append}
 use Rattle.vx_base.specs.Named.{Word}
-use Rattle.vx_rules.specs.declared.group.Group.{Group}
 use Rattle.vx_rules.specs.declared.disk.Disk.{Disk}
 use Rattle.vx_rules.specs.declared.subdisk.Subdisk.{Subdisk}
 use Rattle.vx_rules.specs.declared.plex.Plex.{Plex}
@@ -18,11 +17,10 @@ use Rattle.vx_rules.specs.declared.object.Object.TheVariants.{GroupRecord, DiskR
 use Rattle.vx_rules.specs.declared.rule.Rule.{Rule}
 use Rattle.vx_rules.specs.declared.rule.Rule.TheVariants as rule
 use Rattle.vx_rules.specs.declared.fault.Limit.TheVariants as limit
-use Rattle.vx_rules.specs.declared.fault.ObjectFault.{ObjectFault}
 use Rattle.vx_rules.specs.declared.fault.ObjectFault.TheVariants.{Limit}
 use Rattle.vx_rules.specs.Objects.{is_group}
-use Rattle.vx_rules.specs.Faults.{first_some, unless, first_of}
-use Rattle.vx_rules.specs.Limits.{numbers_fit, is_short, fits_byte, fits_word, map_fits, has_one_group}
+use Rattle.vx_rules.specs.Faults.{first_of}
+use Rattle.vx_rules.specs.Limits.{numbers_fit, is_short, fits_byte, fits_word, map_fits}
 use Rattle.vx_rules.specs.Rules.{fault_in, fault_over, fault_of, rules, first_broken_of, first_broken, is_valid}
 use Rattle.vx_objects.specs.Parts.{as_group, as_disk, as_subdisk, as_plex, as_vol, as_dco, as_snap, records_below, records_of, in_kinds}
 use Rattle.vx_objects.specs.Printed.{cut, cut_byte, cut_word, cut_map, has_record}

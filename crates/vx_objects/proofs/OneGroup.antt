@@ -1,5 +1,5 @@
 -- Where no rule is broken, there is one group record.
-use Rattle.std.proofs.Common.{◌≡◌, ℕ, ◌+◌, ◌==◌, ◌&&◌, Bool, true, false, cond, Option, Some, None, List, [], ◌∷◌, ◌++◌, map, length, drop, refl, arith, sym, ◌∙◌, ap, zero-add, add-zero}
+use Rattle.std.proofs.Common.{◌≡◌, ℕ, ◌+◌, Bool, true, false, cond, Option, Some, None, List, [], ◌∷◌, ◌++◌, map, length, drop, refl, arith, ◌∙◌, ap, zero-add, add-zero}
 use Rattle.std.specs.List.{count_by}
 use Rattle.std.proofs.lemmas.List.Sums.{sum_by-append}
 use Rattle.vx_rules.specs.declared.group.Group.{Group}
@@ -15,7 +15,6 @@ use Rattle.std.proofs.lemmas.Bool.Decides.{nat_tests}
 use Rattle.vx_rules.specs.declared.rule.Rule.{Rule}
 use Rattle.vx_rules.specs.declared.rule.Rule.TheVariants as rule
 use Rattle.vx_rules.specs.declared.fault.Limit.TheVariants as limit
-use Rattle.vx_rules.specs.declared.fault.ObjectFault.{ObjectFault}
 use Rattle.vx_rules.specs.declared.fault.ObjectFault.TheVariants.{Limit}
 use Rattle.vx_rules.specs.Objects.{is_group}
 use Rattle.vx_rules.specs.Faults.{first_some, unless, first_of}

@@ -4,10 +4,8 @@ use Rattle.vx_base.specs.Named.{Word}
 use Rattle.vx_names.specs.declared.attr.Attr.{Attr}
 use Rattle.vx_record.specs.Table.{column, columns}
 use Rattle.vx_record.specs.declared.column.Column.{Column}
-use Rattle.vx_record.specs.declared.column.Form.{Form}
 use Rattle.vx_record.specs.declared.column.Form.TheVariants as forms
 use Rattle.vx_record.specs.declared.kind.Kind.{Kind}
-use Rattle.vx_record.specs.declared.label.Label.{Label}
 use Rattle.vx_record.specs.declared.label.Label.TheVariants as labels
 use Rattle.vx_objects.specs.Printed.{attr}
 

@@ -1,5 +1,5 @@
 -- The record that an object is printed as, and the object that a record is read as.
-use Rattle.std.specs.Prelude.{◌≡◌, ◌⊎◌, ◌==◌, ◌&&◌, ℕ, min, decimal, Bool, Option, Some, None, IsTrue, List, [], ◌∷◌, map}
+use Rattle.std.specs.Prelude.{◌≡◌, ◌⊎◌, ◌==◌, ℕ, min, decimal, Bool, Option, Some, None, List, [], ◌∷◌, map}
 use Rattle.vx_base.specs.Named.{Word}
 use Rattle.vx_names.specs.declared.attr.Attr.{Attr}
 use Rattle.vx_record.specs.Content.{Content}

@@ -134,10 +134,7 @@ fn of_dco(alloc: Global, dco: &Dco) -> Result<Record, OutOfMemory>
 {
     let attrs = listed(
         alloc,
-        &[
-            value(Label::Vol, Some(dco.vol)),
-            word(Label::Maps, b"32"),
-        ],
+        &[value(Label::Vol, Some(dco.vol)), word(Label::Maps, b"32")],
     )?;
     Ok(Record {
         kind: Kind::Dco,

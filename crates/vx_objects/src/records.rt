@@ -3,10 +3,10 @@ ghost use Rattle.std.specs.Prelude.{◌≡◌, map, IfOk, IfErr, IsTrue};
 ghost use Rattle.std.specs.List.{list_all};
 ghost use Rattle.vx_objects.specs.Printed.{AreReadAs, IsReadOf, IsUnreadOf, has_record, record_of, records_in};
 
+use crate::parts::join;
 use crate::printed::record_of;
 use crate::said::object_of;
 use crate::{Config, Object, ObjectFault};
-use crate::parts::join;
 use std::alloc::Global;
 use vx_base::OutOfMemory;
 use vx_record::{Record, Records};

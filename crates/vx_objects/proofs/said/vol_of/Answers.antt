@@ -1,6 +1,5 @@
 use Rattle.std.proofs.Common.{List, sym, ap, refl}
 use Rattle.vx_names.specs.declared.attr.Attr.{Attr}
-use Rattle.vx_record.specs.Content.{Content}
 use Rattle.vx_record.specs.Table.{columns}
 use Rattle.vx_record.specs.declared.kind.Kind.TheVariants as kinds
 use Rattle.vx_rules.specs.declared.object.Object.{Object}

@@ -1,1 +1,4 @@
 pub mod OneGroup
+pub mod Fields
+pub mod Numbers
+pub mod Reading

@@ -1,5 +1,5 @@
 -- Where no rule is broken, there is one group record.
-use Rattle.std.proofs.Common.{◌≡◌, ℕ, ◌+◌, ◌==◌, ◌&&◌, Bool, true, false, cond, Option, Some, None, List, [], ◌∷◌, ◌++◌, map, length, drop, refl, arith, sym, ◌∙◌, ap, zero-add, add-zero}
+use Rattle.std.proofs.Common.{◌≡◌, ℕ, ◌+◌, Bool, true, false, cond, Option, Some, None, List, [], ◌∷◌, ◌++◌, map, length, drop, refl, arith, ◌∙◌, ap, zero-add, add-zero}
 use Rattle.std.specs.List.{count_by}
 use Rattle.std.proofs.lemmas.List.Sums.{sum_by-append}
 use Rattle.vx_rules.specs.declared.group.Group.{Group}
@@ -15,7 +15,6 @@ use Rattle.std.proofs.lemmas.Bool.Decides.{nat_tests}
 use Rattle.vx_rules.specs.declared.rule.Rule.{Rule}
 use Rattle.vx_rules.specs.declared.rule.Rule.TheVariants as rule
 use Rattle.vx_rules.specs.declared.fault.Limit.TheVariants as limit
-use Rattle.vx_rules.specs.declared.fault.ObjectFault.{ObjectFault}
 use Rattle.vx_rules.specs.declared.fault.ObjectFault.TheVariants.{Limit}
 use Rattle.vx_rules.specs.Objects.{is_group}
 use Rattle.vx_rules.specs.Faults.{first_some, unless, first_of}
@@ -54,26 +53,30 @@ pub group_count : (gs : List Group) (disks : List Disk) (subdisks : List Subdisk
 group_count gs disks subdisks plexes volumes dcos snaps =
     count_both (map GroupRecord gs) (records_below disks subdisks plexes volumes dcos snaps) ∙ rw (all_groups gs, none_below disks subdisks plexes volumes dcos snaps) (add-zero (length gs))
 
-first_none : {A : Type 0} (a b : Option A) → first_some a b ≡ None → a ≡ None
+pub first_none : {A : Type 0} (a b : Option A) → first_some a b ≡ None → a ≡ None
 first_none None b e = refl
 first_none (Some x) b e = cc
 
-unless_none : {A : Type 0} (holds : Bool) (x : A) → unless holds x ≡ None → holds ≡ true
+pub unless_none : {A : Type 0} (holds : Bool) (x : A) → unless holds x ≡ None → holds ≡ true
 unless_none true x e = refl
 unless_none false x e = cc
+
+pub second_none : {A : Type 0} (a b : Option A) → first_some a b ≡ None → b ≡ None
+second_none None b e = e
+second_none (Some x) b e = cc
 
 head_none : (r : Rule) (rs : List Rule) (all : List Object) → first_broken_of (r ∷ rs) all ≡ None → fault_of r all ≡ None
 head_none r rs all e = first_none (fault_of r all) (first_broken_of rs all) e
 
-group_rule : (all : List Object) → fault_of rule.OneGroup all ≡ None → fault_over rule.OneGroup all ≡ None
+pub group_rule : (all : List Object) → fault_of rule.OneGroup all ≡ None → fault_over rule.OneGroup all ≡ None
 unfolding fault_of
 group_rule all e = first_none (fault_over rule.OneGroup all) (first_of (fault_in rule.OneGroup all) all) e
 
-group_holds : (all : List Object) → fault_over rule.OneGroup all ≡ None → has_one_group all ≡ true
+pub group_holds : (all : List Object) → fault_over rule.OneGroup all ≡ None → has_one_group all ≡ true
 unfolding fault_over
 group_holds all e = unless_none (has_one_group all) (Limit limit.Group) e
 
-valid_head : (all : List Object) → first_broken all ≡ None → fault_of rule.OneGroup all ≡ None
+pub valid_head : (all : List Object) → first_broken all ≡ None → fault_of rule.OneGroup all ≡ None
 unfolding first_broken
 valid_head all e = head_none rule.OneGroup (drop 1 rules) all e
 

@@ -1,6 +1,5 @@
 -- What becomes of a configuration by edits.
 use Rattle.std.specs.Prelude.{◌≡◌, ◌⊎◌, Some, List}
-use Rattle.vx_rules.specs.declared.object.Object.{Object}
 use Rattle.vx_rules.specs.declared.fault.ObjectFault.{ObjectFault}
 use Rattle.vx_rules.specs.declared.fault.ObjectFault.TheVariants.{OutOfMemory}
 use Rattle.vx_objects.specs.declared.edit.Edit.{Edit}

@@ -1,10 +1,8 @@
 -- What an edit does to the records.
-use Rattle.std.specs.Prelude.{ℕ, Bool, true, false, Option, Some, None, List, [], ◌∷◌, ◌++◌, ◌&&◌, ◌||◌, not, if◌then◌else◌}
+use Rattle.std.specs.Prelude.{ℕ, Bool, true, Option, Some, None, List, [], ◌∷◌, ◌++◌, ◌&&◌, not, if◌then◌else◌}
 use Rattle.std.specs.List.{list_any, filter_map}
 use Rattle.std.specs.Str.{bytes_eq}
 use Rattle.vx_base.specs.Named.{Word}
-use Rattle.vx_rules.specs.declared.plex.Plex.{Plex}
-use Rattle.vx_rules.specs.declared.vol.Vol.{Vol}
 use Rattle.vx_rules.specs.declared.vol.PolicyKind.{PolicyKind}
 use Rattle.vx_rules.specs.declared.vol.PolicyKind.TheVariants as kind
 use Rattle.vx_rules.specs.declared.vol.PolicyName.{PolicyName}
@@ -12,10 +10,10 @@ use Rattle.vx_rules.specs.declared.vol.PolicyName.TheVariants as policy
 use Rattle.vx_rules.specs.declared.state.PlexState.{PlexState}
 use Rattle.vx_rules.specs.declared.state.VolState.{VolState}
 use Rattle.vx_rules.specs.declared.object.Object.{Object}
-use Rattle.vx_rules.specs.declared.object.Object.TheVariants.{GroupRecord, DiskRecord, SubdiskRecord, PlexRecord, VolRecord, DcoRecord, SnapRecord}
+use Rattle.vx_rules.specs.declared.object.Object.TheVariants.{DiskRecord, SubdiskRecord, PlexRecord, VolRecord, DcoRecord, SnapRecord}
 use Rattle.vx_rules.specs.declared.fault.ObjectFault.{ObjectFault}
 use Rattle.vx_rules.specs.declared.fault.ObjectFault.TheVariants.{NoObject}
-use Rattle.vx_rules.specs.Objects.{is_plex, is_vol, is_dco, is_snap, refers}
+use Rattle.vx_rules.specs.Objects.{is_plex, is_dco, is_snap, refers}
 use Rattle.vx_rules.specs.Faults.{first_some, unless}
 use Rattle.vx_rules.specs.References.{has_plex, has_vol}
 use Rattle.vx_rules.specs.Rules.{first_broken}

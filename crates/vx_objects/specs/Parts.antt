@@ -1,5 +1,5 @@
 -- The records of a configuration, sorted into their kinds.
-use Rattle.std.specs.Prelude.{ℕ, Option, Some, None, List, [], ◌∷◌, ◌++◌, map}
+use Rattle.std.specs.Prelude.{ℕ, Option, Some, None, List, ◌∷◌, ◌++◌, map}
 use Rattle.std.specs.List.{filter_map}
 use Rattle.vx_base.specs.Named.{Word}
 use Rattle.vx_rules.specs.declared.group.Group.{Group}

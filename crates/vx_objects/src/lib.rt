@@ -6,6 +6,9 @@ mod config;
 mod edit;
 mod lists;
 mod parts;
+mod printed;
+mod records;
+mod said;
 
 pub use config::Config;
 pub use edit::Edit;

@@ -1,3 +1,6 @@
+ghost use Rattle.std.specs.Prelude.{◌≡◌, codes};
+ghost use Rattle.vx_rules.specs.Words.{plex_kind_word, layout_word};
+
 use crate::PlexState;
 use vx_names::Name;
 
@@ -36,7 +39,9 @@ pub struct Plex {
 
 impl PlexKind {
     /// The word of a record.
-    pub fn word(self) -> &'static [u8] {
+    pub fn word(self) -> &'static [u8]
+        ensures { result.now ≡ plex_kind_word self }
+    {
         match self {
             PlexKind::Data => b"data",
             PlexKind::Log => b"log",
@@ -46,7 +51,9 @@ impl PlexKind {
 
 impl PlexLayout {
     /// The word of a record.
-    pub fn word(self) -> &'static [u8] {
+    pub fn word(self) -> &'static [u8]
+        ensures { result.now ≡ layout_word self }
+    {
         match self {
             PlexLayout::Concat => b"concat",
             PlexLayout::Stripe => b"stripe",

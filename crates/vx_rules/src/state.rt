@@ -1,3 +1,6 @@
+ghost use Rattle.std.specs.Prelude.{◌≡◌, codes};
+ghost use Rattle.vx_rules.specs.Words.{plex_state_word, vol_state_word};
+
 /// The kept state of a volume.
 #[derive(Clone, Copy, Debug, PartialEq, Eq)]
 pub enum VolState {
@@ -19,4 +22,37 @@ pub enum PlexState {
     SnapAtt,
     SnapDone,
     DcoSnp,
+}
+
+impl VolState {
+    /// The word of a record.
+    pub fn word(self) -> &'static [u8]
+        ensures { result.now ≡ vol_state_word self }
+    {
+        match self {
+            VolState::Empty => b"EMPTY",
+            VolState::Clean => b"CLEAN",
+            VolState::Active => b"ACTIVE",
+            VolState::NeedSync => b"NEEDSYNC",
+            VolState::Sync => b"SYNC",
+        }
+    }
+}
+
+impl PlexState {
+    /// The word of a record.
+    pub fn word(self) -> &'static [u8]
+        ensures { result.now ≡ plex_state_word self }
+    {
+        match self {
+            PlexState::Empty => b"EMPTY",
+            PlexState::Clean => b"CLEAN",
+            PlexState::Active => b"ACTIVE",
+            PlexState::IoFail => b"IOFAIL",
+            PlexState::Stale => b"STALE",
+            PlexState::SnapAtt => b"SNAPATT",
+            PlexState::SnapDone => b"SNAPDONE",
+            PlexState::DcoSnp => b"DCOSNP",
+        }
+    }
 }

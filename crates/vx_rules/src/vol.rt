@@ -1,3 +1,6 @@
+ghost use Rattle.std.specs.Prelude.{◌≡◌, codes};
+ghost use Rattle.vx_rules.specs.Words.{policy_word};
+
 use crate::VolState;
 use vx_names::Name;
 
@@ -31,4 +34,17 @@ pub struct Vol {
     pub state: VolState,
     /// Its DCO, where it is prepared.
     pub dco: Option<Name>,
+}
+
+impl PolicyKind {
+    /// The word of a record.
+    pub fn word(self) -> &'static [u8]
+        ensures { result.now ≡ policy_word self }
+    {
+        match self {
+            PolicyKind::Round => b"round",
+            PolicyKind::Prefer => b"prefer",
+            PolicyKind::Select => b"select",
+        }
+    }
 }

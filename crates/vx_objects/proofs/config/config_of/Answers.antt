@@ -1,4 +1,4 @@
-use Rattle.std.proofs.Common.{◌≡◌, ℕ, Option, None, IsTrue, List, refl}
+use Rattle.std.proofs.Common.{◌≡◌, None, IsTrue, List, refl}
 use Rattle.vx_rules.specs.declared.object.Object.{Object}
 use Rattle.vx_rules.specs.Rules.{first_broken, is_valid}
 use Rattle.vx_objects.proofs.OneGroup.{one_group}

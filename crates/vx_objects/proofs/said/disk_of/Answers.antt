@@ -1,0 +1,14 @@
+use Rattle.std.proofs.Common.{List, sym, ap, refl}
+use Rattle.vx_names.specs.declared.attr.Attr.{Attr}
+use Rattle.vx_record.specs.Table.{columns}
+use Rattle.vx_record.specs.declared.kind.Kind.TheVariants as kinds
+use Rattle.vx_rules.specs.declared.object.Object.{Object}
+use Rattle.vx_rules.specs.declared.object.Object.TheVariants.{DiskRecord}
+use Rattle.vx_objects.proofs.Fields.{fit_end, link}
+use Rattle.vx_objects.proofs.said.disk_of.Goals as goal
+
+pub returns : goal.returns
+returns c =
+    let said : Object = DiskRecord (record { name = c.args.name; device = c.referred-device.result; slot = c.number-slot.result; publen = c.number-publen.result }) in
+    let same = link c.referred-device.ensures (link c.number-slot.ensures (link c.number-publen.ensures (fit_end (columns kinds.Dm) c.args.attrs.now c.requires))) in
+    (said, ap (λ (attrs : List Attr). record { kind = kinds.Dm; name = c.args.name; attrs = attrs }) (sym same), rw c.as_byte.ensures refl)

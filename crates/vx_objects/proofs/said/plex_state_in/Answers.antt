@@ -1,0 +1,15 @@
+use Rattle.std.specs.Prelude.{codes}
+use Rattle.std.proofs.Common.{◌∷◌, [], ◌∙◌, sym, refl}
+use Rattle.vx_objects.proofs.Fields.{last_word}
+use Rattle.vx_objects.proofs.said.plex_state_in.Goals as goal
+
+pub returns-else-is-7 : goal.returns-else-is-7
+returns-else-is-7 c =
+    let f0 = sym c.is.ensures ∙ c.if-is.false in
+    let f1 = sym c.is-else-is.ensures ∙ c.if-is-2.false in
+    let f2 = sym c.is-else-is-2.ensures ∙ c.if-is-3.false in
+    let f3 = sym c.is-else-is-3.ensures ∙ c.if-is-4.false in
+    let f4 = sym c.is-else-is-4.ensures ∙ c.if-is-5.false in
+    let f5 = sym c.is-else-is-5.ensures ∙ c.if-is-6.false in
+    let f6 = sym c.is-else-is-6.ensures ∙ c.if-is-7.false in
+    last_word (codes "EMPTY" ∷ codes "CLEAN" ∷ codes "ACTIVE" ∷ codes "IOFAIL" ∷ codes "STALE" ∷ codes "SNAPATT" ∷ codes "SNAPDONE" ∷ []) (codes "DCOSNP") c.args.word.now (rw (f0, f1, f2, f3, f4, f5, f6) refl) c.requires

@@ -3,7 +3,8 @@ ghost use Rattle.vx_base.specs.Counts.{later_count};
 
 use std::alloc::Global;
 use std::fs::{File, OpenFile, OpenOptions};
-use std::io::{self, Read, Seek, SeekFrom, Write};
+use std::io;
+use std::os::unix::fs::FileExt;
 use std::rt::Files;
 use vx_base::{BLOCK, OutOfMemory};
 use vx_piece::{Piece, PieceFault};
@@ -43,7 +44,10 @@ impl<R> FilePiece<R> {
     }
 }
 
-impl<R: Files + AllocGlobal + Clone + Drop + Send> Piece for FilePiece<R> {
+impl<R: Files + AllocGlobal + Clone + Drop + Send> Piece for FilePiece<R>
+where
+    R::File: FileExt,
+{
     ghost use Rattle.vxrun.specs.FilePiece.{file_seen};
 
     ghost seen = { file_seen };
@@ -129,16 +133,19 @@ fn failed(faults: &mut u64) -> PieceFault
 }
 
 /// Reads the file's bytes from there on.
-fn read_at<R: Files>(rt: &R, path: &str, first: u64, into: &mut [u8]) -> io::Result<()> {
-    let mut file = File::open(rt, path)?;
-    file.seek(SeekFrom::Start(first))?;
-    file.read_exact(into)
+fn read_at<R: Files>(rt: &R, path: &str, first: u64, into: &mut [u8]) -> io::Result<()>
+where
+    R::File: FileExt,
+{
+    File::open(rt, path)?.read_exact_at(into, first)
 }
 
 /// Writes the file's bytes from there on, and answers once they are on the medium.
-fn write_at<R: Files>(rt: &R, path: &str, first: u64, from: &[u8]) -> io::Result<()> {
-    let mut file = OpenOptions::new().write(true).open(rt, path)?;
-    file.seek(SeekFrom::Start(first))?;
-    file.write_all(from)?;
+fn write_at<R: Files>(rt: &R, path: &str, first: u64, from: &[u8]) -> io::Result<()>
+where
+    R::File: FileExt,
+{
+    let file = OpenOptions::new().write(true).open(rt, path)?;
+    file.write_all_at(from, first)?;
     file.sync_data()
 }

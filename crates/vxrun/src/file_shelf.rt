@@ -6,6 +6,7 @@ use crate::file_piece::FilePiece;
 use crate::known::{Known, enlist, find};
 use std::alloc::Global;
 use std::io::ErrorKind;
+use std::os::unix::fs::FileExt;
 use std::rt::Files;
 use std::{fs, str};
 use vx_base::{BLOCK, OutOfMemory};
@@ -41,7 +42,10 @@ impl<R: AllocGlobal + Drop> FileShelf<R> {
     }
 }
 
-impl<R: Files + AllocGlobal + Clone + Drop + Send> Shelf for FileShelf<R> {
+impl<R: Files + AllocGlobal + Clone + Drop + Send> Shelf for FileShelf<R>
+where
+    R::File: FileExt,
+{
     ghost use Rattle.vxrun.specs.FileShelf.{held_by_files, shelf_faults};
 
     type P = FilePiece<R>;

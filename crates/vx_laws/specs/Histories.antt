@@ -1,5 +1,5 @@
 -- The history of each volume of a transcript.
-use Rattle.std.specs.Prelude.{◌≡◌, ℕ, ◌-◌, ◌<◌, ◌==◌, MatchBool, List, [], ◌∷◌, Option, Some, None}
+use Rattle.std.specs.Prelude.{◌≡◌, ℕ, ◌-◌, ◌<◌, ◌==◌, MatchBool, List, [], ◌∷◌, ◌++◌, Some, None}
 use Rattle.vx_base.specs.Blocks.{Contents}
 use Rattle.vx_base.specs.Named.{Word}
 use Rattle.vx_life.specs.Candidates.{known}
@@ -15,20 +15,31 @@ abbrev pub CountsDown : ℕ → ℕ → List Entry → Type 0
 CountsDown region n [] = n ≡ 0
 CountsDown region n (e ∷ es) = MatchBool (region == e.part.region) ((e.part.number ≡ n) × (0 < n) × CountsDown region (n - 1) es) (CountsDown region n es)
 
--- the life's entries are a legal history from some contents, its candidates are what they leave, and its numbers count
-pub record HasHistory (life : Life) : Type 0 where
-  pub first : Contents
+-- the life's entries are a legal history from these blocks, its candidates are what they leave, and its numbers count
+pub record HasHistory (first : Contents) (life : Life) : Type 0 where
   pub legal : IsHistory (known first) life.entries
   pub now : (k : ℕ) → life.candidates k ≡ candidates_of (known first) life.entries k
   pub numbers : (region : ℕ) → CountsDown region (life.last region) life.entries
 
--- each started volume has a history
-abbrev pub HaveHistories : World → Type 0
-HaveHistories w = (vol : Word) (v : Volume) → w.volumes vol ≡ Some v → HasHistory v.life
+-- before some command of the transcript a device of this name and size was there, and held these blocks
+pub record WasThere (place : ℕ) (old : World) (commands : List Command) (answers : List Answer) (name : Word) (sectors : ℕ) (blocks : Contents) : Type 0 where
+  pub before : List Command
+  pub others : List Command
+  pub commands_are : commands ≡ before ++ others
+  pub told : List Answer
+  pub later : List Answer
+  pub answers_are : answers ≡ told ++ later
+  pub world : World
+  pub transcript : IsTranscript place old before told world
+  pub here : world.devices name ≡ Some (record { sectors = sectors; contents = blocks })
+
+-- each started volume has a history from blocks that its device held
+abbrev pub HaveHistories : (Word → ℕ → Contents → Type 0) → World → Type 0
+HaveHistories Held w = (vol : Word) (v : Volume) → w.volumes vol ≡ Some v → (first : Contents) × Held v.device v.length first × HasHistory first v.life
 
 -- no volume is started
 abbrev pub NoneStarted : World → Type 0
 NoneStarted w = (vol : Word) → w.volumes vol ≡ None
 
 abbrev pub EachVolumeHasAHistory : Type 0
-EachVolumeHasAHistory = (place : ℕ) (old new : World) (commands : List Command) (answers : List Answer) → NoneStarted old → IsTranscript place old commands answers new → HaveHistories new
+EachVolumeHasAHistory = (place : ℕ) (old new : World) (commands : List Command) (answers : List Answer) → NoneStarted old → IsTranscript place old commands answers new → HaveHistories (WasThere place old commands answers) new

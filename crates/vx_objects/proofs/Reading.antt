@@ -3,8 +3,8 @@ use Rattle.std.specs.Prelude.{IfOk}
 use Rattle.std.proofs.Common.{◌≡◌, ℕ, ◌+◌, ◌<◌, None, Result, Ok, Err, List, [], ◌∷◌, ◌++◌, map, take, length, get_or, refl, sym, ◌∙◌, ap, subst}
 use Rattle.std.proofs.lemmas.List.{take_more}
 use Rattle.vx_record.specs.Content.{Content}
-use Rattle.vx_rules.specs.declared.object.Object.{Object}
-use Rattle.vx_rules.specs.declared.fault.ObjectFault.{ObjectFault}
+use Rattle.vx_parts.specs.declared.object.Object.{Object}
+use Rattle.vx_parts.specs.declared.fault.ObjectFault.{ObjectFault}
 use Rattle.vx_rules.specs.Rules.{first_broken}
 use Rattle.vx_objects.specs.declared.config.Config.{Config}
 use Rattle.vx_objects.specs.Config.{objects_of, IsMadeOf}

@@ -2,7 +2,7 @@
 ghost use Rattle.std.specs.Prelude.{◌≡◌, ◌++◌, ◌&&◌, IfOk, OnOk, ℕ};
 ghost use Rattle.std.specs.List.{filter_map, list_any};
 ghost use Rattle.std.specs.Str.{bytes_eq};
-ghost use Rattle.vx_rules.specs.Objects.{is_plex, is_vol, is_dco, is_snap, refers};
+ghost use Rattle.vx_parts.specs.Objects.{is_plex, is_vol, is_dco, is_snap, refers};
 ghost use Rattle.vx_rules.specs.Faults.{unless};
 ghost use Rattle.vx_rules.specs.References.{has_plex, has_vol};
 ghost use Rattle.vx_objects.specs.Edits.{set_plex, policy_kind, policy_plex, set_vol, set_region, set_dco, without_dco, stays_without_plex, names_plex_of, stays_without_vol, stays_without_snap, kept, change, added, edited, has_dco, has_snap, target_fault};
@@ -13,6 +13,7 @@ use crate::{Object, ObjectFault, Plex, PlexState, PolicyKind, PolicyName, Vol, V
 use std::alloc::{AllocError, Global};
 use vx_base::OutOfMemory;
 use vx_names::Name;
+use vx_parts::{refers, same};
 
 /// The records after an edit.
 pub(crate) fn edited(alloc: Global, edit: &Edit, all: &[Object]) -> Result<Vec<Object>, OutOfMemory>
@@ -313,20 +314,5 @@ fn is_snap_named(object: &Object, name: &Name) -> bool
     match object {
         Object::SnapRecord(snap) => same(&snap.name, name),
         _ => false,
-    }
-}
-
-fn same(a: &Name, b: &Name) -> bool
-    ensures { result ≡ bytes_eq a.now b.now }
-{
-    a.as_bytes() == b.as_bytes()
-}
-
-fn refers(attribute: &Option<Name>, name: &Name) -> bool
-    ensures { result ≡ refers attribute.now name.now }
-{
-    match attribute {
-        None => false,
-        Some(referred) => same(referred, name),
     }
 }

@@ -13,7 +13,8 @@ mod said;
 pub use config::Config;
 pub use edit::Edit;
 pub use lists::Listed;
-pub use vx_rules::{
+pub use vx_parts::{
     Dco, Disk, Group, Limit, Object, ObjectFault, Plex, PlexKind, PlexLayout, PlexState,
-    PolicyKind, PolicyName, Rule, Snap, Subdisk, Vol, VolState, first_broken,
+    PolicyKind, PolicyName, Snap, Subdisk, Vol, VolState,
 };
+pub use vx_rules::{Rule, first_broken};

@@ -1,5 +1,5 @@
 -- A test of each number below another.
-use Rattle.std.proofs.Common.{◌≡◌, ℕ, ◌+◌, ◌<◌, ◌≤◌, ◌⊎◌, ◌&&◌, Bool, true, false, zero, suc, refl, arith, sym, ◌∙◌, ap, subst, inl, inr, add-one}
+use Rattle.std.proofs.Common.{◌≡◌, ℕ, ◌+◌, ◌<◌, Bool, true, false, zero, suc, arith, subst, inl, inr, add-one}
 use Rattle.std.proofs.lemmas.Bool.{and_left, and_right, and_from, cases_lt}
 use Rattle.vx_rules.specs.Whole.{all_below}
 

@@ -1,4 +1,3 @@
-pub mod Objects
 pub mod Faults
 pub mod References
 pub mod Limits
@@ -7,4 +6,3 @@ pub mod Whole
 pub mod Maps
 pub mod Relations
 pub mod Rules
-pub mod Words

@@ -1,17 +1,11 @@
 -- The limits of a configuration.
-use Rattle.std.specs.Prelude.{ℕ, ◌*◌, Bool, true, Option, Some, None, List, length, ◌==◌, ◌&&◌, ◌^◌, nat_le, nat_lt}
-use Rattle.std.specs.List.{list_any, list_all, count_by}
+use Rattle.std.specs.Prelude.{ℕ, Bool, true, Option, Some, None, List, length, ◌==◌, ◌&&◌, ◌^◌, nat_le, nat_lt}
+use Rattle.std.specs.List.{list_any, count_by}
 use Rattle.vx_block.specs.Geometry.{is_region_size, is_geometry}
 use Rattle.vx_base.specs.Named.{Word}
-use Rattle.vx_rules.specs.declared.disk.Disk.{Disk}
-use Rattle.vx_rules.specs.declared.vol.Vol.{Vol}
-use Rattle.vx_rules.specs.declared.object.Object.{Object}
-use Rattle.vx_rules.specs.declared.object.Object.TheVariants.{GroupRecord, DiskRecord, SubdiskRecord, PlexRecord, VolRecord, DcoRecord, SnapRecord}
-use Rattle.vx_rules.specs.declared.fault.Limit.{Limit}
-use Rattle.vx_rules.specs.declared.fault.ObjectFault.{ObjectFault}
-use Rattle.vx_rules.specs.declared.fault.ObjectFault.TheVariants.{Limit as Passed}
-use Rattle.vx_rules.specs.Objects.{is_group, is_disk, is_plex, is_vol, refers, is_data_plex_of}
-use Rattle.vx_rules.specs.Faults.{unless}
+use Rattle.vx_parts.specs.declared.object.Object.{Object}
+use Rattle.vx_parts.specs.declared.object.Object.TheVariants.{GroupRecord, DiskRecord, SubdiskRecord, PlexRecord, VolRecord, DcoRecord, SnapRecord}
+use Rattle.vx_parts.specs.Objects.{is_group, is_disk, is_plex, is_vol, refers, is_data_plex_of}
 
 -- there is one group record, and it has version 1
 abbrev pub has_one_group : List Object → Bool

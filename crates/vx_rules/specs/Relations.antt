@@ -1,16 +1,15 @@
 -- The relations of snapshots to their originals.
-use Rattle.std.specs.Prelude.{ℕ, Bool, Option, Some, None, List, ◌==◌, ◌&&◌, not, is_some}
+use Rattle.std.specs.Prelude.{ℕ, Bool, Option, None, List, ◌==◌, ◌&&◌, not, is_some}
 use Rattle.std.specs.List.{list_any, count_by}
 use Rattle.std.specs.Str.{bytes_eq}
 use Rattle.vx_base.specs.Named.{Word}
-use Rattle.vx_rules.specs.declared.vol.Vol.{Vol}
-use Rattle.vx_rules.specs.declared.snap.Snap.{Snap}
-use Rattle.vx_rules.specs.declared.object.Object.{Object}
-use Rattle.vx_rules.specs.declared.object.Object.TheVariants.{GroupRecord, DiskRecord, SubdiskRecord, PlexRecord, VolRecord, DcoRecord, SnapRecord}
-use Rattle.vx_rules.specs.declared.fault.Limit.TheVariants.{Region}
-use Rattle.vx_rules.specs.declared.fault.ObjectFault.{ObjectFault}
-use Rattle.vx_rules.specs.declared.fault.ObjectFault.TheVariants.{InUse, NoLog, Limit}
-use Rattle.vx_rules.specs.Objects.{is_vol, is_snap}
+use Rattle.vx_parts.specs.declared.snap.Snap.{Snap}
+use Rattle.vx_parts.specs.declared.object.Object.{Object}
+use Rattle.vx_parts.specs.declared.object.Object.TheVariants.{SnapRecord}
+use Rattle.vx_parts.specs.declared.fault.Limit.TheVariants.{Region}
+use Rattle.vx_parts.specs.declared.fault.ObjectFault.{ObjectFault}
+use Rattle.vx_parts.specs.declared.fault.ObjectFault.TheVariants.{InUse, NoLog, Limit}
+use Rattle.vx_parts.specs.Objects.{is_vol, is_snap}
 use Rattle.vx_rules.specs.Faults.{first_some, unless}
 
 -- the snapshot has one relation, and its original is no snapshot

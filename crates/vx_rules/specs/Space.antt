@@ -1,16 +1,14 @@
 -- Where subdisks lie.
-use Rattle.std.specs.Prelude.{ℕ, ◌+◌, Bool, true, false, Option, Some, None, List, ◌&&◌, nat_le, nat_lt, if◌then◌else◌}
+use Rattle.std.specs.Prelude.{◌+◌, Bool, Option, Some, None, List, ◌&&◌, nat_le, nat_lt, if◌then◌else◌}
 use Rattle.std.specs.List.{list_any, fold}
 use Rattle.std.specs.Str.{bytes_eq}
-use Rattle.std.specs.Ordering.{is_lt, nat_cmp}
-use Rattle.std.specs.Cmp.Lexicographic.{slice_cmp}
 use Rattle.vx_base.specs.Named.{Word}
-use Rattle.vx_rules.specs.declared.subdisk.Subdisk.{Subdisk}
-use Rattle.vx_rules.specs.declared.object.Object.{Object}
-use Rattle.vx_rules.specs.declared.object.Object.TheVariants.{GroupRecord, DiskRecord, SubdiskRecord, PlexRecord, VolRecord, DcoRecord, SnapRecord}
-use Rattle.vx_rules.specs.declared.fault.ObjectFault.{ObjectFault}
-use Rattle.vx_rules.specs.declared.fault.ObjectFault.TheVariants.{Outside, Overlap}
-use Rattle.vx_rules.specs.Objects.{is_disk, is_subdisk}
+use Rattle.vx_parts.specs.declared.subdisk.Subdisk.{Subdisk}
+use Rattle.vx_parts.specs.declared.object.Object.{Object}
+use Rattle.vx_parts.specs.declared.object.Object.TheVariants.{SubdiskRecord}
+use Rattle.vx_parts.specs.declared.fault.ObjectFault.{ObjectFault}
+use Rattle.vx_parts.specs.declared.fault.ObjectFault.TheVariants.{Outside, Overlap}
+use Rattle.vx_parts.specs.Objects.{is_disk, is_subdisk, comes_before}
 use Rattle.vx_rules.specs.Faults.{unless}
 
 -- the subdisk has a sector, and lies in the public region of its disk
@@ -20,10 +18,6 @@ lies_inside all s = nat_lt 0 s.len && list_any (λ o. is_disk (λ d. bytes_eq d.
 abbrev pub outside_fault : List Object → Object → Option ObjectFault
 outside_fault all (SubdiskRecord s) = unless (lies_inside all s) (Outside s.name)
 outside_fault all _ = None
-
--- the first word comes before the second, byte by byte
-abbrev pub comes_before : Word → Word → Bool
-comes_before a b = is_lt (slice_cmp nat_cmp a b)
 
 -- the two have a sector in common
 abbrev pub shares_sector : Subdisk → Subdisk → Bool

@@ -1,22 +1,22 @@
 -- A plex is whole: its columns have no holes, are of one length, and hold what the plex is for.
-use Rattle.std.specs.Prelude.{ℕ, ◌+◌, ◌-◌, ◌*◌, ◌/◌, ◌%◌, max, Bool, true, false, Option, Some, None, List, ◌==◌, ◌&&◌, ◌||◌, nat_le, nat_lt, zero, suc, if◌then◌else◌}
+use Rattle.std.specs.Prelude.{ℕ, ◌+◌, ◌*◌, ◌/◌, ◌%◌, max, Bool, true, false, Option, Some, None, List, ◌==◌, ◌&&◌, ◌||◌, nat_le, nat_lt, zero, suc, if◌then◌else◌}
 use Rattle.std.specs.List.{list_any, list_all, count_by, fold}
 use Rattle.std.specs.Str.{bytes_eq}
 use Rattle.vx_base.specs.Named.{Word}
 use Rattle.vx_block.specs.Geometry.{is_geometry}
 use Rattle.vx_block.specs.Regions.{region_count}
-use Rattle.vx_rules.specs.declared.subdisk.Subdisk.{Subdisk}
-use Rattle.vx_rules.specs.declared.plex.Plex.{Plex}
-use Rattle.vx_rules.specs.declared.plex.PlexKind.{PlexKind}
-use Rattle.vx_rules.specs.declared.plex.PlexKind.TheVariants.{Data, Log}
-use Rattle.vx_rules.specs.declared.plex.PlexLayout.{PlexLayout}
-use Rattle.vx_rules.specs.declared.plex.PlexLayout.TheVariants.{Concat, Stripe}
-use Rattle.vx_rules.specs.declared.vol.Vol.{Vol}
-use Rattle.vx_rules.specs.declared.object.Object.{Object}
-use Rattle.vx_rules.specs.declared.object.Object.TheVariants.{GroupRecord, DiskRecord, SubdiskRecord, PlexRecord, VolRecord, DcoRecord, SnapRecord}
-use Rattle.vx_rules.specs.declared.fault.ObjectFault.{ObjectFault}
-use Rattle.vx_rules.specs.declared.fault.ObjectFault.TheVariants.{NotWhole}
-use Rattle.vx_rules.specs.Objects.{is_subdisk, is_vol, refers}
+use Rattle.vx_parts.specs.declared.subdisk.Subdisk.{Subdisk}
+use Rattle.vx_parts.specs.declared.plex.Plex.{Plex}
+use Rattle.vx_parts.specs.declared.plex.PlexKind.{PlexKind}
+use Rattle.vx_parts.specs.declared.plex.PlexKind.TheVariants.{Data, Log}
+use Rattle.vx_parts.specs.declared.plex.PlexLayout.{PlexLayout}
+use Rattle.vx_parts.specs.declared.plex.PlexLayout.TheVariants.{Concat, Stripe}
+use Rattle.vx_parts.specs.declared.vol.Vol.{Vol}
+use Rattle.vx_parts.specs.declared.object.Object.{Object}
+use Rattle.vx_parts.specs.declared.object.Object.TheVariants.{SubdiskRecord, PlexRecord}
+use Rattle.vx_parts.specs.declared.fault.ObjectFault.{ObjectFault}
+use Rattle.vx_parts.specs.declared.fault.ObjectFault.TheVariants.{NotWhole}
+use Rattle.vx_parts.specs.Objects.{is_subdisk, is_vol, refers}
 use Rattle.vx_rules.specs.Faults.{unless}
 
 -- the test holds for each number below

@@ -2,6 +2,7 @@ ghost use Rattle.std.specs.Prelude.{◌≡◌};
 ghost use Rattle.vx_rules.specs.Faults.{first_of, unless};
 ghost use Rattle.vx_rules.specs.Rules.{fault_in, fault_over, fault_of, rules, first_broken_of, first_broken};
 
+use crate::Rule;
 use crate::limits::{
     has_one_group, name_is_short, numbers_fit, plexes_are_good, region_is_good, regions_are_good,
     slot_is_own, volumes_are_few,
@@ -11,7 +12,7 @@ use crate::references::{reference_fault, repeated};
 use crate::relations::{relation_fault, relation_log_fault, shape_fault};
 use crate::space::{outside_fault, overlap_fault};
 use crate::whole::whole_fault;
-use crate::{Limit, Object, ObjectFault, Rule};
+use vx_parts::{Limit, Object, ObjectFault};
 
 const RULES: [Rule; 19] = [
     Rule::OneGroup,

@@ -1,11 +1,10 @@
 ghost use Rattle.std.specs.Prelude.{◌≡◌, ◌&&◌, ℕ, []};
 ghost use Rattle.std.specs.Str.{bytes_eq};
-ghost use Rattle.vx_rules.specs.Objects.{name_of, is_disk, is_plex, is_vol, is_dco, refers};
+ghost use Rattle.vx_parts.specs.Objects.{name_of, is_disk, is_plex, is_vol, is_dco, refers};
 ghost use Rattle.vx_rules.specs.References.{has_name, repeated_after, has_disk, has_plex, has_vol, has_dco_of, has_vol_with, missing, reference_fault};
 
-use crate::names::{refers, same};
-use crate::{Object, ObjectFault};
 use vx_names::Name;
+use vx_parts::{Object, ObjectFault, refers, same};
 
 /// The first record whose name an earlier one has.
 pub(crate) fn repeated(all: &[Object]) -> Option<ObjectFault>

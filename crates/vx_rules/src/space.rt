@@ -1,12 +1,11 @@
 ghost use Rattle.std.specs.Prelude.{◌≡◌, ◌&&◌, ◌+◌, ℕ, nat_lt, nat_le};
 ghost use Rattle.std.specs.List.{list_any};
 ghost use Rattle.std.specs.Str.{bytes_eq};
-ghost use Rattle.vx_rules.specs.Objects.{is_disk, is_subdisk};
-ghost use Rattle.vx_rules.specs.Space.{lies_inside, outside_fault, comes_before, shares_sector, overlaps_earlier, lesser, first_overlap_with, first_overlap, overlap_fault};
+ghost use Rattle.vx_parts.specs.Objects.{is_disk, is_subdisk, comes_before};
+ghost use Rattle.vx_rules.specs.Space.{lies_inside, outside_fault, shares_sector, overlaps_earlier, lesser, first_overlap_with, first_overlap, overlap_fault};
 
-use crate::names::{comes_before, same};
-use crate::{Object, ObjectFault, Subdisk};
 use vx_names::Name;
+use vx_parts::{Object, ObjectFault, Subdisk, comes_before, same};
 
 /// The subdisk has a sector, and lies in the public region of its disk.
 pub(crate) fn outside_fault(all: &[Object], object: &Object) -> Option<ObjectFault>

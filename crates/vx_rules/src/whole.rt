@@ -1,13 +1,12 @@
 ghost use Rattle.std.specs.Prelude.{◌≡◌, ◌&&◌, ◌||◌, ◌==◌, ◌+◌, ℕ, nat_lt, nat_le, ◌<◌};
 ghost use Rattle.std.specs.List.{list_any, list_all, count_by};
 ghost use Rattle.std.specs.Str.{bytes_eq};
-ghost use Rattle.vx_rules.specs.Objects.{is_subdisk, is_vol, refers};
+ghost use Rattle.vx_parts.specs.Objects.{is_subdisk, is_vol, refers};
 ghost use Rattle.vx_rules.specs.Whole.{all_below, is_in_column, column_begins, piece_follows, piece_is_good, all_pieces_good, end_with, column_length, columns_are_equal, layout_is_good, plex_length, map_bytes, log_length, holds, holds_volume, layout_fits_kind, is_whole, whole_fault};
 
-use crate::names::{refers, same};
-use crate::{Object, ObjectFault, Plex, PlexKind, PlexLayout, Subdisk, Vol};
 use vx_block::Geometry;
 use vx_names::Name;
+use vx_parts::{Object, ObjectFault, Plex, PlexKind, PlexLayout, Subdisk, Vol, refers, same};
 
 /// The plex has columns without holes and of one length, which hold what it is for.
 pub(crate) fn whole_fault(all: &[Object], object: &Object) -> Option<ObjectFault>

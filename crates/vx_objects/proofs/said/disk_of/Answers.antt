@@ -2,8 +2,8 @@ use Rattle.std.proofs.Common.{List, sym, ap, refl}
 use Rattle.vx_names.specs.declared.attr.Attr.{Attr}
 use Rattle.vx_record.specs.Table.{columns}
 use Rattle.vx_record.specs.declared.kind.Kind.TheVariants as kinds
-use Rattle.vx_rules.specs.declared.object.Object.{Object}
-use Rattle.vx_rules.specs.declared.object.Object.TheVariants.{DiskRecord}
+use Rattle.vx_parts.specs.declared.object.Object.{Object}
+use Rattle.vx_parts.specs.declared.object.Object.TheVariants.{DiskRecord}
 use Rattle.vx_objects.proofs.Fields.{fit_end, link}
 use Rattle.vx_objects.proofs.said.disk_of.Goals as goal
 

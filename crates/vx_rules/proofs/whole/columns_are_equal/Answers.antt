@@ -1,4 +1,4 @@
-use Rattle.std.proofs.Common.{rules, sym, ◌∙◌, arith}
+use Rattle.std.proofs.Common.{rules, sym, arith}
 use Rattle.vx_rules.proofs.Below.{all_below_fails}
 use Rattle.vx_rules.proofs.whole.columns_are_equal.Goals as goal
 

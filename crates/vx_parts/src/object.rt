@@ -1,5 +1,5 @@
 ghost use Rattle.std.specs.Prelude.{◌≡◌};
-ghost use Rattle.vx_rules.specs.Objects.{name_of};
+ghost use Rattle.vx_parts.specs.Objects.{name_of};
 
 use crate::{Dco, Disk, Group, Plex, Snap, Subdisk, Vol};
 use vx_names::Name;

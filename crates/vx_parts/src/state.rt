@@ -1,5 +1,5 @@
 ghost use Rattle.std.specs.Prelude.{◌≡◌, codes};
-ghost use Rattle.vx_rules.specs.Words.{plex_state_word, vol_state_word};
+ghost use Rattle.vx_parts.specs.Words.{plex_state_word, vol_state_word};
 
 /// The kept state of a volume.
 #[derive(Clone, Copy, Debug, PartialEq, Eq)]

@@ -1,5 +1,5 @@
 ghost use Rattle.std.specs.Prelude.{◌≡◌, codes};
-ghost use Rattle.vx_rules.specs.Words.{policy_word};
+ghost use Rattle.vx_parts.specs.Words.{policy_word};
 
 use crate::VolState;
 use vx_names::Name;

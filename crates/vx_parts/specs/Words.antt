@@ -1,15 +1,15 @@
 -- The words by which record text says what is not a name or a number.
 use Rattle.std.specs.Prelude.{ℕ, List, codes}
-use Rattle.vx_rules.specs.declared.plex.PlexKind.{PlexKind}
-use Rattle.vx_rules.specs.declared.plex.PlexKind.TheVariants as kind
-use Rattle.vx_rules.specs.declared.plex.PlexLayout.{PlexLayout}
-use Rattle.vx_rules.specs.declared.plex.PlexLayout.TheVariants as layout
-use Rattle.vx_rules.specs.declared.state.PlexState.{PlexState}
-use Rattle.vx_rules.specs.declared.state.PlexState.TheVariants as plex
-use Rattle.vx_rules.specs.declared.state.VolState.{VolState}
-use Rattle.vx_rules.specs.declared.state.VolState.TheVariants as vol
-use Rattle.vx_rules.specs.declared.vol.PolicyKind.{PolicyKind}
-use Rattle.vx_rules.specs.declared.vol.PolicyKind.TheVariants as policy
+use Rattle.vx_parts.specs.declared.plex.PlexKind.{PlexKind}
+use Rattle.vx_parts.specs.declared.plex.PlexKind.TheVariants as kind
+use Rattle.vx_parts.specs.declared.plex.PlexLayout.{PlexLayout}
+use Rattle.vx_parts.specs.declared.plex.PlexLayout.TheVariants as layout
+use Rattle.vx_parts.specs.declared.state.PlexState.{PlexState}
+use Rattle.vx_parts.specs.declared.state.PlexState.TheVariants as plex
+use Rattle.vx_parts.specs.declared.state.VolState.{VolState}
+use Rattle.vx_parts.specs.declared.state.VolState.TheVariants as vol
+use Rattle.vx_parts.specs.declared.vol.PolicyKind.{PolicyKind}
+use Rattle.vx_parts.specs.declared.vol.PolicyKind.TheVariants as policy
 
 abbrev pub plex_kind_word : PlexKind → List ℕ
 plex_kind_word kind.Data = codes "data"

@@ -1,5 +1,5 @@
 ghost use Rattle.std.specs.Prelude.{◌≡◌, codes};
-ghost use Rattle.vx_rules.specs.Words.{plex_kind_word, layout_word};
+ghost use Rattle.vx_parts.specs.Words.{plex_kind_word, layout_word};
 
 use crate::PlexState;
 use vx_names::Name;

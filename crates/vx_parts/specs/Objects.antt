@@ -1,18 +1,20 @@
 -- Records of a configuration, by kind and by name.
-use Rattle.std.specs.Prelude.{ℕ, Bool, true, false, Option, Some, None, List, ◌&&◌}
+use Rattle.std.specs.Prelude.{Bool, true, false, Option, Some, None, ◌&&◌}
 use Rattle.std.specs.Str.{bytes_eq}
+use Rattle.std.specs.Ordering.{is_lt, nat_cmp}
+use Rattle.std.specs.Cmp.Lexicographic.{slice_cmp}
 use Rattle.vx_base.specs.Named.{Word}
-use Rattle.vx_rules.specs.declared.group.Group.{Group}
-use Rattle.vx_rules.specs.declared.disk.Disk.{Disk}
-use Rattle.vx_rules.specs.declared.subdisk.Subdisk.{Subdisk}
-use Rattle.vx_rules.specs.declared.plex.Plex.{Plex}
-use Rattle.vx_rules.specs.declared.plex.PlexKind.{PlexKind}
-use Rattle.vx_rules.specs.declared.plex.PlexKind.TheVariants.{Data, Log}
-use Rattle.vx_rules.specs.declared.vol.Vol.{Vol}
-use Rattle.vx_rules.specs.declared.dco.Dco.{Dco}
-use Rattle.vx_rules.specs.declared.snap.Snap.{Snap}
-use Rattle.vx_rules.specs.declared.object.Object.{Object}
-use Rattle.vx_rules.specs.declared.object.Object.TheVariants.{GroupRecord, DiskRecord, SubdiskRecord, PlexRecord, VolRecord, DcoRecord, SnapRecord}
+use Rattle.vx_parts.specs.declared.group.Group.{Group}
+use Rattle.vx_parts.specs.declared.disk.Disk.{Disk}
+use Rattle.vx_parts.specs.declared.subdisk.Subdisk.{Subdisk}
+use Rattle.vx_parts.specs.declared.plex.Plex.{Plex}
+use Rattle.vx_parts.specs.declared.plex.PlexKind.{PlexKind}
+use Rattle.vx_parts.specs.declared.plex.PlexKind.TheVariants.{Data, Log}
+use Rattle.vx_parts.specs.declared.vol.Vol.{Vol}
+use Rattle.vx_parts.specs.declared.dco.Dco.{Dco}
+use Rattle.vx_parts.specs.declared.snap.Snap.{Snap}
+use Rattle.vx_parts.specs.declared.object.Object.{Object}
+use Rattle.vx_parts.specs.declared.object.Object.TheVariants.{GroupRecord, DiskRecord, SubdiskRecord, PlexRecord, VolRecord, DcoRecord, SnapRecord}
 
 abbrev pub name_of : Object → Word
 name_of (GroupRecord g) = g.name
@@ -57,6 +59,10 @@ is_dco test _ = false
 abbrev pub is_snap : (Snap → Bool) → Object → Bool
 is_snap test (SnapRecord s) = test s
 is_snap test _ = false
+
+-- the first word comes before the second, byte by byte
+abbrev pub comes_before : Word → Word → Bool
+comes_before a b = is_lt (slice_cmp nat_cmp a b)
 
 -- the attribute names that object
 abbrev pub refers : Option Word → Word → Bool

@@ -1,4 +1,5 @@
 pub mod ColumnLemmas
+pub mod EndLemmas
 pub mod InverseLemmas
 pub mod NumberLemmas
 pub mod PlaceLemmas

@@ -1,10 +1,10 @@
 ghost use Rattle.std.specs.Prelude.{IsTrue};
 ghost use Rattle.vx_layout.specs.Valid.{is_layout};
 
-use crate::column::Columns;
+use crate::columns::Columns;
 use crate::place::Place;
 use crate::run::{Run, Runs};
-use crate::search::{continues, rest_in, sector_at};
+use crate::search::{continues, sector_at};
 use std::alloc::Global;
 use vx_base::OutOfMemory;
 use vx_block::Span;
@@ -36,7 +36,7 @@ impl Layout {
         }
     }
 
-    /// The block that lies at a place, if any.
+    /// The block that lies at a place, if any. Looks at the strips one by one, so its time grows with their number.
     pub fn block_at(&self, place: Place) -> Option<u64>
         ensures there { IfSome result (λ block. (block < capacity self.now.columns) × (place_of self.now.unit self.now.columns block ≡ Some place)) }
         ensures only { (block : ℕ) → block < 2 ^ 64 → block < capacity self.now.columns → place_of self.now.unit self.now.columns block ≡ Some place →
@@ -50,7 +50,8 @@ impl Layout {
         None
     }
 
-    /// The maximal contiguous runs of a range of blocks, in block order.
+    /// The maximal contiguous runs of a range of blocks, in block order. The strip of each part is found by halving, so the time
+    /// grows with the units and strips that the range has, and not with those of the layout.
     pub fn runs_of(&self, alloc: Global, span: Span) -> Result<Runs, OutOfMemory>
         requires inside { span.start + span.count ≤ capacity self.now.columns }
         requires fits { span.start + span.count < 2 ^ 64 }
@@ -86,7 +87,7 @@ impl Layout {
     {
         let column = self.column_of(block);
         let sector = self.sector_of(block);
-        let rest = rest_in(self.columns.strips(column as usize), sector).unwrap();
+        let rest = self.columns.at(column as usize).rest_in(sector).unwrap();
         Run {
             disk: rest.disk,
             sector: rest.start,

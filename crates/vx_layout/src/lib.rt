@@ -2,6 +2,7 @@
 #![tactic(auto)]
 
 mod column;
+mod columns;
 mod layout;
 mod place;
 mod run;
@@ -10,7 +11,8 @@ mod strip;
 #[cfg(test)]
 mod tests;
 
-pub use column::{Column, Columns};
+pub use column::Column;
+pub use columns::Columns;
 pub use layout::Layout;
 pub use place::Place;
 pub use run::{Run, Runs};

@@ -1,31 +1,10 @@
 ghost use Rattle.std.specs.Prelude.{◌≡◌, ◌<◌, ◌^◌, ◌↔◌, IsTrue};
+ghost use Rattle.vx_layout.specs.Columns.{column_length, sector_at, has_place};
 ghost use Rattle.vx_layout.specs.Runs.{Continues};
-ghost use Rattle.std.specs.List.{list_all};
-ghost use Rattle.vx_layout.specs.Valid.{is_strip};
-ghost use Rattle.vx_layout.specs.Columns.{rest_in, column_length, sector_at, has_place};
 
 use crate::place::Place;
 use crate::run::Run;
 use crate::strip::Strip;
-
-/// What is left of the strip that has a sector of a column, from that sector on.
-pub fn rest_in(strips: &[Strip], sector: u64) -> Option<Strip>
-    requires { IsTrue (list_all is_strip strips.now) }
-    ensures { result ≡ rest_in strips.now sector }
-{
-    let mut left = sector;
-    for strip in strips {
-        if left < strip.count {
-            return Some(Strip {
-                disk: strip.disk,
-                start: strip.start + left,
-                count: strip.count - left,
-            });
-        }
-        left -= strip.count;
-    }
-    None
-}
 
 /// The sector of a column that lies at a place, if any.
 pub fn sector_at(strips: &[Strip], place: &Place) -> Option<u64>

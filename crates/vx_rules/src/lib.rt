@@ -2,6 +2,7 @@
 #![tactic(auto)]
 
 mod check;
+mod index;
 mod limits;
 mod maps;
 mod references;

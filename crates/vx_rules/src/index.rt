@@ -1,0 +1,46 @@
+ghost use Rattle.std.specs.Prelude.{◌≡◌, None, Some, [], IfOk, MatchResult, List, ℕ, option_map, take, drop};
+ghost use Rattle.std.specs.BTreeMap.{get};
+ghost use Rattle.std.specs.Cmp.Lexicographic.{slice_cmp};
+ghost use Rattle.std.specs.Ordering.{nat_cmp};
+ghost use Rattle.std.specs.Option.{option_copied};
+ghost use Rattle.vx_rules.specs.References.{first_named, repeated_after};
+
+use std::alloc::Global;
+use std::collections::BTreeMap;
+use vx_base::OutOfMemory;
+use vx_names::Name;
+use vx_parts::{Object, ObjectFault};
+
+/// The records of a configuration whose names differ, each found by its name.
+#[derive(Drop)]
+pub(crate) struct Index<'a> {
+    pub(crate) all: &'a [Object],
+    by_name: BTreeMap<Name, &'a Object>,
+    ghost names_differ: { repeated_after [] all.now ≡ None },
+    ghost finds: { (name : List ℕ) → option_copied (get (slice_cmp nat_cmp) by_name name) ≡ first_named name all.now },
+}
+
+impl<'a> Index<'a> {
+    /// The records by their names, or the fault of the first whose name an earlier one has.
+    pub(crate) fn new(alloc: Global, all: &'a [Object]) -> Result<Result<Index<'a>, ObjectFault>, OutOfMemory>
+        ensures { IfOk result (λ made. MatchResult made (λ index. index.all.now ≡ all.now) (λ fault. repeated_after [] all.now ≡ Some fault)) }
+    {
+        let mut by_name = BTreeMap::new(alloc);
+        for object in all {
+            let Ok(earlier) = by_name.insert(*object.name(), object) else {
+                return Err(OutOfMemory);
+            };
+            if earlier.is_some() {
+                return Ok(Err(ObjectFault::Exists(*object.name())));
+            }
+        }
+        Ok(Ok(Index { all, by_name }))
+    }
+
+    /// The record of that name.
+    pub(crate) fn find(&self, name: &Name) -> Option<&'a Object>
+        ensures { option_copied result ≡ first_named name.now self.now.all.now }
+    {
+        self.by_name.get(name).copied()
+    }
+}

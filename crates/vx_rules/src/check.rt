@@ -10,8 +10,9 @@ use crate::limits::{
 use crate::maps::{log_fault, map_fault, prefer_fault};
 use crate::references::{reference_fault, repeated};
 use crate::relations::{relation_fault, relation_log_fault, shape_fault};
-use crate::space::{outside_fault, overlap_fault};
+use crate::space::outside_fault;
 use crate::whole::whole_fault;
+use vx_extents::overlap_fault;
 use vx_parts::{Limit, Object, ObjectFault};
 
 const RULES: [Rule; 19] = [

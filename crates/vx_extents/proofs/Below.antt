@@ -1,7 +1,7 @@
 -- A test of each number below another.
 use Rattle.std.proofs.Common.{◌≡◌, ℕ, ◌+◌, ◌<◌, Bool, true, false, zero, suc, arith, subst, inl, inr, add-one}
 use Rattle.std.proofs.lemmas.Bool.{and_left, and_right, and_from, cases_lt}
-use Rattle.vx_rules.specs.Whole.{all_below}
+use Rattle.vx_extents.specs.Below.{all_below}
 
 -- one number that fails is enough
 pub all_below_fails : (test : ℕ → Bool) (k n : ℕ) → k < n → test k ≡ false → all_below n test ≡ false

@@ -1,0 +1,4 @@
+pub mod Below
+pub mod Overlap
+pub mod Columns
+pub mod Sizes

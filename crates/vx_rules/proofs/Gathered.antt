@@ -9,11 +9,11 @@ use Rattle.std.specs.Str.{bytes_eq}
 use Rattle.vx_base.specs.Named.{Word}
 use Rattle.vx_base.proofs.NamedLemmas.{bytes_eq_self, name_cases}
 use Rattle.vx_parts.specs.declared.object.Object.{Object}
-use Rattle.vx_parts.specs.declared.fault.ObjectFault.{ObjectFault}
 use Rattle.vx_parts.specs.declared.fault.ObjectFault.TheVariants.{Exists}
 use Rattle.vx_parts.specs.Objects.{name_of}
 use Rattle.vx_rules.specs.Faults.{first_some, unless}
-use Rattle.vx_rules.specs.References.{first_named, has_name, repeated_after}
+use Rattle.vx_rules.specs.Named.{first_named}
+use Rattle.vx_rules.specs.References.{has_name, repeated_after}
 
 some_cons : {A : Type 0} (b : Bool) (x : A) (f g h : Option A) → f ≡ first_some g h → (if b then Some x else f) ≡ first_some (if b then Some x else g) h
 some_cons true x f g h e = refl

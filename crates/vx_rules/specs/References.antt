@@ -1,5 +1,5 @@
 -- Names differ, and what a record refers to is there, with the kind that the attribute needs.
-use Rattle.std.specs.Prelude.{Bool, Option, Some, None, List, [], ◌∷◌, ◌++◌, ◌&&◌, not, if◌then◌else◌}
+use Rattle.std.specs.Prelude.{Bool, Option, Some, None, List, [], ◌∷◌, ◌++◌, ◌&&◌, not}
 use Rattle.std.specs.List.{list_any}
 use Rattle.std.specs.Str.{bytes_eq}
 use Rattle.vx_base.specs.Named.{Word}
@@ -13,11 +13,6 @@ use Rattle.vx_rules.specs.Faults.{first_some, unless}
 -- some record has the name
 abbrev pub has_name : Word → List Object → Bool
 has_name name all = list_any (λ o. bytes_eq (name_of o) name) all
-
--- the first record of the name
-abbrev pub first_named : Word → List Object → Option Object
-first_named name [] = None
-first_named name (o ∷ os) = if bytes_eq (name_of o) name then Some o else first_named name os
 
 -- the name of the first record whose name an earlier one has, where those before it are given
 abbrev pub repeated_after : List Object → List Object → Option ObjectFault

@@ -10,9 +10,13 @@ use Rattle.vx_parts.specs.declared.fault.ObjectFault.TheVariants.{Outside}
 use Rattle.vx_parts.specs.Objects.{is_disk}
 use Rattle.vx_rules.specs.Faults.{unless}
 
+-- its disk reaches to the end of the subdisk
+abbrev pub has_room : List Object → Subdisk → Bool
+has_room all s = list_any (λ o. is_disk (λ d. bytes_eq d.name s.disk && nat_le (s.off + s.len) d.publen) o) all
+
 -- the subdisk has a sector, and lies in the public region of its disk
 abbrev pub lies_inside : List Object → Subdisk → Bool
-lies_inside all s = nat_lt 0 s.len && list_any (λ o. is_disk (λ d. bytes_eq d.name s.disk && nat_le (s.off + s.len) d.publen) o) all
+lies_inside all s = nat_lt 0 s.len && has_room all s
 
 abbrev pub outside_fault : List Object → Object → Option ObjectFault
 outside_fault all (SubdiskRecord s) = unless (lies_inside all s) (Outside s.name)

@@ -4,7 +4,8 @@ ghost use Rattle.std.specs.Str.{bytes_eq};
 ghost use Rattle.vx_parts.specs.Objects.{is_plex, is_vol, is_snap, refers, is_data_plex_of, is_log_plex_of};
 ghost use Rattle.vx_rules.specs.Maps.{has_map, map_uses, plex_map_fits, maps_fit, maps_differ, maps_are_good, map_fault, is_in_use, log_count, data_count, logs_are_good, log_fault, has_data_plex, prefer_fault_of, prefer_fault};
 
-use crate::limits::is_data_plex_of;
+use crate::index::Index;
+use crate::limits::{is_data_of, is_data_plex_of};
 use vx_names::Name;
 use vx_parts::{Object, ObjectFault, PlexKind, PlexState, PolicyKind, Vol, refers, same};
 
@@ -206,43 +207,34 @@ fn is_in_use(state: PlexState) -> bool
 }
 
 /// A plex is preferred exactly where the policy prefers one, and it is a data plex of the volume.
-pub(crate) fn prefer_fault(all: &[Object], object: &Object) -> Option<ObjectFault>
-    ensures { result ≡ prefer_fault all.now object.now }
+pub(crate) fn prefer_fault(index: &Index, object: &Object) -> Option<ObjectFault>
+    ensures { result ≡ prefer_fault index.now.all.now object.now }
 {
     match object {
-        Object::VolRecord(vol) => prefer_fault_of(all, &vol.name, vol.rdpol, &vol.prefer),
+        Object::VolRecord(vol) => prefer_fault_of(index, &vol.name, vol.rdpol, &vol.prefer),
         _ => None,
     }
 }
 
 fn prefer_fault_of(
-    all: &[Object],
+    index: &Index,
     vol: &Name,
     policy: PolicyKind,
     prefer: &Option<Name>,
 ) -> Option<ObjectFault>
-    ensures { result ≡ prefer_fault_of all.now vol.now policy prefer.now }
+    ensures { result ≡ prefer_fault_of index.now.all.now vol.now policy prefer.now }
 {
     match (policy, prefer) {
-        (PolicyKind::Prefer, Some(plex)) if has_data_plex(plex, vol, all) => None,
+        (PolicyKind::Prefer, Some(plex)) if has_data_plex(plex, vol, index) => None,
         (PolicyKind::Prefer, None) => Some(ObjectFault::NoObject(*vol)),
         (_, Some(plex)) => Some(ObjectFault::NoObject(*plex)),
         (_, None) => None,
     }
 }
 
-fn has_data_plex(name: &Name, vol: &Name, all: &[Object]) -> bool
-    ensures { result ≡ has_data_plex name.now vol.now all.now }
+#[tactic(auto, using(crate::proofs::Lookups::has_data_plex_is))]
+fn has_data_plex(name: &Name, vol: &Name, index: &Index) -> bool
+    ensures { result ≡ has_data_plex name.now vol.now index.now.all.now }
 {
-    all.iter()
-        .any(|object| is_data_plex_named(object, name, vol))
-}
-
-fn is_data_plex_named(object: &Object, name: &Name, vol: &Name) -> bool
-    ensures { result ≡ is_plex (λ p. bytes_eq p.name name.now && is_data_plex_of vol.now p) object.now }
-{
-    match object {
-        Object::PlexRecord(plex) => same(&plex.name, name) && is_data_plex_of(object, vol),
-        _ => false,
-    }
+    index.plex(name).is_some_and(|plex| is_data_of(plex, vol))
 }

@@ -1,4 +1,4 @@
-use Rattle.std.proofs.Common.{◌≡◌, ◌<◌, Some, List, ℕ, take, length, true, false, sym, rules, ◌∙◌, ap, subst, arith}
+use Rattle.std.proofs.Common.{◌≡◌, Some, take, true, false, sym, ◌∙◌, ap, subst, arith}
 use Rattle.std.specs.Option.{option_copied}
 use Rattle.vx_parts.specs.declared.fault.ObjectFault.TheVariants.{Exists}
 use Rattle.vx_rules.specs.References.{has_name}
@@ -19,5 +19,5 @@ loop-object-preserved c =
     let has : has_name c.name.result.now before ≡ false = has_from_map c.name.result.now before c.in-Ok.earlier false (ap option_copied c.in-Ok.ensures.old ∙ c.loop-object.invariant.finds c.name.result.now) (sym c.if-is_some.ensures) in
     record {
       differ = repeats_later c.args.all.now c.loop-object.object-index c.object-item.result (omega arith) c.object-item.is (subst (λ n. has_name n before ≡ false) c.name.ensures has) ∙ c.loop-object.invariant.differ;
-      finds = λ name. finds_more c.args.all.now c.loop-object.object-index _ c.name.result.now name _ _ (omega arith) c.object-item.is c.name.ensures (c.in-Ok.ensures.updates.0 name) (c.loop-object.invariant.finds name) (none_named c.name.result.now before has)
+      finds = λ name. finds_more c.args.all.now c.loop-object.object-index _ c.name.result.now name _ _ (omega arith) c.object-item.is c.name.ensures (c.in-Ok.ensures.updates.0 name) (c.loop-object.invariant.finds name) (none_named c.name.result.now before has);
     }

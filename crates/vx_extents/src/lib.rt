@@ -2,6 +2,8 @@
 #![tactic(auto)]
 
 mod columns;
+mod extent;
+mod laid;
 mod overlap;
 mod sizes;
 

@@ -1,20 +1,83 @@
-ghost use Rattle.std.specs.Prelude.{◌≡◌, ◌&&◌, ◌+◌, ℕ, nat_lt};
-ghost use Rattle.std.specs.List.{list_any};
+ghost use Rattle.std.specs.Prelude.{◌≡◌, ◌&&◌, ◌+◌, ℕ, nat_lt, [], IfOk, true};
+ghost use Rattle.std.specs.List.{list_any, list_all};
 ghost use Rattle.vx_parts.specs.Objects.{is_subdisk, comes_before};
-ghost use Rattle.vx_extents.specs.Overlap.{shares_sector, overlaps_earlier, lesser, first_overlap_with, first_overlap, overlap_fault};
+ghost use Rattle.vx_extents.specs.Overlap.{shares_sector, overlaps_earlier, lesser, first_overlap_with, first_overlap, overlap_of, overlap_fault};
+ghost use Rattle.vx_extents.specs.Extents.{has_sector, names_rise, rises_from, first_clash};
 
+use crate::extent::{Extent, extents_of};
+use crate::laid::Laid;
+use std::alloc::Global;
+use vx_base::OutOfMemory;
 use vx_names::Name;
 use vx_parts::{Object, ObjectFault, Subdisk, comes_before, same};
 
 /// The first subdisk by name that overlaps one that comes before it by name.
-pub fn overlap_fault(all: &[Object]) -> Option<ObjectFault>
-    ensures { result ≡ overlap_fault all.now }
+pub fn overlap_fault(alloc: Global, all: &[Object]) -> Result<Option<ObjectFault>, OutOfMemory>
+    ensures { IfOk result (λ fault. fault ≡ overlap_fault all.now) }
 {
-    match first_overlap(all) {
+    let mut extents = extents_of(alloc, all)?;
+    extents.sort_by_key(|extent| extent.name)?;
+    if names_rise(&extents) && all_have_sectors(&extents) {
+        let first = first_clash(alloc, &extents)?;
+        Ok(overlap_of(first))
+    } else {
+        Ok(overlap_of(first_overlap(all)))
+    }
+}
+
+fn overlap_of(first: Option<Name>) -> Option<ObjectFault>
+    ensures { result ≡ overlap_of first }
+{
+    match first {
         Some(name) => Some(ObjectFault::Overlap(name)),
         None => None,
     }
 }
+
+fn all_have_sectors(extents: &[Extent]) -> bool
+    ensures { result ≡ list_all has_sector extents.now }
+{
+    extents.iter().all(|extent| extent.len > 0)
+}
+
+fn names_rise(extents: &[Extent]) -> bool
+    ensures { result ≡ names_rise None extents.now }
+{
+    let mut last = None;
+    for extent in extents {
+        if !rises_from(&last, &extent.name) {
+            return false;
+        }
+        last = Some(extent.name);
+    }
+    true
+}
+
+fn rises_from(last: &Option<Name>, name: &Name) -> bool
+    ensures { result ≡ rises_from last.now name.now }
+{
+    match last {
+        None => true,
+        Some(last) => comes_before(last, name),
+    }
+}
+
+/// The first that meets one before it, each being laid in turn.
+fn first_clash(alloc: Global, extents: &[Extent]) -> Result<Option<Name>, OutOfMemory>
+    requires { list_all has_sector extents.now ≡ true }
+    ensures { IfOk result (λ first. first ≡ first_clash [] extents.now) }
+{
+    let mut laid = Laid::new(alloc);
+    for extent in extents {
+        if laid.meets(extent) {
+            return Ok(Some(extent.name));
+        }
+        laid.lay(extent)?;
+    }
+    Ok(None)
+}
+
+// Where names repeat or a subdisk is empty, which the rules before this one refuse, all pairs are looked at.
 
 fn first_overlap(all: &[Object]) -> Option<Name>
     ensures { result ≡ first_overlap all.now }

@@ -1,3 +1,4 @@
 pub mod Gathered
 pub mod Lookups
 pub mod InOrder
+pub mod Counted

@@ -46,7 +46,7 @@ pub fn first_broken(alloc: Global, all: &[Object]) -> Result<Option<ObjectFault>
     ensures { IfOk result (λ fault. fault ≡ first_broken all.now) }
 {
     match Index::new(alloc, all)? {
-        Ok(index) => first_broken_of(&RULES, &index),
+        Ok(index) => first_broken_of(alloc, &RULES, &index),
         Err(repeated) => match limit_unless(has_one_group(all), Limit::Group) {
             Some(fault) => Ok(Some(fault)),
             None => Ok(Some(repeated)),
@@ -54,11 +54,15 @@ pub fn first_broken(alloc: Global, all: &[Object]) -> Result<Option<ObjectFault>
     }
 }
 
-fn first_broken_of(rules: &[Rule], index: &Index) -> Result<Option<ObjectFault>, OutOfMemory>
+fn first_broken_of(
+    alloc: Global,
+    rules: &[Rule],
+    index: &Index,
+) -> Result<Option<ObjectFault>, OutOfMemory>
     ensures { IfOk result (λ fault. fault ≡ first_broken_of rules.now index.now.all.now) }
 {
     for rule in rules {
-        if let Some(fault) = fault_of(*rule, index)? {
+        if let Some(fault) = fault_of(alloc, *rule, index)? {
             return Ok(Some(fault));
         }
     }
@@ -66,10 +70,10 @@ fn first_broken_of(rules: &[Rule], index: &Index) -> Result<Option<ObjectFault>,
 }
 
 #[tactic(auto, unfolding(crate::specs::Rules::fault_of))]
-fn fault_of(rule: Rule, index: &Index) -> Result<Option<ObjectFault>, OutOfMemory>
+fn fault_of(alloc: Global, rule: Rule, index: &Index) -> Result<Option<ObjectFault>, OutOfMemory>
     ensures { IfOk result (λ fault. fault ≡ fault_of rule index.now.all.now) }
 {
-    match fault_over(rule, index)? {
+    match fault_over(alloc, rule, index)? {
         Some(fault) => Ok(Some(fault)),
         None => Ok(first_in(rule, index)),
     }
@@ -77,13 +81,13 @@ fn fault_of(rule: Rule, index: &Index) -> Result<Option<ObjectFault>, OutOfMemor
 
 /// The fault under a rule on the records together. Where they have an index their names differ.
 #[tactic(auto, unfolding(crate::specs::Rules::fault_over))]
-fn fault_over(rule: Rule, index: &Index) -> Result<Option<ObjectFault>, OutOfMemory>
+fn fault_over(alloc: Global, rule: Rule, index: &Index) -> Result<Option<ObjectFault>, OutOfMemory>
     ensures { IfOk result (λ fault. fault ≡ fault_over rule index.now.all.now) }
 {
     match rule {
         Rule::OneGroup => Ok(limit_unless(has_one_group(index.all), Limit::Group)),
         Rule::VolumesAreFew => Ok(limit_unless(volumes_are_few(index.all), Limit::Volumes)),
-        Rule::SubdisksDoNotOverlap => Ok(overlap_fault(index.all)),
+        Rule::SubdisksDoNotOverlap => overlap_fault(alloc, index.all),
         _ => Ok(None),
     }
 }

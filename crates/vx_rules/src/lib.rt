@@ -9,6 +9,7 @@ mod references;
 mod relations;
 mod rule;
 mod space;
+mod uses;
 mod whole;
 
 pub use check::first_broken;

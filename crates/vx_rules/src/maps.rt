@@ -6,6 +6,7 @@ ghost use Rattle.vx_rules.specs.Maps.{has_map, map_uses, plex_map_fits, maps_fit
 
 use crate::index::Index;
 use crate::limits::{is_data_of, is_data_plex_of};
+use crate::uses::uses_of_maps;
 use vx_names::Name;
 use vx_parts::{Object, ObjectFault, PlexKind, PlexState, PolicyKind, Vol, refers, same};
 
@@ -73,80 +74,13 @@ fn plex_map_fits(kind: PlexKind, prepared: bool, map: Option<u8>) -> bool
 fn maps_differ(all: &[Object], vol: &Name) -> bool
     ensures { result ≡ maps_differ all.now vol.now }
 {
-    for map in 0u8..30 {
-        if map_uses(all, vol, map) > 1 {
+    let uses = uses_of_maps(all, vol);
+    for map in 0..30 {
+        if uses[map] > 1 {
             return false;
         }
     }
     true
-}
-
-fn map_uses(all: &[Object], vol: &Name, map: u8) -> u128
-    ensures { result ≡ map_uses all.now vol.now map }
-{
-    plex_uses(all, vol, map) as u128
-        + snapshot_uses(all, vol, map) as u128
-        + original_uses(all, vol, map) as u128
-}
-
-fn plex_uses(all: &[Object], vol: &Name, map: u8) -> usize
-    ensures { result ≡ count_by (λ o. is_plex (λ p. is_data_plex_of vol.now p && has_map p.map map) o) all.now }
-{
-    all.iter()
-        .filter(|object| is_plex_using(object, vol, map))
-        .count()
-}
-
-fn is_plex_using(object: &Object, vol: &Name, map: u8) -> bool
-    ensures { result ≡ is_plex (λ p. is_data_plex_of vol.now p && has_map p.map map) object.now }
-{
-    match object {
-        Object::PlexRecord(plex) => is_data_plex_of(object, vol) && has_map(plex.map, map),
-        _ => false,
-    }
-}
-
-fn has_map(attribute: Option<u8>, map: u8) -> bool
-    ensures { result ≡ has_map attribute map }
-{
-    match attribute {
-        None => false,
-        Some(other) => other == map,
-    }
-}
-
-fn snapshot_uses(all: &[Object], vol: &Name, map: u8) -> usize
-    ensures { result ≡ count_by (λ o. is_snap (λ s. bytes_eq s.vol vol.now && s.map == map) o) all.now }
-{
-    all.iter()
-        .filter(|object| is_snapshot_using(object, vol, map))
-        .count()
-}
-
-fn is_snapshot_using(object: &Object, vol: &Name, map: u8) -> bool
-    ensures { result ≡ is_snap (λ s. bytes_eq s.vol vol.now && s.map == map) object.now }
-{
-    match object {
-        Object::SnapRecord(snap) => same(&snap.vol, vol) && snap.map == map,
-        _ => false,
-    }
-}
-
-fn original_uses(all: &[Object], vol: &Name, map: u8) -> usize
-    ensures { result ≡ count_by (λ o. is_snap (λ s. bytes_eq s.of vol.now && s.ofmap == map) o) all.now }
-{
-    all.iter()
-        .filter(|object| is_original_using(object, vol, map))
-        .count()
-}
-
-fn is_original_using(object: &Object, vol: &Name, map: u8) -> bool
-    ensures { result ≡ is_snap (λ s. bytes_eq s.of vol.now && s.ofmap == map) object.now }
-{
-    match object {
-        Object::SnapRecord(snap) => same(&snap.of, vol) && snap.ofmap == map,
-        _ => false,
-    }
 }
 
 /// A volume with two or more data plexes has a DCO; one with a DCO has one or two logs in use.

@@ -15,8 +15,10 @@ differ_holds : (all : List Object) (vol : Word) (n : ℕ) → n ≡ 30 → all_b
 unfolding maps_differ
 differ_holds all vol n e h = rw e at h
 
-pub returns-then-map_uses-gt1 : goal.returns-then-map_uses-gt1
-returns-then-map_uses-gt1 c = sym (differ_fails _ _ c.loop-map.map (omega arith) (omega arith))
+pub returns-then-uses-map-gt1 : goal.returns-then-uses-map-gt1
+returns-then-uses-map-gt1 c =
+    let uses = c.uses_of_maps-uses.ensures c.loop-map.map (omega arith) in
+    sym (differ_fails _ _ c.loop-map.map (omega arith) (omega arith))
 
 pub returns : goal.returns
 returns c = sym (differ_holds _ _ c.loop-map.map (omega arith) c.loop-map.invariant)

@@ -1,6 +1,6 @@
 -- The columns of a plex: without holes, of one length, and as its layout wants them.
 use Rattle.std.specs.Prelude.{ℕ, ◌+◌, ◌*◌, ◌%◌, max, Bool, true, List, ◌==◌, ◌&&◌, ◌||◌, nat_le, nat_lt, if◌then◌else◌}
-use Rattle.std.specs.List.{list_any, count_by, fold}
+use Rattle.std.specs.List.{list_any, list_all, count_by, fold}
 use Rattle.vx_base.specs.Named.{Word}
 use Rattle.vx_parts.specs.declared.subdisk.Subdisk.{Subdisk}
 use Rattle.vx_parts.specs.declared.plex.Plex.{Plex}
@@ -55,3 +55,7 @@ layout_is_good all p Stripe = nat_le 2 p.ncol && nat_le p.ncol 16 && nat_lt 0 p.
 -- the sectors of a plex
 abbrev pub plex_length : List Object → Plex → ℕ
 plex_length all p = p.ncol * column_length all p.name 0
+
+-- the plex has the columns that its layout wants, of one length, and its pieces lie in them without holes
+abbrev pub columns_are_good : List Object → Plex → Bool
+columns_are_good all p = layout_is_good all p p.layout && columns_are_equal all p && list_all (λ o. all_pieces_good all p o) all

@@ -1,155 +1,112 @@
-ghost use Rattle.std.specs.Prelude.{◌≡◌, ◌&&◌, ◌||◌, ◌==◌, ◌+◌, ℕ, ◌<◌};
-ghost use Rattle.std.specs.List.{list_any, list_all, count_by};
-ghost use Rattle.vx_parts.specs.Objects.{is_subdisk};
-ghost use Rattle.vx_extents.specs.Columns.{is_in_column, column_begins, piece_follows, all_pieces_good, end_with, column_length, columns_are_equal, layout_is_good, plex_length};
+ghost use Rattle.std.specs.Prelude.{◌≡◌, ◌==◌, ◌&&◌, ◌<◌, List, IfOk};
+ghost use Rattle.std.specs.BTreeMap.{get};
+ghost use Rattle.vx_parts.specs.declared.object.Object.{Object};
+ghost use Rattle.vx_extents.specs.Below.{all_below};
+ghost use Rattle.vx_extents.specs.Keys.{Key, key_cmp};
+ghost use Rattle.vx_extents.specs.Columns.{column_length, columns_are_good, plex_length};
+ghost use Rattle.vx_extents.specs.Pieces.{grow, or_new, column_of, end_of};
+ghost use Rattle.vx_extents.specs.Indexed.{IsIndexed, column_is_whole, has_piece_from};
 
+use crate::column::Column;
+use crate::layout::layout_fits;
+use crate::piece::Piece;
+use std::alloc::Global;
+use std::collections::BTreeMap;
+use vx_base::OutOfMemory;
 use vx_names::Name;
-use vx_parts::{Object, Plex, PlexLayout, Subdisk, refers};
+use vx_parts::{Plex, same};
 
-/// The plex has the columns and the unit that its layout wants.
-pub fn layout_is_good(all: &[Object], plex: &Plex) -> bool
-    ensures { result ≡ layout_is_good all.now plex.now plex.now.layout }
-{
-    match plex.layout {
-        PlexLayout::Concat => plex.ncol == 1 && plex.unit == 128,
-        PlexLayout::Stripe => {
-            plex.ncol >= 2
-                && plex.ncol <= 16
-                && plex.unit > 0
-                && column_length(all, &plex.name, 0) % (plex.unit as u128) == 0
-        }
-    }
+/// The columns that have pieces, by their plexes and their numbers.
+#[derive(Drop)]
+pub(crate) struct Columns {
+    map: BTreeMap<(Name, u32), Column>,
 }
 
-/// Each column of the plex has pieces, and as many sectors as the first.
-pub fn columns_are_equal(all: &[Object], plex: &Plex) -> bool
-    ensures { result ≡ columns_are_equal all.now plex.now }
-{
-    let length = column_length(all, &plex.name, 0);
-    for col in 0..plex.ncol {
-        if !column_is(all, &plex.name, col, length) {
+impl Columns {
+    /// What is found of each column when the pieces are taken in turn.
+    pub(crate) fn of(alloc: Global, pieces: &[Piece]) -> Result<Columns, OutOfMemory>
+        ensures columns { IfOk result (λ columns. (q : Key) → get key_cmp columns.map q ≡ column_of q pieces.now) }
+        ensures small { IfOk result (λ columns. (q : Key) → end_of (get key_cmp columns.map q) < 36893488147419103232) }
+    {
+        let mut map = BTreeMap::new(alloc);
+        for piece in pieces {
+            let column = column_with(&map, piece);
+            map.insert((piece.plex, piece.col), column)?;
+        }
+        Ok(Columns { map })
+    }
+
+    /// The plex has the columns that its layout wants, of one length, and its pieces lie in them without holes.
+    pub(crate) fn are_good(&self, plex: &Plex) -> bool
+        ensures { (all : List Object) → IsIndexed all self.now.map → result ≡ columns_are_good all plex.now }
+    {
+        let length = self.length(&plex.name, 0);
+        if !layout_fits(plex, length) {
             return false;
         }
-    }
-    true
-}
-
-fn column_is(all: &[Object], plex: &Name, col: u32, length: u128) -> bool
-    ensures { result ≡ (column_begins all.now plex.now col && column_length all.now plex.now col == length) }
-{
-    column_begins(all, plex, col) && column_length(all, plex, col) == length
-}
-
-fn column_begins(all: &[Object], plex: &Name, col: u32) -> bool
-    ensures { result ≡ column_begins all.now plex.now col }
-{
-    all.iter().any(|object| is_first_piece(object, plex, col))
-}
-
-fn is_first_piece(object: &Object, plex: &Name, col: u32) -> bool
-    ensures { result ≡ is_subdisk (λ s. is_in_column plex.now col s && s.at == 0) object.now }
-{
-    match object {
-        Object::SubdiskRecord(subdisk) => is_in_column(subdisk, plex, col) && subdisk.at == 0,
-        _ => false,
-    }
-}
-
-fn is_in_column(subdisk: &Subdisk, plex: &Name, col: u32) -> bool
-    ensures { result ≡ is_in_column plex.now col subdisk.now }
-{
-    refers(&subdisk.plex, plex) && subdisk.col == col
-}
-
-fn column_length(all: &[Object], plex: &Name, col: u32) -> u128
-    ensures length { result ≡ column_length all.now plex.now col }
-    ensures bound { result < 36893488147419103232 }
-{
-    let mut end = 0;
-    for object in all {
-        end = end_with(object, plex, col, end);
-    }
-    end
-}
-
-fn end_with(object: &Object, plex: &Name, col: u32, end: u128) -> u128
-    requires { end < 36893488147419103232 }
-    ensures end { result ≡ end_with plex.now col end object.now }
-    ensures bound { result < 36893488147419103232 }
-{
-    match object {
-        Object::SubdiskRecord(subdisk) if is_in_column(subdisk, plex, col) => {
-            let piece_end = subdisk.at as u128 + subdisk.len as u128;
-            if end < piece_end { piece_end } else { end }
+        if !self.all_are(plex, length) {
+            return false;
         }
-        _ => end,
+        !self.has_piece_from(&plex.name, plex.ncol)
     }
-}
 
-/// The pieces of the plex lie in its columns without holes.
-pub fn pieces_are_good(all: &[Object], plex: &Plex) -> bool
-    ensures { result ≡ list_all (λ o. all_pieces_good all.now plex.now o) all.now }
-{
-    all.iter().all(|object| all_pieces_good(all, plex, object))
-}
+    /// The sectors of the plex.
+    pub(crate) fn plex_length(&self, plex: &Plex) -> u128
+        requires small { (q : Key) → end_of (get key_cmp self.now.map q) < 36893488147419103232 }
+        ensures { (all : List Object) → IsIndexed all self.now.map → result ≡ plex_length all plex.now }
+    {
+        plex.ncol as u128 * self.length(&plex.name, 0)
+    }
 
-fn all_pieces_good(all: &[Object], plex: &Plex, object: &Object) -> bool
-    ensures { result ≡ all_pieces_good all.now plex.now object.now }
-{
-    match object {
-        Object::SubdiskRecord(subdisk) => {
-            !refers(&subdisk.plex, &plex.name)
-                || (subdisk.col < plex.ncol && piece_follows(all, &plex.name, subdisk))
+    fn length(&self, plex: &Name, col: u32) -> u128
+        ensures length { (all : List Object) → IsIndexed all self.now.map → result ≡ column_length all plex.now col }
+        ensures small { ((q : Key) → end_of (get key_cmp self.now.map q) < 36893488147419103232) → result < 36893488147419103232 }
+    {
+        match self.map.get(&(*plex, col)) {
+            Some(column) => column.end,
+            None => 0,
         }
-        _ => true,
     }
-}
 
-fn piece_follows(all: &[Object], plex: &Name, piece: &Subdisk) -> bool
-    ensures { result ≡ piece_follows all.now plex.now piece.now }
-{
-    (piece.at == 0 || some_ends(all, plex, piece.col, piece.at))
-        && begin_count(all, plex, piece.col, piece.at) <= 1
-}
-
-fn some_ends(all: &[Object], plex: &Name, col: u32, at: u64) -> bool
-    ensures { result ≡ list_any (λ o. is_subdisk (λ t. is_in_column plex.now col t && t.at + t.len == at) o) all.now }
-{
-    all.iter().any(|object| is_piece_to(object, plex, col, at))
-}
-
-fn is_piece_to(object: &Object, plex: &Name, col: u32, end: u64) -> bool
-    ensures { result ≡ is_subdisk (λ t. is_in_column plex.now col t && t.at + t.len == end) object.now }
-{
-    match object {
-        Object::SubdiskRecord(subdisk) => {
-            is_in_column(subdisk, plex, col)
-                && subdisk.at as u128 + subdisk.len as u128 == end as u128
+    /// Each column is whole and so long.
+    fn all_are(&self, plex: &Plex, length: u128) -> bool
+        ensures { (all : List Object) → IsIndexed all self.now.map → result ≡ all_below plex.now.ncol (λ c. column_is_whole all plex.now.name c && column_length all plex.now.name c == length) }
+    {
+        for col in 0..plex.ncol {
+            if !self.is_whole(&plex.name, col, length) {
+                return false;
+            }
         }
-        _ => false,
+        true
+    }
+
+    fn is_whole(&self, plex: &Name, col: u32, length: u128) -> bool
+        ensures { (all : List Object) → IsIndexed all self.now.map → result ≡ (column_is_whole all plex.now col && column_length all plex.now col == length) }
+    {
+        match self.map.get(&(*plex, col)) {
+            Some(column) => column.whole && column.end == length,
+            None => false,
+        }
+    }
+
+    /// The plex has a piece in that column or behind it.
+    fn has_piece_from(&self, plex: &Name, col: u32) -> bool
+        ensures { (all : List Object) → IsIndexed all self.now.map → result ≡ has_piece_from all plex.now col }
+    {
+        match self.map.range((*plex, col)..).next() {
+            Some((place, _)) => same(&place.0, plex),
+            None => false,
+        }
     }
 }
 
-fn begin_count(all: &[Object], plex: &Name, col: u32, at: u64) -> usize
-    ensures { result ≡ count_by (λ o. is_subdisk (λ t. is_in_column plex.now col t && t.at == at) o) all.now }
+fn column_with(columns: &BTreeMap<(Name, u32), Column>, piece: &Piece) -> Column
+    requires { (q : Key) → end_of (get key_cmp columns.now q) < 36893488147419103232 }
+    ensures column { result ≡ grow (or_new (get key_cmp columns.now (piece.now.plex, piece.now.col))) piece.now }
+    ensures small { result.end < 36893488147419103232 }
 {
-    all.iter()
-        .filter(|object| is_piece_from(object, plex, col, at))
-        .count()
-}
-
-fn is_piece_from(object: &Object, plex: &Name, col: u32, at: u64) -> bool
-    ensures { result ≡ is_subdisk (λ t. is_in_column plex.now col t && t.at == at) object.now }
-{
-    match object {
-        Object::SubdiskRecord(subdisk) => is_in_column(subdisk, plex, col) && subdisk.at == at,
-        _ => false,
+    match columns.get(&(piece.plex, piece.col)) {
+        Some(column) => column.with(piece),
+        None => Column::new().with(piece),
     }
-}
-
-/// The sectors of the plex.
-pub fn plex_length(all: &[Object], plex: &Plex) -> u128
-    ensures { result ≡ plex_length all.now plex.now }
-{
-    plex.ncol as u128 * column_length(all, &plex.name, 0)
 }

@@ -1,12 +1,17 @@
 //! Where subdisks lie: on disks, none over another, and in the columns of plexes, without holes.
 #![tactic(auto)]
 
+mod column;
 mod columns;
 mod extent;
 mod laid;
+mod layout;
 mod overlap;
+mod piece;
+mod pieces;
+mod scans;
 mod sizes;
 
-pub use columns::{columns_are_equal, layout_is_good, pieces_are_good, plex_length};
 pub use overlap::overlap_fault;
+pub use pieces::Pieces;
 pub use sizes::{holds, layout_fits_kind};

@@ -1,4 +1,4 @@
--- The order of places.
+-- The order of keys.
 use Rattle.std.proofs.Common.{◌≡◌, ℕ, ◌<◌, ◌≤◌, false, Ordering, Less, Equal, Greater, refl, sym, subst, arith, is_lt, nat_cmp}
 use Rattle.std.specs.Ordering.{ordering_then}
 use Rattle.std.specs.Cmp.{IsTotalOrder}
@@ -8,13 +8,13 @@ use Rattle.std.proofs.lemmas.Bool.Decides.{nat_tests}
 use Rattle.std.proofs.lemmas.Cmp.{nat_list_cmp_total, nat_cmp_total, on_total, then_total, tied_itself}
 use Rattle.std.proofs.lemmas.Map.Lookups.{exact_bytes, exact_pairs, exact_unsigned, CmpEqualImpliesEq}
 use Rattle.vx_base.specs.Named.{Word}
-use Rattle.vx_extents.specs.Laid.{Place, place_cmp}
+use Rattle.vx_extents.specs.Keys.{Key, key_cmp}
 
-pub place_total : IsTotalOrder place_cmp
-place_total = then_total (on_total (λ (p : Place). p.0) nat_list_cmp_total) (on_total (λ (p : Place). p.1) nat_cmp_total)
+pub key_total : IsTotalOrder key_cmp
+key_total = then_total (on_total (λ (p : Key). p.0) nat_list_cmp_total) (on_total (λ (p : Key). p.1) nat_cmp_total)
 
-pub place_exact : CmpEqualImpliesEq place_cmp
-place_exact = exact_pairs (slice_cmp nat_cmp) nat_cmp exact_bytes exact_unsigned
+pub key_exact : CmpEqualImpliesEq key_cmp
+key_exact = exact_pairs (slice_cmp nat_cmp) nat_cmp exact_bytes exact_unsigned
 
 below : (x y : ℕ) → nat_cmp x y ≡ Less → x < y
 below x y h = grind (arith, nat_tests)
@@ -31,15 +31,15 @@ between_by Equal x y z a b = (refl, below x y a, not_below x z b)
 between_by Greater x y z a b = absurd (cc)
 
 -- a place before one of a disk, and not before another of it, is on that disk
-pub between : (disk d : Word) (x y z : ℕ) → place_cmp (d, x) (disk, y) ≡ Less → is_lt (place_cmp (d, x) (disk, z)) ≡ false → (d ≡ disk) × (x < y) × (z ≤ x)
+pub between : (disk d : Word) (x y z : ℕ) → key_cmp (d, x) (disk, y) ≡ Less → is_lt (key_cmp (d, x) (disk, z)) ≡ false → (d ≡ disk) × (x < y) × (z ≤ x)
 between disk d x y z a b =
     let h = between_by (slice_cmp nat_cmp d disk) x y z a b in (exact_bytes d disk h.0, h.1, h.2)
 
 -- on one disk
-pub before : (disk : Word) (x y : ℕ) → x < y → place_cmp (disk, x) (disk, y) ≡ Less
+pub before : (disk : Word) (x y : ℕ) → x < y → key_cmp (disk, x) (disk, y) ≡ Less
 before disk x y h = rw (tied_itself nat_list_cmp_total disk) (less x y h)
 
-pub begins : (disk d : Word) (x y : ℕ) → d ≡ disk → place_cmp (d, x) (disk, y) ≡ Less → x < y
+pub begins : (disk d : Word) (x y : ℕ) → d ≡ disk → key_cmp (d, x) (disk, y) ≡ Less → x < y
 begins disk d x y same h =
     let tied : slice_cmp nat_cmp d disk ≡ Equal = subst (λ k. slice_cmp nat_cmp d k ≡ Equal) same (tied_itself nat_list_cmp_total d) in
     below x y (rw tied at h)

@@ -1,6 +1,6 @@
 -- A plex is whole: its columns have no holes, are of one length, and hold what the plex is for.
 use Rattle.std.specs.Prelude.{ℕ, Bool, true, Option, Some, None, List, ◌&&◌}
-use Rattle.std.specs.List.{list_any, list_all}
+use Rattle.std.specs.List.{list_any}
 use Rattle.std.specs.Str.{bytes_eq}
 use Rattle.vx_base.specs.Named.{Word}
 use Rattle.vx_parts.specs.declared.plex.Plex.{Plex}
@@ -10,7 +10,7 @@ use Rattle.vx_parts.specs.declared.object.Object.TheVariants.{PlexRecord}
 use Rattle.vx_parts.specs.declared.fault.ObjectFault.{ObjectFault}
 use Rattle.vx_parts.specs.declared.fault.ObjectFault.TheVariants.{NotWhole}
 use Rattle.vx_parts.specs.Objects.{is_vol}
-use Rattle.vx_extents.specs.Columns.{all_pieces_good, columns_are_equal, layout_is_good, plex_length}
+use Rattle.vx_extents.specs.Columns.{columns_are_good, plex_length}
 use Rattle.vx_extents.specs.Sizes.{holds, layout_fits_kind}
 use Rattle.vx_rules.specs.Faults.{unless}
 
@@ -24,8 +24,7 @@ holds_volume all p None = true
 holds_volume all p (Some vol) = has_volume_within all vol p.kind (plex_length all p)
 
 abbrev pub is_whole : List Object → Plex → Bool
-is_whole all p =
-    layout_fits_kind p.kind p.layout && layout_is_good all p p.layout && columns_are_equal all p && list_all (λ o. all_pieces_good all p o) all && holds_volume all p p.vol
+is_whole all p = layout_fits_kind p.kind p.layout && columns_are_good all p && holds_volume all p p.vol
 
 abbrev pub whole_fault : List Object → Object → Option ObjectFault
 whole_fault all (PlexRecord p) = unless (is_whole all p) (NotWhole p.name)

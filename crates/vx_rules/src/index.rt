@@ -9,14 +9,17 @@ ghost use Rattle.vx_rules.specs.References.{repeated_after};
 use std::alloc::Global;
 use std::collections::BTreeMap;
 use vx_base::OutOfMemory;
+use vx_extents::Pieces;
 use vx_names::Name;
 use vx_parts::{Dco, Disk, Object, ObjectFault, Plex, Vol};
 
-/// The records of a configuration whose names differ, each found by its name.
+/// The records of a configuration whose names differ: each is found by its name, and the columns of a plex by its own.
 #[derive(Drop)]
 pub(crate) struct Index<'a> {
     pub(crate) all: &'a [Object],
+    pub(crate) pieces: Pieces<'a>,
     by_name: BTreeMap<Name, &'a Object>,
+    ghost same: { pieces ≡ all.now },
     ghost names_differ: { repeated_after [] all.now ≡ None },
     ghost finds: { (name : List ℕ) → option_copied (get (slice_cmp nat_cmp) by_name name) ≡ first_named name all.now },
 }
@@ -38,7 +41,12 @@ impl<'a> Index<'a> {
                 return Ok(Err(ObjectFault::Exists(*object.name())));
             }
         }
-        Ok(Ok(Index { all, by_name }))
+        let pieces = Pieces::of(alloc, all)?;
+        Ok(Ok(Index {
+            all,
+            pieces,
+            by_name,
+        }))
     }
 
     /// The disk of that name.

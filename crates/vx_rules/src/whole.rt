@@ -2,9 +2,7 @@ ghost use Rattle.std.specs.Prelude.{◌≡◌};
 ghost use Rattle.vx_rules.specs.Whole.{has_volume_within, holds_volume, is_whole, whole_fault};
 
 use crate::index::Index;
-use vx_extents::{
-    columns_are_equal, holds, layout_fits_kind, layout_is_good, pieces_are_good, plex_length,
-};
+use vx_extents::{holds, layout_fits_kind};
 use vx_names::Name;
 use vx_parts::{Object, ObjectFault, Plex, PlexKind};
 
@@ -24,9 +22,7 @@ fn is_whole(index: &Index, plex: &Plex) -> bool
     ensures { result ≡ is_whole index.now.all.now plex.now }
 {
     layout_fits_kind(plex.kind, plex.layout)
-        && layout_is_good(index.all, plex)
-        && columns_are_equal(index.all, plex)
-        && pieces_are_good(index.all, plex)
+        && index.pieces.are_good(plex)
         && holds_volume(index, plex)
 }
 
@@ -35,7 +31,7 @@ fn holds_volume(index: &Index, plex: &Plex) -> bool
 {
     match &plex.vol {
         None => true,
-        Some(vol) => has_volume_within(index, vol, plex.kind, plex_length(index.all, plex)),
+        Some(vol) => has_volume_within(index, vol, plex.kind, index.pieces.plex_length(plex)),
     }
 }
 

@@ -9,6 +9,8 @@ mod references;
 mod relations;
 mod rule;
 mod space;
+#[cfg(test)]
+mod tests;
 mod uses;
 mod whole;
 

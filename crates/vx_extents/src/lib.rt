@@ -11,6 +11,8 @@ mod piece;
 mod pieces;
 mod scans;
 mod sizes;
+#[cfg(test)]
+mod tests;
 
 pub use overlap::overlap_fault;
 pub use pieces::Pieces;

@@ -159,9 +159,10 @@ impl Config {
         let Ok(records) = with_groups(alloc, &groups, &below) else {
             return Err(ObjectFault::OutOfMemory);
         };
-        match first_broken(&records) {
-            Some(fault) => Err(fault),
-            None => Ok(config_of(&groups, below)),
+        match first_broken(alloc, &records) {
+            Err(OutOfMemory) => Err(ObjectFault::OutOfMemory),
+            Ok(Some(fault)) => Err(fault),
+            Ok(None) => Ok(config_of(&groups, below)),
         }
     }
 

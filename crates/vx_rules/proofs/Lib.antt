@@ -1,1 +1,4 @@
-pub mod Below
+pub mod Gathered
+pub mod Lookups
+pub mod InOrder
+pub mod Counted

@@ -1,4 +1,5 @@
 pub mod Faults
+pub mod Named
 pub mod References
 pub mod Limits
 pub mod Space

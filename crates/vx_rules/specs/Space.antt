@@ -1,49 +1,23 @@
 -- Where subdisks lie.
-use Rattle.std.specs.Prelude.{◌+◌, Bool, Option, Some, None, List, ◌&&◌, nat_le, nat_lt, if◌then◌else◌}
-use Rattle.std.specs.List.{list_any, fold}
+use Rattle.std.specs.Prelude.{◌+◌, Bool, Option, None, List, ◌&&◌, nat_le, nat_lt}
+use Rattle.std.specs.List.{list_any}
 use Rattle.std.specs.Str.{bytes_eq}
-use Rattle.vx_base.specs.Named.{Word}
 use Rattle.vx_parts.specs.declared.subdisk.Subdisk.{Subdisk}
 use Rattle.vx_parts.specs.declared.object.Object.{Object}
 use Rattle.vx_parts.specs.declared.object.Object.TheVariants.{SubdiskRecord}
 use Rattle.vx_parts.specs.declared.fault.ObjectFault.{ObjectFault}
-use Rattle.vx_parts.specs.declared.fault.ObjectFault.TheVariants.{Outside, Overlap}
-use Rattle.vx_parts.specs.Objects.{is_disk, is_subdisk, comes_before}
+use Rattle.vx_parts.specs.declared.fault.ObjectFault.TheVariants.{Outside}
+use Rattle.vx_parts.specs.Objects.{is_disk}
 use Rattle.vx_rules.specs.Faults.{unless}
+
+-- its disk reaches to the end of the subdisk
+abbrev pub has_room : List Object → Subdisk → Bool
+has_room all s = list_any (λ o. is_disk (λ d. bytes_eq d.name s.disk && nat_le (s.off + s.len) d.publen) o) all
 
 -- the subdisk has a sector, and lies in the public region of its disk
 abbrev pub lies_inside : List Object → Subdisk → Bool
-lies_inside all s = nat_lt 0 s.len && list_any (λ o. is_disk (λ d. bytes_eq d.name s.disk && nat_le (s.off + s.len) d.publen) o) all
+lies_inside all s = nat_lt 0 s.len && has_room all s
 
 abbrev pub outside_fault : List Object → Object → Option ObjectFault
 outside_fault all (SubdiskRecord s) = unless (lies_inside all s) (Outside s.name)
 outside_fault all _ = None
-
--- the two have a sector in common
-abbrev pub shares_sector : Subdisk → Subdisk → Bool
-shares_sector s t = bytes_eq s.disk t.disk && nat_lt s.off (t.off + t.len) && nat_lt t.off (s.off + s.len)
-
--- the subdisk overlaps one that comes before it by name
-abbrev pub overlaps_earlier : List Object → Subdisk → Bool
-overlaps_earlier all s = list_any (λ o. is_subdisk (λ t. comes_before t.name s.name && shares_sector s t) o) all
-
--- the lesser of two names
-abbrev pub lesser : Option Word → Word → Option Word
-lesser None name = Some name
-lesser (Some best) name = if comes_before name best then Some name else Some best
-
--- the first by name of those so far and this record, if it overlaps an earlier one
-abbrev pub first_overlap_with : List Object → Option Word → Object → Option Word
-first_overlap_with all best (SubdiskRecord s) = if overlaps_earlier all s then lesser best s.name else best
-first_overlap_with all best _ = best
-
--- the first subdisk by name that overlaps an earlier one
-abbrev pub first_overlap : List Object → Option Word
-first_overlap all = fold (first_overlap_with all) None all
-
-abbrev pub overlap_of : Option Word → Option ObjectFault
-overlap_of None = None
-overlap_of (Some name) = Some (Overlap name)
-
-abbrev pub overlap_fault : List Object → Option ObjectFault
-overlap_fault all = overlap_of (first_overlap all)

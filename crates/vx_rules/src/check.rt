@@ -1,17 +1,21 @@
-ghost use Rattle.std.specs.Prelude.{◌≡◌};
+ghost use Rattle.std.specs.Prelude.{◌≡◌, IfOk};
 ghost use Rattle.vx_rules.specs.Faults.{first_of, unless};
 ghost use Rattle.vx_rules.specs.Rules.{fault_in, fault_over, fault_of, rules, first_broken_of, first_broken};
 
 use crate::Rule;
+use crate::index::Index;
 use crate::limits::{
     has_one_group, name_is_short, numbers_fit, plexes_are_good, region_is_good, regions_are_good,
     slot_is_own, volumes_are_few,
 };
 use crate::maps::{log_fault, map_fault, prefer_fault};
-use crate::references::{reference_fault, repeated};
+use crate::references::reference_fault;
 use crate::relations::{relation_fault, relation_log_fault, shape_fault};
-use crate::space::{outside_fault, overlap_fault};
+use crate::space::outside_fault;
 use crate::whole::whole_fault;
+use std::alloc::Global;
+use vx_base::OutOfMemory;
+use vx_extents::overlap_fault;
 use vx_parts::{Limit, Object, ObjectFault};
 
 const RULES: [Rule; 19] = [
@@ -38,52 +42,61 @@ const RULES: [Rule; 19] = [
 
 /// The refusal of a configuration with these records: the first rule that is broken, with the first record that breaks
 /// it. There is none where they are valid.
-#[tactic(auto, unfolding(crate::specs::Rules::first_broken))]
-pub fn first_broken(all: &[Object]) -> Option<ObjectFault>
-    ensures { result ≡ first_broken all.now }
+pub fn first_broken(alloc: Global, all: &[Object]) -> Result<Option<ObjectFault>, OutOfMemory>
+    ensures { IfOk result (λ fault. fault ≡ first_broken all.now) }
 {
-    first_broken_of(&RULES, all)
+    match Index::new(alloc, all)? {
+        Ok(index) => first_broken_of(alloc, &RULES, &index),
+        Err(repeated) => match limit_unless(has_one_group(all), Limit::Group) {
+            Some(fault) => Ok(Some(fault)),
+            None => Ok(Some(repeated)),
+        },
+    }
 }
 
-fn first_broken_of(rules: &[Rule], all: &[Object]) -> Option<ObjectFault>
-    ensures { result ≡ first_broken_of rules.now all.now }
+fn first_broken_of(
+    alloc: Global,
+    rules: &[Rule],
+    index: &Index,
+) -> Result<Option<ObjectFault>, OutOfMemory>
+    ensures { IfOk result (λ fault. fault ≡ first_broken_of rules.now index.now.all.now) }
 {
     for rule in rules {
-        if let Some(fault) = fault_of(*rule, all) {
-            return Some(fault);
+        if let Some(fault) = fault_of(alloc, *rule, index)? {
+            return Ok(Some(fault));
         }
     }
-    None
+    Ok(None)
 }
 
 #[tactic(auto, unfolding(crate::specs::Rules::fault_of))]
-fn fault_of(rule: Rule, all: &[Object]) -> Option<ObjectFault>
-    ensures { result ≡ fault_of rule all.now }
+fn fault_of(alloc: Global, rule: Rule, index: &Index) -> Result<Option<ObjectFault>, OutOfMemory>
+    ensures { IfOk result (λ fault. fault ≡ fault_of rule index.now.all.now) }
 {
-    match fault_over(rule, all) {
-        Some(fault) => Some(fault),
-        None => first_in(rule, all),
+    match fault_over(alloc, rule, index)? {
+        Some(fault) => Ok(Some(fault)),
+        None => Ok(first_in(rule, index)),
     }
 }
 
+/// The fault under a rule on the records together. Where they have an index their names differ.
 #[tactic(auto, unfolding(crate::specs::Rules::fault_over))]
-fn fault_over(rule: Rule, all: &[Object]) -> Option<ObjectFault>
-    ensures { result ≡ fault_over rule all.now }
+fn fault_over(alloc: Global, rule: Rule, index: &Index) -> Result<Option<ObjectFault>, OutOfMemory>
+    ensures { IfOk result (λ fault. fault ≡ fault_over rule index.now.all.now) }
 {
     match rule {
-        Rule::OneGroup => limit_unless(has_one_group(all), Limit::Group),
-        Rule::NamesDiffer => repeated(all),
-        Rule::VolumesAreFew => limit_unless(volumes_are_few(all), Limit::Volumes),
-        Rule::SubdisksDoNotOverlap => overlap_fault(all),
-        _ => None,
+        Rule::OneGroup => Ok(limit_unless(has_one_group(index.all), Limit::Group)),
+        Rule::VolumesAreFew => Ok(limit_unless(volumes_are_few(index.all), Limit::Volumes)),
+        Rule::SubdisksDoNotOverlap => overlap_fault(alloc, index.all),
+        _ => Ok(None),
     }
 }
 
-fn first_in(rule: Rule, all: &[Object]) -> Option<ObjectFault>
-    ensures { result ≡ first_of (fault_in rule all.now) all.now }
+fn first_in(rule: Rule, index: &Index) -> Option<ObjectFault>
+    ensures { result ≡ first_of (fault_in rule index.now.all.now) index.now.all.now }
 {
-    for object in all {
-        if let Some(fault) = fault_in(rule, all, object) {
+    for object in index.all {
+        if let Some(fault) = fault_in(rule, index, object) {
             return Some(fault);
         }
     }
@@ -91,27 +104,27 @@ fn first_in(rule: Rule, all: &[Object]) -> Option<ObjectFault>
 }
 
 #[tactic(auto, unfolding(crate::specs::Rules::fault_in))]
-fn fault_in(rule: Rule, all: &[Object], object: &Object) -> Option<ObjectFault>
-    ensures { result ≡ fault_in rule all.now object.now }
+fn fault_in(rule: Rule, index: &Index, object: &Object) -> Option<ObjectFault>
+    ensures { result ≡ fault_in rule index.now.all.now object.now }
 {
     match rule {
         Rule::OneGroup | Rule::NamesDiffer | Rule::VolumesAreFew | Rule::SubdisksDoNotOverlap =>
             None,
-        Rule::ReferencesAreThere => reference_fault(all, object),
+        Rule::ReferencesAreThere => reference_fault(index, object),
         Rule::NumbersFit => limit_unless(numbers_fit(object), Limit::Number),
-        Rule::SlotsDiffer => limit_unless(slot_is_own(all, object), Limit::Disks),
+        Rule::SlotsDiffer => limit_unless(slot_is_own(index.all, object), Limit::Disks),
         Rule::NamesAreShort => limit_unless(name_is_short(object), Limit::Name),
         Rule::RegionSizesAreGood => limit_unless(region_is_good(object), Limit::Region),
         Rule::RegionsAreGood => limit_unless(regions_are_good(object), Limit::Regions),
-        Rule::PlexesAreGood => limit_unless(plexes_are_good(all, object), Limit::Plexes),
-        Rule::SubdisksLieInside => outside_fault(all, object),
-        Rule::PlexesAreWhole => whole_fault(all, object),
-        Rule::MapsAreGood => map_fault(all, object),
-        Rule::LogsAreGood => log_fault(all, object),
-        Rule::PreferredPlexIsThere => prefer_fault(all, object),
-        Rule::RelationsAreAlone => relation_fault(all, object),
-        Rule::RelatedVolumesHaveLogs => relation_log_fault(all, object),
-        Rule::RelatedVolumesHaveOneShape => shape_fault(all, object),
+        Rule::PlexesAreGood => limit_unless(plexes_are_good(index.all, object), Limit::Plexes),
+        Rule::SubdisksLieInside => outside_fault(index, object),
+        Rule::PlexesAreWhole => whole_fault(index, object),
+        Rule::MapsAreGood => map_fault(index.all, object),
+        Rule::LogsAreGood => log_fault(index.all, object),
+        Rule::PreferredPlexIsThere => prefer_fault(index, object),
+        Rule::RelationsAreAlone => relation_fault(index.all, object),
+        Rule::RelatedVolumesHaveLogs => relation_log_fault(index, object),
+        Rule::RelatedVolumesHaveOneShape => shape_fault(index, object),
     }
 }
 

@@ -2,12 +2,16 @@
 #![tactic(auto)]
 
 mod check;
+mod index;
 mod limits;
 mod maps;
 mod references;
 mod relations;
 mod rule;
 mod space;
+#[cfg(test)]
+mod tests;
+mod uses;
 mod whole;
 
 pub use check::first_broken;

@@ -5,7 +5,7 @@ ghost use Rattle.vx_rules.specs.Limits.{has_one_group, is_short, fits_word, map_
 
 use vx_block::Geometry;
 use vx_names::Name;
-use vx_parts::{Object, PlexKind, Subdisk, refers};
+use vx_parts::{Object, Plex, PlexKind, Subdisk, refers};
 
 /// There is one group record, of version 1.
 pub(crate) fn has_one_group(all: &[Object]) -> bool
@@ -181,9 +181,15 @@ pub(crate) fn is_data_plex_of(object: &Object, vol: &Name) -> bool
     ensures { result ≡ is_plex (λ p. is_data_plex_of vol.now p) object.now }
 {
     match object {
-        Object::PlexRecord(plex) => refers(&plex.vol, vol) && plex.kind == PlexKind::Data,
+        Object::PlexRecord(plex) => is_data_of(plex, vol),
         _ => false,
     }
+}
+
+pub(crate) fn is_data_of(plex: &Plex, vol: &Name) -> bool
+    ensures { result ≡ is_data_plex_of vol.now plex.now }
+{
+    refers(&plex.vol, vol) && plex.kind == PlexKind::Data
 }
 
 fn plex_count(all: &[Object], vol: &Name) -> usize

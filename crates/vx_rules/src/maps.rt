@@ -4,7 +4,9 @@ ghost use Rattle.std.specs.Str.{bytes_eq};
 ghost use Rattle.vx_parts.specs.Objects.{is_plex, is_vol, is_snap, refers, is_data_plex_of, is_log_plex_of};
 ghost use Rattle.vx_rules.specs.Maps.{has_map, map_uses, plex_map_fits, maps_fit, maps_differ, maps_are_good, map_fault, is_in_use, log_count, data_count, logs_are_good, log_fault, has_data_plex, prefer_fault_of, prefer_fault};
 
-use crate::limits::is_data_plex_of;
+use crate::index::Index;
+use crate::limits::{is_data_of, is_data_plex_of};
+use crate::uses::uses_of_maps;
 use vx_names::Name;
 use vx_parts::{Object, ObjectFault, PlexKind, PlexState, PolicyKind, Vol, refers, same};
 
@@ -72,80 +74,13 @@ fn plex_map_fits(kind: PlexKind, prepared: bool, map: Option<u8>) -> bool
 fn maps_differ(all: &[Object], vol: &Name) -> bool
     ensures { result ≡ maps_differ all.now vol.now }
 {
-    for map in 0u8..30 {
-        if map_uses(all, vol, map) > 1 {
+    let uses = uses_of_maps(all, vol);
+    for map in 0..30 {
+        if uses[map] > 1 {
             return false;
         }
     }
     true
-}
-
-fn map_uses(all: &[Object], vol: &Name, map: u8) -> u128
-    ensures { result ≡ map_uses all.now vol.now map }
-{
-    plex_uses(all, vol, map) as u128
-        + snapshot_uses(all, vol, map) as u128
-        + original_uses(all, vol, map) as u128
-}
-
-fn plex_uses(all: &[Object], vol: &Name, map: u8) -> usize
-    ensures { result ≡ count_by (λ o. is_plex (λ p. is_data_plex_of vol.now p && has_map p.map map) o) all.now }
-{
-    all.iter()
-        .filter(|object| is_plex_using(object, vol, map))
-        .count()
-}
-
-fn is_plex_using(object: &Object, vol: &Name, map: u8) -> bool
-    ensures { result ≡ is_plex (λ p. is_data_plex_of vol.now p && has_map p.map map) object.now }
-{
-    match object {
-        Object::PlexRecord(plex) => is_data_plex_of(object, vol) && has_map(plex.map, map),
-        _ => false,
-    }
-}
-
-fn has_map(attribute: Option<u8>, map: u8) -> bool
-    ensures { result ≡ has_map attribute map }
-{
-    match attribute {
-        None => false,
-        Some(other) => other == map,
-    }
-}
-
-fn snapshot_uses(all: &[Object], vol: &Name, map: u8) -> usize
-    ensures { result ≡ count_by (λ o. is_snap (λ s. bytes_eq s.vol vol.now && s.map == map) o) all.now }
-{
-    all.iter()
-        .filter(|object| is_snapshot_using(object, vol, map))
-        .count()
-}
-
-fn is_snapshot_using(object: &Object, vol: &Name, map: u8) -> bool
-    ensures { result ≡ is_snap (λ s. bytes_eq s.vol vol.now && s.map == map) object.now }
-{
-    match object {
-        Object::SnapRecord(snap) => same(&snap.vol, vol) && snap.map == map,
-        _ => false,
-    }
-}
-
-fn original_uses(all: &[Object], vol: &Name, map: u8) -> usize
-    ensures { result ≡ count_by (λ o. is_snap (λ s. bytes_eq s.of vol.now && s.ofmap == map) o) all.now }
-{
-    all.iter()
-        .filter(|object| is_original_using(object, vol, map))
-        .count()
-}
-
-fn is_original_using(object: &Object, vol: &Name, map: u8) -> bool
-    ensures { result ≡ is_snap (λ s. bytes_eq s.of vol.now && s.ofmap == map) object.now }
-{
-    match object {
-        Object::SnapRecord(snap) => same(&snap.of, vol) && snap.ofmap == map,
-        _ => false,
-    }
 }
 
 /// A volume with two or more data plexes has a DCO; one with a DCO has one or two logs in use.
@@ -206,43 +141,34 @@ fn is_in_use(state: PlexState) -> bool
 }
 
 /// A plex is preferred exactly where the policy prefers one, and it is a data plex of the volume.
-pub(crate) fn prefer_fault(all: &[Object], object: &Object) -> Option<ObjectFault>
-    ensures { result ≡ prefer_fault all.now object.now }
+pub(crate) fn prefer_fault(index: &Index, object: &Object) -> Option<ObjectFault>
+    ensures { result ≡ prefer_fault index.now.all.now object.now }
 {
     match object {
-        Object::VolRecord(vol) => prefer_fault_of(all, &vol.name, vol.rdpol, &vol.prefer),
+        Object::VolRecord(vol) => prefer_fault_of(index, &vol.name, vol.rdpol, &vol.prefer),
         _ => None,
     }
 }
 
 fn prefer_fault_of(
-    all: &[Object],
+    index: &Index,
     vol: &Name,
     policy: PolicyKind,
     prefer: &Option<Name>,
 ) -> Option<ObjectFault>
-    ensures { result ≡ prefer_fault_of all.now vol.now policy prefer.now }
+    ensures { result ≡ prefer_fault_of index.now.all.now vol.now policy prefer.now }
 {
     match (policy, prefer) {
-        (PolicyKind::Prefer, Some(plex)) if has_data_plex(plex, vol, all) => None,
+        (PolicyKind::Prefer, Some(plex)) if has_data_plex(plex, vol, index) => None,
         (PolicyKind::Prefer, None) => Some(ObjectFault::NoObject(*vol)),
         (_, Some(plex)) => Some(ObjectFault::NoObject(*plex)),
         (_, None) => None,
     }
 }
 
-fn has_data_plex(name: &Name, vol: &Name, all: &[Object]) -> bool
-    ensures { result ≡ has_data_plex name.now vol.now all.now }
+#[tactic(auto, using(crate::proofs::Lookups::has_data_plex_is))]
+fn has_data_plex(name: &Name, vol: &Name, index: &Index) -> bool
+    ensures { result ≡ has_data_plex name.now vol.now index.now.all.now }
 {
-    all.iter()
-        .any(|object| is_data_plex_named(object, name, vol))
-}
-
-fn is_data_plex_named(object: &Object, name: &Name, vol: &Name) -> bool
-    ensures { result ≡ is_plex (λ p. bytes_eq p.name name.now && is_data_plex_of vol.now p) object.now }
-{
-    match object {
-        Object::PlexRecord(plex) => same(&plex.name, name) && is_data_plex_of(object, vol),
-        _ => false,
-    }
+    index.plex(name).is_some_and(|plex| is_data_of(plex, vol))
 }

@@ -1,10 +1,11 @@
-ghost use Rattle.std.specs.Prelude.{◌≡◌, ◌&&◌, ◌==◌, ℕ, is_some};
+ghost use Rattle.std.specs.Prelude.{◌≡◌, ◌&&◌, ◌==◌, ℕ};
 ghost use Rattle.std.specs.List.{list_any, count_by};
 ghost use Rattle.std.specs.Str.{bytes_eq};
-ghost use Rattle.vx_parts.specs.Objects.{is_vol, is_snap};
+ghost use Rattle.vx_parts.specs.Objects.{is_snap};
 ghost use Rattle.vx_rules.specs.Faults.{first_some, unless};
 ghost use Rattle.vx_rules.specs.Relations.{relation_is_alone, relation_fault, is_prepared, relation_log_fault, has_shape, shapes_are_equal, shape_fault};
 
+use crate::index::Index;
 use vx_names::Name;
 use vx_parts::{Limit, Object, ObjectFault, Snap, same};
 
@@ -58,82 +59,61 @@ fn is_relation_of(object: &Object, vol: &Name) -> bool
 }
 
 /// A snapshot and its original each have a DCO.
-pub(crate) fn relation_log_fault(all: &[Object], object: &Object) -> Option<ObjectFault>
-    ensures { result ≡ relation_log_fault all.now object.now }
+pub(crate) fn relation_log_fault(index: &Index, object: &Object) -> Option<ObjectFault>
+    ensures { result ≡ relation_log_fault index.now.all.now object.now }
 {
     match object {
-        Object::SnapRecord(snap) => unprepared(all, snap),
+        Object::SnapRecord(snap) => unprepared(index, snap),
         _ => None,
     }
 }
 
-fn unprepared(all: &[Object], snap: &Snap) -> Option<ObjectFault>
-    ensures { result ≡ first_some (unless (is_prepared all.now snap.now.vol) (ObjectFault.NoLog snap.now.vol)) (unless (is_prepared all.now snap.now.of) (ObjectFault.NoLog snap.now.of)) }
+fn unprepared(index: &Index, snap: &Snap) -> Option<ObjectFault>
+    ensures { result ≡ first_some (unless (is_prepared index.now.all.now snap.now.vol) (ObjectFault.NoLog snap.now.vol)) (unless (is_prepared index.now.all.now snap.now.of) (ObjectFault.NoLog snap.now.of)) }
 {
-    if !is_prepared(all, &snap.vol) {
+    if !is_prepared(index, &snap.vol) {
         Some(ObjectFault::NoLog(snap.vol))
-    } else if !is_prepared(all, &snap.of) {
+    } else if !is_prepared(index, &snap.of) {
         Some(ObjectFault::NoLog(snap.of))
     } else {
         None
     }
 }
 
-fn is_prepared(all: &[Object], vol: &Name) -> bool
-    ensures { result ≡ is_prepared all.now vol.now }
+#[tactic(auto, using(crate::proofs::Lookups::is_prepared_is))]
+fn is_prepared(index: &Index, vol: &Name) -> bool
+    ensures { result ≡ is_prepared index.now.all.now vol.now }
 {
-    all.iter().any(|object| is_prepared_vol(object, vol))
-}
-
-fn is_prepared_vol(object: &Object, name: &Name) -> bool
-    ensures { result ≡ is_vol (λ v. bytes_eq v.name name.now && is_some v.dco) object.now }
-{
-    match object {
-        Object::VolRecord(vol) => same(&vol.name, name) && vol.dco.is_some(),
-        _ => false,
-    }
+    index.vol(vol).is_some_and(|vol| vol.dco.is_some())
 }
 
 /// A snapshot and its original have one length and one region.
-pub(crate) fn shape_fault(all: &[Object], object: &Object) -> Option<ObjectFault>
-    ensures { result ≡ shape_fault all.now object.now }
+pub(crate) fn shape_fault(index: &Index, object: &Object) -> Option<ObjectFault>
+    ensures { result ≡ shape_fault index.now.all.now object.now }
 {
     match object {
-        Object::SnapRecord(snap) if !shapes_are_equal(all, snap) => Some(ObjectFault::Limit(
+        Object::SnapRecord(snap) if !shapes_are_equal(index, snap) => Some(ObjectFault::Limit(
             Limit::Region,
         )),
         _ => None,
     }
 }
 
-fn shapes_are_equal(all: &[Object], snap: &Snap) -> bool
-    ensures { result ≡ shapes_are_equal all.now snap.now }
+#[tactic(auto, using(crate::proofs::Lookups::shapes_are_equal_is))]
+fn shapes_are_equal(index: &Index, snap: &Snap) -> bool
+    ensures { result ≡ shapes_are_equal index.now.all.now snap.now }
 {
-    all.iter().any(|object| is_like_original(all, object, snap))
-}
-
-fn is_like_original(all: &[Object], object: &Object, snap: &Snap) -> bool
-    ensures { result ≡ is_vol (λ v. bytes_eq v.name snap.now.vol && has_shape all.now snap.now.of v.len v.region) object.now }
-{
-    match object {
-        Object::VolRecord(vol) => same(&vol.name, &snap.vol)
-            && has_shape(all, &snap.of, vol.len, vol.region),
-        _ => false,
+    match index.vol(&snap.vol) {
+        Some(vol) => has_shape(index, &snap.of, vol.len, vol.region),
+        None => false,
     }
 }
 
-fn has_shape(all: &[Object], name: &Name, len: u64, region: u64) -> bool
-    ensures { result ≡ has_shape all.now name.now len region }
+#[tactic(auto, using(crate::proofs::Lookups::has_shape_is))]
+fn has_shape(index: &Index, name: &Name, len: u64, region: u64) -> bool
+    ensures { result ≡ has_shape index.now.all.now name.now len region }
 {
-    all.iter()
-        .any(|object| is_vol_of_shape(object, name, len, region))
-}
-
-fn is_vol_of_shape(object: &Object, name: &Name, len: u64, region: u64) -> bool
-    ensures { result ≡ is_vol (λ v. bytes_eq v.name name.now && v.len == len && v.region == region) object.now }
-{
-    match object {
-        Object::VolRecord(vol) => same(&vol.name, name) && vol.len == len && vol.region == region,
-        _ => false,
-    }
+    index
+        .vol(name)
+        .is_some_and(|vol| vol.len == len && vol.region == region)
 }

@@ -1,43 +1,34 @@
-ghost use Rattle.std.specs.Prelude.{◌≡◌, ◌&&◌, ◌+◌, ℕ, nat_lt, nat_le};
-ghost use Rattle.std.specs.List.{list_any};
-ghost use Rattle.std.specs.Str.{bytes_eq};
-ghost use Rattle.vx_parts.specs.Objects.{is_disk, is_subdisk, comes_before};
-ghost use Rattle.vx_rules.specs.Space.{lies_inside, outside_fault, shares_sector, overlaps_earlier, lesser, first_overlap_with, first_overlap, overlap_fault};
+ghost use Rattle.std.specs.Prelude.{◌≡◌, ◌+◌, nat_le};
+ghost use Rattle.vx_rules.specs.Space.{has_room, lies_inside, outside_fault};
 
-use vx_names::Name;
-use vx_parts::{Object, ObjectFault, Subdisk, comes_before, same};
+use crate::index::Index;
+use vx_parts::{Object, ObjectFault, Subdisk};
 
 /// The subdisk has a sector, and lies in the public region of its disk.
-pub(crate) fn outside_fault(all: &[Object], object: &Object) -> Option<ObjectFault>
-    ensures { result ≡ outside_fault all.now object.now }
+pub(crate) fn outside_fault(index: &Index, object: &Object) -> Option<ObjectFault>
+    ensures { result ≡ outside_fault index.now.all.now object.now }
 {
     match object {
-        Object::SubdiskRecord(subdisk) if !lies_inside(all, subdisk) => Some(ObjectFault::Outside(
+        Object::SubdiskRecord(subdisk) if !lies_inside(index, subdisk) => Some(ObjectFault::Outside(
             subdisk.name,
         )),
         _ => None,
     }
 }
 
-fn lies_inside(all: &[Object], subdisk: &Subdisk) -> bool
-    ensures { result ≡ lies_inside all.now subdisk.now }
+fn lies_inside(index: &Index, subdisk: &Subdisk) -> bool
+    ensures { result ≡ lies_inside index.now.all.now subdisk.now }
 {
-    subdisk.len > 0 && has_room(all, subdisk)
+    subdisk.len > 0 && has_room(index, subdisk)
 }
 
-fn has_room(all: &[Object], subdisk: &Subdisk) -> bool
-    ensures { result ≡ list_any (λ o. is_disk (λ d. bytes_eq d.name subdisk.now.disk && nat_le (subdisk.now.off + subdisk.now.len) d.publen) o) all.now }
+#[tactic(auto, using(crate::proofs::Lookups::has_room_is))]
+fn has_room(index: &Index, subdisk: &Subdisk) -> bool
+    ensures { result ≡ has_room index.now.all.now subdisk.now }
 {
-    all.iter().any(|object| is_disk_around(object, subdisk))
-}
-
-fn is_disk_around(object: &Object, subdisk: &Subdisk) -> bool
-    ensures { result ≡ is_disk (λ d. bytes_eq d.name subdisk.now.disk && nat_le (subdisk.now.off + subdisk.now.len) d.publen) object.now }
-{
-    match object {
-        Object::DiskRecord(disk) => same(&disk.name, &subdisk.disk)
-            && ends_by(subdisk.off, subdisk.len, disk.publen),
-        _ => false,
+    match index.disk(&subdisk.disk) {
+        Some(disk) => ends_by(subdisk.off, subdisk.len, disk.publen),
+        None => false,
     }
 }
 
@@ -45,73 +36,4 @@ fn ends_by(off: u64, len: u64, end: u64) -> bool
     ensures { result ≡ nat_le (off + len) end }
 {
     off <= end && len <= end - off
-}
-
-/// The first subdisk by name that overlaps one that comes before it by name.
-pub(crate) fn overlap_fault(all: &[Object]) -> Option<ObjectFault>
-    ensures { result ≡ overlap_fault all.now }
-{
-    match first_overlap(all) {
-        Some(name) => Some(ObjectFault::Overlap(name)),
-        None => None,
-    }
-}
-
-fn first_overlap(all: &[Object]) -> Option<Name>
-    ensures { result ≡ first_overlap all.now }
-{
-    let mut best = None;
-    for object in all {
-        best = first_overlap_with(all, best, object);
-    }
-    best
-}
-
-fn first_overlap_with(all: &[Object], best: Option<Name>, object: &Object) -> Option<Name>
-    ensures { result ≡ first_overlap_with all.now best object.now }
-{
-    match object {
-        Object::SubdiskRecord(subdisk) if overlaps_earlier(all, subdisk) => Some(lesser(
-            best,
-            &subdisk.name,
-        )),
-        _ => best,
-    }
-}
-
-fn lesser(best: Option<Name>, name: &Name) -> Name
-    ensures { Some result ≡ lesser best name.now }
-{
-    match best {
-        Some(other) if !comes_before(name, &other) => other,
-        _ => *name,
-    }
-}
-
-fn overlaps_earlier(all: &[Object], subdisk: &Subdisk) -> bool
-    ensures { result ≡ overlaps_earlier all.now subdisk.now }
-{
-    all.iter().any(|object| is_earlier_on(object, subdisk))
-}
-
-fn is_earlier_on(object: &Object, subdisk: &Subdisk) -> bool
-    ensures { result ≡ is_subdisk (λ t. comes_before t.name subdisk.now.name && shares_sector subdisk.now t) object.now }
-{
-    match object {
-        Object::SubdiskRecord(other) => comes_before(&other.name, &subdisk.name)
-            && shares_sector(subdisk, other),
-        _ => false,
-    }
-}
-
-fn shares_sector(a: &Subdisk, b: &Subdisk) -> bool
-    ensures { result ≡ shares_sector a.now b.now }
-{
-    same(&a.disk, &b.disk) && is_below_end(a.off, b.off, b.len) && is_below_end(b.off, a.off, a.len)
-}
-
-fn is_below_end(sector: u64, off: u64, len: u64) -> bool
-    ensures { result ≡ nat_lt sector (off + len) }
-{
-    sector < off || sector - off < len
 }

@@ -2,9 +2,9 @@ use Rattle.std.proofs.Common.{◌≡◌, ℕ, ◌<◌, nat_le, List, true, false
 use Rattle.std.proofs.lemmas.Bool.{lt-leb}
 use Rattle.vx_base.specs.Named.{Word}
 use Rattle.vx_parts.specs.declared.object.Object.{Object}
-use Rattle.vx_rules.specs.Whole.{all_below}
+use Rattle.vx_extents.specs.Below.{all_below}
 use Rattle.vx_rules.specs.Maps.{map_uses, maps_differ}
-use Rattle.vx_rules.proofs.Below.{all_below_fails}
+use Rattle.vx_extents.proofs.Below.{all_below_fails}
 use Rattle.vx_rules.proofs.maps.maps_differ.Goals as goal
 
 differ_fails : (all : List Object) (vol : Word) (m : ℕ) → m < 30 → 1 < map_uses all vol m → maps_differ all vol ≡ false
@@ -15,8 +15,10 @@ differ_holds : (all : List Object) (vol : Word) (n : ℕ) → n ≡ 30 → all_b
 unfolding maps_differ
 differ_holds all vol n e h = rw e at h
 
-pub returns-then-map_uses-gt1 : goal.returns-then-map_uses-gt1
-returns-then-map_uses-gt1 c = sym (differ_fails _ _ c.loop-map.map (omega arith) (omega arith))
+pub returns-then-uses-map-gt1 : goal.returns-then-uses-map-gt1
+returns-then-uses-map-gt1 c =
+    let uses = c.uses_of_maps-uses.ensures c.loop-map.map (omega arith) in
+    sym (differ_fails _ _ c.loop-map.map (omega arith) (omega arith))
 
 pub returns : goal.returns
 returns c = sym (differ_holds _ _ c.loop-map.map (omega arith) c.loop-map.invariant)

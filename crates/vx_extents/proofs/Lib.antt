@@ -1,0 +1,12 @@
+pub mod Below
+pub mod Tests
+pub mod NameOrder
+pub mod KeyOrder
+pub mod Laying
+pub mod FirstOverlap
+pub mod Runs
+pub mod Growing
+pub mod FromColumn
+pub mod Good
+pub mod ColumnRuns
+pub mod Indexing

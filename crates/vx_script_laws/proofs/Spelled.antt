@@ -46,11 +46,11 @@ word_end (b ∷ bs) ws h =
     let parts = and_parts (is_dark b) (list_all is_dark bs) h in
     ap (λ x. cond (not x) (1 + position_or_len is_blank (bs ++ spelled ws)) 0) (dark_no_blank b parts.0) ∙ ap (λ n. 1 + n) (word_end bs ws parts.1) ∙ one-add (length bs)
 
-take_front : (w t : List ℕ) → take (length w) (w ++ t) ≡ w
+pub take_front : (w t : List ℕ) → take (length w) (w ++ t) ≡ w
 take_front [] t = refl
 take_front (b ∷ bs) t = ap (λ (xs : List ℕ). b ∷ xs) (take_front bs t)
 
-drop_front : (w t : List ℕ) → drop (length w) (w ++ t) ≡ t
+pub drop_front : (w t : List ℕ) → drop (length w) (w ++ t) ≡ t
 drop_front [] t = refl
 drop_front (b ∷ bs) t = drop_front bs t
 

@@ -1,2 +1,4 @@
+pub mod Blocks
 pub mod Names
+pub mod Numbers
 pub mod Spelled

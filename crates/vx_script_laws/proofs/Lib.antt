@@ -1,4 +1,5 @@
 pub mod Blocks
+pub mod Choices
 pub mod Names
 pub mod Numbers
 pub mod Rows

@@ -40,7 +40,7 @@ pub one_yes : (c : Class) (old : List Value) (t w : List ℕ) (ws : List (List �
 one_yes c old t w ws v h e says =
     one_is c old t w ws h e ∙ ap (λ o. taken o old (w ++ spelled ws)) says ∙ ap (λ r. Ok (so (old ++ v ∷ []) r)) (past_is w ws h)
 
-from_first : (w : List ℕ) (ws : List (List ℕ)) → is_word w ≡ true → from_word (spelled (w ∷ ws)) ≡ w ++ spelled ws
+pub from_first : (w : List ℕ) (ws : List (List ℕ)) → is_word w ≡ true → from_word (spelled (w ∷ ws)) ≡ w ++ spelled ws
 from_first w ws h = from_blank (w ++ spelled ws) ∙ from_here w (spelled ws) h
 
 -- it is a fault

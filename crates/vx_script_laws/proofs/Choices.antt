@@ -38,7 +38,7 @@ refuted b (Any c ∷ is) (Some w ∷ ss) = is_none (class_value c w) && refuted 
 refuted b (UpTo limit c ∷ is) ss = false
 refuted b (Group ∷ is) [] = false
 refuted b (Group ∷ is) (None ∷ ss) = false
-refuted b (Group ∷ is) (Some w ∷ []) = false
+refuted b (Group ∷ is) (Some w ∷ []) = cond (bytes_eq w (codes "-g")) false (refuted b is (Some w ∷ []))
 refuted b (Group ∷ is) (Some w ∷ s ∷ ss) = cond (bytes_eq w (codes "-g")) (refuted b is ss) (refuted b is (Some w ∷ s ∷ ss))
 refuted b (NoGroup ∷ is) ss = refuted b is ss
 
@@ -152,7 +152,12 @@ run_fails b (Any c ∷ is) (Some k ∷ ss) (w ∷ ws) old r m h =
 run_fails b (UpTo limit c ∷ is) ss ws old r m h = absurd (both_ways false refl r)
 run_fails b (Group ∷ is) [] ws old r m h = absurd (both_ways false refl r)
 run_fails b (Group ∷ is) (None ∷ ss) ws old r m h = absurd (both_ways false refl r)
-run_fails b (Group ∷ is) (Some k ∷ []) ws old r m h = absurd (both_ways false refl r)
+run_fails b (Group ∷ is) (Some k ∷ []) [] old r m h = absurd m
+run_fails b (Group ∷ is) (Some k ∷ []) (w ∷ ws) old r m h =
+    elim (cases_Bool (bytes_eq k (codes "-g"))) [
+      | inl is_option ↦ absurd (both_ways false refl (sym (cond-true _ _ _ is_option) ∙ r))
+      | inr other ↦ group_passed b is k w ws old m.0 h other (run_fails b is (Some k ∷ []) (w ∷ ws) (old ++ value.Nothing ∷ []) (sym (cond-false _ _ _ other) ∙ r) m h)
+    ]
 run_fails b (Group ∷ is) (Some k ∷ s ∷ ss) [] old r m h = absurd m
 run_fails b (Group ∷ is) (Some k ∷ s ∷ ss) (w ∷ ws) old r m h =
     elim (cases_Bool (bytes_eq k (codes "-g"))) [

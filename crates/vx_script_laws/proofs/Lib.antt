@@ -5,5 +5,6 @@ pub mod Names
 pub mod Numbers
 pub mod Rows
 pub mod Shapes
+pub mod Shown
 pub mod Spelled
 pub mod Texts

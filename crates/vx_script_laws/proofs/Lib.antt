@@ -1,3 +1,4 @@
+pub mod Acts
 pub mod Blocks
 pub mod Builders
 pub mod Choices

@@ -50,6 +50,9 @@ pub record Shows (cut : Option ℕ) (g : Option (List ℕ)) (f : Form) (text : L
   pub group : maybe_name_at values 1 ≡ Some g
   pub form : form_of k values ≡ Some f
 
+pub shown : {cut : Option ℕ} {g : Option (List ℕ)} {f : Form} {text : List ℕ} {k : Kind} {ss : List (Option (List ℕ))} {first : List ℕ} {more : List (List ℕ)} {values : List Value} → Reads (cut_words cut) (items_of k) (first ∷ more) values → text ++ spelled (cut_words cut) ≡ begun (first ∷ more) → begins_one (items_of k) ≡ true → Matches ss (first ∷ more) → maybe_name_at values 1 ≡ Some g → form_of k values ≡ Some f → Shows cut g f text k ss
+shown {first = first} {more = more} {values = values} reads text_is begins fits group form = record { first = first; more = more; values = values; text_is = text_is; reads = reads; begins = begins; fits = fits; group = group; form = form }
+
 -- the line, also behind blanks, is chosen to be of its kind
 pub shown_choice : {cut : Option ℕ} {g : Option (List ℕ)} {f : Form} {text : List ℕ} {k : Kind} {ss : List (Option (List ℕ))} (b : Bool) (kinds : List Kind) (s : Shows cut g f text k ss) (t : List ℕ) → IsFirst b kinds k ss → may_end b cut ≡ true → from_word t ≡ begun (s.first ∷ s.more) → choose b kinds t ≡ Ok (record { kind = k; values = s.values; cut = cut })
 shown_choice {cut} {g} {f} {text} {k} {ss} b kinds s t place ends e =

@@ -1,0 +1,66 @@
+-- Each printed act is read as it is.
+use Rattle.std.proofs.Common.{◌≡◌, ◌∙◌, sym, ap, refl, ℕ, zero, suc, ◌+◌, ◌-◌, ◌^◌, ◌<◌, ◌≤◌, Bool, true, false, List, [], ◌∷◌, ◌++◌, map, arith, Option, Some, None}
+use Rattle.std.specs.Prelude.{codes, decimal, ◌&&◌, nat_le, nat_lt, option_and_then, length}
+use Rattle.std.specs.List.{list_all}
+use Rattle.std.proofs.Math.Dec.{lit≤}
+use Rattle.std.proofs.lemmas.Bool.{and_parts, and_from}
+use Rattle.vx_names.specs.Form.{is_name}
+use Rattle.vx_script.specs.Kept.{maybe_cut}
+use Rattle.vx_script_forms.specs.Ranges.{is_between, is_short_number, is_length, is_byte, is_pair, are_blocks, is_call, is_act, is_form, is_policy, maybe_name, maybe_between, may_have_group}
+use Rattle.vx_script_forms.specs.declared.act.Act.{Act}
+use Rattle.vx_script_forms.specs.declared.act.Act.TheVariants as act
+use Rattle.vx_script_forms.specs.declared.call.Call.{Call}
+use Rattle.vx_script_forms.specs.declared.call.Call.TheVariants as call
+use Rattle.vx_script_forms.specs.declared.form.Form.{Form}
+use Rattle.vx_script_forms.specs.declared.form.Form.TheVariants as form
+use Rattle.vx_script_forms.specs.declared.form.WordPolicy.{WordPolicy}
+use Rattle.vx_script_forms.specs.declared.form.WordPolicy.TheVariants as policy
+use Rattle.vx_script_forms.specs.declared.kind.Kind.{Kind}
+use Rattle.vx_script_forms.specs.declared.kind.Kind.TheVariants as kind
+use Rattle.vx_script_print.specs.Text.{form_text, act_text, call_text, policy_text}
+use Rattle.vx_script_print.specs.declared.part.Part.TheVariants as part
+use Rattle.vx_script_words.specs.Key.{text_of}
+use Rattle.vx_script_words.specs.declared.class.Sort.TheVariants as sort
+use Rattle.vx_script_words.specs.declared.key.Key.TheVariants as key
+use Rattle.vx_script_words.specs.declared.value.DiskAt.{DiskAt}
+use Rattle.vx_script_words.specs.declared.value.Value.TheVariants as value
+use Rattle.vx_script_laws.proofs.Spelled.{are_words, spelled}
+use Rattle.vx_script_laws.proofs.Rows.{Reads, done, no_group_place, cut_words}
+use Rattle.vx_script_laws.proofs.Texts.{line_begun, longer_line, names_spelled, disks_spelled, itself}
+use Rattle.vx_script_laws.proofs.Builders.{key_word, a_name, a_source, a_number, a_length, a_byte, a_pair, a_break_off, a_maybe_name, a_tagged_number, a_tagged_length, a_group, maybe_value_said, count_value_said, maybe_value, count_value}
+use Rattle.vx_script_laws.proofs.Shapes.{shape_of, group_fits}
+use Rattle.vx_script_laws.proofs.Shown.{Shows, shown, grouped, some_names, some_pairs, all_names, all_pairs, names_stop_at_cut, pairs_stop_at_cut, front_stops_at_cut, front_stops_at_tagged}
+
+abbrev pub act_kind : Act → Kind
+act_kind (act.SnapMake vol snap plex) = kind.SnapMake
+act_kind (act.Reattach snap vol) = kind.Reattach
+act_kind (act.Restore vol snap) = kind.Restore
+act_kind (act.Snapback snap false) = kind.Snapback
+act_kind (act.Snapback snap true) = kind.SnapbackFromReplica
+act_kind (act.PlexDet plex) = kind.PlexDet
+act_kind (act.PlexAtt vol plex) = kind.PlexAtt
+
+module _ (cut : Option ℕ) (words : are_words (cut_words cut) ≡ true) (g : Option (List ℕ)) (group : maybe_name g ≡ true) where
+  ended : Reads (cut_words cut) [] (cut_words cut) []
+  ended = done (cut_words cut) words
+
+  pub act_shown : (a : Act) → is_act a ≡ true → Shows cut g (form.Acting a) (act_text g a) (act_kind a) (shape_of g (act_kind a))
+  act_shown (act.SnapMake vol snap plex) h =
+      let last = and_parts (is_name vol && is_name snap) (maybe_name plex) h in
+      let names = and_parts (is_name vol) (is_name snap) last.0 in
+      shown (grouped key.VxSnap key.Make g refl refl refl group (a_break_off vol snap plex names.0 names.1 last.1 ended)) (line_begun key.VxSnap (part.Group g ∷ part.Key key.Make ∷ part.BreakOff vol snap plex ∷ []) (cut_words cut) refl) refl (refl, group_fits g _ _ (refl, tt)) (maybe_value_said g) refl
+  act_shown (act.Reattach snap vol) h =
+      let names = and_parts (is_name snap) (is_name vol) h in
+      shown (grouped key.VxSnap key.Reattach g refl refl refl group (a_name snap names.0 (a_source vol names.1 ended))) (line_begun key.VxSnap (part.Group g ∷ part.Key key.Reattach ∷ part.Name snap ∷ part.Source vol ∷ []) (cut_words cut) refl) refl (refl, group_fits g _ _ (refl, tt)) (maybe_value_said g) refl
+  act_shown (act.Restore vol snap) h =
+      let names = and_parts (is_name vol) (is_name snap) h in
+      shown (grouped key.VxSnap key.Restore g refl refl refl group (a_name vol names.0 (a_source snap names.1 ended))) (line_begun key.VxSnap (part.Group g ∷ part.Key key.Restore ∷ part.Name vol ∷ part.Source snap ∷ []) (cut_words cut) refl) refl (refl, group_fits g _ _ (refl, tt)) (maybe_value_said g) refl
+  act_shown (act.Snapback snap false) h =
+      shown (grouped key.VxAssist key.Snapback g refl refl refl group (a_name snap h ended)) (line_begun key.VxAssist (part.Group g ∷ part.Key key.Snapback ∷ part.Name snap ∷ []) (cut_words cut) refl) refl (refl, group_fits g _ _ (refl, tt)) (maybe_value_said g) refl
+  act_shown (act.Snapback snap true) h =
+      shown (grouped key.VxAssist key.OtherOption g refl refl refl group (key_word key.ResyncFromReplica refl (key_word key.Snapback refl (a_name snap h ended)))) (line_begun key.VxAssist (part.Group g ∷ part.Key key.OtherOption ∷ part.Key key.ResyncFromReplica ∷ part.Key key.Snapback ∷ part.Name snap ∷ []) (cut_words cut) refl) refl (refl, group_fits g _ _ (refl, tt)) (maybe_value_said g) refl
+  act_shown (act.PlexDet plex) h =
+      shown (grouped key.VxPlex key.Det g refl refl refl group (a_name plex h ended)) (line_begun key.VxPlex (part.Group g ∷ part.Key key.Det ∷ part.Name plex ∷ []) (cut_words cut) refl) refl (refl, group_fits g _ _ (refl, tt)) (maybe_value_said g) refl
+  act_shown (act.PlexAtt vol plex) h =
+      let names = and_parts (is_name vol) (is_name plex) h in
+      shown (grouped key.VxPlex key.Att g refl refl refl group (a_name vol names.0 (a_name plex names.1 ended))) (line_begun key.VxPlex (part.Group g ∷ part.Key key.Att ∷ part.Name vol ∷ part.Name plex ∷ []) (cut_words cut) refl) refl (refl, group_fits g _ _ (refl, tt)) (maybe_value_said g) refl

@@ -125,7 +125,7 @@ pub not_a_name : (w : List ℕ) → list_all is_name_byte w ≡ false → class_
 unfolding class_value
 not_a_name w h = ap as_name (cond-false (is_name w) (Some w) None (and_right _ (list_all is_name_byte w) h))
 
-all_taken : (p : ℕ → Bool) (n : ℕ) (w : List ℕ) → list_all p w ≡ true → list_all p (take n w) ≡ true
+pub all_taken : (p : ℕ → Bool) (n : ℕ) (w : List ℕ) → list_all p w ≡ true → list_all p (take n w) ≡ true
 all_taken p zero w h = refl
 all_taken p (suc n) [] h = refl
 all_taken p (suc n) (b ∷ bs) h = let parts = and_parts (p b) (list_all p bs) h in and_from _ _ parts.0 (all_taken p n bs parts.1)

@@ -1,7 +1,10 @@
 pub mod Acts
 pub mod Blocks
 pub mod Builders
+pub mod Calls
 pub mod Choices
+pub mod Forms
+pub mod Makes
 pub mod Names
 pub mod Numbers
 pub mod Rows

@@ -153,3 +153,8 @@ small_count_said low high None top h = refl
 small_count_said low high (Some n) top h =
     let at : n ≤ high = leb-true n high (and_parts (nat_le low n) (nat_le n high) h).1 in
     cond-true _ _ _ (lt-ltb n (2 ^ 32) (omega (arith, at, top)))
+
+pub small_below : (low high n : ℕ) → high < 2 ^ 32 → is_between low high n ≡ true → below (2 ^ 32) (Some n) ≡ Some n
+small_below low high n top h =
+    let at : n ≤ high = leb-true n high (and_parts (nat_le low n) (nat_le n high) h).1 in
+    cond-true _ _ _ (lt-ltb n (2 ^ 32) (omega (arith, at, top)))

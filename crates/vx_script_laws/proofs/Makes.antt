@@ -1,0 +1,88 @@
+-- The printed first line of `vxassist make` is read as it is.
+use Rattle.std.proofs.Common.{◌≡◌, ◌∙◌, sym, ap, refl, ℕ, zero, suc, ◌+◌, ◌-◌, ◌^◌, ◌<◌, ◌≤◌, Bool, true, false, List, [], ◌∷◌, ◌++◌, map, arith, Option, Some, None}
+use Rattle.std.specs.Prelude.{codes, decimal, ◌&&◌, nat_le, nat_lt, option_and_then, length}
+use Rattle.std.specs.List.{list_all}
+use Rattle.std.proofs.Math.Dec.{lit≤}
+use Rattle.std.proofs.lemmas.Bool.{and_parts, and_from}
+use Rattle.vx_names.specs.Form.{is_name}
+use Rattle.vx_script.specs.Kept.{maybe_cut}
+use Rattle.vx_script_forms.specs.Ranges.{is_between, is_short_number, is_length, is_byte, is_pair, are_blocks, is_call, is_act, is_form, is_policy, maybe_name, maybe_between, may_have_group}
+use Rattle.vx_script_forms.specs.declared.act.Act.{Act}
+use Rattle.vx_script_forms.specs.declared.act.Act.TheVariants as act
+use Rattle.vx_script_forms.specs.declared.call.Call.{Call}
+use Rattle.vx_script_forms.specs.declared.call.Call.TheVariants as call
+use Rattle.vx_script_forms.specs.declared.form.Form.{Form}
+use Rattle.vx_script_forms.specs.declared.form.Form.TheVariants as form
+use Rattle.vx_script_forms.specs.declared.form.WordPolicy.{WordPolicy}
+use Rattle.vx_script_forms.specs.declared.form.WordPolicy.TheVariants as policy
+use Rattle.vx_script_forms.specs.declared.kind.Kind.{Kind}
+use Rattle.vx_script_forms.specs.declared.kind.Kind.TheVariants as kind
+use Rattle.vx_script_print.specs.Text.{form_text, act_text, call_text, policy_text}
+use Rattle.vx_script_print.specs.declared.part.Part.TheVariants as part
+use Rattle.vx_script_words.specs.Key.{text_of}
+use Rattle.vx_script_words.specs.declared.class.Sort.TheVariants as sort
+use Rattle.vx_script_words.specs.declared.key.Key.TheVariants as key
+use Rattle.vx_script_words.specs.declared.value.DiskAt.{DiskAt}
+use Rattle.vx_script_words.specs.declared.value.Value.TheVariants as value
+use Rattle.vx_script_laws.proofs.Spelled.{are_words, spelled}
+use Rattle.vx_script_laws.proofs.Rows.{Reads, done, no_group_place, cut_words}
+use Rattle.vx_script_laws.proofs.Texts.{line_begun, longer_line, names_spelled, disks_spelled, itself}
+use Rattle.vx_script_laws.proofs.Builders.{key_word, a_name, a_source, a_number, a_length, a_byte, a_pair, a_break_off, a_maybe_name, a_tagged_number, a_tagged_length, a_group, maybe_value_said, count_value_said, maybe_value, count_value}
+use Rattle.vx_script_laws.proofs.Shapes.{shape_of, group_fits}
+use Rattle.vx_script_laws.proofs.Shown.{Shows, shown, grouped, some_names, some_pairs, all_names, all_pairs, names_stop_at_cut, pairs_stop_at_cut, front_stops_at_cut, front_stops_at_tagged}
+use Rattle.std.specs.Prelude.{◌||◌, is_none}
+use Rattle.std.specs.List.{flat_map}
+use Rattle.std.proofs.lemmas.Bool.{both_ways}
+use Rattle.std.proofs.lemmas.List.{append_assoc}
+use Rattle.vx_names.specs.Form.{is_name_byte}
+use Rattle.vx_script_forms.specs.FormOf.{with_mirrors, assist_make}
+use Rattle.vx_script_forms.specs.Ranges.{is_layout, is_attrs}
+use Rattle.vx_script_forms.specs.Values.{maybe_numbered, maybe_below, all, named}
+use Rattle.vx_script_forms.specs.declared.form.MakeAttrs.{MakeAttrs}
+use Rattle.vx_script_forms.specs.declared.form.WordLayout.{WordLayout}
+use Rattle.vx_script_forms.specs.declared.form.WordLayout.TheVariants as layout
+use Rattle.vx_script_print.specs.Text.{part_text, attrs_text, layout_text, names_text}
+use Rattle.vx_script_print.specs.declared.part.Part.{Part}
+use Rattle.vx_script_words.specs.declared.class.Item.{Item}
+use Rattle.vx_script_words.specs.declared.class.Item.TheVariants.{One, Maybe, Any}
+use Rattle.vx_script_words.specs.declared.class.Sort.{Sort}
+use Rattle.vx_script_words.specs.declared.key.Key.{Key}
+use Rattle.vx_script_words.specs.declared.value.Value.{Value}
+use Rattle.vx_script_laws.proofs.Spelled.{is_word, begun}
+use Rattle.vx_script_laws.proofs.Rows.{maybe_word, no_word, head_word}
+use Rattle.vx_script_laws.proofs.Texts.{parts_spelled, parts_then, tagged_then, group_then}
+use Rattle.vx_script_laws.proofs.Builders.{class_of, key_said}
+use Rattle.vx_script_laws.proofs.Shown.{Stops, apart, front_apart, front_stops_at_names, small_count_said}
+
+-- the words of the mirrors, the region and the logs, and those behind them
+abbrev pub mirrors_then : Option ℕ → Option ℕ → Option ℕ → List (List ℕ) → List (List ℕ)
+mirrors_then nmirror region logs ws = tagged_then (text_of key.Nmirror) nmirror (tagged_then (text_of key.RegionSize) region (tagged_then (text_of key.Ndcomirror) logs ws))
+
+abbrev mirror_items : List Item
+mirror_items = Maybe (class_of key.Nmirror (sort.Number 1 8)) ∷ Maybe (class_of key.RegionSize sort.Length) ∷ Maybe (class_of key.Ndcomirror (sort.Number 0 2)) ∷ Any (class_of key.Nothing sort.Named) ∷ []
+
+-- what the attributes of a line say, from their values
+made : (vol : List ℕ) (size : ℕ) (l : Option WordLayout) (ncol unit nmirror region logs : Option ℕ) (disks : List (List ℕ)) (a b c : Option (Option ℕ)) (d : Option (List (List ℕ))) → a ≡ Some nmirror → b ≡ Some region → c ≡ Some logs → d ≡ Some disks →
+    option_and_then (λ attrs. option_and_then (λ v. option_and_then (λ s. option_and_then (λ ds. Some (form.AssistMake v s attrs ds)) d) (Some size)) (Some vol)) (option_and_then (λ x. option_and_then (λ y. option_and_then (λ z. Some (record { layout = l; ncol = ncol; unit = unit; nmirror = x; region = y; ndcomirror = z })) c) b) a)
+    ≡ Some (form.AssistMake vol size (record { layout = l; ncol = ncol; unit = unit; nmirror = nmirror; region = region; ndcomirror = logs }) disks)
+made vol size l ncol unit nmirror region logs disks a b c d e f i j = cc
+
+module _ (cut : Option ℕ) (ends : maybe_cut cut ≡ true) (words : are_words (cut_words cut) ≡ true) (disks : List (List ℕ)) (names : list_all is_name disks ≡ true) where
+  last_words : List (List ℕ)
+  last_words = map itself disks ++ cut_words cut
+
+  front_stops : (k : Key) (s : Sort) → is_word (text_of k) ≡ true → apart (text_of k) (codes "cut=") ≡ true → list_all is_name_byte (text_of k) ≡ false → Stops (class_of k s) last_words
+  unfolding last_words
+  front_stops k s w a odd = front_stops_at_names k s disks (cut_words cut) odd names (front_stops_at_cut k s cut w a)
+
+  mirrors_stop : (k : Key) (s : Sort) (nmirror region logs : Option ℕ) → is_word (text_of k) ≡ true → apart (text_of k) (codes "cut=") ≡ true → list_all is_name_byte (text_of k) ≡ false → apart (text_of k) (text_of key.Nmirror) ≡ true → apart (text_of k) (text_of key.RegionSize) ≡ true → apart (text_of k) (text_of key.Ndcomirror) ≡ true → Stops (class_of k s) (mirrors_then nmirror region logs last_words)
+  mirrors_stop k s nmirror region logs w a odd x y z =
+      front_stops_at_tagged k s (text_of key.Nmirror) nmirror _ x (front_stops_at_tagged k s (text_of key.RegionSize) region _ y (front_stops_at_tagged k s (text_of key.Ndcomirror) logs _ z (front_stops k s w a odd)))
+
+  mirrors_read : (nmirror region logs : Option ℕ) → maybe_between 1 8 nmirror ≡ true → maybe_between 1 (2 ^ 40) region ≡ true → maybe_between 0 2 logs ≡ true → Reads (cut_words cut) mirror_items (mirrors_then nmirror region logs last_words) (count_value nmirror ∷ count_value region ∷ count_value logs ∷ map value.Named disks)
+  unfolding last_words
+  mirrors_read nmirror region logs a b c =
+      let stops_logs : Stops (class_of key.Ndcomirror (sort.Number 0 2)) last_words = front_stops key.Ndcomirror (sort.Number 0 2) refl refl refl in
+      let stops_region : Stops (class_of key.RegionSize sort.Length) (tagged_then (text_of key.Ndcomirror) logs last_words) = front_stops_at_tagged key.RegionSize sort.Length (text_of key.Ndcomirror) logs last_words refl (front_stops key.RegionSize sort.Length refl refl refl) in
+      let stops_mirror : Stops (class_of key.Nmirror (sort.Number 1 8)) (tagged_then (text_of key.RegionSize) region (tagged_then (text_of key.Ndcomirror) logs last_words)) = front_stops_at_tagged key.Nmirror (sort.Number 1 8) (text_of key.RegionSize) region (tagged_then (text_of key.Ndcomirror) logs last_words) refl (front_stops_at_tagged key.Nmirror (sort.Number 1 8) (text_of key.Ndcomirror) logs last_words refl (front_stops key.Nmirror (sort.Number 1 8) refl refl refl)) in
+      a_tagged_number key.Nmirror 1 8 nmirror refl (lit≤ tt) a stops_mirror (a_tagged_length key.RegionSize region refl b stops_region (a_tagged_number key.Ndcomirror 0 2 logs refl (lit≤ tt) c stops_logs (some_names cut disks words names)))

@@ -28,17 +28,8 @@ use Rattle.vx_script_laws.proofs.Spelled.{are_words, spelled}
 use Rattle.vx_script_laws.proofs.Rows.{Reads, done, no_group_place, cut_words}
 use Rattle.vx_script_laws.proofs.Texts.{line_begun, longer_line, names_spelled, disks_spelled, itself}
 use Rattle.vx_script_laws.proofs.Builders.{key_word, a_name, a_source, a_number, a_length, a_byte, a_pair, a_break_off, a_maybe_name, a_tagged_number, a_tagged_length, a_group, maybe_value_said, count_value_said, maybe_value, count_value}
-use Rattle.vx_script_laws.proofs.Shapes.{shape_of, group_fits}
+use Rattle.vx_script_laws.proofs.Shapes.{shape_of, group_fits, act_kind}
 use Rattle.vx_script_laws.proofs.Shown.{Shows, shown, grouped, some_names, some_pairs, all_names, all_pairs, names_stop_at_cut, pairs_stop_at_cut, front_stops_at_cut, front_stops_at_tagged}
-
-abbrev pub act_kind : Act → Kind
-act_kind (act.SnapMake vol snap plex) = kind.SnapMake
-act_kind (act.Reattach snap vol) = kind.Reattach
-act_kind (act.Restore vol snap) = kind.Restore
-act_kind (act.Snapback snap false) = kind.Snapback
-act_kind (act.Snapback snap true) = kind.SnapbackFromReplica
-act_kind (act.PlexDet plex) = kind.PlexDet
-act_kind (act.PlexAtt vol plex) = kind.PlexAtt
 
 module _ (cut : Option ℕ) (words : are_words (cut_words cut) ≡ true) (g : Option (List ℕ)) (group : maybe_name g ≡ true) where
   ended : Reads (cut_words cut) [] (cut_words cut) []

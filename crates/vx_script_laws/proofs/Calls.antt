@@ -28,7 +28,7 @@ use Rattle.vx_script_laws.proofs.Spelled.{is_word, are_words, spelled}
 use Rattle.vx_script_laws.proofs.Rows.{Reads, done, no_group_place, cut_words}
 use Rattle.vx_script_laws.proofs.Texts.{line_begun, longer_line, names_spelled, disks_spelled, itself}
 use Rattle.vx_script_laws.proofs.Builders.{key_word, a_name, a_source, a_number, a_length, a_byte, a_pair, a_break_off, a_maybe_name, a_tagged_number, a_tagged_length, a_group, maybe_value_said, count_value_said, maybe_value, count_value}
-use Rattle.vx_script_laws.proofs.Shapes.{shape_of, group_fits}
+use Rattle.vx_script_laws.proofs.Shapes.{shape_of, group_fits, call_kind}
 use Rattle.vx_script_laws.proofs.Shown.{Shows, shown, grouped, some_names, some_pairs, all_names, all_pairs, names_stop_at_cut, pairs_stop_at_cut, front_stops_at_cut, front_stops_at_tagged}
 use Rattle.std.specs.Prelude.{◌==◌}
 use Rattle.std.proofs.lemmas.Bool.{eqb-true, eq-eqb, leb-true, ltb-true, lt-ltb, le-leb, cond-true}
@@ -43,11 +43,6 @@ use Rattle.vx_script_laws.proofs.Rows.{one_word, up_to_words}
 use Rattle.vx_script_laws.proofs.Shown.{blocks_stop_at_cut}
 use Rattle.vx_script_laws.proofs.Texts.{cut_blocks, blocks_spelled}
 use Rattle.vx_script_words.specs.declared.class.Item.TheVariants.{One, UpTo}
-
-abbrev pub call_kind : Call → Kind
-call_kind (call.Read vol start count) = kind.Read
-call_kind (call.Fill vol start count byte) = kind.Fill
-call_kind (call.Data vol start blocks) = kind.Data
 
 -- blocks of a text of bytes
 

@@ -7,6 +7,7 @@ pub mod Forms
 pub mod Makes
 pub mod Names
 pub mod Numbers
+pub mod Reaching
 pub mod Rows
 pub mod Shapes
 pub mod Shown

@@ -3,13 +3,17 @@ pub mod Blocks
 pub mod Builders
 pub mod Calls
 pub mod Choices
+pub mod Commands
 pub mod Forms
+pub mod Insides
 pub mod Makes
 pub mod Names
 pub mod Numbers
 pub mod Reaching
+pub mod Records
 pub mod Rows
 pub mod Shapes
 pub mod Shown
 pub mod Spelled
 pub mod Texts
+pub mod Whole

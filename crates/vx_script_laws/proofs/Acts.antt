@@ -1,35 +1,21 @@
 -- Each printed act is read as it is.
-use Rattle.std.proofs.Common.{◌≡◌, ◌∙◌, sym, ap, refl, ℕ, zero, suc, ◌+◌, ◌-◌, ◌^◌, ◌<◌, ◌≤◌, Bool, true, false, List, [], ◌∷◌, ◌++◌, map, arith, Option, Some, None}
-use Rattle.std.specs.Prelude.{codes, decimal, ◌&&◌, nat_le, nat_lt, option_and_then, length}
-use Rattle.std.specs.List.{list_all}
-use Rattle.std.proofs.Math.Dec.{lit≤}
-use Rattle.std.proofs.lemmas.Bool.{and_parts, and_from}
+use Rattle.std.proofs.Common.{◌≡◌, refl, ℕ, true, false, List, [], ◌∷◌, Option}
+use Rattle.std.specs.Prelude.{◌&&◌}
+use Rattle.std.proofs.lemmas.Bool.{and_parts}
 use Rattle.vx_names.specs.Form.{is_name}
-use Rattle.vx_script.specs.Kept.{maybe_cut}
-use Rattle.vx_script_forms.specs.Ranges.{is_between, is_short_number, is_length, is_byte, is_pair, are_blocks, is_call, is_act, is_form, is_policy, maybe_name, maybe_between, may_have_group}
+use Rattle.vx_script_forms.specs.Ranges.{is_act, maybe_name}
 use Rattle.vx_script_forms.specs.declared.act.Act.{Act}
 use Rattle.vx_script_forms.specs.declared.act.Act.TheVariants as act
-use Rattle.vx_script_forms.specs.declared.call.Call.{Call}
-use Rattle.vx_script_forms.specs.declared.call.Call.TheVariants as call
-use Rattle.vx_script_forms.specs.declared.form.Form.{Form}
 use Rattle.vx_script_forms.specs.declared.form.Form.TheVariants as form
-use Rattle.vx_script_forms.specs.declared.form.WordPolicy.{WordPolicy}
-use Rattle.vx_script_forms.specs.declared.form.WordPolicy.TheVariants as policy
-use Rattle.vx_script_forms.specs.declared.kind.Kind.{Kind}
-use Rattle.vx_script_forms.specs.declared.kind.Kind.TheVariants as kind
-use Rattle.vx_script_print.specs.Text.{form_text, act_text, call_text, policy_text}
+use Rattle.vx_script_print.specs.Text.{act_text}
 use Rattle.vx_script_print.specs.declared.part.Part.TheVariants as part
-use Rattle.vx_script_words.specs.Key.{text_of}
-use Rattle.vx_script_words.specs.declared.class.Sort.TheVariants as sort
 use Rattle.vx_script_words.specs.declared.key.Key.TheVariants as key
-use Rattle.vx_script_words.specs.declared.value.DiskAt.{DiskAt}
-use Rattle.vx_script_words.specs.declared.value.Value.TheVariants as value
-use Rattle.vx_script_laws.proofs.Spelled.{are_words, spelled}
-use Rattle.vx_script_laws.proofs.Rows.{Reads, done, no_group_place, cut_words}
-use Rattle.vx_script_laws.proofs.Texts.{line_begun, longer_line, names_spelled, disks_spelled, itself}
-use Rattle.vx_script_laws.proofs.Builders.{key_word, a_name, a_source, a_number, a_length, a_byte, a_pair, a_break_off, a_maybe_name, a_tagged_number, a_tagged_length, a_group, maybe_value_said, count_value_said, maybe_value, count_value}
+use Rattle.vx_script_laws.proofs.Spelled.{are_words}
+use Rattle.vx_script_laws.proofs.Rows.{Reads, done, cut_words}
+use Rattle.vx_script_laws.proofs.Texts.{line_begun}
+use Rattle.vx_script_laws.proofs.Builders.{key_word, a_name, a_source, a_break_off, maybe_value_said}
 use Rattle.vx_script_laws.proofs.Shapes.{shape_of, group_fits, act_kind}
-use Rattle.vx_script_laws.proofs.Shown.{Shows, shown, grouped, some_names, some_pairs, all_names, all_pairs, names_stop_at_cut, pairs_stop_at_cut, front_stops_at_cut, front_stops_at_tagged}
+use Rattle.vx_script_laws.proofs.Shown.{Shows, shown, grouped}
 
 module _ (cut : Option ℕ) (words : are_words (cut_words cut) ≡ true) (g : Option (List ℕ)) (group : maybe_name g ≡ true) where
   ended : Reads (cut_words cut) [] (cut_words cut) []

@@ -1,11 +1,11 @@
 -- The word of a block is read back.
-use Rattle.std.proofs.Common.{◌≡◌, ◌∙◌, sym, ap, subst, refl, ℕ, suc, ◌+◌, ◌-◌, ◌*◌, ◌/◌, ◌%◌, ◌^◌, ◌<◌, ◌≤◌, inl, inr, Bool, true, false, cond, List, [], ◌∷◌, ◌++◌, length, take, drop, replicate, get_or, arith, Option, Some, None}
-use Rattle.std.specs.Prelude.{nat_lt, not, ◌==◌}
+use Rattle.std.proofs.Common.{◌≡◌, ◌∙◌, sym, ap, refl, ℕ, ◌*◌, ◌/◌, ◌%◌, ◌<◌, inl, inr, true, List, [], ◌∷◌, ◌++◌, length, replicate, get_or, arith, Some}
+use Rattle.std.specs.Prelude.{◌==◌}
 use Rattle.std.specs.List.{list_all, flat_map}
 use Rattle.std.proofs.lemmas.List.{append-nil, append_assoc}
 use Rattle.std.proofs.lemmas.Bool.{and_parts, and_from, ltb-true, eqb-true, eq-eqb, cond-true, cond-false, cases_Bool}
 use Rattle.vx_block.specs.Word.{hex, hex_digit, block_word}
-use Rattle.vx_script_words.specs.Hex.{is_hex, hex_value, byte_of, bytes_from, filled, all_equal, block_of}
+use Rattle.vx_script_words.specs.Hex.{bytes_from, filled, all_equal, block_of}
 use Rattle.vx_script_forms.specs.Ranges.{is_byte}
 use Rattle.vx_script_laws.proofs.Spelled.{is_dark, is_word}
 use Rattle.vx_script_laws.proofs.Numbers.{two_digits, digits_say, byte_said, hex_dark, digit_no_equals}

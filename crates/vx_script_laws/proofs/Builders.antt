@@ -1,33 +1,30 @@
 -- Each part of a form reads what is printed for it.
-use Rattle.std.proofs.Common.{◌≡◌, ◌∙◌, sym, ap, subst, refl, ℕ, zero, suc, ◌+◌, ◌-◌, ◌*◌, ◌^◌, ◌<◌, ◌≤◌, Bool, true, false, cond, List, [], ◌∷◌, ◌++◌, map, length, take, drop, arith, Option, Some, None}
-use Rattle.std.specs.Prelude.{codes, decimal, not, ◌&&◌, ◌==◌, nat_le}
+use Rattle.std.proofs.Common.{◌≡◌, ◌∙◌, sym, ap, refl, ℕ, zero, suc, ◌^◌, ◌<◌, ◌≤◌, Bool, true, false, List, [], ◌∷◌, ◌++◌, length, take, drop, arith, Option, Some, None}
+use Rattle.std.specs.Prelude.{codes, decimal, nat_le}
 use Rattle.std.specs.List.{list_all}
 use Rattle.std.specs.Str.{bytes_eq}
 use Rattle.std.proofs.lemmas.List.{append-nil}
-use Rattle.std.proofs.lemmas.Bool.{and_parts, and_from, and_right, ltb-true, leb-true, cond-true, cond-false, cases_Bool, both_ways, false_from_ne_true}
+use Rattle.std.proofs.lemmas.Bool.{and_parts, and_from, and_right, ltb-true, leb-true, cond-false, both_ways, false_from_ne_true}
 use Rattle.std.proofs.lemmas.Slice.Eq.{bytes_eq-Decides}
-use Rattle.vx_block.specs.Word.{hex, block_word}
+use Rattle.vx_block.specs.Word.{hex}
 use Rattle.vx_names.specs.Form.{is_name, is_name_byte}
 use Rattle.vx_script_forms.specs.Ranges.{is_between, is_length, is_byte, is_pair, maybe_name, maybe_between}
-use Rattle.vx_script_forms.specs.Values.{maybe_named, maybe_numbered, named, paired}
-use Rattle.vx_script_words.specs.Class.{class_value, sort_value, as_name, as_number, as_pair, as_block, value_behind}
+use Rattle.vx_script_forms.specs.Values.{maybe_named, maybe_numbered}
+use Rattle.vx_script_words.specs.Class.{class_value, sort_value, as_name, as_number, as_pair, value_behind}
 use Rattle.vx_script_words.specs.Key.{text_of}
-use Rattle.vx_script_words.specs.Parts.{behind}
-use Rattle.vx_script_words.specs.Row.{any_name}
 use Rattle.vx_script_words.specs.declared.class.Class.{Class}
 use Rattle.vx_script_words.specs.declared.class.Sort.{Sort}
 use Rattle.vx_script_words.specs.declared.class.Sort.TheVariants as sort
 use Rattle.vx_script_words.specs.declared.class.Item.{Item}
-use Rattle.vx_script_words.specs.declared.class.Item.TheVariants.{One, Maybe, Any, UpTo, Group, NoGroup}
+use Rattle.vx_script_words.specs.declared.class.Item.TheVariants.{One, Maybe, Group}
 use Rattle.vx_script_words.specs.declared.key.Key.{Key}
 use Rattle.vx_script_words.specs.declared.key.Key.TheVariants as key
 use Rattle.vx_script_words.specs.declared.value.DiskAt.{DiskAt}
 use Rattle.vx_script_words.specs.declared.value.Value.{Value}
 use Rattle.vx_script_words.specs.declared.value.Value.TheVariants as value
-use Rattle.vx_script_laws.proofs.Spelled.{is_dark, is_word, are_words, spelled}
+use Rattle.vx_script_laws.proofs.Spelled.{is_dark, is_word}
 use Rattle.vx_script_laws.proofs.Names.{class_said, name_said, name_word, name_dark, name_parts, pair_word, pair_said, pair_is_word, break_word, break_off_said, break_dark}
 use Rattle.vx_script_laws.proofs.Numbers.{ranged_said, length_said, byte_said, decimal_word, decimal_dark, hex_dark}
-use Rattle.vx_script_laws.proofs.Blocks.{block_said, block_is_word}
 use Rattle.vx_script_laws.proofs.Rows.{Reads, one_word, maybe_word, no_word, group_word, group_absent, head_word}
 use Rattle.vx_script_laws.proofs.Texts.{group_then, maybe_then, tagged_then}
 

@@ -1,37 +1,29 @@
 -- Each printed call is read as it is.
-use Rattle.std.proofs.Common.{◌≡◌, ◌∙◌, sym, ap, refl, ℕ, zero, suc, ◌+◌, ◌-◌, ◌^◌, ◌<◌, ◌≤◌, Bool, true, false, List, [], ◌∷◌, ◌++◌, map, take, drop, arith, cond, ◌*◌, ◌/◌, ◌%◌, Option, Some, None}
-use Rattle.std.specs.Prelude.{codes, decimal, ◌&&◌, nat_le, nat_lt, option_and_then, length}
+use Rattle.std.proofs.Common.{◌≡◌, ◌∙◌, sym, ap, refl, ℕ, zero, suc, ◌-◌, ◌^◌, ◌<◌, ◌≤◌, Bool, true, List, [], ◌∷◌, ◌++◌, map, take, drop, arith, ◌*◌, ◌/◌, ◌%◌, Option, Some, None}
+use Rattle.std.specs.Prelude.{◌&&◌, nat_le, option_and_then, length}
 use Rattle.std.specs.List.{list_all}
 use Rattle.std.proofs.Math.Dec.{lit≤}
 use Rattle.std.proofs.lemmas.Bool.{and_parts, and_from}
 use Rattle.vx_names.specs.Form.{is_name}
 use Rattle.vx_script.specs.Kept.{maybe_cut}
-use Rattle.vx_script_forms.specs.Ranges.{is_between, is_short_number, is_length, is_byte, is_pair, are_blocks, is_call, is_act, is_form, is_policy, maybe_name, maybe_between, may_have_group}
-use Rattle.vx_script_forms.specs.declared.act.Act.{Act}
-use Rattle.vx_script_forms.specs.declared.act.Act.TheVariants as act
+use Rattle.vx_script_forms.specs.Ranges.{is_between, is_short_number, is_byte, are_blocks, is_call}
 use Rattle.vx_script_forms.specs.declared.call.Call.{Call}
 use Rattle.vx_script_forms.specs.declared.call.Call.TheVariants as call
-use Rattle.vx_script_forms.specs.declared.form.Form.{Form}
 use Rattle.vx_script_forms.specs.declared.form.Form.TheVariants as form
-use Rattle.vx_script_forms.specs.declared.form.WordPolicy.{WordPolicy}
-use Rattle.vx_script_forms.specs.declared.form.WordPolicy.TheVariants as policy
-use Rattle.vx_script_forms.specs.declared.kind.Kind.{Kind}
 use Rattle.vx_script_forms.specs.declared.kind.Kind.TheVariants as kind
-use Rattle.vx_script_print.specs.Text.{form_text, act_text, call_text, policy_text}
+use Rattle.vx_script_print.specs.Text.{call_text}
 use Rattle.vx_script_print.specs.declared.part.Part.TheVariants as part
-use Rattle.vx_script_words.specs.Key.{text_of}
 use Rattle.vx_script_words.specs.declared.class.Sort.TheVariants as sort
 use Rattle.vx_script_words.specs.declared.key.Key.TheVariants as key
-use Rattle.vx_script_words.specs.declared.value.DiskAt.{DiskAt}
 use Rattle.vx_script_words.specs.declared.value.Value.TheVariants as value
 use Rattle.vx_script_laws.proofs.Spelled.{is_word, are_words, spelled}
 use Rattle.vx_script_laws.proofs.Rows.{Reads, done, no_group_place, cut_words}
-use Rattle.vx_script_laws.proofs.Texts.{line_begun, longer_line, names_spelled, disks_spelled, itself}
-use Rattle.vx_script_laws.proofs.Builders.{key_word, a_name, a_source, a_number, a_length, a_byte, a_pair, a_break_off, a_maybe_name, a_tagged_number, a_tagged_length, a_group, maybe_value_said, count_value_said, maybe_value, count_value}
-use Rattle.vx_script_laws.proofs.Shapes.{shape_of, group_fits, call_kind}
-use Rattle.vx_script_laws.proofs.Shown.{Shows, shown, grouped, some_names, some_pairs, all_names, all_pairs, names_stop_at_cut, pairs_stop_at_cut, front_stops_at_cut, front_stops_at_tagged}
+use Rattle.vx_script_laws.proofs.Texts.{line_begun, longer_line}
+use Rattle.vx_script_laws.proofs.Builders.{key_word, a_name, a_number, a_byte}
+use Rattle.vx_script_laws.proofs.Shapes.{shape_of, call_kind}
+use Rattle.vx_script_laws.proofs.Shown.{Shows, shown}
 use Rattle.std.specs.Prelude.{◌==◌}
-use Rattle.std.proofs.lemmas.Bool.{eqb-true, eq-eqb, leb-true, ltb-true, lt-ltb, le-leb, cond-true}
+use Rattle.std.proofs.lemmas.Bool.{eqb-true, eq-eqb, leb-true, ltb-true, le-leb, cond-true}
 use Rattle.std.proofs.lemmas.List.{append-nil, append_assoc, length-take, length-drop}
 use Rattle.vx_block.specs.Word.{block_word}
 use Rattle.vx_script_forms.specs.Values.{joined}
@@ -101,7 +93,7 @@ module _ (cut : Option ℕ) (ends : maybe_cut cut ≡ true) (words : are_words (
   blocks_read m blocks e few h =
       let good = and_parts (is_one_block (take 512 blocks)) (list_all is_one_block (cut_blocks m (drop 512 blocks))) (cut_good (suc m) blocks e h) in
       one_word (class_of key.Nothing sort.Block) (block_word (take 512 blocks)) (value.Block (take 512 blocks)) (block_here (take 512 blocks) good.0) (block_says (take 512 blocks) good.0)
-        (up_to_words (class_of key.Nothing sort.Block) block_word value.Block is_one_block block_here block_says (cut_words cut) words (blocks_stop_at_cut cut ends) 63 (cut_blocks m (drop 512 blocks)) good.1 (omega (arith, few, cut_length m (drop 512 blocks))))
+      (up_to_words (class_of key.Nothing sort.Block) block_word value.Block is_one_block block_here block_says (cut_words cut) words (blocks_stop_at_cut cut ends) 63 (cut_blocks m (drop 512 blocks)) good.1 (omega (arith, few, cut_length m (drop 512 blocks))))
 
   blocks_text_is : (m : ℕ) (blocks : List ℕ) → length blocks / 512 ≡ suc m → blocks_text blocks ++ spelled (cut_words cut) ≡ spelled (map block_word (cut_blocks (suc m) blocks) ++ cut_words cut)
   unfolding blocks_text
@@ -110,23 +102,23 @@ module _ (cut : Option ℕ) (ends : maybe_cut cut ≡ true) (words : are_words (
   data_shown : (m : ℕ) (vol : List ℕ) (start : ℕ) (blocks : List ℕ) → is_name vol ≡ true → is_short_number start ≡ true → length blocks ≡ 512 * suc m → m ≤ 63 → length blocks / 512 ≡ suc m → list_all is_byte blocks ≡ true → Shows cut None (form.Calling (call.Data vol start blocks)) (call_text (call.Data vol start blocks)) kind.Data (shape_of None kind.Data)
   data_shown m vol start blocks v s e few q h =
       shown (key_word key.Write refl (no_group_place (a_name vol v (a_number 0 (2 ^ 40 - 1) start (lit≤ tt) (short_between start s) (key_word key.Data refl (blocks_read m blocks e few h))))))
-        (longer_line key.Write (part.Name vol ∷ part.Number start ∷ part.Key key.Data ∷ []) (blocks_text blocks) (cut_words cut) (map block_word (cut_blocks (suc m) blocks) ++ cut_words cut) refl (blocks_text_is m blocks q))
-        refl (refl, (refl, tt)) refl
-        (ap (option_and_then (λ bytes. Some (form.Calling (call.Data vol start bytes)))) (cut_joined (suc m) [] blocks e))
+      (longer_line key.Write (part.Name vol ∷ part.Number start ∷ part.Key key.Data ∷ []) (blocks_text blocks) (cut_words cut) (map block_word (cut_blocks (suc m) blocks) ++ cut_words cut) refl (blocks_text_is m blocks q))
+      refl (refl, (refl, tt)) refl
+      (ap (option_and_then (λ bytes. Some (form.Calling (call.Data vol start bytes)))) (cut_joined (suc m) [] blocks e))
 
   pub call_shown : (c : Call) → is_call c ≡ true → Shows cut None (form.Calling c) (call_text c) (call_kind c) (shape_of None (call_kind c))
   call_shown (call.Read vol start count) h =
       let last = and_parts (is_name vol && is_short_number start) (is_between 1 2048 count) h in
       let two = and_parts (is_name vol) (is_short_number start) last.0 in
       shown (key_word key.Read refl (no_group_place (a_name vol two.0 (a_number 0 (2 ^ 40 - 1) start (lit≤ tt) (short_between start two.1) (a_number 1 2048 count (lit≤ tt) last.1 ended)))))
-        (line_begun key.Read (part.Name vol ∷ part.Number start ∷ part.Number count ∷ []) (cut_words cut) refl) refl (refl, tt) refl refl
+      (line_begun key.Read (part.Name vol ∷ part.Number start ∷ part.Number count ∷ []) (cut_words cut) refl) refl (refl, tt) refl refl
   call_shown (call.Fill vol start count byte) h =
       let last = and_parts (is_name vol && is_short_number start && is_between 1 2048 count) (is_byte byte) h in
       let three = and_parts (is_name vol && is_short_number start) (is_between 1 2048 count) last.0 in
       let two = and_parts (is_name vol) (is_short_number start) three.0 in
       shown (key_word key.Write refl (no_group_place (a_name vol two.0 (a_number 0 (2 ^ 40 - 1) start (lit≤ tt) (short_between start two.1) (a_number 1 2048 count (lit≤ tt) three.1 (key_word key.Fill refl (a_byte byte last.1 ended)))))))
-        (line_begun key.Write (part.Name vol ∷ part.Number start ∷ part.Number count ∷ part.Key key.Fill ∷ part.Byte byte ∷ []) (cut_words cut) refl) refl (refl, tt) refl
-        (ap (option_and_then (λ b. Some (form.Calling (call.Fill vol start count b)))) (cond-true _ _ _ last.1))
+      (line_begun key.Write (part.Name vol ∷ part.Number start ∷ part.Number count ∷ part.Key key.Fill ∷ part.Byte byte ∷ []) (cut_words cut) refl) refl (refl, tt) refl
+      (ap (option_and_then (λ b. Some (form.Calling (call.Fill vol start count b)))) (cond-true _ _ _ last.1))
   call_shown (call.Data vol start blocks) h =
       let last = and_parts (is_name vol && is_short_number start) (are_blocks blocks) h in
       let two = and_parts (is_name vol) (is_short_number start) last.0 in

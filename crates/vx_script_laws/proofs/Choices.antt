@@ -1,24 +1,24 @@
 -- Which form a line has: the kinds before it do not fit the words that are known of the line.
-use Rattle.std.proofs.Common.{◌≡◌, ◌∙◌, sym, ap, subst, refl, ℕ, zero, suc, ◌+◌, ◌<◌, ◌≤◌, Bool, true, false, cond, List, [], ◌∷◌, ◌++◌, length, arith, Option, Some, None, Result, Ok, Err, ◌⊎◌, inl, inr}
+use Rattle.std.proofs.Common.{◌≡◌, ◌∙◌, sym, ap, refl, ℕ, zero, suc, Bool, true, false, cond, List, [], ◌∷◌, ◌++◌, length, Option, Some, None, Result, Ok, inl, inr}
 use Rattle.std.specs.Prelude.{codes, is_none, ◌&&◌, ◌||◌, min}
 use Rattle.std.specs.List.{list_all}
 use Rattle.std.specs.Str.{bytes_eq}
-use Rattle.std.proofs.lemmas.Bool.{and_parts, and_from, cond-true, cond-false, or_cases, cases_Bool, both_ways}
-use Rattle.vx_script.specs.Choice.{Choice, choice, choose, or_others}
+use Rattle.std.proofs.lemmas.Bool.{and_parts, cond-true, cond-false, or_cases, cases_Bool, both_ways}
+use Rattle.vx_script.specs.Choice.{choice, or_others}
 use Rattle.vx_script_forms.specs.Table.{items_of}
 use Rattle.vx_script_forms.specs.declared.kind.Kind.{Kind}
 use Rattle.vx_script_words.proofs.Lines.{items_err}
 use Rattle.vx_script_words.specs.Class.{class_value}
 use Rattle.vx_script_words.specs.Parts.{cut_of}
-use Rattle.vx_script_words.specs.Row.{So, Going, Read, one, taken, with_value, maybe, or_else, some, going_on, any_name, group, item, items, fits, row, and_then, line_end, may_cut, cut_end, ends, nothing_left, uncut}
-use Rattle.vx_script_words.specs.Words.{from_word, first_word, past_word}
+use Rattle.vx_script_words.specs.Row.{Going, Read, one, with_value, maybe, or_else, some, going_on, any_name, group, items, row, and_then, line_end, may_cut, cut_end, ends, nothing_left, uncut}
+use Rattle.vx_script_words.specs.Words.{from_word, first_word}
 use Rattle.vx_script_words.specs.declared.class.Class.{Class}
 use Rattle.vx_script_words.specs.declared.class.Item.{Item}
 use Rattle.vx_script_words.specs.declared.class.Item.TheVariants.{One, Maybe, Any, UpTo, Group, NoGroup}
 use Rattle.vx_script_words.specs.declared.value.Value.{Value}
 use Rattle.vx_script_words.specs.declared.value.Value.TheVariants as value
-use Rattle.vx_script_laws.proofs.Spelled.{is_word, are_words, spelled, first_is, from_here, from_blank}
-use Rattle.vx_script_laws.proofs.Rows.{so, Failed, from_first, one_is, one_yes, one_no, group_is, begins_one, row_from}
+use Rattle.vx_script_laws.proofs.Spelled.{is_word, are_words, spelled, first_is, from_here}
+use Rattle.vx_script_laws.proofs.Rows.{so, Failed, from_first, one_yes, one_no, group_is, begins_one, row_from}
 
 -- parts cannot fit a line of which these words are known, each some word or any
 abbrev pub refuted : Bool → List Item → List (Option (List ℕ)) → Bool

@@ -1,34 +1,31 @@
 -- The printed first line of a command is read as the command's form.
-use Rattle.std.proofs.Common.{◌≡◌, ◌∙◌, sym, ap, subst, refl, ℕ, zero, suc, ◌+◌, ◌<◌, ◌≤◌, inl, inr, Bool, true, false, cond, List, [], ◌∷◌, ◌++◌, length, arith, Option, Some, None, Result, Ok, Err}
-use Rattle.std.specs.Prelude.{codes, not, ◌==◌, ◌||◌, ◌&&◌, is_none}
-use Rattle.std.specs.List.{list_all}
-use Rattle.std.proofs.lemmas.Bool.{and_parts, and_from, not-true, both_ways, cond-false}
+use Rattle.std.proofs.Common.{◌≡◌, ◌∙◌, ap, refl, ℕ, Bool, true, false, List, [], ◌∷◌, ◌++◌, Option, Some, None, Ok}
+use Rattle.std.specs.Prelude.{◌||◌, ◌&&◌, is_none}
+use Rattle.std.proofs.lemmas.Bool.{and_parts, not-true, both_ways, cond-false}
 use Rattle.vx_names.specs.Form.{is_name}
-use Rattle.vx_script.specs.Choice.{choose}
 use Rattle.vx_script.specs.Kept.{maybe_cut, is_command, is_body}
 use Rattle.vx_script.specs.Lines.{begins_comment, is_passed_over}
-use Rattle.vx_script.specs.Steps.{step, closed_step, command_step, opened, opened_by}
+use Rattle.vx_script.specs.Steps.{step, command_step, opened, opened_by}
 use Rattle.vx_script.specs.declared.command.Command.{Command}
 use Rattle.vx_script.specs.declared.reader.Open.TheVariants.{Closed}
-use Rattle.vx_script.specs.declared.reader.Reader.{Reader}
 use Rattle.vx_script_forms.specs.FormOf.{form_of}
-use Rattle.vx_script_forms.specs.Ranges.{is_form, is_call, is_policy, maybe_name, may_have_group}
+use Rattle.vx_script_forms.specs.Ranges.{is_form, is_policy, maybe_name, may_have_group}
 use Rattle.vx_script_forms.specs.Table.{commands}
 use Rattle.vx_script_forms.specs.Values.{maybe_name as maybe_name_at}
 use Rattle.vx_script_forms.specs.declared.form.Form.{Form}
 use Rattle.vx_script_forms.specs.declared.form.Form.TheVariants as form
 use Rattle.vx_script_forms.specs.declared.kind.Kind.{Kind}
 use Rattle.vx_script_forms.specs.declared.kind.Kind.TheVariants as kind
-use Rattle.vx_script_print.specs.Text.{form_text, part_text, call_text}
+use Rattle.vx_script_print.specs.Text.{form_text, part_text}
 use Rattle.vx_script_print.specs.declared.part.Part.TheVariants as part
 use Rattle.vx_script_words.specs.Row.{and_then}
 use Rattle.vx_script_words.specs.Words.{from_word}
 use Rattle.vx_script_words.specs.declared.key.Key.TheVariants as key
-use Rattle.vx_script_laws.proofs.Spelled.{is_word, are_words, spelled, begun, from_begun}
+use Rattle.vx_script_laws.proofs.Spelled.{is_word, are_words, begun, from_begun}
 use Rattle.vx_script_laws.proofs.Rows.{cut_words, cuts_are_words}
 use Rattle.vx_script_laws.proofs.Choices.{Matches}
 use Rattle.vx_script_laws.proofs.Texts.{cut_spelled}
-use Rattle.vx_script_laws.proofs.Shapes.{IsFirst, shape_of, first_command, begins_plainly, act_kind, call_kind}
+use Rattle.vx_script_laws.proofs.Shapes.{shape_of, first_command, begins_plainly, act_kind, call_kind}
 use Rattle.vx_script_laws.proofs.Shown.{Shows, shown_choice}
 use Rattle.vx_script_laws.proofs.Acts.{act_shown}
 use Rattle.vx_script_laws.proofs.Calls.{call_shown}

@@ -1,39 +1,33 @@
 -- Each printed first line but that of `vxassist make` is read as it is.
-use Rattle.std.proofs.Common.{◌≡◌, ◌∙◌, sym, ap, refl, ℕ, zero, suc, ◌+◌, ◌-◌, ◌^◌, ◌<◌, ◌≤◌, Bool, true, false, List, [], ◌∷◌, ◌++◌, map, arith, Option, Some, None}
-use Rattle.std.specs.Prelude.{codes, decimal, ◌&&◌, nat_le, nat_lt, option_and_then, length}
+use Rattle.std.proofs.Common.{◌≡◌, ◌∙◌, ap, refl, ℕ, ◌-◌, ◌^◌, true, false, List, [], ◌∷◌, ◌++◌, map, Option, Some, None}
+use Rattle.std.specs.Prelude.{◌&&◌, nat_lt, option_and_then, length}
 use Rattle.std.specs.List.{list_all}
 use Rattle.std.proofs.Math.Dec.{lit≤}
-use Rattle.std.proofs.lemmas.Bool.{and_parts, and_from, both_ways}
+use Rattle.std.proofs.lemmas.Bool.{and_parts, both_ways}
 use Rattle.vx_names.specs.Form.{is_name}
 use Rattle.vx_script.specs.Kept.{maybe_cut}
-use Rattle.vx_script_forms.specs.Ranges.{is_between, is_short_number, is_length, is_byte, is_pair, are_blocks, is_call, is_act, is_form, is_policy, maybe_name, maybe_between, may_have_group}
-use Rattle.vx_script_forms.specs.declared.act.Act.{Act}
-use Rattle.vx_script_forms.specs.declared.act.Act.TheVariants as act
-use Rattle.vx_script_forms.specs.declared.call.Call.{Call}
-use Rattle.vx_script_forms.specs.declared.call.Call.TheVariants as call
-use Rattle.vx_script_forms.specs.declared.form.Form.{Form}
+use Rattle.vx_script_forms.specs.Ranges.{is_between, is_length, is_pair, is_form, is_policy, maybe_name, maybe_between}
 use Rattle.vx_script_forms.specs.declared.form.Form.TheVariants as form
 use Rattle.vx_script_forms.specs.declared.form.WordPolicy.{WordPolicy}
 use Rattle.vx_script_forms.specs.declared.form.WordPolicy.TheVariants as policy
 use Rattle.vx_script_forms.specs.declared.kind.Kind.{Kind}
 use Rattle.vx_script_forms.specs.declared.kind.Kind.TheVariants as kind
-use Rattle.vx_script_print.specs.Text.{form_text, act_text, call_text, policy_text}
+use Rattle.vx_script_print.specs.Text.{form_text}
 use Rattle.vx_script_print.specs.declared.part.Part.TheVariants as part
 use Rattle.vx_script_words.specs.Key.{text_of}
 use Rattle.vx_script_words.specs.declared.class.Sort.TheVariants as sort
 use Rattle.vx_script_words.specs.declared.key.Key.TheVariants as key
 use Rattle.vx_script_words.specs.declared.value.DiskAt.{DiskAt}
-use Rattle.vx_script_words.specs.declared.value.Value.TheVariants as value
-use Rattle.vx_script_laws.proofs.Spelled.{are_words, spelled}
+use Rattle.vx_script_laws.proofs.Spelled.{are_words}
 use Rattle.vx_script_laws.proofs.Rows.{Reads, done, no_group_place, cut_words}
 use Rattle.vx_script_laws.proofs.Texts.{line_begun, longer_line, names_spelled, disks_spelled, itself}
-use Rattle.vx_script_laws.proofs.Builders.{key_word, a_name, a_source, a_number, a_length, a_byte, a_pair, a_break_off, a_maybe_name, a_tagged_number, a_tagged_length, a_group, maybe_value_said, count_value_said, maybe_value, count_value}
+use Rattle.vx_script_laws.proofs.Builders.{key_word, a_name, a_number, a_length, a_pair, a_maybe_name, a_tagged_number, a_tagged_length, maybe_value_said, count_value_said, count_value}
 use Rattle.vx_script_laws.proofs.Shapes.{shape_of, group_fits}
-use Rattle.vx_script_laws.proofs.Shown.{Shows, shown, grouped, some_names, some_pairs, all_names, all_pairs, names_stop_at_cut, pairs_stop_at_cut, front_stops_at_cut, front_stops_at_tagged}
-use Rattle.vx_script_forms.specs.Values.{maybe_numbered, maybe_named, all, named, paired}
+use Rattle.vx_script_laws.proofs.Shown.{Shows, shown, grouped, some_names, some_pairs, all_names, all_pairs, names_stop_at_cut, front_stops_at_cut, front_stops_at_tagged}
+use Rattle.vx_script_forms.specs.Values.{maybe_numbered}
 use Rattle.vx_script_print.specs.Text.{names_text, disks_text}
 use Rattle.vx_script_laws.proofs.Names.{pair_word}
-use Rattle.vx_script_laws.proofs.Shown.{Stops, small_below}
+use Rattle.vx_script_laws.proofs.Shown.{small_below}
 
 -- the kind of a read policy's line
 abbrev pub policy_kind : WordPolicy → Kind
@@ -62,14 +56,14 @@ module _ (cut : Option ℕ) (ends : maybe_cut cut ≡ true) (words : are_words (
       let last = and_parts (is_name dg && nat_lt 0 (length (d ∷ ds))) (list_all is_pair (d ∷ ds)) h in
       let pairs = and_parts (is_pair d) (list_all is_pair ds) last.1 in
       shown (key_word key.VxDg refl (no_group_place (key_word key.Init refl (a_name dg (and_parts (is_name dg) (nat_lt 0 (length (d ∷ ds))) last.0).0 (a_pair d pairs.0 (some_pairs cut ds ends words pairs.1))))))
-        (longer_line key.VxDg (part.Key key.Init ∷ part.Name dg ∷ []) (disks_text (d ∷ ds)) (cut_words cut) (map pair_word (d ∷ ds) ++ cut_words cut) refl (disks_spelled (d ∷ ds) (cut_words cut)))
-        refl (refl, (refl, tt)) refl (ap (option_and_then (λ disks. Some (form.DgInit dg disks))) (all_pairs (d ∷ ds)))
+      (longer_line key.VxDg (part.Key key.Init ∷ part.Name dg ∷ []) (disks_text (d ∷ ds)) (cut_words cut) (map pair_word (d ∷ ds) ++ cut_words cut) refl (disks_spelled (d ∷ ds) (cut_words cut)))
+      refl (refl, (refl, tt)) refl (ap (option_and_then (λ disks. Some (form.DgInit dg disks))) (all_pairs (d ∷ ds)))
 
   pub dg_add_disk_shown : (dg : List ℕ) (disk : DiskAt) → is_form (form.DgAddDisk dg disk) ≡ true → Shows cut None (form.DgAddDisk dg disk) (form_text None (form.DgAddDisk dg disk)) kind.DgAddDisk (shape_of None kind.DgAddDisk)
   dg_add_disk_shown dg disk h =
       let two = and_parts (is_name dg) (is_pair disk) h in
       shown (key_word key.VxDg refl (no_group_place (key_word key.GroupOption refl (a_name dg two.0 (key_word key.AddDisk refl (a_pair disk two.1 ended))))))
-        (line_begun key.VxDg (part.Key key.GroupOption ∷ part.Name dg ∷ part.Key key.AddDisk ∷ part.Pair disk ∷ []) (cut_words cut) refl) refl (refl, (refl, tt)) refl refl
+      (line_begun key.VxDg (part.Key key.GroupOption ∷ part.Name dg ∷ part.Key key.AddDisk ∷ part.Pair disk ∷ []) (cut_words cut) refl) refl (refl, (refl, tt)) refl refl
 
   pub dg_import_shown : (dg : List ℕ) → is_form (form.DgImport dg) ≡ true → Shows cut None (form.DgImport dg) (form_text None (form.DgImport dg)) kind.DgImport (shape_of None kind.DgImport)
   dg_import_shown dg h = shown (key_word key.VxDg refl (no_group_place (key_word key.Import refl (a_name dg h ended)))) (line_begun key.VxDg (part.Key key.Import ∷ part.Name dg ∷ []) (cut_words cut) refl) refl (refl, (refl, tt)) refl refl
@@ -114,15 +108,15 @@ module _ (cut : Option ℕ) (ends : maybe_cut cut ≡ true) (words : are_words (
   mirror_shown vol disks h =
       let two = and_parts (is_name vol) (list_all is_name disks) h in
       shown (grouped key.VxAssist key.Mirror g refl refl refl group (a_name vol two.0 (some_names cut disks words two.1)))
-        (longer_line key.VxAssist (part.Group g ∷ part.Key key.Mirror ∷ part.Name vol ∷ []) (names_text disks) (cut_words cut) (map itself disks ++ cut_words cut) refl (names_spelled disks (cut_words cut)))
-        refl (refl, group_fits g _ _ (refl, tt)) (maybe_value_said g) (ap (option_and_then (λ ns. Some (form.Mirror vol ns))) (all_names disks))
+      (longer_line key.VxAssist (part.Group g ∷ part.Key key.Mirror ∷ part.Name vol ∷ []) (names_text disks) (cut_words cut) (map itself disks ++ cut_words cut) refl (names_spelled disks (cut_words cut)))
+      refl (refl, group_fits g _ _ (refl, tt)) (maybe_value_said g) (ap (option_and_then (λ ns. Some (form.Mirror vol ns))) (all_names disks))
 
   pub add_mir_shown : (vol : List ℕ) (disks : List (List ℕ)) → is_form (form.AddMir vol disks) ≡ true → Shows cut g (form.AddMir vol disks) (form_text g (form.AddMir vol disks)) kind.AddMir (shape_of g kind.AddMir)
   add_mir_shown vol disks h =
       let two = and_parts (is_name vol) (list_all is_name disks) h in
       shown (grouped key.VxSnap key.AddMir g refl refl refl group (a_name vol two.0 (some_names cut disks words two.1)))
-        (longer_line key.VxSnap (part.Group g ∷ part.Key key.AddMir ∷ part.Name vol ∷ []) (names_text disks) (cut_words cut) (map itself disks ++ cut_words cut) refl (names_spelled disks (cut_words cut)))
-        refl (refl, group_fits g _ _ (refl, tt)) (maybe_value_said g) (ap (option_and_then (λ ns. Some (form.AddMir vol ns))) (all_names disks))
+      (longer_line key.VxSnap (part.Group g ∷ part.Key key.AddMir ∷ part.Name vol ∷ []) (names_text disks) (cut_words cut) (map itself disks ++ cut_words cut) refl (names_spelled disks (cut_words cut)))
+      refl (refl, group_fits g _ _ (refl, tt)) (maybe_value_said g) (ap (option_and_then (λ ns. Some (form.AddMir vol ns))) (all_names disks))
 
   pub remove_volume_shown : (vol : List ℕ) → is_name vol ≡ true → Shows cut g (form.RemoveVolume vol) (form_text g (form.RemoveVolume vol)) kind.RemoveVolume (shape_of g kind.RemoveVolume)
   remove_volume_shown vol h = shown (grouped key.VxAssist key.Remove g refl refl refl group (key_word key.Volume refl (a_name vol h finished))) (line_begun key.VxAssist (part.Group g ∷ part.Key key.Remove ∷ part.Key key.Volume ∷ part.Name vol ∷ []) (cut_words cut) refl) refl (refl, group_fits g _ _ (refl, tt)) (maybe_value_said g) refl
@@ -153,11 +147,11 @@ module _ (cut : Option ℕ) (ends : maybe_cut cut ≡ true) (words : are_words (
       let last = and_parts (is_name vol && maybe_between 0 (2 ^ 40 - 1) ndcomirs) (maybe_between 1 (2 ^ 40) region) h in
       let two = and_parts (is_name vol) (maybe_between 0 (2 ^ 40 - 1) ndcomirs) last.0 in
       shown (grouped key.VxSnap key.Prepare g refl refl refl group (a_name vol two.0
-          (a_tagged_number key.Ndcomirs 0 (2 ^ 40 - 1) ndcomirs refl (lit≤ tt) two.1 (front_stops_at_tagged key.Ndcomirs (sort.Number 0 (2 ^ 40 - 1)) (text_of key.RegionSize) region (cut_words cut) refl (front_stops_at_cut key.Ndcomirs (sort.Number 0 (2 ^ 40 - 1)) cut refl refl))
-            (a_tagged_length key.RegionSize region refl last.1 (front_stops_at_cut key.RegionSize sort.Length cut refl refl) finished))))
-        (line_begun key.VxSnap (part.Group g ∷ part.Key key.Prepare ∷ part.Name vol ∷ part.Tagged key.Ndcomirs ndcomirs ∷ part.Tagged key.RegionSize region ∷ []) (cut_words cut) refl)
-        refl (refl, tt) (maybe_value_said g)
-        (ap (option_and_then (λ n. option_and_then (λ r. Some (form.Prepare vol n r)) (maybe_numbered (count_value region)))) (count_value_said ndcomirs) ∙ ap (option_and_then (λ r. Some (form.Prepare vol ndcomirs r))) (count_value_said region))
+      (a_tagged_number key.Ndcomirs 0 (2 ^ 40 - 1) ndcomirs refl (lit≤ tt) two.1 (front_stops_at_tagged key.Ndcomirs (sort.Number 0 (2 ^ 40 - 1)) (text_of key.RegionSize) region (cut_words cut) refl (front_stops_at_cut key.Ndcomirs (sort.Number 0 (2 ^ 40 - 1)) cut refl refl))
+      (a_tagged_length key.RegionSize region refl last.1 (front_stops_at_cut key.RegionSize sort.Length cut refl refl) finished))))
+      (line_begun key.VxSnap (part.Group g ∷ part.Key key.Prepare ∷ part.Name vol ∷ part.Tagged key.Ndcomirs ndcomirs ∷ part.Tagged key.RegionSize region ∷ []) (cut_words cut) refl)
+      refl (refl, tt) (maybe_value_said g)
+      (ap (option_and_then (λ n. option_and_then (λ r. Some (form.Prepare vol n r)) (maybe_numbered (count_value region)))) (count_value_said ndcomirs) ∙ ap (option_and_then (λ r. Some (form.Prepare vol ndcomirs r))) (count_value_said region))
 
   pub rdpol_shown : (vol : List ℕ) (p : WordPolicy) → is_name vol ≡ true → is_policy p ≡ true → Shows cut g (form.Rdpol vol p) (form_text g (form.Rdpol vol p)) (policy_kind p) (shape_of g (policy_kind p))
   rdpol_shown vol policy.Round v h = shown (grouped key.VxVol key.Rdpol g refl refl refl group (key_word key.Round refl (a_name vol v finished))) (line_begun key.VxVol (part.Group g ∷ part.Key key.Rdpol ∷ part.Key key.Round ∷ part.Name vol ∷ []) (cut_words cut) refl) refl (refl, group_fits g _ _ (refl, tt)) (maybe_value_said g) refl

@@ -1,17 +1,16 @@
 -- The lines of a block are read one by one.
-use Rattle.std.proofs.Common.{◌≡◌, ◌∙◌, sym, ap, subst, refl, ℕ, zero, suc, ◌+◌, ◌^◌, ◌<◌, ◌≤◌, inl, inr, Bool, true, false, cond, List, [], ◌∷◌, ◌++◌, map, length, arith, Option, Some, None, Result, Ok, Err}
-use Rattle.std.specs.Prelude.{codes, decimal, not, ◌==◌, ◌&&◌, nat_le}
+use Rattle.std.proofs.Common.{◌≡◌, ◌∙◌, sym, ap, subst, refl, ℕ, ◌+◌, ◌^◌, ◌<◌, ◌≤◌, true, false, List, [], ◌∷◌, ◌++◌, map, length, arith, Option, Some, None, Ok}
+use Rattle.std.specs.Prelude.{codes, decimal, ◌&&◌, nat_le}
 use Rattle.std.specs.List.{list_all, flat_map, sum}
 use Rattle.std.specs.Str.{bytes_eq}
 use Rattle.std.proofs.lemmas.List.{append-nil, append_assoc}
 use Rattle.std.proofs.lemmas.List.Sums.{sum_by-cons}
-use Rattle.std.proofs.lemmas.Bool.{and_parts, and_from, and_left, not-true, both_ways, cond-false, cond-true, leb-true, le-leb, ne_eqb}
+use Rattle.std.proofs.lemmas.Bool.{and_parts, and_from, and_left, both_ways, cond-false, cond-true, leb-true, le-leb, ne_eqb}
 use Rattle.vx_names.specs.Number.{is_digit}
-use Rattle.vx_script.specs.Choice.{choose}
 use Rattle.vx_script.specs.Kept.{is_line, is_block}
 use Rattle.vx_script.specs.Lines.{begins_comment, is_passed_over, lines_of}
 use Rattle.vx_script.specs.Script.{commands_from}
-use Rattle.vx_script.specs.Steps.{step, inside_step, session_line, line_of_session, line_behind, called, administered, added, ended, line_calls, line_sectors}
+use Rattle.vx_script.specs.Steps.{step, session_line, line_of_session, line_behind, called, administered, added, line_calls, line_sectors}
 use Rattle.vx_script.specs.declared.command.Command.{Command}
 use Rattle.vx_script.specs.declared.reader.Open.TheVariants.{Closed, Inside}
 use Rattle.vx_script.specs.declared.reader.Reader.{Reader}
@@ -19,7 +18,6 @@ use Rattle.vx_script_forms.specs.FormOf.{form_of}
 use Rattle.vx_script_forms.specs.Ranges.{is_between, is_call, is_act, maybe_name}
 use Rattle.vx_script_forms.specs.Table.{acts, calls}
 use Rattle.vx_script_forms.specs.Values.{maybe_name as maybe_name_at}
-use Rattle.vx_script_forms.specs.declared.act.Act.{Act}
 use Rattle.vx_script_forms.specs.declared.act.Admin.{Admin}
 use Rattle.vx_script_forms.specs.declared.block.Block.{Block}
 use Rattle.vx_script_forms.specs.declared.block.Line.{Line}
@@ -36,7 +34,7 @@ use Rattle.vx_script_laws.proofs.Shapes.{shape_of, act_kind, call_kind, first_ac
 use Rattle.vx_script_laws.proofs.Shown.{Shows, shown_choice}
 use Rattle.vx_script_laws.proofs.Acts.{act_shown}
 use Rattle.vx_script_laws.proofs.Calls.{call_shown}
-use Rattle.vx_script_laws.proofs.Reaching.{Reaches, stays_there, and_on, one_line, is_one_line, begun_one_line, not_passed}
+use Rattle.vx_script_laws.proofs.Reaching.{Reaches, and_on, one_line, is_one_line, begun_one_line, not_passed}
 
 abbrev pub inside : List Command → Option ℕ → ℕ → List Line → ℕ → ℕ → Reader
 inside done cut sessions lines calls sectors = record { done = done; begun = Inside cut sessions lines calls sectors }
@@ -137,13 +135,13 @@ lines_read sessions (l ∷ ls) most h done cut lines calls_ sectors few small =
     let calls_same : (calls_ + line_calls l) + sum (map line_calls ls) ≡ calls_ + sum (map line_calls (l ∷ ls)) = omega (arith, calls_more) in
     let sectors_same : (sectors + line_sectors l) + sum (map line_sectors ls) ≡ sectors + sum (map line_sectors (l ∷ ls)) = omega (arith, sectors_more) in
     let same : last ≡ inside done cut sessions (lines ++ l ∷ ls) (calls_ + sum (map line_calls (l ∷ ls))) (sectors + sum (map line_sectors (l ∷ ls))) =
-        ap (λ xs. inside done cut sessions xs ((calls_ + line_calls l) + sum (map line_calls ls)) ((sectors + line_sectors l) + sum (map line_sectors ls))) (append_assoc lines (l ∷ []) ls)
-        ∙ ap (λ c. inside done cut sessions (lines ++ l ∷ ls) c ((sectors + line_sectors l) + sum (map line_sectors ls))) calls_same
-        ∙ ap (inside done cut sessions (lines ++ l ∷ ls) (calls_ + sum (map line_calls (l ∷ ls)))) sectors_same in
+    ap (λ xs. inside done cut sessions xs ((calls_ + line_calls l) + sum (map line_calls ls)) ((sectors + line_sectors l) + sum (map line_sectors ls))) (append_assoc lines (l ∷ []) ls)
+    ∙ ap (λ c. inside done cut sessions (lines ++ l ∷ ls) c ((sectors + line_sectors l) + sum (map line_sectors ls))) calls_same
+    ∙ ap (inside done cut sessions (lines ++ l ∷ ls) (calls_ + sum (map line_calls (l ∷ ls)))) sectors_same in
     subst (Reaches (inside done cut sessions lines calls_ sectors) (flat_map line_text (l ∷ ls))) same
-      (and_on (inside done cut sessions lines calls_ sectors) next last (line_text l) (flat_map line_text ls)
-        (line_reads sessions l most parts.0 done cut lines calls_ sectors (omega (arith, calls_more, few)) (omega (arith, sectors_more, small)))
-        (lines_read sessions ls most parts.1 done cut (lines ++ l ∷ []) (calls_ + line_calls l) (sectors + line_sectors l) (omega (arith, calls_more, few)) (omega (arith, sectors_more, small))))
+    (and_on (inside done cut sessions lines calls_ sectors) next last (line_text l) (flat_map line_text ls)
+    (line_reads sessions l most parts.0 done cut lines calls_ sectors (omega (arith, calls_more, few)) (omega (arith, sectors_more, small)))
+    (lines_read sessions ls most parts.1 done cut (lines ++ l ∷ []) (calls_ + line_calls l) (sectors + line_sectors l) (omega (arith, calls_more, few)) (omega (arith, sectors_more, small))))
 
 end_step : (done : List Command) (cut : Option ℕ) (sessions : ℕ) (lines : List Line) (calls_ sectors : ℕ) → step (inside done cut sessions lines calls_ sectors) (codes "end") ≡ Ok (record { done = done ++ (record { group = None; form = form.Sessions (record { sessions = sessions; lines = lines }); cut = cut }) ∷ []; begun = Closed })
 unfolding step

@@ -1,58 +1,49 @@
 -- The printed first line of `vxassist make` is read as it is.
-use Rattle.std.proofs.Common.{◌≡◌, ◌∙◌, sym, ap, refl, ℕ, zero, suc, ◌+◌, ◌-◌, ◌^◌, ◌<◌, ◌≤◌, Bool, true, false, List, [], ◌∷◌, ◌++◌, map, arith, Option, Some, None}
-use Rattle.std.specs.Prelude.{codes, decimal, ◌&&◌, nat_le, nat_lt, option_and_then, length}
+use Rattle.std.proofs.Common.{◌≡◌, ◌∙◌, ap, refl, ℕ, ◌^◌, true, false, List, [], ◌∷◌, ◌++◌, map, Option, Some, None}
+use Rattle.std.specs.Prelude.{codes, decimal, ◌&&◌, option_and_then}
 use Rattle.std.specs.List.{list_all}
 use Rattle.std.proofs.Math.Dec.{lit≤}
-use Rattle.std.proofs.lemmas.Bool.{and_parts, and_from}
+use Rattle.std.proofs.lemmas.Bool.{and_parts}
 use Rattle.vx_names.specs.Form.{is_name}
 use Rattle.vx_script.specs.Kept.{maybe_cut}
-use Rattle.vx_script_forms.specs.Ranges.{is_between, is_short_number, is_length, is_byte, is_pair, are_blocks, is_call, is_act, is_form, is_policy, maybe_name, maybe_between, may_have_group}
-use Rattle.vx_script_forms.specs.declared.act.Act.{Act}
-use Rattle.vx_script_forms.specs.declared.act.Act.TheVariants as act
-use Rattle.vx_script_forms.specs.declared.call.Call.{Call}
-use Rattle.vx_script_forms.specs.declared.call.Call.TheVariants as call
-use Rattle.vx_script_forms.specs.declared.form.Form.{Form}
+use Rattle.vx_script_forms.specs.Ranges.{is_length, is_form, maybe_name, maybe_between}
 use Rattle.vx_script_forms.specs.declared.form.Form.TheVariants as form
-use Rattle.vx_script_forms.specs.declared.form.WordPolicy.{WordPolicy}
-use Rattle.vx_script_forms.specs.declared.form.WordPolicy.TheVariants as policy
 use Rattle.vx_script_forms.specs.declared.kind.Kind.{Kind}
 use Rattle.vx_script_forms.specs.declared.kind.Kind.TheVariants as kind
-use Rattle.vx_script_print.specs.Text.{form_text, act_text, call_text, policy_text}
+use Rattle.vx_script_print.specs.Text.{form_text}
 use Rattle.vx_script_print.specs.declared.part.Part.TheVariants as part
 use Rattle.vx_script_words.specs.Key.{text_of}
 use Rattle.vx_script_words.specs.declared.class.Sort.TheVariants as sort
 use Rattle.vx_script_words.specs.declared.key.Key.TheVariants as key
-use Rattle.vx_script_words.specs.declared.value.DiskAt.{DiskAt}
 use Rattle.vx_script_words.specs.declared.value.Value.TheVariants as value
 use Rattle.vx_script_laws.proofs.Spelled.{are_words, spelled}
-use Rattle.vx_script_laws.proofs.Rows.{Reads, done, no_group_place, cut_words}
-use Rattle.vx_script_laws.proofs.Texts.{line_begun, longer_line, names_spelled, disks_spelled, itself}
-use Rattle.vx_script_laws.proofs.Builders.{key_word, a_name, a_source, a_number, a_length, a_byte, a_pair, a_break_off, a_maybe_name, a_tagged_number, a_tagged_length, a_group, maybe_value_said, count_value_said, maybe_value, count_value}
+use Rattle.vx_script_laws.proofs.Rows.{Reads, cut_words}
+use Rattle.vx_script_laws.proofs.Texts.{longer_line, names_spelled, itself}
+use Rattle.vx_script_laws.proofs.Builders.{key_word, a_name, a_length, a_tagged_number, a_tagged_length, maybe_value_said, count_value_said, maybe_value, count_value}
 use Rattle.vx_script_laws.proofs.Shapes.{shape_of, group_fits}
-use Rattle.vx_script_laws.proofs.Shown.{Shows, shown, grouped, some_names, some_pairs, all_names, all_pairs, names_stop_at_cut, pairs_stop_at_cut, front_stops_at_cut, front_stops_at_tagged}
-use Rattle.std.specs.Prelude.{◌||◌, is_none}
+use Rattle.vx_script_laws.proofs.Shown.{Shows, shown, grouped, some_names, all_names, front_stops_at_cut, front_stops_at_tagged}
 use Rattle.std.specs.List.{flat_map}
 use Rattle.std.proofs.lemmas.Bool.{both_ways}
 use Rattle.std.proofs.lemmas.List.{append_assoc}
 use Rattle.vx_names.specs.Form.{is_name_byte}
 use Rattle.vx_script_forms.specs.FormOf.{form_of, with_mirrors, assist_make}
 use Rattle.vx_script_forms.specs.Ranges.{is_layout, is_attrs}
-use Rattle.vx_script_forms.specs.Values.{maybe_numbered, maybe_below, all, named}
+use Rattle.vx_script_forms.specs.Values.{maybe_numbered}
 use Rattle.vx_script_forms.specs.declared.form.MakeAttrs.{MakeAttrs}
 use Rattle.vx_script_forms.specs.declared.form.WordLayout.{WordLayout}
 use Rattle.vx_script_forms.specs.declared.form.WordLayout.TheVariants as layout
 use Rattle.vx_script_print.specs.Text.{part_text, attrs_text, layout_text, names_text}
 use Rattle.vx_script_print.specs.declared.part.Part.{Part}
 use Rattle.vx_script_words.specs.declared.class.Item.{Item}
-use Rattle.vx_script_words.specs.declared.class.Item.TheVariants.{One, Maybe, Any}
+use Rattle.vx_script_words.specs.declared.class.Item.TheVariants.{Maybe, Any}
 use Rattle.vx_script_words.specs.declared.class.Sort.{Sort}
 use Rattle.vx_script_words.specs.declared.key.Key.{Key}
 use Rattle.vx_script_words.specs.declared.value.Value.{Value}
 use Rattle.vx_script_laws.proofs.Spelled.{is_word, begun}
-use Rattle.vx_script_laws.proofs.Rows.{maybe_word, no_word, head_word}
+use Rattle.vx_script_laws.proofs.Rows.{maybe_word, no_word}
 use Rattle.vx_script_laws.proofs.Texts.{parts_spelled, parts_then, tagged_then, group_then}
 use Rattle.vx_script_laws.proofs.Builders.{class_of, key_said}
-use Rattle.vx_script_laws.proofs.Shown.{Stops, apart, front_apart, front_stops_at_names, small_count_said}
+use Rattle.vx_script_laws.proofs.Shown.{Stops, apart, front_stops_at_names, small_count_said}
 
 -- the words of the mirrors, the region and the logs, and those behind them
 abbrev pub mirrors_then : Option ℕ → Option ℕ → Option ℕ → List (List ℕ) → List (List ℕ)
@@ -128,14 +119,14 @@ module _ (cut : Option ℕ) (ends : maybe_cut cut ≡ true) (words : are_words (
     plain_shown : Shows cut g (form.AssistMake vol size (record { layout = None; ncol = None; unit = None; nmirror = nmirror; region = region; ndcomirror = logs }) disks) (form_text g (form.AssistMake vol size (record { layout = None; ncol = None; unit = None; nmirror = nmirror; region = region; ndcomirror = logs }) disks)) kind.MakeConcat (shape_of g kind.MakeConcat)
     plain_shown =
         shown (grouped key.VxAssist key.Make g refl refl refl group (a_name vol vol_named (a_length size sized (no_word (class_of key.LayoutConcat sort.Word) (mirrors_stop key.LayoutConcat sort.Word nmirror region logs refl refl refl refl refl refl) (mirrors_read nmirror region logs few regions some_logs)))))
-          (make_begun g vol size None None None nmirror region logs) refl (refl, tt) (maybe_value_said g)
-          (made vol size None None None nmirror region logs disks _ _ _ _ (small_count_said 1 8 nmirror (lit≤ tt) few) (count_value_said region) (small_count_said 0 2 logs (lit≤ tt) some_logs) (all_names disks))
+        (make_begun g vol size None None None nmirror region logs) refl (refl, tt) (maybe_value_said g)
+        (made vol size None None None nmirror region logs disks _ _ _ _ (small_count_said 1 8 nmirror (lit≤ tt) few) (count_value_said region) (small_count_said 0 2 logs (lit≤ tt) some_logs) (all_names disks))
 
     concat_shown : Shows cut g (form.AssistMake vol size (record { layout = Some layout.Concat; ncol = None; unit = None; nmirror = nmirror; region = region; ndcomirror = logs }) disks) (form_text g (form.AssistMake vol size (record { layout = Some layout.Concat; ncol = None; unit = None; nmirror = nmirror; region = region; ndcomirror = logs }) disks)) kind.MakeConcat (shape_of g kind.MakeConcat)
     concat_shown =
         shown (grouped key.VxAssist key.Make g refl refl refl group (a_name vol vol_named (a_length size sized (maybe_word (class_of key.LayoutConcat sort.Word) (text_of key.LayoutConcat) value.Word refl (key_said key.LayoutConcat) (mirrors_read nmirror region logs few regions some_logs)))))
-          (make_begun g vol size (Some layout.Concat) None None nmirror region logs) refl (refl, tt) (maybe_value_said g)
-          (made vol size (Some layout.Concat) None None nmirror region logs disks _ _ _ _ (small_count_said 1 8 nmirror (lit≤ tt) few) (count_value_said region) (small_count_said 0 2 logs (lit≤ tt) some_logs) (all_names disks))
+        (make_begun g vol size (Some layout.Concat) None None nmirror region logs) refl (refl, tt) (maybe_value_said g)
+        (made vol size (Some layout.Concat) None None nmirror region logs disks _ _ _ _ (small_count_said 1 8 nmirror (lit≤ tt) few) (count_value_said region) (small_count_said 0 2 logs (lit≤ tt) some_logs) (all_names disks))
 
     stripe_values : Option ℕ → Option ℕ → List Value
     stripe_values ncol unit = value.Word ∷ maybe_value g ∷ value.Word ∷ value.Named vol ∷ value.Number size ∷ value.Word ∷ count_value ncol ∷ count_value unit ∷ count_value nmirror ∷ count_value region ∷ count_value logs ∷ map value.Named disks
@@ -154,8 +145,8 @@ module _ (cut : Option ℕ) (ends : maybe_cut cut ≡ true) (words : are_words (
         let stops_unit : Stops (class_of key.StripeUnit sort.Length) (mirrors_then nmirror region logs last_words) = mirrors_stop key.StripeUnit sort.Length nmirror region logs refl refl refl refl refl refl in
         let stops_ncol : Stops (class_of key.Ncol (sort.Number 2 16)) (tagged_then (text_of key.StripeUnit) unit (mirrors_then nmirror region logs last_words)) = front_stops_at_tagged key.Ncol (sort.Number 2 16) (text_of key.StripeUnit) unit (mirrors_then nmirror region logs last_words) refl (mirrors_stop key.Ncol (sort.Number 2 16) nmirror region logs refl refl refl refl refl refl) in
         shown (grouped key.VxAssist key.Make g refl refl refl group (a_name vol vol_named (a_length size sized (key_word key.LayoutStripe refl (a_tagged_number key.Ncol 2 16 ncol refl (lit≤ tt) a stops_ncol (a_tagged_length key.StripeUnit unit refl b stops_unit (mirrors_read nmirror region logs few regions some_logs)))))))
-          (make_begun g vol size (Some layout.Stripe) ncol unit nmirror region logs) refl (refl, group_fits g _ _ (refl, (refl, tt))) (maybe_value_said g)
-          (stripe_form ncol unit a)
+        (make_begun g vol size (Some layout.Stripe) ncol unit nmirror region logs) refl (refl, group_fits g _ _ (refl, (refl, tt))) (maybe_value_said g)
+        (stripe_form ncol unit a)
 
     pub by_layout : (l : Option WordLayout) (ncol unit : Option ℕ) → is_layout l ncol unit ≡ true → Shows cut g (form.AssistMake vol size (record { layout = l; ncol = ncol; unit = unit; nmirror = nmirror; region = region; ndcomirror = logs }) disks) (form_text g (form.AssistMake vol size (record { layout = l; ncol = ncol; unit = unit; nmirror = nmirror; region = region; ndcomirror = logs }) disks)) (make_kind l) (shape_of g (make_kind l))
     by_layout None None None h = plain_shown

@@ -1,21 +1,19 @@
 -- Names, words with a fixed front, and words of several names.
-use Rattle.std.proofs.Common.{◌≡◌, ◌∙◌, sym, ap, subst, refl, ℕ, suc, ◌+◌, ◌<◌, ◌≤◌, ◌⊎◌, inl, inr, Bool, true, false, cond, List, [], ◌∷◌, ◌++◌, length, take, drop, arith, Option, Some, None}
-use Rattle.std.specs.Prelude.{nat_lt, not, ◌==◌, codes, is_some, is_none}
+use Rattle.std.proofs.Common.{◌≡◌, ◌∙◌, ap, refl, ℕ, suc, ◌+◌, ◌<◌, ◌≤◌, inl, inr, Bool, true, false, cond, List, [], ◌∷◌, ◌++◌, length, take, drop, arith, Option, Some, None}
+use Rattle.std.specs.Prelude.{not, ◌==◌, codes, is_some, is_none}
 use Rattle.std.specs.List.{list_all, position_or_len}
 use Rattle.std.specs.Str.{bytes_eq}
-use Rattle.std.proofs.lemmas.List.{append-nil, append_assoc}
+use Rattle.std.proofs.lemmas.List.{append_assoc}
 use Rattle.std.proofs.lemmas.List.Folds.{list_all-append}
-use Rattle.std.proofs.lemmas.Bool.{and_parts, and_from, leb-true, eqb-true, eq-eqb, lt-ltb, or_cases, ne_eqb, cond-true, cond-false, not_from_false, both_ways}
+use Rattle.std.proofs.lemmas.Bool.{and_parts, and_from, leb-true, eqb-true, eq-eqb, lt-ltb, or_cases, ne_eqb, cond-true, cond-false, not_from_false}
 use Rattle.std.proofs.lemmas.Slice.Eq.{bytes_eq-Decides}
 use Rattle.std.proofs.Math.Numerals.{one-add, add-one}
 use Rattle.vx_names.specs.Form.{is_name, is_name_byte, is_letter_or_digit, begins_well, is_within}
-use Rattle.vx_script_words.specs.Class.{class_value, sort_value, as_name, as_pair}
+use Rattle.vx_script_words.specs.Class.{class_value, sort_value}
 use Rattle.vx_script_words.specs.Key.{text_of}
 use Rattle.vx_script_words.specs.Parts.{behind, name_of, name_behind, cut_of, both, pair_of, three, just, plex_of, break_off_of}
 use Rattle.vx_script_words.specs.Words.{up_to, past}
-use Rattle.vx_script_words.specs.declared.class.Class.{Class}
 use Rattle.vx_script_words.specs.declared.class.Sort.{Sort}
-use Rattle.vx_script_words.specs.declared.class.Sort.TheVariants as sort
 use Rattle.vx_script_words.specs.declared.key.Key.{Key}
 use Rattle.vx_script_words.specs.declared.value.DiskAt.{DiskAt}
 use Rattle.vx_script_words.specs.declared.value.Value.{Value}

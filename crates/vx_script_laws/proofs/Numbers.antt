@@ -1,17 +1,17 @@
 -- Numbers, lengths and bytes are read back.
-use Rattle.std.proofs.Common.{◌≡◌, ◌∙◌, sym, ap, subst, refl, ℕ, zero, suc, ◌+◌, ◌-◌, ◌*◌, ◌/◌, ◌%◌, ◌^◌, ◌<◌, ◌≤◌, inl, inr, Bool, true, false, cond, List, [], ◌∷◌, ◌++◌, length, take, drop, arith, Option, Some, None, rules}
-use Rattle.std.specs.Prelude.{decimal, nat_lt, nat_le, not, ◌==◌, ◌&&◌, ◌||◌}
-use Rattle.std.specs.List.{list_all, position_or_len}
-use Rattle.std.proofs.lemmas.Bool.{and_parts, and_from, leb-true, le-leb, lt-leb, lt-ltb, eqb-true, eq-eqb, ne_eqb, cond-true, cond-false, not_from_false, or_cases, cases_lt, both_ways, not-true}
+use Rattle.std.proofs.Common.{◌≡◌, ◌∙◌, ap, refl, ℕ, ◌+◌, ◌-◌, ◌*◌, ◌/◌, ◌%◌, ◌^◌, ◌<◌, ◌≤◌, true, false, cond, List, [], ◌∷◌, length, take, drop, arith, Some}
+use Rattle.std.specs.Prelude.{decimal, nat_le, not, ◌==◌, ◌&&◌, ◌||◌}
+use Rattle.std.specs.List.{list_all}
+use Rattle.std.proofs.lemmas.Bool.{and_parts, and_from, leb-true, le-leb, lt-ltb, cond-true, cond-false, not-true}
 use Rattle.std.proofs.lemmas.Bool.Decides.{nat_tests}
 use Rattle.std.proofs.Math.Numerals.{one-add}
 use Rattle.vx_block.specs.Word.{hex, hex_digit}
 use Rattle.vx_names.specs.Number.{is_digit, is_empty, is_numeral, digits_on, digits_value}
 use Rattle.vx_names.proofs.Numbers.{decimal_numeral, decimal_value, numeral_parts}
 use Rattle.vx_script_words.specs.Hex.{is_hex, hex_value, byte_of}
-use Rattle.vx_script_words.specs.Number.{number_from, begins_ill, number_of, within, times, digits_end, length_of, is_not_digit, unit_sectors}
-use Rattle.vx_script_forms.specs.Ranges.{is_between, is_length, is_byte}
-use Rattle.vx_script_laws.proofs.Spelled.{is_dark, is_word, take_front, drop_front}
+use Rattle.vx_script_words.specs.Number.{number_from, begins_ill, number_of, within, times, digits_end, length_of, unit_sectors}
+use Rattle.vx_script_forms.specs.Ranges.{is_between, is_length}
+use Rattle.vx_script_laws.proofs.Spelled.{is_dark, is_word}
 
 grows : (acc : ℕ) (ds : List ℕ) → acc ≤ digits_on acc ds
 grows acc [] = omega arith

@@ -1,14 +1,13 @@
 -- A reader goes over a text line by line.
-use Rattle.std.proofs.Common.{◌≡◌, ◌∙◌, sym, ap, subst, refl, ℕ, zero, suc, ◌+◌, ◌<◌, ◌≤◌, inl, inr, Bool, true, false, cond, List, [], ◌∷◌, ◌++◌, length, arith, Option, Some, None, Result, Ok, Err}
-use Rattle.std.specs.Prelude.{codes, not, ◌==◌, ◌||◌}
+use Rattle.std.proofs.Common.{◌≡◌, ◌∙◌, sym, ap, refl, ℕ, suc, ◌+◌, ◌<◌, Bool, true, false, List, [], ◌∷◌, ◌++◌, length, arith, Ok}
+use Rattle.std.specs.Prelude.{◌==◌}
 use Rattle.std.specs.List.{list_all}
 use Rattle.std.proofs.lemmas.List.{append-nil, append_assoc}
 use Rattle.std.proofs.lemmas.List.Folds.{list_all-append}
-use Rattle.std.proofs.lemmas.Bool.{and_parts, and_from, ltb-true, ne_eqb, not-true, not_from_false, cond-true, cond-false, or_from}
+use Rattle.std.proofs.lemmas.Bool.{and_parts, and_from, ltb-true, ne_eqb, not-true, not_from_false, cond-false, or_from}
 use Rattle.vx_script.specs.Lines.{lines_from, lines_of, begins_comment, is_passed_over}
-use Rattle.vx_script.specs.Script.{Place, commands_from, stepped}
+use Rattle.vx_script.specs.Script.{commands_from, stepped}
 use Rattle.vx_script.specs.Steps.{step}
-use Rattle.vx_script.specs.declared.command.Command.{Command}
 use Rattle.vx_script.specs.declared.reader.Reader.{Reader}
 use Rattle.vx_script_words.specs.Words.{from_word}
 use Rattle.vx_script_laws.proofs.Spelled.{is_dark, is_word, are_words, spelled, begun, from_here}
@@ -45,8 +44,8 @@ pub one_line : (r next : Reader) (line : List ℕ) → is_one_line line ≡ true
 one_line r next line h e n rest = (
   n + 1,
   ap (λ z. commands_from r n (lines_of z)) (append_assoc line (10 ∷ []) rest)
-  ∙ ap (commands_from r n) (first_line line rest h)
-  ∙ ap (λ s. stepped s (λ after. commands_from after (n + 1) (lines_of rest)) n line) e,
+      ∙ ap (commands_from r n) (first_line line rest h)
+      ∙ ap (λ s. stepped s (λ after. commands_from after (n + 1) (lines_of rest)) n line) e,
 )
 
 dark_one_line : (w : List ℕ) → list_all is_dark w ≡ true → is_one_line w ≡ true

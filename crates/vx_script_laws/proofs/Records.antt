@@ -1,19 +1,19 @@
 -- The lines of a record text are taken as they are.
-use Rattle.std.proofs.Common.{◌≡◌, ◌∙◌, sym, ap, subst, refl, ℕ, zero, suc, ◌+◌, ◌<◌, ◌≤◌, inl, inr, Bool, true, false, cond, List, [], ◌∷◌, ◌++◌, length, arith, Option, Some, None, Result, Ok, Err}
-use Rattle.std.specs.Prelude.{codes, not, ◌==◌, ◌&&◌, is_none}
+use Rattle.std.proofs.Common.{◌≡◌, ◌∙◌, sym, ap, subst, refl, ℕ, ◌+◌, inl, inr, true, false, List, [], ◌∷◌, ◌++◌, Option, Some, None, Ok}
+use Rattle.std.specs.Prelude.{codes, not, ◌==◌, is_none}
 use Rattle.std.specs.List.{list_all}
 use Rattle.std.specs.Str.{bytes_eq}
 use Rattle.std.proofs.lemmas.List.{append-nil, append_assoc}
-use Rattle.std.proofs.lemmas.Bool.{and_parts, and_from, not-true, both_ways, cond-false, cond-true, cases_Bool, eqb-true}
+use Rattle.std.proofs.lemmas.Bool.{and_parts, not-true, cond-false, cond-true, cases_Bool, eqb-true}
 use Rattle.vx_script.specs.Kept.{is_made, is_record_line, ends_line}
 use Rattle.vx_script.specs.Lines.{lines_from, lines_of, bad_word}
 use Rattle.vx_script.specs.Script.{commands_from, stepped}
-use Rattle.vx_script.specs.Steps.{step, making_step, or_bad}
+use Rattle.vx_script.specs.Steps.{step, or_bad}
 use Rattle.vx_script.specs.declared.command.Command.{Command}
 use Rattle.vx_script.specs.declared.reader.Open.TheVariants.{Closed, Making}
 use Rattle.vx_script.specs.declared.reader.Reader.{Reader}
 use Rattle.vx_script_forms.specs.declared.form.Form.TheVariants as form
-use Rattle.vx_script_laws.proofs.Reaching.{Reaches, stays_there, and_on, one_line}
+use Rattle.vx_script_laws.proofs.Reaching.{Reaches, and_on, one_line}
 
 abbrev pub making : List Command → Option (List ℕ) → Option ℕ → List ℕ → Reader
 making done group cut text = record { done = done; begun = Making group cut text }
@@ -38,22 +38,20 @@ one_more text begun bs = append_assoc (text ++ begun) (10 ∷ []) bs ∙ append_
 newline_here : (done : List Command) (group : Option (List ℕ)) (cut : Option ℕ) (text begun : List ℕ) (b : ℕ) (bs : List ℕ) → (b == 10) ≡ true → is_record_line begun ≡ true → Takes done group cut (text ++ begun ++ 10 ∷ []) [] bs → Takes done group cut text begun (b ∷ bs)
 newline_here done group cut text begun b bs e good more n rest =
     let next = more (n + 1) rest in
-    let same : (text ++ begun ++ 10 ∷ []) ++ bs ≡ text ++ (begun ++ b ∷ bs) = one_more text begun bs ∙ ap (λ c. text ++ (begun ++ c ∷ bs)) (sym (eqb-true b 10 e)) in
-    (
+    let same : (text ++ begun ++ 10 ∷ []) ++ bs ≡ text ++ (begun ++ b ∷ bs) = one_more text begun bs ∙ ap (λ c. text ++ (begun ++ c ∷ bs)) (sym (eqb-true b 10 e)) in (
       next.0,
       ap (commands_from (making done group cut text) n) (cond-true _ _ _ e)
-      ∙ ap (λ s. stepped s (λ after. commands_from after (n + 1) (lines_from [] (bs ++ rest))) n begun) (record_step done group cut text begun good)
-      ∙ next.1
-      ∙ ap (λ t. commands_from (making done group cut t) next.0 (lines_from [] rest)) same,
+          ∙ ap (λ s. stepped s (λ after. commands_from after (n + 1) (lines_from [] (bs ++ rest))) n begun) (record_step done group cut text begun good)
+          ∙ next.1
+          ∙ ap (λ t. commands_from (making done group cut t) next.0 (lines_from [] rest)) same,
     )
 
 byte_here : (done : List Command) (group : Option (List ℕ)) (cut : Option ℕ) (text begun : List ℕ) (b : ℕ) (bs : List ℕ) → (b == 10) ≡ false → Takes done group cut text (begun ++ b ∷ []) bs → Takes done group cut text begun (b ∷ bs)
 byte_here done group cut text begun b bs e more n rest =
-    let next = more n rest in
-    (
+    let next = more n rest in (
       next.0,
       ap (commands_from (making done group cut text) n) (cond-false _ _ _ e) ∙ next.1
-      ∙ ap (λ t. commands_from (making done group cut (text ++ t)) next.0 (lines_from [] rest)) (append_assoc begun (b ∷ []) bs),
+          ∙ ap (λ t. commands_from (making done group cut (text ++ t)) next.0 (lines_from [] rest)) (append_assoc begun (b ∷ []) bs),
     )
 
 none_begun : (done : List Command) (group : Option (List ℕ)) (cut : Option ℕ) (text : List ℕ) → Takes done group cut text [] []

@@ -1,25 +1,23 @@
 -- The parts of a form read their words, whatever values stand before and whatever words behind.
-use Rattle.std.proofs.Common.{◌≡◌, ◌∙◌, sym, ap, subst, refl, ℕ, zero, suc, ◌+◌, ◌<◌, ◌≤◌, Bool, true, false, cond, List, [], ◌∷◌, ◌++◌, map, length, take, drop, arith, Option, Some, None, Result, Ok, Err}
+use Rattle.std.proofs.Common.{◌≡◌, ◌∙◌, sym, ap, refl, ℕ, zero, suc, ◌<◌, ◌≤◌, Bool, true, false, cond, List, [], ◌∷◌, ◌++◌, map, length, arith, Option, Some, None, Result, Ok, Err}
 use Rattle.std.specs.Prelude.{codes, ◌-◌, ◌^◌, decimal}
 use Rattle.std.proofs.Math.Dec.{lit≤}
 use Rattle.std.specs.List.{list_all}
 use Rattle.std.specs.Str.{bytes_eq}
 use Rattle.std.proofs.lemmas.List.{append-nil, append_assoc, length-append}
-use Rattle.std.proofs.lemmas.List.Folds.{list_all-append}
-use Rattle.std.proofs.lemmas.Bool.{and_parts, and_from, cond-true, cond-false, ltb-true, le-leb}
-use Rattle.vx_script_words.specs.Class.{class_value, as_name}
+use Rattle.std.proofs.lemmas.Bool.{and_parts, and_from, cond-false, ltb-true, le-leb}
+use Rattle.vx_script_words.specs.Class.{class_value}
 use Rattle.vx_script_words.specs.Key.{text_of}
 use Rattle.vx_script_words.specs.Parts.{cut_of, number_behind}
-use Rattle.vx_script_words.specs.Row.{So, Going, Read, one, taken, with_value, maybe, or_else, some, going_on, any_name, group, item, items, fits, row, and_then, line_end, may_cut, cut_end, ends, nothing_left}
+use Rattle.vx_script_words.specs.Row.{So, Going, one, taken, with_value, or_else, some, going_on, any_name, group, items, row, and_then, line_end, cut_end, ends}
 use Rattle.vx_script_words.specs.Words.{from_word, first_word, past_word}
 use Rattle.vx_script_words.specs.declared.class.Class.{Class}
 use Rattle.vx_script_words.specs.declared.class.Item.{Item}
 use Rattle.vx_script_words.specs.declared.class.Item.TheVariants.{One, Maybe, Any, UpTo, Group, NoGroup}
-use Rattle.vx_script_words.specs.declared.key.Key.{Key}
 use Rattle.vx_script_words.specs.declared.key.Key.TheVariants as key
 use Rattle.vx_script_words.specs.declared.value.Value.{Value}
 use Rattle.vx_script_words.specs.declared.value.Value.TheVariants as value
-use Rattle.vx_script_laws.proofs.Spelled.{is_word, are_words, spelled, begun, first_is, past_is, from_spelled, from_begun, from_here, from_blank}
+use Rattle.vx_script_laws.proofs.Spelled.{is_word, are_words, spelled, first_is, past_is, from_here, from_blank}
 use Rattle.vx_script_laws.proofs.Names.{behind_front}
 use Rattle.vx_script_laws.proofs.Numbers.{ranged_said, decimal_dark}
 use Rattle.vx_script.specs.Kept.{maybe_cut}

@@ -1,9 +1,9 @@
 -- The words that tell each kind of line from the kinds before it.
-use Rattle.std.proofs.Common.{◌≡◌, refl, ℕ, suc, Bool, true, false, List, [], ◌∷◌, ◌++◌, take, drop, Option, Some, None}
+use Rattle.std.proofs.Common.{◌≡◌, refl, ℕ, Bool, true, false, List, [], ◌∷◌, ◌++◌, take, drop, Option, Some, None}
 use Rattle.std.specs.Prelude.{codes, not}
 use Rattle.std.specs.List.{list_all}
 use Rattle.vx_script.specs.Lines.{begins_comment}
-use Rattle.vx_script_forms.specs.Table.{items_of, commands, calls, acts}
+use Rattle.vx_script_forms.specs.Table.{commands, calls, acts}
 use Rattle.vx_script_forms.specs.declared.act.Act.{Act}
 use Rattle.vx_script_forms.specs.declared.act.Act.TheVariants as act
 use Rattle.vx_script_forms.specs.declared.call.Call.{Call}

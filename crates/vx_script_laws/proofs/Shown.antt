@@ -1,41 +1,40 @@
 -- What it is for a printed line to be read as a form, and what each form's line shares.
-use Rattle.std.proofs.Common.{◌≡◌, ◌∙◌, sym, ap, subst, refl, ℕ, zero, suc, ◌+◌, ◌-◌, ◌*◌, ◌^◌, ◌<◌, ◌≤◌, Bool, true, false, cond, List, [], ◌∷◌, ◌++◌, map, length, take, drop, arith, Option, Some, None, Result, Ok, Err, inl, inr}
-use Rattle.std.specs.Prelude.{codes, decimal, not, ◌&&◌, ◌||◌, ◌==◌, nat_le, nat_lt, is_none, is_some}
+use Rattle.std.proofs.Common.{◌≡◌, ◌∙◌, sym, ap, refl, ℕ, ◌^◌, ◌<◌, ◌≤◌, Bool, true, false, List, [], ◌∷◌, ◌++◌, map, length, take, drop, arith, Option, Some, None, Ok, inl, inr}
+use Rattle.std.specs.Prelude.{codes, decimal, not, ◌||◌, ◌==◌, nat_le, is_some}
 use Rattle.std.specs.List.{list_all}
 use Rattle.std.specs.Str.{bytes_eq}
 use Rattle.std.proofs.lemmas.List.{append_assoc, append-nil}
-use Rattle.std.proofs.lemmas.Bool.{and_parts, and_from, and_left, and_right, or_cases, not-true, ltb-true, leb-true, lt-ltb, ne_eqb, cond-true, cond-false}
+use Rattle.std.proofs.lemmas.Bool.{and_parts, and_left, and_right, or_cases, not-true, ltb-true, leb-true, lt-ltb, ne_eqb, cond-true, cond-false}
 use Rattle.vx_names.specs.Form.{is_name, is_name_byte}
 use Rattle.vx_names.proofs.Numbers.{decimal_short}
-use Rattle.vx_script.specs.Choice.{Choice, choose}
+use Rattle.vx_script.specs.Choice.{choose}
 use Rattle.vx_script.specs.Kept.{maybe_cut}
 use Rattle.vx_script_forms.specs.FormOf.{form_of}
-use Rattle.vx_script_forms.specs.Ranges.{is_between, is_short_number, is_pair, maybe_name, maybe_between}
+use Rattle.vx_script_forms.specs.Ranges.{is_between, is_pair, maybe_name, maybe_between}
 use Rattle.vx_script_forms.specs.Table.{items_of}
-use Rattle.vx_script_forms.specs.Values.{maybe_name as maybe_name_at, maybe_named, maybe_numbered, named, paired, below, maybe_below, all}
+use Rattle.vx_script_forms.specs.Values.{maybe_name as maybe_name_at, maybe_numbered, named, paired, below, maybe_below, all}
 use Rattle.vx_script_forms.specs.declared.form.Form.{Form}
 use Rattle.vx_script_forms.specs.declared.kind.Kind.{Kind}
 use Rattle.vx_script_words.specs.Class.{class_value, as_pair, as_block, value_behind}
 use Rattle.vx_script_words.specs.Hex.{block_of}
 use Rattle.vx_script_words.specs.Key.{text_of}
-use Rattle.vx_script_words.specs.Parts.{behind, cut_of}
 use Rattle.vx_script_words.specs.Words.{from_word}
 use Rattle.vx_script_words.specs.declared.class.Class.{Class}
 use Rattle.vx_script_words.specs.declared.class.Sort.{Sort}
 use Rattle.vx_script_words.specs.declared.class.Sort.TheVariants as sort
 use Rattle.vx_script_words.specs.declared.class.Item.{Item}
-use Rattle.vx_script_words.specs.declared.class.Item.TheVariants.{One, Maybe, Any, UpTo, Group, NoGroup}
+use Rattle.vx_script_words.specs.declared.class.Item.TheVariants.{One, Any, Group}
 use Rattle.vx_script_words.specs.declared.key.Key.{Key}
 use Rattle.vx_script_words.specs.declared.key.Key.TheVariants as key
 use Rattle.vx_script_words.specs.declared.value.DiskAt.{DiskAt}
 use Rattle.vx_script_words.specs.declared.value.Value.{Value}
 use Rattle.vx_script_words.specs.declared.value.Value.TheVariants as value
-use Rattle.vx_script_laws.proofs.Spelled.{is_dark, is_word, are_words, spelled, begun, from_spelled, from_begun}
+use Rattle.vx_script_laws.proofs.Spelled.{is_word, are_words, spelled, begun, from_spelled}
 use Rattle.vx_script_laws.proofs.Names.{name_word, pair_word, pair_said, pair_is_word}
-use Rattle.vx_script_laws.proofs.Rows.{Reads, cut_words, may_end, cut_said, cut_is_word, head_word, begins_one, row_from, row_read, any_words}
-use Rattle.vx_script_laws.proofs.Choices.{Matches, is_other, chosen}
-use Rattle.vx_script_laws.proofs.Texts.{group_then, maybe_then, tagged_then, itself}
-use Rattle.vx_script_laws.proofs.Builders.{class_of, key_word, a_group, maybe_value, count_value, maybe_value_said, count_value_said, not_a_name, named_said, plain_said, name_has_no_front}
+use Rattle.vx_script_laws.proofs.Rows.{Reads, cut_words, may_end, cut_said, head_word, begins_one, row_from, row_read, any_words}
+use Rattle.vx_script_laws.proofs.Choices.{Matches, chosen}
+use Rattle.vx_script_laws.proofs.Texts.{group_then, tagged_then, itself}
+use Rattle.vx_script_laws.proofs.Builders.{class_of, key_word, a_group, maybe_value, count_value, not_a_name, named_said, plain_said, name_has_no_front}
 use Rattle.vx_script_laws.proofs.Shapes.{IsFirst}
 
 -- a printed text, with its `cut=N`, is of the kind, and says the form and its group

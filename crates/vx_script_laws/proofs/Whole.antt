@@ -1,13 +1,13 @@
 -- The printed text of each command is read as the command, and so a whole script.
-use Rattle.std.proofs.Common.{◌≡◌, ◌∙◌, sym, ap, subst, refl, ℕ, zero, suc, ◌+◌, Bool, true, false, List, [], ◌∷◌, ◌++◌, Option, Some, None, Result, Ok, Err}
-use Rattle.std.specs.Prelude.{codes, is_none, ◌&&◌, ◌||◌}
-use Rattle.std.specs.List.{list_all, flat_map}
+use Rattle.std.proofs.Common.{◌≡◌, ◌∙◌, sym, ap, subst, refl, ℕ, true, false, List, [], ◌∷◌, ◌++◌, Option, Some, None, Ok}
+use Rattle.std.specs.Prelude.{is_none, ◌&&◌, ◌||◌}
+use Rattle.std.specs.List.{list_all}
 use Rattle.std.proofs.lemmas.List.{append-nil, append_assoc}
 use Rattle.std.proofs.lemmas.Bool.{and_parts, both_ways}
 use Rattle.vx_script.specs.Kept.{is_command, is_kept, is_body}
 use Rattle.vx_script_forms.specs.Ranges.{is_form, maybe_name}
 use Rattle.vx_script.specs.Lines.{lines_of}
-use Rattle.vx_script.specs.Script.{Place, commands_from, script_of}
+use Rattle.vx_script.specs.Script.{commands_from, script_of}
 use Rattle.vx_script.specs.Steps.{opened}
 use Rattle.vx_script.specs.declared.command.Command.{Command}
 use Rattle.vx_script.specs.declared.reader.Open.TheVariants.{Closed}
@@ -49,7 +49,7 @@ commands_read done [] h = subst (λ xs. Reaches (between done) [] (between xs)) 
 commands_read done (c ∷ cs) h =
     let parts = and_parts (is_command c) (list_all is_command cs) h in
     subst (λ xs. Reaches (between done) (script_text (c ∷ cs)) (between xs)) (append_assoc done (c ∷ []) cs)
-      (and_on (between done) (between (done ++ c ∷ [])) (between ((done ++ c ∷ []) ++ cs)) (command_text c) (script_text cs) (command_read done c parts.0) (commands_read (done ++ c ∷ []) cs parts.1))
+    (and_on (between done) (between (done ++ c ∷ [])) (between ((done ++ c ∷ []) ++ cs)) (command_text c) (script_text cs) (command_read done c parts.0) (commands_read (done ++ c ∷ []) cs parts.1))
 
 no_more : (k : ℕ) (done : List Command) → commands_from (between done) k (lines_of []) ≡ Ok done
 unfolding lines_of

@@ -1,5 +1,5 @@
 -- The ranges of what the first line of a command says, of a call and of an act.
-use Rattle.std.specs.Prelude.{ℕ, ◌-◌, ◌^◌, ◌%◌, ◌==◌, ◌&&◌, nat_le, nat_lt, Bool, true, false, is_none, Option, Some, None, List, length}
+use Rattle.std.specs.Prelude.{ℕ, ◌-◌, ◌^◌, ◌%◌, ◌==◌, ◌&&◌, ◌++◌, nat_le, nat_lt, is_none, Bool, true, false, Option, Some, None, List, length, codes}
 use Rattle.std.specs.List.{list_all}
 use Rattle.vx_names.specs.Form.{is_name}
 use Rattle.vx_script_forms.specs.declared.act.Act.{Act}
@@ -13,6 +13,7 @@ use Rattle.vx_script_forms.specs.declared.form.WordLayout.{WordLayout}
 use Rattle.vx_script_forms.specs.declared.form.WordLayout.TheVariants as layout
 use Rattle.vx_script_forms.specs.declared.form.WordPolicy.{WordPolicy}
 use Rattle.vx_script_forms.specs.declared.form.WordPolicy.TheVariants as policy
+use Rattle.vx_script_words.specs.Parts.{cut_of}
 use Rattle.vx_script_words.specs.declared.value.DiskAt.{DiskAt}
 
 abbrev pub is_between : ℕ → ℕ → ℕ → Bool
@@ -38,13 +39,9 @@ abbrev pub maybe_name : Option (List ℕ) → Bool
 maybe_name None = true
 maybe_name (Some name) = is_name name
 
--- there is no number, or it is between these
-abbrev pub maybe_between : ℕ → ℕ → Option ℕ → Bool
-maybe_between low high None = true
-maybe_between low high (Some n) = is_between low high n
-
+-- a disk and its device, which are not together a word `cut=N`
 abbrev pub is_pair : DiskAt → Bool
-is_pair pair = is_name pair.disk && is_name pair.device
+is_pair pair = is_name pair.disk && is_name pair.device && is_none (cut_of (pair.disk ++ codes "=" ++ pair.device))
 
 abbrev pub is_call : Call → Bool
 is_call (call.Read vol start count) = is_name vol && is_short_number start && is_between 1 2048 count
@@ -58,6 +55,10 @@ is_act (act.Restore vol snap) = is_name vol && is_name snap
 is_act (act.Snapback snap from_replica) = is_name snap
 is_act (act.PlexDet plex) = is_name plex
 is_act (act.PlexAtt vol plex) = is_name vol && is_name plex
+
+abbrev pub maybe_between : ℕ → ℕ → Option ℕ → Bool
+maybe_between low high None = true
+maybe_between low high (Some n) = is_between low high n
 
 -- columns and a stripe unit stand only behind `layout=stripe`
 abbrev pub is_layout : Option WordLayout → Option ℕ → Option ℕ → Bool
@@ -90,7 +91,7 @@ is_form (form.Mirror vol disks) = is_name vol && list_all is_name disks
 is_form (form.RemoveVolume vol) = is_name vol
 is_form (form.Start vol) = is_name vol
 is_form (form.Stop vol) = is_name vol
-is_form (form.Rdpol vol policy) = is_name vol && is_policy policy
+is_form (form.Rdpol vol p) = is_name vol && is_policy p
 is_form (form.PlexDis plex rm) = is_name plex
 is_form (form.Prepare vol ndcomirs region) = is_name vol && maybe_between 0 (2 ^ 40 - 1) ndcomirs && maybe_between 1 (2 ^ 40) region
 is_form (form.Unprepare vol) = is_name vol
@@ -99,8 +100,8 @@ is_form (form.Dis snap) = is_name snap
 is_form (form.Split snap) = is_name snap
 is_form (form.PrintSnaps vol) = maybe_name vol
 is_form (form.Recover vol) = maybe_name vol
-is_form (form.Acting act) = is_act act
-is_form (form.Calling call) = is_call call
+is_form (form.Acting a) = is_act a
+is_form (form.Calling c) = is_call c
 is_form (form.Sessions block) = is_between 1 16 block.sessions
 
 -- the forms whose first word may be followed by `-g` and a group
@@ -112,6 +113,6 @@ may_have_group (form.DgAddDisk dg disk) = false
 may_have_group (form.DgImport dg) = false
 may_have_group (form.DgDeport dg) = false
 may_have_group (form.DiskUnsetup device) = false
-may_have_group (form.Calling call) = false
+may_have_group (form.Calling c) = false
 may_have_group (form.Sessions block) = false
 may_have_group f = true

@@ -1,5 +1,5 @@
 -- Commands that keep the ranges of their words and the limits of blocks.
-use Rattle.std.specs.Prelude.{ℕ, ◌==◌, ◌&&◌, ◌||◌, nat_le, not, is_none, Bool, true, false, Option, Some, None, List, [], ◌∷◌, map, sum, codes}
+use Rattle.std.specs.Prelude.{ℕ, ◌==◌, ◌&&◌, ◌||◌, nat_le, not, is_none, Bool, true, Option, Some, None, List, [], ◌∷◌, map, sum, codes}
 use Rattle.std.specs.List.{list_all}
 use Rattle.std.specs.Str.{bytes_eq}
 use Rattle.vx_script.specs.Lines.{lines_of, bad_word}

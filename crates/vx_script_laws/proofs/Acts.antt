@@ -7,13 +7,13 @@ use Rattle.vx_script_forms.specs.Ranges.{is_act, maybe_name}
 use Rattle.vx_script_forms.specs.declared.act.Act.{Act}
 use Rattle.vx_script_forms.specs.declared.act.Act.TheVariants as act
 use Rattle.vx_script_forms.specs.declared.form.Form.TheVariants as form
-use Rattle.vx_script_print.specs.Text.{act_text}
-use Rattle.vx_script_print.specs.declared.part.Part.TheVariants as part
+use Rattle.vx_script_text.specs.Text.{act_text}
+use Rattle.vx_script_text.specs.declared.part.Part.TheVariants as part
 use Rattle.vx_script_words.specs.declared.key.Key.TheVariants as key
-use Rattle.vx_script_laws.proofs.Spelled.{are_words}
-use Rattle.vx_script_laws.proofs.Rows.{Reads, done, cut_words}
-use Rattle.vx_script_laws.proofs.Texts.{line_begun}
-use Rattle.vx_script_laws.proofs.Builders.{key_word, a_name, a_source, a_break_off, maybe_value_said}
+use Rattle.vx_script_word_laws.proofs.Spelled.{are_words}
+use Rattle.vx_script_word_laws.proofs.Rows.{Reads, done, cut_words}
+use Rattle.vx_script_word_laws.proofs.Texts.{line_begun}
+use Rattle.vx_script_word_laws.proofs.Builders.{key_word, a_name, a_source, a_break_off, maybe_value_said}
 use Rattle.vx_script_laws.proofs.Shapes.{shape_of, group_fits, act_kind}
 use Rattle.vx_script_laws.proofs.Shown.{Shows, shown, grouped}
 

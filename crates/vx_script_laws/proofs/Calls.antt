@@ -11,15 +11,15 @@ use Rattle.vx_script_forms.specs.declared.call.Call.{Call}
 use Rattle.vx_script_forms.specs.declared.call.Call.TheVariants as call
 use Rattle.vx_script_forms.specs.declared.form.Form.TheVariants as form
 use Rattle.vx_script_forms.specs.declared.kind.Kind.TheVariants as kind
-use Rattle.vx_script_print.specs.Text.{call_text}
-use Rattle.vx_script_print.specs.declared.part.Part.TheVariants as part
+use Rattle.vx_script_text.specs.Text.{call_text}
+use Rattle.vx_script_text.specs.declared.part.Part.TheVariants as part
 use Rattle.vx_script_words.specs.declared.class.Sort.TheVariants as sort
 use Rattle.vx_script_words.specs.declared.key.Key.TheVariants as key
 use Rattle.vx_script_words.specs.declared.value.Value.TheVariants as value
-use Rattle.vx_script_laws.proofs.Spelled.{is_word, are_words, spelled}
-use Rattle.vx_script_laws.proofs.Rows.{Reads, done, no_group_place, cut_words}
-use Rattle.vx_script_laws.proofs.Texts.{line_begun, longer_line}
-use Rattle.vx_script_laws.proofs.Builders.{key_word, a_name, a_number, a_byte}
+use Rattle.vx_script_word_laws.proofs.Spelled.{is_word, are_words, spelled}
+use Rattle.vx_script_word_laws.proofs.Rows.{Reads, done, no_group_place, cut_words}
+use Rattle.vx_script_word_laws.proofs.Texts.{line_begun, longer_line}
+use Rattle.vx_script_word_laws.proofs.Builders.{key_word, a_name, a_number, a_byte}
 use Rattle.vx_script_laws.proofs.Shapes.{shape_of, call_kind}
 use Rattle.vx_script_laws.proofs.Shown.{Shows, shown}
 use Rattle.std.specs.Prelude.{◌==◌}
@@ -27,13 +27,13 @@ use Rattle.std.proofs.lemmas.Bool.{eqb-true, eq-eqb, leb-true, ltb-true, le-leb,
 use Rattle.std.proofs.lemmas.List.{append-nil, append_assoc, length-take, length-drop}
 use Rattle.vx_block.specs.Word.{block_word}
 use Rattle.vx_script_forms.specs.Values.{joined}
-use Rattle.vx_script_print.specs.Text.{blocks_text, some_blocks}
+use Rattle.vx_script_text.specs.Text.{blocks_text, some_blocks}
 use Rattle.vx_script_words.specs.Class.{as_block, class_value}
-use Rattle.vx_script_laws.proofs.Blocks.{block_said, block_is_word}
-use Rattle.vx_script_laws.proofs.Builders.{class_of, plain_said, all_taken}
-use Rattle.vx_script_laws.proofs.Rows.{one_word, up_to_words}
+use Rattle.vx_script_word_laws.proofs.Blocks.{block_said, block_is_word}
+use Rattle.vx_script_word_laws.proofs.Builders.{class_of, plain_said, all_taken}
+use Rattle.vx_script_word_laws.proofs.Rows.{one_word, up_to_words}
 use Rattle.vx_script_laws.proofs.Shown.{blocks_stop_at_cut}
-use Rattle.vx_script_laws.proofs.Texts.{cut_blocks, blocks_spelled}
+use Rattle.vx_script_word_laws.proofs.Texts.{cut_blocks, blocks_spelled}
 use Rattle.vx_script_words.specs.declared.class.Item.TheVariants.{One, UpTo}
 
 -- blocks of a text of bytes

@@ -16,15 +16,15 @@ use Rattle.vx_script_forms.specs.declared.form.Form.{Form}
 use Rattle.vx_script_forms.specs.declared.form.Form.TheVariants as form
 use Rattle.vx_script_forms.specs.declared.kind.Kind.{Kind}
 use Rattle.vx_script_forms.specs.declared.kind.Kind.TheVariants as kind
-use Rattle.vx_script_print.specs.Text.{form_text, part_text}
-use Rattle.vx_script_print.specs.declared.part.Part.TheVariants as part
+use Rattle.vx_script_text.specs.Text.{form_text, part_text}
+use Rattle.vx_script_text.specs.declared.part.Part.TheVariants as part
 use Rattle.vx_script_words.specs.Row.{and_then}
 use Rattle.vx_script_words.specs.Words.{from_word}
 use Rattle.vx_script_words.specs.declared.key.Key.TheVariants as key
-use Rattle.vx_script_laws.proofs.Spelled.{is_word, are_words, begun, from_begun}
-use Rattle.vx_script_laws.proofs.Rows.{cut_words, cuts_are_words}
-use Rattle.vx_script_laws.proofs.Choices.{Matches}
-use Rattle.vx_script_laws.proofs.Texts.{cut_spelled}
+use Rattle.vx_script_word_laws.proofs.Spelled.{is_word, are_words, begun, from_begun}
+use Rattle.vx_script_word_laws.proofs.Rows.{cut_words, cuts_are_words}
+use Rattle.vx_script_word_laws.proofs.Choices.{Matches}
+use Rattle.vx_script_word_laws.proofs.Texts.{cut_spelled}
 use Rattle.vx_script_laws.proofs.Shapes.{shape_of, first_command, begins_plainly, act_kind, call_kind}
 use Rattle.vx_script_laws.proofs.Shown.{Shows, shown_choice}
 use Rattle.vx_script_laws.proofs.Acts.{act_shown}

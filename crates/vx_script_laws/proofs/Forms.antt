@@ -12,21 +12,21 @@ use Rattle.vx_script_forms.specs.declared.form.WordPolicy.{WordPolicy}
 use Rattle.vx_script_forms.specs.declared.form.WordPolicy.TheVariants as policy
 use Rattle.vx_script_forms.specs.declared.kind.Kind.{Kind}
 use Rattle.vx_script_forms.specs.declared.kind.Kind.TheVariants as kind
-use Rattle.vx_script_print.specs.Text.{form_text}
-use Rattle.vx_script_print.specs.declared.part.Part.TheVariants as part
+use Rattle.vx_script_text.specs.Text.{form_text}
+use Rattle.vx_script_text.specs.declared.part.Part.TheVariants as part
 use Rattle.vx_script_words.specs.Key.{text_of}
 use Rattle.vx_script_words.specs.declared.class.Sort.TheVariants as sort
 use Rattle.vx_script_words.specs.declared.key.Key.TheVariants as key
 use Rattle.vx_script_words.specs.declared.value.DiskAt.{DiskAt}
-use Rattle.vx_script_laws.proofs.Spelled.{are_words}
-use Rattle.vx_script_laws.proofs.Rows.{Reads, done, no_group_place, cut_words}
-use Rattle.vx_script_laws.proofs.Texts.{line_begun, longer_line, names_spelled, disks_spelled, itself}
-use Rattle.vx_script_laws.proofs.Builders.{key_word, a_name, a_number, a_length, a_pair, a_maybe_name, a_tagged_number, a_tagged_length, maybe_value_said, count_value_said, count_value}
+use Rattle.vx_script_word_laws.proofs.Spelled.{are_words}
+use Rattle.vx_script_word_laws.proofs.Rows.{Reads, done, no_group_place, cut_words}
+use Rattle.vx_script_word_laws.proofs.Texts.{line_begun, longer_line, names_spelled, disks_spelled, itself}
+use Rattle.vx_script_word_laws.proofs.Builders.{key_word, a_name, a_number, a_length, a_pair, a_maybe_name, a_tagged_number, a_tagged_length, maybe_value_said, count_value_said, count_value}
 use Rattle.vx_script_laws.proofs.Shapes.{shape_of, group_fits}
 use Rattle.vx_script_laws.proofs.Shown.{Shows, shown, grouped, some_names, some_pairs, all_names, all_pairs, names_stop_at_cut, front_stops_at_cut, front_stops_at_tagged}
 use Rattle.vx_script_forms.specs.Values.{maybe_numbered}
-use Rattle.vx_script_print.specs.Text.{names_text, disks_text}
-use Rattle.vx_script_laws.proofs.Names.{pair_word}
+use Rattle.vx_script_text.specs.Text.{names_text, disks_text}
+use Rattle.vx_script_word_laws.proofs.Names.{pair_word}
 use Rattle.vx_script_laws.proofs.Shown.{small_below}
 
 -- the kind of a read policy's line

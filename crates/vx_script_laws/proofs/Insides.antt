@@ -24,12 +24,12 @@ use Rattle.vx_script_forms.specs.declared.block.Line.{Line}
 use Rattle.vx_script_forms.specs.declared.block.Line.TheVariants.{Session, Administer}
 use Rattle.vx_script_forms.specs.declared.call.Call.{Call}
 use Rattle.vx_script_forms.specs.declared.form.Form.TheVariants as form
-use Rattle.vx_script_print.specs.Text.{act_text, call_text, line_text}
+use Rattle.vx_script_text.specs.Text.{act_text, call_text, line_text}
 use Rattle.vx_script_words.specs.Number.{number_of, within}
 use Rattle.vx_script_words.specs.Row.{and_then}
 use Rattle.vx_script_words.specs.Words.{from_word, first_word, past_word}
-use Rattle.vx_script_laws.proofs.Spelled.{is_word, are_words, spelled, begun, from_begun, from_spelled, first_is, past_is}
-use Rattle.vx_script_laws.proofs.Numbers.{number_said, decimal_word, decimal_digits}
+use Rattle.vx_script_word_laws.proofs.Spelled.{is_word, are_words, spelled, begun, from_begun, from_spelled, first_is, past_is}
+use Rattle.vx_script_word_laws.proofs.Numbers.{number_said, decimal_word, decimal_digits}
 use Rattle.vx_script_laws.proofs.Shapes.{shape_of, act_kind, call_kind, first_act, first_call}
 use Rattle.vx_script_laws.proofs.Shown.{Shows, shown_choice}
 use Rattle.vx_script_laws.proofs.Acts.{act_shown}

@@ -10,16 +10,16 @@ use Rattle.vx_script_forms.specs.Ranges.{is_length, is_form, maybe_name, maybe_b
 use Rattle.vx_script_forms.specs.declared.form.Form.TheVariants as form
 use Rattle.vx_script_forms.specs.declared.kind.Kind.{Kind}
 use Rattle.vx_script_forms.specs.declared.kind.Kind.TheVariants as kind
-use Rattle.vx_script_print.specs.Text.{form_text}
-use Rattle.vx_script_print.specs.declared.part.Part.TheVariants as part
+use Rattle.vx_script_text.specs.Text.{form_text}
+use Rattle.vx_script_text.specs.declared.part.Part.TheVariants as part
 use Rattle.vx_script_words.specs.Key.{text_of}
 use Rattle.vx_script_words.specs.declared.class.Sort.TheVariants as sort
 use Rattle.vx_script_words.specs.declared.key.Key.TheVariants as key
 use Rattle.vx_script_words.specs.declared.value.Value.TheVariants as value
-use Rattle.vx_script_laws.proofs.Spelled.{are_words, spelled}
-use Rattle.vx_script_laws.proofs.Rows.{Reads, cut_words}
-use Rattle.vx_script_laws.proofs.Texts.{longer_line, names_spelled, itself}
-use Rattle.vx_script_laws.proofs.Builders.{key_word, a_name, a_length, a_tagged_number, a_tagged_length, maybe_value_said, count_value_said, maybe_value, count_value}
+use Rattle.vx_script_word_laws.proofs.Spelled.{are_words, spelled}
+use Rattle.vx_script_word_laws.proofs.Rows.{Reads, cut_words}
+use Rattle.vx_script_word_laws.proofs.Texts.{longer_line, names_spelled, itself}
+use Rattle.vx_script_word_laws.proofs.Builders.{key_word, a_name, a_length, a_tagged_number, a_tagged_length, maybe_value_said, count_value_said, maybe_value, count_value}
 use Rattle.vx_script_laws.proofs.Shapes.{shape_of, group_fits}
 use Rattle.vx_script_laws.proofs.Shown.{Shows, shown, grouped, some_names, all_names, front_stops_at_cut, front_stops_at_tagged}
 use Rattle.std.specs.List.{flat_map}
@@ -32,17 +32,17 @@ use Rattle.vx_script_forms.specs.Values.{maybe_numbered}
 use Rattle.vx_script_forms.specs.declared.form.MakeAttrs.{MakeAttrs}
 use Rattle.vx_script_forms.specs.declared.form.WordLayout.{WordLayout}
 use Rattle.vx_script_forms.specs.declared.form.WordLayout.TheVariants as layout
-use Rattle.vx_script_print.specs.Text.{part_text, attrs_text, layout_text, names_text}
-use Rattle.vx_script_print.specs.declared.part.Part.{Part}
+use Rattle.vx_script_text.specs.Text.{part_text, attrs_text, layout_text, names_text}
+use Rattle.vx_script_text.specs.declared.part.Part.{Part}
 use Rattle.vx_script_words.specs.declared.class.Item.{Item}
 use Rattle.vx_script_words.specs.declared.class.Item.TheVariants.{Maybe, Any}
 use Rattle.vx_script_words.specs.declared.class.Sort.{Sort}
 use Rattle.vx_script_words.specs.declared.key.Key.{Key}
 use Rattle.vx_script_words.specs.declared.value.Value.{Value}
-use Rattle.vx_script_laws.proofs.Spelled.{is_word, begun}
-use Rattle.vx_script_laws.proofs.Rows.{maybe_word, no_word}
-use Rattle.vx_script_laws.proofs.Texts.{parts_spelled, parts_then, tagged_then, group_then}
-use Rattle.vx_script_laws.proofs.Builders.{class_of, key_said}
+use Rattle.vx_script_word_laws.proofs.Spelled.{is_word, begun}
+use Rattle.vx_script_word_laws.proofs.Rows.{maybe_word, no_word}
+use Rattle.vx_script_word_laws.proofs.Texts.{parts_spelled, parts_then, tagged_then, group_then}
+use Rattle.vx_script_word_laws.proofs.Builders.{class_of, key_said}
 use Rattle.vx_script_laws.proofs.Shown.{Stops, apart, front_stops_at_names, small_count_said}
 
 -- the words of the mirrors, the region and the logs, and those behind them

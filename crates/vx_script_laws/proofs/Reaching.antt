@@ -10,8 +10,8 @@ use Rattle.vx_script.specs.Script.{commands_from, stepped}
 use Rattle.vx_script.specs.Steps.{step}
 use Rattle.vx_script.specs.declared.reader.Reader.{Reader}
 use Rattle.vx_script_words.specs.Words.{from_word}
-use Rattle.vx_script_laws.proofs.Spelled.{is_dark, is_word, are_words, spelled, begun, from_here}
-use Rattle.vx_script_laws.proofs.Names.{is_not}
+use Rattle.vx_script_word_laws.proofs.Spelled.{is_dark, is_word, are_words, spelled, begun, from_here}
+use Rattle.vx_script_word_laws.proofs.Names.{is_not}
 
 -- behind the text the reader is the other one, whatever comes then
 abbrev pub Reaches : Reader → List ℕ → Reader → Type 0

@@ -14,8 +14,8 @@ use Rattle.vx_script_words.specs.Class.{class_value}
 use Rattle.vx_script_words.specs.Hex.{block_of}
 use Rattle.vx_script_words.specs.Key.{text_of}
 use Rattle.vx_script_words.specs.declared.key.Key.TheVariants as key
-use Rattle.vx_script_laws.proofs.Choices.{is_other, Matches}
-use Rattle.vx_script_laws.proofs.Texts.{group_then}
+use Rattle.vx_script_word_laws.proofs.Choices.{is_other, Matches}
+use Rattle.vx_script_word_laws.proofs.Texts.{group_then}
 
 -- behind the first word `-g` and a name, or nothing
 abbrev pub group_shape : Option (List ℕ) → List (Option (List ℕ)) → List (Option (List ℕ))

@@ -29,12 +29,12 @@ use Rattle.vx_script_words.specs.declared.key.Key.TheVariants as key
 use Rattle.vx_script_words.specs.declared.value.DiskAt.{DiskAt}
 use Rattle.vx_script_words.specs.declared.value.Value.{Value}
 use Rattle.vx_script_words.specs.declared.value.Value.TheVariants as value
-use Rattle.vx_script_laws.proofs.Spelled.{is_word, are_words, spelled, begun, from_spelled}
-use Rattle.vx_script_laws.proofs.Names.{name_word, pair_word, pair_said, pair_is_word}
-use Rattle.vx_script_laws.proofs.Rows.{Reads, cut_words, may_end, cut_said, head_word, begins_one, row_from, row_read, any_words}
-use Rattle.vx_script_laws.proofs.Choices.{Matches, chosen}
-use Rattle.vx_script_laws.proofs.Texts.{group_then, tagged_then, itself}
-use Rattle.vx_script_laws.proofs.Builders.{class_of, key_word, a_group, maybe_value, count_value, not_a_name, named_said, plain_said, name_has_no_front}
+use Rattle.vx_script_word_laws.proofs.Spelled.{is_word, are_words, spelled, begun, from_spelled}
+use Rattle.vx_script_word_laws.proofs.Names.{name_word, pair_word, pair_said, pair_is_word}
+use Rattle.vx_script_word_laws.proofs.Rows.{Reads, cut_words, may_end, cut_said, head_word, begins_one, row_from, row_read, any_words}
+use Rattle.vx_script_word_laws.proofs.Choices.{Matches, chosen}
+use Rattle.vx_script_word_laws.proofs.Texts.{group_then, tagged_then, itself}
+use Rattle.vx_script_word_laws.proofs.Builders.{class_of, key_word, a_group, maybe_value, count_value, not_a_name, named_said, plain_said, name_has_no_front}
 use Rattle.vx_script_laws.proofs.Shapes.{IsFirst}
 
 -- a printed text, with its `cut=N`, is of the kind, and says the form and its group

@@ -14,7 +14,7 @@ use Rattle.vx_script.specs.declared.reader.Open.TheVariants.{Closed}
 use Rattle.vx_script.specs.declared.reader.Reader.{Reader}
 use Rattle.vx_script_forms.specs.declared.form.Form.{Form}
 use Rattle.vx_script_forms.specs.declared.form.Form.TheVariants as form
-use Rattle.vx_script_print.specs.Text.{body_text, command_text, script_text}
+use Rattle.vx_script_text.specs.Text.{body_text, command_text, script_text}
 use Rattle.vx_script_laws.proofs.Commands.{opening, first_text, ReadFirst, first_read, KeptParts, kept_parts, may_have}
 use Rattle.vx_script_laws.proofs.Reaching.{Reaches, stays_there, and_on, one_line}
 use Rattle.vx_script_laws.proofs.Records.{records_read}

@@ -1,7 +1,7 @@
 ghost use Rattle.std.specs.Prelude.{◌≡◌, ◌++◌, ◌/◌, ◌*◌, ◌≤◌, ◌<◌, ◌==◌, length, OnOk, take, drop, codes};
 ghost use Rattle.std.specs.List.{flat_map, list_all};
 ghost use Rattle.vx_block.specs.Word.{block_word, hex};
-ghost use Rattle.vx_script_print.specs.Text.{blocks_text, some_blocks};
+ghost use Rattle.vx_script_text.specs.Text.{blocks_text, some_blocks};
 
 use vx_base::{BLOCK, OutOfMemory};
 use vx_block::put_block;

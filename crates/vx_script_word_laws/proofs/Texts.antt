@@ -5,16 +5,16 @@ use Rattle.std.specs.List.{flat_map}
 use Rattle.std.proofs.lemmas.List.{append_assoc, append-nil}
 use Rattle.std.proofs.lemmas.Bool.{and_parts}
 use Rattle.vx_block.specs.Word.{hex, block_word}
-use Rattle.vx_script_print.specs.Text.{part_text, names_text, disks_text, some_blocks}
-use Rattle.vx_script_print.specs.declared.part.Part.{Part}
-use Rattle.vx_script_print.specs.declared.part.Part.TheVariants.{First, Key, Name, MaybeName, Group, Number, Byte, Tagged, Source, Pair, BreakOff}
+use Rattle.vx_script_text.specs.Text.{part_text, names_text, disks_text, some_blocks}
+use Rattle.vx_script_text.specs.declared.part.Part.{Part}
+use Rattle.vx_script_text.specs.declared.part.Part.TheVariants.{First, Key, Name, MaybeName, Group, Number, Byte, Tagged, Source, Pair, BreakOff}
 use Rattle.vx_script_words.specs.Key.{text_of}
 use Rattle.vx_script_words.specs.declared.key.Key.{Key as AnyKey}
 use Rattle.vx_script_words.specs.declared.key.Key.TheVariants as key
 use Rattle.vx_script_words.specs.declared.value.DiskAt.{DiskAt}
-use Rattle.vx_script_laws.proofs.Spelled.{spelled, begun}
-use Rattle.vx_script_laws.proofs.Names.{pair_word, break_word}
-use Rattle.vx_script_laws.proofs.Rows.{cut_words}
+use Rattle.vx_script_word_laws.proofs.Spelled.{spelled, begun}
+use Rattle.vx_script_word_laws.proofs.Names.{pair_word, break_word}
+use Rattle.vx_script_word_laws.proofs.Rows.{cut_words}
 
 abbrev pub group_then : Option (List ℕ) → List (List ℕ) → List (List ℕ)
 group_then None ws = ws

@@ -19,8 +19,8 @@ use Rattle.vx_script_words.specs.declared.value.DiskAt.{DiskAt}
 use Rattle.vx_script_words.specs.declared.value.Value.{Value}
 use Rattle.vx_script_words.specs.declared.value.Value.TheVariants as value
 use Rattle.vx_script_forms.specs.Ranges.{is_pair, maybe_name}
-use Rattle.vx_script_print.specs.Text.{plex_text}
-use Rattle.vx_script_laws.proofs.Spelled.{is_dark, is_word, take_front, drop_front}
+use Rattle.vx_script_text.specs.Text.{plex_text}
+use Rattle.vx_script_word_laws.proofs.Spelled.{is_dark, is_word, take_front, drop_front}
 
 -- a word with its front is what follows
 pub behind_front : (front x : List ℕ) → behind front (front ++ x) ≡ Some x

@@ -7,8 +7,8 @@ use Rattle.std.proofs.lemmas.Bool.{and_parts, and_from, ltb-true, eqb-true, eq-e
 use Rattle.vx_block.specs.Word.{hex, hex_digit, block_word}
 use Rattle.vx_script_words.specs.Hex.{bytes_from, filled, all_equal, block_of}
 use Rattle.vx_script_forms.specs.Ranges.{is_byte}
-use Rattle.vx_script_laws.proofs.Spelled.{is_dark, is_word}
-use Rattle.vx_script_laws.proofs.Numbers.{two_digits, digits_say, byte_said, hex_dark, digit_no_equals}
+use Rattle.vx_script_word_laws.proofs.Spelled.{is_dark, is_word}
+use Rattle.vx_script_word_laws.proofs.Numbers.{two_digits, digits_say, byte_said, hex_dark, digit_no_equals}
 
 pairs_said : (acc bs : List ℕ) → list_all is_byte bs ≡ true → bytes_from acc (flat_map hex bs) ≡ Some (acc ++ bs)
 pairs_said acc [] h = ap Some (sym (append-nil acc))

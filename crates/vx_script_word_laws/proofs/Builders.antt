@@ -22,11 +22,11 @@ use Rattle.vx_script_words.specs.declared.key.Key.TheVariants as key
 use Rattle.vx_script_words.specs.declared.value.DiskAt.{DiskAt}
 use Rattle.vx_script_words.specs.declared.value.Value.{Value}
 use Rattle.vx_script_words.specs.declared.value.Value.TheVariants as value
-use Rattle.vx_script_laws.proofs.Spelled.{is_dark, is_word}
-use Rattle.vx_script_laws.proofs.Names.{class_said, name_said, name_word, name_dark, name_parts, pair_word, pair_said, pair_is_word, break_word, break_off_said, break_dark}
-use Rattle.vx_script_laws.proofs.Numbers.{ranged_said, length_said, byte_said, decimal_word, decimal_dark, hex_dark}
-use Rattle.vx_script_laws.proofs.Rows.{Reads, one_word, maybe_word, no_word, group_word, group_absent, head_word}
-use Rattle.vx_script_laws.proofs.Texts.{group_then, maybe_then, tagged_then}
+use Rattle.vx_script_word_laws.proofs.Spelled.{is_dark, is_word}
+use Rattle.vx_script_word_laws.proofs.Names.{class_said, name_said, name_word, name_dark, name_parts, pair_word, pair_said, pair_is_word, break_word, break_off_said, break_dark}
+use Rattle.vx_script_word_laws.proofs.Numbers.{ranged_said, length_said, byte_said, decimal_word, decimal_dark, hex_dark}
+use Rattle.vx_script_word_laws.proofs.Rows.{Reads, one_word, maybe_word, no_word, group_word, group_absent, head_word}
+use Rattle.vx_script_word_laws.proofs.Texts.{group_then, maybe_then, tagged_then}
 
 abbrev pub class_of : Key → Sort → Class
 class_of k s = record { front = k; sort = s }

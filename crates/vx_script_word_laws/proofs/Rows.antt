@@ -17,9 +17,9 @@ use Rattle.vx_script_words.specs.declared.class.Item.TheVariants.{One, Maybe, An
 use Rattle.vx_script_words.specs.declared.key.Key.TheVariants as key
 use Rattle.vx_script_words.specs.declared.value.Value.{Value}
 use Rattle.vx_script_words.specs.declared.value.Value.TheVariants as value
-use Rattle.vx_script_laws.proofs.Spelled.{is_word, are_words, spelled, first_is, past_is, from_here, from_blank}
-use Rattle.vx_script_laws.proofs.Names.{behind_front}
-use Rattle.vx_script_laws.proofs.Numbers.{ranged_said, decimal_dark}
+use Rattle.vx_script_word_laws.proofs.Spelled.{is_word, are_words, spelled, first_is, past_is, from_here, from_blank}
+use Rattle.vx_script_word_laws.proofs.Names.{behind_front}
+use Rattle.vx_script_word_laws.proofs.Numbers.{ranged_said, decimal_dark}
 use Rattle.vx_script.specs.Kept.{maybe_cut}
 use Rattle.vx_script_forms.specs.Ranges.{is_short_number}
 

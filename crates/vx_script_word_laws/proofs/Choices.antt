@@ -17,8 +17,8 @@ use Rattle.vx_script_words.specs.declared.class.Item.{Item}
 use Rattle.vx_script_words.specs.declared.class.Item.TheVariants.{One, Maybe, Any, UpTo, Group, NoGroup}
 use Rattle.vx_script_words.specs.declared.value.Value.{Value}
 use Rattle.vx_script_words.specs.declared.value.Value.TheVariants as value
-use Rattle.vx_script_laws.proofs.Spelled.{is_word, are_words, spelled, first_is, from_here}
-use Rattle.vx_script_laws.proofs.Rows.{so, Failed, from_first, one_yes, one_no, group_is, begins_one, row_from}
+use Rattle.vx_script_word_laws.proofs.Spelled.{is_word, are_words, spelled, first_is, from_here}
+use Rattle.vx_script_word_laws.proofs.Rows.{so, Failed, from_first, one_yes, one_no, group_is, begins_one, row_from}
 
 -- parts cannot fit a line of which these words are known, each some word or any
 abbrev pub refuted : Bool → List Item → List (Option (List ℕ)) → Bool

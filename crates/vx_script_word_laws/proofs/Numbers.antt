@@ -11,7 +11,7 @@ use Rattle.vx_names.proofs.Numbers.{decimal_numeral, decimal_value, numeral_part
 use Rattle.vx_script_words.specs.Hex.{is_hex, hex_value, byte_of}
 use Rattle.vx_script_words.specs.Number.{number_from, begins_ill, number_of, within, times, digits_end, length_of, unit_sectors}
 use Rattle.vx_script_forms.specs.Ranges.{is_between, is_length}
-use Rattle.vx_script_laws.proofs.Spelled.{is_dark, is_word}
+use Rattle.vx_script_word_laws.proofs.Spelled.{is_dark, is_word}
 
 grows : (acc : ℕ) (ds : List ℕ) → acc ≤ digits_on acc ds
 grows acc [] = omega arith

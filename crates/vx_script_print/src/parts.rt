@@ -5,12 +5,12 @@ ghost use Rattle.vx_block.specs.Word.{hex, block_word};
 ghost use Rattle.vx_script_text.specs.Text.{part_text, plex_text, names_text, disks_text};
 ghost use Rattle.vx_script_words.specs.Key.{text_of};
 
-use vx_script_text::Part;
 use std::alloc::Global;
 use vx_base::OutOfMemory;
 use vx_block::put_hex;
 use vx_names::Name;
 use vx_script_forms::DiskAt;
+use vx_script_text::Part;
 use vx_script_words::{Key, key_text};
 
 pub fn put_parts(alloc: Global, parts: &[Part], out: &mut Vec<u8>) -> Result<(), OutOfMemory>

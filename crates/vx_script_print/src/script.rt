@@ -4,12 +4,12 @@ ghost use Rattle.vx_script.specs.Script.{script_of};
 ghost use Rattle.vx_script_text.specs.Text.{script_text, command_text, body_text, line_text};
 
 use crate::forms::{put_act, put_call, put_form};
-use vx_script_text::Part;
 use crate::parts::{put_number, put_part, put_text};
 use std::alloc::Global;
 use vx_base::OutOfMemory;
 use vx_script::{Command, Script};
 use vx_script_forms::{Form, Line};
+use vx_script_text::Part;
 use vx_script_words::Key;
 
 /// Appends the script in the one spelling, which is read back as the script.

@@ -1,17 +1,20 @@
 -- What a word says is in the range of its sort.
-use Rattle.std.proofs.Common.{◌≡◌, ◌∙◌, sym, ap, subst, refl, ℕ, zero, suc, ◌+◌, ◌-◌, ◌*◌, ◌^◌, ◌<◌, ◌≤◌, ◌⊎◌, inl, inr, Bool, true, false, cond, not, is_some, Option, Some, None, List, [], ◌∷◌, ◌++◌, length, take, drop, replicate, get_or, arith, eqb, leb, leb-true, eqb-true, lt-ltb, codes, append_assoc}
+use Rattle.std.proofs.Common.{◌≡◌, ◌∙◌, sym, ap, subst, refl, ℕ, zero, suc, ◌-◌, ◌*◌, ◌^◌, ◌<◌, ◌≤◌, ◌⊎◌, inl, inr, Bool, true, false, cond, not, is_some, Option, Some, None, List, [], ◌∷◌, ◌++◌, length, take, drop, replicate, get_or, arith, eqb, leb, leb-true, eqb-true, lt-ltb, codes, append_assoc, slice_index}
 use Rattle.std.specs.Prelude.{◌&&◌, nat_lt}
 use Rattle.std.specs.List.{list_all, position_or_len}
 use Rattle.std.specs.Str.{bytes_eq}
-use Rattle.std.proofs.lemmas.Bool.{and_parts, and_from, true≢false, cases_lt}
+use Rattle.std.proofs.lemmas.Bool.{and_parts, and_from, true≢false, cases_lt, cases_Bool, or_cases, both_ways, cond-true, cond-false}
 use Rattle.std.proofs.lemmas.Bool.Decides.{nat_tests}
-use Rattle.std.proofs.lemmas.List.{length-append, length-replicate, drop_all}
+use Rattle.std.proofs.lemmas.List.{length-replicate, drop_all}
 use Rattle.std.proofs.lemmas.List.Sums.{split_at_first, prefix_len_stops}
 use Rattle.std.proofs.lemmas.Option.{cond_some, same_Some}
+use Rattle.vx_block.specs.Reading.{byte_value, bytes_of, digit_value, is_block_word, is_hex_digit, is_long_word, is_short_word, spelled_block}
 use Rattle.vx_names.specs.Form.{is_name}
+use Rattle.vx_names.specs.Length.{numeral_front, unit_sectors}
+use Rattle.vx_names.specs.Number.{digits_value, is_numeral}
 use Rattle.vx_script_words.specs.Class.{as_name, as_number, as_pair, as_block, as_word, sort_value, value_behind, class_value}
-use Rattle.vx_script_words.specs.Hex.{is_hex, hex_value, byte_of, bytes_from, filled, all_equal, block_of}
-use Rattle.vx_script_words.specs.Number.{number_of, within, times, digits_end, unit_sectors, length_of}
+use Rattle.vx_script_words.specs.Hex.{byte_of, block_of}
+use Rattle.vx_script_words.specs.Number.{number_of, within, length_of}
 use Rattle.vx_script_words.specs.Parts.{behind, name_of, name_behind, number_behind, cut_of, both, pair_of, three, just, plex_of, break_off_of}
 use Rattle.vx_script_words.specs.Words.{up_to, past}
 use Rattle.vx_script_words.specs.declared.class.Class.{Class}
@@ -112,13 +115,12 @@ within_ok low high n (Some m) e =
     let below : m ≤ high = leb-true m high p.1 in
     (omega arith, omega arith)
 
-times_ok : (o : Option ℕ) (unit sectors : ℕ) → times o unit ≡ Some sectors → (1 ≤ sectors) × (sectors ≤ 2 ^ 40)
-times_ok None unit sectors e = absurd cc
-times_ok (Some n) unit sectors e =
-    within_ok 1 (2 ^ 40) sectors (Some (n * unit)) (held (leb n (2 ^ 40)) _ sectors e).1
-
 pub length_ok : (word : List ℕ) (sectors : ℕ) → length_of word ≡ Some sectors → (1 ≤ sectors) × (sectors ≤ 2 ^ 40)
-length_ok word sectors e = times_ok (number_of (take (digits_end word) word)) (unit_sectors (drop (digits_end word) word)) sectors e
+length_ok word sectors e =
+    let number = take (numeral_front word) word in
+    let unit = drop (numeral_front word) word in
+    let product = Some (digits_value number * unit_sectors unit) in
+    within_ok 1 (2 ^ 40) sectors product (held (is_numeral number) (within 1 (2 ^ 40) product) sectors e).1
 
 pub cut_ok : (o : Option (List ℕ)) (n : ℕ) → number_behind o ≡ Some n → n < 2 ^ 40
 cut_ok None n e = absurd cc
@@ -126,20 +128,19 @@ cut_ok (Some word) n e = let w = within_ok 0 (2 ^ 40 - 1) n (number_of word) e i
 
 -- ---- bytes and blocks
 
-hex_small : (b : ℕ) → is_hex b ≡ true → hex_value b < 16
-hex_small b h = grind (arith, nat_tests)
+digit_small : (b : ℕ) → is_hex_digit b ≡ true → digit_value b < 16
+digit_small b h = grind (arith, nat_tests)
 
-two_digits : (a b n : ℕ) → is_hex a && is_hex b ≡ true → 16 * hex_value a + hex_value b ≡ n → n < 256
-two_digits a b n h e =
-    let p = and_parts (is_hex a) (is_hex b) h in
-    omega (arith, hex_small a p.0, hex_small b p.1, e)
+two_digits : (a b : ℕ) → is_hex_digit a ≡ true → is_hex_digit b ≡ true → byte_value a b < 256
+two_digits a b h k = omega (arith, digit_small a h, digit_small b k)
 
 pub byte_ok : (word : List ℕ) (n : ℕ) → byte_of word ≡ Some n → n < 256
 byte_ok [] n e = absurd cc
 byte_ok (a ∷ []) n e = absurd cc
 byte_ok (a ∷ b ∷ []) n e =
-    let c = cond_some (is_hex a && is_hex b) (16 * hex_value a + hex_value b) n e in
-    two_digits a b n c.0 c.1
+    let c = cond_some (is_hex_digit a && is_hex_digit b) (byte_value a b) n e in
+    let p = and_parts (is_hex_digit a) (is_hex_digit b) c.0 in
+    omega (arith, c.1, two_digits a b p.0 p.1)
 byte_ok (a ∷ b ∷ c ∷ ds) n e = absurd cc
 
 pub all_joined : {X : Type 0} (test : X → Bool) (xs ys : List X) → list_all test xs ≡ true → list_all test ys ≡ true → list_all test (xs ++ ys) ≡ true
@@ -151,18 +152,6 @@ all_joined test (x ∷ xs) ys h k =
 pub all_pushed : {X : Type 0} (test : X → Bool) (xs : List X) (x : X) → list_all test xs ≡ true → test x ≡ true → list_all test (xs ++ x ∷ []) ≡ true
 all_pushed test xs x h k = all_joined test xs (x ∷ []) h (and_from _ _ k refl)
 
-pairs_ok : (acc ds out : List ℕ) → bytes_from acc ds ≡ Some out → list_all is_byte acc ≡ true → (2 * length out ≡ 2 * length acc + length ds) × (list_all is_byte out ≡ true)
-pairs_ok acc [] out e h =
-    let same : acc ≡ out = cc in
-    (omega (arith, ap (λ (xs : List ℕ). length xs) same), subst (λ (xs : List ℕ). list_all is_byte xs ≡ true) same h)
-pairs_ok acc (a ∷ []) out e h = absurd cc
-pairs_ok acc (a ∷ b ∷ ds) out e h =
-    let n = 16 * hex_value a + hex_value b in
-    let c = held (is_hex a && is_hex b) (bytes_from (acc ++ n ∷ []) ds) out e in
-    let small : n < 256 = two_digits a b n c.0 refl in
-    let rest = pairs_ok (acc ++ n ∷ []) ds out c.1 (all_pushed is_byte acc n h (lt-ltb n 256 small)) in
-    (omega (arith, rest.0, length-append acc (n ∷ [])), rest.1)
-
 all_replicated : (n b : ℕ) → b < 256 → list_all is_byte (replicate n b) ≡ true
 all_replicated zero b h = refl
 all_replicated (suc n) b h = and_from _ _ (lt-ltb b 256 h) (all_replicated n b h)
@@ -170,30 +159,48 @@ all_replicated (suc n) b h = and_from _ _ (lt-ltb b 256 h) (all_replicated n b h
 abbrev AreBytes : List ℕ → Type 0
 AreBytes bytes = (length bytes ≡ 512) × (list_all is_byte bytes ≡ true)
 
-filled_ok : (b : ℕ) → b < 256 → AreBytes (filled b)
-unfolding filled
-filled_ok b h = (length-replicate 512 b, all_replicated 512 b h)
+short_ok : (word : List ℕ) → is_short_word word ≡ true → AreBytes (replicate 512 (byte_value (slice_index word 1) (slice_index word 2)))
+short_ok [] h = absurd cc
+short_ok (a ∷ []) h = absurd cc
+short_ok (a ∷ b ∷ []) h = absurd cc
+short_ok (a ∷ b ∷ c ∷ []) h =
+    let p = and_parts (is_hex_digit b) (is_hex_digit c && true) (and_parts (eqb 3 3 && eqb a 61) _ h).1 in
+    (length-replicate 512 (byte_value b c), all_replicated 512 (byte_value b c) (two_digits b c p.0 (and_parts (is_hex_digit c) true p.1).0))
+short_ok (a ∷ b ∷ c ∷ d ∷ ds) h =
+    let long = eqb-true (length (a ∷ b ∷ c ∷ d ∷ ds)) 3 (and_parts _ _ (and_parts (eqb (length (a ∷ b ∷ c ∷ d ∷ ds)) 3 && eqb a 61) _ h).0).0 in
+    absurd (omega arith)
 
-equal_ok : (o : Option ℕ) (bytes : List ℕ) → ((n : ℕ) → o ≡ Some n → n < 256) → all_equal o ≡ Some bytes → AreBytes bytes
-equal_ok None bytes small e = absurd cc
-equal_ok (Some b) bytes small e =
-    let same : filled b ≡ bytes = cc in
-    subst (λ (xs : List ℕ). AreBytes xs) same (filled_ok b (small b refl))
+-- a byte for every two digits
+digits_ok : (ds : List ℕ) (n : ℕ) → length ds ≡ 2 * n → list_all is_hex_digit ds ≡ true → (length (bytes_of ds) ≡ n) × (list_all is_byte (bytes_of ds) ≡ true)
+digits_ok [] n e h = (omega arith, refl)
+digits_ok (a ∷ []) n e h = absurd (omega arith)
+digits_ok (a ∷ b ∷ ds) zero e h = absurd (omega arith)
+digits_ok (a ∷ b ∷ ds) (suc n) e h =
+    let p = and_parts (is_hex_digit a) (is_hex_digit b && list_all is_hex_digit ds) h in
+    let q = and_parts (is_hex_digit b) (list_all is_hex_digit ds) p.1 in
+    let rest = digits_ok ds n (omega arith) q.1 in
+    (ap suc rest.0, and_from _ _ (lt-ltb (byte_value a b) 256 (two_digits a b p.0 q.0)) rest.1)
 
-digits_ok : (ds bytes : List ℕ) → cond (eqb (length ds) 1024) (bytes_from [] ds) None ≡ Some bytes → AreBytes bytes
-digits_ok ds bytes e =
-    let c = held (eqb (length ds) 1024) (bytes_from [] ds) bytes e in
-    let long : length ds ≡ 1024 = eqb-true _ _ c.0 in
-    let p = pairs_ok [] ds bytes c.1 refl in
-    (omega (arith, p.0, long), p.1)
+long_ok : (word : List ℕ) → is_long_word word ≡ true → AreBytes (bytes_of word)
+long_ok word h =
+    let p = and_parts (eqb (length word) 1024) (list_all is_hex_digit word) h in
+    let size : length word ≡ 2 * 512 = eqb-true (length word) 1024 p.0 in
+    digits_ok word 512 size p.1
+
+spelled_ok : (word : List ℕ) → is_block_word word ≡ true → AreBytes (spelled_block word)
+spelled_ok word h = elim (cases_Bool (is_short_word word)) [
+  | inl t ↦ subst AreBytes (sym (cond-true _ _ _ t)) (short_ok word t)
+  | inr f ↦ elim (or_cases (is_short_word word) (is_long_word word) h) [
+    | inl t ↦ absurd (both_ways _ f t)
+    | inr l ↦ subst AreBytes (sym (cond-false _ _ _ f)) (long_ok word l)
+  ]
+]
 
 pub block_ok : (word bytes : List ℕ) → block_of word ≡ Some bytes → AreBytes bytes
 unfolding block_of
-block_ok [] bytes e = absurd cc
-block_ok (d ∷ ds) bytes e = elim (chosen (eqb d 61) _ _ _ e) [
-  | inl c ↦ equal_ok (byte_of ds) bytes (byte_ok ds) c.1
-  | inr c ↦ digits_ok (d ∷ ds) bytes c.1
-]
+block_ok word bytes e =
+    let c = cond_some (is_block_word word) (spelled_block word) bytes e in
+    subst AreBytes c.1 (spelled_ok word c.0)
 
 -- ---- pairs and break-offs
 

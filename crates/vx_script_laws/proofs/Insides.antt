@@ -54,7 +54,7 @@ digit_first (d ∷ ds) h some =
     let high : d ≤ 57 = leb-true d 57 digit.1 in
     (ne_eqb d 35 (λ e. omega (arith, low, e)), and_left _ _ (ne_eqb d 101 (λ e. omega (arith, high, e))))
 
-decimal_session : (n : ℕ) → n ≤ 2 ^ 40 → IsSession (decimal n) n
+decimal_session : (n : ℕ) → n < 2 ^ 40 → IsSession (decimal n) n
 decimal_session n h =
     let fits : n < 2 ^ 64 = omega (arith, h) in
     let first = digit_first (decimal n) (decimal_digits n fits) (decimal_word n fits) in

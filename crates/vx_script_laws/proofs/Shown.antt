@@ -4,7 +4,7 @@ use Rattle.std.specs.Prelude.{codes, decimal, not, ◌||◌, ◌==◌, nat_le, i
 use Rattle.std.specs.List.{list_all}
 use Rattle.std.specs.Str.{bytes_eq}
 use Rattle.std.proofs.lemmas.List.{append_assoc, append-nil}
-use Rattle.std.proofs.lemmas.Bool.{and_parts, and_left, and_right, or_cases, not-true, ltb-true, leb-true, lt-ltb, ne_eqb, cond-true, cond-false}
+use Rattle.std.proofs.lemmas.Bool.{and_parts, and_left, and_right, or_from, or_cases, not-true, ltb-true, leb-true, lt-ltb, ne_eqb, cond-true, cond-false}
 use Rattle.vx_names.specs.Form.{is_name, is_name_byte}
 use Rattle.vx_names.proofs.Numbers.{decimal_short}
 use Rattle.vx_script.specs.Choice.{choose}
@@ -123,7 +123,8 @@ blocks_stop_at_cut None h = refl
 blocks_stop_at_cut (Some n) h =
     let small : n < 2 ^ 40 = ltb-true n (2 ^ 40) h in
     let short : length (decimal n) ≤ 31 = decimal_short n (omega (arith, small)) in
-    ap as_block (cond-false _ _ _ (ne_eqb (length (codes "cut=" ++ decimal n)) 1024 (λ e. omega (arith, short, e))))
+    let word : List ℕ = codes "cut=" ++ decimal n in
+    ap as_block (cond-false _ _ _ (or_from _ _ (and_left _ _ (and_right (length word == 3) false refl)) (and_left _ _ (ne_eqb (length word) 1024 (λ e. omega (arith, short, e))))))
 
 -- lists of names and of disks
 

@@ -1,5 +1,5 @@
 -- Each part of a form reads what is printed for it.
-use Rattle.std.proofs.Common.{◌≡◌, ◌∙◌, sym, ap, refl, ℕ, zero, suc, ◌^◌, ◌<◌, ◌≤◌, Bool, true, false, List, [], ◌∷◌, ◌++◌, length, take, drop, arith, Option, Some, None}
+use Rattle.std.proofs.Common.{◌≡◌, ◌∙◌, sym, ap, refl, ℕ, zero, suc, ◌-◌, ◌^◌, ◌<◌, ◌≤◌, Bool, true, false, List, [], ◌∷◌, ◌++◌, length, take, drop, arith, Option, Some, None}
 use Rattle.std.specs.Prelude.{codes, decimal, nat_le}
 use Rattle.std.specs.List.{list_all}
 use Rattle.std.specs.Str.{bytes_eq}
@@ -50,7 +50,7 @@ module _ {tail : List (List ℕ)} {is : List Item} {ws : List (List ℕ)} {vs : 
   pub a_source : (w : List ℕ) → is_name w ≡ true → Reads tail is ws vs → Reads tail (One (class_of key.Source sort.Named) ∷ is) ((codes "source=" ++ w) ∷ ws) (value.Named w ∷ vs)
   a_source w h r = one_word (class_of key.Source sort.Named) (codes "source=" ++ w) (value.Named w) (name_dark w h) (class_said key.Source sort.Named w (value.Named w) (ap as_name (name_said w h))) r
 
-  pub a_number : (low high n : ℕ) → high ≤ 2 ^ 40 → is_between low high n ≡ true → Reads tail is ws vs → Reads tail (One (class_of key.Nothing (sort.Number low high)) ∷ is) (decimal n ∷ ws) (value.Number n ∷ vs)
+  pub a_number : (low high n : ℕ) → high ≤ 2 ^ 40 - 1 → is_between low high n ≡ true → Reads tail is ws vs → Reads tail (One (class_of key.Nothing (sort.Number low high)) ∷ is) (decimal n ∷ ws) (value.Number n ∷ vs)
   a_number low high n top h r =
       let at : n ≤ high = leb-true n high (and_parts (nat_le low n) (nat_le n high) h).1 in
       one_word (class_of key.Nothing (sort.Number low high)) (decimal n) (value.Number n) (decimal_word n (omega (arith, at, top))) (plain_said (sort.Number low high) (decimal n) (value.Number n) (ap as_number (ranged_said low high n top h))) r
@@ -104,7 +104,7 @@ both_dark (b ∷ bs) y h k = all_more (b ∷ bs) h
     all_more [] e = k
     all_more (c ∷ cs) e = let parts = and_parts (is_dark c) (list_all is_dark cs) e in and_from _ _ parts.0 (all_more cs parts.1)
 
-pub a_tagged_number : {tail : List (List ℕ)} {is : List Item} {ws : List (List ℕ)} {vs : List Value} (k : Key) (low high : ℕ) (o : Option ℕ) → is_word (text_of k) ≡ true → high ≤ 2 ^ 40 → maybe_between low high o ≡ true → class_value (class_of k (sort.Number low high)) (head_word ws) ≡ None → Reads tail is ws vs → Reads tail (Maybe (class_of k (sort.Number low high)) ∷ is) (tagged_then (text_of k) o ws) (count_value o ∷ vs)
+pub a_tagged_number : {tail : List (List ℕ)} {is : List Item} {ws : List (List ℕ)} {vs : List Value} (k : Key) (low high : ℕ) (o : Option ℕ) → is_word (text_of k) ≡ true → high ≤ 2 ^ 40 - 1 → maybe_between low high o ≡ true → class_value (class_of k (sort.Number low high)) (head_word ws) ≡ None → Reads tail is ws vs → Reads tail (Maybe (class_of k (sort.Number low high)) ∷ is) (tagged_then (text_of k) o ws) (count_value o ∷ vs)
 a_tagged_number k low high None t top h stops r = no_word (class_of k (sort.Number low high)) stops r
 a_tagged_number k low high (Some n) t top h stops r =
     let at : n ≤ high = leb-true n high (and_parts (nat_le low n) (nat_le n high) h).1 in

@@ -1,13 +1,11 @@
 -- What holds of an answer holds of its equals.
 use Rattle.std.proofs.Common.{◌≡◌, ◌∙◌, sym, ap, subst, refl, ℕ, ◌+◌, ◌≤◌, Bool, true, false, cond, List, [], ◌∷◌, length, Result, Ok, MatchResult, arith}
 use Rattle.vx_script.specs.Lines.{lines_of}
-use Rattle.vx_script.specs.Script.{Faults, Place, commands_from, stepped}
+use Rattle.vx_script.specs.Script.{Place, commands_from, stepped}
 use Rattle.vx_script.specs.Steps.{step, open_step}
 use Rattle.vx_script.specs.declared.command.Command.{Command}
-use Rattle.vx_script.specs.declared.fault.ScriptFault.{ScriptFault}
 use Rattle.vx_script.specs.declared.reader.Open.{Open}
 use Rattle.vx_script.specs.declared.reader.Reader.{Reader}
-use Rattle.vx_script.specs.declared.script.Script.{Script}
 use Rattle.vx_script_words.specs.Gives.{Fails}
 use Rattle.vx_script_words.specs.declared.stop.Stop.{Stop}
 
@@ -37,7 +35,5 @@ unfolding lines_of
 no_line [] h = refl
 no_line (b ∷ bs) h = absurd (omega arith)
 
-pub at_end : (r : Result Script ScriptFault) (reader : Reader) (n : ℕ) (text : List ℕ) (whole : Result (List Command) Place) → length text ≤ 0 → commands_from reader n (lines_of text) ≡ whole → MatchResult r (λ script. commands_from reader n [] ≡ Ok script.commands) (λ fault. Faults fault (commands_from reader n [])) → MatchResult r (λ script. whole ≡ Ok script.commands) (λ fault. Faults fault whole)
-at_end r reader n text whole h so ends =
-    let P : Result (List Command) Place → Type 0 = λ z. MatchResult r (λ script. z ≡ Ok script.commands) (λ fault. Faults fault z) in
-    subst P (sym (ap (commands_from reader n) (no_line text h)) ∙ so) ends
+pub at_end : (reader : Reader) (n : ℕ) (text : List ℕ) (whole : Result (List Command) Place) → length text ≤ 0 → commands_from reader n (lines_of text) ≡ whole → commands_from reader n [] ≡ whole
+at_end reader n text whole h so = sym (ap (commands_from reader n) (no_line text h)) ∙ so

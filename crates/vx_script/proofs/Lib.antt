@@ -1,2 +1,4 @@
 pub mod Carry
+pub mod Keeping
+pub mod Made
 pub mod Splits

@@ -1,4 +1,5 @@
 pub mod Choice
+pub mod Kept
 pub mod Lines
 pub mod Script
 pub mod Steps

@@ -1,4 +1,5 @@
-ghost use Rattle.std.specs.Prelude.{◌≡◌, ◌+◌, ◌^◌, ◌<◌, MatchResult, Ok};
+ghost use Rattle.std.specs.Prelude.{◌≡◌, ◌+◌, ◌^◌, ◌<◌, MatchResult, Ok, IsTrue};
+ghost use Rattle.vx_script.specs.Kept.{is_kept};
 ghost use Rattle.vx_script.specs.Script.{script_of, Faults, finished};
 
 use crate::lines::split_line;
@@ -8,10 +9,11 @@ use crate::{Commands, ScriptFault};
 use std::alloc::Global;
 use vx_script_words::Stop;
 
-/// The commands of a script, in the order of their lines.
+/// The commands of a script, in the order of their lines. Names, numbers and blocks are in the ranges of the language.
 #[derive(Drop)]
 pub struct Script {
     pub commands: Commands,
+    ghost kept: { IsTrue (is_kept commands) },
 }
 
 /// The script that a text spells. A fault names the first line that does not fit, and in it the first word that no
@@ -39,15 +41,16 @@ pub fn read(alloc: Global, text: &[u8]) -> Result<Script, ScriptFault>
         rest = next;
         number += 1;
     }
-    finished(reader, number)
+    let commands = finished(reader, number)?;
+    Ok(Script { commands })
 }
 
-fn finished(reader: Reader, number: u64) -> Result<Script, ScriptFault>
-    ensures { MatchResult result (λ script. finished reader.begun reader.done number ≡ Ok script.commands) (λ fault. Faults fault (finished reader.begun reader.done number)) }
+fn finished(reader: Reader, number: u64) -> Result<Commands, ScriptFault>
+    ensures { MatchResult result (λ commands. finished reader.begun reader.done number ≡ Ok commands) (λ fault. Faults fault (finished reader.begun reader.done number)) }
 {
     let Reader { done, begun } = reader;
     match begun {
-        Open::Closed => Ok(Script { commands: done }),
+        Open::Closed => Ok(done),
         _ => Err(ScriptFault::Script(number, 1)),
     }
 }

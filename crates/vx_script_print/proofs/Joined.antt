@@ -2,7 +2,7 @@
 use Rattle.std.proofs.Common.{◌≡◌, ◌∙◌, sym, ap, ℕ, suc, ◌+◌, ◌-◌, ◌<◌, List, ◌++◌, arith, take, drop, codes}
 use Rattle.std.proofs.lemmas.Grind.{common_steps}
 use Rattle.vx_block.specs.Word.{block_word}
-use Rattle.vx_script_print.specs.Text.{some_blocks}
+use Rattle.vx_script_text.specs.Text.{some_blocks}
 
 joined : (old a b c : List ℕ) → (old ++ (a ++ b)) ++ c ≡ old ++ (a ++ b ++ c)
 joined old a b c = grind (arith, common_steps)

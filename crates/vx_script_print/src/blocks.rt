@@ -1,13 +1,13 @@
 ghost use Rattle.std.specs.Prelude.{◌≡◌, ◌++◌, ◌/◌, ◌*◌, ◌≤◌, ◌<◌, ◌==◌, length, OnOk, take, drop, codes};
 ghost use Rattle.std.specs.List.{flat_map, list_all};
 ghost use Rattle.vx_block.specs.Word.{block_word, hex};
-ghost use Rattle.vx_script_print.specs.Text.{blocks_text, some_blocks};
+ghost use Rattle.vx_script_text.specs.Text.{blocks_text, some_blocks};
 
 use vx_base::{BLOCK, OutOfMemory};
 use vx_block::put_block;
 
 /// The words of blocks that stand one behind the other; bytes behind the last whole block are left out.
-#[tactic(auto, unfolding(crate::specs::Text::blocks_text))]
+#[tactic(auto, unfolding(vx_script_text::specs::Text::blocks_text))]
 pub fn put_blocks(bytes: &[u8], out: &mut Vec<u8>) -> Result<(), OutOfMemory>
     ensures { OnOk result (out.new.items ≡ out.old.items ++ blocks_text bytes.now) }
 {

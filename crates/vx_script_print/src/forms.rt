@@ -1,14 +1,14 @@
 ghost use Rattle.std.specs.Prelude.{◌≡◌, ◌++◌, ◌∷◌, [], OnOk};
 ghost use Rattle.std.specs.List.{flat_map};
-ghost use Rattle.vx_script_print.specs.Text.{act_text, call_text, form_text, attrs_text, layout_text, policy_text, names_text, part_text, blocks_text};
+ghost use Rattle.vx_script_text.specs.Text.{act_text, call_text, form_text, attrs_text, layout_text, policy_text, names_text, part_text, blocks_text};
 
 use crate::blocks::put_blocks;
-use crate::part::Part;
 use crate::parts::{put_disks, put_names, put_parts, put_text};
 use std::alloc::Global;
 use vx_base::OutOfMemory;
 use vx_names::Name;
 use vx_script_forms::{Act, Call, Form, MakeAttrs, Names, WordLayout, WordPolicy};
+use vx_script_text::Part;
 use vx_script_words::Key;
 
 pub fn put_act(

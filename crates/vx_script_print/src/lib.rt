@@ -3,9 +3,7 @@
 
 mod blocks;
 mod forms;
-mod part;
 mod parts;
 mod script;
 
-pub use part::Part;
 pub use script::print;

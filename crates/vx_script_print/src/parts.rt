@@ -2,15 +2,15 @@ ghost use Rattle.std.specs.Prelude.{◌≡◌, ◌++◌, ◌*◌, ◌/◌, ◌�
 ghost use Rattle.std.specs.List.{flat_map};
 ghost use Rattle.std.specs.Fmt.{decimal};
 ghost use Rattle.vx_block.specs.Word.{hex, block_word};
-ghost use Rattle.vx_script_print.specs.Text.{part_text, plex_text, names_text, disks_text};
+ghost use Rattle.vx_script_text.specs.Text.{part_text, plex_text, names_text, disks_text};
 ghost use Rattle.vx_script_words.specs.Key.{text_of};
 
-use crate::part::Part;
 use std::alloc::Global;
 use vx_base::OutOfMemory;
 use vx_block::put_hex;
 use vx_names::Name;
 use vx_script_forms::DiskAt;
+use vx_script_text::Part;
 use vx_script_words::{Key, key_text};
 
 pub fn put_parts(alloc: Global, parts: &[Part], out: &mut Vec<u8>) -> Result<(), OutOfMemory>

@@ -1,19 +1,21 @@
-ghost use Rattle.std.specs.Prelude.{◌≡◌, ◌++◌, ◌∷◌, [], OnOk, codes};
+ghost use Rattle.std.specs.Prelude.{◌≡◌, ◌++◌, ◌∷◌, [], OnOk, Ok, codes};
 ghost use Rattle.std.specs.List.{flat_map};
-ghost use Rattle.vx_script_print.specs.Text.{script_text, command_text, body_text, line_text};
+ghost use Rattle.vx_script.specs.Script.{script_of};
+ghost use Rattle.vx_script_text.specs.Text.{script_text, command_text, body_text, line_text};
 
 use crate::forms::{put_act, put_call, put_form};
-use crate::part::Part;
 use crate::parts::{put_number, put_part, put_text};
 use std::alloc::Global;
 use vx_base::OutOfMemory;
 use vx_script::{Command, Script};
 use vx_script_forms::{Form, Line};
+use vx_script_text::Part;
 use vx_script_words::Key;
 
-/// Appends the script in the one spelling.
+/// Appends the script in the one spelling, which is read back as the script.
 pub fn print(alloc: Global, script: &Script, out: &mut Vec<u8>) -> Result<(), OutOfMemory>
-    ensures { OnOk result (out.new.items ≡ out.old.items ++ script_text script.now.commands) }
+    ensures printed { OnOk result (out.new.items ≡ out.old.items ++ script_text script.now.commands) }
+    ensures read_back { script_of (script_text script.now.commands) ≡ Ok script.now.commands }
 {
     put_commands(alloc, script.commands.as_slice(), out)
 }

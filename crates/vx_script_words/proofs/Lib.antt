@@ -1,3 +1,5 @@
+pub mod Fitting
 pub mod Lines
-pub mod Pairs
+pub mod Numbers
 pub mod Places
+pub mod Sorts

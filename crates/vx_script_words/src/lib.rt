@@ -16,7 +16,7 @@ pub use class::{Class, Item, Sort};
 pub use hex::{block_of, byte_of};
 pub use key::{Key, key_text};
 pub use line::{Reading, row};
-pub use number::{length_of, number_of, number_within};
+pub use number::{length_of, number_within};
 pub use parts::cut_of;
 pub use read::class_value;
 pub use stop::Stop;

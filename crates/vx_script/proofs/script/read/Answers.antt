@@ -1,5 +1,8 @@
-use Rattle.std.proofs.Common.{arith}
+use Rattle.std.proofs.Common.{◌∙◌, sym, subst, arith}
+use Rattle.std.proofs.lemmas.Result.{err_from_is_err_and}
 use Rattle.vx_script.proofs.Carry.{goes_on, at_end}
+use Rattle.vx_script.proofs.Keeping.{read_kept}
+use Rattle.vx_script.specs.Script.{Faults}
 use Rattle.vx_script.proofs.script.read.Goals as goal
 
 pub loop-rest-preserved : goal.loop-rest-preserved
@@ -8,5 +11,18 @@ loop-rest-preserved c = record {
   bound = omega arith;
 }
 
+pub returns-in_err-commands : goal.returns-in_err-commands
+returns-in_err-commands c =
+    let p = err_from_is_err_and c.from_residual.result c.from_residual.ensures.1 in
+    let ends = at_end c.loop-rest.reader c.loop-rest.number c.loop-rest.rest.now _ (omega arith) c.loop-rest.invariant.same in
+    rw (p.1, p.2) (subst (Faults c.in_err-commands.field-0.0) ends c.in_err-commands.ensures)
+
+pub invariant_of-result : goal.invariant_of-result
+invariant_of-result c =
+    let ends = at_end c.loop-rest.reader c.loop-rest.number c.loop-rest.rest.now _ (omega arith) c.loop-rest.invariant.same in
+    record { kept = read_kept c.args.text.now c.in_ok-commands.commands (sym ends ∙ c.in_ok-commands.ensures) }
+
 pub returns : goal.returns
-returns c = at_end c.finished.result c.loop-rest.reader c.loop-rest.number c.loop-rest.rest.now _ (omega arith) c.loop-rest.invariant.same c.finished.ensures
+returns c =
+    let ends = at_end c.loop-rest.reader c.loop-rest.number c.loop-rest.rest.now _ (omega arith) c.loop-rest.invariant.same in
+    sym ends ∙ c.in_ok-commands.ensures

@@ -1,5 +1,5 @@
 use Rattle.std.proofs.Common.{◌≡◌, ◌++◌, ◌*◌, ◌-◌, ◌≤◌, length}
-use Rattle.vx_script_print.specs.Text.{some_blocks}
+use Rattle.vx_script_text.specs.Text.{some_blocks}
 use Rattle.vx_script_print.proofs.blocks.put_some.Given as goal
 
 abbrev pub invariant-loop-k : goal.invariant-loop-k

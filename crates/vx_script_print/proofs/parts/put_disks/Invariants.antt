@@ -1,5 +1,5 @@
 use Rattle.std.proofs.Common.{◌≡◌, ◌++◌, take}
-use Rattle.vx_script_print.specs.Text.{disks_text}
+use Rattle.vx_script_text.specs.Text.{disks_text}
 use Rattle.vx_script_print.proofs.parts.put_disks.Given as goal
 
 abbrev pub invariant-loop-disk : goal.invariant-loop-disk

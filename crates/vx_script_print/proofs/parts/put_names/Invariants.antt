@@ -1,5 +1,5 @@
 use Rattle.std.proofs.Common.{◌≡◌, ◌++◌, take}
-use Rattle.vx_script_print.specs.Text.{names_text}
+use Rattle.vx_script_text.specs.Text.{names_text}
 use Rattle.vx_script_print.proofs.parts.put_names.Given as goal
 
 abbrev pub invariant-loop-name : goal.invariant-loop-name

@@ -1,6 +1,6 @@
 use Rattle.std.proofs.Common.{◌≡◌, ◌++◌, take}
 use Rattle.std.specs.List.{flat_map}
-use Rattle.vx_script_print.specs.Text.{part_text}
+use Rattle.vx_script_text.specs.Text.{part_text}
 use Rattle.vx_script_print.proofs.parts.put_parts.Given as goal
 
 abbrev pub invariant-loop-part : goal.invariant-loop-part

@@ -17,8 +17,8 @@ use Rattle.vx_script_forms.specs.declared.form.WordLayout.{WordLayout}
 use Rattle.vx_script_forms.specs.declared.form.WordLayout.TheVariants as layout
 use Rattle.vx_script_forms.specs.declared.form.WordPolicy.{WordPolicy}
 use Rattle.vx_script_forms.specs.declared.form.WordPolicy.TheVariants as policy
-use Rattle.vx_script_print.specs.declared.part.Part.{Part}
-use Rattle.vx_script_print.specs.declared.part.Part.TheVariants as part
+use Rattle.vx_script_text.specs.declared.part.Part.{Part}
+use Rattle.vx_script_text.specs.declared.part.Part.TheVariants as part
 use Rattle.vx_script_words.specs.Key.{text_of}
 use Rattle.vx_script_words.specs.declared.key.Key.TheVariants as key
 use Rattle.vx_script_words.specs.declared.value.DiskAt.{DiskAt}

@@ -1,0 +1,11 @@
+pub mod Acts
+pub mod Calls
+pub mod Commands
+pub mod Forms
+pub mod Insides
+pub mod Makes
+pub mod Reaching
+pub mod Records
+pub mod Shapes
+pub mod Shown
+pub mod Whole

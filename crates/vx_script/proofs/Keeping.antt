@@ -36,7 +36,7 @@ same_ok : {A B : Type 0} (x y : A) → ◌≡◌ {A = Result A B} (Ok x) (Ok y) 
 same_ok x y e = cc
 
 -- the values of a choice are those of its kind
-abbrev IsChoice : Choice → Type 0
+abbrev pub IsChoice : Choice → Type 0
 IsChoice c = IsRead (items_of c.kind) (record { values = c.values; cut = c.cut })
 
 pub choice_is : (may_be_cut : Bool) (kinds : List Kind) (text : List ℕ) (left : ℕ) (c : Choice) → choice may_be_cut kinds text left ≡ Ok c → IsChoice c

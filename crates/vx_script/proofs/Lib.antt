@@ -1,4 +1,6 @@
 pub mod Carry
+pub mod Faults
 pub mod Keeping
 pub mod Made
+pub mod Placed
 pub mod Splits

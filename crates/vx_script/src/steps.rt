@@ -1,5 +1,7 @@
-ghost use Rattle.std.specs.Prelude.{◌≡◌, ◌<◌, ◌≤◌, ◌^◌, ◌/◌, MatchResult, IfOk, Ok, Err, Bool, length, ◌∷◌, ◌++◌, []};
+ghost use Rattle.std.specs.Prelude.{◌≡◌, ℕ, ◌<◌, ◌≤◌, ◌^◌, ◌/◌, ◌==◌, if◌then◌else◌, MatchResult, IfOk, Ok, Err, Bool, true, false, length, ◌∷◌, ◌++◌, []};
 ghost use Rattle.vx_script.specs.Lines.{bad_word};
+ghost use Rattle.vx_script.specs.Place.{IsPlace};
+ghost use Rattle.vx_script_forms.specs.Table.{commands, calls, acts};
 ghost use Rattle.vx_script.specs.Steps.{opened, opened_by, command_step, or_bad, closed_step, making_step, administered, called, line_behind, line_of_session, session_line, call_sectors, line_calls, line_sectors, added, ended, inside_step, open_step, step};
 ghost use Rattle.vx_script_words.specs.Gives.{Fails};
 
@@ -53,9 +55,12 @@ fn closed_step(alloc: Global, done: Commands, line: &[u8]) -> Result<Reader, Sto
     command_step(alloc, done, line)
 }
 
+/// A command line. What the parts of a kind give is always a form of that kind, so the line is refused only where no
+/// kind fits it: then what is left begins with the first word that no command line with the same earlier words has.
 #[tactic(auto, unfolding(crate::specs::Steps::command_step))]
 fn command_step(alloc: Global, done: Commands, line: &[u8]) -> Result<Reader, Stop>
-    ensures { MatchResult result (λ reader. command_step done line.now ≡ Ok reader) (λ stop. Fails stop (command_step done line.now)) }
+    ensures value { MatchResult result (λ reader. command_step done line.now ≡ Ok reader) (λ stop. Fails stop (command_step done line.now)) }
+    ensures place { (left : ℕ) → command_step done line.now ≡ Err left → IsPlace true commands line.now left }
 {
     let chosen = choose(alloc, true, &COMMANDS, line)?;
     let Some(group) = group_of(chosen.values.as_slice()) else {
@@ -192,9 +197,12 @@ fn session_line(alloc: Global, sessions: u32, text: &[u8]) -> Result<Line, Stop>
     }
 }
 
+/// What follows the session. What the parts of a kind give is an act or a call, so here, too, a refusal is at the first
+/// word that no act, or no call, with the same earlier words has.
 #[tactic(auto, unfolding(crate::specs::Steps::line_behind))]
 fn line_behind(alloc: Global, session: u32, text: &[u8]) -> Result<Line, Stop>
-    ensures { MatchResult result (λ reader. line_behind session text.now ≡ Ok reader) (λ stop. Fails stop (line_behind session text.now)) }
+    ensures value { MatchResult result (λ reader. line_behind session text.now ≡ Ok reader) (λ stop. Fails stop (line_behind session text.now)) }
+    ensures place { (left : ℕ) → line_behind session text.now ≡ Err left → IsPlace false (if session == 0 then acts else calls) text.now left }
 {
     if session == 0 {
         act_line(alloc, text)

@@ -1,5 +1,9 @@
 pub mod Fitting
+pub mod Lined
 pub mod Lines
 pub mod Numbers
+pub mod Opens
 pub mod Places
 pub mod Sorts
+pub mod Spelled
+pub mod Walk

@@ -5,4 +5,5 @@ pub mod Key
 pub mod Number
 pub mod Parts
 pub mod Row
+pub mod Spelling
 pub mod Words

@@ -4,3 +4,4 @@ pub mod Edits
 pub mod Applied
 pub mod Printed
 pub mod Fields
+pub mod Laws

@@ -1,5 +1,6 @@
 -- The record that an object is printed as, and the object that a record is read as.
-use Rattle.std.specs.Prelude.{◌≡◌, ◌⊎◌, ◌==◌, ℕ, min, decimal, Bool, Option, Some, None, List, [], ◌∷◌, map}
+use Rattle.std.specs.Prelude.{◌≡◌, ◌⊎◌, ◌==◌, ◌&&◌, ℕ, min, decimal, Bool, true, IsTrue, Option, Some, None, List, [], ◌∷◌, map}
+use Rattle.std.specs.List.{list_all}
 use Rattle.vx_base.specs.Named.{Word}
 use Rattle.vx_names.specs.declared.attr.Attr.{Attr}
 use Rattle.vx_record.specs.Content.{Content}
@@ -12,7 +13,7 @@ use Rattle.vx_parts.specs.declared.object.Object.{Object}
 use Rattle.vx_parts.specs.declared.object.Object.TheVariants.{GroupRecord, DiskRecord, SubdiskRecord, PlexRecord, VolRecord, DcoRecord, SnapRecord}
 use Rattle.vx_parts.specs.declared.fault.ObjectFault.{ObjectFault}
 use Rattle.vx_parts.specs.declared.fault.ObjectFault.TheVariants.{OutOfMemory}
-use Rattle.vx_rules.specs.Limits.{numbers_fit}
+use Rattle.vx_rules.specs.Limits.{numbers_fit, is_short}
 use Rattle.vx_parts.specs.Objects.{name_of}
 use Rattle.vx_rules.specs.Rules.{first_broken}
 use Rattle.vx_parts.specs.Words.{plex_kind_word, layout_word, plex_state_word, vol_state_word, policy_word}
@@ -84,6 +85,20 @@ abbrev pub has_record : Object → Bool
 has_record (GroupRecord g) = g.version == 1
 has_record o = numbers_fit o
 
+abbrev pub map_is_short : Option ℕ → Bool
+map_is_short None = true
+map_is_short (Some n) = is_short n
+
+-- a record can say the object: its numbers are those of the text form, whatever its fields hold; the version is 1, and a DCO has 32 maps
+abbrev pub can_be_said : Object → Bool
+can_be_said (GroupRecord g) = g.version == 1
+can_be_said (DiskRecord d) = is_short d.slot && is_short d.publen
+can_be_said (SubdiskRecord s) = is_short s.off && is_short s.len && is_short s.col && is_short s.at
+can_be_said (PlexRecord p) = is_short p.ncol && is_short p.unit && map_is_short p.map
+can_be_said (VolRecord v) = is_short v.len && is_short v.region
+can_be_said (DcoRecord d) = d.maps == 32
+can_be_said (SnapRecord s) = is_short s.map && is_short s.ofmap
+
 -- a number, or the greatest of its field where that cannot hold it
 abbrev pub cut_byte : ℕ → ℕ
 cut_byte n = min n 255
@@ -103,20 +118,28 @@ cut (PlexRecord p) = PlexRecord (record p { ncol = cut_word p.ncol; map = cut_ma
 cut (SnapRecord s) = SnapRecord (record s { map = cut_byte s.map; ofmap = cut_byte s.ofmap })
 cut o = o
 
+-- the record says the object
+abbrev pub Says : Content → Object → Type 0
+Says c o = (record_of o ≡ c) × IsTrue (can_be_said o)
+
+-- the records say these objects, one by one
+abbrev pub Say : List Content → List Object → Type 0
+Say records all = (map record_of all ≡ records) × IsTrue (list_all can_be_said all)
+
 -- the object, as its fields hold it, is what the record says
 abbrev pub IsReadAs : Content → Object → Type 0
-IsReadAs c o = (said : Object) × (record_of said ≡ c) × (cut said ≡ o)
+IsReadAs c o = (said : Object) × Says c said × (cut said ≡ o)
 
 abbrev pub AreReadAs : List Content → List Object → Type 0
-AreReadAs records all = (said : List Object) × (map record_of said ≡ records) × (map cut said ≡ all)
+AreReadAs records all = (said : List Object) × Say records said × (map cut said ≡ all)
 
 -- the configuration's objects are those that the records say, sorted into their kinds
 abbrev pub IsReadOf : List Content → Config → Type 0
-IsReadOf records config = (said : List Object) × (map record_of said ≡ records) × (objects_of config ≡ in_kinds said)
+IsReadOf records config = (said : List Object) × Say records said × (objects_of config ≡ in_kinds said)
 
 -- the fault of the objects that the records say, as their fields hold them, sorted into their kinds; or memory was not there
 abbrev pub IsUnreadOf : List Content → ObjectFault → Type 0
-IsUnreadOf records fault = (fault ≡ OutOfMemory) ⊎ ((said : List Object) × (map record_of said ≡ records) × (first_broken (in_kinds (map cut said)) ≡ Some fault))
+IsUnreadOf records fault = (fault ≡ OutOfMemory) ⊎ ((said : List Object) × Say records said × (first_broken (in_kinds (map cut said)) ≡ Some fault))
 
 -- the records of a configuration
 abbrev pub records_in : Config → List Content

@@ -4,6 +4,7 @@
 mod change;
 mod config;
 mod edit;
+pub mod laws;
 mod lists;
 mod parts;
 mod printed;
@@ -13,6 +14,8 @@ mod said;
 pub use config::Config;
 pub use edit::Edit;
 pub use lists::Listed;
+pub use printed::record_of;
+pub use records::records_of;
 pub use vx_parts::{
     Dco, Disk, Group, Limit, Object, ObjectFault, Plex, PlexKind, PlexLayout, PlexState,
     PolicyKind, PolicyName, Snap, Subdisk, Vol, VolState,

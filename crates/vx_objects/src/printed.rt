@@ -14,8 +14,8 @@ use vx_base::OutOfMemory;
 use vx_names::{Attr, Name};
 use vx_record::{Attrs, Kind, Label, Record};
 
-/// The record of the object.
-pub(crate) fn record_of(alloc: Global, object: &Object) -> Result<Record, OutOfMemory>
+/// The record that the object is printed as.
+pub fn record_of(alloc: Global, object: &Object) -> Result<Record, OutOfMemory>
     requires { IsTrue (has_record object.now) }
     ensures { IfOk result (λ r. r ≡ record_of object.now) }
 {

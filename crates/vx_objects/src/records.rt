@@ -27,7 +27,8 @@ impl Config {
 
     /// The records, kind by kind.
     pub fn records(&self, alloc: Global) -> Result<Records, OutOfMemory>
-        ensures { IfOk result (λ records. records ≡ records_in self.now) }
+        ensures records { IfOk result (λ records. records ≡ records_in self.now) }
+        ensures back { IfOk result (λ records. IsReadOf records self.now) }
     {
         let all = self.objects(alloc)?;
         records_of(alloc, &all)
@@ -44,7 +45,8 @@ fn objects_of(alloc: Global, records: &[Record]) -> Result<Vec<Object>, OutOfMem
     Ok(all)
 }
 
-fn records_of(alloc: Global, all: &[Object]) -> Result<Records, OutOfMemory>
+/// The records that the objects are printed as.
+pub fn records_of(alloc: Global, all: &[Object]) -> Result<Records, OutOfMemory>
     requires { IsTrue (list_all has_record all.now) }
     ensures { IfOk result (λ records. records ≡ map record_of all.now) }
 {

@@ -7,7 +7,8 @@ ghost use Rattle.vx_record.specs.Table.{columns, value_fits, is_one_of, plex_sta
 ghost use Rattle.vx_record.specs.declared.column.Form.TheVariants as forms;
 ghost use Rattle.vx_parts.specs.Words.{plex_kind_word, layout_word, plex_state_word, vol_state_word, policy_word};
 ghost use Rattle.vx_objects.specs.Fields.{HasValue, column_at};
-ghost use Rattle.vx_objects.specs.Printed.{IsReadAs, cut_byte, cut_word, cut_map, numeral, numeral_or_none};
+ghost use Rattle.vx_rules.specs.Limits.{is_short};
+ghost use Rattle.vx_objects.specs.Printed.{IsReadAs, map_is_short, cut_byte, cut_word, cut_map, numeral, numeral_or_none};
 
 use crate::{
     Dco, Disk, Group, Object, Plex, PlexKind, PlexLayout, PlexState, PolicyKind, Snap, Subdisk,
@@ -201,7 +202,8 @@ fn number(kind: Kind, attrs: &[Attr], index: usize) -> u64
     requires form { HasForm kind attrs.now }
     requires inside { index < length (columns kind) }
     requires column { (column_at kind index).form ≡ forms.Number }
-    ensures { HasValue kind attrs.now index (numeral result) }
+    ensures there { HasValue kind attrs.now index (numeral result) }
+    ensures short { IsTrue (is_short result) }
 {
     number_in(&value(kind, attrs, index).unwrap())
 }
@@ -210,7 +212,8 @@ fn number_or_none(kind: Kind, attrs: &[Attr], index: usize) -> Option<u64>
     requires form { HasForm kind attrs.now }
     requires inside { index < length (columns kind) }
     requires column { (column_at kind index).form ≡ forms.NumberOrNone }
-    ensures { HasValue kind attrs.now index (numeral_or_none result) }
+    ensures there { HasValue kind attrs.now index (numeral_or_none result) }
+    ensures short { IsTrue (map_is_short result) }
 {
     match value(kind, attrs, index) {
         None => None,
@@ -220,7 +223,8 @@ fn number_or_none(kind: Kind, attrs: &[Attr], index: usize) -> Option<u64>
 
 fn number_in(word: &Name) -> u64
     requires { IsTrue (is_number word.now) }
-    ensures { word.now ≡ decimal result }
+    ensures spelled { word.now ≡ decimal result }
+    ensures short { IsTrue (is_short result) }
 {
     read_number(word.as_bytes()).unwrap()
 }

@@ -11,4 +11,4 @@ pub returns : goal.returns
 returns c =
     let said : Object = DcoRecord (record { name = c.args.name; vol = c.referred-vol.result; maps = 32 }) in
     let same = link c.referred-vol.ensures (link (maps_there c.args.attrs.now c.requires) (fit_end (columns kinds.Dco) c.args.attrs.now c.requires)) in
-    (said, ap (λ (attrs : List Attr). record { kind = kinds.Dco; name = c.args.name; attrs = attrs }) (sym same), refl)
+    (said, (ap (λ (attrs : List Attr). record { kind = kinds.Dco; name = c.args.name; attrs = attrs }) (sym same), refl), refl)

@@ -1,4 +1,5 @@
 use Rattle.std.proofs.Common.{List, sym, ap, refl}
+use Rattle.std.proofs.lemmas.Bool.{and_from}
 use Rattle.vx_names.specs.declared.attr.Attr.{Attr}
 use Rattle.vx_record.specs.Table.{columns}
 use Rattle.vx_record.specs.declared.kind.Kind.TheVariants as kinds
@@ -10,5 +11,5 @@ use Rattle.vx_objects.proofs.said.disk_of.Goals as goal
 pub returns : goal.returns
 returns c =
     let said : Object = DiskRecord (record { name = c.args.name; device = c.referred-device.result; slot = c.number-slot.result; publen = c.number-publen.result }) in
-    let same = link c.referred-device.ensures (link c.number-slot.ensures (link c.number-publen.ensures (fit_end (columns kinds.Dm) c.args.attrs.now c.requires))) in
-    (said, ap (λ (attrs : List Attr). record { kind = kinds.Dm; name = c.args.name; attrs = attrs }) (sym same), rw c.as_byte.ensures refl)
+    let same = link c.referred-device.ensures (link c.number-slot.ensures.there (link c.number-publen.ensures.there (fit_end (columns kinds.Dm) c.args.attrs.now c.requires))) in
+    (said, (ap (λ (attrs : List Attr). record { kind = kinds.Dm; name = c.args.name; attrs = attrs }) (sym same), and_from _ _ c.number-slot.ensures.short c.number-publen.ensures.short), rw c.as_byte.ensures refl)

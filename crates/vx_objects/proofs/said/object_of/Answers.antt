@@ -1,4 +1,4 @@
-use Rattle.std.proofs.Common.{◌∙◌, ap, sym}
+use Rattle.std.proofs.Common.{◌∙◌, ap, sym, refl}
 use Rattle.vx_parts.specs.declared.group.Group.{Group}
 use Rattle.vx_parts.specs.declared.object.Object.{Object}
 use Rattle.vx_parts.specs.declared.object.Object.TheVariants.{GroupRecord}
@@ -8,4 +8,4 @@ use Rattle.vx_objects.proofs.said.object_of.Goals as goal
 pub returns-in-Dg : goal.returns-in-Dg
 returns-in-Dg c =
     let said : Object = GroupRecord (record { name = c.entry.inside.name; version = 1 }) in
-    (said, group_read c.entry.inside.kind c.entry.inside.name c.entry.inside.attrs c.entry.invariant c.in-Dg.is ∙ c.entry.view_is, ap (λ (g : Group). GroupRecord g) (sym c.group_of.ensures))
+    (said, (group_read c.entry.inside.kind c.entry.inside.name c.entry.inside.attrs c.entry.invariant c.in-Dg.is ∙ c.entry.view_is, refl), ap (λ (g : Group). GroupRecord g) (sym c.group_of.ensures))

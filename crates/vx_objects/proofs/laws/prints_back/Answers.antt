@@ -1,0 +1,5 @@
+use Rattle.vx_objects.proofs.Back.{prints_back}
+use Rattle.vx_objects.proofs.laws.prints_back.Goals as goal
+
+pub returns : goal.returns
+returns c = prints_back

@@ -1,0 +1,5 @@
+use Rattle.vx_objects.proofs.Back.{refuses_none}
+use Rattle.vx_objects.proofs.laws.refuses_none.Goals as goal
+
+pub returns : goal.returns
+returns c = refuses_none

@@ -41,7 +41,8 @@ const RULES: [Rule; 19] = [
 ];
 
 /// The refusal of a configuration with these records: the first rule that is broken, with the first record that breaks
-/// it. There is none where they are valid.
+/// it. There is none where they are valid. Of n records it takes n log n steps, and a few walks for each of the at most
+/// 64 volumes.
 pub fn first_broken(alloc: Global, all: &[Object]) -> Result<Option<ObjectFault>, OutOfMemory>
     ensures { IfOk result (λ fault. fault ≡ first_broken all.now) }
 {

@@ -1,4 +1,4 @@
-ghost use Rattle.std.specs.Prelude.{◌≡◌, None, Some, [], IfOk, MatchResult, List, ℕ, option_map, take, drop};
+ghost use Rattle.std.specs.Prelude.{◌≡◌, None, Some, [], IfOk, MatchResult, List, ℕ};
 ghost use Rattle.std.specs.BTreeMap.{get};
 ghost use Rattle.std.specs.Cmp.Lexicographic.{slice_cmp};
 ghost use Rattle.std.specs.Ordering.{nat_cmp};

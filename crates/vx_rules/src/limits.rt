@@ -85,7 +85,7 @@ fn is_short(number: u64) -> bool
     number < 1_099_511_627_776
 }
 
-/// The slot is below 32, and no other disk has it.
+/// The slot is below 32, and no other disk has it. So at most 33 disks are looked at until one breaks the rule.
 pub(crate) fn slot_is_own(all: &[Object], object: &Object) -> bool
     ensures { result ≡ slot_is_own all.now object.now }
 {

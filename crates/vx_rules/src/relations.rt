@@ -9,7 +9,8 @@ use crate::index::Index;
 use vx_names::Name;
 use vx_parts::{Limit, Object, ObjectFault, Snap, same};
 
-/// A snapshot has one relation, and its original is no snapshot.
+/// A snapshot has one relation, and its original is no snapshot. So at most as many relations are looked at as there are
+/// volumes, and one more.
 pub(crate) fn relation_fault(all: &[Object], object: &Object) -> Option<ObjectFault>
     ensures { result ≡ relation_fault all.now object.now }
 {

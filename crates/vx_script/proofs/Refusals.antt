@@ -1,8 +1,8 @@
 -- Where a script has a fault.
-use Rattle.std.proofs.Common.{◌≡◌, ◌∙◌, sym, ap, subst, refl, ℕ, ◌+◌, ◌⊎◌, inl, inr, false, cond, leb, Option, Some, None, Result, Ok, Err, List, [], ◌∷◌, length, codes, arith}
+use Rattle.std.proofs.Common.{true, ◌≡◌, ◌∙◌, sym, ap, subst, refl, ℕ, ◌+◌, ◌⊎◌, inl, inr, cond, leb, Option, Some, None, Result, Ok, Err, List, [], ◌∷◌, length, codes, arith, not}
 use Rattle.std.specs.Prelude.{◌&&◌}
 use Rattle.std.specs.Str.{bytes_eq}
-use Rattle.vx_script.specs.Fault.{IsNoLine, IsRefusedInside, IsRefused, IsRefusal, IsUnfinished, IsFault}
+use Rattle.vx_script.specs.Fault.{is_too_much, IsNoLine, IsRefusedCall, IsRefusedInside, IsRefusedBy, IsRefused, IsRefusal, IsUnfinished, IsFault}
 use Rattle.vx_script.specs.Lines.{bad_word, is_passed_over, lines_of}
 use Rattle.vx_script.specs.Script.{Place, Faults, commands_from, finished, script_of, stepped}
 use Rattle.vx_script.specs.Steps.{or_bad, closed_step, making_step, line_of_session, session_line, line_calls, line_sectors, added, ended, inside_step, open_step, step}
@@ -25,7 +25,7 @@ bad_there (Some n) reader left e = cc
 
 closed_refusal : (done : List Command) (line : List ℕ) (left : ℕ) → closed_step done line ≡ Err left → IsRefused Closed line left
 closed_refusal done line left e = elim (chosen (is_passed_over line) _ _ _ e) [
-  | inl c ↦ inl (bad_there (bad_word line) _ left c.1)
+  | inl c ↦ inl (c.0, bad_there (bad_word line) _ left c.1)
   | inr c ↦ inr (c.0, command_place done line left c.1)
 ]
 
@@ -39,10 +39,10 @@ left_over : {A : Type 0} (x : A) (text : List ℕ) (left : ℕ) → nothing_left
 left_over x [] left e = absurd cc
 left_over x (b ∷ bs) left e = cc
 
-added_refusal : (done : List Command) (cut : Option ℕ) (sessions : ℕ) (lines : List Line) (calls sectors whole : ℕ) (l : Line) (left : ℕ) → added done cut sessions lines calls sectors whole l ≡ Err left → left ≡ whole
-added_refusal done cut sessions lines calls sectors whole l left e = elim (chosen (leb (calls + line_calls l) 65536 && leb (sectors + line_sectors l) 262144) _ _ _ e) [
+added_refusal : (done : List Command) (cut : Option ℕ) (sessions : ℕ) (lines : List Line) (so_many so_long whole : ℕ) (l : Line) (left : ℕ) → added done cut sessions lines so_many so_long whole l ≡ Err left → (is_too_much so_many so_long l ≡ true) × (left ≡ whole)
+added_refusal done cut sessions lines so_many so_long whole l left e = elim (chosen (leb (so_many + line_calls l) 65536 && leb (so_long + line_sectors l) 262144) _ _ _ e) [
   | inl c ↦ absurd cc
-  | inr c ↦ let there = c.1 in cc
+  | inr c ↦ let there = c.1 in (ap not c.0, cc)
 ]
 
 session_refusal : (sessions : ℕ) (text : List ℕ) (left : ℕ) → session_line sessions text ≡ Err left → ((within 0 sessions (number_of (first_word text)) ≡ None) × (left ≡ length text)) ⊎ IsNoLine sessions text left
@@ -53,22 +53,24 @@ session_refusal sessions text left e = by_session (within 0 sessions (number_of 
     by_session None same e = inl (same, cc)
     by_session (Some session) same e = inr (session, same, session_place session (past_word text) left e)
 
-inside_refusal : (done : List Command) (cut : Option ℕ) (sessions : ℕ) (lines : List Line) (calls sectors : ℕ) (line : List ℕ) (left : ℕ) → inside_step done cut sessions lines calls sectors line ≡ Err left → (bad_word line ≡ Some left) ⊎ ((is_passed_over line ≡ false) × IsRefusedInside sessions line left)
-inside_refusal done cut sessions lines calls sectors line left e = elim (chosen (is_passed_over line) _ _ _ e) [
-  | inl c ↦ inl (bad_there (bad_word line) _ left c.1)
+inside_refusal : (done : List Command) (cut : Option ℕ) (sessions : ℕ) (lines : List Line) (so_many so_long : ℕ) (line : List ℕ) (left : ℕ) → inside_step done cut sessions lines so_many so_long line ≡ Err left → IsRefusedBy line left (IsRefusedInside sessions so_many so_long line left)
+inside_refusal done cut sessions lines so_many so_long line left e = elim (chosen (is_passed_over line) _ _ _ e) [
+  | inl c ↦ inl (c.0, bad_there (bad_word line) _ left c.1)
   | inr c ↦ inr (c.0, by_end c.1)
 ]
   where
-    by_line : (r : Result Line ℕ) → session_line sessions (from_word line) ≡ r → and_then r (added done cut sessions lines calls sectors (length line)) ≡ Err left → IsRefusedInside sessions line left
-    by_line (Ok l) same e = inr (inr (inr (l, same, added_refusal done cut sessions lines calls sectors (length line) l left e)))
+    by_line : (r : Result Line ℕ) → session_line sessions (from_word line) ≡ r → and_then r (added done cut sessions lines so_many so_long (length line)) ≡ Err left → IsRefusedCall sessions so_many so_long line left
+    by_line (Ok l) same e =
+        let a = added_refusal done cut sessions lines so_many so_long (length line) l left e in
+        inr (inr (l, same, a.0, a.1))
     by_line (Err n) same e =
         let at : n ≡ left = cc in
-        elim (session_refusal sessions (from_word line) left (same ∙ ap (λ (m : ℕ). Err m) at)) [ inl k ↦ inr (inl k) | inr k ↦ inr (inr (inl k)) ]
+        elim (session_refusal sessions (from_word line) left (same ∙ ap (λ (m : ℕ). Err m) at)) [ inl k ↦ inl k | inr k ↦ inr (inl k) ]
 
-    by_end : (cond (bytes_eq (first_word (from_word line)) (codes "end")) (ended done cut sessions lines (past_word (from_word line))) (and_then (session_line sessions (from_word line)) (added done cut sessions lines calls sectors (length line)))) ≡ Err left → IsRefusedInside sessions line left
+    by_end : cond (bytes_eq (first_word (from_word line)) (codes "end")) (ended done cut sessions lines (past_word (from_word line))) (and_then (session_line sessions (from_word line)) (added done cut sessions lines so_many so_long (length line))) ≡ Err left → IsRefusedInside sessions so_many so_long line left
     by_end e = elim (chosen (bytes_eq (first_word (from_word line)) (codes "end")) _ _ _ e) [
       | inl d ↦ inl (d.0, left_over _ (from_word (past_word (from_word line))) left d.1)
-      | inr d ↦ by_line (session_line sessions (from_word line)) refl d.1
+      | inr d ↦ inr (d.0, by_line (session_line sessions (from_word line)) refl d.1)
     ]
 
 open_refusal : (o : Open) (done : List Command) (line : List ℕ) (left : ℕ) → open_step o done line ≡ Err left → IsRefused o line left

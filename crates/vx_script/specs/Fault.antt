@@ -1,9 +1,9 @@
 -- What a fault of a script names: the first line that is refused, and in it the place; or where a script ends too early.
-use Rattle.std.specs.Prelude.{◌≡◌, ◌⊎◌, ◌≢◌, ℕ, ◌+◌, ◌-◌, ◌==◌, if◌then◌else◌, true, false, Some, None, Ok, List, [], ◌∷◌, ◌++◌, length, codes}
+use Rattle.std.specs.Prelude.{◌≡◌, ◌⊎◌, ◌≢◌, ℕ, ◌+◌, ◌-◌, ◌==◌, ◌&&◌, nat_le, not, Bool, if◌then◌else◌, true, false, Some, None, Ok, List, [], ◌∷◌, ◌++◌, length, codes}
 use Rattle.std.specs.Str.{bytes_eq}
 use Rattle.vx_script.specs.Lines.{bad_word, is_passed_over, lines_of}
 use Rattle.vx_script.specs.Place.{IsPlace}
-use Rattle.vx_script.specs.Steps.{session_line, step}
+use Rattle.vx_script.specs.Steps.{line_calls, line_sectors, session_line, step}
 use Rattle.vx_script.specs.declared.fault.ScriptFault.{ScriptFault}
 use Rattle.vx_script.specs.declared.fault.ScriptFault.TheVariants as fault
 use Rattle.vx_script.specs.declared.reader.Open.{Open}
@@ -18,21 +18,36 @@ use Rattle.vx_script_words.specs.Words.{from_word, first_word, past_word}
 abbrev pub IsNoLine : ℕ → List ℕ → ℕ → Type 0
 IsNoLine sessions text left = (session : ℕ) × (within 0 sessions (number_of (first_word text)) ≡ Some session) × IsPlace false (if session == 0 then acts else calls) (past_word text) left
 
--- why a line of a block is refused, and how much of it is left: a word behind `end`, a first word that is no session, words
--- behind it, or the line as a whole where it would pass the calls or the sectors of a block
-abbrev pub IsRefusedInside : ℕ → List ℕ → ℕ → Type 0
-IsRefusedInside sessions line left =
-    ((bytes_eq (first_word (from_word line)) (codes "end") ≡ true) × (left ≡ length (from_word (past_word (from_word line)))))
-    ⊎ (((within 0 sessions (number_of (first_word (from_word line))) ≡ None) × (left ≡ length (from_word line)))
-    ⊎ (IsNoLine sessions (from_word line) left
-    ⊎ ((l : Line) × (session_line sessions (from_word line) ≡ Ok l) × (left ≡ length line))))
+-- the line would pass the calls or the sectors of a block
+abbrev pub is_too_much : ℕ → ℕ → Line → Bool
+is_too_much so_many so_long l = not (nat_le (so_many + line_calls l) 65536 && nat_le (so_long + line_sectors l) 262144)
 
--- why a line is refused, and how much of it is left; a comment, a line without words and one of `vxmake` is so only where a
--- word has a byte outside the alphabet
+-- why a line of a block that is no `end` is refused: its first word is no session, the words behind it do not fit, or it is too
+-- much, which is a fault of the whole line
+abbrev pub IsRefusedCall : ℕ → ℕ → ℕ → List ℕ → ℕ → Type 0
+IsRefusedCall sessions so_many so_long line left =
+    ((within 0 sessions (number_of (first_word (from_word line))) ≡ None) × (left ≡ length (from_word line)))
+    ⊎ (IsNoLine sessions (from_word line) left
+    ⊎ ((l : Line) × (session_line sessions (from_word line) ≡ Ok l) × (is_too_much so_many so_long l ≡ true) × (left ≡ length line)))
+
+-- the line is `end` with words behind it
+abbrev pub IsRefusedEnd : List ℕ → ℕ → Type 0
+IsRefusedEnd line left = left ≡ length (from_word (past_word (from_word line)))
+
+abbrev pub IsRefusedInside : ℕ → ℕ → ℕ → List ℕ → ℕ → Type 0
+IsRefusedInside sessions so_many so_long line left =
+    ((bytes_eq (first_word (from_word line)) (codes "end") ≡ true) × IsRefusedEnd line left)
+    ⊎ ((bytes_eq (first_word (from_word line)) (codes "end") ≡ false) × IsRefusedCall sessions so_many so_long line left)
+
+-- a comment or a line without words is refused where a word has a byte outside the alphabet, another line by its words
+abbrev pub IsRefusedBy : List ℕ → ℕ → Type 0 → Type 0
+IsRefusedBy line left Words = ((is_passed_over line ≡ true) × (bad_word line ≡ Some left)) ⊎ ((is_passed_over line ≡ false) × Words)
+
+-- why a line is refused, and how much of it is left from its place on
 abbrev pub IsRefused : Open → List ℕ → ℕ → Type 0
-IsRefused Closed line left = (bad_word line ≡ Some left) ⊎ ((is_passed_over line ≡ false) × IsPlace true commands line left)
+IsRefused Closed line left = IsRefusedBy line left (IsPlace true commands line left)
 IsRefused (Making _ _ _) line left = bad_word line ≡ Some left
-IsRefused (Inside _ sessions _ _ _) line left = (bad_word line ≡ Some left) ⊎ ((is_passed_over line ≡ false) × IsRefusedInside sessions line left)
+IsRefused (Inside _ sessions _ so_many so_long) line left = IsRefusedBy line left (IsRefusedInside sessions so_many so_long line left)
 
 -- the lines lead from one state of the reader to another
 abbrev pub Leads : Reader → List (List ℕ) → Reader → Type 0

@@ -3,4 +3,5 @@ pub mod Faults
 pub mod Keeping
 pub mod Made
 pub mod Placed
+pub mod Refusals
 pub mod Splits

@@ -1,4 +1,5 @@
 pub mod Choice
+pub mod Fault
 pub mod Kept
 pub mod Lines
 pub mod Place

@@ -1,4 +1,5 @@
-ghost use Rattle.std.specs.Prelude.{◌≡◌, ◌+◌, ◌^◌, ◌<◌, MatchResult, Ok, IsTrue};
+ghost use Rattle.std.specs.Prelude.{◌≡◌, ◌+◌, ◌^◌, ◌<◌, MatchResult, IfErr, Ok, IsTrue};
+ghost use Rattle.vx_script.specs.Fault.{IsFault};
 ghost use Rattle.vx_script.specs.Kept.{is_kept};
 ghost use Rattle.vx_script.specs.Script.{script_of, Faults, finished};
 
@@ -20,7 +21,8 @@ pub struct Script {
 /// line with the same earlier words has, or the byte behind the line where it ends too early.
 #[tactic(auto, unfolding(crate::specs::Script::script_of))]
 pub fn read(alloc: Global, text: &[u8]) -> Result<Script, ScriptFault>
-    ensures { MatchResult result (λ script. script_of text.now ≡ Ok script.commands) (λ fault. Faults fault (script_of text.now)) }
+    ensures value { MatchResult result (λ script. script_of text.now ≡ Ok script.commands) (λ fault. Faults fault (script_of text.now)) }
+    ensures place { IfErr result (IsFault text.now) }
 {
     let mut reader = Reader {
         done: Commands::from_vec(Vec::new(alloc)),

@@ -1,4 +1,5 @@
 pub mod Nearest
 pub mod Places
+pub mod Said
 pub mod Sectors
 pub mod Spelled

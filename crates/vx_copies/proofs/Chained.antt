@@ -1,0 +1,263 @@
+-- The chain of a group's copies, where a pass writes toggles that name every disk that was good.
+use Rattle.std.proofs.Common.{◌≡◌, ◌⊎◌, ℕ, ◌<◌, ◌≤◌, Bool, true, false, List, [], ◌∷◌, ◌++◌, map, Option, Some, None, refl, sym, ap, ◌∙◌, subst, arith, inl, inr}
+use Rattle.std.specs.Prelude.{IsTrue, MatchOption}
+use Rattle.vx_base.specs.Blocks.{Contents}
+use Rattle.vx_mask.specs.Mask.{has}
+use Rattle.vx_piece.specs.Seen.{Seen}
+use Rattle.vx_copies.specs.Lists.{Each, AllOf, AnyOf}
+use Rattle.vx_copies.specs.Image.{Offer, offer_told}
+use Rattle.vx_copies.specs.Disks.{Held, Drops, Stays, StaysTold, Stamps, OffersJust}
+use Rattle.vx_copies.specs.Chain.{Copy, copy_of, AllUpTo, NamesNewer, IsChained, NamesGood, IsSound}
+
+abbrev IfOffer : (Offer → Type 0) → Copy → Type 0
+IfOffer Q c = MatchOption c.offer (Unit {0}) Q
+
+-- where a copy is one of the newest, it names the slot
+abbrev NewestNames : List Copy → ℕ → Copy → Type 0
+NewestNames copies x c = IfOffer (λ o. AllUpTo o.sequence copies → has o.good x ≡ true) c
+
+abbrev Linked : List Copy → Copy → Type 0
+Linked copies c = IfOffer (λ o. AllUpTo o.sequence copies ⊎ NamesNewer o copies) c
+
+if_offer : (Q : Offer → Type 0) (c : Copy) (o : Offer) → c.offer ≡ Some o → MatchOption c.offer (Unit {0}) Q → Q o
+if_offer Q c o e is = subst (λ x. MatchOption x (Unit {0}) Q) e is
+
+same_copy : (c d : Copy) → d.slot ≡ c.slot → d.offer ≡ c.offer → d ≡ c
+same_copy c d p q = λ i. record { slot = p i; offer = q i }
+
+all_map : {X : Type 0} (Q R : X → Type 0) → ((x : X) → Q x → R x) → (xs : List X) → AllOf Q xs → AllOf R xs
+all_map Q R f [] all = tt
+all_map Q R f (x ∷ xs) all = (f x all.0, all_map Q R f xs all.1)
+
+module _ (old : List Copy) (last sequence mask : ℕ) (text : List ℕ) (later : last < sequence) where
+  the_new : Offer
+  the_new = record { sequence = sequence; good = mask; text = text }
+
+  -- a copy is the old one, or the new one, where the newest of the old ones name its slot
+  abbrev Turned : Copy → Copy → Type 0
+  Turned c d = (d.slot ≡ c.slot) × ((d.offer ≡ c.offer) ⊎ ((d.offer ≡ Some (record { sequence = sequence; good = mask; text = text })) × AllOf (NewestNames old c.slot) old))
+
+  -- the new copies go up to the new sequence
+  up_to_one : (c d : Copy) → Turned c d → IfOffer (λ o. o.sequence ≤ last) c → IfOffer (λ o. o.sequence ≤ sequence) d
+  up_to_one c d (slot, inl same) up = subst (λ x. MatchOption x (Unit {0}) (λ o. o.sequence ≤ sequence)) (sym same) (weaker c.offer up)
+    where
+      weaker : (x : Option Offer) → MatchOption x (Unit {0}) (λ o. o.sequence ≤ last) → MatchOption x (Unit {0}) (λ o. o.sequence ≤ sequence)
+      weaker None is = tt
+      weaker (Some o) is = let le : o.sequence ≤ sequence = omega (arith, is, later) in le
+  up_to_one c d (slot, inr new) up = subst (λ x. MatchOption x (Unit {0}) (λ o. o.sequence ≤ sequence)) (sym new.0) (let le : sequence ≤ sequence = omega arith in le)
+
+  pub up_to_all : (cs ds : List Copy) → Each Turned cs ds → AllUpTo last cs → AllUpTo sequence ds
+  up_to_all [] [] is up = tt
+  up_to_all [] (d ∷ ds) is up = absurd is
+  up_to_all (c ∷ cs) [] is up = absurd is
+  up_to_all (c ∷ cs) (d ∷ ds) is up = (up_to_one c d is.0 up.0, up_to_all cs ds is.1 up.1)
+
+  -- a new copy among them
+  pub record IsTurned (d : Copy) : Type 0 where
+    pub offer : d.offer ≡ Some (record { sequence = sequence; good = mask; text = text })
+    pub named : AllOf (NewestNames old d.slot) old
+
+  turned_one : (c d : Copy) → Turned c d → (d ≡ c) ⊎ IsTurned d
+  turned_one c d (slot, inl same) = inl (same_copy c d slot same)
+  turned_one c d (slot, inr new) = inr (record { offer = new.0; named = subst (λ x. AllOf (NewestNames old x) old) (sym slot) new.1 })
+
+  pub turned_or_not : (cs ds : List Copy) → Each Turned cs ds → (ds ≡ cs) ⊎ AnyOf IsTurned ds
+  turned_or_not [] [] is = inl refl
+  turned_or_not [] (d ∷ ds) is = absurd is
+  turned_or_not (c ∷ cs) [] is = absurd is
+  turned_or_not (c ∷ cs) (d ∷ ds) is = elim (turned_one c d is.0) [
+    | inr new ↦ inr (inl new)
+    | inl same ↦ elim (turned_or_not cs ds is.1) [
+      | inr new ↦ inr (inr new)
+      | inl rest ↦ inl (ap (λ x. x ∷ ds) same ∙ ap (λ xs. c ∷ xs) rest)
+    ]
+  ]
+
+  -- what named a newer copy still does
+  newer_stays : (o : Offer) → o.sequence ≤ last → (cs ds : List Copy) → Each Turned cs ds → NamesNewer o cs → NamesNewer o ds
+  newer_stays o le [] ds is newer = absurd newer
+  newer_stays o le (c ∷ cs) [] is newer = absurd is
+  newer_stays o le (c ∷ cs) (d ∷ ds) is (inr newer) = inr (newer_stays o le cs ds is.1 newer)
+  newer_stays o le (c ∷ cs) (d ∷ ds) is (inl newer) = inl (ap (has o.good) is.0.0 ∙ newer.0, above is.0.1)
+    where
+      above : ((d.offer ≡ c.offer) ⊎ ((d.offer ≡ Some (record { sequence = sequence; good = mask; text = text })) × AllOf (NewestNames old c.slot) old)) → MatchOption d.offer ⊥ (λ p. o.sequence < p.sequence)
+      above (inl same) = subst (λ x. MatchOption x ⊥ (λ p. o.sequence < p.sequence)) (sym same) newer.1
+      above (inr new) = subst (λ x. MatchOption x ⊥ (λ p. o.sequence < p.sequence)) (sym new.0) (let lt : o.sequence < sequence = omega (arith, le, later) in lt)
+
+  -- one of the newest old ones names a new copy
+  names_turned : (o : Offer) (c : Copy) → c.offer ≡ Some o → o.sequence ≤ last → AllUpTo o.sequence old → ((x : ℕ) → AllOf (NewestNames old x) old → NewestNames old x c) → (ds : List Copy) → AnyOf IsTurned ds → NamesNewer o ds
+  names_turned o c e le top at [] any = absurd any
+  names_turned o c e le top at (d ∷ ds) (inr any) = inr (names_turned o c e le top at ds any)
+  names_turned o c e le top at (d ∷ ds) (inl new) = inl (if_offer (λ o. AllUpTo o.sequence old → has o.good d.slot ≡ true) c o e (at d.slot new.named) top, subst (λ x. MatchOption x ⊥ (λ p. o.sequence < p.sequence)) (sym new.offer) (let lt : o.sequence < sequence = omega (arith, le, later) in lt))
+
+  module _ (new : List Copy) (turned : Each Turned old new) (any : AnyOf IsTurned new) (up : AllUpTo sequence new) where
+    linked_one : (c d : Copy) → Turned c d → ((x : ℕ) → AllOf (NewestNames old x) old → NewestNames old x c) → IfOffer (λ o. o.sequence ≤ last) c → Linked old c → Linked new d
+    linked_one c d (slot, inr is) at low link = subst (λ x. MatchOption x (Unit {0}) (λ o. AllUpTo o.sequence new ⊎ NamesNewer o new)) (sym is.0) (inl up)
+    linked_one c d (slot, inl same) at low link = subst (λ x. MatchOption x (Unit {0}) (λ o. AllUpTo o.sequence new ⊎ NamesNewer o new)) (sym same) (by c.offer refl low link)
+      where
+        by : (x : Option Offer) → c.offer ≡ x → MatchOption x (Unit {0}) (λ o. o.sequence ≤ last) → MatchOption x (Unit {0}) (λ o. AllUpTo o.sequence old ⊎ NamesNewer o old) → MatchOption x (Unit {0}) (λ o. AllUpTo o.sequence new ⊎ NamesNewer o new)
+        by None e low link = tt
+        by (Some o) e low (inl top) = inr (names_turned o c e low top at new any)
+        by (Some o) e low (inr newer) = inr (newer_stays o low old new turned newer)
+
+    -- the copies from some place on
+    linked_all : (cs ds : List Copy) → Each Turned cs ds → ((x : ℕ) → AllOf (NewestNames old x) old → AllOf (NewestNames old x) cs) → AllUpTo last cs → AllOf (Linked old) cs → AllOf (Linked new) ds
+    linked_all [] [] is at low links = tt
+    linked_all [] (d ∷ ds) is at low links = absurd is
+    linked_all (c ∷ cs) [] is at low links = absurd is
+    linked_all (c ∷ cs) (d ∷ ds) is at low links = (linked_one c d is.0 (λ x all. (at x all).0) low.0 links.0, linked_all cs ds is.1 (λ x all. (at x all).1) low.1 links.1)
+
+    pub chained_after : IsChained old → AllUpTo last old → IsChained new
+    chained_after chained low = linked_all old new turned (λ x all. all) low chained
+
+    -- what is newest now is new
+    not_low : (o : Offer) → o.sequence ≤ last → (ds : List Copy) → AnyOf IsTurned ds → AllUpTo o.sequence ds → ⊥
+    not_low o low [] any top = any
+    not_low o low (d ∷ ds) (inr any) top = not_low o low ds any top.1
+    not_low o low (d ∷ ds) (inl new) top = let le : sequence ≤ o.sequence = if_offer (λ p. p.sequence ≤ o.sequence) d (record { sequence = sequence; good = mask; text = text }) new.offer top.0 in omega (arith, le, low, later)
+
+    newest_one : (bs : List Held) → AllOf (λ h. IsTrue h.good → has mask h.slot ≡ true) bs → (c d : Copy) → Turned c d → IfOffer (λ o. o.sequence ≤ last) c → IfOffer (λ o. AllUpTo o.sequence new → NamesGood o bs) d
+    newest_one bs names c d (slot, inr is) low = subst (λ x. MatchOption x (Unit {0}) (λ o. AllUpTo o.sequence new → NamesGood o bs)) (sym is.0) (λ top. names)
+    newest_one bs names c d (slot, inl same) low = subst (λ x. MatchOption x (Unit {0}) (λ o. AllUpTo o.sequence new → NamesGood o bs)) (sym same) (by c.offer low)
+      where
+        by : (x : Option Offer) → MatchOption x (Unit {0}) (λ o. o.sequence ≤ last) → MatchOption x (Unit {0}) (λ o. AllUpTo o.sequence new → NamesGood o bs)
+        by None low = tt
+        by (Some o) low = λ top. absurd (not_low o low new any top)
+
+    pub newest_after : (bs : List Held) → AllOf (λ h. IsTrue h.good → has mask h.slot ≡ true) bs → (cs ds : List Copy) → Each Turned cs ds → AllUpTo last cs → AllOf (IfOffer (λ o. AllUpTo o.sequence new → NamesGood o bs)) ds
+    newest_after bs names [] [] is low = tt
+    newest_after bs names [] (d ∷ ds) is low = absurd is
+    newest_after bs names (c ∷ cs) [] is low = absurd is
+    newest_after bs names (c ∷ cs) (d ∷ ds) is low = (newest_one bs names c d is.0 low.0, newest_after bs names cs ds is.1 low.1)
+
+-- members that stay: their copies are the same, and no more of them are good
+was_good : (x y : Bool) (a b : Seen) → Drops x y a b → IsTrue y → IsTrue x
+was_good x true a b d is = d
+was_good x false a b d is = cc
+
+told_same : (a b : Option Contents) → StaysTold a b → offer_told b ≡ offer_told a
+told_same None None is = refl
+told_same None (Some b) is = absurd is
+told_same (Some a) None is = absurd is
+told_same (Some a) (Some b) is = is.2
+
+pub copies_stay : (hs bs : List Held) → Each Stays hs bs → map copy_of bs ≡ map copy_of hs
+copies_stay [] [] is = refl
+copies_stay [] (b ∷ bs) is = absurd is
+copies_stay (a ∷ hs) [] is = absurd is
+copies_stay (a ∷ hs) (b ∷ bs) is = ap (λ c. c ∷ map copy_of bs) (same_copy (copy_of a) (copy_of b) is.0.slot (told_same a.seen.told b.seen.told is.0.told)) ∙ ap (λ cs. copy_of a ∷ cs) (copies_stay hs bs is.1)
+
+-- a disk that is good was good, with its slot
+abbrev WasGood : Held → Held → Type 0
+WasGood a b = (b.slot ≡ a.slot) × (IsTrue b.good → IsTrue a.good)
+
+pub still_named : (m : ℕ) (hs bs : List Held) → Each WasGood hs bs → AllOf (λ h. IsTrue h.good → has m h.slot ≡ true) hs → AllOf (λ h. IsTrue h.good → has m h.slot ≡ true) bs
+still_named m [] [] is names = tt
+still_named m [] (b ∷ bs) is names = absurd is
+still_named m (a ∷ hs) [] is names = absurd is
+still_named m (a ∷ hs) (b ∷ bs) is names = (λ good. ap (has m) is.0.0 ∙ names.0 (is.0.1 good), still_named m hs bs is.1 names.1)
+
+pub stays_was : (hs bs : List Held) → Each Stays hs bs → Each WasGood hs bs
+stays_was [] [] is = tt
+stays_was [] (b ∷ bs) is = absurd is
+stays_was (a ∷ hs) [] is = absurd is
+stays_was (a ∷ hs) (b ∷ bs) is = ((is.0.slot, was_good a.good b.good a.seen b.seen is.0.good), stays_was hs bs is.1)
+
+pub stamps_was : (s m : ℕ) (text : List ℕ) (hs bs : List Held) → Each (Stamps s m text) hs bs → Each WasGood hs bs
+stamps_was s m text [] [] is = tt
+stamps_was s m text [] (b ∷ bs) is = absurd is
+stamps_was s m text (a ∷ hs) [] is = absurd is
+stamps_was s m text (a ∷ hs) (b ∷ bs) is = ((is.0.slot, was_good a.good b.good a.seen b.seen is.0.good), stamps_was s m text hs bs is.1)
+
+-- the newest name the good disks that are left
+newest_left : (copies : List Copy) (hs bs : List Held) → Each WasGood hs bs → (cs : List Copy) → AllOf (IfOffer (λ o. AllUpTo o.sequence copies → NamesGood o hs)) cs → AllOf (IfOffer (λ o. AllUpTo o.sequence copies → NamesGood o bs)) cs
+newest_left copies hs bs was cs all = all_map _ _ (λ c. by c.offer) cs all
+  where
+    by : (x : Option Offer) → MatchOption x (Unit {0}) (λ o. AllUpTo o.sequence copies → NamesGood o hs) → MatchOption x (Unit {0}) (λ o. AllUpTo o.sequence copies → NamesGood o bs)
+    by None is = tt
+    by (Some o) is = λ top. still_named o.good hs bs was (is top)
+
+pub sound_stays : (others : List Copy) (last : ℕ) (hs bs : List Held) → Each Stays hs bs → IsSound others last hs → IsSound others last bs
+sound_stays others last hs bs stays sound =
+    let same : others ++ map copy_of hs ≡ others ++ map copy_of bs = ap (λ cs. others ++ cs) (sym (copies_stay hs bs stays)) in
+    record {
+      chained = subst IsChained same sound.chained;
+      newest = subst (λ cs. AllOf (IfOffer (λ o. AllUpTo o.sequence cs → NamesGood o bs)) cs) same (newest_left _ hs bs (stays_was hs bs stays) _ sound.newest);
+      up_to = subst (AllUpTo last) same sound.up_to;
+    }
+
+pub sound_later : (others : List Copy) (last later : ℕ) (hs : List Held) → last ≤ later → IsSound others last hs → IsSound others later hs
+sound_later others last later hs le sound = record { chained = sound.chained; newest = sound.newest; up_to = all_map _ _ (λ c. by c.offer) _ sound.up_to }
+  where
+    by : (x : Option Offer) → MatchOption x (Unit {0}) (λ o. o.sequence ≤ last) → MatchOption x (Unit {0}) (λ o. o.sequence ≤ later)
+    by None is = tt
+    by (Some o) is = let r : o.sequence ≤ later = omega (arith, is, le) in r
+
+module _ (others : List Copy) (last sequence mask : ℕ) (text : List ℕ) (later : last < sequence) where
+  -- a good member's slot is named by the newest
+  named_member : (copies : List Copy) (h : Held) → IsTrue h.good → (cs : List Copy) → AllOf (IfOffer (λ o. AllUpTo o.sequence copies → IsTrue h.good → has o.good h.slot ≡ true)) cs → AllOf (NewestNames copies h.slot) cs
+  named_member copies h good cs all = all_map _ _ (λ c. by c.offer) cs all
+    where
+      by : (x : Option Offer) → MatchOption x (Unit {0}) (λ o. AllUpTo o.sequence copies → IsTrue h.good → has o.good h.slot ≡ true) → MatchOption x (Unit {0}) (λ o. AllUpTo o.sequence copies → has o.good h.slot ≡ true)
+      by None is = tt
+      by (Some o) is = λ top. is top good
+
+  first_member : (copies : List Copy) (h : Held) (hs : List Held) (cs : List Copy) → AllOf (IfOffer (λ o. AllUpTo o.sequence copies → NamesGood o (h ∷ hs))) cs → AllOf (IfOffer (λ o. AllUpTo o.sequence copies → IsTrue h.good → has o.good h.slot ≡ true)) cs
+  first_member copies h hs cs all = all_map _ _ (λ c. by c.offer) cs all
+    where
+      by : (x : Option Offer) → MatchOption x (Unit {0}) (λ o. AllUpTo o.sequence copies → NamesGood o (h ∷ hs)) → MatchOption x (Unit {0}) (λ o. AllUpTo o.sequence copies → IsTrue h.good → has o.good h.slot ≡ true)
+      by None is = tt
+      by (Some o) is = λ top. (is top).0
+
+  other_members : (copies : List Copy) (h : Held) (hs : List Held) (cs : List Copy) → AllOf (IfOffer (λ o. AllUpTo o.sequence copies → NamesGood o (h ∷ hs))) cs → AllOf (IfOffer (λ o. AllUpTo o.sequence copies → NamesGood o hs)) cs
+  other_members copies h hs cs all = all_map _ _ (λ c. by c.offer) cs all
+    where
+      by : (x : Option Offer) → MatchOption x (Unit {0}) (λ o. AllUpTo o.sequence copies → NamesGood o (h ∷ hs)) → MatchOption x (Unit {0}) (λ o. AllUpTo o.sequence copies → NamesGood o hs)
+      by None is = tt
+      by (Some o) is = λ top. (is top).1
+
+  turn_one : (copies : List Copy) (a b : Held) → Stamps sequence mask text a b → AllOf (IfOffer (λ o. AllUpTo o.sequence copies → IsTrue a.good → has o.good a.slot ≡ true)) copies → Turned copies last sequence mask text later (copy_of a) (copy_of b)
+  turn_one copies a b is all = (is.slot, by a.seen.told b.seen.told is.offers)
+    where
+      by : (t u : Option Contents) → OffersJust sequence mask text a.good t u → (offer_told u ≡ offer_told t) ⊎ ((offer_told u ≡ Some (record { sequence = sequence; good = mask; text = text })) × AllOf (NewestNames copies a.slot) copies)
+      by None None is = inl refl
+      by None (Some u) is = absurd is
+      by (Some t) None is = absurd is
+      by (Some t) (Some u) (header, inl same) = inl same
+      by (Some t) (Some u) (header, inr just) = inr (just.1, named_member copies a just.0 copies all)
+
+  turn_members : (copies : List Copy) (hs bs : List Held) → Each (Stamps sequence mask text) hs bs → AllOf (IfOffer (λ o. AllUpTo o.sequence copies → NamesGood o hs)) copies → Each (Turned copies last sequence mask text later) (map copy_of hs) (map copy_of bs)
+  turn_members copies [] [] is all = tt
+  turn_members copies [] (b ∷ bs) is all = absurd is
+  turn_members copies (a ∷ hs) [] is all = absurd is
+  turn_members copies (a ∷ hs) (b ∷ bs) is all = (turn_one copies a b is.0 (first_member copies a hs copies all), turn_members copies hs bs is.1 (other_members copies a hs copies all))
+
+  turn_all : (copies os : List Copy) (hs bs : List Held) → Each (Stamps sequence mask text) hs bs → AllOf (IfOffer (λ o. AllUpTo o.sequence copies → NamesGood o hs)) copies → Each (Turned copies last sequence mask text later) (os ++ map copy_of hs) (os ++ map copy_of bs)
+  turn_all copies [] hs bs is all = turn_members copies hs bs is all
+  turn_all copies (o ∷ os) hs bs is all = ((refl, inl refl), turn_all copies os hs bs is all)
+
+  pub sound_stamps : (hs bs : List Held) → Each (Stamps sequence mask text) hs bs → AllOf (λ h. IsTrue h.good → has mask h.slot ≡ true) hs → IsSound others last hs → IsSound others sequence bs
+  sound_stamps hs bs stamps names sound = elim (turned_or_not old last sequence mask text later old new turned) [
+    | inl same ↦ record {
+      chained = subst IsChained (sym same) sound.chained;
+      newest = subst (λ cs. AllOf (IfOffer (λ o. AllUpTo o.sequence cs → NamesGood o bs)) cs) (sym same) (newest_left old hs bs (stamps_was sequence mask text hs bs stamps) old sound.newest);
+      up_to = up;
+    }
+    | inr any ↦ record {
+      chained = chained_after old last sequence mask text later new turned any up sound.chained sound.up_to;
+      newest = newest_after old last sequence mask text later new turned any up bs (still_named mask hs bs (stamps_was sequence mask text hs bs stamps) names) old new turned sound.up_to;
+      up_to = up;
+    }
+  ]
+    where
+      old : List Copy
+      old = others ++ map copy_of hs
+
+      new : List Copy
+      new = others ++ map copy_of bs
+
+      turned : Each (Turned (others ++ map copy_of hs) last sequence mask text later) (others ++ map copy_of hs) (others ++ map copy_of bs)
+      turned = turn_all (others ++ map copy_of hs) others hs bs stamps sound.newest
+
+      up : AllUpTo sequence (others ++ map copy_of bs)
+      up = up_to_all (others ++ map copy_of hs) last sequence mask text later (others ++ map copy_of hs) (others ++ map copy_of bs) turned sound.up_to

@@ -1,0 +1,9 @@
+pub mod Halves
+pub mod Going
+pub mod Placed
+pub mod Stopped
+pub mod Masks
+pub mod Chained
+pub mod Tried
+pub mod Chosen
+pub mod Left

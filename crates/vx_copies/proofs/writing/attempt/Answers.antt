@@ -1,0 +1,33 @@
+use Rattle.std.proofs.Common.{map, arith}
+use Rattle.vx_copies.specs.Disks.{held}
+use Rattle.vx_copies.specs.Pass.{HalvesEnd}
+use Rattle.vx_copies.specs.declared.disk.Pass.TheVariants.{Done}
+use Rattle.vx_copies.proofs.Going.{all_trans, stays_all, stamps_all, slots_stay}
+use Rattle.vx_copies.proofs.Chained.{sound_stays, sound_stamps, sound_later, still_named, stays_was}
+use Rattle.vx_copies.proofs.Masks.{good_named}
+use Rattle.vx_copies.proofs.Tried.{halves_tried, toggles_tried}
+use Rattle.vx_copies.proofs.writing.attempt.Goals as goal
+
+pub returns-in-Done-clause-goes : goal.returns-in-Done-clause-goes
+returns-in-Done-clause-goes g c = all_trans c.args.sequence c.args.sequence c.args.text.now _ _ _ (stays_all c.args.sequence c.args.sequence c.args.text.now _ _ c.put_halves.ensures.stays) (stamps_all c.args.sequence c.good_slots-mask.result c.args.text.now _ _ c.put_toggles.ensures.stamps)
+
+pub returns-in-Done-clause-sound : goal.returns-in-Done-clause-sound
+returns-in-Done-clause-sound g c = λ others last lt sound.
+    sound_stamps others last c.args.sequence c.good_slots-mask.result c.args.text.now lt _ _ c.put_toggles.ensures.stamps
+    (still_named c.good_slots-mask.result _ _ (stays_was _ _ c.put_halves.ensures.stays) (good_named c.good_slots-mask.result _ c.good_slots-mask.ensures))
+    (sound_stays others last _ _ c.put_halves.ensures.stays sound)
+
+pub returns-in-Done-clause-ends : goal.returns-in-Done-clause-ends
+returns-in-Done-clause-ends g c =
+    let ends : HalvesEnd Done c.args.text.now (map (held g.P.Piece.seen) c.args.disks.now) (map (held g.P.Piece.seen) c.put_halves.new.disks) = rw c.in-Done.is at c.put_halves.ensures.ends in
+    toggles_tried c.put_toggles.result c.args.sequence c.good_slots-mask.result c.args.text.now _ _ _ ends.2
+    (slots_stay c.args.sequence c.args.sequence c.args.text.now _ _ (all_trans c.args.sequence c.args.sequence c.args.text.now _ _ _ (stays_all c.args.sequence c.args.sequence c.args.text.now _ _ c.put_halves.ensures.stays) (stamps_all c.args.sequence c.good_slots-mask.result c.args.text.now _ _ c.put_toggles.ensures.stamps)))
+    c.good_slots-mask.ensures c.put_toggles.ensures.ends
+
+pub returns-in_default : goal.returns-in_default
+returns-in_default g c = record {
+  size = c.requires.size;
+  goes = stays_all c.args.sequence c.args.sequence c.args.text.now _ _ c.put_halves.ensures.stays;
+  sound = λ others last lt sound. sound_later others last c.args.sequence _ (omega (arith, lt)) (sound_stays others last _ _ c.put_halves.ensures.stays sound);
+  ends = halves_tried c.put_halves.result c.args.sequence c.args.text.now _ _ c.in_default.not-Done c.put_halves.ensures.ends;
+}

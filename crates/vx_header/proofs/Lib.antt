@@ -1,6 +1,7 @@
 pub mod HeaderPlaces
 pub mod HeaderReading
 pub mod NameLemmas
+pub mod Naming
 pub mod PutLemmas
 pub mod Saying
 pub mod TogglePlaces

@@ -1,3 +1,4 @@
+pub mod Named
 pub mod Nearest
 pub mod Places
 pub mod Said

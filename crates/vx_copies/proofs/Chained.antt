@@ -2,11 +2,13 @@
 use Rattle.std.proofs.Common.{◌≡◌, ◌⊎◌, ℕ, ◌<◌, ◌≤◌, Bool, true, false, List, [], ◌∷◌, ◌++◌, map, Option, Some, None, refl, sym, ap, ◌∙◌, subst, arith, inl, inr}
 use Rattle.std.specs.Prelude.{IsTrue, MatchOption}
 use Rattle.vx_base.specs.Blocks.{Contents}
+use Rattle.vx_base.specs.Named.{Word}
 use Rattle.vx_mask.specs.Mask.{has}
 use Rattle.vx_piece.specs.Seen.{Seen}
 use Rattle.vx_copies.specs.Lists.{Each, AllOf, AnyOf}
 use Rattle.vx_copies.specs.Image.{Offer, offer_told}
 use Rattle.vx_copies.specs.Disks.{Held, Drops, Stays, StaysTold, Stamps, OffersJust}
+use Rattle.vx_copies.proofs.InGroup.{in_same, in_just}
 use Rattle.vx_copies.specs.Chain.{Copy, copy_of, AllUpTo, NamesNewer, IsChained, NamesGood, IsSound}
 
 abbrev IfOffer : (Offer → Type 0) → Copy → Type 0
@@ -135,17 +137,17 @@ was_good : (x y : Bool) (a b : Seen) → Drops x y a b → IsTrue y → IsTrue x
 was_good x true a b d is = d
 was_good x false a b d is = cc
 
-told_same : (a b : Option Contents) → StaysTold a b → offer_told b ≡ offer_told a
-told_same None None is = refl
-told_same None (Some b) is = absurd is
-told_same (Some a) None is = absurd is
-told_same (Some a) (Some b) is = is.2
+told_same : (group : Word) (a b : Option Contents) → StaysTold a b → offer_told group b ≡ offer_told group a
+told_same group None None is = refl
+told_same group None (Some b) is = absurd is
+told_same group (Some a) None is = absurd is
+told_same group (Some a) (Some b) is = in_same group a b is.0 is.2
 
-pub copies_stay : (hs bs : List Held) → Each Stays hs bs → map copy_of bs ≡ map copy_of hs
-copies_stay [] [] is = refl
-copies_stay [] (b ∷ bs) is = absurd is
-copies_stay (a ∷ hs) [] is = absurd is
-copies_stay (a ∷ hs) (b ∷ bs) is = ap (λ c. c ∷ map copy_of bs) (same_copy (copy_of a) (copy_of b) is.0.slot (told_same a.seen.told b.seen.told is.0.told)) ∙ ap (λ cs. copy_of a ∷ cs) (copies_stay hs bs is.1)
+pub copies_stay : (group : Word) (hs bs : List Held) → Each Stays hs bs → map (copy_of group) bs ≡ map (copy_of group) hs
+copies_stay group [] [] is = refl
+copies_stay group [] (b ∷ bs) is = absurd is
+copies_stay group (a ∷ hs) [] is = absurd is
+copies_stay group (a ∷ hs) (b ∷ bs) is = ap (λ c. c ∷ map (copy_of group) bs) (same_copy (copy_of group a) (copy_of group b) is.0.slot (told_same group a.seen.told b.seen.told is.0.told)) ∙ ap (λ cs. copy_of group a ∷ cs) (copies_stay group hs bs is.1)
 
 -- a disk that is good was good, with its slot
 abbrev WasGood : Held → Held → Type 0
@@ -177,23 +179,23 @@ newest_left copies hs bs was cs all = all_map _ _ (λ c. by c.offer) cs all
     by None is = tt
     by (Some o) is = λ top. still_named o.good hs bs was (is top)
 
-pub sound_stays : (others : List Copy) (last : ℕ) (hs bs : List Held) → Each Stays hs bs → IsSound others last hs → IsSound others last bs
-sound_stays others last hs bs stays sound =
-    let same : others ++ map copy_of hs ≡ others ++ map copy_of bs = ap (λ cs. others ++ cs) (sym (copies_stay hs bs stays)) in
+pub sound_stays : (group : Word) (others : List Copy) (last : ℕ) (hs bs : List Held) → Each Stays hs bs → IsSound group others last hs → IsSound group others last bs
+sound_stays group others last hs bs stays sound =
+    let same : others ++ map (copy_of group) hs ≡ others ++ map (copy_of group) bs = ap (λ cs. others ++ cs) (sym (copies_stay group hs bs stays)) in
     record {
       chained = subst IsChained same sound.chained;
       newest = subst (λ cs. AllOf (IfOffer (λ o. AllUpTo o.sequence cs → NamesGood o bs)) cs) same (newest_left _ hs bs (stays_was hs bs stays) _ sound.newest);
       up_to = subst (AllUpTo last) same sound.up_to;
     }
 
-pub sound_later : (others : List Copy) (last later : ℕ) (hs : List Held) → last ≤ later → IsSound others last hs → IsSound others later hs
-sound_later others last later hs le sound = record { chained = sound.chained; newest = sound.newest; up_to = all_map _ _ (λ c. by c.offer) _ sound.up_to }
+pub sound_later : (group : Word) (others : List Copy) (last later : ℕ) (hs : List Held) → last ≤ later → IsSound group others last hs → IsSound group others later hs
+sound_later group others last later hs le sound = record { chained = sound.chained; newest = sound.newest; up_to = all_map _ _ (λ c. by c.offer) _ sound.up_to }
   where
     by : (x : Option Offer) → MatchOption x (Unit {0}) (λ o. o.sequence ≤ last) → MatchOption x (Unit {0}) (λ o. o.sequence ≤ later)
     by None is = tt
     by (Some o) is = let r : o.sequence ≤ later = omega (arith, is, le) in r
 
-module _ (others : List Copy) (last sequence mask : ℕ) (text : List ℕ) (later : last < sequence) where
+module _ (group : Word) (others : List Copy) (last sequence mask : ℕ) (text : List ℕ) (later : last < sequence) where
   -- a good member's slot is named by the newest
   named_member : (copies : List Copy) (h : Held) → IsTrue h.good → (cs : List Copy) → AllOf (IfOffer (λ o. AllUpTo o.sequence copies → IsTrue h.good → has o.good h.slot ≡ true)) cs → AllOf (NewestNames copies h.slot) cs
   named_member copies h good cs all = all_map _ _ (λ c. by c.offer) cs all
@@ -216,27 +218,27 @@ module _ (others : List Copy) (last sequence mask : ℕ) (text : List ℕ) (late
       by None is = tt
       by (Some o) is = λ top. (is top).1
 
-  turn_one : (copies : List Copy) (a b : Held) → Stamps sequence mask text a b → AllOf (IfOffer (λ o. AllUpTo o.sequence copies → IsTrue a.good → has o.good a.slot ≡ true)) copies → Turned copies last sequence mask text later (copy_of a) (copy_of b)
+  turn_one : (copies : List Copy) (a b : Held) → Stamps sequence mask text a b → AllOf (IfOffer (λ o. AllUpTo o.sequence copies → IsTrue a.good → has o.good a.slot ≡ true)) copies → Turned copies last sequence mask text later (copy_of group a) (copy_of group b)
   turn_one copies a b is all = (is.slot, by a.seen.told b.seen.told is.offers)
     where
-      by : (t u : Option Contents) → OffersJust sequence mask text a.good t u → (offer_told u ≡ offer_told t) ⊎ ((offer_told u ≡ Some (record { sequence = sequence; good = mask; text = text })) × AllOf (NewestNames copies a.slot) copies)
+      by : (t u : Option Contents) → OffersJust sequence mask text a.good t u → (offer_told group u ≡ offer_told group t) ⊎ ((offer_told group u ≡ Some (record { sequence = sequence; good = mask; text = text })) × AllOf (NewestNames copies a.slot) copies)
       by None None is = inl refl
       by None (Some u) is = absurd is
       by (Some t) None is = absurd is
-      by (Some t) (Some u) (header, inl same) = inl same
-      by (Some t) (Some u) (header, inr just) = inr (just.1, named_member copies a just.0 copies all)
+      by (Some t) (Some u) (header, inl same) = inl (in_same group t u header same)
+      by (Some t) (Some u) (header, inr just) = elim (in_just group t u (record { sequence = sequence; good = mask; text = text }) header just.1) [ inl same ↦ inl same | inr new ↦ inr (new, named_member copies a just.0 copies all) ]
 
-  turn_members : (copies : List Copy) (hs bs : List Held) → Each (Stamps sequence mask text) hs bs → AllOf (IfOffer (λ o. AllUpTo o.sequence copies → NamesGood o hs)) copies → Each (Turned copies last sequence mask text later) (map copy_of hs) (map copy_of bs)
+  turn_members : (copies : List Copy) (hs bs : List Held) → Each (Stamps sequence mask text) hs bs → AllOf (IfOffer (λ o. AllUpTo o.sequence copies → NamesGood o hs)) copies → Each (Turned copies last sequence mask text later) (map (copy_of group) hs) (map (copy_of group) bs)
   turn_members copies [] [] is all = tt
   turn_members copies [] (b ∷ bs) is all = absurd is
   turn_members copies (a ∷ hs) [] is all = absurd is
   turn_members copies (a ∷ hs) (b ∷ bs) is all = (turn_one copies a b is.0 (first_member copies a hs copies all), turn_members copies hs bs is.1 (other_members copies a hs copies all))
 
-  turn_all : (copies os : List Copy) (hs bs : List Held) → Each (Stamps sequence mask text) hs bs → AllOf (IfOffer (λ o. AllUpTo o.sequence copies → NamesGood o hs)) copies → Each (Turned copies last sequence mask text later) (os ++ map copy_of hs) (os ++ map copy_of bs)
+  turn_all : (copies os : List Copy) (hs bs : List Held) → Each (Stamps sequence mask text) hs bs → AllOf (IfOffer (λ o. AllUpTo o.sequence copies → NamesGood o hs)) copies → Each (Turned copies last sequence mask text later) (os ++ map (copy_of group) hs) (os ++ map (copy_of group) bs)
   turn_all copies [] hs bs is all = turn_members copies hs bs is all
   turn_all copies (o ∷ os) hs bs is all = ((refl, inl refl), turn_all copies os hs bs is all)
 
-  pub sound_stamps : (hs bs : List Held) → Each (Stamps sequence mask text) hs bs → AllOf (λ h. IsTrue h.good → has mask h.slot ≡ true) hs → IsSound others last hs → IsSound others sequence bs
+  pub sound_stamps : (hs bs : List Held) → Each (Stamps sequence mask text) hs bs → AllOf (λ h. IsTrue h.good → has mask h.slot ≡ true) hs → IsSound group others last hs → IsSound group others sequence bs
   sound_stamps hs bs stamps names sound = elim (turned_or_not old last sequence mask text later old new turned) [
     | inl same ↦ record {
       chained = subst IsChained (sym same) sound.chained;
@@ -251,13 +253,13 @@ module _ (others : List Copy) (last sequence mask : ℕ) (text : List ℕ) (late
   ]
     where
       old : List Copy
-      old = others ++ map copy_of hs
+      old = others ++ map (copy_of group) hs
 
       new : List Copy
-      new = others ++ map copy_of bs
+      new = others ++ map (copy_of group) bs
 
-      turned : Each (Turned (others ++ map copy_of hs) last sequence mask text later) (others ++ map copy_of hs) (others ++ map copy_of bs)
-      turned = turn_all (others ++ map copy_of hs) others hs bs stamps sound.newest
+      turned : Each (Turned (others ++ map (copy_of group) hs) last sequence mask text later) (others ++ map (copy_of group) hs) (others ++ map (copy_of group) bs)
+      turned = turn_all (others ++ map (copy_of group) hs) others hs bs stamps sound.newest
 
-      up : AllUpTo sequence (others ++ map copy_of bs)
-      up = up_to_all (others ++ map copy_of hs) last sequence mask text later (others ++ map copy_of hs) (others ++ map copy_of bs) turned sound.up_to
+      up : AllUpTo sequence (others ++ map (copy_of group) bs)
+      up = up_to_all (others ++ map (copy_of group) hs) last sequence mask text later (others ++ map (copy_of group) hs) (others ++ map (copy_of group) bs) turned sound.up_to

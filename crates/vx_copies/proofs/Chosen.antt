@@ -4,8 +4,10 @@ use Rattle.std.specs.Prelude.{MatchOption}
 use Rattle.std.proofs.lemmas.Bool.{cond-true, cond-false, lt-ltb, le-ltb}
 use Rattle.vx_base.specs.Blocks.{Contents}
 use Rattle.vx_copies.specs.Image.{Offer, offer_told, higher}
+use Rattle.vx_base.specs.Named.{Word}
 use Rattle.vx_copies.specs.Lists.{Each, AllOf}
 use Rattle.vx_copies.specs.Disks.{Held, Goes, Offers, IsNew, IsBelow}
+use Rattle.vx_copies.proofs.InGroup.{in_goes}
 use Rattle.vx_copies.specs.Config.{configuration, GivesOldOrNew}
 
 higher_under : (last : ℕ) (a b : Option Offer) → MatchOption a (Unit {0}) (λ x. x.sequence ≤ last) → MatchOption b (Unit {0}) (λ x. x.sequence ≤ last) → MatchOption (higher a b) (Unit {0}) (λ x. x.sequence ≤ last)
@@ -17,7 +19,7 @@ higher_under last (Some a) (Some b) p q = by (ltb a.sequence b.sequence)
     by true = q
     by false = p
 
-module _ (old last : ℕ) (text : List ℕ) where
+module _ (group : Word) (old last : ℕ) (text : List ℕ) where
   -- of two offers of which each is the old one or new, the higher is the old higher one or new
   higher_goes : (a a' b b' : Option Offer)
       → MatchOption a (Unit {0}) (λ x. x.sequence ≤ old) → MatchOption b (Unit {0}) (λ x. x.sequence ≤ old)
@@ -40,11 +42,11 @@ module _ (old last : ℕ) (text : List ℕ) where
       let under : x.sequence ≤ old = subst (λ o. MatchOption o (Unit {0}) (λ z. z.sequence ≤ old)) (sym e) ua in
       inr (subst (IsNew (old + 1) last text) (sym (cond-true _ _ _ (lt-ltb x.sequence y.sequence (omega (arith, new.0, under))))) new)
 
-  told_goes : (a b : Option Contents) → Offers (old + 1) last text a b → (offer_told b ≡ offer_told a) ⊎ IsNew (old + 1) last text (offer_told b)
+  told_goes : (a b : Option Contents) → Offers (old + 1) last text a b → (offer_told group b ≡ offer_told group a) ⊎ IsNew (old + 1) last text (offer_told group b)
   told_goes None None is = inl refl
   told_goes None (Some b) is = absurd is
   told_goes (Some a) None is = absurd is
-  told_goes (Some a) (Some b) is = is.1
+  told_goes (Some a) (Some b) is = in_goes group (old + 1) last text a b is.0 is.1
 
   mask_goes : (r : Bool) (a b : Option Offer) → (b ≡ a) ⊎ IsNew (old + 1) last text b → (cond r b None ≡ cond r a None) ⊎ IsNew (old + 1) last text (cond r b None)
   mask_goes true a b is = is
@@ -54,19 +56,19 @@ module _ (old last : ℕ) (text : List ℕ) where
   mask_under true a is = is
   mask_under false a is = tt
 
-  pub under_all : (readable : ℕ → Bool) (hs : List Held) → AllOf (IsBelow old) hs → MatchOption (configuration readable hs) (Unit {0}) (λ x. x.sequence ≤ old)
+  pub under_all : (readable : ℕ → Bool) (hs : List Held) → AllOf (IsBelow group old) hs → MatchOption (configuration group readable hs) (Unit {0}) (λ x. x.sequence ≤ old)
   under_all readable [] is = tt
-  under_all readable (a ∷ hs) is = higher_under old _ _ (mask_under (readable a.slot) (offer_told a.seen.told) is.0) (under_all readable hs is.1)
+  under_all readable (a ∷ hs) is = higher_under old _ _ (mask_under (readable a.slot) (offer_told group a.seen.told) is.0) (under_all readable hs is.1)
 
-  pub gives : (hs bs : List Held) → AllOf (IsBelow old) hs → Each (Goes (old + 1) last text) hs bs → GivesOldOrNew (old + 1) last text hs bs
+  pub gives : (hs bs : List Held) → AllOf (IsBelow group old) hs → Each (Goes (old + 1) last text) hs bs → GivesOldOrNew group (old + 1) last text hs bs
   gives [] [] below goes readable = inl refl
   gives [] (b ∷ bs) below goes readable = absurd goes
   gives (a ∷ hs) [] below goes readable = absurd goes
   gives (a ∷ hs) (b ∷ bs) below goes readable =
-      let here = mask_goes (readable a.slot) (offer_told a.seen.told) (offer_told b.seen.told) (told_goes a.seen.told b.seen.told goes.0.offers) in
-      let same : cond (readable b.slot) (offer_told b.seen.told) None ≡ cond (readable a.slot) (offer_told b.seen.told) None = ap (λ s. cond (readable s) (offer_told b.seen.told) None) goes.0.slot in
-      let one = higher_goes _ _ _ _ (mask_under (readable a.slot) (offer_told a.seen.told) below.0) (under_all readable hs below.1) here (gives hs bs below.1 goes.1 readable) in
-      let whole : higher (cond (readable b.slot) (offer_told b.seen.told) None) (configuration readable bs) ≡ higher (cond (readable a.slot) (offer_told b.seen.told) None) (configuration readable bs) = ap (λ o. higher o (configuration readable bs)) same in
+      let here = mask_goes (readable a.slot) (offer_told group a.seen.told) (offer_told group b.seen.told) (told_goes a.seen.told b.seen.told goes.0.offers) in
+      let same : cond (readable b.slot) (offer_told group b.seen.told) None ≡ cond (readable a.slot) (offer_told group b.seen.told) None = ap (λ s. cond (readable s) (offer_told group b.seen.told) None) goes.0.slot in
+      let one = higher_goes _ _ _ _ (mask_under (readable a.slot) (offer_told group a.seen.told) below.0) (under_all readable hs below.1) here (gives hs bs below.1 goes.1 readable) in
+      let whole : higher (cond (readable b.slot) (offer_told group b.seen.told) None) (configuration group readable bs) ≡ higher (cond (readable a.slot) (offer_told group b.seen.told) None) (configuration group readable bs) = ap (λ o. higher o (configuration group readable bs)) same in
       elim one [ inl e ↦ inl (whole ∙ e) | inr new ↦ inr (subst (IsNew (old + 1) last text) (sym whole) new) ]
 
   below_one : (a b : Option Offer) → MatchOption a (Unit {0}) (λ x. x.sequence ≤ old) → (b ≡ a) ⊎ IsNew (old + 1) last text b → old ≤ last → MatchOption b (Unit {0}) (λ x. x.sequence ≤ last)
@@ -75,7 +77,7 @@ module _ (old last : ℕ) (text : List ℕ) where
       let u : b.sequence ≤ old = subst (λ o. MatchOption o (Unit {0}) (λ z. z.sequence ≤ old)) (sym e) under in omega (arith, u)
   below_one a (Some b) under (inr new) le = new.1
 
-  pub below_all : (hs bs : List Held) → old ≤ last → AllOf (IsBelow old) hs → Each (Goes (old + 1) last text) hs bs → AllOf (IsBelow last) bs
+  pub below_all : (hs bs : List Held) → old ≤ last → AllOf (IsBelow group old) hs → Each (Goes (old + 1) last text) hs bs → AllOf (IsBelow group last) bs
   below_all [] [] le below goes = tt
   below_all [] (b ∷ bs) le below goes = absurd goes
   below_all (a ∷ hs) [] le below goes = absurd goes

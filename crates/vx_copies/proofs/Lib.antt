@@ -1,4 +1,5 @@
 pub mod Halves
+pub mod InGroup
 pub mod Going
 pub mod Placed
 pub mod Stopped

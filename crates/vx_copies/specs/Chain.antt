@@ -1,5 +1,6 @@
 -- The copies of a group's configuration on all its devices, and what they keep, so that no import takes an older one.
 use Rattle.std.specs.Prelude.{◌≡◌, ◌⊎◌, ℕ, ◌<◌, ◌≤◌, true, IsTrue, List, ◌++◌, map, Option, MatchOption}
+use Rattle.vx_base.specs.Named.{Word}
 use Rattle.vx_mask.specs.Mask.{has}
 use Rattle.vx_copies.specs.Lists.{AllOf, AnyOf}
 use Rattle.vx_copies.specs.Image.{Offer, offer_told}
@@ -10,8 +11,8 @@ pub record Copy : Type 0 where
   pub slot : ℕ
   pub offer : Option Offer
 
-abbrev pub copy_of : Held → Copy
-copy_of h = record { slot = h.slot; offer = offer_told h.seen.told }
+abbrev pub copy_of : Word → Held → Copy
+copy_of group h = record { slot = h.slot; offer = offer_told group h.seen.told }
 
 -- no offer has a higher sequence
 abbrev pub AllUpTo : ℕ → List Copy → Type 0
@@ -29,8 +30,8 @@ IsChained copies = AllOf (λ c. MatchOption c.offer (Unit {0}) (λ o. AllUpTo o.
 abbrev pub NamesGood : Offer → List Held → Type 0
 NamesGood o disks = AllOf (λ h. IsTrue h.good → has o.good h.slot ≡ true) disks
 
--- Members of a group and its other devices, up to a sequence: their copies are chained, and the newest name each good member.
-pub record IsSound (others : List Copy) (last : ℕ) (disks : List Held) : Type 0 where
-  pub chained : IsChained (others ++ map copy_of disks)
-  pub newest : AllOf (λ c. MatchOption c.offer (Unit {0}) (λ o. AllUpTo o.sequence (others ++ map copy_of disks) → NamesGood o disks)) (others ++ map copy_of disks)
-  pub up_to : AllUpTo last (others ++ map copy_of disks)
+-- The members of the group and its other devices, up to a sequence: their copies are chained, and the newest name each good member.
+pub record IsSound (group : Word) (others : List Copy) (last : ℕ) (disks : List Held) : Type 0 where
+  pub chained : IsChained (others ++ map (copy_of group) disks)
+  pub newest : AllOf (λ c. MatchOption c.offer (Unit {0}) (λ o. AllUpTo o.sequence (others ++ map (copy_of group) disks) → NamesGood o disks)) (others ++ map (copy_of group) disks)
+  pub up_to : AllUpTo last (others ++ map (copy_of group) disks)

@@ -2,8 +2,10 @@
 use Rattle.std.specs.Prelude.{◌≡◌, ◌⊎◌, ℕ, ◌+◌, ◌-◌, ◌<◌, ◌≤◌, ◌==◌, ◌&&◌, ◌||◌, Bool, true, false, IsTrue, if◌then◌else◌, List, [], ◌∷◌, length, Option, Some, None, MatchOption}
 use Rattle.vx_base.specs.Blocks.{Contents}
 use Rattle.vx_base.specs.Counts.{Rose}
+use Rattle.vx_base.specs.Named.{Word}
+use Rattle.vx_header.specs.Named.{header_of}
 use Rattle.vx_piece.specs.Seen.{Seen, Keeps}
-use Rattle.vx_copies.specs.Image.{Offer, toggle_at, offer_of, offer_told, text_in}
+use Rattle.vx_copies.specs.Image.{Offer, toggle_at, offer_of, offer_told, names_group, text_in}
 use Rattle.vx_copies.specs.declared.disk.Disk.{Disk}
 
 -- a disk with what is seen of its piece
@@ -110,9 +112,10 @@ abbrev pub IsOffer : ℕ → ℕ → List ℕ → Held → Type 0
 IsOffer sequence mask text h = IsTrue h.good → MatchOption h.seen.told (Unit {0}) (λ contents. offer_of contents ≡ Some (record { sequence = sequence; good = mask; text = text }))
 
 -- its offer has a sequence up to this one
-abbrev pub IsBelow : ℕ → Held → Type 0
-IsBelow last h = MatchOption (offer_told h.seen.told) (Unit {0}) (λ o. o.sequence ≤ last)
+abbrev pub IsBelow : Word → ℕ → Held → Type 0
+IsBelow group last h = MatchOption (offer_told group h.seen.told) (Unit {0}) (λ o. o.sequence ≤ last)
 
--- the disk tells what it holds
-abbrev pub IsTold : Held → Type 0
-IsTold h = MatchOption h.seen.told ⊥ (λ c. Unit {0})
+-- the disk tells what it holds, and its header names the group
+abbrev pub IsMember : Word → Option Contents → Type 0
+IsMember group None = ⊥
+IsMember group (Some contents) = names_group group (header_of (contents 0)) ≡ true

@@ -1,8 +1,10 @@
 -- What a private region offers, and the configuration of a group.
-use Rattle.std.specs.Prelude.{ℕ, zero, suc, ◌+◌, ◌*◌, ◌/◌, max, nat_lt, if◌then◌else◌, List, [], ◌∷◌, ◌++◌, take, Option, Some, None}
+use Rattle.std.specs.Prelude.{ℕ, zero, suc, ◌+◌, ◌*◌, ◌/◌, max, nat_lt, Bool, true, false, if◌then◌else◌, List, [], ◌∷◌, ◌++◌, take, Option, Some, None}
+use Rattle.std.specs.Str.{bytes_eq}
 use Rattle.vx_base.specs.Blocks.{Contents}
-use Rattle.vx_header.specs.Said.{Said}
-use Rattle.vx_header.specs.Said.{toggle_of}
+use Rattle.vx_base.specs.Named.{Word}
+use Rattle.vx_header.specs.Named.{Label, header_of}
+use Rattle.vx_header.specs.Said.{Said, toggle_of}
 
 -- the bytes of some blocks, end to end
 abbrev pub blocks_from : ℕ → ℕ → Contents → List ℕ
@@ -38,9 +40,22 @@ toggle_at contents = toggle_of (contents 1)
 unfoldable pub offer_of : Contents → Option Offer
 offer_of contents = offer_by (toggle_at contents) contents
 
-abbrev pub offer_told : Option Contents → Option Offer
-offer_told None = None
-offer_told (Some contents) = offer_of contents
+-- the header names the group
+abbrev pub names_group : Word → Option Label → Bool
+names_group group None = false
+names_group group (Some label) = bytes_eq label.group group
+
+abbrev pub offer_if : Bool → Option Offer → Option Offer
+offer_if true offer = offer
+offer_if false offer = None
+
+-- what a device offers as the configuration of the group that its header names, and of no other
+unfoldable pub offer_in : Word → Contents → Option Offer
+offer_in group contents = offer_if (names_group group (header_of (contents 0))) (offer_of contents)
+
+abbrev pub offer_told : Word → Option Contents → Option Offer
+offer_told group None = None
+offer_told group (Some contents) = offer_in group contents
 
 -- of two offers that with the higher sequence, of equals the first
 abbrev pub higher : Option Offer → Option Offer → Option Offer

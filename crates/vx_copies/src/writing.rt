@@ -1,4 +1,5 @@
 ghost use Rattle.std.specs.Prelude.{◌≡◌, ◌+◌, ◌-◌, ◌<◌, ◌≤◌, ◌^◌, ℕ, List, length, map, take, false, true, OnOk};
+ghost use Rattle.vx_base.specs.Named.{Word};
 ghost use Rattle.vx_mask.specs.Mask.{has};
 ghost use Rattle.vx_copies.specs.Lists.{Each, AllOf};
 ghost use Rattle.vx_copies.specs.Disks.{held, Goes, IsReady, IsBelow, good_count, is_good_slot};
@@ -63,7 +64,7 @@ fn attempt<P: Piece>(
     requires size { length sector.old ≡ 512 }
     ensures size { length sector.new ≡ 512 }
     ensures goes { Each (Goes sequence sequence text.now) (map (held P.seen) disks.old) (map (held P.seen) disks.new) }
-    ensures sound { (others : List Copy) (last : ℕ) → last < sequence → IsSound others last (map (held P.seen) disks.old) → IsSound others sequence (map (held P.seen) disks.new) }
+    ensures sound { (group : Word) (others : List Copy) (last : ℕ) → last < sequence → IsSound group others last (map (held P.seen) disks.old) → IsSound group others sequence (map (held P.seen) disks.new) }
     ensures ends { AttemptEnds result sequence text.now (map (held P.seen) disks.old) (map (held P.seen) disks.new) }
 {
     let mask = good_slots(disks);
@@ -91,7 +92,7 @@ fn commit_on<P: Piece>(
     requires low { sequence.old < 2 ^ 64 - 64 }
     ensures goes { Each (Goes (sequence.old + 1) sequence.new text.now) (map (held P.seen) disks.old) (map (held P.seen) disks.new) }
     ensures ends { CommitEnds result carriers sequence.new text.now (map (held P.seen) disks.old) (map (held P.seen) disks.new) }
-    ensures sound { (others : List Copy) → IsSound others sequence.old (map (held P.seen) disks.old) → IsSound others sequence.new (map (held P.seen) disks.new) }
+    ensures sound { (group : Word) (others : List Copy) → IsSound group others sequence.old (map (held P.seen) disks.old) → IsSound group others sequence.new (map (held P.seen) disks.new) }
     ensures more { sequence.old ≤ sequence.new }
     ensures next { OnOk result (sequence.old < sequence.new) }
     ensures few { sequence.new ≤ sequence.old + 32 }
@@ -124,13 +125,12 @@ pub fn commit<P: Piece>(
     requires count { length disks.old ≤ 32 }
     requires carriers { carriers ≤ length disks.old }
     requires low { sequence.old < 2 ^ 64 - 64 }
-    requires below { AllOf (IsBelow sequence.old) (map (held P.seen) disks.old) }
-    ensures old_or_new { GivesOldOrNew (sequence.old + 1) sequence.new text.now (map (held P.seen) disks.old) (map (held P.seen) disks.new) }
-    ensures ok { OnOk result (GivesNew (sequence.old + 1) sequence.new text.now (map (held P.seen) disks.new)) }
-    ensures below { AllOf (IsBelow sequence.new) (map (held P.seen) disks.new) }
+    ensures old_or_new { (group : Word) → AllOf (IsBelow group sequence.old) (map (held P.seen) disks.old) → GivesOldOrNew group (sequence.old + 1) sequence.new text.now (map (held P.seen) disks.old) (map (held P.seen) disks.new) }
+    ensures ok { (group : Word) → AllOf (IsBelow group sequence.old) (map (held P.seen) disks.old) → OnOk result (GivesNew group (sequence.old + 1) sequence.new text.now (map (held P.seen) disks.new)) }
+    ensures below { (group : Word) → AllOf (IsBelow group sequence.old) (map (held P.seen) disks.old) → AllOf (IsBelow group sequence.new) (map (held P.seen) disks.new) }
     ensures ends { CommitEnds result carriers sequence.new text.now (map (held P.seen) disks.old) (map (held P.seen) disks.new) }
     ensures goes { Each (Goes (sequence.old + 1) sequence.new text.now) (map (held P.seen) disks.old) (map (held P.seen) disks.new) }
-    ensures sound { (others : List Copy) → IsSound others sequence.old (map (held P.seen) disks.old) → IsSound others sequence.new (map (held P.seen) disks.new) }
+    ensures sound { (group : Word) (others : List Copy) → IsSound group others sequence.old (map (held P.seen) disks.old) → IsSound group others sequence.new (map (held P.seen) disks.new) }
     ensures more { sequence.old ≤ sequence.new }
     ensures few { sequence.new ≤ sequence.old + 32 }
 {

@@ -12,10 +12,10 @@ pub returns-in-Done-clause-goes : goal.returns-in-Done-clause-goes
 returns-in-Done-clause-goes g c = all_trans c.args.sequence c.args.sequence c.args.text.now _ _ _ (stays_all c.args.sequence c.args.sequence c.args.text.now _ _ c.put_halves.ensures.stays) (stamps_all c.args.sequence c.good_slots-mask.result c.args.text.now _ _ c.put_toggles.ensures.stamps)
 
 pub returns-in-Done-clause-sound : goal.returns-in-Done-clause-sound
-returns-in-Done-clause-sound g c = λ others last lt sound.
-    sound_stamps others last c.args.sequence c.good_slots-mask.result c.args.text.now lt _ _ c.put_toggles.ensures.stamps
+returns-in-Done-clause-sound g c = λ group others last lt sound.
+    sound_stamps group others last c.args.sequence c.good_slots-mask.result c.args.text.now lt _ _ c.put_toggles.ensures.stamps
     (still_named c.good_slots-mask.result _ _ (stays_was _ _ c.put_halves.ensures.stays) (good_named c.good_slots-mask.result _ c.good_slots-mask.ensures))
-    (sound_stays others last _ _ c.put_halves.ensures.stays sound)
+    (sound_stays group others last _ _ c.put_halves.ensures.stays sound)
 
 pub returns-in-Done-clause-ends : goal.returns-in-Done-clause-ends
 returns-in-Done-clause-ends g c =
@@ -28,6 +28,6 @@ pub returns-in_default : goal.returns-in_default
 returns-in_default g c = record {
   size = c.requires.size;
   goes = stays_all c.args.sequence c.args.sequence c.args.text.now _ _ c.put_halves.ensures.stays;
-  sound = λ others last lt sound. sound_later others last c.args.sequence _ (omega (arith, lt)) (sound_stays others last _ _ c.put_halves.ensures.stays sound);
+  sound = λ group others last lt sound. sound_later group others last c.args.sequence _ (omega (arith, lt)) (sound_stays group others last _ _ c.put_halves.ensures.stays sound);
   ends = halves_tried c.put_halves.result c.args.sequence c.args.text.now _ _ c.in_default.not-Done c.put_halves.ensures.ends;
 }

@@ -12,7 +12,7 @@ use Rattle.vx_copies.proofs.writing.commit_on.Goals as goal
 pub again-init : goal.again-init
 again-init g c =
     let few = count_few g.P.Piece.seen c.args.disks.now in
-    record { size = c.requires.size; long = refl; later = omega arith; bound = omega (arith, few, c.requires.count); ready = c.requires.ready; goes = all_refl (c.args.sequence.now + 1) c.args.sequence.now c.args.text.now _; sound = λ others is. is }
+    record { size = c.requires.size; long = refl; later = omega arith; bound = omega (arith, few, c.requires.count); ready = c.requires.ready; goes = all_refl (c.args.sequence.now + 1) c.args.sequence.now c.args.text.now _; sound = λ group others is. is }
 
 pub returns-in-Done-clause-goes : goal.returns-in-Done-clause-goes
 returns-in-Done-clause-goes g c = one_more (c.args.sequence.now + 1) c.again.sequence c.args.text.now _ _ _ (omega (arith, c.again.invariant.later)) c.again.invariant.goes c.attempt.ensures.goes
@@ -27,7 +27,7 @@ returns-in-Done-clause-ends g c =
     (ends.0, ends.1, omega (arith, same, some, there))
 
 pub returns-in-Done-clause-sound : goal.returns-in-Done-clause-sound
-returns-in-Done-clause-sound g c = λ others is. c.attempt.ensures.sound others c.again.sequence (omega arith) (c.again.invariant.sound others is)
+returns-in-Done-clause-sound g c = λ group others is. c.attempt.ensures.sound group others c.again.sequence (omega arith) (c.again.invariant.sound group others is)
 
 pub returns-in-Done-clause-few : goal.returns-in-Done-clause-few
 returns-in-Done-clause-few g c =
@@ -40,7 +40,7 @@ pub returns-in-Cut-clause-goes : goal.returns-in-Cut-clause-goes
 returns-in-Cut-clause-goes g c = one_more (c.args.sequence.now + 1) c.again.sequence c.args.text.now _ _ _ (omega (arith, c.again.invariant.later)) c.again.invariant.goes c.attempt.ensures.goes
 
 pub returns-in-Cut-clause-sound : goal.returns-in-Cut-clause-sound
-returns-in-Cut-clause-sound g c = λ others is. c.attempt.ensures.sound others c.again.sequence (omega arith) (c.again.invariant.sound others is)
+returns-in-Cut-clause-sound g c = λ group others is. c.attempt.ensures.sound group others c.again.sequence (omega arith) (c.again.invariant.sound group others is)
 
 pub returns-in-Cut-clause-few : goal.returns-in-Cut-clause-few
 returns-in-Cut-clause-few g c =
@@ -60,7 +60,7 @@ again-preserved g c =
       bound = omega (arith, less, c.again.invariant.bound);
       ready = ends.0;
       goes = one_more (c.args.sequence.now + 1) c.again.sequence c.args.text.now _ _ _ (omega (arith, c.again.invariant.later)) c.again.invariant.goes c.attempt.ensures.goes;
-      sound = λ others is. c.attempt.ensures.sound others c.again.sequence (omega arith) (c.again.invariant.sound others is);
+      sound = λ group others is. c.attempt.ensures.sound group others c.again.sequence (omega arith) (c.again.invariant.sound group others is);
     }
 
 pub returns-clause-ends : goal.returns-clause-ends

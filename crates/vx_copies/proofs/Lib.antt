@@ -4,6 +4,7 @@ pub mod Going
 pub mod Placed
 pub mod Stopped
 pub mod Masks
+pub mod Turning
 pub mod Chained
 pub mod Tried
 pub mod Chosen

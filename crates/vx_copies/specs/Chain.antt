@@ -1,10 +1,10 @@
 -- The copies of a group's configuration on all its devices, and what they keep, so that no import takes an older one.
-use Rattle.std.specs.Prelude.{◌≡◌, ◌⊎◌, ℕ, ◌<◌, ◌≤◌, true, IsTrue, List, ◌++◌, map, Option, MatchOption}
+use Rattle.std.specs.Prelude.{◌≡◌, ◌⊎◌, ℕ, ◌<◌, ◌≤◌, true, IsTrue, List, ◌++◌, map, take, Option, MatchOption}
 use Rattle.vx_base.specs.Named.{Word}
 use Rattle.vx_mask.specs.Mask.{has}
 use Rattle.vx_copies.specs.Lists.{AllOf, AnyOf}
 use Rattle.vx_copies.specs.Image.{Offer, offer_told}
-use Rattle.vx_copies.specs.Disks.{Held}
+use Rattle.vx_copies.specs.Disks.{Held, IsMember}
 
 -- a device of the group, by its slot, and what it offers
 pub record Copy : Type 0 where
@@ -30,8 +30,14 @@ IsChained copies = AllOf (λ c. MatchOption c.offer (Unit {0}) (λ o. AllUpTo o.
 abbrev pub NamesGood : Offer → List Held → Type 0
 NamesGood o disks = AllOf (λ h. IsTrue h.good → has o.good h.slot ≡ true) disks
 
--- The members of the group and its other devices, up to a sequence: their copies are chained, and the newest name each good member.
-pub record IsSound (group : Word) (others : List Copy) (last : ℕ) (disks : List Held) : Type 0 where
+-- where it is good, the disk is a member of the group
+abbrev pub IsGoodMember : Word → Held → Type 0
+IsGoodMember group h = IsTrue h.good → IsMember group h.seen.told
+
+-- The members of the group and its other devices, up to a sequence: their copies are chained, and the newest name each
+-- good one of the first `carriers` members.
+pub record IsSound (group : Word) (others : List Copy) (last carriers : ℕ) (disks : List Held) : Type 0 where
+  pub members : AllOf (IsGoodMember group) disks
   pub chained : IsChained (others ++ map (copy_of group) disks)
-  pub newest : AllOf (λ c. MatchOption c.offer (Unit {0}) (λ o. AllUpTo o.sequence (others ++ map (copy_of group) disks) → NamesGood o disks)) (others ++ map (copy_of group) disks)
+  pub newest : AllOf (λ c. MatchOption c.offer (Unit {0}) (λ o. AllUpTo o.sequence (others ++ map (copy_of group) disks) → NamesGood o (take carriers disks))) (others ++ map (copy_of group) disks)
   pub up_to : AllUpTo last (others ++ map (copy_of group) disks)

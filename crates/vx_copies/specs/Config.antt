@@ -2,7 +2,7 @@
 use Rattle.std.specs.Prelude.{◌≡◌, ◌⊎◌, ℕ, Bool, true, IsTrue, if◌then◌else◌, List, [], ◌∷◌, Option, None}
 use Rattle.vx_base.specs.Named.{Word}
 use Rattle.vx_copies.specs.Lists.{AnyOf}
-use Rattle.vx_copies.specs.Image.{Offer, offer_told, names_group, highest}
+use Rattle.vx_copies.specs.Image.{Offer, offer_told, highest}
 use Rattle.vx_copies.specs.Disks.{Held, IsNew, IsMember}
 
 -- what the readable disks offer

@@ -3,6 +3,7 @@ ghost use Rattle.vx_copies.specs.Disks.{held, Stamps, Stays, IsReady, HasSpare};
 ghost use Rattle.vx_copies.specs.Pass.{IsPadded, HalfEnds, ToggleEnds};
 
 use vx_header::Toggle;
+use vx_names::Name;
 use vx_piece::{Piece, PieceFault};
 
 /// The first sector of the first half, and the sectors of a half.
@@ -13,8 +14,12 @@ const HALF: u64 = 1020;
 /// A disk of a group.
 #[derive(Drop)]
 pub struct Disk<P> {
+    /// Its name in the group, of at most 24 characters.
+    pub name: Name,
     /// The slot, below 32.
     pub slot: u8,
+    /// The sectors of the whole device, 2,049 to 2^40.
+    pub sectors: u64,
     /// Whether the next commit is written to it.
     pub good: bool,
     /// The half that its toggle names, 0 or 1; the other one is spare.

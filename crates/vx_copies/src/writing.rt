@@ -64,7 +64,8 @@ fn attempt<P: Piece>(
     requires size { length sector.old ≡ 512 }
     ensures size { length sector.new ≡ 512 }
     ensures goes { Each (Goes sequence sequence text.now) (map (held P.seen) disks.old) (map (held P.seen) disks.new) }
-    ensures sound { (group : Word) (others : List Copy) (last : ℕ) → last < sequence → IsSound group others last (map (held P.seen) disks.old) → IsSound group others sequence (map (held P.seen) disks.new) }
+    ensures sound { (group : Word) (others : List Copy) (last carriers : ℕ) → last < sequence → 0 < good_count (take carriers (map (held P.seen) disks.old)) → IsSound group others last carriers (map (held P.seen) disks.old) → IsSound group others sequence carriers (map (held P.seen) disks.new) }
+    ensures all { (group : Word) (others : List Copy) (last carriers : ℕ) → last < sequence → 0 < good_count (take carriers (map (held P.seen) disks.old)) → IsSound group others last carriers (map (held P.seen) disks.old) → result ≡ Pass.Done → IsSound group others sequence (length disks.old) (map (held P.seen) disks.new) }
     ensures ends { AttemptEnds result sequence text.now (map (held P.seen) disks.old) (map (held P.seen) disks.new) }
 {
     let mask = good_slots(disks);
@@ -92,7 +93,8 @@ fn commit_on<P: Piece>(
     requires low { sequence.old < 2 ^ 64 - 64 }
     ensures goes { Each (Goes (sequence.old + 1) sequence.new text.now) (map (held P.seen) disks.old) (map (held P.seen) disks.new) }
     ensures ends { CommitEnds result carriers sequence.new text.now (map (held P.seen) disks.old) (map (held P.seen) disks.new) }
-    ensures sound { (group : Word) (others : List Copy) → IsSound group others sequence.old (map (held P.seen) disks.old) → IsSound group others sequence.new (map (held P.seen) disks.new) }
+    ensures sound { (group : Word) (others : List Copy) → IsSound group others sequence.old carriers (map (held P.seen) disks.old) → IsSound group others sequence.new carriers (map (held P.seen) disks.new) }
+    ensures all { OnOk result ((group : Word) (others : List Copy) → IsSound group others sequence.old carriers (map (held P.seen) disks.old) → IsSound group others sequence.new (length disks.old) (map (held P.seen) disks.new)) }
     ensures more { sequence.old ≤ sequence.new }
     ensures next { OnOk result (sequence.old < sequence.new) }
     ensures few { sequence.new ≤ sequence.old + 32 }
@@ -130,7 +132,8 @@ pub fn commit<P: Piece>(
     ensures below { (group : Word) → AllOf (IsBelow group sequence.old) (map (held P.seen) disks.old) → AllOf (IsBelow group sequence.new) (map (held P.seen) disks.new) }
     ensures ends { CommitEnds result carriers sequence.new text.now (map (held P.seen) disks.old) (map (held P.seen) disks.new) }
     ensures goes { Each (Goes (sequence.old + 1) sequence.new text.now) (map (held P.seen) disks.old) (map (held P.seen) disks.new) }
-    ensures sound { (group : Word) (others : List Copy) → IsSound group others sequence.old (map (held P.seen) disks.old) → IsSound group others sequence.new (map (held P.seen) disks.new) }
+    ensures sound { (group : Word) (others : List Copy) → IsSound group others sequence.old carriers (map (held P.seen) disks.old) → IsSound group others sequence.new carriers (map (held P.seen) disks.new) }
+    ensures all { OnOk result ((group : Word) (others : List Copy) → IsSound group others sequence.old carriers (map (held P.seen) disks.old) → IsSound group others sequence.new (length disks.old) (map (held P.seen) disks.new)) }
     ensures more { sequence.old ≤ sequence.new }
     ensures few { sequence.new ≤ sequence.old + 32 }
 {

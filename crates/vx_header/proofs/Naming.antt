@@ -1,5 +1,5 @@
 -- A header's sector says the header, and a sector that says something is a header's.
-use Rattle.std.proofs.Common.{◌≡◌, ℕ, ◌+◌, ◌-◌, ◌^◌, ◌<◌, ◌≤◌, true, false, cond, Bool, List, length, take, drop, get_or, Option, Some, None, arith, refl, sym, ◌∙◌, ap, subst, inl, inr, IsTrue}
+use Rattle.std.proofs.Common.{◌≡◌, ℕ, ◌+◌, ◌-◌, ◌^◌, ◌<◌, ◌≤◌, true, false, cond, Bool, List, length, take, drop, get_or, Option, Some, None, arith, refl, sym, ◌∙◌, ap, inl, inr, IsTrue}
 use Rattle.std.specs.Prelude.{◌&&◌, ◌==◌, nat_lt, nat_le, codes}
 use Rattle.std.specs.List.{position_or_len, list_all}
 use Rattle.std.specs.Int.{w64, from_be_bytes}
@@ -10,16 +10,16 @@ use Rattle.std.proofs.lemmas.List.Folds.{list_all_at}
 use Rattle.std.proofs.lemmas.List.Sums.{position_or_len_is}
 use Rattle.std.proofs.lemmas.Nat.{from_be_bytes-to_be_bytes_8}
 use Rattle.std.proofs.lemmas.Slice.Eq.{bytes_eq-Decides}
-use Rattle.vx_names.specs.Form.{is_name, is_name_byte}
+use Rattle.vx_names.specs.Form.{is_name_byte}
 use Rattle.vx_base.specs.Named.{Word}
 use Rattle.vx_sector.specs.Fields.{zeros, eight_bytes}
-use Rattle.vx_sector.proofs.FieldLemmas.{length-eight_bytes, get_or-zeros}
+use Rattle.vx_sector.proofs.FieldLemmas.{length-eight_bytes}
 use Rattle.vx_header.specs.Named.{Label, label_of, name_in, label_in, is_label, sector_naming, named_by, header_of}
 use Rattle.vx_header.specs.Places.{IsFirstBad, is_header_place, header_end}
-use Rattle.vx_header.specs.Sectors.{is_short_name, name_field, header_sector}
+use Rattle.vx_header.specs.Sectors.{is_short_name, name_field}
 use Rattle.vx_header.specs.Spelled.{sector_of_header, IsHeader}
 use Rattle.vx_header.specs.declared.header.Header.{Header}
-use Rattle.vx_header.proofs.HeaderPlaces.{length-header, header_mark, header_group, header_disk, header_slot, header_sectors}
+use Rattle.vx_header.proofs.HeaderPlaces.{length-header, header_group, header_disk, header_slot, header_sectors}
 use Rattle.vx_header.proofs.HeaderReading.{mark_of_header}
 use Rattle.vx_header.proofs.NameLemmas.{length-name_field, length_of_short, name_of_short, field_in, field_past}
 use Rattle.vx_header.proofs.Windows.{same_field}
@@ -42,7 +42,7 @@ fits_from l e =
     let b = and_parts (is_short_name l.group && is_short_name l.disk && nat_lt l.slot 32) (nat_lt 2048 l.sectors) a.0 in
     let c = and_parts (is_short_name l.group && is_short_name l.disk) (nat_lt l.slot 32) b.0 in
     let d = and_parts (is_short_name l.group) (is_short_name l.disk) c.0 in
-    record { group = d.0; disk = d.1; slot = ltb-true _ _ c.1; public = ltb-true _ _ b.1; at_most = leb-true _ _ a.1; }
+    record { group = d.0; disk = d.1; slot = ltb-true _ _ c.1; public = ltb-true _ _ b.1; at_most = leb-true _ _ a.1 }
 
 pub fits_is : (l : Label) → Fits l → is_label l ≡ true
 fits_is l f = and_from _ _ (and_from _ _ (and_from _ _ (and_from _ _ f.group f.disk) (lt-ltb _ _ f.slot)) (lt-ltb _ _ f.public)) (le-leb _ _ f.at_most)
@@ -53,6 +53,7 @@ name_back name short = ap (λ n. take n (name_field name)) place ∙ take_at nam
   where
     few : length name ≤ 24
     few = length_of_short name short
+
     no_zero : (i : ℕ) → i < length name → (get_or name i 0 == 0) ≡ false
     no_zero i lt = elim (cases_eq (get_or name i 0) 0) [
       | inr other ↦ ne_eqb _ _ other
@@ -60,12 +61,13 @@ name_back name short = ap (λ n. take n (name_field name)) place ∙ take_at nam
           let all : list_all is_name_byte name ≡ true = (and_parts _ (list_all is_name_byte name) (name_of_short name short)).1 in
           absurd (both_ways (list_all is_name_byte name) (list_all_at is_name_byte name i 0 lt (ap is_name_byte zero)) all)
     ]
+
     place : position_or_len (λ b. b == 0) (name_field name) ≡ length name
     place = position_or_len_is (λ b. b == 0) (name_field name) (length name) 0 (omega (arith, length-name_field name short, few))
         (λ k lt. ap (λ b. b == 0) (field_in name k lt) ∙ no_zero k lt) (λ lt. eq-eqb _ _ (field_past name (length name) (omega arith)))
 
 same_label : (l m : Label) → l.group ≡ m.group → l.disk ≡ m.disk → l.slot ≡ m.slot → l.sectors ≡ m.sectors → l ≡ m
-same_label l m a b c d = λ i. record { group = a i; disk = b i; slot = c i; sectors = d i; }
+same_label l m a b c d = λ i. record { group = a i; disk = b i; slot = c i; sectors = d i }
 
 module _ (l : Label) (f : Fits l) where
   size : length (sector_naming l) ≡ 512
@@ -116,18 +118,18 @@ header_spells sector l e =
     let where_named = named_where _ (label_in sector) l e in
     let parts = and_parts (is_label (label_in sector)) (bytes_eq sector (sector_naming (label_in sector))) where_named.0 in
     let fits : is_label l ≡ true = ap is_label (sym where_named.1) ∙ parts.0 in
-    record { fits = fits_from l fits; spelled = (bytes_eq-Decides sector (sector_naming (label_in sector))).0 parts.1 ∙ ap sector_naming where_named.1; }
+    record { fits = fits_from l fits; spelled = (bytes_eq-Decides sector (sector_naming (label_in sector))).0 parts.1 ∙ ap sector_naming where_named.1 }
 
 -- a header's own sector says it
 pub header_said : (h : Header) (sector : List ℕ) → sector ≡ sector_of_header h → header_of sector ≡ Some (label_of h)
-header_said h sector is = ap header_of is ∙ header_back (label_of h) (record { group = h.group_short; disk = h.disk_short; slot = h.slot_below; public = h.public; at_most = h.at_most; })
+header_said h sector is = ap header_of is ∙ header_back (label_of h) (record { group = h.group_short; disk = h.disk_short; slot = h.slot_below; public = h.public; at_most = h.at_most })
 
 module _ (sector : List ℕ) where
   -- what says something is a header's sector
   pub header_is : (l : Label) → header_of sector ≡ Some l → IsHeader sector
   header_is l e =
       let spells = header_spells sector l e in
-      (record { group = l.group; disk = l.disk; slot = l.slot; sectors = l.sectors; group_short = spells.fits.group; disk_short = spells.fits.disk; slot_below = spells.fits.slot; public = spells.fits.public; at_most = spells.fits.at_most; }, spells.spelled)
+      (record { group = l.group; disk = l.disk; slot = l.slot; sectors = l.sectors; group_short = spells.fits.group; disk_short = spells.fits.disk; slot_below = spells.fits.slot; public = spells.fits.public; at_most = spells.fits.at_most }, spells.spelled)
 
   -- a sector of another mark, or that no header goes on as, says nothing
   pub unmarked_says : (take 8 sector ≡ codes "vxprv001" → ⊥) → header_of sector ≡ None

@@ -1,5 +1,5 @@
 -- A toggle's sector says the toggle, and a sector that says something is a toggle's.
-use Rattle.std.proofs.Common.{◌≡◌, ℕ, ◌+◌, ◌-◌, ◌^◌, ◌<◌, ◌≤◌, true, false, cond, Bool, List, length, take, drop, get_or, Option, Some, None, arith, refl, sym, ◌∙◌, ap, subst, IsTrue}
+use Rattle.std.proofs.Common.{◌≡◌, ℕ, ◌+◌, ◌-◌, ◌^◌, ◌<◌, ◌≤◌, true, false, cond, Bool, List, take, drop, get_or, Option, Some, None, arith, refl, sym, ◌∙◌, ap}
 use Rattle.std.specs.Prelude.{◌&&◌, nat_lt, nat_le}
 use Rattle.std.specs.Int.{w32, w64, from_be_bytes}
 use Rattle.std.specs.Str.{bytes_eq}
@@ -10,7 +10,6 @@ use Rattle.vx_sector.specs.Fields.{zeros, eight_bytes, four_bytes}
 use Rattle.vx_sector.proofs.FieldLemmas.{length-eight_bytes, length-four_bytes, get_or-zeros}
 use Rattle.vx_header.specs.Said.{Said, fields_of, is_said, sector_saying, said_by, said_of, toggle_of}
 use Rattle.vx_header.specs.Places.{IsFirstBad, is_toggle_place, toggle_end}
-use Rattle.vx_header.specs.Sectors.{toggle_sector}
 use Rattle.vx_header.specs.Spelled.{sector_of_toggle, IsToggle}
 use Rattle.vx_header.specs.declared.toggle.Toggle.{Toggle}
 use Rattle.vx_header.proofs.TogglePlaces.{length-toggle, toggle_mark, toggle_sequence, toggle_half, toggle_text, toggle_good}
@@ -38,13 +37,13 @@ fits_from s e =
     let b = and_parts (nat_lt 0 s.sequence && nat_lt s.sequence (2 ^ 64) && nat_lt s.half 2) (nat_le s.length 522240) a.0 in
     let c = and_parts (nat_lt 0 s.sequence && nat_lt s.sequence (2 ^ 64)) (nat_lt s.half 2) b.0 in
     let d = and_parts (nat_lt 0 s.sequence) (nat_lt s.sequence (2 ^ 64)) c.0 in
-    record { some = ltb-true _ _ d.0; sequence = ltb-true _ _ d.1; half = ltb-true _ _ c.1; text = leb-true _ _ b.1; good = ltb-true _ _ a.1; }
+    record { some = ltb-true _ _ d.0; sequence = ltb-true _ _ d.1; half = ltb-true _ _ c.1; text = leb-true _ _ b.1; good = ltb-true _ _ a.1 }
 
 pub fits_is : (s : Said) → Fits s → is_said s ≡ true
 fits_is s f = and_from _ _ (and_from _ _ (and_from _ _ (and_from _ _ (lt-ltb _ _ f.some) (lt-ltb _ _ f.sequence)) (lt-ltb _ _ f.half)) (le-leb _ _ f.text)) (lt-ltb _ _ f.good)
 
 same_said : (s t : Said) → s.sequence ≡ t.sequence → s.half ≡ t.half → s.length ≡ t.length → s.good ≡ t.good → s ≡ t
-same_said s t a b c d = λ i. record { sequence = a i; half = b i; length = c i; good = d i; }
+same_said s t a b c d = λ i. record { sequence = a i; half = b i; length = c i; good = d i }
 
 module _ (s : Said) (f : Fits s) where
   field_sequence : take 8 (drop 8 (sector_saying s)) ≡ eight_bytes s.sequence
@@ -92,11 +91,11 @@ said_spells sector s e =
     let where_said = said_where _ (fields_of sector) s e in
     let parts = and_parts (is_said (fields_of sector)) (bytes_eq sector (sector_saying (fields_of sector))) where_said.0 in
     let fits : is_said s ≡ true = ap is_said (sym where_said.1) ∙ parts.0 in
-    record { fits = fits_from s fits; spelled = (bytes_eq-Decides sector (sector_saying (fields_of sector))).0 parts.1 ∙ ap sector_saying where_said.1; }
+    record { fits = fits_from s fits; spelled = (bytes_eq-Decides sector (sector_saying (fields_of sector))).0 parts.1 ∙ ap sector_saying where_said.1 }
 
 -- a toggle's own sector says it
 pub toggle_said : (t : Toggle) (sector : List ℕ) → sector ≡ sector_of_toggle t → toggle_of sector ≡ Some (said_of t)
-toggle_said t sector is = ap toggle_of is ∙ said_back (said_of t) (record { some = t.some; sequence = t.sequence_fits; half = t.half_below; text = t.text_fits; good = t.good_fits; })
+toggle_said t sector is = ap toggle_of is ∙ said_back (said_of t) (record { some = t.some; sequence = t.sequence_fits; half = t.half_below; text = t.text_fits; good = t.good_fits })
 
 -- zeros say nothing
 pub zeros_say : (n : ℕ) → toggle_of (zeros n) ≡ None
@@ -114,7 +113,7 @@ module _ (sector : List ℕ) where
   pub said_is : (s : Said) → toggle_of sector ≡ Some s → IsToggle sector
   said_is s e =
       let spells = said_spells sector s e in
-      (record { sequence = s.sequence; half = s.half; length = s.length; good = s.good; some = spells.fits.some; sequence_fits = spells.fits.sequence; half_below = spells.fits.half; text_fits = spells.fits.text; good_fits = spells.fits.good; }, spells.spelled)
+      (record { sequence = s.sequence; half = s.half; length = s.length; good = s.good; some = spells.fits.some; sequence_fits = spells.fits.sequence; half_below = spells.fits.half; text_fits = spells.fits.text; good_fits = spells.fits.good }, spells.spelled)
 
   -- a sector that no toggle goes on as says nothing
   pub bad_says : (byte : ℕ) → IsFirstBad IsToggle is_toggle_place toggle_end sector byte → toggle_of sector ≡ None

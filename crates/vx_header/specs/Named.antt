@@ -15,7 +15,7 @@ pub record Label : Type 0 where
 
 -- what a header says
 abbrev pub label_of : Header → Label
-label_of h = record { group = h.group; disk = h.disk; slot = h.slot; sectors = h.sectors; }
+label_of h = record { group = h.group; disk = h.disk; slot = h.slot; sectors = h.sectors }
 
 -- the bytes of a field before its first zero
 abbrev pub name_in : List ℕ → Word

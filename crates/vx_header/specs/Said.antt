@@ -1,5 +1,5 @@
 -- What a sector says as a toggle, where it is one.
-use Rattle.std.specs.Prelude.{ℕ, ◌^◌, ◌&&◌, nat_le, nat_lt, Bool, if◌then◌else◌, Option, Some, None, option_map, List, take, drop, slice_index}
+use Rattle.std.specs.Prelude.{ℕ, ◌^◌, ◌&&◌, nat_le, nat_lt, Bool, if◌then◌else◌, Option, Some, None, List, take, drop, slice_index}
 use Rattle.std.specs.Int.{w32, w64, from_be_bytes}
 use Rattle.std.specs.Str.{bytes_eq}
 use Rattle.vx_header.specs.Sectors.{toggle_sector}
@@ -13,7 +13,7 @@ pub record Said : Type 0 where
 
 -- what a toggle says
 abbrev pub said_of : Toggle → Said
-said_of t = record { sequence = t.sequence; half = t.half; length = t.length; good = t.good; }
+said_of t = record { sequence = t.sequence; half = t.half; length = t.length; good = t.good }
 
 -- the numbers that stand in the fields of a toggle
 unfoldable pub fields_of : List ℕ → Said

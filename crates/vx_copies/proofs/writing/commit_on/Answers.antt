@@ -27,7 +27,16 @@ returns-in-Done-clause-ends g c =
     (ends.0, ends.1, omega (arith, same, some, there))
 
 pub returns-in-Done-clause-sound : goal.returns-in-Done-clause-sound
-returns-in-Done-clause-sound g c = λ group others is. c.attempt.ensures.sound group others c.again.sequence (omega arith) (c.again.invariant.sound group others is)
+returns-in-Done-clause-sound g c = λ group others is.
+    let some = c.any_good.ensures.some c.again-test.true in
+    let there : good_count (map (held g.P.Piece.seen) (take c.args.carriers c.again.disks)) ≡ good_count (take c.args.carriers (map (held g.P.Piece.seen) c.again.disks)) = ap good_count (sym (take-map (held g.P.Piece.seen) c.args.carriers c.again.disks)) in
+    c.attempt.ensures.sound group others c.again.sequence c.args.carriers (omega arith) (omega (arith, some, there)) (c.again.invariant.sound group others is)
+
+pub returns-in-Done-clause-all : goal.returns-in-Done-clause-all
+returns-in-Done-clause-all g c = λ group others is.
+    let some = c.any_good.ensures.some c.again-test.true in
+    let there : good_count (map (held g.P.Piece.seen) (take c.args.carriers c.again.disks)) ≡ good_count (take c.args.carriers (map (held g.P.Piece.seen) c.again.disks)) = ap good_count (sym (take-map (held g.P.Piece.seen) c.args.carriers c.again.disks)) in
+    rw c.again.invariant.long at c.attempt.ensures.all group others c.again.sequence c.args.carriers (omega arith) (omega (arith, some, there)) (c.again.invariant.sound group others is) c.in-Done.is
 
 pub returns-in-Done-clause-few : goal.returns-in-Done-clause-few
 returns-in-Done-clause-few g c =
@@ -40,7 +49,10 @@ pub returns-in-Cut-clause-goes : goal.returns-in-Cut-clause-goes
 returns-in-Cut-clause-goes g c = one_more (c.args.sequence.now + 1) c.again.sequence c.args.text.now _ _ _ (omega (arith, c.again.invariant.later)) c.again.invariant.goes c.attempt.ensures.goes
 
 pub returns-in-Cut-clause-sound : goal.returns-in-Cut-clause-sound
-returns-in-Cut-clause-sound g c = λ group others is. c.attempt.ensures.sound group others c.again.sequence (omega arith) (c.again.invariant.sound group others is)
+returns-in-Cut-clause-sound g c = λ group others is.
+    let some = c.any_good.ensures.some c.again-test.true in
+    let there : good_count (map (held g.P.Piece.seen) (take c.args.carriers c.again.disks)) ≡ good_count (take c.args.carriers (map (held g.P.Piece.seen) c.again.disks)) = ap good_count (sym (take-map (held g.P.Piece.seen) c.args.carriers c.again.disks)) in
+    c.attempt.ensures.sound group others c.again.sequence c.args.carriers (omega arith) (omega (arith, some, there)) (c.again.invariant.sound group others is)
 
 pub returns-in-Cut-clause-few : goal.returns-in-Cut-clause-few
 returns-in-Cut-clause-few g c =
@@ -53,6 +65,8 @@ pub again-preserved : goal.again-preserved
 again-preserved g c =
     let ends : AttemptEnds Dropped (c.again.sequence + 1) c.args.text.now (map (held g.P.Piece.seen) c.again.disks) (map (held g.P.Piece.seen) c.attempt.new.disks) = rw c.in-Dropped.is at c.attempt.ensures.ends in
     let less = ends.1 in
+    let some = c.any_good.ensures.some c.again-test.true in
+    let there : good_count (map (held g.P.Piece.seen) (take c.args.carriers c.again.disks)) ≡ good_count (take c.args.carriers (map (held g.P.Piece.seen) c.again.disks)) = ap good_count (sym (take-map (held g.P.Piece.seen) c.args.carriers c.again.disks)) in
     record {
       size = c.attempt.ensures.size;
       long = c.attempt.auto.disks ∙ c.again.invariant.long;
@@ -60,7 +74,7 @@ again-preserved g c =
       bound = omega (arith, less, c.again.invariant.bound);
       ready = ends.0;
       goes = one_more (c.args.sequence.now + 1) c.again.sequence c.args.text.now _ _ _ (omega (arith, c.again.invariant.later)) c.again.invariant.goes c.attempt.ensures.goes;
-      sound = λ group others is. c.attempt.ensures.sound group others c.again.sequence (omega arith) (c.again.invariant.sound group others is);
+      sound = λ group others is. c.attempt.ensures.sound group others c.again.sequence c.args.carriers (omega arith) (omega (arith, some, there)) (c.again.invariant.sound group others is);
     }
 
 pub returns-clause-ends : goal.returns-clause-ends

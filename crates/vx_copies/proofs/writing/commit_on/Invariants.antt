@@ -13,7 +13,7 @@ invariant-again g l = record {
   bound : l.sequence + good_count (map (held g.P.Piece.seen) l.disks) ≤ l.fn.sequence + 32;
   ready : AllOf IsReady (map (held g.P.Piece.seen) l.disks);
   goes : Each (Goes (l.fn.sequence + 1) l.sequence l.text) (map (held g.P.Piece.seen) l.fn.disks) (map (held g.P.Piece.seen) l.disks);
-  sound : (group : Word) (others : List Copy) → IsSound group others l.fn.sequence (map (held g.P.Piece.seen) l.fn.disks) → IsSound group others l.sequence (map (held g.P.Piece.seen) l.disks);
+  sound : (group : Word) (others : List Copy) → IsSound group others l.fn.sequence l.carriers (map (held g.P.Piece.seen) l.fn.disks) → IsSound group others l.sequence l.carriers (map (held g.P.Piece.seen) l.disks);
 }
 
 abbrev pub decreases-again : goal.decreases-again

@@ -9,7 +9,7 @@ use Rattle.vx_copies.specs.Image.{Offer, offer_of}
 use Rattle.vx_copies.specs.Disks.{Held, Goes, Stays, Stamps, Drops, Offers, OffersJust, StaysTold, IsNew}
 use Rattle.vx_copies.specs.Commit.{HasRisen}
 
-keeps_trans : (a b c : Seen) → Keeps a b → Keeps b c → Keeps a c
+pub keeps_trans : (a b c : Seen) → Keeps a b → Keeps b c → Keeps a c
 keeps_trans a b c p q = record {
   device = q.device ∙ p.device;
   start = q.start ∙ p.start;
@@ -19,10 +19,10 @@ keeps_trans a b c p q = record {
   cut = λ is. q.cut (p.cut is);
 }
 
-keeps_refl : (a : Seen) → Keeps a a
+pub keeps_refl : (a : Seen) → Keeps a a
 keeps_refl a = record { device = refl; start = refl; sectors = refl; stop = refl; faults = omega arith; cut = λ is. is }
 
-drops_trans : (x y z : Bool) (a b c : Seen) → Keeps a b → Keeps b c → Drops x y a b → Drops y z b c → Drops x z a c
+pub drops_trans : (x y z : Bool) (a b c : Seen) → Keeps a b → Keeps b c → Drops x y a b → Drops y z b c → Drops x z a c
 drops_trans true true true a b c p q d e = refl
 drops_trans true true false a b c p q d e = let f = p.faults in omega (arith, e, f)
 drops_trans true false true a b c p q d e = cc
@@ -31,7 +31,7 @@ drops_trans false true z a b c p q d e = cc
 drops_trans false false true a b c p q d e = cc
 drops_trans false false false a b c p q d e = tt
 
-drops_refl : (x : Bool) (a : Seen) → Drops x x a a
+pub drops_refl : (x : Bool) (a : Seen) → Drops x x a a
 drops_refl true a = refl
 drops_refl false a = tt
 

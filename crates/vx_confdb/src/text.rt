@@ -1,4 +1,4 @@
-ghost use Rattle.std.specs.Prelude.{◌≡◌, ◌+◌, ◌++◌, ◌≤◌, ◌*◌, IfOk, OnOk, length, replicate, take, vec_len};
+ghost use Rattle.std.specs.Prelude.{◌≡◌, ◌+◌, ◌++◌, ◌≤◌, ◌*◌, IfOk, OnOk, length, replicate, take};
 ghost use Rattle.vx_copies.specs.Pass.{IsPadded};
 ghost use Rattle.vx_copies.specs.Image.{sectors_for};
 
@@ -11,9 +11,9 @@ const ZEROS: [u8; 512] = [0; 512];
 #[derive(Drop)]
 pub struct Text {
     bytes: Vec<u8>,
-    length: usize,
-    ghost padded: { IsPadded (take length bytes.items) bytes.items },
-    ghost inside: { length ≤ vec_len bytes },
+    size: usize,
+    ghost padded: { IsPadded (take size bytes.items) bytes.items },
+    ghost inside: { size ≤ length bytes.items },
 }
 
 impl Text {
@@ -24,16 +24,16 @@ impl Text {
         requires { length text.now ≤ 522240 }
         ensures { IfOk result (λ t. text_of t ≡ text.now) }
     {
-        let length = text.len();
-        let rest = 512 * sectors_for(length) - length;
+        let size = text.len();
+        let rest = 512 * sectors_for(size) - size;
         let bytes = with_zeros(alloc, text, rest)?;
-        Ok(Text { bytes, length })
+        Ok(Text { bytes, size })
     }
 
     pub fn text(&self) -> &[u8]
         ensures { result.now ≡ text_of self.now }
     {
-        &self.bytes[..self.length]
+        &self.bytes[..self.size]
     }
 
     /// The whole sectors.

@@ -1,7 +1,12 @@
 -- A text with the zeros behind it.
-use Rattle.std.proofs.Common.{◌≡◌, ℕ, ◌+◌, ◌-◌, ◌*◌, ◌≤◌, List, ◌++◌, length, take, arith, sym, ◌∙◌, ap}
+use Rattle.std.proofs.Common.{◌≡◌, ℕ, ◌+◌, ◌-◌, ◌*◌, ◌≤◌, List, ◌++◌, length, map, take, Result, arith, sym, ◌∙◌, ap, subst}
 use Rattle.std.proofs.lemmas.List.{take_at, length-append, length-take-le}
+use Rattle.vx_piece.specs.Seen.{Seen}
 use Rattle.vx_copies.specs.Image.{sectors_for}
+use Rattle.vx_copies.specs.Disks.{held}
+use Rattle.vx_copies.specs.declared.disk.Disk.{Disk}
+use Rattle.vx_copies.specs.declared.writing.Lost.{Lost}
+use Rattle.vx_confdb.specs.Carried.{IsCarried}
 use Rattle.vx_copies.specs.Pass.{IsPadded}
 
 module _ (text pad out : List ℕ) (n : ℕ) (is : out ≡ text ++ pad) (rest : length pad ≡ 512 * n - length text) (enough : length text ≤ 512 * n) where
@@ -22,3 +27,11 @@ module _ (text pad out : List ℕ) (n : ℕ) (is : out ≡ text ++ pad) (rest : 
         size = size ∙ ap (λ (k : ℕ). 512 * k) sectors ∙ ap (λ (k : ℕ). 512 * sectors_for k) (sym same);
         fits = omega (arith, same, fits);
       }
+
+-- what is carried for equal disks and texts
+pub carried_in : {P : Type 0} (see : P → Seen) (r : Result (Unit {0}) Lost) (carriers before now : ℕ) (told text : List ℕ) (lent old out new : List (Disk P)) → told ≡ text → lent ≡ old → out ≡ new
+    → IsCarried r carriers before now told (map (held see) lent) (map (held see) out) → IsCarried r carriers before now text (map (held see) old) (map (held see) new)
+carried_in see r carriers before now told text lent old out new e f h is =
+    subst (λ x. IsCarried r carriers before now text (map (held see) old) (map (held see) x)) h
+    (subst (λ x. IsCarried r carriers before now text (map (held see) x) (map (held see) out)) f
+    (subst (λ x. IsCarried r carriers before now x (map (held see) lent) (map (held see) out)) e is))

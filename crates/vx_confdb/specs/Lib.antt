@@ -1,3 +1,5 @@
 pub mod Faults
 pub mod Texts
 pub mod Prepare
+pub mod Carried
+pub mod Groups

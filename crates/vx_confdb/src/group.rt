@@ -1,0 +1,98 @@
+ghost use Rattle.std.specs.Prelude.{◌≡◌, ◌+◌, ◌-◌, ◌<◌, ◌≤◌, ◌^◌, List, length, map, None, Some, Err, OnOk, IfSome};
+ghost use Rattle.vx_copies.specs.Lists.{Each};
+ghost use Rattle.vx_copies.specs.Disks.{held, Goes, good_count};
+ghost use Rattle.vx_copies.specs.Config.{GivesOldOrNew};
+ghost use Rattle.vx_copies.specs.Chain.{Copy, IsSound};
+ghost use Rattle.vx_confdb.specs.Faults.{fault_of};
+ghost use Rattle.vx_confdb.specs.Groups.{members, IsGroup, IsAlive, IsWritten, CommitGives};
+ghost use Rattle.vx_confdb.specs.Texts.{text_of};
+
+use crate::fault::{GroupFault, fault_of};
+use crate::text::Text;
+use crate::writing::write_all;
+use std::alloc::Global;
+use vx_copies::{Disk, Lost};
+use vx_header::MOST_TEXT;
+use vx_names::Name;
+use vx_piece::Piece;
+
+/// A disk group whose configuration copies are held.
+#[derive(Drop)]
+pub struct Group<P> {
+    name: Name,
+    disks: Vec<Disk<P>>,
+    sequence: u64,
+    text: Text,
+    lost: Option<Lost>,
+}
+
+impl<P: Piece> Group<P> {
+    /// Writes a text as the group's configuration to all good disks. A disk that fails is not good any more, and the
+    /// commit starts again on the rest. Wherever it is stopped the disks give the old text or the new one. Once no disk
+    /// is good, or the power is gone, every later commit answers the same.
+    pub fn commit(&mut self, alloc: Global, text: &[u8]) -> Result<(), GroupFault>
+        requires group { IsGroup P.seen self.old }
+        requires low { self.old.sequence < 2 ^ 64 - 64 }
+        ensures group { IsGroup P.seen self.new }
+        ensures ends { CommitGives P.seen result text.now self.old self.new }
+        ensures too_long { 522240 < length text.now → result ≡ Err (GroupFault.TooLong (length text.now)) }
+        ensures again { length text.now ≤ 522240 → IfSome self.old.lost (λ lost. result ≡ Err (fault_of lost)) }
+        ensures old_or_new { self.old.lost ≡ None → GivesOldOrNew self.old.name (self.old.sequence + 1) self.new.sequence text.now (members P.seen self.old) (members P.seen self.new) }
+        ensures sound { (others : List Copy) → IsSound self.old.name others self.old.sequence (length self.old.disks.items) (members P.seen self.old) → IsSound self.old.name others self.new.sequence (length self.old.disks.items) (members P.seen self.new) }
+    {
+        if text.len() > MOST_TEXT as usize {
+            return Err(GroupFault::TooLong(text.len() as u64));
+        }
+        if let Some(lost) = self.lost {
+            return Err(fault_of(lost));
+        }
+        let Ok(text) = Text::of(alloc, text) else {
+            return Err(GroupFault::OutOfMemory);
+        };
+        let carriers = self.disks.len();
+        self.write(carriers, text)
+    }
+
+    /// Writes the text, as long as one of the first `carriers` disks is good.
+    fn write(&mut self, carriers: usize, text: Text) -> Result<(), GroupFault>
+        requires going { self.old.lost ≡ None }
+        requires alive { IsAlive P.seen self.old }
+        requires low { self.old.sequence < 2 ^ 64 - 64 }
+        requires carriers { carriers ≤ length self.old.disks.items }
+        ensures written { IsWritten P.seen result carriers (text_of text) self.old self.new }
+        ensures sound { (others : List Copy) → IsSound self.old.name others self.old.sequence carriers (members P.seen self.old) → IsSound self.old.name others self.new.sequence carriers (members P.seen self.new) }
+        ensures all { OnOk result ((others : List Copy) → IsSound self.old.name others self.old.sequence carriers (members P.seen self.old) → IsSound self.old.name others self.new.sequence (length self.old.disks.items) (members P.seen self.new)) }
+    {
+        match write_all(&mut self.disks, carriers, &mut self.sequence, &text) {
+            Ok(_) => {
+                self.text = text;
+                Ok(())
+            }
+            Err(lost) => {
+                self.lost = Some(lost);
+                Err(fault_of(lost))
+            }
+        }
+    }
+
+    /// The configuration's text.
+    pub fn text(&self) -> &[u8]
+        ensures { result.now ≡ text_of self.now.text }
+    {
+        self.text.text()
+    }
+
+    /// The number of the newest commit.
+    pub fn sequence(&self) -> u64
+        ensures { result ≡ self.now.sequence }
+    {
+        self.sequence
+    }
+
+    /// Gives the disks back, without a device call.
+    pub fn deport(self) -> Vec<Disk<P>>
+        ensures { result.items ≡ self.disks.items }
+    {
+        self.disks
+    }
+}

@@ -48,7 +48,7 @@ lost_by see (Err lost.GroupLost) lost.PowerLost carriers n text old new is lost 
 lost_by see (Err lost.PowerLost) lost.GroupLost carriers n text old new is lost ends = cc
 
 -- a commit whose carriers are all disks
-take_whole : {X : Type 0} (n : ℕ) (xs : List X) → length xs ≤ n → take n xs ≡ xs
+pub take_whole : {X : Type 0} (n : ℕ) (xs : List X) → length xs ≤ n → take n xs ≡ xs
 take_whole n xs le = take_all n xs le
 
 pub gives_from : {P : Type 0} (see : P → Seen) (r : Result (Unit {0}) GroupFault) (n : ℕ) (text : List ℕ) (old new : Group P) → length (members see old) ≤ n → length (members see new) ≤ n → IsWritten see r n text old new → CommitGives see r text old new

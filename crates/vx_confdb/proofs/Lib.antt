@@ -1,3 +1,4 @@
 pub mod Filling
 pub mod Preparing
 pub mod Grouped
+pub mod Begun

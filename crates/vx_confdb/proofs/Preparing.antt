@@ -1,5 +1,5 @@
 -- What the writing of a first toggle and of a header does to what a device offers.
-use Rattle.std.proofs.Common.{◌≡◌, ◌⊎◌, ℕ, zero, suc, ◌+◌, ◌-◌, ◌<◌, Bool, true, false, List, [], ◌∷◌, length, drop, set, get_or, Option, Some, None, Result, Ok, Err, refl, sym, ap, ◌∙◌, subst, arith, inl, inr}
+use Rattle.std.proofs.Common.{◌≡◌, ◌⊎◌, ℕ, zero, suc, ◌+◌, ◌-◌, ◌<◌, Bool, true, false, List, [], ◌∷◌, length, map, drop, set, get_or, Option, Some, None, Result, Ok, Err, refl, sym, ap, ◌∙◌, subst, arith, inl, inr}
 use Rattle.std.specs.Prelude.{MatchOption}
 use Rattle.std.proofs.lemmas.Bool.{cases_order}
 use Rattle.std.proofs.lemmas.List.{take_all}
@@ -12,12 +12,13 @@ use Rattle.vx_header.proofs.Saying.{zeros_say}
 use Rattle.vx_sector.specs.Fields.{zeros}
 use Rattle.vx_piece.specs.Seen.{Seen, Writes}
 use Rattle.vx_copies.specs.Lists.{AllOf}
-use Rattle.vx_copies.specs.Disks.{Held, NamesHalf}
+use Rattle.vx_copies.specs.Disks.{Held, held, NamesHalf}
 use Rattle.vx_copies.specs.declared.disk.Disk.{Disk}
 use Rattle.vx_copies.specs.Image.{toggle_at, offer_by, offer_of, offer_if, names_group, offer_in}
 use Rattle.vx_copies.proofs.Halves.{torn_out, written_torn}
 use Rattle.vx_copies.proofs.Going.{keeps_trans, keeps_refl, drops_trans, drops_refl}
-use Rattle.vx_confdb.specs.Prepare.{IsFresh, IsBlank, IsHeaded, OffersLess, Prepares}
+use Rattle.vx_confdb.specs.Prepare.{IsFresh, IsBlank, IsHeaded, OffersLess, Prepares, AreJoined}
+use Rattle.vx_confdb.specs.declared.joining.Prepared.{Prepared}
 
 no_offer : (b : Bool) → offer_if b None ≡ None
 no_offer true = refl
@@ -135,3 +136,8 @@ pub fresh_rest : {P : Type 0} (see : P → Seen) (group : Word) (ds : List (Disk
 fresh_rest see group [] i d all = tt
 fresh_rest see group (x ∷ ds) zero d all = all.1
 fresh_rest see group (x ∷ ds) (suc i) d all = fresh_rest see group ds i d all
+
+-- what was joined of equal lists
+pub joined_in : {P : Type 0} (see : P → Seen) (r : Prepared) (group : Word) (lent old out new : List (Disk P)) → lent ≡ old → out ≡ new → AreJoined r group (map (held see) lent) (map (held see) out) → AreJoined r group (map (held see) old) (map (held see) new)
+joined_in see r group lent old out new f h is =
+    subst (λ x. AreJoined r group (map (held see) old) (map (held see) x)) h (subst (λ x. AreJoined r group (map (held see) x) (map (held see) out)) f is)

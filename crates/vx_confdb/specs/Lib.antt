@@ -3,3 +3,4 @@ pub mod Texts
 pub mod Prepare
 pub mod Carried
 pub mod Groups
+pub mod Create

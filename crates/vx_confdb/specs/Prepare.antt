@@ -5,8 +5,8 @@ use Rattle.vx_base.specs.Named.{Word}
 use Rattle.vx_header.specs.Named.{Label, header_of}
 use Rattle.vx_header.specs.Sectors.{is_short_name}
 use Rattle.vx_piece.specs.Seen.{Seen, Keeps}
-use Rattle.vx_copies.specs.Lists.{AllOf, AnyOf}
-use Rattle.vx_copies.specs.Image.{toggle_at, offer_in}
+use Rattle.vx_copies.specs.Lists.{Each, AllOf, AnyOf}
+use Rattle.vx_copies.specs.Image.{toggle_at, offer_in, offer_told}
 use Rattle.vx_copies.specs.Disks.{Held, IsCut, IsReady, Drops}
 use Rattle.vx_copies.specs.declared.disk.Disk.{Disk}
 use Rattle.vx_confdb.specs.declared.joining.Prepared.{Prepared}
@@ -60,3 +60,15 @@ PrepareEnds Cut group h = IsCut h
 abbrev pub AllPrepared : Prepared → Word → List Held → Type 0
 AllPrepared Done group hs = AllOf (IsPrepared group) hs
 AllPrepared Cut group hs = AnyOf IsCut hs
+
+pub record AreJoined (result : Prepared) (group : Word) (old new : List Held) : Type 0 where
+  pub prepares : Each Prepares old new
+  pub ends : AllPrepared result group new
+
+-- the device offers nothing in the group
+abbrev pub OffersNone : Word → Held → Type 0
+OffersNone group h = offer_told group h.seen.told ≡ None
+
+-- the disk tells what it holds
+abbrev pub Tells : Held → Type 0
+Tells h = MatchOption h.seen.told ⊥ (λ contents. Unit {0})

@@ -22,7 +22,7 @@ impl From<OutOfMemory> for GroupFault {
     }
 }
 
-pub fn fault_of(lost: Lost) -> GroupFault
+pub(crate) fn fault_of(lost: Lost) -> GroupFault
     ensures { result ≡ fault_of lost }
 {
     match lost {

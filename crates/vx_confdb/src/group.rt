@@ -27,6 +27,18 @@ pub struct Group<P> {
 }
 
 impl<P: Piece> Group<P> {
+    pub(crate) fn of(name: Name, disks: Vec<Disk<P>>, sequence: u64, text: Text) -> Group<P>
+        ensures { result ≡ record { name = name; disks = disks; sequence = sequence; text = text; lost = None } }
+    {
+        Group {
+            name,
+            disks,
+            sequence,
+            text,
+            lost: None,
+        }
+    }
+
     /// Writes a text as the group's configuration to all good disks. A disk that fails is not good any more, and the
     /// commit starts again on the rest. Wherever it is stopped the disks give the old text or the new one. Once no disk
     /// is good, or the power is gone, every later commit answers the same.

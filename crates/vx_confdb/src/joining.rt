@@ -1,7 +1,7 @@
 ghost use Rattle.std.specs.Prelude.{◌≡◌, ◌<◌, ◌≤◌, length, map};
 ghost use Rattle.vx_copies.specs.Lists.{Each, AllOf};
 ghost use Rattle.vx_copies.specs.Disks.{held};
-ghost use Rattle.vx_confdb.specs.Prepare.{IsFresh, IsBlank, Prepares, PrepareEnds, AllPrepared};
+ghost use Rattle.vx_confdb.specs.Prepare.{IsFresh, IsBlank, Prepares, PrepareEnds, AllPrepared, AreJoined};
 
 use vx_copies::Disk;
 use vx_header::Header;
@@ -18,8 +18,17 @@ pub enum Prepared {
     Cut,
 }
 
-/// Makes each disk a member of a group.
-pub fn prepare_all<P: Piece>(disks: &mut [Disk<P>], group: &Name, sector: &mut [u8]) -> Prepared
+/// Makes each disk a member of a group that carries no configuration yet.
+pub fn join_all<P: Piece>(disks: &mut Vec<Disk<P>>, group: &Name) -> Prepared
+    requires fresh { AllOf (IsFresh P.seen group.now) disks.old.items }
+    ensures joined { AreJoined result group.now (map (held P.seen) disks.old.items) (map (held P.seen) disks.new.items) }
+    ensures long { length disks.new.items ≡ length disks.old.items }
+{
+    let mut sector = [0; 512];
+    prepare_all(disks, group, &mut sector)
+}
+
+fn prepare_all<P: Piece>(disks: &mut [Disk<P>], group: &Name, sector: &mut [u8]) -> Prepared
     requires fresh { AllOf (IsFresh P.seen group.now) disks.old }
     requires size { length sector.old ≡ 512 }
     ensures size { length sector.new ≡ 512 }
@@ -40,7 +49,7 @@ pub fn prepare_all<P: Piece>(disks: &mut [Disk<P>], group: &Name, sector: &mut [
 
 /// Makes a disk a member of a group that carries no configuration yet: a toggle of zeros, and then the header. No header
 /// is written where the toggle could not be.
-pub fn prepare<P: Piece>(disk: &mut Disk<P>, group: &Name, sector: &mut [u8]) -> Prepared
+fn prepare<P: Piece>(disk: &mut Disk<P>, group: &Name, sector: &mut [u8]) -> Prepared
     requires fresh { IsFresh P.seen group.now disk.old }
     requires size { length sector.old ≡ 512 }
     ensures size { length sector.new ≡ 512 }

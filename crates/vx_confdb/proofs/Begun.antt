@@ -48,7 +48,7 @@ pub prepared_headed : (group : Word) (hs : List Held) → AllOf (IsPrepared grou
 prepared_headed group [] all = tt
 prepared_headed group (h ∷ hs) all = (all.0.headed, prepared_headed group hs all.1)
 
-none_if : (r : Bool) (o : Option Offer) → o ≡ None → cond r o None ≡ None
+pub none_if : (r : Bool) (o : Option Offer) → o ≡ None → cond r o None ≡ None
 none_if true o is = is
 none_if false o is = refl
 
@@ -71,13 +71,13 @@ pub none_still : (group : Word) (text : List ℕ) (hs : List Held) → AllOf (Of
 none_still group text hs none = λ readable. inl (none_given group readable hs none)
 
 -- disks that joined, and then were written
-prepares_joins : (a b : Held) → Prepares a b → Joins a b
+pub prepares_joins : (a b : Held) → Prepares a b → Joins a b
 prepares_joins a b is = record { slot = is.slot; kept = is.kept; good = is.good; }
 
-goes_joins : (f l : ℕ) (text : List ℕ) (a b : Held) → Goes f l text a b → Joins a b
+pub goes_joins : (f l : ℕ) (text : List ℕ) (a b : Held) → Goes f l text a b → Joins a b
 goes_joins f l text a b is = record { slot = is.slot; kept = is.kept; good = is.good; }
 
-joins_trans : (a b c : Held) → Joins a b → Joins b c → Joins a c
+pub joins_trans : (a b c : Held) → Joins a b → Joins b c → Joins a c
 joins_trans a b c p q = record { slot = q.slot ∙ p.slot; kept = keeps_trans _ _ _ p.kept q.kept; good = drops_trans a.good b.good c.good a.seen b.seen c.seen p.kept q.kept p.good q.good; }
 
 pub all_prepare : (hs bs : List Held) → Each Prepares hs bs → Each Joins hs bs
@@ -104,7 +104,7 @@ all_rose f l text (a ∷ hs) (b ∷ bs) [] p q rose = absurd q
 all_rose f l text (a ∷ hs) (b ∷ bs) (c ∷ cs) p q rose = (risen_one a b c p.0 (goes_joins f l text b c q.0) rose.0, all_rose f l text hs bs cs p.1 q.1 rose.1)
 
 -- a group that offers nothing is sound
-tells_still : (t u : Option Contents) → OffersLess t u → MatchOption t ⊥ (λ c. Unit {0}) → MatchOption u ⊥ (λ c. Unit {0})
+pub tells_still : (t u : Option Contents) → OffersLess t u → MatchOption t ⊥ (λ c. Unit {0}) → MatchOption u ⊥ (λ c. Unit {0})
 tells_still None u less tells = absurd tells
 tells_still (Some t) None less tells = absurd less
 tells_still (Some t) (Some u) less tells = tt
@@ -115,7 +115,7 @@ tell_all [] (b ∷ bs) is all = absurd is
 tell_all (a ∷ hs) [] is all = absurd is
 tell_all (a ∷ hs) (b ∷ bs) is all = (tells_still a.seen.told b.seen.told is.0.told all.0, tell_all hs bs is.1 all.1)
 
-member_one : (group : Word) (slot : ℕ) (t : Option Contents) → MatchOption t ⊥ (λ c. Unit {0}) → IsHeaded group slot t → IsMember group t
+pub member_one : (group : Word) (slot : ℕ) (t : Option Contents) → MatchOption t ⊥ (λ c. Unit {0}) → IsHeaded group slot t → IsMember group t
 member_one group slot None tells is = absurd tells
 member_one group slot (Some c) tells is = ap (names_group group) is.1 ∙ (bytes_eq-Decides is.0.group group).1 is.2
 

@@ -2,3 +2,4 @@ pub mod Filling
 pub mod Preparing
 pub mod Grouped
 pub mod Begun
+pub mod Adding

@@ -4,3 +4,4 @@ pub mod Prepare
 pub mod Carried
 pub mod Groups
 pub mod Create
+pub mod Add

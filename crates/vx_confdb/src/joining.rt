@@ -28,6 +28,16 @@ pub fn join_all<P: Piece>(disks: &mut Vec<Disk<P>>, group: &Name) -> Prepared
     prepare_all(disks, group, &mut sector)
 }
 
+/// The same of one disk.
+pub fn join_one<P: Piece>(disk: &mut Disk<P>, group: &Name) -> Prepared
+    requires fresh { IsFresh P.seen group.now disk.old }
+    ensures prepares { Prepares (held P.seen disk.old) (held P.seen disk.new) }
+    ensures ends { PrepareEnds result group.now (held P.seen disk.new) }
+{
+    let mut sector = [0; 512];
+    prepare(disk, group, &mut sector)
+}
+
 fn prepare_all<P: Piece>(disks: &mut [Disk<P>], group: &Name, sector: &mut [u8]) -> Prepared
     requires fresh { AllOf (IsFresh P.seen group.now) disks.old }
     requires size { length sector.old ≡ 512 }

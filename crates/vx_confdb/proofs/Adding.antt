@@ -1,12 +1,11 @@
 -- A disk that offers nothing stands behind the others.
-use Rattle.std.proofs.Common.{◌≡◌, ◌⊎◌, ℕ, suc, ◌+◌, ◌<◌, ◌≤◌, Bool, true, false, cond, List, [], ◌∷◌, ◌++◌, length, map, take, Option, Some, None, Result, Ok, Err, refl, sym, ap, ◌∙◌, subst, arith, inl, inr}
-use Rattle.std.specs.Prelude.{IsTrue, MatchOption}
+use Rattle.std.proofs.Common.{◌≡◌, ◌⊎◌, ℕ, ◌+◌, ◌≤◌, Bool, cond, List, [], ◌∷◌, ◌++◌, length, map, take, Option, Some, None, Result, Ok, Err, refl, sym, ap, ◌∙◌, subst, inl, inr}
+use Rattle.std.specs.Prelude.{MatchOption}
 use Rattle.std.proofs.lemmas.List.{length-append, length-map}
 use Rattle.vx_base.specs.Named.{Word}
-use Rattle.vx_mask.specs.Mask.{has}
 use Rattle.vx_piece.specs.Seen.{Seen}
 use Rattle.vx_copies.specs.Lists.{Each, AllOf, AnyOf}
-use Rattle.vx_copies.specs.Image.{Offer, offer_told, higher, highest}
+use Rattle.vx_copies.specs.Image.{Offer, offer_told, higher}
 use Rattle.vx_copies.specs.Disks.{Held, held, Goes, IsReady, IsBelow, IsCut}
 use Rattle.vx_copies.specs.Config.{configuration, GivesOldOrNew}
 use Rattle.vx_copies.specs.Chain.{Copy, copy_of, AllUpTo, NamesNewer, IsChained, NamesGood, IsGoodMember, IsSound}
@@ -16,7 +15,7 @@ use Rattle.vx_copies.specs.Commit.{HasRisen}
 use Rattle.vx_confdb.specs.Add.{IsTaken, IsJoined, AddGives}
 use Rattle.vx_confdb.specs.Create.{Joins}
 use Rattle.vx_confdb.specs.Groups.{members, IsMemberOf, IsAlive, IsGroup, WrittenBy}
-use Rattle.vx_confdb.specs.Prepare.{Prepares, PrepareEnds, IsPrepared, OffersNone, Tells}
+use Rattle.vx_confdb.specs.Prepare.{Prepares, PrepareEnds, IsPrepared, OffersNone, Tells, label_in}
 use Rattle.vx_confdb.specs.declared.fault.GroupFault.{GroupFault}
 use Rattle.vx_confdb.specs.declared.fault.GroupFault.TheVariants as fault
 use Rattle.vx_confdb.specs.declared.group.Group.{Group}
@@ -60,7 +59,7 @@ same_configuration group readable (a ∷ hs) h none = ap (higher (cond (readable
 
 -- joining
 joins_refl : (a : Held) → Joins a a
-joins_refl a = record { slot = refl; kept = keeps_refl a.seen; good = drops_refl a.good a.seen; }
+joins_refl a = record { slot = refl; name = refl; size = refl; kept = keeps_refl a.seen; good = drops_refl a.good a.seen }
 
 pub joins_last : (f l : ℕ) (text : List ℕ) (hs new : List Held) (h h' : Held) → Prepares h h' → Each (Goes f l text) (hs ++ h' ∷ []) new → Each Joins (hs ++ h ∷ []) new
 joins_last f l text hs new h h' prepares goes =
@@ -147,7 +146,7 @@ joined_is see Cut mid hs h is few ready headed below none ends = (
 
 -- the disk as it joined
 pub member_by : (group : Word) (h h' : Held) → Prepares h h' → Tells h → IsPrepared group h' → IsGoodMember group h'
-member_by group h h' prepares tells prepared = λ good. member_one group h'.slot h'.seen.told (tells_still h.seen.told h'.seen.told prepares.told tells) (prepared.headed good)
+member_by group h h' prepares tells prepared = λ good. member_one group (label_in group h') h'.seen.told refl (tells_still h.seen.told h'.seen.told prepares.told tells) (prepared.headed good)
 
 pub chain_by : (r : Prepared) (group : Word) (os : List Copy) (last later n : ℕ) (hs ms new : List Held) (h h' : Held) → ms ≡ hs ++ h' ∷ [] → n ≡ length hs → Prepares h h' → OffersNone group h' → PrepareEnds r group h'
     → (r ≡ Cut → new ≡ ms) → (IsSound group os last n ms → IsSound group os later n new) → Tells h → IsSound group os last n hs → IsChained (os ++ map (copy_of group) new)

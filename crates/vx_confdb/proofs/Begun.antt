@@ -1,19 +1,19 @@
 -- What the making of a group leaves of its disks.
-use Rattle.std.proofs.Common.{◌≡◌, ◌⊎◌, ℕ, ◌+◌, ◌≤◌, Bool, true, false, cond, List, [], ◌∷◌, ◌++◌, length, map, take, Option, Some, None, Result, Ok, Err, refl, sym, ap, ◌∙◌, subst, arith, inl, inr}
+use Rattle.std.proofs.Common.{◌≡◌, ◌⊎◌, ℕ, ◌≤◌, Bool, true, false, cond, List, [], ◌∷◌, ◌++◌, length, map, take, Option, Some, None, Result, Ok, Err, refl, sym, ap, ◌∙◌, subst, arith, inl, inr}
 use Rattle.std.specs.Prelude.{IsTrue, MatchOption}
 use Rattle.std.proofs.lemmas.Slice.Eq.{bytes_eq-Decides}
 use Rattle.vx_base.specs.Blocks.{Contents}
 use Rattle.vx_base.specs.Counts.{Rose}
 use Rattle.vx_base.specs.Named.{Word}
-use Rattle.vx_header.specs.Named.{header_of}
+use Rattle.vx_header.specs.Named.{Label}
 use Rattle.vx_piece.specs.Seen.{Seen}
 use Rattle.vx_copies.specs.Lists.{Each, AllOf}
 use Rattle.vx_copies.specs.Image.{Offer, offer_told, names_group, higher}
 use Rattle.vx_copies.specs.Disks.{Held, held, Drops, Goes, IsReady, IsBelow, IsNew, IsMember}
 use Rattle.vx_copies.specs.Config.{configuration, GivesOldOrNew}
-use Rattle.vx_copies.specs.Chain.{Copy, copy_of, AllUpTo, NamesGood, IsGoodMember, IsSound}
+use Rattle.vx_copies.specs.Chain.{Copy, copy_of, IsGoodMember, IsSound}
 use Rattle.vx_copies.proofs.Going.{keeps_trans, drops_trans, each_trans, each_map}
-use Rattle.vx_confdb.specs.Prepare.{IsHeaded, OffersLess, Prepares, IsPrepared, OffersNone, Tells}
+use Rattle.vx_confdb.specs.Prepare.{Says, label_in, OffersLess, Prepares, IsPrepared, OffersNone, Tells}
 use Rattle.vx_confdb.specs.Groups.{IsMemberOf}
 use Rattle.vx_copies.specs.Commit.{CommitEnds, HasRisen}
 use Rattle.vx_copies.specs.declared.disk.Disk.{Disk}
@@ -72,13 +72,13 @@ none_still group text hs none = λ readable. inl (none_given group readable hs n
 
 -- disks that joined, and then were written
 pub prepares_joins : (a b : Held) → Prepares a b → Joins a b
-prepares_joins a b is = record { slot = is.slot; kept = is.kept; good = is.good; }
+prepares_joins a b is = record { slot = is.slot; name = is.name; size = is.size; kept = is.kept; good = is.good }
 
 pub goes_joins : (f l : ℕ) (text : List ℕ) (a b : Held) → Goes f l text a b → Joins a b
-goes_joins f l text a b is = record { slot = is.slot; kept = is.kept; good = is.good; }
+goes_joins f l text a b is = record { slot = is.slot; name = is.name; size = is.size; kept = is.kept; good = is.good }
 
 pub joins_trans : (a b c : Held) → Joins a b → Joins b c → Joins a c
-joins_trans a b c p q = record { slot = q.slot ∙ p.slot; kept = keeps_trans _ _ _ p.kept q.kept; good = drops_trans a.good b.good c.good a.seen b.seen c.seen p.kept q.kept p.good q.good; }
+joins_trans a b c p q = record { slot = q.slot ∙ p.slot; name = q.name ∙ p.name; size = q.size ∙ p.size; kept = keeps_trans _ _ _ p.kept q.kept; good = drops_trans a.good b.good c.good a.seen b.seen c.seen p.kept q.kept p.good q.good }
 
 pub all_prepare : (hs bs : List Held) → Each Prepares hs bs → Each Joins hs bs
 all_prepare hs bs is = each_map Prepares Joins prepares_joins hs bs is
@@ -115,13 +115,13 @@ tell_all [] (b ∷ bs) is all = absurd is
 tell_all (a ∷ hs) [] is all = absurd is
 tell_all (a ∷ hs) (b ∷ bs) is all = (tells_still a.seen.told b.seen.told is.0.told all.0, tell_all hs bs is.1 all.1)
 
-pub member_one : (group : Word) (slot : ℕ) (t : Option Contents) → MatchOption t ⊥ (λ c. Unit {0}) → IsHeaded group slot t → IsMember group t
-member_one group slot None tells is = absurd tells
-member_one group slot (Some c) tells is = ap (names_group group) is.1 ∙ (bytes_eq-Decides is.0.group group).1 is.2
+pub member_one : (group : Word) (label : Label) (t : Option Contents) → label.group ≡ group → MatchOption t ⊥ (λ c. Unit {0}) → Says label t → IsMember group t
+member_one group label None same tells is = absurd tells
+member_one group label (Some c) same tells is = ap (names_group group) is ∙ (bytes_eq-Decides label.group group).1 same
 
 members_of : (group : Word) (hs : List Held) → AllOf Tells hs → AllOf (IsMemberOf group) hs → AllOf (IsGoodMember group) hs
 members_of group [] tells all = tt
-members_of group (h ∷ hs) tells all = (λ good. member_one group h.slot h.seen.told tells.0 (all.0 good), members_of group hs tells.1 all.1)
+members_of group (h ∷ hs) tells all = (λ good. member_one group (label_in group h) h.seen.told refl tells.0 (all.0 good), members_of group hs tells.1 all.1)
 
 none_of : (Q : Offer → Type 0) (c : Copy) → c.offer ≡ None → MatchOption c.offer (Unit {0}) Q
 none_of Q c is = subst (λ o. MatchOption o (Unit {0}) Q) (sym is) tt
@@ -138,7 +138,7 @@ copies_none group (o ∷ os) hs others all = (others.0, copies_none group os hs 
 pub sound_none : (group : Word) (os : List Copy) (n k : ℕ) (hs : List Held) → AllOf (λ c. c.offer ≡ None) os → AllOf (OffersNone group) hs → AllOf Tells hs → AllOf (IsMemberOf group) hs → IsSound group os n k hs
 sound_none group os n k hs others none tells headed =
     let all = copies_none group os hs others none in
-    record { members = members_of group hs tells headed; chained = all_none _ _ all; newest = all_none _ _ all; up_to = all_none _ _ all; }
+    record { members = members_of group hs tells headed; chained = all_none _ _ all; newest = all_none _ _ all; up_to = all_none _ _ all }
 
 -- the answer of a lost commit
 pub refused_by : {P : Type 0} (see : P → Seen) (r : Result (Unit {0}) Lost) (l : Lost) (n k : ℕ) (name : Word) (text : List ℕ) (old mid new : List (Disk P)) → r ≡ Err l

@@ -1,6 +1,6 @@
 -- A text with the zeros behind it.
 use Rattle.std.proofs.Common.{◌≡◌, ℕ, ◌+◌, ◌-◌, ◌*◌, ◌≤◌, List, ◌++◌, length, map, take, Result, arith, sym, ◌∙◌, ap, subst}
-use Rattle.std.proofs.lemmas.List.{take_at, length-append, length-take-le}
+use Rattle.std.proofs.lemmas.List.{take_at, length-append}
 use Rattle.vx_piece.specs.Seen.{Seen}
 use Rattle.vx_copies.specs.Image.{sectors_for}
 use Rattle.vx_copies.specs.Disks.{held}

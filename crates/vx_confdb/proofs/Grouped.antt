@@ -1,22 +1,20 @@
 -- What a commit leaves of a group.
-use Rattle.std.proofs.Common.{◌≡◌, ◌⊎◌, ℕ, suc, ◌+◌, ◌≤◌, Bool, true, false, List, [], ◌∷◌, length, map, take, Option, Some, None, Result, Ok, Err, refl, sym, ap, ◌∙◌, subst, arith, inl, inr}
-use Rattle.std.specs.Prelude.{IsTrue, OnOk}
-use Rattle.std.proofs.lemmas.List.{take_all, length-map}
+use Rattle.std.proofs.Common.{◌≡◌, ℕ, suc, ◌≤◌, Bool, true, false, List, [], ◌∷◌, length, take, Option, Some, None, Result, Ok, Err, refl, sym, ap, ◌∙◌, subst, inl, inr}
+use Rattle.std.specs.Prelude.{IsTrue}
+use Rattle.std.proofs.lemmas.List.{take_all}
 use Rattle.vx_base.specs.Blocks.{Contents}
 use Rattle.vx_base.specs.Named.{Word}
 use Rattle.vx_header.specs.Named.{header_of}
 use Rattle.vx_piece.specs.Seen.{Seen}
-use Rattle.vx_copies.specs.Lists.{Each, AllOf, AnyOf}
-use Rattle.vx_copies.specs.Disks.{Held, held, Drops, Goes, Offers, IsReady, IsBelow, IsCut}
-use Rattle.vx_copies.specs.Config.{GivesNew}
+use Rattle.vx_copies.specs.Lists.{Each, AllOf}
+use Rattle.vx_copies.specs.Disks.{Held, Drops, Goes, Offers}
 use Rattle.vx_copies.specs.Commit.{CommitEnds, HasRisen}
-use Rattle.vx_copies.specs.declared.disk.Disk.{Disk}
 use Rattle.vx_copies.specs.declared.writing.Lost.{Lost}
 use Rattle.vx_copies.specs.declared.writing.Lost.TheVariants as lost
 use Rattle.vx_confdb.specs.Faults.{fault_of}
-use Rattle.vx_confdb.specs.Prepare.{IsHeaded}
-use Rattle.vx_confdb.specs.Texts.{text_of}
-use Rattle.vx_confdb.specs.Groups.{members, IsMemberOf, IsAlive, IsCommitted, CarriesText, WrittenBy, IsWritten, CommitGives}
+use Rattle.vx_header.specs.Named.{Label}
+use Rattle.vx_confdb.specs.Prepare.{Says, label_in}
+use Rattle.vx_confdb.specs.Groups.{members, IsMemberOf, WrittenBy, IsWritten, CommitGives}
 use Rattle.vx_confdb.specs.declared.fault.GroupFault.{GroupFault}
 use Rattle.vx_confdb.specs.declared.fault.GroupFault.TheVariants as fault
 use Rattle.vx_confdb.specs.declared.group.Group.{Group}
@@ -25,11 +23,14 @@ was_good : (x y : Bool) (a b : Seen) → Drops x y a b → IsTrue y → IsTrue x
 was_good x true a b d is = d
 was_good x false a b d is = cc
 
-headed_told : (group : Word) (m n f l : ℕ) (text : List ℕ) (t u : Option Contents) → n ≡ m → Offers f l text t u → IsHeaded group m t → IsHeaded group n u
-headed_told group m n f l text None None same offers is = tt
-headed_told group m n f l text None (Some d) same offers is = absurd offers
-headed_told group m n f l text (Some c) None same offers is = absurd offers
-headed_told group m n f l text (Some c) (Some d) same offers is = (is.0, ap header_of offers.0 ∙ is.1, is.2, is.3 ∙ sym same)
+headed_told : (a b : Label) (f l : ℕ) (text : List ℕ) (t u : Option Contents) → b ≡ a → Offers f l text t u → Says a t → Says b u
+headed_told a b f l text None None same offers is = tt
+headed_told a b f l text None (Some d) same offers is = absurd offers
+headed_told a b f l text (Some c) None same offers is = absurd offers
+headed_told a b f l text (Some c) (Some d) same offers is = ap header_of offers.0 ∙ is ∙ ap Some (sym same)
+
+same_label : (group : Word) (a b : Held) → b.name ≡ a.name → b.slot ≡ a.slot → b.sectors ≡ a.sectors → label_in group b ≡ label_in group a
+same_label group a b p q r = λ i. record { group = group; disk = p i; slot = q i; sectors = r i }
 
 -- headers stay
 pub headed_stays : (group : Word) (f l : ℕ) (text : List ℕ) (hs bs : List Held) → Each (Goes f l text) hs bs → AllOf (IsMemberOf group) hs → AllOf (IsMemberOf group) bs
@@ -37,7 +38,7 @@ headed_stays group f l text [] [] goes all = tt
 headed_stays group f l text [] (b ∷ bs) goes all = absurd goes
 headed_stays group f l text (a ∷ hs) [] goes all = absurd goes
 headed_stays group f l text (a ∷ hs) (b ∷ bs) goes all =
-    (λ good. headed_told group a.slot b.slot f l text a.seen.told b.seen.told goes.0.slot goes.0.offers (all.0 (was_good a.good b.good a.seen b.seen goes.0.good good)), headed_stays group f l text hs bs goes.1 all.1)
+    (λ good. headed_told (label_in group a) (label_in group b) f l text a.seen.told b.seen.told (same_label group a b goes.0.name goes.0.slot goes.0.size) goes.0.offers (all.0 (was_good a.good b.good a.seen b.seen goes.0.good good)), headed_stays group f l text hs bs goes.1 all.1)
 
 -- the answer of a lost commit
 pub lost_by : {P : Type 0} (see : P → Seen) (r : Result (Unit {0}) Lost) (l : Lost) (carriers n : ℕ) (text : List ℕ) (old new : Group P) → r ≡ Err l → new.lost ≡ Some l → CommitEnds r carriers n text (members see old) (members see new) → WrittenBy see (Err (fault_of l)) carriers text old new

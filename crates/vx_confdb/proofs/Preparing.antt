@@ -1,5 +1,5 @@
 -- What the writing of a first toggle and of a header does to what a device offers.
-use Rattle.std.proofs.Common.{◌≡◌, ◌⊎◌, ℕ, zero, suc, ◌+◌, ◌-◌, ◌<◌, Bool, true, false, List, [], ◌∷◌, length, map, drop, set, get_or, Option, Some, None, Result, Ok, Err, refl, sym, ap, ◌∙◌, subst, arith, inl, inr}
+use Rattle.std.proofs.Common.{◌≡◌, ◌⊎◌, ℕ, zero, suc, ◌-◌, ◌<◌, Bool, true, false, List, [], ◌∷◌, length, map, drop, set, get_or, Option, Some, None, Result, Ok, Err, refl, sym, ap, ◌∙◌, subst, arith, inl, inr}
 use Rattle.std.specs.Prelude.{MatchOption}
 use Rattle.std.proofs.lemmas.Bool.{cases_order}
 use Rattle.std.proofs.lemmas.List.{take_all}
@@ -17,7 +17,7 @@ use Rattle.vx_copies.specs.declared.disk.Disk.{Disk}
 use Rattle.vx_copies.specs.Image.{toggle_at, offer_by, offer_of, offer_if, names_group, offer_in}
 use Rattle.vx_copies.proofs.Halves.{torn_out, written_torn}
 use Rattle.vx_copies.proofs.Going.{keeps_trans, keeps_refl, drops_trans, drops_refl}
-use Rattle.vx_confdb.specs.Prepare.{IsFresh, IsBlank, IsHeaded, OffersLess, Prepares, AreJoined}
+use Rattle.vx_confdb.specs.Prepare.{IsFresh, IsBlank, Says, OffersLess, Prepares, AreJoined}
 use Rattle.vx_confdb.specs.declared.joining.Prepared.{Prepared}
 
 no_offer : (b : Bool) → offer_if b None ≡ None
@@ -86,11 +86,11 @@ module _ (sector : List ℕ) (size : length sector ≡ 512) where
   header_less (Some c) None result blank writes = absurd writes
   header_less (Some c) (Some d) result blank writes = λ group. inr (blank_offers group d (header_blank (Some c) (Some d) result blank writes))
 
-  pub header_named : {T E : Type 0} (label : Label) (told after : Option Contents) (result : Result T E) (u : T) → header_of sector ≡ Some label → result ≡ Ok u → Writes 0 sector told after result → IsHeaded label.group label.slot after
+  pub header_named : {T E : Type 0} (label : Label) (told after : Option Contents) (result : Result T E) (u : T) → header_of sector ≡ Some label → result ≡ Ok u → Writes 0 sector told after result → Says label after
   header_named label None None result u says is writes = tt
   header_named label None (Some d) result u says is writes = absurd writes
   header_named label (Some c) None result u says is writes = absurd writes
-  header_named label (Some c) (Some d) (Ok v) u says is writes = (label, ap header_of (writes 0 ∙ there 0 c) ∙ says, refl, refl)
+  header_named label (Some c) (Some d) (Ok v) u says is writes = ap header_of (writes 0 ∙ there 0 c) ∙ says
   header_named label (Some c) (Some d) (Err e) u says is writes = cc
 
 -- a disk whose toggle says nothing has no half that is named
@@ -117,6 +117,8 @@ less_refl (Some a) = λ group. inl refl
 pub prepares_trans : (a b c : Held) → Prepares a b → Prepares b c → Prepares a c
 prepares_trans a b c p q = record {
   slot = q.slot ∙ p.slot;
+  name = q.name ∙ p.name;
+  size = q.size ∙ p.size;
   half = q.half ∙ p.half;
   kept = keeps_trans _ _ _ p.kept q.kept;
   good = drops_trans a.good b.good c.good a.seen b.seen c.seen p.kept q.kept p.good q.good;
@@ -124,7 +126,7 @@ prepares_trans a b c p q = record {
 }
 
 pub prepares_refl : (a : Held) → Prepares a a
-prepares_refl a = record { slot = refl; half = refl; kept = keeps_refl a.seen; good = drops_refl a.good a.seen; told = less_refl a.seen.told; }
+prepares_refl a = record { slot = refl; name = refl; size = refl; half = refl; kept = keeps_refl a.seen; good = drops_refl a.good a.seen; told = less_refl a.seen.told }
 
 -- disks of the list
 pub fresh_at : {P : Type 0} (see : P → Seen) (group : Word) (ds : List (Disk P)) (i : ℕ) (d : Disk P) → i < length ds → AllOf (IsFresh see group) (drop i ds) → IsFresh see group (get_or ds i d)

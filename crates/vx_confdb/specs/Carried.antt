@@ -1,5 +1,5 @@
 -- What a commit over disks leaves.
-use Rattle.std.specs.Prelude.{◌≡◌, ℕ, ◌+◌, ◌≤◌, List, length, Result, OnOk}
+use Rattle.std.specs.Prelude.{ℕ, ◌+◌, ◌≤◌, List, length, Result, OnOk}
 use Rattle.vx_base.specs.Named.{Word}
 use Rattle.vx_copies.specs.Lists.{Each, AllOf}
 use Rattle.vx_copies.specs.Disks.{Held, IsBelow, Goes}

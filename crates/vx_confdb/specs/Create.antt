@@ -1,10 +1,10 @@
 -- What the making of a group leaves.
-use Rattle.std.specs.Prelude.{◌≡◌, ◌⊎◌, ℕ, ◌<◌, Bool, List, length, map, Option, Some, None, Result, Ok, Err}
+use Rattle.std.specs.Prelude.{◌≡◌, ◌⊎◌, ℕ, ◌<◌, Bool, List, length, map, Some, None, Result, Ok, Err}
 use Rattle.vx_base.specs.Named.{Word}
 use Rattle.vx_piece.specs.Seen.{Seen, Keeps}
 use Rattle.vx_copies.specs.Lists.{Each, AnyOf}
 use Rattle.vx_copies.specs.Image.{Offer}
-use Rattle.vx_copies.specs.Disks.{Held, held, Drops, IsCut, IsNew}
+use Rattle.vx_copies.specs.Disks.{Held, held, Drops, IsCut}
 use Rattle.vx_copies.specs.Config.{configuration}
 use Rattle.vx_copies.specs.Commit.{HasRisen}
 use Rattle.vx_copies.specs.declared.disk.Disk.{Disk}
@@ -17,6 +17,8 @@ use Rattle.vx_confdb.specs.declared.group.Group.{Group}
 -- the disk keeps its slot and its piece, and is good unless it failed
 pub record Joins (old new : Held) : Type 0 where
   pub slot : new.slot ≡ old.slot
+  pub name : new.name ≡ old.name
+  pub size : new.sectors ≡ old.sectors
   pub kept : Keeps old.seen new.seen
   pub good : Drops old.good new.good old.seen new.seen
 

@@ -1,12 +1,11 @@
 -- A group, and what its calls leave.
-use Rattle.std.specs.Prelude.{◌≡◌, ◌⊎◌, ℕ, ◌+◌, ◌<◌, ◌≤◌, IsTrue, List, length, map, take, Option, Some, None, Result, Ok, Err, MatchOption}
+use Rattle.std.specs.Prelude.{◌≡◌, ◌⊎◌, ℕ, ◌+◌, ◌<◌, ◌≤◌, IsTrue, List, length, map, take, Some, None, Result, Ok, Err, MatchOption}
 use Rattle.vx_base.specs.Named.{Word}
 use Rattle.vx_piece.specs.Seen.{Seen}
 use Rattle.vx_copies.specs.Lists.{Each, AllOf, AnyOf}
-use Rattle.vx_copies.specs.Disks.{Held, held, IsCut, IsReady, IsBelow, Goes, good_count}
+use Rattle.vx_copies.specs.Disks.{Held, held, IsCut, IsReady, IsBelow, Goes}
 use Rattle.vx_copies.specs.Config.{GivesOldOrNew, GivesNew}
 use Rattle.vx_copies.specs.Commit.{AllOffer, HasRisen}
-use Rattle.vx_copies.specs.declared.writing.Lost.{Lost}
 use Rattle.vx_copies.specs.declared.writing.Lost.TheVariants as lost
 use Rattle.vx_confdb.specs.Prepare.{IsHeaded}
 use Rattle.vx_confdb.specs.Texts.{text_of}
@@ -20,7 +19,7 @@ members see g = map (held see) g.disks.items
 
 -- where it is good, the disk is a member of the group
 abbrev pub IsMemberOf : Word → Held → Type 0
-IsMemberOf group h = IsTrue h.good → IsHeaded group h.slot h.seen.told
+IsMemberOf group h = IsTrue h.good → IsHeaded group h
 
 -- a group whose next commit can be written
 pub record IsAlive {P : Type 0} (see : P → Seen) (g : Group P) : Type 0 where

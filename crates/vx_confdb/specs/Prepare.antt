@@ -1,5 +1,5 @@
 -- How a disk becomes a member of a group.
-use Rattle.std.specs.Prelude.{◌≡◌, ◌⊎◌, ℕ, ◌<◌, ◌≤◌, ◌^◌, true, IsTrue, List, Option, Some, None, MatchOption}
+use Rattle.std.specs.Prelude.{◌≡◌, ◌⊎◌, ◌<◌, ◌≤◌, ◌^◌, true, IsTrue, List, Option, Some, None, MatchOption}
 use Rattle.vx_base.specs.Blocks.{Contents}
 use Rattle.vx_base.specs.Named.{Word}
 use Rattle.vx_header.specs.Named.{Label, header_of}
@@ -28,10 +28,18 @@ abbrev pub IsBlank : Option Contents → Type 0
 IsBlank None = Unit {0}
 IsBlank (Some contents) = toggle_at contents ≡ None
 
--- the header names the group, and gives the slot
-abbrev pub IsHeaded : Word → ℕ → Option Contents → Type 0
-IsHeaded group slot None = Unit {0}
-IsHeaded group slot (Some contents) = (label : Label) × (header_of (contents 0) ≡ Some label) × (label.group ≡ group) × (label.slot ≡ slot)
+-- what the header of a member says
+abbrev pub label_in : Word → Held → Label
+label_in group h = record { group = group; disk = h.name; slot = h.slot; sectors = h.sectors }
+
+-- the header says this
+abbrev pub Says : Label → Option Contents → Type 0
+Says label None = Unit {0}
+Says label (Some contents) = header_of (contents 0) ≡ Some label
+
+-- the header names the group, the disk, its slot and the sectors of its device
+abbrev pub IsHeaded : Word → Held → Type 0
+IsHeaded group h = Says (label_in group h) h.seen.told
 
 -- in each group the device offers what it did, or nothing
 abbrev pub OffersLess : Option Contents → Option Contents → Type 0
@@ -42,6 +50,8 @@ OffersLess (Some old) (Some new) = (group : Word) → (offer_in group new ≡ of
 
 pub record Prepares (old new : Held) : Type 0 where
   pub slot : new.slot ≡ old.slot
+  pub name : new.name ≡ old.name
+  pub size : new.sectors ≡ old.sectors
   pub half : new.half ≡ old.half
   pub kept : Keeps old.seen new.seen
   pub good : Drops old.good new.good old.seen new.seen
@@ -51,7 +61,7 @@ pub record Prepares (old new : Held) : Type 0 where
 pub record IsPrepared (group : Word) (h : Held) : Type 0 where
   pub ready : IsReady h
   pub blank : IsTrue h.good → IsBlank h.seen.told
-  pub headed : IsTrue h.good → IsHeaded group h.slot h.seen.told
+  pub headed : IsTrue h.good → IsHeaded group h
 
 abbrev pub PrepareEnds : Prepared → Word → Held → Type 0
 PrepareEnds Done group h = IsPrepared group h

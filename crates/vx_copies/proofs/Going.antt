@@ -69,19 +69,21 @@ stays_offers f l text (Some a) (Some b) is = (is.0, inl is.2)
 pub goes_trans : (f l : ℕ) (text : List ℕ) (a b c : Held) → Goes f l text a b → Goes f l text b c → Goes f l text a c
 goes_trans f l text a b c p q = record {
   slot = q.slot ∙ p.slot;
+  name = q.name ∙ p.name;
+  size = q.size ∙ p.size;
   kept = keeps_trans _ _ _ p.kept q.kept;
   good = drops_trans a.good b.good c.good a.seen b.seen c.seen p.kept q.kept p.good q.good;
   offers = offers_trans f l text _ _ _ p.offers q.offers;
 }
 
 pub goes_wider : (f f' l l' : ℕ) (text : List ℕ) (a b : Held) → f' ≤ f → l ≤ l' → Goes f l text a b → Goes f' l' text a b
-goes_wider f f' l l' text a b p q is = record { slot = is.slot; kept = is.kept; good = is.good; offers = offers_wider f f' l l' text _ _ p q is.offers }
+goes_wider f f' l l' text a b p q is = record { slot = is.slot; name = is.name; size = is.size; kept = is.kept; good = is.good; offers = offers_wider f f' l l' text _ _ p q is.offers }
 
 pub stays_goes : (f l : ℕ) (text : List ℕ) (a b : Held) → Stays a b → Goes f l text a b
-stays_goes f l text a b is = record { slot = is.slot; kept = is.kept; good = is.good; offers = stays_offers f l text _ _ is.told }
+stays_goes f l text a b is = record { slot = is.slot; name = is.name; size = is.size; kept = is.kept; good = is.good; offers = stays_offers f l text _ _ is.told }
 
 goes_refl : (f l : ℕ) (text : List ℕ) (a : Held) → Goes f l text a a
-goes_refl f l text a = record { slot = refl; kept = keeps_refl a.seen; good = drops_refl a.good a.seen; offers = offers_refl f l text a.seen.told }
+goes_refl f l text a = record { slot = refl; name = refl; size = refl; kept = keeps_refl a.seen; good = drops_refl a.good a.seen; offers = offers_refl f l text a.seen.told }
 
 -- a disk that stays
 told_trans : (a b c : Option Contents) → StaysTold a b → StaysTold b c → StaysTold a c
@@ -99,6 +101,8 @@ told_refl (Some a) = (refl, refl, refl)
 pub stays_trans : (a b c : Held) → Stays a b → Stays b c → Stays a c
 stays_trans a b c p q = record {
   slot = q.slot ∙ p.slot;
+  name = q.name ∙ p.name;
+  size = q.size ∙ p.size;
   half = q.half ∙ p.half;
   kept = keeps_trans _ _ _ p.kept q.kept;
   good = drops_trans a.good b.good c.good a.seen b.seen c.seen p.kept q.kept p.good q.good;
@@ -106,7 +110,7 @@ stays_trans a b c p q = record {
 }
 
 pub stays_refl : (a : Held) → Stays a a
-stays_refl a = record { slot = refl; half = refl; kept = keeps_refl a.seen; good = drops_refl a.good a.seen; told = told_refl a.seen.told }
+stays_refl a = record { slot = refl; name = refl; size = refl; half = refl; kept = keeps_refl a.seen; good = drops_refl a.good a.seen; told = told_refl a.seen.told }
 
 -- a disk that may get a toggle
 was_good : (x y : Bool) (a b : Seen) → Drops x y a b → IsTrue y → IsTrue x
@@ -145,16 +149,18 @@ if_good s m text false a b is just = cc
 pub stamps_trans : (s m : ℕ) (text : List ℕ) (a b c : Held) → Stamps s m text a b → Stamps s m text b c → Stamps s m text a c
 stamps_trans s m text a b c p q = record {
   slot = q.slot ∙ p.slot;
+  name = q.name ∙ p.name;
+  size = q.size ∙ p.size;
   kept = keeps_trans _ _ _ p.kept q.kept;
   good = drops_trans a.good b.good c.good a.seen b.seen c.seen p.kept q.kept p.good q.good;
   offers = just_trans s m text a.good b.good _ _ _ (was_good a.good b.good a.seen b.seen p.good) p.offers q.offers;
 }
 
 pub stamps_refl : (s m : ℕ) (text : List ℕ) (a : Held) → Stamps s m text a a
-stamps_refl s m text a = record { slot = refl; kept = keeps_refl a.seen; good = drops_refl a.good a.seen; offers = just_refl s m text a.good a.seen.told }
+stamps_refl s m text a = record { slot = refl; name = refl; size = refl; kept = keeps_refl a.seen; good = drops_refl a.good a.seen; offers = just_refl s m text a.good a.seen.told }
 
 pub stamps_goes : (s m : ℕ) (text : List ℕ) (a b : Held) → Stamps s m text a b → Goes s s text a b
-stamps_goes s m text a b is = record { slot = is.slot; kept = is.kept; good = is.good; offers = just_offers s m text a.good _ _ is.offers }
+stamps_goes s m text a b is = record { slot = is.slot; name = is.name; size = is.size; kept = is.kept; good = is.good; offers = just_offers s m text a.good _ _ is.offers }
 
 -- a disk that stays good, or not good
 pub same_refl : (a : Held) → a.good ≡ a.good

@@ -10,13 +10,15 @@ use Rattle.vx_copies.specs.declared.disk.Disk.{Disk}
 
 -- a disk with what is seen of its piece
 pub record Held : Type 0 where
+  pub name : Word
   pub slot : ℕ
+  pub sectors : ℕ
   pub good : Bool
   pub half : ℕ
   pub seen : Seen
 
 abbrev pub held : {P : Type 0} → (P → Seen) → Disk P → Held
-held see d = record { slot = d.slot; good = d.good; half = d.half; seen = see d.piece }
+held see d = record { name = d.name; slot = d.slot; sectors = d.sectors; good = d.good; half = d.half; seen = see d.piece }
 
 -- the power is gone
 abbrev pub IsCut : Held → Type 0
@@ -81,6 +83,8 @@ Drops true false before now = Rose before.faults now.faults
 -- what a commit does to a disk at every device call
 pub record Goes (first last : ℕ) (text : List ℕ) (old new : Held) : Type 0 where
   pub slot : new.slot ≡ old.slot
+  pub name : new.name ≡ old.name
+  pub size : new.sectors ≡ old.sectors
   pub kept : Keeps old.seen new.seen
   pub good : Drops old.good new.good old.seen new.seen
   pub offers : Offers first last text old.seen.told new.seen.told
@@ -88,6 +92,8 @@ pub record Goes (first last : ℕ) (text : List ℕ) (old new : Held) : Type 0 w
 -- what the writing of a toggle does to a disk
 pub record Stamps (sequence mask : ℕ) (text : List ℕ) (old new : Held) : Type 0 where
   pub slot : new.slot ≡ old.slot
+  pub name : new.name ≡ old.name
+  pub size : new.sectors ≡ old.sectors
   pub kept : Keeps old.seen new.seen
   pub good : Drops old.good new.good old.seen new.seen
   pub offers : OffersJust sequence mask text old.good old.seen.told new.seen.told
@@ -102,6 +108,8 @@ StaysTold (Some old) (Some new) = (new 0 ≡ old 0) × (toggle_at new ≡ toggle
 -- what the writing of a spare half does to a disk
 pub record Stays (old new : Held) : Type 0 where
   pub slot : new.slot ≡ old.slot
+  pub name : new.name ≡ old.name
+  pub size : new.sectors ≡ old.sectors
   pub half : new.half ≡ old.half
   pub kept : Keeps old.seen new.seen
   pub good : Drops old.good new.good old.seen new.seen

@@ -1,8 +1,7 @@
-use Rattle.std.proofs.Common.{◌≡◌, ◌+◌, ◌≤◌, length, map, take, refl, sym, ◌∙◌, ap, subst, ℕ, List, arith, rules, Ok, Err, None}
-use Rattle.std.proofs.lemmas.List.{length-map, take_all}
-use Rattle.vx_copies.specs.Lists.{Each, AllOf, AnyOf}
-use Rattle.vx_copies.specs.Disks.{held, IsCut, IsReady}
-use Rattle.vx_confdb.specs.Prepare.{AllPrepared, IsPrepared, OffersNone}
+use Rattle.std.proofs.Common.{◌≡◌, ◌≤◌, length, map, refl, ◌∙◌, arith}
+use Rattle.std.proofs.lemmas.List.{length-map}
+use Rattle.vx_copies.specs.Disks.{held}
+use Rattle.vx_confdb.specs.Prepare.{AllPrepared}
 use Rattle.vx_confdb.specs.declared.joining.Prepared.TheVariants.{Done, Cut}
 use Rattle.vx_confdb.specs.Texts.{text_of}
 use Rattle.vx_confdb.proofs.Grouped.{headed_stays}
@@ -13,7 +12,7 @@ use Rattle.vx_confdb.proofs.founding.found.Goals as goal
 pub returns-in-Cut-clause-gives : goal.returns-in-Cut-clause-gives
 returns-in-Cut-clause-gives g c =
     let ends : AllPrepared Cut c.args.name (map (held g.P.Piece.seen) c.join_all.new.disks.items) = rw c.in-Cut.is at c.join_all.ensures.joined.ends in
-    (record { joins = all_prepare _ _ c.join_all.ensures.joined.prepares; none_or_text = none_still c.args.name (text_of c.args.text) _ (none_all c.args.name _ _ c.join_all.ensures.joined.prepares c.requires.none); }, ends)
+    (record { joins = all_prepare _ _ c.join_all.ensures.joined.prepares; none_or_text = none_still c.args.name (text_of c.args.text) _ (none_all c.args.name _ _ c.join_all.ensures.joined.prepares c.requires.none) }, ends)
 
 pub write_all-requires-clause-ready : goal.write_all-requires-clause-ready
 write_all-requires-clause-ready g c κs within =

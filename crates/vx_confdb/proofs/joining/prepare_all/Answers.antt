@@ -1,5 +1,4 @@
-use Rattle.std.proofs.Common.{◌≡◌, ◌<◌, ◌≤◌, ◌+◌, length, map, get_or, rules, refl, arith, add-one}
-use Rattle.vx_copies.specs.Lists.{Each, AllOf, AnyOf}
+use Rattle.std.proofs.Common.{rules, arith, add-one}
 use Rattle.vx_copies.specs.Disks.{held, IsCut}
 use Rattle.vx_copies.proofs.Going.{each_refl}
 use Rattle.vx_copies.proofs.Placed.{go_on, all_more, any_set}
@@ -9,7 +8,7 @@ use Rattle.vx_confdb.proofs.Preparing.{prepares_refl, prepares_trans, fresh_at, 
 use Rattle.vx_confdb.proofs.joining.prepare_all.Goals as goal
 
 pub disks-init : goal.disks-init
-disks-init g c = record { most = omega arith; size = c.requires.size; prepares = each_refl Prepares prepares_refl _; fresh = c.requires.fresh; prepared = tt; }
+disks-init g c = record { most = omega arith; size = c.requires.size; prepares = each_refl Prepares prepares_refl _; fresh = c.requires.fresh; prepared = tt }
 
 pub prepare-requires-clause-fresh : goal.prepare-requires-clause-fresh
 prepare-requires-clause-fresh g c κs within = fresh_at g.P.Piece.seen c.args.group.now c.disks.disks c.disks.i c.index-disks-i.result c.disks-test.true c.disks.invariant.fresh

@@ -1,7 +1,6 @@
-use Rattle.std.proofs.Common.{◌≡◌, ◌∙◌, sym, ap, map, length, take, drop, ◌++◌, rules, arith, List, ℕ}
+use Rattle.std.proofs.Common.{◌≡◌, ◌∙◌, sym, ap, length}
 use Rattle.std.proofs.lemmas.List.{with_items_is, length-map}
 use Rattle.vx_copies.specs.Disks.{held}
-use Rattle.vx_confdb.specs.Carried.{IsCarried}
 use Rattle.vx_confdb.proofs.Filling.{carried_in}
 use Rattle.vx_confdb.proofs.writing.write_all.Goals as goal
 

@@ -8,6 +8,8 @@ write-requires g c = half_inside (g.P.Piece.seen c.args.disk.now.piece) c.args.d
 pub returns-in-Ok-clause-stays : goal.returns-in-Ok-clause-stays
 returns-in-Ok-clause-stays g c = record {
   slot = refl;
+  name = refl;
+  size = refl;
   half = refl;
   kept = c.write.ensures.kept;
   good = search rules;
@@ -25,6 +27,8 @@ returns-in-Ok-clause-ends g c =
 pub returns-in-Err-Failed-clause-stays : goal.returns-in-Err-Failed-clause-stays
 returns-in-Err-Failed-clause-stays g c = record {
   slot = refl;
+  name = refl;
+  size = refl;
   half = refl;
   kept = c.write.ensures.kept;
   good = search rules;
@@ -34,6 +38,8 @@ returns-in-Err-Failed-clause-stays g c = record {
 pub returns-in-Err-PowerLost-clause-stays : goal.returns-in-Err-PowerLost-clause-stays
 returns-in-Err-PowerLost-clause-stays g c = record {
   slot = refl;
+  name = refl;
+  size = refl;
   half = refl;
   kept = c.write.ensures.kept;
   good = search rules;

@@ -8,6 +8,8 @@ returns-in-Ok-clause-stamps g c =
     let said = said_there c.args.sequence (1 - c.args.disk.now.half) (length c.args.text.now) c.args.mask c.put.new.out c.put.ensures c.requires.some (omega arith) (omega (arith, c.requires.ready.half)) c.requires.fits (omega arith) in
     record {
       slot = refl;
+      name = refl;
+      size = refl;
       kept = c.write.ensures.kept;
       good = search rules;
       offers = if_good c.args.sequence c.args.mask c.args.text.now c.args.disk.now.good _ _ (search rules) (toggle_told c.args.disk.now.half c.args.sequence c.args.mask c.args.text.now c.put.new.out c.requires.ready.half (search rules) said _ _ c.write.result (c.requires.ready.names (search rules)) (c.requires.spare (search rules)) c.write.ensures.told.told);
@@ -18,6 +20,8 @@ returns-in-Err-Failed-clause-stamps g c =
     let said = said_there c.args.sequence (1 - c.args.disk.now.half) (length c.args.text.now) c.args.mask c.put.new.out c.put.ensures c.requires.some (omega arith) (omega (arith, c.requires.ready.half)) c.requires.fits (omega arith) in
     record {
       slot = refl;
+      name = refl;
+      size = refl;
       kept = c.write.ensures.kept;
       good = search rules;
       offers = if_good c.args.sequence c.args.mask c.args.text.now c.args.disk.now.good _ _ (search rules) (toggle_told c.args.disk.now.half c.args.sequence c.args.mask c.args.text.now c.put.new.out c.requires.ready.half (search rules) said _ _ c.write.result (c.requires.ready.names (search rules)) (c.requires.spare (search rules)) c.write.ensures.told.told);
@@ -28,6 +32,8 @@ returns-in-Err-PowerLost-clause-stamps g c =
     let said = said_there c.args.sequence (1 - c.args.disk.now.half) (length c.args.text.now) c.args.mask c.put.new.out c.put.ensures c.requires.some (omega arith) (omega (arith, c.requires.ready.half)) c.requires.fits (omega arith) in
     record {
       slot = refl;
+      name = refl;
+      size = refl;
       kept = c.write.ensures.kept;
       good = search rules;
       offers = if_good c.args.sequence c.args.mask c.args.text.now c.args.disk.now.good _ _ (search rules) (toggle_told c.args.disk.now.half c.args.sequence c.args.mask c.args.text.now c.put.new.out c.requires.ready.half (search rules) said _ _ c.write.result (c.requires.ready.names (search rules)) (c.requires.spare (search rules)) c.write.ensures.told.told);

@@ -1,10 +1,6 @@
-use Rattle.std.proofs.Common.{◌≡◌, ◌+◌, ◌≤◌, length, map, refl, sym, ◌∙◌, ap, subst, ℕ, List, arith, rules, Ok}
+use Rattle.std.proofs.Common.{refl, arith}
 use Rattle.std.proofs.lemmas.List.{length-map}
-use Rattle.vx_copies.specs.Lists.{Each, AllOf}
 use Rattle.vx_copies.specs.Disks.{held}
-use Rattle.vx_copies.specs.Chain.{IsSound}
-use Rattle.vx_copies.specs.Commit.{CommitEnds}
-use Rattle.vx_confdb.specs.Groups.{members}
 use Rattle.vx_confdb.specs.Texts.{text_of}
 use Rattle.vx_confdb.proofs.Grouped.{headed_stays, lost_by}
 use Rattle.vx_confdb.proofs.group.Group.write.Goals as goal

@@ -1,6 +1,6 @@
-use Rattle.std.proofs.Common.{◌≡◌, ◌-◌, ◌*◌, ◌∙◌, ap, length, arith, rules, replicate, ℕ, List}
+use Rattle.std.proofs.Common.{arith, replicate, ℕ}
 use Rattle.std.proofs.lemmas.List.{length-replicate, length-take-le}
-use Rattle.vx_confdb.proofs.Filling.{padded_is, long, front}
+use Rattle.vx_confdb.proofs.Filling.{padded_is, long}
 use Rattle.vx_confdb.proofs.text.Text.of.Goals as goal
 
 pub invariant_of-result : goal.invariant_of-result

@@ -37,6 +37,10 @@ module _ (sequence half text good : ℕ) where
   len6 : length (front6 sequence half text good) ≡ 28
   len6 = longer_by (front5 sequence half text) (four_bytes good) 24 4 28 len5 (length-four_bytes good) refl
 
+  pub length-toggle : length (toggle_sector sequence half text good) ≡ 512
+  unfolding toggle_sector
+  length-toggle = longer_by (front6 sequence half text good) (zeros 484) 28 484 512 len6 (length-zeros 484) refl
+
   at6 : (k : ℕ) → k < 28 → get_or (toggle_sector sequence half text good) k 0 ≡ get_or (front6 sequence half text good) k 0
   unfolding toggle_sector
   at6 k lt = in_front (front6 sequence half text good) (zeros 484) 28 k len6 lt

@@ -29,7 +29,8 @@ pub struct Header {
 }
 
 impl Header {
-    ghost use Rattle.std.specs.Prelude.{IfOk, IfErr, IsOkAnd};
+    ghost use Rattle.std.specs.Prelude.{IfOk, IfErr, IsOkAnd, MatchResult, Some, None};
+    ghost use Rattle.vx_header.specs.Named.{header_of, label_of};
     ghost use Rattle.vx_header.specs.Nearest.{IsNearestHeader};
     ghost use Rattle.vx_header.specs.Spelled.{sector_of_header, SameHeader, IsHeaderFault};
     ghost use Rattle.vx_header.specs.declared.header.Header.{Header};
@@ -55,6 +56,7 @@ impl Header {
         ensures ok { IfOk result (λ h. sector.now ≡ sector_of_header h) }
         ensures only { (h : Header) → sector.now ≡ sector_of_header h → IsOkAnd result (SameHeader h) }
         ensures fault { IfErr result (IsHeaderFault sector.now) }
+        ensures said { MatchResult result (λ h. header_of sector.now ≡ Some (label_of h)) (λ fault. header_of sector.now ≡ None) }
     {
         if !has_mark(sector) {
             return Err(HeaderFault::NotInitialised);

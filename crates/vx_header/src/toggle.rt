@@ -26,9 +26,10 @@ pub struct Toggle {
 }
 
 impl Toggle {
-    ghost use Rattle.std.specs.Prelude.{length, IfOk, IfErr, IsOkAnd, IsSomeAnd, MatchOption, Ok, None};
+    ghost use Rattle.std.specs.Prelude.{length, IfOk, IfErr, IsOkAnd, IsSomeAnd, MatchOption, MatchResult, Ok, None, option_map};
     ghost use Rattle.vx_sector.specs.Fields.{zeros};
     ghost use Rattle.vx_header.specs.Nearest.{IsNearestToggle};
+    ghost use Rattle.vx_header.specs.Said.{said_of, toggle_of};
     ghost use Rattle.vx_header.specs.Spelled.{sector_of_toggle, SameToggle, IsToggleFault};
     ghost use Rattle.vx_header.specs.declared.toggle.Toggle.{Toggle};
 
@@ -54,6 +55,7 @@ impl Toggle {
         ensures none { sector.now ≡ zeros 512 → result ≡ Ok None }
         ensures only { (t : Toggle) → sector.now ≡ sector_of_toggle t → IsOkAnd result (λ read. IsSomeAnd read (SameToggle t)) }
         ensures fault { IfErr result (IsToggleFault sector.now) }
+        ensures said { MatchResult result (λ read. toggle_of sector.now ≡ option_map said_of read) (λ fault. toggle_of sector.now ≡ None) }
     {
         if is_zero(sector) {
             return Ok(None);

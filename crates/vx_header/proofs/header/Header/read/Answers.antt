@@ -1,9 +1,10 @@
-use Rattle.std.proofs.Common.{rules, ◌≢◌, List, ℕ, sym, take, subst}
+use Rattle.std.proofs.Common.{rules, ◌≢◌, ◌∙◌, List, ℕ, sym, take, subst}
 use Rattle.std.specs.Prelude.{codes}
 use Rattle.vx_sector.specs.Fields.{IsFirstDifference}
 use Rattle.vx_header.specs.Places.{IsFirstBad, is_header_place, header_end}
 use Rattle.vx_header.specs.Spelled.{IsHeader}
 use Rattle.vx_header.proofs.HeaderReading.{header_of_sector, header_not_refused, header_first_bad, mark_of_header}
+use Rattle.vx_header.proofs.Naming.{header_said, unmarked_says, bad_header_says}
 use Rattle.vx_header.proofs.header.Header.read.Goals as goal
 
 pub returns-then-not-has_mark-clause-only : goal.returns-then-not-has_mark-clause-only
@@ -28,3 +29,17 @@ returns-in-Some-clause-fault c =
       subst Bad (sym c.place_of.ensures)
           (header_first_bad c.args.sector.now c.nearest-nearest.result c.requires c.nearest-nearest.ensures c.in-Some.byte (subst Differs c.put.ensures c.in-Some.ensures)),
     )
+
+pub returns-then-not-has_mark-clause-said : goal.returns-then-not-has_mark-clause-said
+returns-then-not-has_mark-clause-said c =
+    let other : take 8 c.args.sector.now ≢ codes "vxprv001" = search rules in
+    unmarked_says c.args.sector.now other
+
+pub returns-in-None-clause-said : goal.returns-in-None-clause-said
+returns-in-None-clause-said c = header_said c.nearest-nearest.result c.args.sector.now (c.in-None.ensures ∙ c.put.ensures)
+
+pub returns-in-Some-clause-said : goal.returns-in-Some-clause-said
+returns-in-Some-clause-said c =
+    let Differs : List ℕ → Type 0 = λ xs. IsFirstDifference c.args.sector.now xs c.in-Some.byte in
+    bad_header_says c.args.sector.now _
+    (header_first_bad c.args.sector.now c.nearest-nearest.result c.requires c.nearest-nearest.ensures c.in-Some.byte (subst Differs c.put.ensures c.in-Some.ensures))

@@ -1,0 +1,197 @@
+-- A disk that offers nothing stands behind the others.
+use Rattle.std.proofs.Common.{◌≡◌, ◌⊎◌, ℕ, ◌+◌, ◌≤◌, Bool, cond, List, [], ◌∷◌, ◌++◌, length, map, take, Option, Some, None, Result, Ok, Err, refl, sym, ap, ◌∙◌, subst, inl, inr}
+use Rattle.std.specs.Prelude.{MatchOption}
+use Rattle.std.proofs.lemmas.List.{length-append, length-map}
+use Rattle.vx_base.specs.Named.{Word}
+use Rattle.vx_piece.specs.Seen.{Seen}
+use Rattle.vx_copies.specs.Lists.{Each, AllOf, AnyOf}
+use Rattle.vx_copies.specs.Image.{Offer, offer_told, higher}
+use Rattle.vx_copies.specs.Disks.{Held, held, Goes, IsReady, IsBelow, IsCut}
+use Rattle.vx_copies.specs.Config.{configuration, GivesOldOrNew}
+use Rattle.vx_copies.specs.Chain.{Copy, copy_of, AllUpTo, NamesNewer, IsChained, NamesGood, IsGoodMember, IsSound}
+use Rattle.vx_copies.specs.declared.disk.Disk.{Disk}
+use Rattle.vx_copies.proofs.Going.{keeps_refl, drops_refl, each_refl, each_trans, each_map}
+use Rattle.vx_copies.specs.Commit.{HasRisen}
+use Rattle.vx_confdb.specs.Add.{IsTaken, IsJoined, AddGives}
+use Rattle.vx_confdb.specs.Create.{Joins}
+use Rattle.vx_confdb.specs.Groups.{members, IsMemberOf, IsAlive, IsGroup, WrittenBy}
+use Rattle.vx_confdb.specs.Prepare.{Prepares, PrepareEnds, IsPrepared, OffersNone, Tells, label_in}
+use Rattle.vx_confdb.specs.declared.fault.GroupFault.{GroupFault}
+use Rattle.vx_confdb.specs.declared.fault.GroupFault.TheVariants as fault
+use Rattle.vx_confdb.specs.declared.group.Group.{Group}
+use Rattle.vx_confdb.specs.declared.joining.Prepared.{Prepared}
+use Rattle.vx_confdb.specs.declared.joining.Prepared.TheVariants.{Done, Cut}
+use Rattle.vx_confdb.proofs.Grouped.{same_length}
+use Rattle.vx_confdb.proofs.Begun.{prepares_joins, goes_joins, joins_trans, none_if, none_below, tells_still, member_one}
+
+pub all_last : {X : Type 0} (Q : X → Type 0) (xs : List X) (x : X) → AllOf Q xs → Q x → AllOf Q (xs ++ x ∷ [])
+all_last Q [] x all is = (is, tt)
+all_last Q (y ∷ ys) x all is = (all.0, all_last Q ys x all.1 is)
+
+pub any_last : {X : Type 0} (Q : X → Type 0) (xs : List X) (x : X) → Q x → AnyOf Q (xs ++ x ∷ [])
+any_last Q [] x is = inl is
+any_last Q (y ∷ ys) x is = inr (any_last Q ys x is)
+
+pub each_last : {X : Type 0} (R : X → X → Type 0) (xs ys : List X) (x y : X) → Each R xs ys → R x y → Each R (xs ++ x ∷ []) (ys ++ y ∷ [])
+each_last R [] [] x y all is = (is, tt)
+each_last R [] (b ∷ bs) x y all is = absurd all
+each_last R (a ∷ hs) [] x y all is = absurd all
+each_last R (a ∷ hs) (b ∷ bs) x y all is = (all.0, each_last R hs bs x y all.1 is)
+
+pub map_last : {X Y : Type 0} (f : X → Y) (xs : List X) (x : X) → map f (xs ++ x ∷ []) ≡ map f xs ++ f x ∷ []
+map_last f [] x = refl
+map_last f (y ∷ ys) x = ap (λ zs. f y ∷ zs) (map_last f ys x)
+
+pub mid_members : {P : Type 0} (see : P → Seen) (xs ys zs : List (Disk P)) (d : Disk P) → ys ≡ xs → zs ≡ ys ++ d ∷ [] → map (held see) zs ≡ map (held see) xs ++ held see d ∷ []
+mid_members see xs ys zs d e f = ap (map (held see)) f ∙ map_last (held see) ys d ∙ ap (λ ws. map (held see) ws ++ held see d ∷ []) e
+
+take_first : {X : Type 0} (xs ys : List X) → take (length xs) (xs ++ ys) ≡ xs
+take_first [] ys = refl
+take_first (x ∷ xs) ys = ap (λ zs. x ∷ zs) (take_first xs ys)
+
+pub first_of : {X : Type 0} (n : ℕ) (xs ys : List X) → n ≡ length xs → take n (xs ++ ys) ≡ xs
+first_of n xs ys e = ap (λ k. take k (xs ++ ys)) e ∙ take_first xs ys
+
+-- it changes no configuration
+pub same_configuration : (group : Word) (readable : ℕ → Bool) (hs : List Held) (h : Held) → OffersNone group h → configuration group readable (hs ++ h ∷ []) ≡ configuration group readable hs
+same_configuration group readable [] h none = ap (λ o. higher o None) (none_if (readable h.slot) (offer_told group h.seen.told) none)
+same_configuration group readable (a ∷ hs) h none = ap (higher (cond (readable a.slot) (offer_told group a.seen.told) None)) (same_configuration group readable hs h none)
+
+-- joining
+joins_refl : (a : Held) → Joins a a
+joins_refl a = record { slot = refl; name = refl; size = refl; kept = keeps_refl a.seen; good = drops_refl a.good a.seen }
+
+pub joins_last : (f l : ℕ) (text : List ℕ) (hs new : List Held) (h h' : Held) → Prepares h h' → Each (Goes f l text) (hs ++ h' ∷ []) new → Each Joins (hs ++ h ∷ []) new
+joins_last f l text hs new h h' prepares goes =
+    each_trans Joins joins_trans (hs ++ h ∷ []) (hs ++ h' ∷ []) new (each_last Joins hs hs h h' (each_refl Joins joins_refl hs) (prepares_joins h h' prepares)) (each_map (Goes f l text) Joins (goes_joins f l text) (hs ++ h' ∷ []) new goes)
+
+-- the chain with a copy more that offers nothing
+module _ (x : Copy) (none : x.offer ≡ None) where
+  none_of : (Q : Offer → Type 0) → MatchOption x.offer (Unit {0}) Q
+  none_of Q = subst (λ o. MatchOption o (Unit {0}) Q) (sym none) tt
+
+  up_to_last : (n : ℕ) (cs : List Copy) → AllUpTo n cs → AllUpTo n (cs ++ x ∷ [])
+  up_to_last n cs all = all_last _ cs x all (none_of _)
+
+  up_to_first : (n : ℕ) (cs : List Copy) → AllUpTo n (cs ++ x ∷ []) → AllUpTo n cs
+  up_to_first n [] all = tt
+  up_to_first n (c ∷ cs) all = (all.0, up_to_first n cs all.1)
+
+  newer_last : (o : Offer) (cs : List Copy) → NamesNewer o cs → NamesNewer o (cs ++ x ∷ [])
+  newer_last o [] newer = absurd newer
+  newer_last o (c ∷ cs) (inl is) = inl is
+  newer_last o (c ∷ cs) (inr is) = inr (newer_last o cs is)
+
+  linked : (cs : List Copy) (c : Option Offer) → MatchOption c (Unit {0}) (λ o. AllUpTo o.sequence cs ⊎ NamesNewer o cs) → MatchOption c (Unit {0}) (λ o. AllUpTo o.sequence (cs ++ x ∷ []) ⊎ NamesNewer o (cs ++ x ∷ []))
+  linked cs None is = tt
+  linked cs (Some o) (inl top) = inl (up_to_last o.sequence cs top)
+  linked cs (Some o) (inr newer) = inr (newer_last o cs newer)
+
+  all_map : (Q R : Copy → Type 0) → ((c : Copy) → Q c → R c) → (cs : List Copy) → AllOf Q cs → AllOf R cs
+  all_map Q R f [] all = tt
+  all_map Q R f (c ∷ cs) all = (f c all.0, all_map Q R f cs all.1)
+
+  pub chained_last : (cs : List Copy) → IsChained cs → IsChained (cs ++ x ∷ [])
+  chained_last cs chained = all_last _ cs x (all_map _ _ (λ c. linked cs c.offer) cs chained) (none_of _)
+
+  newest_by : (cs : List Copy) (hs : List Held) (c : Option Offer) → MatchOption c (Unit {0}) (λ o. AllUpTo o.sequence cs → NamesGood o hs) → MatchOption c (Unit {0}) (λ o. AllUpTo o.sequence (cs ++ x ∷ []) → NamesGood o hs)
+  newest_by cs hs None is = tt
+  newest_by cs hs (Some o) is = λ top. is (up_to_first o.sequence cs top)
+
+  pub newest_last : (cs : List Copy) (hs : List Held) → AllOf (λ c. MatchOption c.offer (Unit {0}) (λ o. AllUpTo o.sequence cs → NamesGood o hs)) cs → AllOf (λ c. MatchOption c.offer (Unit {0}) (λ o. AllUpTo o.sequence (cs ++ x ∷ []) → NamesGood o hs)) (cs ++ x ∷ [])
+  newest_last cs hs all = all_last _ cs x (all_map _ _ (λ c. newest_by cs hs c.offer) cs all) (none_of _)
+
+append_last : {X : Type 0} (os cs : List X) (c : X) → os ++ (cs ++ c ∷ []) ≡ (os ++ cs) ++ c ∷ []
+append_last [] cs c = refl
+append_last (o ∷ os) cs c = ap (λ xs. o ∷ xs) (append_last os cs c)
+
+copies_last : (group : Word) (os : List Copy) (hs : List Held) (h : Held) → os ++ map (copy_of group) (hs ++ h ∷ []) ≡ (os ++ map (copy_of group) hs) ++ copy_of group h ∷ []
+copies_last group os hs h = ap (λ cs. os ++ cs) (map_last (copy_of group) hs h) ∙ append_last os (map (copy_of group) hs) (copy_of group h)
+
+pub chain_with : (group : Word) (os : List Copy) (last n : ℕ) (hs : List Held) (h : Held) → OffersNone group h → IsSound group os last n hs → IsChained (os ++ map (copy_of group) (hs ++ h ∷ []))
+chain_with group os last n hs h none sound = subst IsChained (sym (copies_last group os hs h)) (chained_last (copy_of group h) none (os ++ map (copy_of group) hs) sound.chained)
+
+pub sound_with : (group : Word) (os : List Copy) (last n : ℕ) (hs : List Held) (h : Held) → n ≡ length hs → OffersNone group h → IsGoodMember group h → IsSound group os last n hs → IsSound group os last n (hs ++ h ∷ [])
+sound_with group os last n hs h long none member sound =
+    let same = sym (copies_last group os hs h) in
+    let whole : take n hs ≡ take n (hs ++ h ∷ []) = first_whole ∙ sym (first_of n hs (h ∷ []) long) in
+    record {
+      members = all_last _ hs h sound.members member;
+      chained = chain_with group os last n hs h none sound;
+      newest = subst (λ xs. AllOf (λ c. MatchOption c.offer (Unit {0}) (λ o. AllUpTo o.sequence (os ++ map (copy_of group) (hs ++ h ∷ [])) → NamesGood o xs)) (os ++ map (copy_of group) (hs ++ h ∷ []))) whole
+          (subst (λ cs. AllOf (λ c. MatchOption c.offer (Unit {0}) (λ o. AllUpTo o.sequence cs → NamesGood o (take n hs))) cs) same (newest_last (copy_of group h) none (os ++ map (copy_of group) hs) (take n hs) sound.newest));
+      up_to = subst (AllUpTo last) same (up_to_last (copy_of group h) none last (os ++ map (copy_of group) hs) sound.up_to);
+    }
+  where
+    first_whole : take n hs ≡ hs
+    first_whole = ap (λ k. take k hs) long ∙ take_own hs
+      where
+        take_own : (xs : List Held) → take (length xs) xs ≡ xs
+        take_own [] = refl
+        take_own (y ∷ ys) = ap (λ zs. y ∷ zs) (take_own ys)
+
+-- one disk more has joined
+pub joined_is : {P : Type 0} (see : P → Seen) (r : Prepared) (mid : Group P) (hs : List Held) (h : Held) → members see mid ≡ hs ++ h ∷ [] → length mid.disks.items ≤ 32
+    → AllOf IsReady hs → AllOf (IsMemberOf mid.name) hs → AllOf (IsBelow mid.name mid.sequence) hs → OffersNone mid.name h → PrepareEnds r mid.name h → IsJoined see r mid
+joined_is see Done mid hs h is few ready headed below none ends = record {
+  ready = subst (AllOf IsReady) (sym is) (all_last IsReady hs h ready ends.ready);
+  headed = subst (AllOf (IsMemberOf mid.name)) (sym is) (all_last (IsMemberOf mid.name) hs h headed ends.headed);
+  below = subst (AllOf (IsBelow mid.name mid.sequence)) (sym is) (all_last (IsBelow mid.name mid.sequence) hs h below (none_below mid.name mid.sequence (h ∷ []) (none, tt)).0);
+  few = few;
+}
+joined_is see Cut mid hs h is few ready headed below none ends = (
+  subst (AllOf (IsBelow mid.name mid.sequence)) (sym is) (all_last (IsBelow mid.name mid.sequence) hs h below (none_below mid.name mid.sequence (h ∷ []) (none, tt)).0),
+  subst (AnyOf IsCut) (sym is) (any_last IsCut hs h ends),
+)
+
+-- the disk as it joined
+pub member_by : (group : Word) (h h' : Held) → Prepares h h' → Tells h → IsPrepared group h' → IsGoodMember group h'
+member_by group h h' prepares tells prepared = λ good. member_one group (label_in group h') h'.seen.told refl (tells_still h.seen.told h'.seen.told prepares.told tells) (prepared.headed good)
+
+pub chain_by : (r : Prepared) (group : Word) (os : List Copy) (last later n : ℕ) (hs ms new : List Held) (h h' : Held) → ms ≡ hs ++ h' ∷ [] → n ≡ length hs → Prepares h h' → OffersNone group h' → PrepareEnds r group h'
+    → (r ≡ Cut → new ≡ ms) → (IsSound group os last n ms → IsSound group os later n new) → Tells h → IsSound group os last n hs → IsChained (os ++ map (copy_of group) new)
+chain_by Done group os last later n hs ms new h h' is long prepares none ends stays goes tells sound =
+    (goes (subst (IsSound group os last n) (sym is) (sound_with group os last n hs h' long none (member_by group h h' prepares tells ends) sound))).chained
+chain_by Cut group os last later n hs ms new h h' is long prepares none ends stays goes tells sound =
+    subst (λ xs. IsChained (os ++ map (copy_of group) xs)) (sym (stays refl ∙ is)) (chain_with group os last n hs h' none sound)
+
+pub whole_by : (r : Prepared) (group : Word) (os : List Copy) (last later n k : ℕ) (hs ms new : List Held) (h h' : Held) → ms ≡ hs ++ h' ∷ [] → n ≡ length hs → Prepares h h' → OffersNone group h' → PrepareEnds r group h'
+    → (r ≡ Cut → ⊥) → (IsSound group os last n ms → IsSound group os later k new) → Tells h → IsSound group os last n hs → IsSound group os later k new
+whole_by Done group os last later n k hs ms new h h' is long prepares none ends not goes tells sound =
+    goes (subst (IsSound group os last n) (sym is) (sound_with group os last n hs h' long none (member_by group h h' prepares tells ends) sound))
+whole_by Cut group os last later n k hs ms new h h' is long prepares none ends not goes tells sound = absurd (not refl)
+
+pub taken_is : {P : Type 0} (see : P → Seen) (text : List ℕ) (disk d : Disk P) (old new : Group P) (ms : List Held) → ms ≡ members see old ++ held see d ∷ [] → Prepares (held see disk) (held see d) → OffersNone old.name (held see d)
+    → new.name ≡ old.name → Each (Goes (old.sequence + 1) new.sequence text) ms (members see new) → GivesOldOrNew old.name (old.sequence + 1) new.sequence text ms (members see new) → new.sequence ≤ old.sequence + 32
+    → ((os : List Copy) → Tells (held see disk) → IsSound old.name os old.sequence (length old.disks.items) (members see old) → IsChained (os ++ map (copy_of old.name) (members see new))) → IsTaken see text disk old new
+taken_is see text disk d old new ms is prepares none name goes gives few chain = record {
+  name = name;
+  joins = joins_last (old.sequence + 1) new.sequence text (members see old) (members see new) (held see disk) (held see d) prepares (subst (λ xs. Each (Goes (old.sequence + 1) new.sequence text) xs (members see new)) is goes);
+  old_or_new = λ readable. elim (gives readable) [
+    | inl same ↦ inl (same ∙ ap (configuration old.name readable) is ∙ same_configuration old.name readable (members see old) (held see d) none)
+    | inr new_is ↦ inr new_is
+  ];
+  few = few;
+  chained = chain;
+}
+
+pub lost_taken : {P : Type 0} (see : P → Seen) (f : GroupFault) (n : ℕ) (text : List ℕ) (disk d : Disk P) (old mid new : Group P) → members see mid ≡ members see old ++ held see d ∷ [] → n ≡ length (members see old) → n ≡ length old.disks.items
+    → IsTaken see text disk old new → WrittenBy see (Err f) n text mid new → AddGives see (Err (f, None)) text disk old new
+lost_taken see fault.OutOfMemory n text disk d old mid new is long size taken ends = absurd ends
+lost_taken see (fault.TooLong k) n text disk d old mid new is long size taken ends = absurd ends
+lost_taken see fault.GroupLost n text disk d old mid new is long size taken ends =
+    inr (refl, (taken, ends.0, subst (λ k. Each HasRisen (members see old) (take k (members see new))) size (subst (λ xs. Each HasRisen xs (take n (members see new))) (ap (take n) is ∙ first_of n (members see old) (held see d ∷ []) long) ends.1)))
+lost_taken see fault.PowerLost n text disk d old mid new is long size taken ends = inr (refl, (taken, ends.0, ends.1))
+
+pub one_longer : {X : Type 0} (xs ys zs : List X) (x : X) → ys ≡ xs → zs ≡ ys ++ x ∷ [] → length zs ≡ length xs + 1
+one_longer xs ys zs x e f = ap (λ ws. length ws) f ∙ length-append ys (x ∷ []) ∙ ap (λ ws. length ws + 1) e
+
+pub alive_by : {P : Type 0} (see : P → Seen) (g : Group P) → g.lost ≡ None → IsGroup see g → IsAlive see g
+alive_by see g e is = subst (λ l. MatchOption l (IsAlive see g) (λ x. Unit {0})) e is
+
+pub ok_not_err : {T E : Type 0} (r : Result T E) (u : T) (e : E) → r ≡ Ok u → r ≡ Err e → ⊥
+ok_not_err (Ok v) u e is not = cc
+ok_not_err (Err f) u e is not = cc
+
+pub held_length : {P : Type 0} (see : P → Seen) (R : Held → Held → Type 0) (xs ys : List (Disk P)) → Each R (map (held see) xs) (map (held see) ys) → length ys ≡ length xs
+held_length see R xs ys is = sym (length-map ys (held see)) ∙ same_length R (map (held see) xs) (map (held see) ys) is ∙ length-map xs (held see)

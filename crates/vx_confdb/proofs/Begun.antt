@@ -1,0 +1,153 @@
+-- What the making of a group leaves of its disks.
+use Rattle.std.proofs.Common.{◌≡◌, ◌⊎◌, ℕ, ◌≤◌, Bool, true, false, cond, List, [], ◌∷◌, ◌++◌, length, map, take, Option, Some, None, Result, Ok, Err, refl, sym, ap, ◌∙◌, subst, arith, inl, inr}
+use Rattle.std.specs.Prelude.{IsTrue, MatchOption}
+use Rattle.std.proofs.lemmas.Slice.Eq.{bytes_eq-Decides}
+use Rattle.vx_base.specs.Blocks.{Contents}
+use Rattle.vx_base.specs.Counts.{Rose}
+use Rattle.vx_base.specs.Named.{Word}
+use Rattle.vx_header.specs.Named.{Label}
+use Rattle.vx_piece.specs.Seen.{Seen}
+use Rattle.vx_copies.specs.Lists.{Each, AllOf}
+use Rattle.vx_copies.specs.Image.{Offer, offer_told, names_group, higher}
+use Rattle.vx_copies.specs.Disks.{Held, held, Drops, Goes, IsReady, IsBelow, IsNew, IsMember}
+use Rattle.vx_copies.specs.Config.{configuration, GivesOldOrNew}
+use Rattle.vx_copies.specs.Chain.{Copy, copy_of, IsGoodMember, IsSound}
+use Rattle.vx_copies.proofs.Going.{keeps_trans, drops_trans, each_trans, each_map}
+use Rattle.vx_confdb.specs.Prepare.{Says, label_in, OffersLess, Prepares, IsPrepared, OffersNone, Tells}
+use Rattle.vx_confdb.specs.Groups.{IsMemberOf}
+use Rattle.vx_copies.specs.Commit.{CommitEnds, HasRisen}
+use Rattle.vx_copies.specs.declared.disk.Disk.{Disk}
+use Rattle.vx_copies.specs.declared.writing.Lost.{Lost}
+use Rattle.vx_copies.specs.declared.writing.Lost.TheVariants as lost
+use Rattle.vx_confdb.specs.Faults.{fault_of}
+use Rattle.vx_confdb.specs.Create.{Joins, GivesNoneOrText, IsBegun, RefusedBy}
+use Rattle.vx_confdb.proofs.Grouped.{take_whole}
+
+none_told : (group : Word) (t u : Option Contents) → OffersLess t u → offer_told group t ≡ None → offer_told group u ≡ None
+none_told group None None less none = refl
+none_told group None (Some u) less none = absurd less
+none_told group (Some t) None less none = absurd less
+none_told group (Some t) (Some u) less none = elim (less group) [ inl same ↦ same ∙ none | inr gone ↦ gone ]
+
+-- what offered nothing still does
+pub none_all : (group : Word) (hs bs : List Held) → Each Prepares hs bs → AllOf (OffersNone group) hs → AllOf (OffersNone group) bs
+none_all group [] [] is all = tt
+none_all group [] (b ∷ bs) is all = absurd is
+none_all group (a ∷ hs) [] is all = absurd is
+none_all group (a ∷ hs) (b ∷ bs) is all = (none_told group a.seen.told b.seen.told is.0.told all.0, none_all group hs bs is.1 all.1)
+
+pub none_below : (group : Word) (n : ℕ) (hs : List Held) → AllOf (OffersNone group) hs → AllOf (IsBelow group n) hs
+none_below group n [] all = tt
+none_below group n (h ∷ hs) all = (subst (λ o. MatchOption o (Unit {0}) (λ x. x.sequence ≤ n)) (sym all.0) tt, none_below group n hs all.1)
+
+pub prepared_ready : (group : Word) (hs : List Held) → AllOf (IsPrepared group) hs → AllOf IsReady hs
+prepared_ready group [] all = tt
+prepared_ready group (h ∷ hs) all = (all.0.ready, prepared_ready group hs all.1)
+
+pub prepared_headed : (group : Word) (hs : List Held) → AllOf (IsPrepared group) hs → AllOf (IsMemberOf group) hs
+prepared_headed group [] all = tt
+prepared_headed group (h ∷ hs) all = (all.0.headed, prepared_headed group hs all.1)
+
+pub none_if : (r : Bool) (o : Option Offer) → o ≡ None → cond r o None ≡ None
+none_if true o is = is
+none_if false o is = refl
+
+pub none_given : (group : Word) (readable : ℕ → Bool) (hs : List Held) → AllOf (OffersNone group) hs → configuration group readable hs ≡ None
+none_given group readable [] all = refl
+none_given group readable (h ∷ hs) all =
+    ap (λ o. higher o (configuration group readable hs)) (none_if (readable h.slot) (offer_told group h.seen.told) all.0) ∙ none_given group readable hs all.1
+
+new_text : (f l : ℕ) (text : List ℕ) (o : Option Offer) → IsNew f l text o → (o ≡ None) ⊎ ((x : Offer) × (o ≡ Some x) × (x.text ≡ text))
+new_text f l text None is = absurd is
+new_text f l text (Some x) is = inr (x, refl, is.2)
+
+pub none_or_text : (group : Word) (f l : ℕ) (text : List ℕ) (hs bs : List Held) → AllOf (OffersNone group) hs → GivesOldOrNew group f l text hs bs → GivesNoneOrText group text bs
+none_or_text group f l text hs bs none gives = λ readable. elim (gives readable) [
+  | inl same ↦ inl (same ∙ none_given group readable hs none)
+  | inr new ↦ new_text f l text (configuration group readable bs) new
+]
+
+pub none_still : (group : Word) (text : List ℕ) (hs : List Held) → AllOf (OffersNone group) hs → GivesNoneOrText group text hs
+none_still group text hs none = λ readable. inl (none_given group readable hs none)
+
+-- disks that joined, and then were written
+pub prepares_joins : (a b : Held) → Prepares a b → Joins a b
+prepares_joins a b is = record { slot = is.slot; name = is.name; size = is.size; kept = is.kept; good = is.good }
+
+pub goes_joins : (f l : ℕ) (text : List ℕ) (a b : Held) → Goes f l text a b → Joins a b
+goes_joins f l text a b is = record { slot = is.slot; name = is.name; size = is.size; kept = is.kept; good = is.good }
+
+pub joins_trans : (a b c : Held) → Joins a b → Joins b c → Joins a c
+joins_trans a b c p q = record { slot = q.slot ∙ p.slot; name = q.name ∙ p.name; size = q.size ∙ p.size; kept = keeps_trans _ _ _ p.kept q.kept; good = drops_trans a.good b.good c.good a.seen b.seen c.seen p.kept q.kept p.good q.good }
+
+pub all_prepare : (hs bs : List Held) → Each Prepares hs bs → Each Joins hs bs
+all_prepare hs bs is = each_map Prepares Joins prepares_joins hs bs is
+
+pub all_join : (f l : ℕ) (text : List ℕ) (hs bs cs : List Held) → Each Prepares hs bs → Each (Goes f l text) bs cs → Each Joins hs cs
+all_join f l text hs bs cs p q = each_trans Joins joins_trans hs bs cs (all_prepare hs bs p) (each_map (Goes f l text) Joins (goes_joins f l text) bs cs q)
+
+-- the count of each that was good has risen
+risen_one : (a b c : Held) → Prepares a b → Joins b c → HasRisen b c → HasRisen a c
+risen_one a b c p q rose = λ good. by a.good b.good good p.good rose
+  where
+    by : (x y : Bool) → IsTrue x → Drops x y a.seen b.seen → (IsTrue y → Rose b.seen.faults c.seen.faults) → Rose a.seen.faults c.seen.faults
+    by true true is drops rises = let f = p.kept.faults in let r = rises refl in omega (arith, f, r)
+    by true false is drops rises = let f = q.kept.faults in omega (arith, drops, f)
+    by false y is drops rises = cc
+
+pub all_rose : (f l : ℕ) (text : List ℕ) (hs bs cs : List Held) → Each Prepares hs bs → Each (Goes f l text) bs cs → Each HasRisen bs cs → Each HasRisen hs cs
+all_rose f l text [] [] [] p q rose = tt
+all_rose f l text [] [] (c ∷ cs) p q rose = absurd q
+all_rose f l text [] (b ∷ bs) cs p q rose = absurd p
+all_rose f l text (a ∷ hs) [] cs p q rose = absurd p
+all_rose f l text (a ∷ hs) (b ∷ bs) [] p q rose = absurd q
+all_rose f l text (a ∷ hs) (b ∷ bs) (c ∷ cs) p q rose = (risen_one a b c p.0 (goes_joins f l text b c q.0) rose.0, all_rose f l text hs bs cs p.1 q.1 rose.1)
+
+-- a group that offers nothing is sound
+pub tells_still : (t u : Option Contents) → OffersLess t u → MatchOption t ⊥ (λ c. Unit {0}) → MatchOption u ⊥ (λ c. Unit {0})
+tells_still None u less tells = absurd tells
+tells_still (Some t) None less tells = absurd less
+tells_still (Some t) (Some u) less tells = tt
+
+pub tell_all : (hs bs : List Held) → Each Prepares hs bs → AllOf Tells hs → AllOf Tells bs
+tell_all [] [] is all = tt
+tell_all [] (b ∷ bs) is all = absurd is
+tell_all (a ∷ hs) [] is all = absurd is
+tell_all (a ∷ hs) (b ∷ bs) is all = (tells_still a.seen.told b.seen.told is.0.told all.0, tell_all hs bs is.1 all.1)
+
+pub member_one : (group : Word) (label : Label) (t : Option Contents) → label.group ≡ group → MatchOption t ⊥ (λ c. Unit {0}) → Says label t → IsMember group t
+member_one group label None same tells is = absurd tells
+member_one group label (Some c) same tells is = ap (names_group group) is ∙ (bytes_eq-Decides label.group group).1 same
+
+members_of : (group : Word) (hs : List Held) → AllOf Tells hs → AllOf (IsMemberOf group) hs → AllOf (IsGoodMember group) hs
+members_of group [] tells all = tt
+members_of group (h ∷ hs) tells all = (λ good. member_one group (label_in group h) h.seen.told refl tells.0 (all.0 good), members_of group hs tells.1 all.1)
+
+none_of : (Q : Offer → Type 0) (c : Copy) → c.offer ≡ None → MatchOption c.offer (Unit {0}) Q
+none_of Q c is = subst (λ o. MatchOption o (Unit {0}) Q) (sym is) tt
+
+all_none : (Q : Offer → Type 0) (cs : List Copy) → AllOf (λ c. c.offer ≡ None) cs → AllOf (λ c. MatchOption c.offer (Unit {0}) Q) cs
+all_none Q [] all = tt
+all_none Q (c ∷ cs) all = (none_of Q c all.0, all_none Q cs all.1)
+
+copies_none : (group : Word) (os : List Copy) (hs : List Held) → AllOf (λ c. c.offer ≡ None) os → AllOf (OffersNone group) hs → AllOf (λ c. c.offer ≡ None) (os ++ map (copy_of group) hs)
+copies_none group [] [] others all = tt
+copies_none group [] (h ∷ hs) others all = (all.0, copies_none group [] hs others all.1)
+copies_none group (o ∷ os) hs others all = (others.0, copies_none group os hs others.1 all)
+
+pub sound_none : (group : Word) (os : List Copy) (n k : ℕ) (hs : List Held) → AllOf (λ c. c.offer ≡ None) os → AllOf (OffersNone group) hs → AllOf Tells hs → AllOf (IsMemberOf group) hs → IsSound group os n k hs
+sound_none group os n k hs others none tells headed =
+    let all = copies_none group os hs others none in
+    record { members = members_of group hs tells headed; chained = all_none _ _ all; newest = all_none _ _ all; up_to = all_none _ _ all }
+
+-- the answer of a lost commit
+pub refused_by : {P : Type 0} (see : P → Seen) (r : Result (Unit {0}) Lost) (l : Lost) (n k : ℕ) (name : Word) (text : List ℕ) (old mid new : List (Disk P)) → r ≡ Err l
+    → length (map (held see) mid) ≤ n → length (map (held see) new) ≤ n
+    → IsBegun name text (map (held see) old) (map (held see) new) → Each Prepares (map (held see) old) (map (held see) mid) → Each (Goes 1 k text) (map (held see) mid) (map (held see) new)
+    → CommitEnds r n k text (map (held see) mid) (map (held see) new) → RefusedBy see (fault_of l) name text old new
+refused_by see (Ok u) l n k name text old mid new is few few' begun prepares goes ends = cc
+refused_by see (Err lost.GroupLost) lost.GroupLost n k name text old mid new is few few' begun prepares goes ends =
+    (begun, all_rose 1 k text _ _ _ prepares goes (subst (λ xs. Each HasRisen xs (map (held see) new)) (take_whole n (map (held see) mid) few) (subst (Each HasRisen (take n (map (held see) mid))) (take_whole n (map (held see) new) few') ends)))
+refused_by see (Err lost.PowerLost) lost.PowerLost n k name text old mid new is few few' begun prepares goes ends = (begun, ends)
+refused_by see (Err lost.GroupLost) lost.PowerLost n k name text old mid new is few few' begun prepares goes ends = cc
+refused_by see (Err lost.PowerLost) lost.GroupLost n k name text old mid new is few few' begun prepares goes ends = cc

@@ -1,0 +1,37 @@
+-- A text with the zeros behind it.
+use Rattle.std.proofs.Common.{◌≡◌, ℕ, ◌+◌, ◌-◌, ◌*◌, ◌≤◌, List, ◌++◌, length, map, take, Result, arith, sym, ◌∙◌, ap, subst}
+use Rattle.std.proofs.lemmas.List.{take_at, length-append}
+use Rattle.vx_piece.specs.Seen.{Seen}
+use Rattle.vx_copies.specs.Image.{sectors_for}
+use Rattle.vx_copies.specs.Disks.{held}
+use Rattle.vx_copies.specs.declared.disk.Disk.{Disk}
+use Rattle.vx_copies.specs.declared.writing.Lost.{Lost}
+use Rattle.vx_confdb.specs.Carried.{IsCarried}
+use Rattle.vx_copies.specs.Pass.{IsPadded}
+
+module _ (text pad out : List ℕ) (n : ℕ) (is : out ≡ text ++ pad) (rest : length pad ≡ 512 * n - length text) (enough : length text ≤ 512 * n) where
+  pub front : take (length text) out ≡ text
+  front = ap (take (length text)) is ∙ take_at text pad (length text) (omega arith)
+
+  size : length out ≡ 512 * n
+  size = let e : length out ≡ length text + length pad = ap (λ (xs : List ℕ). length xs) is ∙ length-append text pad in omega (arith, e, rest, enough)
+
+  pub long : length text ≤ length out
+  long = omega (arith, size, enough)
+
+  pub padded_is : n ≡ sectors_for (length text) → length text ≤ 522240 → IsPadded (take (length text) out) out
+  padded_is sectors fits =
+      let same : length (take (length text) out) ≡ length text = ap (λ (xs : List ℕ). length xs) front in
+      record {
+        front = ap (λ (k : ℕ). take k out) same;
+        size = size ∙ ap (λ (k : ℕ). 512 * k) sectors ∙ ap (λ (k : ℕ). 512 * sectors_for k) (sym same);
+        fits = omega (arith, same, fits);
+      }
+
+-- what is carried for equal disks and texts
+pub carried_in : {P : Type 0} (see : P → Seen) (r : Result (Unit {0}) Lost) (carriers before now : ℕ) (told text : List ℕ) (lent old out new : List (Disk P)) → told ≡ text → lent ≡ old → out ≡ new
+    → IsCarried r carriers before now told (map (held see) lent) (map (held see) out) → IsCarried r carriers before now text (map (held see) old) (map (held see) new)
+carried_in see r carriers before now told text lent old out new e f h is =
+    subst (λ x. IsCarried r carriers before now text (map (held see) old) (map (held see) x)) h
+    (subst (λ x. IsCarried r carriers before now text (map (held see) x) (map (held see) out)) f
+    (subst (λ x. IsCarried r carriers before now x (map (held see) lent) (map (held see) out)) e is))

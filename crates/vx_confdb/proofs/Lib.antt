@@ -1,0 +1,5 @@
+pub mod Filling
+pub mod Preparing
+pub mod Grouped
+pub mod Begun
+pub mod Adding

@@ -1,0 +1,145 @@
+-- What the writing of a first toggle and of a header does to what a device offers.
+use Rattle.std.proofs.Common.{◌≡◌, ◌⊎◌, ℕ, zero, suc, ◌-◌, ◌<◌, Bool, true, false, List, [], ◌∷◌, length, map, drop, set, get_or, Option, Some, None, Result, Ok, Err, refl, sym, ap, ◌∙◌, subst, arith, inl, inr}
+use Rattle.std.specs.Prelude.{MatchOption}
+use Rattle.std.proofs.lemmas.Bool.{cases_order}
+use Rattle.std.proofs.lemmas.List.{take_all}
+use Rattle.vx_base.specs.Blocks.{Contents, block_at, written, IsTorn}
+use Rattle.vx_base.specs.Named.{Word}
+use Rattle.vx_base.proofs.BlockLemmas.{written_in}
+use Rattle.vx_header.specs.Named.{Label, header_of}
+use Rattle.vx_header.specs.Said.{toggle_of}
+use Rattle.vx_header.proofs.Saying.{zeros_say}
+use Rattle.vx_sector.specs.Fields.{zeros}
+use Rattle.vx_piece.specs.Seen.{Seen, Writes}
+use Rattle.vx_copies.specs.Lists.{AllOf}
+use Rattle.vx_copies.specs.Disks.{Held, held, NamesHalf}
+use Rattle.vx_copies.specs.declared.disk.Disk.{Disk}
+use Rattle.vx_copies.specs.Image.{toggle_at, offer_by, offer_of, offer_if, names_group, offer_in}
+use Rattle.vx_copies.proofs.Halves.{torn_out, written_torn}
+use Rattle.vx_copies.proofs.Going.{keeps_trans, keeps_refl, drops_trans, drops_refl}
+use Rattle.vx_confdb.specs.Prepare.{IsFresh, IsBlank, Says, OffersLess, Prepares, AreJoined}
+use Rattle.vx_confdb.specs.declared.joining.Prepared.{Prepared}
+
+no_offer : (b : Bool) → offer_if b None ≡ None
+no_offer true = refl
+no_offer false = refl
+
+-- a device whose toggle says nothing offers nothing
+pub blank_offers : (group : Word) (c : Contents) → toggle_at c ≡ None → offer_in group c ≡ None
+unfolding offer_in offer_of
+blank_offers group c blank = ap (λ t. offer_if (names_group group (header_of (c 0))) (offer_by t c)) blank ∙ no_offer (names_group group (header_of (c 0)))
+
+all_same : (c d : Contents) → ((k : ℕ) → d k ≡ c k) → d ≡ c
+all_same c d same = λ i k. same k i
+
+module _ (sector : List ℕ) (size : length sector ≡ 512) where
+  there : (at : ℕ) (c : Contents) → written at sector c at ≡ sector
+  there at c =
+      let none : at - at ≡ 0 = omega arith in
+      written_in at sector c at (omega arith) (omega (arith, size)) ∙ ap (block_at sector) none ∙ take_all 512 sector (omega (arith, size))
+
+  beside : (at : ℕ) (c d : Contents) → IsTorn at sector c d → (k : ℕ) → (k < at) ⊎ (at < k) → d k ≡ c k
+  beside at c d torn k other = torn_out at sector c d torn k (elim other [ inl lt ↦ inl lt | inr lt ↦ inr (omega (arith, size, lt)) ])
+
+  apart : (at k : ℕ) → (k ≡ at) ⊎ ((k < at) ⊎ (at < k))
+  apart at k = cases_order k at
+
+  -- a toggle of zeros, torn or not
+  module _ (zero : sector ≡ zeros 512) where
+    zero_torn : (c d : Contents) → IsTorn 1 sector c d → OffersLess (Some c) (Some d)
+    unfolding toggle_at
+    zero_torn c d torn = λ group. elim (torn 1) [
+      | inl same ↦ inl (ap (offer_in group) (all_same c d (λ k. elim (apart 1 k) [ inl at ↦ ap d at ∙ same ∙ ap c (sym at) | inr other ↦ beside 1 c d torn k other ])))
+      | inr new ↦ inr (blank_offers group d (ap toggle_of (new ∙ there 1 c ∙ zero) ∙ zeros_say 512))
+    ]
+
+    pub zero_less : {T E : Type 0} (told after : Option Contents) (result : Result T E) → Writes 1 sector told after result → OffersLess told after
+    zero_less None None result writes = tt
+    zero_less None (Some d) result writes = absurd writes
+    zero_less (Some c) None result writes = absurd writes
+    zero_less (Some c) (Some d) (Ok u) writes = zero_torn c d (written_torn 1 sector c d writes)
+    zero_less (Some c) (Some d) (Err e) writes = zero_torn c d writes
+
+    pub zero_blank : {T E : Type 0} (told after : Option Contents) (result : Result T E) (u : T) → result ≡ Ok u → Writes 1 sector told after result → IsBlank after
+    unfolding toggle_at
+    zero_blank None None result u is writes = tt
+    zero_blank None (Some d) result u is writes = absurd writes
+    zero_blank (Some c) None result u is writes = absurd writes
+    zero_blank (Some c) (Some d) (Ok v) u is writes = ap toggle_of (writes 1 ∙ there 1 c ∙ zero) ∙ zeros_say 512
+    zero_blank (Some c) (Some d) (Err e) u is writes = cc
+
+  -- a header, torn or not, over a toggle that says nothing
+  header_torn : (c d : Contents) → toggle_at c ≡ None → IsTorn 0 sector c d → toggle_at d ≡ None
+  unfolding toggle_at
+  header_torn c d blank torn = ap toggle_of (beside 0 c d torn 1 (inr (omega arith))) ∙ blank
+
+  pub header_blank : {T E : Type 0} (told after : Option Contents) (result : Result T E) → IsBlank told → Writes 0 sector told after result → IsBlank after
+  header_blank None None result blank writes = tt
+  header_blank None (Some d) result blank writes = absurd writes
+  header_blank (Some c) None result blank writes = absurd writes
+  header_blank (Some c) (Some d) (Ok u) blank writes = header_torn c d blank (written_torn 0 sector c d writes)
+  header_blank (Some c) (Some d) (Err e) blank writes = header_torn c d blank writes
+
+  pub header_less : {T E : Type 0} (told after : Option Contents) (result : Result T E) → IsBlank told → Writes 0 sector told after result → OffersLess told after
+  header_less None None result blank writes = tt
+  header_less None (Some d) result blank writes = absurd writes
+  header_less (Some c) None result blank writes = absurd writes
+  header_less (Some c) (Some d) result blank writes = λ group. inr (blank_offers group d (header_blank (Some c) (Some d) result blank writes))
+
+  pub header_named : {T E : Type 0} (label : Label) (told after : Option Contents) (result : Result T E) (u : T) → header_of sector ≡ Some label → result ≡ Ok u → Writes 0 sector told after result → Says label after
+  header_named label None None result u says is writes = tt
+  header_named label None (Some d) result u says is writes = absurd writes
+  header_named label (Some c) None result u says is writes = absurd writes
+  header_named label (Some c) (Some d) (Ok v) u says is writes = ap header_of (writes 0 ∙ there 0 c) ∙ says
+  header_named label (Some c) (Some d) (Err e) u says is writes = cc
+
+-- a disk whose toggle says nothing has no half that is named
+pub blank_names : (half : ℕ) (told : Option Contents) → IsBlank told → NamesHalf half told
+blank_names half None blank = tt
+blank_names half (Some c) blank = subst (λ t. MatchOption t (Unit {0}) (λ x. x.half ≡ half)) (sym blank) tt
+
+-- one write after the other
+less_trans : (a b c : Option Contents) → OffersLess a b → OffersLess b c → OffersLess a c
+less_trans None None None p q = tt
+less_trans None None (Some c) p q = absurd q
+less_trans None (Some b) c p q = absurd p
+less_trans (Some a) None c p q = absurd p
+less_trans (Some a) (Some b) None p q = absurd q
+less_trans (Some a) (Some b) (Some c) p q = λ group. elim (q group) [
+  | inr none ↦ inr none
+  | inl same ↦ elim (p group) [ inl e ↦ inl (same ∙ e) | inr none ↦ inr (same ∙ none) ]
+]
+
+less_refl : (a : Option Contents) → OffersLess a a
+less_refl None = tt
+less_refl (Some a) = λ group. inl refl
+
+pub prepares_trans : (a b c : Held) → Prepares a b → Prepares b c → Prepares a c
+prepares_trans a b c p q = record {
+  slot = q.slot ∙ p.slot;
+  name = q.name ∙ p.name;
+  size = q.size ∙ p.size;
+  half = q.half ∙ p.half;
+  kept = keeps_trans _ _ _ p.kept q.kept;
+  good = drops_trans a.good b.good c.good a.seen b.seen c.seen p.kept q.kept p.good q.good;
+  told = less_trans a.seen.told b.seen.told c.seen.told p.told q.told;
+}
+
+pub prepares_refl : (a : Held) → Prepares a a
+prepares_refl a = record { slot = refl; name = refl; size = refl; half = refl; kept = keeps_refl a.seen; good = drops_refl a.good a.seen; told = less_refl a.seen.told }
+
+-- disks of the list
+pub fresh_at : {P : Type 0} (see : P → Seen) (group : Word) (ds : List (Disk P)) (i : ℕ) (d : Disk P) → i < length ds → AllOf (IsFresh see group) (drop i ds) → IsFresh see group (get_or ds i d)
+fresh_at see group [] i d lt all = absurd (omega (arith, lt))
+fresh_at see group (x ∷ ds) zero d lt all = all.0
+fresh_at see group (x ∷ ds) (suc i) d lt all = fresh_at see group ds i d (omega (arith, lt)) all
+
+pub fresh_rest : {P : Type 0} (see : P → Seen) (group : Word) (ds : List (Disk P)) (i : ℕ) (d : Disk P) → AllOf (IsFresh see group) (drop i ds) → AllOf (IsFresh see group) (drop (suc i) (set ds i d))
+fresh_rest see group [] i d all = tt
+fresh_rest see group (x ∷ ds) zero d all = all.1
+fresh_rest see group (x ∷ ds) (suc i) d all = fresh_rest see group ds i d all
+
+-- what was joined of equal lists
+pub joined_in : {P : Type 0} (see : P → Seen) (r : Prepared) (group : Word) (lent old out new : List (Disk P)) → lent ≡ old → out ≡ new → AreJoined r group (map (held see) lent) (map (held see) out) → AreJoined r group (map (held see) old) (map (held see) new)
+joined_in see r group lent old out new f h is =
+    subst (λ x. AreJoined r group (map (held see) old) (map (held see) x)) h (subst (λ x. AreJoined r group (map (held see) x) (map (held see) out)) f is)

@@ -1,0 +1,59 @@
+use Rattle.std.proofs.Common.{◌≡◌, ◌≤◌, length, map, ap, List, [], ◌∷◌, ◌++◌, arith, Ok, Err, None}
+use Rattle.std.proofs.lemmas.List.{length-map}
+use Rattle.vx_copies.specs.Disks.{held}
+use Rattle.vx_copies.specs.Chain.{Copy, copy_of, IsChained, IsSound}
+use Rattle.vx_confdb.specs.Prepare.{Tells}
+use Rattle.vx_confdb.specs.Groups.{members, IsAlive}
+use Rattle.vx_confdb.specs.Add.{IsTaken, TakenBy, AddGives}
+use Rattle.vx_confdb.specs.Texts.{text_of}
+use Rattle.vx_confdb.specs.declared.group.Group.{Group}
+use Rattle.vx_confdb.proofs.Begun.{none_all}
+use Rattle.vx_confdb.proofs.Adding.{mid_members, joined_is, chain_by, whole_by, taken_is, lost_taken, one_longer, alive_by, ok_not_err, held_length}
+use Rattle.vx_confdb.proofs.group.Group.add.Goals as goal
+
+pub write_joined-requires-clause-alive : goal.write_joined-requires-clause-alive
+write_joined-requires-clause-alive g c κs within =
+    let alive : IsAlive g.P.Piece.seen c.args.self.now = alive_by g.P.Piece.seen c.args.self.now c.in_default.is c.requires.group in
+    let is = mid_members g.P.Piece.seen c.args.self.now.disks.items c.reserve.new.self.items c.put_last.new.disks.items c.join_one-joined.new.disk c.reserve.ensures.items c.put_last.ensures.put in
+    let none = (none_all c.args.self.now.name (held g.P.Piece.seen c.args.disk ∷ []) (held g.P.Piece.seen c.join_one-joined.new.disk ∷ []) (c.join_one-joined.ensures.prepares, tt) (c.requires.none, tt)).0 in
+    let few : length c.put_last.new.disks.items ≤ 32 = omega (arith, one_longer c.args.self.now.disks.items c.reserve.new.self.items c.put_last.new.disks.items c.join_one-joined.new.disk c.reserve.ensures.items c.put_last.ensures.put, c.requires.room) in
+    joined_is g.P.Piece.seen c.join_one-joined.result _ (members g.P.Piece.seen c.args.self.now) (held g.P.Piece.seen c.join_one-joined.new.disk) is few alive.ready alive.headed alive.below none c.join_one-joined.ensures.ends
+
+pub returns-in-Ok-write_joined-clause-ends : goal.returns-in-Ok-write_joined-clause-ends
+returns-in-Ok-write_joined-clause-ends g c =
+    let alive : IsAlive g.P.Piece.seen c.args.self.now = alive_by g.P.Piece.seen c.args.self.now c.in_default.is c.requires.group in
+    let is = mid_members g.P.Piece.seen c.args.self.now.disks.items c.reserve.new.self.items c.put_last.new.disks.items c.join_one-joined.new.disk c.reserve.ensures.items c.put_last.ensures.put in
+    let none = (none_all c.args.self.now.name (held g.P.Piece.seen c.args.disk ∷ []) (held g.P.Piece.seen c.join_one-joined.new.disk ∷ []) (c.join_one-joined.ensures.prepares, tt) (c.requires.none, tt)).0 in
+    let mid : Group g.row.P.Denot = record { name = c.args.self.now.name; disks = c.put_last.new.disks; sequence = c.args.self.now.sequence; text = c.args.self.now.text; lost = c.args.self.now.lost } in
+    let long : c.len-carriers.result ≡ length (members g.P.Piece.seen c.args.self.now) = omega (arith, length-map c.args.self.now.disks.items (held g.P.Piece.seen), c.args.self.now.disks.ok.0, c.reserve.ensures.len, c.len-carriers.ensures) in
+    let size : c.len-carriers.result ≡ length c.args.self.now.disks.items = omega (arith, c.args.self.now.disks.ok.0, c.reserve.ensures.len, c.len-carriers.ensures) in
+    let same = ap (map (held g.P.Piece.seen)) in
+    let chain : (os : List Copy) → Tells (held g.P.Piece.seen c.args.disk) → IsSound c.args.self.now.name os c.args.self.now.sequence (length c.args.self.now.disks.items) (members g.P.Piece.seen c.args.self.now) → IsChained (os ++ map (copy_of c.args.self.now.name) (members g.P.Piece.seen c.write_joined.new.self)) = λ os tells sound. chain_by c.join_one-joined.result c.args.self.now.name os c.args.self.now.sequence c.write_joined.new.self.sequence c.len-carriers.result (members g.P.Piece.seen c.args.self.now) (members g.P.Piece.seen mid) (members g.P.Piece.seen c.write_joined.new.self) (held g.P.Piece.seen c.args.disk) (held g.P.Piece.seen c.join_one-joined.new.disk) is long c.join_one-joined.ensures.prepares none c.join_one-joined.ensures.ends
+    (λ cut. same (c.write_joined.ensures.stays cut)) (c.write_joined.ensures.sound os) tells (rw size sound) in
+    let committed = c.write_joined.ensures.written.committed in
+    let taken : IsTaken g.P.Piece.seen (text_of c.in-Ok.text) c.args.disk c.args.self.now c.write_joined.new.self =
+    taken_is g.P.Piece.seen (text_of c.in-Ok.text) c.args.disk c.join_one-joined.new.disk c.args.self.now c.write_joined.new.self (members g.P.Piece.seen mid) is c.join_one-joined.ensures.prepares none committed.name committed.goes committed.old_or_new committed.few chain in
+    let longer : length c.write_joined.new.self.disks.items ≡ length c.put_last.new.disks.items = held_length g.P.Piece.seen _ c.put_last.new.disks.items c.write_joined.new.self.disks.items committed.goes in
+    let whole : (os : List Copy) → Tells (held g.P.Piece.seen c.args.disk) → IsSound c.args.self.now.name os c.args.self.now.sequence (length c.args.self.now.disks.items) (members g.P.Piece.seen c.args.self.now) → IsSound c.args.self.now.name os c.write_joined.new.self.sequence (length c.write_joined.new.self.disks.items) (members g.P.Piece.seen c.write_joined.new.self) = λ os tells sound.
+    whole_by c.join_one-joined.result c.args.self.now.name os c.args.self.now.sequence c.write_joined.new.self.sequence c.len-carriers.result (length c.write_joined.new.self.disks.items) (members g.P.Piece.seen c.args.self.now) (members g.P.Piece.seen mid) (members g.P.Piece.seen c.write_joined.new.self) (held g.P.Piece.seen c.args.disk) (held g.P.Piece.seen c.join_one-joined.new.disk) is long c.join_one-joined.ensures.prepares none c.join_one-joined.ensures.ends
+    (λ cut. ok_not_err c.write_joined.result c.in-Ok-write_joined.field-0 _ c.in-Ok-write_joined.is (c.write_joined.ensures.cut cut)) (λ x. rw longer (c.in-Ok-write_joined.ensures.all os x)) tells (rw size sound) in
+    let ends : TakenBy g.P.Piece.seen (Ok c.in-Ok-write_joined.field-0) (text_of c.in-Ok.text) c.args.disk c.args.self.now c.write_joined.new.self = (taken, c.in-Ok-write_joined.ensures.written.ends, whole) in
+    rw c.in-Ok.ensures at ends
+
+pub returns-in-Err-clause-ends : goal.returns-in-Err-clause-ends
+returns-in-Err-clause-ends g c =
+    let alive : IsAlive g.P.Piece.seen c.args.self.now = alive_by g.P.Piece.seen c.args.self.now c.in_default.is c.requires.group in
+    let is = mid_members g.P.Piece.seen c.args.self.now.disks.items c.reserve.new.self.items c.put_last.new.disks.items c.join_one-joined.new.disk c.reserve.ensures.items c.put_last.ensures.put in
+    let none = (none_all c.args.self.now.name (held g.P.Piece.seen c.args.disk ∷ []) (held g.P.Piece.seen c.join_one-joined.new.disk ∷ []) (c.join_one-joined.ensures.prepares, tt) (c.requires.none, tt)).0 in
+    let mid : Group g.row.P.Denot = record { name = c.args.self.now.name; disks = c.put_last.new.disks; sequence = c.args.self.now.sequence; text = c.args.self.now.text; lost = c.args.self.now.lost } in
+    let long : c.len-carriers.result ≡ length (members g.P.Piece.seen c.args.self.now) = omega (arith, length-map c.args.self.now.disks.items (held g.P.Piece.seen), c.args.self.now.disks.ok.0, c.reserve.ensures.len, c.len-carriers.ensures) in
+    let size : c.len-carriers.result ≡ length c.args.self.now.disks.items = omega (arith, c.args.self.now.disks.ok.0, c.reserve.ensures.len, c.len-carriers.ensures) in
+    let same = ap (map (held g.P.Piece.seen)) in
+    let chain : (os : List Copy) → Tells (held g.P.Piece.seen c.args.disk) → IsSound c.args.self.now.name os c.args.self.now.sequence (length c.args.self.now.disks.items) (members g.P.Piece.seen c.args.self.now) → IsChained (os ++ map (copy_of c.args.self.now.name) (members g.P.Piece.seen c.write_joined.new.self)) = λ os tells sound. chain_by c.join_one-joined.result c.args.self.now.name os c.args.self.now.sequence c.write_joined.new.self.sequence c.len-carriers.result (members g.P.Piece.seen c.args.self.now) (members g.P.Piece.seen mid) (members g.P.Piece.seen c.write_joined.new.self) (held g.P.Piece.seen c.args.disk) (held g.P.Piece.seen c.join_one-joined.new.disk) is long c.join_one-joined.ensures.prepares none c.join_one-joined.ensures.ends
+    (λ cut. same (c.write_joined.ensures.stays cut)) (c.write_joined.ensures.sound os) tells (rw size sound) in
+    let committed = c.write_joined.ensures.written.committed in
+    let taken : IsTaken g.P.Piece.seen (text_of c.in-Ok.text) c.args.disk c.args.self.now c.write_joined.new.self =
+    taken_is g.P.Piece.seen (text_of c.in-Ok.text) c.args.disk c.join_one-joined.new.disk c.args.self.now c.write_joined.new.self (members g.P.Piece.seen mid) is c.join_one-joined.ensures.prepares none committed.name committed.goes committed.old_or_new committed.few chain in
+    let ends : AddGives g.P.Piece.seen (Err (c.in-Err.fault, None)) (text_of c.in-Ok.text) c.args.disk c.args.self.now c.write_joined.new.self =
+    lost_taken g.P.Piece.seen c.in-Err.fault c.len-carriers.result (text_of c.in-Ok.text) c.args.disk c.join_one-joined.new.disk c.args.self.now mid c.write_joined.new.self is long size taken c.in-Err.ensures.written.ends in
+    rw c.in-Ok.ensures at ends

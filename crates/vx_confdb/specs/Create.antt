@@ -1,0 +1,52 @@
+-- What the making of a group leaves.
+use Rattle.std.specs.Prelude.{◌≡◌, ◌⊎◌, ℕ, ◌<◌, Bool, List, length, map, Some, None, Result, Ok, Err}
+use Rattle.vx_base.specs.Named.{Word}
+use Rattle.vx_piece.specs.Seen.{Seen, Keeps}
+use Rattle.vx_copies.specs.Lists.{Each, AnyOf}
+use Rattle.vx_copies.specs.Image.{Offer}
+use Rattle.vx_copies.specs.Disks.{Held, held, Drops, IsCut}
+use Rattle.vx_copies.specs.Config.{configuration}
+use Rattle.vx_copies.specs.Commit.{HasRisen}
+use Rattle.vx_copies.specs.declared.disk.Disk.{Disk}
+use Rattle.vx_confdb.specs.Groups.{members, CarriesText}
+use Rattle.vx_confdb.specs.declared.founding.Refused.{Refused}
+use Rattle.vx_confdb.specs.declared.fault.GroupFault.{GroupFault}
+use Rattle.vx_confdb.specs.declared.fault.GroupFault.TheVariants as fault
+use Rattle.vx_confdb.specs.declared.group.Group.{Group}
+
+-- the disk keeps its slot and its piece, and is good unless it failed
+pub record Joins (old new : Held) : Type 0 where
+  pub slot : new.slot ≡ old.slot
+  pub name : new.name ≡ old.name
+  pub size : new.sectors ≡ old.sectors
+  pub kept : Keeps old.seen new.seen
+  pub good : Drops old.good new.good old.seen new.seen
+
+-- whichever disks can be read, they give no configuration of the group, or the text
+abbrev pub GivesNoneOrText : Word → List ℕ → List Held → Type 0
+GivesNoneOrText name text hs = (readable : ℕ → Bool) → (configuration name readable hs ≡ None) ⊎ ((o : Offer) × (configuration name readable hs ≡ Some o) × (o.text ≡ text))
+
+-- what a group that was begun leaves of the disks
+pub record IsBegun (name : Word) (text : List ℕ) (old new : List Held) : Type 0 where
+  pub joins : Each Joins old new
+  pub none_or_text : GivesNoneOrText name text new
+
+abbrev pub RefusedBy : {P : Type 0} → (P → Seen) → GroupFault → Word → List ℕ → List (Disk P) → List (Disk P) → Type 0
+RefusedBy see fault.OutOfMemory name text old new = new ≡ old
+RefusedBy see (fault.TooLong n) name text old new = (n ≡ length text) × (522240 < n) × (new ≡ old)
+RefusedBy see fault.GroupLost name text old new = IsBegun name text (map (held see) old) (map (held see) new) × Each HasRisen (map (held see) old) (map (held see) new)
+RefusedBy see fault.PowerLost name text old new = IsBegun name text (map (held see) old) (map (held see) new) × AnyOf IsCut (map (held see) new)
+
+pub record IsFounded {P : Type 0} (see : P → Seen) (name : Word) (text : List ℕ) (old : List (Disk P)) (g : Group P) : Type 0 where
+  pub name_is : g.name ≡ name
+  pub begun : IsBegun name text (map (held see) old) (members see g)
+  pub carries : CarriesText see 1 text g
+
+-- the group carries the text, or the disks are given back
+abbrev pub CreateGives : {P : Type 0} → (P → Seen) → Result (Group P) (Refused P) → Word → List ℕ → List (Disk P) → Type 0
+CreateGives see (Ok g) name text old = IsFounded see name text old g
+CreateGives see (Err r) name text old = RefusedBy see r.fault name text old r.disks.items
+
+abbrev pub IsTooLong : {P : Type 0} → ℕ → Result (Group P) (Refused P) → Type 0
+IsTooLong n (Ok g) = ⊥
+IsTooLong n (Err r) = r.fault ≡ fault.TooLong n

@@ -1,0 +1,84 @@
+-- How a disk becomes a member of a group.
+use Rattle.std.specs.Prelude.{◌≡◌, ◌⊎◌, ◌<◌, ◌≤◌, ◌^◌, true, IsTrue, List, Option, Some, None, MatchOption}
+use Rattle.vx_base.specs.Blocks.{Contents}
+use Rattle.vx_base.specs.Named.{Word}
+use Rattle.vx_header.specs.Named.{Label, header_of}
+use Rattle.vx_header.specs.Sectors.{is_short_name}
+use Rattle.vx_piece.specs.Seen.{Seen, Keeps}
+use Rattle.vx_copies.specs.Lists.{Each, AllOf, AnyOf}
+use Rattle.vx_copies.specs.Image.{toggle_at, offer_in, offer_told}
+use Rattle.vx_copies.specs.Disks.{Held, IsCut, IsReady, Drops}
+use Rattle.vx_copies.specs.declared.disk.Disk.{Disk}
+use Rattle.vx_confdb.specs.declared.joining.Prepared.{Prepared}
+use Rattle.vx_confdb.specs.declared.joining.Prepared.TheVariants.{Done, Cut}
+
+-- the private region of a disk that may become a member of the group
+pub record IsFresh {P : Type 0} (see : P → Seen) (group : Word) (d : Disk P) : Type 0 where
+  pub good : d.good ≡ true
+  pub slot : d.slot < 32
+  pub half : d.half < 2
+  pub private : (see d.piece).sectors ≡ 2048
+  pub group_short : IsTrue (is_short_name group)
+  pub name_short : IsTrue (is_short_name d.name)
+  pub public : 2048 < d.sectors
+  pub at_most : d.sectors ≤ 2 ^ 40
+
+-- the toggle says nothing
+abbrev pub IsBlank : Option Contents → Type 0
+IsBlank None = Unit {0}
+IsBlank (Some contents) = toggle_at contents ≡ None
+
+-- what the header of a member says
+abbrev pub label_in : Word → Held → Label
+label_in group h = record { group = group; disk = h.name; slot = h.slot; sectors = h.sectors }
+
+-- the header says this
+abbrev pub Says : Label → Option Contents → Type 0
+Says label None = Unit {0}
+Says label (Some contents) = header_of (contents 0) ≡ Some label
+
+-- the header names the group, the disk, its slot and the sectors of its device
+abbrev pub IsHeaded : Word → Held → Type 0
+IsHeaded group h = Says (label_in group h) h.seen.told
+
+-- in each group the device offers what it did, or nothing
+abbrev pub OffersLess : Option Contents → Option Contents → Type 0
+OffersLess None None = Unit {0}
+OffersLess None (Some new) = ⊥
+OffersLess (Some old) None = ⊥
+OffersLess (Some old) (Some new) = (group : Word) → (offer_in group new ≡ offer_in group old) ⊎ (offer_in group new ≡ None)
+
+pub record Prepares (old new : Held) : Type 0 where
+  pub slot : new.slot ≡ old.slot
+  pub name : new.name ≡ old.name
+  pub size : new.sectors ≡ old.sectors
+  pub half : new.half ≡ old.half
+  pub kept : Keeps old.seen new.seen
+  pub good : Drops old.good new.good old.seen new.seen
+  pub told : OffersLess old.seen.told new.seen.told
+
+-- ready for a commit, and a member without a configuration, where it is good
+pub record IsPrepared (group : Word) (h : Held) : Type 0 where
+  pub ready : IsReady h
+  pub blank : IsTrue h.good → IsBlank h.seen.told
+  pub headed : IsTrue h.good → IsHeaded group h
+
+abbrev pub PrepareEnds : Prepared → Word → Held → Type 0
+PrepareEnds Done group h = IsPrepared group h
+PrepareEnds Cut group h = IsCut h
+
+abbrev pub AllPrepared : Prepared → Word → List Held → Type 0
+AllPrepared Done group hs = AllOf (IsPrepared group) hs
+AllPrepared Cut group hs = AnyOf IsCut hs
+
+pub record AreJoined (result : Prepared) (group : Word) (old new : List Held) : Type 0 where
+  pub prepares : Each Prepares old new
+  pub ends : AllPrepared result group new
+
+-- the device offers nothing in the group
+abbrev pub OffersNone : Word → Held → Type 0
+OffersNone group h = offer_told group h.seen.told ≡ None
+
+-- the disk tells what it holds
+abbrev pub Tells : Held → Type 0
+Tells h = MatchOption h.seen.told ⊥ (λ contents. Unit {0})

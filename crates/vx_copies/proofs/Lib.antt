@@ -1,0 +1,11 @@
+pub mod Halves
+pub mod InGroup
+pub mod Going
+pub mod Placed
+pub mod Stopped
+pub mod Masks
+pub mod Turning
+pub mod Chained
+pub mod Tried
+pub mod Chosen
+pub mod Left

@@ -1,0 +1,53 @@
+use Rattle.std.proofs.Common.{◌-◌, rules, refl, ◌∙◌, arith, length}
+use Rattle.vx_copies.proofs.Halves.{said_there, toggle_told, toggle_offer, toggle_named}
+use Rattle.vx_copies.proofs.Going.{if_good}
+use Rattle.vx_copies.proofs.disk.put_toggle.Goals as goal
+
+pub returns-in-Ok-clause-stamps : goal.returns-in-Ok-clause-stamps
+returns-in-Ok-clause-stamps g c =
+    let said = said_there c.args.sequence (1 - c.args.disk.now.half) (length c.args.text.now) c.args.mask c.put.new.out c.put.ensures c.requires.some (omega arith) (omega (arith, c.requires.ready.half)) c.requires.fits (omega arith) in
+    record {
+      slot = refl;
+      name = refl;
+      size = refl;
+      kept = c.write.ensures.kept;
+      good = search rules;
+      offers = if_good c.args.sequence c.args.mask c.args.text.now c.args.disk.now.good _ _ (search rules) (toggle_told c.args.disk.now.half c.args.sequence c.args.mask c.args.text.now c.put.new.out c.requires.ready.half (search rules) said _ _ c.write.result (c.requires.ready.names (search rules)) (c.requires.spare (search rules)) c.write.ensures.told.told);
+    }
+
+pub returns-in-Err-Failed-clause-stamps : goal.returns-in-Err-Failed-clause-stamps
+returns-in-Err-Failed-clause-stamps g c =
+    let said = said_there c.args.sequence (1 - c.args.disk.now.half) (length c.args.text.now) c.args.mask c.put.new.out c.put.ensures c.requires.some (omega arith) (omega (arith, c.requires.ready.half)) c.requires.fits (omega arith) in
+    record {
+      slot = refl;
+      name = refl;
+      size = refl;
+      kept = c.write.ensures.kept;
+      good = search rules;
+      offers = if_good c.args.sequence c.args.mask c.args.text.now c.args.disk.now.good _ _ (search rules) (toggle_told c.args.disk.now.half c.args.sequence c.args.mask c.args.text.now c.put.new.out c.requires.ready.half (search rules) said _ _ c.write.result (c.requires.ready.names (search rules)) (c.requires.spare (search rules)) c.write.ensures.told.told);
+    }
+
+pub returns-in-Err-PowerLost-clause-stamps : goal.returns-in-Err-PowerLost-clause-stamps
+returns-in-Err-PowerLost-clause-stamps g c =
+    let said = said_there c.args.sequence (1 - c.args.disk.now.half) (length c.args.text.now) c.args.mask c.put.new.out c.put.ensures c.requires.some (omega arith) (omega (arith, c.requires.ready.half)) c.requires.fits (omega arith) in
+    record {
+      slot = refl;
+      name = refl;
+      size = refl;
+      kept = c.write.ensures.kept;
+      good = search rules;
+      offers = if_good c.args.sequence c.args.mask c.args.text.now c.args.disk.now.good _ _ (search rules) (toggle_told c.args.disk.now.half c.args.sequence c.args.mask c.args.text.now c.put.new.out c.requires.ready.half (search rules) said _ _ c.write.result (c.requires.ready.names (search rules)) (c.requires.spare (search rules)) c.write.ensures.told.told);
+    }
+
+pub returns-in-Ok-clause-ends : goal.returns-in-Ok-clause-ends
+returns-in-Ok-clause-ends g c =
+    let said = said_there c.args.sequence (1 - c.args.disk.now.half) (length c.args.text.now) c.args.mask c.put.new.out c.put.ensures c.requires.some (omega arith) (omega (arith, c.requires.ready.half)) c.requires.fits (omega arith) in (
+      record {
+        slot = c.requires.ready.slot;
+        half = omega (arith, c.requires.ready.half);
+        sectors = c.write.ensures.kept.sectors ∙ c.requires.ready.sectors;
+        names = λ is. toggle_named c.args.disk.now.half c.args.sequence c.args.mask c.args.text.now c.put.new.out c.requires.ready.half (search rules) said _ _ c.write.result c.in-Ok.field-0 c.in-Ok.is c.write.ensures.told.told;
+      },
+      λ is. toggle_offer c.args.disk.now.half c.args.sequence c.args.mask c.args.text.now c.put.new.out c.requires.ready.half (search rules) said _ _ c.write.result c.in-Ok.field-0 c.in-Ok.is (c.requires.spare (search rules)) c.write.ensures.told.told,
+      refl,
+    )

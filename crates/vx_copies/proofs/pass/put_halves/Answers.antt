@@ -1,0 +1,31 @@
+use Rattle.std.proofs.Common.{◌≡◌, get_or, rules, arith, add-one}
+use Rattle.vx_copies.specs.Disks.{held, Stays, IsReady, HasSpare}
+use Rattle.vx_copies.specs.Pass.{HalfEnds}
+use Rattle.vx_copies.specs.declared.disk.Pass.TheVariants.{Done}
+use Rattle.vx_copies.proofs.Going.{each_refl, stays_refl, stays_trans, same_refl, same_trans}
+use Rattle.vx_copies.proofs.Placed.{all_at, all_set, all_more, go_on}
+use Rattle.vx_copies.proofs.Stopped.{halves_stop}
+use Rattle.vx_copies.proofs.pass.put_halves.Goals as goal
+
+pub halves-init : goal.halves-init
+halves-init g c = record { most = omega arith; stays = each_refl Stays stays_refl _; ready = c.requires.ready; spare = tt; good = each_refl _ same_refl _ }
+
+pub put_half-requires-clause-ready : goal.put_half-requires-clause-ready
+put_half-requires-clause-ready g c κs within = all_at g.P.Piece.seen IsReady c.halves.disks c.halves.i c.index-disks-i.result c.halves-test.true c.halves.invariant.ready
+
+pub returns-in_default : goal.returns-in_default
+returns-in_default g c = record {
+  stays = go_on g.P.Piece.seen Stays stays_trans _ c.halves.disks c.halves.i c.put_half.new.disk c.index-disks-i.result c.halves-test.true c.halves.invariant.stays c.put_half.ensures.stays;
+  ends = halves_stop g.P.Piece.seen c.args.text.now _ c.halves.disks c.halves.i c.put_half.new.disk c.index-disks-i.result c.halves-test.true c.halves.invariant.ready c.halves.invariant.good c.put_half.result c.in_default.not-Done c.put_half.ensures.ends;
+}
+
+pub halves-preserved : goal.halves-preserved
+halves-preserved g c =
+    let ends : HalfEnds Done c.args.text.now (held g.P.Piece.seen (get_or c.halves.disks c.halves.i c.index-disks-i.result)) (held g.P.Piece.seen c.put_half.new.disk) = rw c.in-Done.is at c.put_half.ensures.ends in
+    record {
+      most = search rules;
+      stays = go_on g.P.Piece.seen Stays stays_trans _ c.halves.disks c.halves.i c.put_half.new.disk c.index-disks-i.result c.halves-test.true c.halves.invariant.stays c.put_half.ensures.stays;
+      ready = all_set g.P.Piece.seen IsReady c.halves.disks c.halves.i c.put_half.new.disk c.halves.invariant.ready ends.0;
+      spare = rw add-one (all_more g.P.Piece.seen (HasSpare c.args.text.now) c.halves.disks c.halves.i c.put_half.new.disk c.halves.invariant.spare ends.1);
+      good = go_on g.P.Piece.seen (λ a b. b.good ≡ a.good) same_trans _ c.halves.disks c.halves.i c.put_half.new.disk c.index-disks-i.result c.halves-test.true c.halves.invariant.good ends.2;
+    }

@@ -1,0 +1,50 @@
+use Rattle.std.proofs.Common.{◌≡◌, get_or, rules, arith, add-one, ap, subst, map}
+use Rattle.vx_copies.specs.Lists.{AllOf}
+use Rattle.std.proofs.lemmas.List.{take_all}
+use Rattle.vx_copies.specs.Disks.{held, Stamps, IsReady, HasSpare, IsOffer}
+use Rattle.vx_copies.specs.Pass.{ToggleEnds}
+use Rattle.vx_copies.specs.declared.disk.Pass.TheVariants.{Done}
+use Rattle.vx_copies.proofs.Going.{each_refl, stamps_refl, stamps_trans, same_refl, same_trans}
+use Rattle.vx_copies.proofs.Placed.{all_at, all_set, all_more, all_first, all_rest, go_on}
+use Rattle.vx_copies.proofs.Turning.{all_kept, all_turned, stop_first, rest_more}
+use Rattle.vx_copies.proofs.Stopped.{toggles_stop}
+use Rattle.vx_copies.proofs.pass.put_toggles.Goals as goal
+
+pub toggles-init : goal.toggles-init
+toggles-init g c = record { most = omega arith; size = c.requires.size; stamps = each_refl _ (stamps_refl c.args.sequence c.args.mask c.args.text.now) _; ready = c.requires.ready; spare = c.requires.spare; rest = all_kept _; offer = tt; good = each_refl _ same_refl _ }
+
+pub put_toggle-requires-clause-ready : goal.put_toggle-requires-clause-ready
+put_toggle-requires-clause-ready g c κs within = all_at g.P.Piece.seen IsReady c.toggles.disks c.toggles.i c.index-disks-i.result c.toggles-test.true c.toggles.invariant.ready
+
+pub put_toggle-requires-clause-spare : goal.put_toggle-requires-clause-spare
+put_toggle-requires-clause-spare g c κs within = all_first g.P.Piece.seen (HasSpare c.args.text.now) c.toggles.disks c.toggles.i c.index-disks-i.result c.toggles-test.true c.toggles.invariant.spare
+
+pub returns-in_default-clause-stamps : goal.returns-in_default-clause-stamps
+returns-in_default-clause-stamps g c = go_on g.P.Piece.seen (Stamps c.args.sequence c.args.mask c.args.text.now) (stamps_trans c.args.sequence c.args.mask c.args.text.now) _ c.toggles.disks c.toggles.i c.put_toggle.new.disk c.index-disks-i.result c.toggles-test.true c.toggles.invariant.stamps c.put_toggle.ensures.stamps
+
+pub returns-in_default-clause-ends : goal.returns-in_default-clause-ends
+returns-in_default-clause-ends g c = toggles_stop g.P.Piece.seen c.args.text.now _ c.toggles.disks c.toggles.i c.put_toggle.new.disk c.index-disks-i.result c.toggles-test.true c.toggles.invariant.ready c.toggles.invariant.good c.put_toggle.result c.args.sequence c.args.mask c.in_default.not-Done c.put_toggle.ensures.ends
+
+pub toggles-preserved : goal.toggles-preserved
+toggles-preserved g c =
+    let ends : ToggleEnds Done c.args.sequence c.args.mask c.args.text.now (held g.P.Piece.seen (get_or c.toggles.disks c.toggles.i c.index-disks-i.result)) (held g.P.Piece.seen c.put_toggle.new.disk) = rw c.in-Done.is at c.put_toggle.ensures.ends in
+    record {
+      most = search rules;
+      size = search rules;
+      stamps = go_on g.P.Piece.seen (Stamps c.args.sequence c.args.mask c.args.text.now) (stamps_trans c.args.sequence c.args.mask c.args.text.now) _ c.toggles.disks c.toggles.i c.put_toggle.new.disk c.index-disks-i.result c.toggles-test.true c.toggles.invariant.stamps c.put_toggle.ensures.stamps;
+      ready = all_set g.P.Piece.seen IsReady c.toggles.disks c.toggles.i c.put_toggle.new.disk c.toggles.invariant.ready ends.0;
+      spare = rw add-one (all_rest g.P.Piece.seen (HasSpare c.args.text.now) c.toggles.disks c.toggles.i c.put_toggle.new.disk c.toggles.invariant.spare);
+      rest = rw add-one (rest_more c.args.sequence c.args.mask c.args.text.now g.P.Piece.seen _ c.toggles.disks c.toggles.i c.put_toggle.new.disk c.toggles-test.true c.toggles.invariant.rest);
+      offer = rw add-one (all_more g.P.Piece.seen (IsOffer c.args.sequence c.args.mask c.args.text.now) c.toggles.disks c.toggles.i c.put_toggle.new.disk c.toggles.invariant.offer ends.1);
+      good = go_on g.P.Piece.seen (λ a b. b.good ≡ a.good) same_trans _ c.toggles.disks c.toggles.i c.put_toggle.new.disk c.index-disks-i.result c.toggles-test.true c.toggles.invariant.good ends.2;
+    }
+
+pub returns-in_default-clause-first : goal.returns-in_default-clause-first
+returns-in_default-clause-first g c = λ tells.
+    stop_first c.args.sequence c.args.mask c.args.text.now g.P.Piece.seen _ c.toggles.disks c.toggles.i c.put_toggle.new.disk c.toggles-test.true
+    (go_on g.P.Piece.seen (Stamps c.args.sequence c.args.mask c.args.text.now) (stamps_trans c.args.sequence c.args.mask c.args.text.now) _ c.toggles.disks c.toggles.i c.put_toggle.new.disk c.index-disks-i.result c.toggles-test.true c.toggles.invariant.stamps c.put_toggle.ensures.stamps)
+    tells c.toggles.invariant.good c.toggles.invariant.offer c.toggles.invariant.rest
+
+pub returns-clause-first : goal.returns-clause-first
+returns-clause-first g c = λ tells. all_turned c.args.sequence c.args.mask c.args.text.now _ _ c.toggles.invariant.stamps c.toggles.invariant.good tells
+    (subst (AllOf (IsOffer c.args.sequence c.args.mask c.args.text.now)) (ap (map (held g.P.Piece.seen)) (take_all c.toggles.i c.toggles.disks c.toggles-test.false)) c.toggles.invariant.offer)

@@ -1,0 +1,83 @@
+use Rattle.std.proofs.Common.{◌≡◌, ◌+◌, ◌∙◌, map, take, refl, sym, ap, subst, arith, false}
+use Rattle.std.proofs.lemmas.List.{take-map}
+use Rattle.vx_copies.specs.Lists.{AllOf}
+use Rattle.vx_copies.specs.Disks.{Held, held, good_count}
+use Rattle.vx_copies.specs.Commit.{AttemptEnds}
+use Rattle.vx_copies.specs.declared.disk.Pass.TheVariants.{Done, Dropped}
+use Rattle.vx_copies.proofs.Going.{all_refl, all_risen, each_first}
+use Rattle.vx_copies.proofs.Placed.{count_first, same_count}
+use Rattle.vx_copies.proofs.Tried.{one_more, count_few}
+use Rattle.vx_copies.proofs.writing.commit_on.Goals as goal
+
+pub again-init : goal.again-init
+again-init g c =
+    let few = count_few g.P.Piece.seen c.args.disks.now in
+    record { size = c.requires.size; long = refl; later = omega arith; bound = omega (arith, few, c.requires.count); ready = c.requires.ready; goes = all_refl (c.args.sequence.now + 1) c.args.sequence.now c.args.text.now _; sound = λ group others is. is }
+
+pub returns-in-Done-clause-goes : goal.returns-in-Done-clause-goes
+returns-in-Done-clause-goes g c = one_more (c.args.sequence.now + 1) c.again.sequence c.args.text.now _ _ _ (omega (arith, c.again.invariant.later)) c.again.invariant.goes c.attempt.ensures.goes
+
+pub returns-in-Done-clause-ends : goal.returns-in-Done-clause-ends
+returns-in-Done-clause-ends g c =
+    let ends : AttemptEnds Done (c.again.sequence + 1) c.args.text.now (map (held g.P.Piece.seen) c.again.disks) (map (held g.P.Piece.seen) c.attempt.new.disks) = rw c.in-Done.is at c.attempt.ensures.ends in
+    let same : good_count (take c.args.carriers (map (held g.P.Piece.seen) c.attempt.new.disks)) ≡ good_count (take c.args.carriers (map (held g.P.Piece.seen) c.again.disks)) =
+    same_count _ _ (each_first _ c.args.carriers _ _ ends.2) in
+    let some = c.any_good.ensures.some c.again-test.true in
+    let there : good_count (map (held g.P.Piece.seen) (take c.args.carriers c.again.disks)) ≡ good_count (take c.args.carriers (map (held g.P.Piece.seen) c.again.disks)) = ap good_count (sym (take-map (held g.P.Piece.seen) c.args.carriers c.again.disks)) in
+    (ends.0, ends.1, omega (arith, same, some, there))
+
+pub returns-in-Done-clause-sound : goal.returns-in-Done-clause-sound
+returns-in-Done-clause-sound g c = λ group others is.
+    let some = c.any_good.ensures.some c.again-test.true in
+    let there : good_count (map (held g.P.Piece.seen) (take c.args.carriers c.again.disks)) ≡ good_count (take c.args.carriers (map (held g.P.Piece.seen) c.again.disks)) = ap good_count (sym (take-map (held g.P.Piece.seen) c.args.carriers c.again.disks)) in
+    c.attempt.ensures.sound group others c.again.sequence c.args.carriers (omega arith) (omega (arith, some, there)) (c.again.invariant.sound group others is)
+
+pub returns-in-Done-clause-all : goal.returns-in-Done-clause-all
+returns-in-Done-clause-all g c = λ group others is.
+    let some = c.any_good.ensures.some c.again-test.true in
+    let there : good_count (map (held g.P.Piece.seen) (take c.args.carriers c.again.disks)) ≡ good_count (take c.args.carriers (map (held g.P.Piece.seen) c.again.disks)) = ap good_count (sym (take-map (held g.P.Piece.seen) c.args.carriers c.again.disks)) in
+    rw c.again.invariant.long at c.attempt.ensures.all group others c.again.sequence c.args.carriers (omega arith) (omega (arith, some, there)) (c.again.invariant.sound group others is) c.in-Done.is
+
+pub returns-in-Done-clause-few : goal.returns-in-Done-clause-few
+returns-in-Done-clause-few g c =
+    let some = c.any_good.ensures.some c.again-test.true in
+    let there : good_count (map (held g.P.Piece.seen) (take c.args.carriers c.again.disks)) ≡ good_count (take c.args.carriers (map (held g.P.Piece.seen) c.again.disks)) = ap good_count (sym (take-map (held g.P.Piece.seen) c.args.carriers c.again.disks)) in
+    let few = count_first c.args.carriers (map (held g.P.Piece.seen) c.again.disks) in
+    omega (arith, some, there, few, c.again.invariant.bound)
+
+pub returns-in-Cut-clause-goes : goal.returns-in-Cut-clause-goes
+returns-in-Cut-clause-goes g c = one_more (c.args.sequence.now + 1) c.again.sequence c.args.text.now _ _ _ (omega (arith, c.again.invariant.later)) c.again.invariant.goes c.attempt.ensures.goes
+
+pub returns-in-Cut-clause-sound : goal.returns-in-Cut-clause-sound
+returns-in-Cut-clause-sound g c = λ group others is.
+    let some = c.any_good.ensures.some c.again-test.true in
+    let there : good_count (map (held g.P.Piece.seen) (take c.args.carriers c.again.disks)) ≡ good_count (take c.args.carriers (map (held g.P.Piece.seen) c.again.disks)) = ap good_count (sym (take-map (held g.P.Piece.seen) c.args.carriers c.again.disks)) in
+    c.attempt.ensures.sound group others c.again.sequence c.args.carriers (omega arith) (omega (arith, some, there)) (c.again.invariant.sound group others is)
+
+pub returns-in-Cut-clause-few : goal.returns-in-Cut-clause-few
+returns-in-Cut-clause-few g c =
+    let some = c.any_good.ensures.some c.again-test.true in
+    let there : good_count (map (held g.P.Piece.seen) (take c.args.carriers c.again.disks)) ≡ good_count (take c.args.carriers (map (held g.P.Piece.seen) c.again.disks)) = ap good_count (sym (take-map (held g.P.Piece.seen) c.args.carriers c.again.disks)) in
+    let few = count_first c.args.carriers (map (held g.P.Piece.seen) c.again.disks) in
+    omega (arith, some, there, few, c.again.invariant.bound)
+
+pub again-preserved : goal.again-preserved
+again-preserved g c =
+    let ends : AttemptEnds Dropped (c.again.sequence + 1) c.args.text.now (map (held g.P.Piece.seen) c.again.disks) (map (held g.P.Piece.seen) c.attempt.new.disks) = rw c.in-Dropped.is at c.attempt.ensures.ends in
+    let less = ends.1 in
+    let some = c.any_good.ensures.some c.again-test.true in
+    let there : good_count (map (held g.P.Piece.seen) (take c.args.carriers c.again.disks)) ≡ good_count (take c.args.carriers (map (held g.P.Piece.seen) c.again.disks)) = ap good_count (sym (take-map (held g.P.Piece.seen) c.args.carriers c.again.disks)) in
+    record {
+      size = c.attempt.ensures.size;
+      long = c.attempt.auto.disks ∙ c.again.invariant.long;
+      later = omega (arith, c.again.invariant.later);
+      bound = omega (arith, less, c.again.invariant.bound);
+      ready = ends.0;
+      goes = one_more (c.args.sequence.now + 1) c.again.sequence c.args.text.now _ _ _ (omega (arith, c.again.invariant.later)) c.again.invariant.goes c.attempt.ensures.goes;
+      sound = λ group others is. c.attempt.ensures.sound group others c.again.sequence c.args.carriers (omega arith) (omega (arith, some, there)) (c.again.invariant.sound group others is);
+    }
+
+pub returns-clause-ends : goal.returns-clause-ends
+returns-clause-ends g c =
+    all_risen (c.args.sequence.now + 1) c.again.sequence c.args.text.now _ _ (each_first _ c.args.carriers _ _ c.again.invariant.goes)
+    (subst (AllOf (λ (h : Held). h.good ≡ false)) (sym (take-map (held g.P.Piece.seen) c.args.carriers c.again.disks)) (c.any_good.ensures.none c.again-test.false))

@@ -1,0 +1,20 @@
+use Rattle.std.proofs.Common.{◌≡◌, ◌+◌, ◌≤◌, List, length, map}
+use Rattle.vx_base.specs.Named.{Word}
+use Rattle.vx_copies.specs.Lists.{Each, AllOf}
+use Rattle.vx_copies.specs.Disks.{held, Goes, IsReady, good_count}
+use Rattle.vx_copies.specs.Chain.{Copy, IsSound}
+use Rattle.vx_copies.proofs.writing.commit_on.Given as goal
+
+abbrev pub invariant-again : goal.invariant-again
+invariant-again g l = record {
+  size : length l.sector ≡ 512;
+  long : length l.disks ≡ length l.fn.disks;
+  later : l.fn.sequence ≤ l.sequence;
+  bound : l.sequence + good_count (map (held g.P.Piece.seen) l.disks) ≤ l.fn.sequence + 32;
+  ready : AllOf IsReady (map (held g.P.Piece.seen) l.disks);
+  goes : Each (Goes (l.fn.sequence + 1) l.sequence l.text) (map (held g.P.Piece.seen) l.fn.disks) (map (held g.P.Piece.seen) l.disks);
+  sound : (group : Word) (others : List Copy) → IsSound group others l.fn.sequence l.carriers (map (held g.P.Piece.seen) l.fn.disks) → IsSound group others l.sequence l.carriers (map (held g.P.Piece.seen) l.disks);
+}
+
+abbrev pub decreases-again : goal.decreases-again
+decreases-again g l = good_count (map (held g.P.Piece.seen) l.disks)

@@ -1,0 +1,43 @@
+-- The copies of a group's configuration on all its devices, and what they keep, so that no import takes an older one.
+use Rattle.std.specs.Prelude.{◌≡◌, ◌⊎◌, ℕ, ◌<◌, ◌≤◌, true, IsTrue, List, ◌++◌, map, take, Option, MatchOption}
+use Rattle.vx_base.specs.Named.{Word}
+use Rattle.vx_mask.specs.Mask.{has}
+use Rattle.vx_copies.specs.Lists.{AllOf, AnyOf}
+use Rattle.vx_copies.specs.Image.{Offer, offer_told}
+use Rattle.vx_copies.specs.Disks.{Held, IsMember}
+
+-- a device of the group, by its slot, and what it offers
+pub record Copy : Type 0 where
+  pub slot : ℕ
+  pub offer : Option Offer
+
+abbrev pub copy_of : Word → Held → Copy
+copy_of group h = record { slot = h.slot; offer = offer_told group h.seen.told }
+
+-- no offer has a higher sequence
+abbrev pub AllUpTo : ℕ → List Copy → Type 0
+AllUpTo n copies = AllOf (λ c. MatchOption c.offer (Unit {0}) (λ o. o.sequence ≤ n)) copies
+
+-- the offer names the slot of a device whose offer is newer
+abbrev pub NamesNewer : Offer → List Copy → Type 0
+NamesNewer o copies = AnyOf (λ c. (has o.good c.slot ≡ true) × MatchOption c.offer ⊥ (λ p. o.sequence < p.sequence)) copies
+
+-- each offer is one of the newest, or names a device with a newer one
+abbrev pub IsChained : List Copy → Type 0
+IsChained copies = AllOf (λ c. MatchOption c.offer (Unit {0}) (λ o. AllUpTo o.sequence copies ⊎ NamesNewer o copies)) copies
+
+-- the offer names each good disk
+abbrev pub NamesGood : Offer → List Held → Type 0
+NamesGood o disks = AllOf (λ h. IsTrue h.good → has o.good h.slot ≡ true) disks
+
+-- where it is good, the disk is a member of the group
+abbrev pub IsGoodMember : Word → Held → Type 0
+IsGoodMember group h = IsTrue h.good → IsMember group h.seen.told
+
+-- The members of the group and its other devices, up to a sequence: their copies are chained, and the newest name each
+-- good one of the first `carriers` members.
+pub record IsSound (group : Word) (others : List Copy) (last carriers : ℕ) (disks : List Held) : Type 0 where
+  pub members : AllOf (IsGoodMember group) disks
+  pub chained : IsChained (others ++ map (copy_of group) disks)
+  pub newest : AllOf (λ c. MatchOption c.offer (Unit {0}) (λ o. AllUpTo o.sequence (others ++ map (copy_of group) disks) → NamesGood o (take carriers disks))) (others ++ map (copy_of group) disks)
+  pub up_to : AllUpTo last (others ++ map (copy_of group) disks)

@@ -1,0 +1,27 @@
+-- The configuration that a group's disks give, whichever of them can be read.
+use Rattle.std.specs.Prelude.{◌≡◌, ◌⊎◌, ℕ, Bool, true, IsTrue, if◌then◌else◌, List, [], ◌∷◌, Option, None}
+use Rattle.vx_base.specs.Named.{Word}
+use Rattle.vx_copies.specs.Lists.{AnyOf}
+use Rattle.vx_copies.specs.Image.{Offer, offer_told, highest}
+use Rattle.vx_copies.specs.Disks.{Held, IsNew, IsMember}
+
+-- what the readable disks offer
+abbrev pub offers_of : Word → (ℕ → Bool) → List Held → List (Option Offer)
+offers_of group readable [] = []
+offers_of group readable (h ∷ hs) = (if readable h.slot then offer_told group h.seen.told else None) ∷ offers_of group readable hs
+
+-- the configuration of the group, where these slots can be read
+abbrev pub configuration : Word → (ℕ → Bool) → List Held → Option Offer
+configuration group readable hs = highest (offers_of group readable hs)
+
+-- whichever disks can be read, they give what they gave before, or the new text
+abbrev pub GivesOldOrNew : Word → ℕ → ℕ → List ℕ → List Held → List Held → Type 0
+GivesOldOrNew group first last text old new = (readable : ℕ → Bool) → (configuration group readable new ≡ configuration group readable old) ⊎ IsNew first last text (configuration group readable new)
+
+-- a good disk of the group that can be read and tells its contents
+abbrev pub IsReadableGood : Word → (ℕ → Bool) → Held → Type 0
+IsReadableGood group readable h = (readable h.slot ≡ true) × IsTrue h.good × IsMember group h.seen.told
+
+-- whichever disks can be read, they give the text, where a good one is among them
+abbrev pub GivesNew : Word → ℕ → ℕ → List ℕ → List Held → Type 0
+GivesNew group first last text new = (readable : ℕ → Bool) → AnyOf (IsReadableGood group readable) new → IsNew first last text (configuration group readable new)

@@ -15,7 +15,7 @@ use Rattle.vx_extents.specs.Columns.{is_in_column, piece_follows, end_with, colu
 use Rattle.vx_extents.specs.Pieces.{pieces, piece_before, is_in, grow, or_new, column_after, end_of, whole_of}
 use Rattle.vx_extents.specs.Indexed.{follows_in, column_is_whole, column_is_there}
 use Rattle.vx_extents.proofs.Runs.{Run, chain, follows, good}
-use Rattle.vx_extents.proofs.Tests.{count_more}
+use Rattle.vx_extents.proofs.ListTests.{count_more}
 
 -- the runs of a column among pieces
 abbrev pub runs : Key → List Piece → List Run

@@ -15,7 +15,7 @@ use Rattle.vx_extents.specs.declared.extent.Extent.{Extent}
 use Rattle.vx_extents.specs.Overlap.{lesser, first_overlap_with, first_overlap}
 use Rattle.vx_extents.specs.Extents.{extent_of, extents, meets, rises_from, names_rise, first_clash}
 use Rattle.vx_extents.proofs.NameOrder.{before_itself, before_later, not_before, same_place, up_to_before}
-use Rattle.vx_extents.proofs.Tests.{any_weaker, none_weaker}
+use Rattle.vx_extents.proofs.ListTests.{any_weaker, none_weaker}
 
 -- some extent passes where some subdisk does
 any_extent : (p : Extent → Bool) (all : List Object) → list_any (λ o. is_subdisk (λ s. p (extent_of s)) o) all ≡ list_any p (extents all)

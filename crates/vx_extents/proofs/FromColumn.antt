@@ -21,7 +21,7 @@ use Rattle.vx_extents.specs.Keys.{Key, key_cmp}
 use Rattle.vx_extents.specs.Columns.{is_in_column}
 use Rattle.vx_extents.specs.Indexed.{IsIndexed, column_is_there, has_piece_from}
 use Rattle.vx_extents.proofs.NameOrder.{same_place}
-use Rattle.vx_extents.proofs.Tests.{any_weaker, any_witness}
+use Rattle.vx_extents.proofs.ListTests.{any_weaker, any_witness}
 
 -- a subdisk that passes the one passes the other
 pub subdisk_weaker : (p q : Subdisk → Bool) → ((s : Subdisk) → p s ≡ true → q s ≡ true) → (o : Object) → is_subdisk p o ≡ true → is_subdisk q o ≡ true

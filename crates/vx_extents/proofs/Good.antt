@@ -10,7 +10,7 @@ use Rattle.vx_parts.specs.Objects.{is_subdisk, refers}
 use Rattle.vx_extents.specs.Below.{all_below}
 use Rattle.vx_extents.specs.Columns.{is_in_column, column_begins, piece_follows, piece_is_good, all_pieces_good, column_length, columns_are_equal, layout_is_good, columns_are_good}
 use Rattle.vx_extents.specs.Indexed.{follows_in, column_is_whole, has_piece_from}
-use Rattle.vx_extents.proofs.Tests.{same_truth}
+use Rattle.vx_extents.proofs.ListTests.{same_truth}
 
 below_at : (test : ℕ → Bool) (n k : ℕ) → k < n → all_below n test ≡ true → test k ≡ true
 below_at test zero k lt h = absurd (omega arith)

@@ -15,7 +15,7 @@ use Rattle.vx_extents.specs.Pieces.{pieces, is_in, is_filled, column_of, end_of,
 use Rattle.vx_extents.specs.Indexed.{IsIndexed}
 use Rattle.vx_extents.proofs.Runs.{Run, chain, full, ascends, follows, good, chain_is_good}
 use Rattle.vx_extents.proofs.ColumnRuns.{runs, runs_in, runs_same, whole_run, last_end, length_run, there_run, grow_run, column_runs, found_end, found_is, found_whole}
-use Rattle.vx_extents.proofs.Tests.{any_count, all_is_none, all_agree, count_more}
+use Rattle.vx_extents.proofs.ListTests.{any_count, all_is_none, all_agree, count_more}
 
 -- of each test as many pass
 pub record IsSame (xs ys : List Run) : Type 0 where

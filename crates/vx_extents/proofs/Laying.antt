@@ -17,7 +17,7 @@ use Rattle.vx_extents.specs.Extents.{has_sector, meets}
 use Rattle.vx_extents.specs.Keys.{Key, key_cmp}
 use Rattle.vx_extents.specs.Laid.{IsLaid}
 use Rattle.vx_extents.proofs.KeyOrder.{key_total, key_exact, between, before, begins}
-use Rattle.vx_extents.proofs.Tests.{any_weaker}
+use Rattle.vx_extents.proofs.ListTests.{any_weaker}
 
 abbrev pub Ends : Type 0
 Ends = BTreeMap Key ℕ

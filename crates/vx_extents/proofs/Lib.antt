@@ -1,5 +1,5 @@
 pub mod Below
-pub mod Tests
+pub mod ListTests
 pub mod NameOrder
 pub mod KeyOrder
 pub mod Laying

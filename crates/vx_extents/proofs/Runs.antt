@@ -2,7 +2,7 @@
 use Rattle.std.proofs.Common.{◌≡◌, ℕ, ◌+◌, ◌<◌, ◌≤◌, Bool, true, false, cond, nat_lt, nat_le, List, [], ◌∷◌, refl, sym, ap, ◌∙◌, inl, inr, arith, ◌&&◌, ◌||◌, ◌==◌}
 use Rattle.std.specs.List.{list_any, list_all, count_by}
 use Rattle.std.proofs.lemmas.Bool.{false≢true, and_parts, and_from, or_cases, or_left, or_right, or_from, eqb-true, eq-eqb, ne_eqb, leb-true, le-leb, ltb-true, cases_eq}
-use Rattle.vx_extents.proofs.Tests.{all_both, all_weaker, none_of_all, count_more, count_none, same_truth}
+use Rattle.vx_extents.proofs.ListTests.{all_both, all_weaker, none_of_all, count_more, count_none, same_truth}
 
 -- where a piece begins, and its sectors
 abbrev pub Run : Type 0

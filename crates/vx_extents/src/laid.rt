@@ -28,7 +28,7 @@ impl Laid {
 
     /// The extent meets one of those that are laid: it can only be the last that begins before its end.
     pub(crate) fn meets(&self, extent: &Extent) -> bool
-        ensures { (done : List Extent) → IsLaid self.now.ends done → has_sector extent.now ≡ true → result ≡ list_any (meets extent.now) done }
+        ensures { (done : List Extent) → IsLaid self.now.ends done → result ≡ list_any (meets extent.now) done }
     {
         let off = extent.off as u128;
         let end = off + extent.len as u128;

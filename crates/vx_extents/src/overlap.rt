@@ -77,8 +77,7 @@ fn first_clash(alloc: Global, extents: &[Extent]) -> Result<Option<Name>, OutOfM
     Ok(None)
 }
 
-// Where names repeat or a subdisk is empty, which the rules before this one refuse, all pairs are looked at.
-
+/// Where names repeat or a subdisk is empty, which the rules before this one refuse, all pairs are looked at.
 fn first_overlap(all: &[Object]) -> Option<Name>
     ensures { result ≡ first_overlap all.now }
 {

@@ -8,7 +8,7 @@ use Rattle.vx_base.proofs.CountLemmas.{none_rose}
 use Rattle.vx_base.proofs.NamedLemmas.{bytes_eq_same}
 use Rattle.vx_block.specs.Geometry.{is_geometry}
 use Rattle.vx_piece.specs.Seen.{Seen}
-use Rattle.vx_piece.specs.Shelf.{LeavesShelf, ComesToShelf}
+use Rattle.vx_shelf.specs.Shelf.{LeavesShelf, ComesToShelf}
 use Rattle.vx_base.specs.Blocks.{Contents}
 use Rattle.vx_life.specs.Candidates.{known}
 use Rattle.vx_bare.specs.Stands.{IsAmongTold}

@@ -6,7 +6,7 @@ use Rattle.vx_base.specs.Blocks.{Contents}
 use Rattle.vx_base.specs.Named.{Word}
 use Rattle.vx_base.proofs.NamedLemmas.{bytes_eq_self, name_cases}
 use Rattle.vx_piece.specs.Seen.{Seen}
-use Rattle.vx_piece.specs.Shelf.{Held}
+use Rattle.vx_shelf.specs.Shelf.{Held}
 use Rattle.vx_life.specs.Candidates.{Candidates, IsChosen}
 use Rattle.vx_world.specs.declared.command.Command.{Command}
 use Rattle.vx_world.specs.World.{World, Volume}

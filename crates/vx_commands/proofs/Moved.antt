@@ -5,7 +5,7 @@ use Rattle.std.proofs.lemmas.Bool.{cond-false, cond-true}
 use Rattle.vx_base.specs.Named.{Word}
 use Rattle.vx_base.proofs.NamedLemmas.{bytes_eq_self}
 use Rattle.vx_piece.specs.Seen.{Seen, Keeps}
-use Rattle.vx_piece.specs.Shelf.{ComesToShelf}
+use Rattle.vx_shelf.specs.Shelf.{ComesToShelf}
 use Rattle.vx_life.specs.declared.Part.{Part}
 use Rattle.vx_world.specs.declared.command.Call.{Call}
 use Rattle.vx_world.specs.declared.answer.Answer.{Answer}

@@ -7,7 +7,7 @@ use Rattle.vx_base.specs.Blocks.{Contents}
 use Rattle.vx_base.specs.Named.{Word, put}
 use Rattle.vx_base.proofs.NamedLemmas.{bytes_eq_self, put_same, put_other, name_cases}
 use Rattle.vx_piece.specs.Seen.{Seen}
-use Rattle.vx_piece.specs.Shelf.{ComesToShelf}
+use Rattle.vx_shelf.specs.Shelf.{ComesToShelf}
 use Rattle.vx_life.specs.Candidates.{Candidates, IsChosen}
 use Rattle.vx_life.specs.declared.Part.{Part}
 use Rattle.vx_life.specs.Entry.{Entry}

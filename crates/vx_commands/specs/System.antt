@@ -4,7 +4,7 @@ use Rattle.std.specs.Str.{bytes_eq}
 use Rattle.vx_base.specs.Named.{Word, put, SameUnder}
 use Rattle.vx_block.specs.Geometry.{is_geometry}
 use Rattle.vx_piece.specs.Seen.{Seen}
-use Rattle.vx_piece.specs.Shelf.{Held, IsWhole, IsOut, ComesToShelf}
+use Rattle.vx_shelf.specs.Shelf.{Held, IsWhole, IsOut, ComesToShelf}
 use Rattle.vx_world.specs.declared.answer.Answer.{Answer}
 use Rattle.vx_world.specs.declared.answer.Answer.TheVariants.{Done, Refused}
 use Rattle.vx_world.specs.declared.answer.Refusal.TheVariants.{Regions}

@@ -15,7 +15,7 @@ use std::alloc::Global;
 use vx_bare::Started;
 use vx_base::OutOfMemory;
 use vx_flow::Sink;
-use vx_piece::Shelf;
+use vx_shelf::Shelf;
 use vx_text::put_line;
 use vx_world::{Answer, Command, Form};
 

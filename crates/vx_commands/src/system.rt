@@ -2,7 +2,7 @@
 ghost use Rattle.std.specs.Prelude.{◌≡◌, ◌+◌, ◌^◌, ◌<◌, ◌≤◌, ℕ, IsTrue, IfOk, OnOk, OnErr, None, [], false};
 ghost use Rattle.std.specs.Str.{bytes_eq};
 ghost use Rattle.vx_base.specs.Named.{Word};
-ghost use Rattle.vx_piece.specs.Shelf.{IsWhole, IsOut, ComesToShelf};
+ghost use Rattle.vx_shelf.specs.Shelf.{IsWhole, IsOut, ComesToShelf};
 ghost use Rattle.vx_world.specs.Form.{is_call};
 ghost use Rattle.vx_world.specs.World.{World};
 ghost use Rattle.vx_world.specs.Calls.{CallStep, volume_of, start_of, count_of};
@@ -15,7 +15,8 @@ use vx_bare::Started;
 use vx_base::OutOfMemory;
 use vx_block::Geometry;
 use vx_names::Name;
-use vx_piece::{Piece, Shelf, ShelfFault};
+use vx_piece::Piece;
+use vx_shelf::{Shelf, ShelfFault};
 use vx_world::{Answer, Bytes, Call, Parts, Refusal};
 
 /// The blocks of a bare volume's regions.

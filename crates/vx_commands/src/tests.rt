@@ -1,14 +1,15 @@
 //! Commands are served over memory where memory is left.
 ghost use Rattle.std.specs.Prelude.{◌≡◌, IfOk, None};
 ghost use Rattle.vx_base.specs.Named.{Word};
-ghost use Rattle.vx_piece.specs.OnShelf.{held_on};
+ghost use Rattle.vx_shelf.specs.OnShelf.{held_on};
 
 use crate::{bare, call, finish, run_commands};
 use std::alloc::Global;
 use std::test::Fail;
 use vx_flow::MemSink;
 use vx_names::Name;
-use vx_piece::{MemPiece, MemShelf};
+use vx_piece::MemPiece;
+use vx_shelf::MemShelf;
 use vx_world::{Answer, Call, Command, Form};
 
 fn name(word: &[u8]) -> Result<Name, Fail> {

@@ -76,7 +76,7 @@ impl MemPiece {
     ghost use Rattle.vx_piece.specs.MemPiece.{mem_seen};
 
     /// The empty run behind its last sector.
-    pub(crate) fn end(&self, alloc: Global) -> MemPiece
+    pub fn end(&self, alloc: Global) -> MemPiece
         ensures device { (mem_seen result).device ≡ (mem_seen self.now).device }
         ensures start { (mem_seen result).start ≡ (mem_seen self.now).start + (mem_seen self.now).sectors }
         ensures empty { (mem_seen result).sectors ≡ 0 }

@@ -1,6 +1,5 @@
-use crate::{Bad, Counts, MemPiece, MemShelf, Piece, PieceFault, Shelf, ShelfFault};
+use crate::{Bad, Counts, MemPiece, Piece, PieceFault};
 use std::alloc::{AllocError, Global};
-use vx_names::Name;
 
 /// A device of zeros whose calls of both kinds fail once at these sectors.
 fn device(
@@ -72,25 +71,4 @@ fn a_device_is_cut_in_two_and_joined(rt: HostRuntime) {
         }
     );
     assert_eq!(rt; piece.bytes().get(1024), Some(&0x42));
-}
-
-/// A device that was taken is held until it is given back.
-#[test]
-fn a_device_is_taken_once(rt: HostRuntime) {
-    let (Ok(i0), Ok(i1)) = (Name::read(b"i0"), Name::read(b"i1")) else {
-        panic!(rt; "no names");
-    };
-    let Ok(Some(piece)) = device(rt.alloc(), 7, 1, 0, 0) else {
-        panic!(rt; "no device");
-    };
-    let Ok(devices) = vec![in rt.alloc(); (i0, piece)] else {
-        panic!(rt; "no memory");
-    };
-    assert!(rt; MemShelf::accepts(&devices));
-    let mut shelf = MemShelf::new(devices);
-    assert!(rt; shelf.device(&i0).is_some());
-    assert!(rt; shelf.take(&i1).err() == Some(ShelfFault::NoDisk));
-    assert!(rt; shelf.take(&i0).is_ok());
-    assert!(rt; shelf.device(&i0).is_none());
-    assert!(rt; shelf.take(&i0).err() == Some(ShelfFault::Held));
 }

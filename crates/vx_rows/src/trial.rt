@@ -1,7 +1,7 @@
 //! A run of a row.
 ghost use Rattle.std.specs.Prelude.{◌≡◌, None};
 ghost use Rattle.vx_base.specs.Named.{Word};
-ghost use Rattle.vx_piece.specs.OnShelf.{held_on};
+ghost use Rattle.vx_shelf.specs.OnShelf.{held_on};
 
 use crate::build::devices;
 use crate::compare::compare;
@@ -9,8 +9,8 @@ use crate::difference::Difference;
 use crate::row::{Content, Row};
 use std::alloc::{AllocError, Global};
 use vx_flow::{MemSink, MemSource};
-use vx_piece::MemShelf;
 use vx_run::run;
+use vx_shelf::MemShelf;
 
 /// The status of a run in which memory was wanting.
 const NO_MEMORY: u8 = 6;

@@ -1,14 +1,15 @@
 //! Scripts are run over memory where memory is left.
 ghost use Rattle.std.specs.Prelude.{◌≡◌, IfOk, None};
 ghost use Rattle.vx_base.specs.Named.{Word};
-ghost use Rattle.vx_piece.specs.OnShelf.{held_on};
+ghost use Rattle.vx_shelf.specs.OnShelf.{held_on};
 
 use crate::{folder, read_all, run};
 use std::alloc::Global;
 use std::test::Fail;
 use vx_flow::{MemSink, MemSource};
 use vx_names::Name;
-use vx_piece::{MemPiece, MemShelf};
+use vx_piece::MemPiece;
+use vx_shelf::MemShelf;
 
 #[test]
 fn a_source_is_read_to_its_end(rt: HostRuntime) -> Result<(), Fail> {

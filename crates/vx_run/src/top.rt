@@ -11,7 +11,7 @@ use crate::words::folder_of;
 use std::alloc::Global;
 use vx_commands::{Stop, run_commands};
 use vx_flow::{Sink, Source};
-use vx_piece::Shelf;
+use vx_shelf::Shelf;
 
 /// Runs the script of the source on the shelf, and writes the line of each answer to the sink. It answers the status:
 /// 0 all answers are fine, 1 the words are not `--images DIR`, 2 the bytes are no script, 3 the source failed, 4 the

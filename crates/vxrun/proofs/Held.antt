@@ -10,11 +10,11 @@ use Rattle.std.proofs.lemmas.List.Quantifiers.{position-Some}
 use Rattle.std.proofs.lemmas.List.{length-append}
 use Rattle.std.specs.Option.{is_some}
 use Rattle.std.specs.Result.{IsErrOf}
-use Rattle.vx_piece.specs.declared.shelf.ShelfFault.{ShelfFault}
+use Rattle.vx_shelf.specs.declared.shelf.ShelfFault.{ShelfFault}
 use Rattle.vx_base.proofs.NamedLemmas.{bytes_eq_self}
 use Rattle.vx_base.specs.Named.{Word, put, SameUnder}
 use Rattle.vx_piece.specs.Seen.{Seen}
-use Rattle.vx_piece.specs.Shelf.{Held, IsTaken}
+use Rattle.vx_shelf.specs.Shelf.{Held, IsTaken}
 use Rattle.vxrun.specs.FilePiece.{new_file}
 use Rattle.vxrun.specs.Known.{is_under, held_with, held_by, held_in, IsFirst, IsMissing}
 use Rattle.vxrun.specs.declared.known.Known.{Known}

@@ -1,7 +1,7 @@
 -- What a shelf of files tells: which devices are held, and how often it failed.
 use Rattle.std.specs.Prelude.{ℕ, Option}
 use Rattle.vx_base.specs.Named.{Word}
-use Rattle.vx_piece.specs.Shelf.{Held}
+use Rattle.vx_shelf.specs.Shelf.{Held}
 use Rattle.vxrun.specs.Known.{held_in}
 use Rattle.vxrun.specs.declared.file_shelf.FileShelf.{FileShelf}
 

@@ -2,7 +2,7 @@
 use Rattle.std.specs.Prelude.{◌≡◌, ℕ, zero, suc, Bool, true, false, if◌then◌else◌, List, [], ◌∷◌, Option, Some, None}
 use Rattle.std.specs.Str.{bytes_eq}
 use Rattle.vx_base.specs.Named.{Word}
-use Rattle.vx_piece.specs.Shelf.{Held}
+use Rattle.vx_shelf.specs.Shelf.{Held}
 use Rattle.vxrun.specs.declared.known.Known.{Known}
 
 abbrev pub is_under : Word → Known → Bool

@@ -11,7 +11,7 @@ use std::rt::Files;
 use std::{fs, str};
 use vx_base::{BLOCK, OutOfMemory};
 use vx_names::Name;
-use vx_piece::{Shelf, ShelfFault};
+use vx_shelf::{Shelf, ShelfFault};
 
 /// The files of a folder as devices: each that has at least one whole sector. Bytes behind the last whole sector are
 /// not touched.

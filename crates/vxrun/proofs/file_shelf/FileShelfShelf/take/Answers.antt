@@ -1,5 +1,5 @@
 use Rattle.std.proofs.Common.{◌∙◌, sym, subst, refl, IsSome}
-use Rattle.vx_piece.proofs.Taken.{not_some}
+use Rattle.vx_shelf.proofs.Taken.{not_some}
 use Rattle.vxrun.specs.FilePiece.{file_seen}
 use Rattle.vxrun.specs.Known.{held_in}
 use Rattle.vxrun.proofs.Held.{held_missing, held_some, held_none, held_here, held_after, file_taken, same_fault}

@@ -1,7 +1,7 @@
 use Rattle.std.proofs.Common.{◌≡◌, refl, subst, sym, IsSome, false, true}
-use Rattle.vx_piece.specs.MemShelf.{is_empty}
-use Rattle.vx_piece.proofs.Taken.{not_some, not_true, nowhere, rest_here, free_under, none_held, taken, leaves, held_under, stays_at_rest}
-use Rattle.vx_piece.proofs.mem_shelf.MemShelfShelf.take.Goals as goal
+use Rattle.vx_shelf.specs.MemShelf.{is_empty}
+use Rattle.vx_shelf.proofs.Taken.{not_some, not_true, nowhere, rest_here, free_under, none_held, taken, leaves, held_under, stays_at_rest}
+use Rattle.vx_shelf.proofs.mem_shelf.MemShelfShelf.take.Goals as goal
 
 pub invariant_of-self : goal.invariant_of-self
 invariant_of-self c =

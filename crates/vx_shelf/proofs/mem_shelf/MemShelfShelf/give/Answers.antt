@@ -1,5 +1,5 @@
-use Rattle.vx_piece.proofs.Taken.{nowhere, given, comes, given_at_rest}
-use Rattle.vx_piece.proofs.mem_shelf.MemShelfShelf.give.Goals as goal
+use Rattle.vx_shelf.proofs.Taken.{nowhere, given, comes, given_at_rest}
+use Rattle.vx_shelf.proofs.mem_shelf.MemShelfShelf.give.Goals as goal
 
 pub invariant_of-self : goal.invariant_of-self
 invariant_of-self c =

@@ -1,5 +1,5 @@
-use Rattle.vx_piece.proofs.Devices.{devices_at_rest, devices_not_held}
-use Rattle.vx_piece.proofs.mem_shelf.MemShelf.new.Goals as goal
+use Rattle.vx_shelf.proofs.Devices.{devices_at_rest, devices_not_held}
+use Rattle.vx_shelf.proofs.mem_shelf.MemShelf.new.Goals as goal
 
 pub invariant_of-result : goal.invariant_of-result
 invariant_of-result c = record { at_rest = devices_at_rest c.args.devices.items c.requires }

@@ -4,10 +4,10 @@ use Rattle.std.proofs.Math.ListN.{set}
 use Rattle.std.specs.List.{list_all}
 use Rattle.std.proofs.lemmas.Bool.{cond-true, cond-false, eqb-true, eq-eqb, ne_eqb, ltb-true}
 use Rattle.vx_base.specs.Named.{Word, put, SameUnder}
-use Rattle.vx_piece.specs.Shelf.{Held, held_as, IsOut, IsTaken, LeavesShelf, IsGiven, ComesToShelf, IsNowhere}
+use Rattle.vx_shelf.specs.Shelf.{Held, held_as, IsOut, IsTaken, LeavesShelf, IsGiven, ComesToShelf, IsNowhere}
 use Rattle.vx_piece.specs.MemPiece.{mem_seen}
-use Rattle.vx_piece.specs.MemShelf.{Place, is_empty, is_at_rest, is_whole_or_left, held_by, free_by, held_in, free_in, HasLeft, IsFirst, IsMissing}
-use Rattle.vx_piece.proofs.Places.{shown_none, shown_at, shown_set, list_all-get_or, list_all-set}
+use Rattle.vx_shelf.specs.MemShelf.{Place, is_empty, is_at_rest, is_whole_or_left, held_by, free_by, held_in, free_in, HasLeft, IsFirst, IsMissing}
+use Rattle.vx_shelf.proofs.Places.{shown_none, shown_at, shown_set, list_all-get_or, list_all-set}
 use Rattle.vx_piece.specs.declared.mem_piece.MemPiece.{MemPiece}
 
 pub not_some : {X : Type 0} (o : Option X) → o ≡ None → IsSome o → ⊥

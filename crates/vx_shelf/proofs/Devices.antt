@@ -4,7 +4,7 @@ use Rattle.std.specs.List.{list_all}
 use Rattle.std.proofs.lemmas.Bool.{and_parts, and_from, and_left, cond-false}
 use Rattle.std.proofs.lemmas.List.{take_all}
 use Rattle.vx_base.specs.Named.{Word}
-use Rattle.vx_piece.specs.MemShelf.{Place, is_under, is_empty, is_whole, is_at_rest, fits, are_devices, held_by, held_in}
+use Rattle.vx_shelf.specs.MemShelf.{Place, is_under, is_empty, is_whole, is_at_rest, fits, are_devices, held_by, held_in}
 
 not_true : (b : Bool) → not b ≡ true → b ≡ false
 not_true true e = cc

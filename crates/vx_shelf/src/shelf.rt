@@ -2,11 +2,11 @@ ghost use Rattle.std.specs.Prelude.{◌≡◌, ◌≤◌, ◌↔◌, ℕ, List, 
 ghost use Rattle.vx_base.specs.Counts.{Rose};
 ghost use Rattle.vx_base.specs.Named.{Word, SameUnder};
 ghost use Rattle.vx_piece.specs.Seen.{Seen};
-ghost use Rattle.vx_piece.specs.Shelf.{Held, IsWhole, IsOut, IsTaken, LeavesShelf, IsGiven, ComesToShelf, IsNowhere};
+ghost use Rattle.vx_shelf.specs.Shelf.{Held, IsWhole, IsOut, IsTaken, LeavesShelf, IsGiven, ComesToShelf, IsNowhere};
 
-use crate::Piece;
 use vx_base::OutOfMemory;
 use vx_names::Name;
+use vx_piece::Piece;
 
 /// Why a device could not be taken.
 #[derive(Clone, Copy, Debug, PartialEq, Eq)]

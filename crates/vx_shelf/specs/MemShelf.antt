@@ -4,7 +4,7 @@ use Rattle.std.specs.List.{list_all}
 use Rattle.std.specs.Str.{bytes_eq}
 use Rattle.vx_base.specs.Named.{Word}
 use Rattle.vx_piece.specs.Seen.{Seen}
-use Rattle.vx_piece.specs.Shelf.{Held}
+use Rattle.vx_shelf.specs.Shelf.{Held}
 use Rattle.vx_piece.specs.MemPiece.{mem_seen}
 use Rattle.vx_piece.specs.declared.mem_piece.MemPiece.{MemPiece}
 

@@ -8,7 +8,7 @@ use Rattle.std.proofs.lemmas.Bool.{cond-true, cond-false, both_ways, and_parts, 
 use Rattle.std.proofs.lemmas.Iterator.Adapters.{position_from-zero}
 use Rattle.std.proofs.lemmas.List.Quantifiers.{position-Some}
 use Rattle.vx_base.specs.Named.{Word, put}
-use Rattle.vx_piece.specs.MemShelf.{Place, is_under, shown_under, IsFirst, IsMissing}
+use Rattle.vx_shelf.specs.MemShelf.{Place, is_under, shown_under, IsFirst, IsMissing}
 use Rattle.vx_piece.specs.declared.mem_piece.MemPiece.{MemPiece}
 
 first_from : (name : Word) (ps : List Place) (i : ℕ) (d : Place) → i < length ps → is_under name (get_or ps i d) ≡ true → ((k : ℕ) → k < i → is_under name (get_or ps k d) ≡ false) → IsFirst name ps i

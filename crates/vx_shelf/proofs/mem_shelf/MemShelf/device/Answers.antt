@@ -1,8 +1,8 @@
 use Rattle.std.proofs.Common.{◌∙◌, ap, sym}
-use Rattle.vx_piece.specs.MemShelf.{free_by}
-use Rattle.vx_piece.proofs.Places.{shown_at, shown_none}
-use Rattle.vx_piece.proofs.Taken.{is_free, not_free}
-use Rattle.vx_piece.proofs.mem_shelf.MemShelf.device.Goals as goal
+use Rattle.vx_shelf.specs.MemShelf.{free_by}
+use Rattle.vx_shelf.proofs.Places.{shown_at, shown_none}
+use Rattle.vx_shelf.proofs.Taken.{is_free, not_free}
+use Rattle.vx_shelf.proofs.mem_shelf.MemShelf.device.Goals as goal
 
 pub returns-in-None : goal.returns-in-None
 returns-in-None c = let missing = rw c.as_slice.ensures.value at c.in-None.ensures in shown_none free_by c.args.name.now c.args.self.now.places.items missing

@@ -3,12 +3,13 @@ ghost use Rattle.std.specs.List.{list_all, position};
 ghost use Rattle.vx_base.specs.Named.{Word};
 ghost use Rattle.vx_piece.specs.Seen.{Seen};
 ghost use Rattle.vx_piece.specs.MemPiece.{mem_seen};
-ghost use Rattle.vx_piece.specs.MemShelf.{is_under, is_empty, is_whole_or_left, free_by, held_by, free_in, held_in, is_at_rest, is_whole, are_apart, fits, are_devices, HasLeft, IsFirst, IsMissing};
+ghost use Rattle.vx_shelf.specs.MemShelf.{is_under, is_empty, is_whole_or_left, free_by, held_by, free_in, held_in, is_at_rest, is_whole, are_apart, fits, are_devices, HasLeft, IsFirst, IsMissing};
 
-use crate::{MemPiece, Piece, Shelf, ShelfFault};
+use crate::{Shelf, ShelfFault};
 use std::alloc::Global;
 use std::mem;
 use vx_names::Name;
+use vx_piece::{MemPiece, Piece};
 
 /// Devices in memory. Its calls never fail by themselves.
 #[derive(Drop)]
@@ -18,7 +19,7 @@ pub struct MemShelf {
 }
 
 impl MemShelf {
-    ghost use Rattle.vx_piece.specs.OnShelf.{device_on, free_on, held_on};
+    ghost use Rattle.vx_shelf.specs.OnShelf.{device_on, free_on, held_on};
 
     /// A shelf with these devices, which nobody holds. `accepts` tells whether they can stand on one.
     pub fn new(devices: Vec<(Name, MemPiece)>) -> MemShelf
@@ -61,7 +62,7 @@ impl MemShelf {
 }
 
 impl Shelf for MemShelf {
-    ghost use Rattle.vx_piece.specs.OnShelf.{free_on, held_on};
+    ghost use Rattle.vx_shelf.specs.OnShelf.{free_on, held_on};
 
     type P = MemPiece;
 

@@ -2,9 +2,9 @@
 use Rattle.std.specs.Prelude.{Option, Some}
 use Rattle.vx_base.specs.Named.{Word}
 use Rattle.vx_piece.specs.Seen.{Seen}
-use Rattle.vx_piece.specs.Shelf.{Held}
-use Rattle.vx_piece.specs.MemShelf.{free_in, held_in}
-use Rattle.vx_piece.specs.declared.mem_shelf.MemShelf.{MemShelf}
+use Rattle.vx_shelf.specs.Shelf.{Held}
+use Rattle.vx_shelf.specs.MemShelf.{free_in, held_in}
+use Rattle.vx_shelf.specs.declared.mem_shelf.MemShelf.{MemShelf}
 
 -- the device of a name that nobody holds
 abbrev pub device_on : MemShelf → Word → Option Seen

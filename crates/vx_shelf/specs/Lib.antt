@@ -1,0 +1,3 @@
+pub mod MemShelf
+pub mod OnShelf
+pub mod Shelf

@@ -1,0 +1,11 @@
+//! Sets of whole devices under names, and one over devices in memory.
+#![tactic(auto)]
+
+mod mem_shelf;
+mod shelf;
+
+pub use mem_shelf::MemShelf;
+pub use shelf::{Shelf, ShelfFault};
+
+#[cfg(test)]
+mod tests;

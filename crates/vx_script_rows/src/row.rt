@@ -1,12 +1,19 @@
+use crate::prefixes::prefixes;
 use std::alloc::Global;
 use vx_base::OutOfMemory;
 use vx_script::{Script, ScriptFault, read};
 use vx_script_print::print;
 
-/// What is printed of a row.
+/// What is printed of a row: of its script, or of all prefixes of its script.
 pub fn answer(alloc: Global, row: &[u8], out: &mut Vec<u8>) -> Result<(), OutOfMemory> {
-    let script = script_of(alloc, row)?;
-    match read(alloc, script.as_slice()) {
+    match row {
+        [b'\\', b'p', row @ ..] => prefixes(alloc, script_of(alloc, row)?.as_slice(), out),
+        _ => whole(alloc, script_of(alloc, row)?.as_slice(), out),
+    }
+}
+
+fn whole(alloc: Global, script: &[u8], out: &mut Vec<u8>) -> Result<(), OutOfMemory> {
+    match read(alloc, script) {
         Ok(script) => spelled(alloc, &script, out),
         Err(ScriptFault::Script(line, column)) => {
             let place = format!(in alloc; "place {line} {column}\n")?;

@@ -1,7 +1,7 @@
 use std::marker::Model;
 use vx_base::OutOfMemory;
 use vx_names::Name;
-use vx_script_forms::{Form, Boxed};
+use vx_script_forms::{Boxed, Form};
 
 /// A command line.
 #[derive(Drop)]

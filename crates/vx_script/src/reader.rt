@@ -1,6 +1,6 @@
 use crate::Commands;
 use vx_names::Name;
-use vx_script_forms::{Bytes, Boxed, Lines};
+use vx_script_forms::{Boxed, Bytes, Lines};
 
 /// A command that has lines of its own, as far as they are read.
 #[derive(Drop)]

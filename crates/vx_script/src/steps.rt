@@ -11,7 +11,7 @@ use std::alloc::Global;
 use vx_base::OutOfMemory;
 use vx_names::Name;
 use vx_script_forms::{
-    ACTS, Admin, Block, Bytes, CALLS, COMMANDS, Call, Form, Boxed, Line, Lines, form_of, group_of,
+    ACTS, Admin, Block, Boxed, Bytes, CALLS, COMMANDS, Call, Form, Line, Lines, form_of, group_of,
 };
 use vx_script_words::{Stop, first_word, from_word, number_within, past_word};
 

@@ -9,7 +9,7 @@ use std::alloc::Global;
 use vx_base::OutOfMemory;
 use vx_names::Name;
 use vx_script::{Command, Script};
-use vx_script_forms::{Form, Boxed, Line};
+use vx_script_forms::{Boxed, Form, Line};
 use vx_script_text::Part;
 use vx_script_words::Key;
 

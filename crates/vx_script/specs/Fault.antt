@@ -34,6 +34,7 @@ IsRefusedCall sessions so_many so_long line left =
 abbrev pub IsRefusedEnd : List ℕ → ℕ → Type 0
 IsRefusedEnd line left = left ≡ length (from_word (past_word (from_word line)))
 
+-- why a line of a block is refused: it is `end` with words behind it, or neither `end` nor a call
 abbrev pub IsRefusedInside : ℕ → ℕ → ℕ → List ℕ → ℕ → Type 0
 IsRefusedInside sessions so_many so_long line left =
     ((bytes_eq (first_word (from_word line)) (codes "end") ≡ true) × IsRefusedEnd line left)

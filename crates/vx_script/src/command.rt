@@ -1,13 +1,13 @@
 use std::marker::Model;
 use vx_base::OutOfMemory;
 use vx_names::Name;
-use vx_script_forms::Form;
+use vx_script_forms::{Boxed, Form};
 
 /// A command line.
 #[derive(Drop)]
 pub struct Command {
     /// The word after `-g`, where the form may have one.
-    pub group: Option<Name>,
+    pub group: Option<Boxed<Name>>,
     pub form: Form,
     /// The N of `cut=N`.
     pub cut: Option<u64>,

@@ -1,13 +1,13 @@
 use crate::Commands;
 use vx_names::Name;
-use vx_script_forms::{Bytes, Lines};
+use vx_script_forms::{Boxed, Bytes, Lines};
 
 /// A command that has lines of its own, as far as they are read.
 #[derive(Drop)]
 pub enum Open {
     Closed,
     Making {
-        group: Option<Name>,
+        group: Option<Boxed<Name>>,
         cut: Option<u64>,
         text: Bytes,
     },

@@ -13,7 +13,7 @@ use std::alloc::Global;
 use vx_base::OutOfMemory;
 use vx_names::Name;
 use vx_script_forms::{
-    ACTS, Admin, Block, Bytes, CALLS, COMMANDS, Call, Form, Line, Lines, form_of, group_of,
+    ACTS, Admin, Block, Boxed, Bytes, CALLS, COMMANDS, Call, Form, Line, Lines, form_of, group_of,
 };
 use vx_script_words::{Stop, first_word, from_word, number_within, past_word};
 
@@ -81,6 +81,7 @@ fn opened(
 ) -> Result<Reader, OutOfMemory>
     ensures { IfOk result (λ reader. reader ≡ opened done group form cut) }
 {
+    let group = maybe_boxed(alloc, group)?;
     match form {
         Form::VxMake { .. } => {
             let text = Bytes::from_vec(Vec::new(alloc));
@@ -101,6 +102,15 @@ fn opened(
     }
 }
 
+fn maybe_boxed(alloc: Global, group: Option<Name>) -> Result<Option<Boxed<Name>>, OutOfMemory>
+    ensures { IfOk result (λ boxed. boxed ≡ group) }
+{
+    match group {
+        None => Ok(None),
+        Some(name) => Ok(Some(Boxed::new(alloc, name)?)),
+    }
+}
+
 fn with_command(done: Commands, command: Command) -> Result<Reader, OutOfMemory>
     ensures { IfOk result (λ reader. reader ≡ record { done = done ++ command ∷ []; begun = Open.Closed }) }
 {
@@ -112,7 +122,7 @@ fn with_command(done: Commands, command: Command) -> Result<Reader, OutOfMemory>
 
 fn making_step(
     done: Commands,
-    group: Option<Name>,
+    group: Option<Boxed<Name>>,
     cut: Option<u64>,
     text: Bytes,
     line: &[u8],
@@ -222,8 +232,8 @@ fn act_line(alloc: Global, text: &[u8]) -> Result<Line, Stop>
     let Some(form) = form_of(alloc, chosen.kind, chosen.values.as_slice())? else {
         return Err(Stop::Left(0));
     };
-    match &form {
-        Form::Acting(act) => Ok(Line::Administer(Admin { group, act: *act })),
+    match form {
+        Form::Acting(act) => Ok(Line::Administer(Admin { group, act })),
         _ => Err(Stop::Left(0)),
     }
 }

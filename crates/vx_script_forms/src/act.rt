@@ -1,3 +1,4 @@
+use crate::Boxed;
 use vx_names::Name;
 
 /// A command that may also stand in a block, in the administering session.
@@ -31,8 +32,8 @@ pub enum Act {
 }
 
 /// An act and the word after its `-g`.
-#[derive(Clone, Copy)]
+#[derive(Drop)]
 pub struct Admin {
     pub group: Option<Name>,
-    pub act: Act,
+    pub act: Boxed<Act>,
 }

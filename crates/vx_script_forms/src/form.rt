@@ -1,4 +1,4 @@
-use crate::{Act, Block, Call, Disks, Names};
+use crate::{Act, Block, Boxed, Call, Disks, Names};
 use vx_names::Name;
 use vx_script_words::{Bytes, DiskAt};
 
@@ -26,7 +26,8 @@ pub struct MakeAttrs {
     pub ndcomirror: Option<u32>,
 }
 
-/// What a command says, but for the words that every command may have. Lengths are in sectors.
+/// What a command says, but for the words that every command may have. Lengths are in sectors. What is larger than a
+/// call is boxed, since a script may have a million calls.
 #[derive(Drop)]
 pub enum Form {
     MkImage {
@@ -43,7 +44,7 @@ pub enum Form {
     },
     DgAddDisk {
         dg: Name,
-        disk: DiskAt,
+        disk: Boxed<DiskAt>,
     },
     DgImport {
         dg: Name,
@@ -67,7 +68,7 @@ pub enum Form {
     AssistMake {
         vol: Name,
         length: u64,
-        attrs: MakeAttrs,
+        attrs: Boxed<MakeAttrs>,
         disks: Names,
     },
     Mirror {
@@ -115,7 +116,7 @@ pub enum Form {
     Recover {
         vol: Option<Name>,
     },
-    Acting(Act),
+    Acting(Boxed<Act>),
     Calling(Call),
     Sessions(Block),
 }

@@ -3,6 +3,7 @@
 
 mod act;
 mod block;
+mod boxed;
 mod call;
 mod form;
 mod items;
@@ -15,6 +16,7 @@ mod values;
 
 pub use act::{Act, Admin};
 pub use block::{Block, Line, Lines};
+pub use boxed::Boxed;
 pub use call::Call;
 pub use form::{Form, MakeAttrs, WordLayout, WordPolicy};
 pub use items::items_of;

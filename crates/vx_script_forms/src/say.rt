@@ -4,7 +4,7 @@ ghost use Rattle.vx_script_forms.specs.FormOf.{mk_image_form, bare_form, dg_init
 use crate::values::{
     blocks, byte, disks, maybe_name, maybe_number, maybe_small, name, names, number, pair, small,
 };
-use crate::{Act, Block, Bytes, Call, Form, Kind, Lines, MakeAttrs, WordLayout, WordPolicy};
+use crate::{Act, Block, Boxed, Bytes, Call, Form, Kind, Lines, MakeAttrs, WordLayout, WordPolicy};
 use std::alloc::Global;
 use vx_base::OutOfMemory;
 use vx_script_words::Value;
@@ -17,7 +17,7 @@ pub fn form_of(alloc: Global, kind: Kind, values: &[Value]) -> Result<Option<For
         Kind::MkImage => Ok(mk_image_form(values)),
         Kind::Bare => Ok(bare_form(values)),
         Kind::DgInit => dg_init_form(alloc, values),
-        Kind::DgAddDisk => Ok(dg_add_disk_form(values)),
+        Kind::DgAddDisk => dg_add_disk_form(alloc, values),
         Kind::DgImport => Ok(dg_import_form(values)),
         Kind::DgDeport => Ok(dg_deport_form(values)),
         Kind::DiskUnsetup => Ok(disk_unsetup_form(values)),
@@ -36,12 +36,12 @@ pub fn form_of(alloc: Global, kind: Kind, values: &[Value]) -> Result<Option<For
         Kind::Split => Ok(split_form(values)),
         Kind::PrintSnaps => Ok(print_snaps_form(values)),
         Kind::Recover => Ok(recover_form(values)),
-        Kind::Reattach => Ok(reattach_form(values)),
-        Kind::Restore => Ok(restore_form(values)),
-        Kind::Snapback => Ok(snapback_form(values)),
-        Kind::SnapbackFromReplica => Ok(snapback_from_replica_form(values)),
-        Kind::PlexDet => Ok(plex_det_form(values)),
-        Kind::PlexAtt => Ok(plex_att_form(values)),
+        Kind::Reattach => reattach_form(alloc, values),
+        Kind::Restore => restore_form(alloc, values),
+        Kind::Snapback => snapback_form(alloc, values),
+        Kind::SnapbackFromReplica => snapback_from_replica_form(alloc, values),
+        Kind::PlexDet => plex_det_form(alloc, values),
+        Kind::PlexAtt => plex_att_form(alloc, values),
         Kind::Read => Ok(read_form(values)),
         Kind::Fill => Ok(fill_form(values)),
         Kind::Data => data_form(alloc, values),
@@ -50,7 +50,7 @@ pub fn form_of(alloc: Global, kind: Kind, values: &[Value]) -> Result<Option<For
         Kind::RdpolRound => Ok(rdpol_round_form(values)),
         Kind::RdpolSelect => Ok(rdpol_select_form(values)),
         Kind::RdpolPrefer => Ok(rdpol_prefer_form(values)),
-        Kind::SnapMake => Ok(snap_make_form(values)),
+        Kind::SnapMake => snap_make_form(alloc, values),
         Kind::MakeConcat => assist_make(alloc, values, concat_attrs(values), 9),
         Kind::MakeStripe => assist_make(alloc, values, stripe_attrs(values), 11),
     }
@@ -84,12 +84,17 @@ fn dg_init_form(alloc: Global, values: &[Value]) -> Result<Option<Form>, OutOfMe
     Ok(Some(Form::DgInit { dg, disks }))
 }
 
-fn dg_add_disk_form(values: &[Value]) -> Option<Form>
-    ensures { result ≡ dg_add_disk_form values.now }
+fn dg_add_disk_form(alloc: Global, values: &[Value]) -> Result<Option<Form>, OutOfMemory>
+    ensures { IfOk result (λ found. found ≡ dg_add_disk_form values.now) }
 {
-    let dg = name(values, 3)?;
-    let disk = pair(values, 5)?;
-    Some(Form::DgAddDisk { dg, disk })
+    let Some(dg) = name(values, 3) else {
+        return Ok(None);
+    };
+    let Some(disk) = pair(values, 5) else {
+        return Ok(None);
+    };
+    let disk = Boxed::new(alloc, disk)?;
+    Ok(Some(Form::DgAddDisk { dg, disk }))
 }
 
 fn dg_import_form(values: &[Value]) -> Option<Form>
@@ -234,55 +239,85 @@ fn recover_form(values: &[Value]) -> Option<Form>
     Some(Form::Recover { vol })
 }
 
-fn reattach_form(values: &[Value]) -> Option<Form>
-    ensures { result ≡ reattach_form values.now }
+fn reattach_form(alloc: Global, values: &[Value]) -> Result<Option<Form>, OutOfMemory>
+    ensures { IfOk result (λ found. found ≡ reattach_form values.now) }
 {
-    let snap = name(values, 3)?;
-    let vol = name(values, 4)?;
-    Some(Form::Acting(Act::Reattach { snap, vol }))
+    let Some(snap) = name(values, 3) else {
+        return Ok(None);
+    };
+    let Some(vol) = name(values, 4) else {
+        return Ok(None);
+    };
+    let act = Boxed::new(alloc, Act::Reattach { snap, vol })?;
+    Ok(Some(Form::Acting(act)))
 }
 
-fn restore_form(values: &[Value]) -> Option<Form>
-    ensures { result ≡ restore_form values.now }
+fn restore_form(alloc: Global, values: &[Value]) -> Result<Option<Form>, OutOfMemory>
+    ensures { IfOk result (λ found. found ≡ restore_form values.now) }
 {
-    let vol = name(values, 3)?;
-    let snap = name(values, 4)?;
-    Some(Form::Acting(Act::Restore { vol, snap }))
+    let Some(vol) = name(values, 3) else {
+        return Ok(None);
+    };
+    let Some(snap) = name(values, 4) else {
+        return Ok(None);
+    };
+    let act = Boxed::new(alloc, Act::Restore { vol, snap })?;
+    Ok(Some(Form::Acting(act)))
 }
 
-fn snapback_form(values: &[Value]) -> Option<Form>
-    ensures { result ≡ snapback_form values.now }
+fn snapback_form(alloc: Global, values: &[Value]) -> Result<Option<Form>, OutOfMemory>
+    ensures { IfOk result (λ found. found ≡ snapback_form values.now) }
 {
-    let snap = name(values, 3)?;
-    Some(Form::Acting(Act::Snapback {
-        snap,
-        from_replica: false,
-    }))
+    let Some(snap) = name(values, 3) else {
+        return Ok(None);
+    };
+    let act = Boxed::new(
+        alloc,
+        Act::Snapback {
+            snap,
+            from_replica: false,
+        },
+    )?;
+    Ok(Some(Form::Acting(act)))
 }
 
-fn snapback_from_replica_form(values: &[Value]) -> Option<Form>
-    ensures { result ≡ snapback_from_replica_form values.now }
+fn snapback_from_replica_form(alloc: Global, values: &[Value]) -> Result<Option<Form>, OutOfMemory>
+    ensures { IfOk result (λ found. found ≡ snapback_from_replica_form values.now) }
 {
-    let snap = name(values, 5)?;
-    Some(Form::Acting(Act::Snapback {
-        snap,
-        from_replica: true,
-    }))
+    let Some(snap) = name(values, 5) else {
+        return Ok(None);
+    };
+    let act = Boxed::new(
+        alloc,
+        Act::Snapback {
+            snap,
+            from_replica: true,
+        },
+    )?;
+    Ok(Some(Form::Acting(act)))
 }
 
-fn plex_det_form(values: &[Value]) -> Option<Form>
-    ensures { result ≡ plex_det_form values.now }
+fn plex_det_form(alloc: Global, values: &[Value]) -> Result<Option<Form>, OutOfMemory>
+    ensures { IfOk result (λ found. found ≡ plex_det_form values.now) }
 {
-    let plex = name(values, 3)?;
-    Some(Form::Acting(Act::PlexDet { plex }))
+    let Some(plex) = name(values, 3) else {
+        return Ok(None);
+    };
+    let act = Boxed::new(alloc, Act::PlexDet { plex })?;
+    Ok(Some(Form::Acting(act)))
 }
 
-fn plex_att_form(values: &[Value]) -> Option<Form>
-    ensures { result ≡ plex_att_form values.now }
+fn plex_att_form(alloc: Global, values: &[Value]) -> Result<Option<Form>, OutOfMemory>
+    ensures { IfOk result (λ found. found ≡ plex_att_form values.now) }
 {
-    let vol = name(values, 3)?;
-    let plex = name(values, 4)?;
-    Some(Form::Acting(Act::PlexAtt { vol, plex }))
+    let Some(vol) = name(values, 3) else {
+        return Ok(None);
+    };
+    let Some(plex) = name(values, 4) else {
+        return Ok(None);
+    };
+    let act = Boxed::new(alloc, Act::PlexAtt { vol, plex })?;
+    Ok(Some(Form::Acting(act)))
 }
 
 fn read_form(values: &[Value]) -> Option<Form>
@@ -364,15 +399,17 @@ fn rdpol_prefer_form(values: &[Value]) -> Option<Form>
     Some(Form::Rdpol { vol, policy })
 }
 
-fn snap_make_form(values: &[Value]) -> Option<Form>
-    ensures { result ≡ snap_make_form values.now }
+fn snap_make_form(alloc: Global, values: &[Value]) -> Result<Option<Form>, OutOfMemory>
+    ensures { IfOk result (λ found. found ≡ snap_make_form values.now) }
 {
-    let value = values.get(3)?;
-    broken_off(value)
+    match values.get(3) {
+        Some(value) => broken_off(alloc, value),
+        None => Ok(None),
+    }
 }
 
-fn broken_off(value: &Value) -> Option<Form>
-    ensures { result ≡ broken_off value.now }
+fn broken_off(alloc: Global, value: &Value) -> Result<Option<Form>, OutOfMemory>
+    ensures { IfOk result (λ found. found ≡ broken_off value.now) }
 {
     match value {
         Value::BreakOff { vol, snap, plex } => {
@@ -381,9 +418,9 @@ fn broken_off(value: &Value) -> Option<Form>
                 snap: *snap,
                 plex: *plex,
             };
-            Some(Form::Acting(act))
+            Ok(Some(Form::Acting(Boxed::new(alloc, act)?)))
         }
-        _ => None,
+        _ => Ok(None),
     }
 }
 
@@ -456,6 +493,7 @@ fn assist_make(
     let Some(disks) = names(alloc, values, at)? else {
         return Ok(None);
     };
+    let attrs = Boxed::new(alloc, attrs)?;
     Ok(Some(Form::AssistMake {
         vol,
         length,

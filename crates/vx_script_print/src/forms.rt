@@ -202,7 +202,7 @@ pub fn put_form(
                 Part::Key(Key::GroupOption),
                 Part::Name(*dg),
                 Part::Key(Key::AddDisk),
-                Part::Pair(*disk),
+                Part::Pair(*disk.get()),
             ],
             out,
         ),
@@ -420,11 +420,11 @@ pub fn put_form(
                 ],
                 out,
             )?;
-            put_attrs(alloc, *attrs, out)?;
+            put_attrs(alloc, *attrs.get(), out)?;
             put_names(disks.as_slice(), out)
         }
         Form::Rdpol { vol, policy } => put_policy(alloc, group, *vol, *policy, out),
-        Form::Acting(act) => put_act(alloc, group, act, out),
+        Form::Acting(act) => put_act(alloc, group, act.get(), out),
         Form::Calling(call) => put_call(alloc, call, out),
         Form::Sessions(block) => put_parts(
             alloc,

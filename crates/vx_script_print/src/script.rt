@@ -7,8 +7,9 @@ use crate::forms::{put_act, put_call, put_form};
 use crate::parts::{put_number, put_part, put_text};
 use std::alloc::Global;
 use vx_base::OutOfMemory;
+use vx_names::Name;
 use vx_script::{Command, Script};
-use vx_script_forms::{Form, Line};
+use vx_script_forms::{Boxed, Form, Line};
 use vx_script_text::Part;
 use vx_script_words::Key;
 
@@ -32,10 +33,19 @@ fn put_commands(alloc: Global, commands: &[Command], out: &mut Vec<u8>) -> Resul
 fn put_command(alloc: Global, command: &Command, out: &mut Vec<u8>) -> Result<(), OutOfMemory>
     ensures { OnOk result (out.new.items ≡ out.old.items ++ command_text command.now) }
 {
-    put_form(alloc, command.group, &command.form, out)?;
+    put_form(alloc, name_in(&command.group), &command.form, out)?;
     put_part(alloc, Part::Tagged(Key::Cut, command.cut), out)?;
     put_text(b"\n", out)?;
     put_body(alloc, &command.form, out)
+}
+
+fn name_in(group: &Option<Boxed<Name>>) -> Option<Name>
+    ensures { result ≡ group.now }
+{
+    match group {
+        None => None,
+        Some(boxed) => Some(*boxed.get()),
+    }
 }
 
 fn put_body(alloc: Global, form: &Form, out: &mut Vec<u8>) -> Result<(), OutOfMemory>
@@ -74,7 +84,7 @@ fn put_line(alloc: Global, line: &Line, out: &mut Vec<u8>) -> Result<(), OutOfMe
         }
         Line::Administer(admin) => {
             put_text(b"0 ", out)?;
-            put_act(alloc, admin.group, &admin.act, out)?;
+            put_act(alloc, admin.group, admin.act.get(), out)?;
         }
     }
     put_text(b"\n", out)

@@ -1,3 +1,0 @@
-pub mod FilePiece
-pub mod FileShelf
-pub mod Known

@@ -1,14 +1,10 @@
 //! The program: a folder of device images as a shelf, standard input as a script, standard output for its answers.
 #![tactic(auto)]
 
-mod file_piece;
-mod file_shelf;
-mod known;
-
-use file_shelf::FileShelf;
 use std::alloc::AllocError;
 use std::process::ExitCode;
 use std::{env, io};
+use vx_files::FileShelf;
 use vx_flow::{ReaderSource, WriterSink};
 use vx_run::{folder, run};
 

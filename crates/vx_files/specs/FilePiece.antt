@@ -1,7 +1,7 @@
 -- What a piece of a file shows: it tells nothing of what its sectors hold, and it is never cut.
 use Rattle.std.specs.Prelude.{ℕ, false, None}
 use Rattle.vx_piece.specs.Seen.{Seen}
-use Rattle.vxrun.specs.declared.file_piece.FilePiece.{FilePiece}
+use Rattle.vx_files.specs.declared.file_piece.FilePiece.{FilePiece}
 
 abbrev pub file_seen : {R : Type 0} → FilePiece R → Seen
 file_seen p = record {

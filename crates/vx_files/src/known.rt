@@ -1,7 +1,7 @@
 ghost use Rattle.std.specs.Prelude.{◌≡◌, ◌<◌, length, IfOk, OnErr, MatchOption};
 ghost use Rattle.std.specs.List.{position};
 ghost use Rattle.vx_base.specs.Named.{SameUnder};
-ghost use Rattle.vxrun.specs.Known.{is_under, held_in, IsFirst, IsMissing};
+ghost use Rattle.vx_files.specs.Known.{is_under, held_in, IsFirst, IsMissing};
 
 use vx_base::OutOfMemory;
 use vx_names::Name;

@@ -1,7 +1,7 @@
 use Rattle.std.proofs.Common.{ap, None}
-use Rattle.vxrun.specs.declared.known.Known.{Known}
-use Rattle.vxrun.proofs.Held.{held_missing, held_set}
-use Rattle.vxrun.proofs.file_shelf.FileShelfShelf.give.Goals as goal
+use Rattle.vx_files.specs.declared.known.Known.{Known}
+use Rattle.vx_files.proofs.Held.{held_missing, held_set}
+use Rattle.vx_files.proofs.file_shelf.FileShelfShelf.give.Goals as goal
 
 pub returns-in-None-clause-given : goal.returns-in-None-clause-given
 returns-in-None-clause-given g c =

@@ -2,8 +2,8 @@
 use Rattle.std.specs.Prelude.{ℕ, Option}
 use Rattle.vx_base.specs.Named.{Word}
 use Rattle.vx_shelf.specs.Shelf.{Held}
-use Rattle.vxrun.specs.Known.{held_in}
-use Rattle.vxrun.specs.declared.file_shelf.FileShelf.{FileShelf}
+use Rattle.vx_files.specs.Known.{held_in}
+use Rattle.vx_files.specs.declared.file_shelf.FileShelf.{FileShelf}
 
 abbrev pub held_by_files : {R : Type 0} → FileShelf R → Word → Option Held
 held_by_files s = held_in s.known.items

@@ -24,7 +24,7 @@ pub struct FilePiece<R> {
 }
 
 impl<R> FilePiece<R> {
-    ghost use Rattle.vxrun.specs.FilePiece.{file_seen, new_file};
+    ghost use Rattle.vx_files.specs.FilePiece.{file_seen, new_file};
 
     /// The whole device: so many sectors of the file.
     pub fn new(rt: R, path: String, device: u32, sectors: u64) -> FilePiece<R>
@@ -48,7 +48,7 @@ impl<R: Files + AllocGlobal + Clone + Drop + Send> Piece for FilePiece<R>
 where
     R::File: FileExt,
 {
-    ghost use Rattle.vxrun.specs.FilePiece.{file_seen};
+    ghost use Rattle.vx_files.specs.FilePiece.{file_seen};
 
     ghost seen = { file_seen };
 

@@ -2,7 +2,7 @@ ghost use Rattle.std.specs.Prelude.{◌≡◌, ◌*◌, ◌<◌, ◌≤◌, ◌^
 ghost use Rattle.vx_base.specs.Named.{Word};
 ghost use Rattle.vx_base.specs.Counts.{Rose};
 
-use crate::file_piece::FilePiece;
+use crate::FilePiece;
 use crate::known::{Known, enlist, find};
 use std::alloc::Global;
 use std::io::ErrorKind;
@@ -24,7 +24,7 @@ pub struct FileShelf<R> {
 }
 
 impl<R: AllocGlobal + Drop> FileShelf<R> {
-    ghost use Rattle.vxrun.specs.FileShelf.{held_by_files, shelf_faults};
+    ghost use Rattle.vx_files.specs.FileShelf.{held_by_files, shelf_faults};
 
     /// A shelf over the folder, of which nothing is held.
     pub fn new(rt: R, folder: &str) -> Result<FileShelf<R>, OutOfMemory>
@@ -46,7 +46,7 @@ impl<R: Files + AllocGlobal + Clone + Drop + Send> Shelf for FileShelf<R>
 where
     R::File: FileExt,
 {
-    ghost use Rattle.vxrun.specs.FileShelf.{held_by_files, shelf_faults};
+    ghost use Rattle.vx_files.specs.FileShelf.{held_by_files, shelf_faults};
 
     type P = FilePiece<R>;
 

@@ -3,7 +3,7 @@ use Rattle.std.specs.Prelude.{◌≡◌, ℕ, zero, suc, Bool, true, false, if�
 use Rattle.std.specs.Str.{bytes_eq}
 use Rattle.vx_base.specs.Named.{Word}
 use Rattle.vx_shelf.specs.Shelf.{Held}
-use Rattle.vxrun.specs.declared.known.Known.{Known}
+use Rattle.vx_files.specs.declared.known.Known.{Known}
 
 abbrev pub is_under : Word → Known → Bool
 is_under name k = bytes_eq k.name name

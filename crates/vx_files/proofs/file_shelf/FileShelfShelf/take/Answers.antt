@@ -1,9 +1,9 @@
 use Rattle.std.proofs.Common.{◌∙◌, sym, subst, refl, IsSome}
 use Rattle.vx_shelf.proofs.Taken.{not_some}
-use Rattle.vxrun.specs.FilePiece.{file_seen}
-use Rattle.vxrun.specs.Known.{held_in}
-use Rattle.vxrun.proofs.Held.{held_missing, held_some, held_none, held_here, held_after, file_taken, same_fault}
-use Rattle.vxrun.proofs.file_shelf.FileShelfShelf.take.Goals as goal
+use Rattle.vx_files.specs.FilePiece.{file_seen}
+use Rattle.vx_files.specs.Known.{held_in}
+use Rattle.vx_files.proofs.Held.{held_missing, held_some, held_none, held_here, held_after, file_taken, same_fault}
+use Rattle.vx_files.proofs.file_shelf.FileShelfShelf.take.Goals as goal
 
 pub returns-in_default-clause-held : goal.returns-in_default-clause-held
 returns-in_default-clause-held g c = (λ e. cc, λ h. absurd (not_some _ (held_missing c.args.name.now c.args.self.now.known.items c.in_default.ensures.missing) h))

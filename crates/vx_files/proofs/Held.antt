@@ -15,9 +15,9 @@ use Rattle.vx_base.proofs.NamedLemmas.{bytes_eq_self}
 use Rattle.vx_base.specs.Named.{Word, put, SameUnder}
 use Rattle.vx_piece.specs.Seen.{Seen}
 use Rattle.vx_shelf.specs.Shelf.{Held, IsTaken}
-use Rattle.vxrun.specs.FilePiece.{new_file}
-use Rattle.vxrun.specs.Known.{is_under, held_with, held_by, held_in, IsFirst, IsMissing}
-use Rattle.vxrun.specs.declared.known.Known.{Known}
+use Rattle.vx_files.specs.FilePiece.{new_file}
+use Rattle.vx_files.specs.Known.{is_under, held_with, held_by, held_in, IsFirst, IsMissing}
+use Rattle.vx_files.specs.declared.known.Known.{Known}
 
 first_from : (name : Word) (ks : List Known) (i : ℕ) (d : Known) → i < length ks → is_under name (get_or ks i d) ≡ true → ((k : ℕ) → k < i → is_under name (get_or ks k d) ≡ false) → IsFirst name ks i
 first_from name [] i d lt here before = absurd (omega arith)

@@ -1,7 +1,7 @@
 use Rattle.std.proofs.Common.{◌≡◌, ◌++◌, [], ◌∷◌, None, length, refl, rules}
-use Rattle.vxrun.specs.declared.known.Known.{Known}
-use Rattle.vxrun.proofs.Held.{push_place, push_same}
-use Rattle.vxrun.proofs.known.append.Goals as goal
+use Rattle.vx_files.specs.declared.known.Known.{Known}
+use Rattle.vx_files.proofs.Held.{push_place, push_same}
+use Rattle.vx_files.proofs.known.append.Goals as goal
 
 pub returns-clause-place : goal.returns-clause-place
 returns-clause-place c =

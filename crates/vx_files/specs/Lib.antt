@@ -1,0 +1,3 @@
+pub mod FilePiece
+pub mod FileShelf
+pub mod Known

@@ -30,7 +30,8 @@ pub struct Group<P> {
 }
 
 impl<P: Piece> Group<P> {
-    pub(crate) fn of(name: Name, disks: Vec<Disk<P>>, sequence: u64, text: Text) -> Group<P>
+    /// The group of these disks, in the order of their slots, which carry the text.
+    pub fn of(name: Name, disks: Vec<Disk<P>>, sequence: u64, text: Text) -> Group<P>
         ensures { result ≡ record { name = name; disks = disks; sequence = sequence; text = text; lost = None } }
     {
         Group {

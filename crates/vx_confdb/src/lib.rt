@@ -12,4 +12,5 @@ mod writing;
 pub use fault::GroupFault;
 pub use founding::{Refused, create};
 pub use group::Group;
+pub use text::{Text, sectors_for};
 pub use vx_copies::Disk;

@@ -44,8 +44,9 @@ impl Text {
     }
 }
 
+/// The sectors that a text needs, at least one.
 #[tactic(auto, unfolding(vx_copies::specs::Image::sectors_for))]
-fn sectors_for(bytes: usize) -> usize
+pub fn sectors_for(bytes: usize) -> usize
     requires { bytes ≤ 522240 }
     ensures sectors { result ≡ sectors_for bytes }
     ensures enough { bytes ≤ 512 * result }

@@ -1,0 +1,10 @@
+//! The import of a disk group: what its devices say of themselves, and which of their configurations is taken.
+#![tactic(auto)]
+
+mod choosing;
+mod found;
+mod reading;
+
+pub use choosing::{Best, Tried, choose, take_one};
+pub use found::{Found, Reading};
+pub use reading::{find, read_text, read_toggle};

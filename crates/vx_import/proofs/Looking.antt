@@ -11,6 +11,7 @@ use Rattle.vx_copies.specs.Disks.{Drops}
 use Rattle.vx_copies.proofs.Going.{keeps_refl, keeps_trans, drops_refl, drops_trans}
 use Rattle.vx_import.specs.Looks.{Looked, looked, IsPrivate, IsOurs, IsReading, Reads, toggle_read, said_in}
 use Rattle.vx_import.specs.Choice.{At, IfToggle, IsTop, HoldsText, Tells}
+use Rattle.vx_import.specs.Tries.{readable_count}
 use Rattle.vx_import.specs.declared.found.Found.{Found}
 use Rattle.vx_import.specs.declared.found.Reading.{Reading}
 
@@ -59,11 +60,6 @@ ours_on group a b is ours = record {
   headed = subst (λ l. IfSome b.seen.told (λ c. header_of (c 0) ≡ Some l)) (sym is.label) (subst (λ (o : Option Contents). IfSome o (λ c. header_of (c 0) ≡ Some a.label)) (sym is.same.told) ours.headed);
   reads = λ readable. subst (λ r. IfSome b.seen.told (λ c. IsReading r (c 1))) (sym is.reading) (subst (λ (o : Option Contents). IfSome o (λ c. IsReading a.reading (c 1))) (sym is.same.told) (ours.reads (was_readable a.readable b.readable a.seen b.seen is.readable readable)));
 }
-
--- how many devices can be read
-abbrev pub readable_count : List Looked → ℕ
-readable_count [] = 0
-readable_count (f ∷ fs) = cond f.readable 1 0 + readable_count fs
 
 module _ {P : Type 0} (see : P → Seen) where
   pub all_at : (Q : Looked → Type 0) (fs : List (Found P)) (i : ℕ) (d : Found P) → i < length fs → AllOf Q (map (looked see) fs) → Q (looked see (get_or fs i d))

@@ -4,7 +4,9 @@
 mod choosing;
 mod found;
 mod reading;
+mod taking;
 
-pub use choosing::{Best, Tried, choose, take_one};
+pub use choosing::{Best, Taken, Tried, choose, take_one};
 pub use found::{Found, Reading};
 pub use reading::{find, read_text, read_toggle};
+pub use taking::try_best;

@@ -79,4 +79,3 @@ abbrev pub GivesTaken : Taken → Word → List ℕ → List Looked → Type 0
 GivesTaken (Text b) group buffer fs = given group fs ≡ Some (record { sequence = b.toggle.sequence; good = b.toggle.good; text = take b.toggle.length buffer })
 GivesTaken Nothing group buffer fs = given group fs ≡ None
 GivesTaken Cut group buffer fs = AnyOf (λ f. IsTrue f.seen.cut) fs
-

@@ -22,10 +22,7 @@ pub fn find<P: Piece>(piece: &mut P) -> Result<Option<Header>, PieceFault>
 }
 
 /// The same, with room for a sector.
-pub fn read_header<P: Piece>(
-    piece: &mut P,
-    sector: &mut [u8],
-) -> Result<Option<Header>, PieceFault>
+pub fn read_header<P: Piece>(piece: &mut P, sector: &mut [u8]) -> Result<Option<Header>, PieceFault>
     requires size { length sector.old ≡ 512 }
     requires sectors { (P.seen piece.old).sectors ≡ 2048 }
     ensures size { length sector.new ≡ 512 }

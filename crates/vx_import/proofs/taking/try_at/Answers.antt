@@ -24,10 +24,9 @@ returns-in-Dropped-clause-reads g c = read_on g.P.Piece.seen _ c.args.found.now 
 
 pub returns-in-Done-clause-ends : goal.returns-in-Done-clause-ends
 returns-in-Done-clause-ends g c =
-    let ends : TriedIs Done (said_of c.args.best.toggle) c.take_one.new.buffer (looked g.P.Piece.seen c.take_one.new.found) = rw c.in-Done.is at c.take_one.ensures.ends in
-    (
+    let ends : TriedIs Done (said_of c.args.best.toggle) c.take_one.new.buffer (looked g.P.Piece.seen c.take_one.new.found) = rw c.in-Done.is at c.take_one.ensures.ends in (
       top_set g.P.Piece.seen c.args.found.now c.args.best.index c.take_one.new.found c.index-found-index.result (said_of c.args.best.toggle) c.requires.inside c.requires.top (same_toggle _ _ c.take_one.ensures.reads ends.0),
-      at_set g.P.Piece.seen (HoldsText (said_of c.args.best.toggle) (take c.args.best.toggle.length c.take_one.new.buffer)) c.args.found.now c.args.best.index c.take_one.new.found c.requires.inside ends.1
+      at_set g.P.Piece.seen (HoldsText (said_of c.args.best.toggle) (take c.args.best.toggle.length c.take_one.new.buffer)) c.args.found.now c.args.best.index c.take_one.new.found c.requires.inside ends.1,
     )
 
 pub returns-in-Cut-clause-ends : goal.returns-in-Cut-clause-ends

@@ -1,5 +1,5 @@
 -- The configuration that the highest toggle and its text give.
-use Rattle.std.proofs.Common.{◌≡◌, ℕ, zero, suc, ◌<◌, ◌≤◌, Bool, true, false, cond, List, [], ◌∷◌, take, Option, Some, None, refl, sym, ap, ◌∙◌, subst, arith, ltb}
+use Rattle.std.proofs.Common.{◌≡◌, ℕ, zero, suc, ◌<◌, ◌≤◌, Bool, true, false, cond, List, [], ◌∷◌, take, Option, Some, None, refl, sym, ap, ◌∙◌, subst, ltb}
 use Rattle.std.specs.Prelude.{MatchOption, IfSome, IsTrue}
 use Rattle.std.proofs.lemmas.Bool.{cond-true, cond-false, lt-ltb, le-ltb}
 use Rattle.std.proofs.lemmas.Slice.Eq.{bytes_eq-Decides}
@@ -8,10 +8,9 @@ use Rattle.vx_base.specs.Named.{Word}
 use Rattle.vx_header.specs.Named.{Label, header_of}
 use Rattle.vx_header.specs.Said.{Said, toggle_of}
 use Rattle.vx_copies.specs.Lists.{AllOf}
-use Rattle.vx_copies.specs.Image.{Offer, offer_by, offer_of, offer_in, offer_if, offer_told, names_group, text_in, toggle_at, higher, highest}
+use Rattle.vx_copies.specs.Image.{Offer, offer_by, offer_of, offer_in, offer_if, offer_told, names_group, text_in, toggle_at, higher}
 use Rattle.vx_import.specs.Looks.{Looked, IsOurs, IsReading, toggle_read, said_in}
-use Rattle.vx_import.specs.Choice.{At, IfToggle, HasNone, HoldsText, Tells, offers_read, given}
-use Rattle.vx_import.specs.declared.found.Reading.{Reading}
+use Rattle.vx_import.specs.Choice.{At, IfToggle, HasNone, HoldsText, Tells, given}
 
 abbrev IfOffer : (ℕ → Type 0) → Option Offer → Type 0
 IfOffer Q o = MatchOption o (Unit {0}) (λ p. Q p.sequence)

@@ -3,14 +3,14 @@ use Rattle.std.proofs.Common.{◌≡◌, ℕ, zero, suc, ◌+◌, ◌<◌, ◌�
 use Rattle.std.specs.Prelude.{IsTrue, IfSome, MatchOption}
 use Rattle.vx_base.specs.Blocks.{Contents}
 use Rattle.vx_base.specs.Named.{Word}
-use Rattle.vx_piece.specs.Seen.{Seen, Keeps, IsRead}
+use Rattle.vx_piece.specs.Seen.{Seen}
 use Rattle.vx_header.specs.Named.{header_of}
 use Rattle.vx_header.specs.Said.{Said}
 use Rattle.vx_copies.specs.Lists.{Each, AllOf, AnyOf}
 use Rattle.vx_copies.specs.Disks.{Drops}
 use Rattle.vx_copies.proofs.Going.{keeps_refl, keeps_trans, drops_refl, drops_trans}
 use Rattle.vx_import.specs.Looks.{Looked, looked, IsPrivate, IsOurs, IsReading, Reads, toggle_read, said_in}
-use Rattle.vx_import.specs.Choice.{At, IfToggle, IsTop, HoldsText, Tells}
+use Rattle.vx_import.specs.Choice.{At, IfToggle, IsTop, Tells}
 use Rattle.vx_import.specs.Tries.{readable_count}
 use Rattle.vx_import.specs.declared.found.Found.{Found}
 use Rattle.vx_import.specs.declared.found.Reading.{Reading}

@@ -1,5 +1,5 @@
 -- The choice of the highest sequence, device by device.
-use Rattle.std.proofs.Common.{◌≡◌, ℕ, zero, suc, ◌+◌, ◌-◌, ◌<◌, ◌≤◌, Bool, true, false, cond, List, [], ◌∷◌, length, map, get_or, take, drop, Option, Some, None, refl, sym, ap, ◌∙◌, subst, arith, ltb, add-one}
+use Rattle.std.proofs.Common.{◌≡◌, ℕ, ◌+◌, ◌-◌, ◌<◌, ◌≤◌, Bool, true, false, cond, List, [], ◌∷◌, length, map, get_or, take, drop, Option, Some, None, refl, sym, ap, ◌∙◌, subst, arith, ltb, add-one}
 use Rattle.std.specs.Prelude.{MatchOption, IfSome, option_map}
 use Rattle.std.proofs.lemmas.List.{take_all}
 use Rattle.std.proofs.lemmas.Bool.{ltb-true, ltb-false}
@@ -8,7 +8,7 @@ use Rattle.vx_header.specs.declared.toggle.Toggle.{Toggle}
 use Rattle.vx_piece.specs.Seen.{Seen}
 use Rattle.vx_copies.specs.Lists.{AllOf}
 use Rattle.vx_import.specs.Looks.{Looked, looked, toggle_read}
-use Rattle.vx_import.specs.Choice.{At, IfToggle, IsTop, HasNone, BestIs, picked}
+use Rattle.vx_import.specs.Choice.{IfToggle, IsTop, HasNone, BestIs, picked}
 use Rattle.vx_import.specs.declared.choosing.Best.{Best}
 use Rattle.vx_import.specs.declared.found.Found.{Found}
 

@@ -1,12 +1,12 @@
 -- What the sectors of a header and a toggle say, and the bytes of a text.
-use Rattle.std.proofs.Common.{◌≡◌, ℕ, zero, suc, ◌+◌, ◌-◌, ◌*◌, ◌<◌, ◌≤◌, List, length, take, Option, Some, None, Result, Ok, Err, refl, sym, ap, ◌∙◌, subst, arith}
+use Rattle.std.proofs.Common.{◌≡◌, ℕ, ◌+◌, ◌-◌, ◌*◌, ◌<◌, ◌≤◌, List, length, take, Option, Some, None, Result, Ok, Err, sym, ap, ◌∙◌, subst, arith}
 use Rattle.std.specs.Prelude.{MatchResult, IfSome, IfErr, OnOk, option_map}
-use Rattle.std.proofs.lemmas.List.{take_all, take-take}
+use Rattle.std.proofs.lemmas.List.{take_all}
 use Rattle.vx_base.specs.Blocks.{Contents, block_at, AreBlocks}
 use Rattle.vx_piece.specs.Seen.{Seen, IsInside}
-use Rattle.vx_header.specs.Said.{Said, said_of, toggle_of}
-use Rattle.vx_header.specs.Places.{IsFirstBad, is_toggle_place, toggle_end, GoesOn}
-use Rattle.vx_header.specs.Spelled.{IsToggle, IsToggleFault, sector_of_toggle}
+use Rattle.vx_header.specs.Said.{said_of, toggle_of}
+use Rattle.vx_header.specs.Places.{IsFirstBad, is_toggle_place, toggle_end}
+use Rattle.vx_header.specs.Spelled.{IsToggle, IsToggleFault}
 use Rattle.vx_header.specs.declared.toggle.Toggle.{Toggle}
 use Rattle.vx_header.specs.declared.fault.HeaderFault.{HeaderFault}
 use Rattle.vx_header.specs.declared.fault.HeaderFault.TheVariants.{BadHeader}

@@ -1,14 +1,11 @@
 -- Which configuration of a group is taken.
-use Rattle.std.specs.Prelude.{◌≡◌, ℕ, zero, suc, ◌+◌, ◌<◌, ◌≤◌, ◌==◌, ◌&&◌, ◌||◌, nat_lt, Bool, true, false, IsTrue, if◌then◌else◌, List, [], ◌∷◌, take, Option, Some, None, IfSome, MatchOption}
+use Rattle.std.specs.Prelude.{◌≡◌, ℕ, zero, suc, ◌+◌, ◌<◌, ◌≤◌, nat_lt, false, IsTrue, if◌then◌else◌, List, [], ◌∷◌, take, Option, Some, None, IfSome, MatchOption}
 use Rattle.vx_base.specs.Named.{Word}
 use Rattle.vx_header.specs.Said.{Said, said_of}
 use Rattle.vx_header.specs.declared.toggle.Toggle.{Toggle}
 use Rattle.vx_copies.specs.Lists.{AllOf, AnyOf}
 use Rattle.vx_copies.specs.Image.{Offer, offer_told, text_in, highest}
-use Rattle.vx_import.specs.Looks.{Looked, toggle_read, said_in}
-use Rattle.vx_mask.specs.Mask.{has}
-use Rattle.vx_import.specs.declared.found.Reading.{Reading}
-use Rattle.vx_import.specs.declared.found.Reading.TheVariants.{Blank, Says, Damaged}
+use Rattle.vx_import.specs.Looks.{Looked, toggle_read}
 use Rattle.vx_import.specs.declared.choosing.Best.{Best}
 use Rattle.vx_import.specs.declared.choosing.Taken.{Taken}
 use Rattle.vx_import.specs.declared.choosing.Taken.TheVariants.{Text, Nothing, Cut}

@@ -1,5 +1,5 @@
 -- What is read of the devices of a group.
-use Rattle.std.specs.Prelude.{◌≡◌, ℕ, ◌-◌, ◌≤◌, Bool, IsTrue, if◌then◌else◌, List, Option, Some, None, IfSome, MatchOption}
+use Rattle.std.specs.Prelude.{◌≡◌, ℕ, ◌-◌, ◌≤◌, Bool, IsTrue, if◌then◌else◌, List, Option, Some, None, IfSome}
 use Rattle.vx_base.specs.Named.{Word}
 use Rattle.vx_sector.specs.Fields.{zeros}
 use Rattle.vx_header.specs.Named.{Label, header_of, label_of}
@@ -7,9 +7,7 @@ use Rattle.vx_header.specs.Said.{Said, said_of, toggle_of}
 use Rattle.vx_header.specs.Spelled.{sector_of_toggle, IsToggle}
 use Rattle.vx_header.specs.Places.{IsFirstBad, is_toggle_place, toggle_end}
 use Rattle.vx_piece.specs.Seen.{Seen, Keeps, IsRead}
-use Rattle.vx_copies.specs.Image.{toggle_at}
 use Rattle.vx_copies.specs.Disks.{Drops}
-use Rattle.vx_copies.specs.Lists.{AllOf, AnyOf}
 use Rattle.vx_import.specs.declared.found.Found.{Found}
 use Rattle.vx_import.specs.declared.found.Reading.{Reading}
 use Rattle.vx_import.specs.declared.found.Reading.TheVariants.{Blank, Says, Damaged}

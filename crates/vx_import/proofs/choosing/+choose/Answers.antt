@@ -1,7 +1,5 @@
-use Rattle.std.proofs.Common.{◌≡◌, length, arith, map, subst, sym}
-use Rattle.vx_import.specs.Looks.{looked}
-use Rattle.vx_import.specs.Choice.{BestIs}
-use Rattle.vx_import.proofs.Picking.{choose_more, pick_inside, rest_long, weaker, IsIn}
+use Rattle.std.proofs.Common.{length, arith}
+use Rattle.vx_import.proofs.Picking.{choose_more, pick_inside, rest_long, weaker}
 use Rattle.vx_import.proofs.choosing.+choose.Goals as goal
 
 pub choose-behind-requires-clause-few : goal.choose-behind-requires-clause-few

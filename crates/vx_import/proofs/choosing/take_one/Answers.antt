@@ -1,6 +1,5 @@
-use Rattle.std.proofs.Common.{◌≡◌, ◌*◌, ◌≤◌, length, take, arith, ◌∙◌, sym, ap}
+use Rattle.std.proofs.Common.{◌*◌, arith, ◌∙◌, sym, ap}
 use Rattle.std.proofs.lemmas.List.{length-take-le}
-use Rattle.vx_copies.specs.Image.{sectors_for}
 use Rattle.vx_copies.proofs.Halves.{few_sectors}
 use Rattle.vx_import.proofs.choosing.take_one.Goals as goal
 

@@ -1,4 +1,4 @@
-use Rattle.std.proofs.Common.{◌≡◌, arith, length}
+use Rattle.std.proofs.Common.{◌≡◌, arith}
 use Rattle.std.specs.Prelude.{option_map}
 use Rattle.vx_header.specs.Named.{header_of, label_of}
 use Rattle.vx_import.proofs.Sectors.{sector_told}

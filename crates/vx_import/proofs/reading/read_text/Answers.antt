@@ -1,4 +1,4 @@
-use Rattle.std.proofs.Common.{length, ◌≡◌, ◌*◌, ◌∙◌, arith}
+use Rattle.std.proofs.Common.{length, ◌∙◌}
 use Rattle.vx_import.proofs.Sectors.{text_told, text_inside}
 use Rattle.vx_import.proofs.reading.read_text.Goals as goal
 

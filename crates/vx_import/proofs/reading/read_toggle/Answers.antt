@@ -1,4 +1,4 @@
-use Rattle.std.proofs.Common.{◌≡◌, arith, length}
+use Rattle.std.proofs.Common.{arith}
 use Rattle.vx_import.specs.Looks.{IsReading}
 use Rattle.vx_import.proofs.Sectors.{sector_told}
 use Rattle.vx_import.proofs.reading.read_toggle.Goals as goal

@@ -1,5 +1,4 @@
-use Rattle.std.proofs.Common.{◌≡◌, ap, ◌∙◌, Err}
-use Rattle.vx_header.specs.declared.fault.HeaderFault.TheVariants.{BadHeader}
+use Rattle.std.proofs.Common.{ap, ◌∙◌, Err}
 use Rattle.vx_import.proofs.Sectors.{bad_reading}
 use Rattle.vx_import.proofs.reading.toggle_in.Goals as goal
 

@@ -1,7 +1,7 @@
-use Rattle.std.proofs.Common.{◌≡◌, map, set, get_or, take, length}
+use Rattle.std.proofs.Common.{take}
 use Rattle.std.specs.Prelude.{IsTrue}
 use Rattle.vx_header.specs.Said.{said_of}
-use Rattle.vx_import.specs.Looks.{looked, IsPrivate, Reads}
+use Rattle.vx_import.specs.Looks.{looked, IsPrivate}
 use Rattle.vx_import.specs.Choice.{TriedIs, HoldsText}
 use Rattle.vx_import.specs.declared.choosing.Tried.TheVariants.{Done, Dropped, Cut}
 use Rattle.vx_import.proofs.Looking.{all_at, top_readable, read_on, each_refl, same_toggle, top_set, at_set, any_set, fewer}

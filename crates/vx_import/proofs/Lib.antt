@@ -1,0 +1,5 @@
+pub mod Sectors
+pub mod Picking
+pub mod Given
+pub mod Looking
+pub mod Chained

@@ -1,0 +1,134 @@
+-- One device of the list is read.
+use Rattle.std.proofs.Common.{◌≡◌, ℕ, zero, suc, ◌+◌, ◌<◌, ◌≤◌, Bool, true, false, cond, List, [], ◌∷◌, length, map, take, get_or, set, Option, Some, None, refl, sym, ap, ◌∙◌, subst, arith, inl, inr}
+use Rattle.std.specs.Prelude.{IsTrue, IfSome, MatchOption}
+use Rattle.vx_base.specs.Blocks.{Contents}
+use Rattle.vx_base.specs.Named.{Word}
+use Rattle.vx_piece.specs.Seen.{Seen}
+use Rattle.vx_header.specs.Named.{header_of}
+use Rattle.vx_header.specs.Said.{Said}
+use Rattle.vx_copies.specs.Lists.{Each, AllOf, AnyOf}
+use Rattle.vx_copies.specs.Disks.{Drops}
+use Rattle.vx_copies.proofs.Going.{keeps_refl, keeps_trans, drops_refl, drops_trans}
+use Rattle.vx_import.specs.Looks.{Looked, looked, IsPrivate, IsOurs, IsReading, Reads, toggle_read, said_in}
+use Rattle.vx_import.specs.Choice.{At, IfToggle, IsTop, Tells}
+use Rattle.vx_import.specs.Tries.{readable_count}
+use Rattle.vx_import.specs.declared.found.Found.{Found}
+use Rattle.vx_import.specs.declared.found.Reading.{Reading}
+
+pub reads_refl : (a : Looked) → Reads a a
+reads_refl a = record { label = refl; reading = refl; kept = keeps_refl a.seen; same = record { told = refl; writes = refl }; readable = drops_refl a.readable a.seen }
+
+pub reads_trans : (a b c : Looked) → Reads a b → Reads b c → Reads a c
+reads_trans a b c p q = record {
+  label = q.label ∙ p.label;
+  reading = q.reading ∙ p.reading;
+  kept = keeps_trans _ _ _ p.kept q.kept;
+  same = record { told = q.same.told ∙ p.same.told; writes = q.same.writes ∙ p.same.writes };
+  readable = drops_trans a.readable b.readable c.readable a.seen b.seen c.seen p.kept q.kept p.readable q.readable;
+}
+
+pub each_refl : (fs : List Looked) → Each Reads fs fs
+each_refl [] = tt
+each_refl (f ∷ fs) = (reads_refl f, each_refl fs)
+
+was_readable : (x y : Bool) (a b : Seen) → Drops x y a b → IsTrue y → IsTrue x
+was_readable x true a b d is = d
+was_readable x false a b d is = cc
+
+-- a device that can still be read says the same
+pub same_toggle : (a b : Looked) → Reads a b → b.readable ≡ true → toggle_read b ≡ toggle_read a
+same_toggle a b is readable =
+    let was : a.readable ≡ true = was_readable a.readable b.readable a.seen b.seen is.readable readable in
+    ap (λ r. cond r (said_in b.reading) None) readable ∙ ap (λ (x : Reading). said_in x) is.reading ∙ ap (λ r. cond r (said_in a.reading) None) (sym was)
+
+module _ (Q : Looked → Type 0) (on : (a b : Looked) → Reads a b → Q a → Q b) where
+  pub all_on : (xs ys : List Looked) → Each Reads xs ys → AllOf Q xs → AllOf Q ys
+  all_on [] [] is all = tt
+  all_on [] (y ∷ ys) is all = absurd is
+  all_on (x ∷ xs) [] is all = absurd is
+  all_on (x ∷ xs) (y ∷ ys) is all = (on x y is.0 all.0, all_on xs ys is.1 all.1)
+
+pub private_on : (a b : Looked) → Reads a b → IsPrivate a → IsPrivate b
+private_on a b is private = is.kept.sectors ∙ private
+
+pub tells_on : (a b : Looked) → Reads a b → Tells a → Tells b
+tells_on a b is tells = subst (λ (o : Option Contents). MatchOption o ⊥ (λ c. Unit {0})) (sym is.same.told) tells
+
+pub ours_on : (group : Word) (a b : Looked) → Reads a b → IsOurs group a → IsOurs group b
+ours_on group a b is ours = record {
+  group_is = ap (λ l. l.group) is.label ∙ ours.group_is;
+  headed = subst (λ l. IfSome b.seen.told (λ c. header_of (c 0) ≡ Some l)) (sym is.label) (subst (λ (o : Option Contents). IfSome o (λ c. header_of (c 0) ≡ Some a.label)) (sym is.same.told) ours.headed);
+  reads = λ readable. subst (λ r. IfSome b.seen.told (λ c. IsReading r (c 1))) (sym is.reading) (subst (λ (o : Option Contents). IfSome o (λ c. IsReading a.reading (c 1))) (sym is.same.told) (ours.reads (was_readable a.readable b.readable a.seen b.seen is.readable readable)));
+}
+
+module _ {P : Type 0} (see : P → Seen) where
+  pub all_at : (Q : Looked → Type 0) (fs : List (Found P)) (i : ℕ) (d : Found P) → i < length fs → AllOf Q (map (looked see) fs) → Q (looked see (get_or fs i d))
+  all_at Q [] i d lt all = absurd (omega (arith, lt))
+  all_at Q (x ∷ fs) zero d lt all = all.0
+  all_at Q (x ∷ fs) (suc i) d lt all = all_at Q fs i d (omega (arith, lt)) all.1
+
+  pub at_at : (Q : Looked → Type 0) (fs : List (Found P)) (i : ℕ) (d : Found P) → At i Q (map (looked see) fs) → Q (looked see (get_or fs i d))
+  at_at Q [] i d is = absurd is
+  at_at Q (x ∷ fs) zero d is = is
+  at_at Q (x ∷ fs) (suc i) d is = at_at Q fs i d is
+
+  pub at_set : (Q : Looked → Type 0) (fs : List (Found P)) (i : ℕ) (d : Found P) → i < length fs → Q (looked see d) → At i Q (map (looked see) (set fs i d))
+  at_set Q [] i d lt is = absurd (omega (arith, lt))
+  at_set Q (x ∷ fs) zero d lt is = is
+  at_set Q (x ∷ fs) (suc i) d lt is = at_set Q fs i d (omega (arith, lt)) is
+
+  pub all_set : (Q : Looked → Type 0) (fs : List (Found P)) (i : ℕ) (d : Found P) → AllOf Q (map (looked see) fs) → Q (looked see d) → AllOf Q (map (looked see) (set fs i d))
+  all_set Q [] i d all is = all
+  all_set Q (x ∷ fs) zero d all is = (is, all.1)
+  all_set Q (x ∷ fs) (suc i) d all is = (all.0, all_set Q fs i d all.1 is)
+
+  pub any_set : (Q : Looked → Type 0) (fs : List (Found P)) (i : ℕ) (d : Found P) → i < length fs → Q (looked see d) → AnyOf Q (map (looked see) (set fs i d))
+  any_set Q [] i d lt is = absurd (omega (arith, lt))
+  any_set Q (x ∷ fs) zero d lt is = inl is
+  any_set Q (x ∷ fs) (suc i) d lt is = inr (any_set Q fs i d (omega (arith, lt)) is)
+
+  take_set : (fs : List (Found P)) (i : ℕ) (d : Found P) → take i (map (looked see) (set fs i d)) ≡ take i (map (looked see) fs)
+  take_set [] i d = refl
+  take_set (x ∷ fs) zero d = refl
+  take_set (x ∷ fs) (suc i) d = ap (λ ys. looked see x ∷ ys) (take_set fs i d)
+
+  pub read_on : (ls : List Looked) (fs : List (Found P)) (i : ℕ) (d e : Found P) → i < length fs → Each Reads ls (map (looked see) fs) → Reads (looked see (get_or fs i e)) (looked see d) → Each Reads ls (map (looked see) (set fs i d))
+  read_on ls [] i d e lt all is = absurd (omega (arith, lt))
+  read_on [] (x ∷ fs) i d e lt all is = absurd all
+  read_on (l ∷ ls) (x ∷ fs) zero d e lt all is = (reads_trans l (looked see x) (looked see d) all.0 is, all.1)
+  read_on (l ∷ ls) (x ∷ fs) (suc i) d e lt all is = (all.0, read_on ls fs i d e (omega (arith, lt)) all.1 is)
+
+  pub long_set : (fs : List (Found P)) (i : ℕ) (d : Found P) → length (set fs i d) ≡ length fs
+  long_set [] i d = refl
+  long_set (x ∷ fs) zero d = refl
+  long_set (x ∷ fs) (suc i) d = let same = long_set fs i d in omega (arith, same)
+
+  pub fewer : (fs : List (Found P)) (i : ℕ) (d e : Found P) → i < length fs → IsTrue (get_or fs i e).readable → d.readable ≡ false → readable_count (map (looked see) (set fs i d)) < readable_count (map (looked see) fs)
+  fewer [] i d e lt was is = absurd (omega (arith, lt))
+  fewer (x ∷ fs) zero d e lt was is = by x.readable d.readable was is
+    where
+      by : (b c : Bool) → IsTrue b → c ≡ false → cond c 1 0 + readable_count (map (looked see) fs) < cond b 1 0 + readable_count (map (looked see) fs)
+      by true true w i = cc
+      by true false w i = omega arith
+      by false c w i = cc
+  fewer (x ∷ fs) (suc i) d e lt was is = let less = fewer fs i d e (omega (arith, lt)) was is in omega (arith, less)
+
+  -- the highest toggle is that of a device that can be read
+  pub top_readable : (fs : List (Found P)) (i : ℕ) (d : Found P) (t : Said) → IsTop i t (map (looked see) fs) → (get_or fs i d).readable ≡ true
+  top_readable fs i d t top = by (get_or fs i d).readable (at_at (λ f. toggle_read f ≡ Some t) fs i d top.place)
+    where
+      by : (b : Bool) → cond b (said_in (get_or fs i d).reading) None ≡ Some t → b ≡ true
+      by true e = refl
+      by false e = cc
+
+  -- it stays so where that device can still be read
+  pub top_set : (fs : List (Found P)) (i : ℕ) (d e : Found P) (t : Said) → i < length fs → IsTop i t (map (looked see) fs) → toggle_read (looked see d) ≡ toggle_read (looked see (get_or fs i e)) → IsTop i t (map (looked see) (set fs i d))
+  top_set fs i d e t lt top same =
+      let there : toggle_read (looked see (get_or fs i e)) ≡ Some t = at_at (λ f. toggle_read f ≡ Some t) fs i e top.place in
+      let now : toggle_read (looked see d) ≡ Some t = same ∙ there in
+      let at_most : t.sequence ≤ t.sequence = omega arith in
+      record {
+        place = at_set (λ f. toggle_read f ≡ Some t) fs i d lt now;
+        up_to = all_set (IfToggle (λ k. k ≤ t.sequence)) fs i d top.up_to (subst (λ (o : Option Said). MatchOption o (Unit {0}) (λ s. s.sequence ≤ t.sequence)) (sym now) at_most);
+        before = subst (AllOf (IfToggle (λ k. k < t.sequence))) (sym (take_set fs i d)) top.before;
+      }

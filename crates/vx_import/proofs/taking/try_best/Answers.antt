@@ -1,0 +1,5 @@
+use Rattle.vx_import.proofs.Looking.{each_refl}
+use Rattle.vx_import.proofs.taking.try_best.Goals as goal
+
+pub returns-in-None-clause-reads : goal.returns-in-None-clause-reads
+returns-in-None-clause-reads g c = each_refl _

@@ -1,0 +1,4 @@
+pub mod Looks
+pub mod Choice
+pub mod Newest
+pub mod Tries

@@ -1,0 +1,65 @@
+-- What is read of the devices of a group.
+use Rattle.std.specs.Prelude.{◌≡◌, ℕ, ◌-◌, ◌≤◌, Bool, IsTrue, if◌then◌else◌, List, Option, Some, None, IfSome}
+use Rattle.vx_base.specs.Named.{Word}
+use Rattle.vx_sector.specs.Fields.{zeros}
+use Rattle.vx_header.specs.Named.{Label, header_of, label_of}
+use Rattle.vx_header.specs.Said.{Said, said_of, toggle_of}
+use Rattle.vx_header.specs.Spelled.{sector_of_toggle, IsToggle}
+use Rattle.vx_header.specs.Places.{IsFirstBad, is_toggle_place, toggle_end}
+use Rattle.vx_piece.specs.Seen.{Seen, Keeps, IsRead}
+use Rattle.vx_copies.specs.Disks.{Drops}
+use Rattle.vx_import.specs.declared.found.Found.{Found}
+use Rattle.vx_import.specs.declared.found.Reading.{Reading}
+use Rattle.vx_import.specs.declared.found.Reading.TheVariants.{Blank, Says, Damaged}
+
+-- the toggle that was read
+abbrev pub said_in : Reading → Option Said
+said_in Blank = None
+said_in (Says t) = Some (said_of t)
+said_in (Damaged byte) = None
+
+-- zeros, or a toggle, or the byte behind 512 others at which the sector is none
+abbrev pub HasForm : Reading → List ℕ → Type 0
+HasForm Blank sector = sector ≡ zeros 512
+HasForm (Says t) sector = sector ≡ sector_of_toggle t
+HasForm (Damaged byte) sector = (512 ≤ byte) × IsFirstBad IsToggle is_toggle_place toggle_end sector (byte - 512)
+
+-- what the sector of a toggle says
+pub record IsReading (reading : Reading) (sector : List ℕ) : Type 0 where
+  pub said : toggle_of sector ≡ said_in reading
+  pub form : HasForm reading sector
+
+-- a device with what was read of it
+pub record Looked : Type 0 where
+  pub label : Label
+  pub readable : Bool
+  pub reading : Reading
+  pub seen : Seen
+
+abbrev pub looked : {P : Type 0} → (P → Seen) → Found P → Looked
+looked see f = record { label = label_of f.header; readable = f.readable; reading = f.reading; seen = see f.piece }
+
+abbrev pub IsPrivate : Looked → Type 0
+IsPrivate f = f.seen.sectors ≡ 2048
+
+-- where it can be read, its toggle was read
+abbrev pub HasReading : Looked → Type 0
+HasReading f = IsTrue f.readable → IfSome f.seen.told (λ contents. IsReading f.reading (contents 1))
+
+-- The header names the group, and what is told of it is what was read.
+pub record IsOurs (group : Word) (f : Looked) : Type 0 where
+  pub group_is : f.label.group ≡ group
+  pub headed : IfSome f.seen.told (λ contents. header_of (contents 0) ≡ Some f.label)
+  pub reads : HasReading f
+
+-- the toggle of a device that can be read
+abbrev pub toggle_read : Looked → Option Said
+toggle_read f = if f.readable then said_in f.reading else None
+
+-- what reading does to a device: it can be read until a read fails
+pub record Reads (old new : Looked) : Type 0 where
+  pub label : new.label ≡ old.label
+  pub reading : new.reading ≡ old.reading
+  pub kept : Keeps old.seen new.seen
+  pub same : IsRead old.seen new.seen
+  pub readable : Drops old.readable new.readable old.seen new.seen

@@ -1,0 +1,23 @@
+use vx_header::{Header, Toggle};
+
+/// What the second sector of a private region says.
+#[derive(Clone, Copy)]
+pub enum Reading {
+    /// There is no configuration yet.
+    Blank,
+    Says(Toggle),
+    /// It is no toggle. The first byte that does not fit, from the device's start: of a number the number's first byte.
+    Damaged(u64),
+}
+
+/// A device that counts for a group, and what was read of it.
+#[derive(Drop)]
+pub struct Found<P> {
+    pub header: Header,
+    /// Whether no read of it has failed.
+    pub readable: bool,
+    /// What its toggle says, where it could be read.
+    pub reading: Reading,
+    /// Its private region.
+    pub piece: P,
+}

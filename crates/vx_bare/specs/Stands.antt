@@ -15,7 +15,7 @@ use Rattle.vx_life.specs.Entry.{Entry}
 use Rattle.vx_life.specs.Life.{Life, IsNext, life_after, GoesOn}
 use Rattle.vx_world.specs.declared.command.Call.{Call}
 use Rattle.vx_world.specs.declared.answer.Answer.{Answer}
-use Rattle.vx_world.specs.declared.answer.Answer.TheVariants.{Done, Refused, Fault, Lost}
+use Rattle.vx_world.specs.declared.answer.Answer.TheVariants.{Done, Shown, Refused, Fault, ShelfFailed, GroupLost, Lost}
 use Rattle.vx_world.specs.World.{Volume}
 use Rattle.vx_world.specs.Calls.{AreParts, AreOf, Lives}
 
@@ -80,7 +80,10 @@ Serves call answer old_piece old_numbers piece numbers v =
 -- `fault` only of this device and only where the piece's count rose, `lost` only where it is cut
 abbrev pub AnswerHasCause : Word → Answer → Seen → Seen → Type 0
 AnswerHasCause device (Done parts blocks) old new = Unit {0}
+AnswerHasCause device (Shown text) old new = Unit {0}
 AnswerHasCause device (Refused refusal) old new = Unit {0}
+AnswerHasCause device ShelfFailed old new = Unit {0}
+AnswerHasCause device GroupLost old new = Unit {0}
 AnswerHasCause device (Fault named parts) old new = (named ≡ device) × Rose old.faults new.faults
 AnswerHasCause device (Lost parts) old new = IsTrue new.cut
 

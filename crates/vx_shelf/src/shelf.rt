@@ -22,7 +22,7 @@ pub enum ShelfFault {
 
 /// A set of whole devices under names.
 pub trait Shelf {
-    type P: Piece;
+    type P: Piece + Drop;
 
     /// The devices that nobody holds, where the shelf tells them.
     ghost free: { Self → Option (Word → Option Seen) };

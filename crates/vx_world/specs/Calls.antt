@@ -10,9 +10,10 @@ use Rattle.vx_life.specs.Life.{Life, GoesOn}
 use Rattle.vx_world.specs.declared.command.Call.{Call}
 use Rattle.vx_world.specs.declared.command.Call.TheVariants as calls
 use Rattle.vx_world.specs.declared.answer.Answer.{Answer}
-use Rattle.vx_world.specs.declared.answer.Answer.TheVariants.{Done, Refused, Fault, Lost}
+use Rattle.vx_world.specs.declared.answer.Answer.TheVariants.{Done, Shown, Refused, Fault, ShelfFailed, GroupLost, Lost}
 use Rattle.vx_world.specs.declared.answer.Refusal.TheVariants.{NotStarted, Range}
-use Rattle.vx_world.specs.World.{World, Volume, IsRefused, IsCutOff}
+use Rattle.vx_world.specs.World.{World, Volume, IsRefused}
+use Rattle.vx_world.specs.Back.{IsCutOff}
 
 abbrev pub volume_of : Call → Word
 volume_of (calls.Read vol start count) = vol
@@ -82,7 +83,10 @@ abbrev pub Tells : ℕ → Call → Volume → Answer → List Entry → Type 0
 Tells place call v (Done parts blocks) es = (map (λ e. e.part) es ≡ parts) × IsDoneBy place call v.region blocks es
 Tells place call v (Fault device parts) es = (map (λ e. e.part) es ≡ parts) × AreOf place (failed_kind call) (values_of call []) es × (es ≢ []) × (device ≡ v.device)
 Tells place call v (Lost parts) es = (map (λ e. e.part) es ≡ parts) × AreOf place (failed_kind call) (values_of call []) es
+Tells place call v (Shown text) es = ⊥
 Tells place call v (Refused refusal) es = ⊥
+Tells place call v ShelfFailed es = ⊥
+Tells place call v GroupLost es = ⊥
 
 -- the answer tells of entries of the call's first parts, and by these the volume's life goes on
 pub record Lives (place : ℕ) (call : Call) (v : Volume) (answer : Answer) (life : Life) : Type 0 where
@@ -100,7 +104,10 @@ abbrev pub WorldAfter : Word → Volume → Life → Answer → World → World 
 WorldAfter vol v life (Done parts blocks) old new = new ≡ world_with vol v life old
 WorldAfter vol v life (Fault device parts) old new = new ≡ world_with vol v life old
 WorldAfter vol v life (Lost parts) old new = IsCutOff (world_with vol v life old) new
+WorldAfter vol v life (Shown text) old new = ⊥
 WorldAfter vol v life (Refused refusal) old new = ⊥
+WorldAfter vol v life ShelfFailed old new = ⊥
+WorldAfter vol v life GroupLost old new = ⊥
 
 -- the call is served
 abbrev pub IsServed : ℕ → Call → Volume → World → Answer → World → Type 0

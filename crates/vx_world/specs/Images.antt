@@ -16,7 +16,7 @@ device_of (Some seen) = device_told seen.sectors seen.told
 
 -- the world that is read from devices before any command: no volume is started
 abbrev pub world_of : (Word → Option Seen) → World
-world_of devices = record { devices = λ name. device_of (devices name); volumes = λ _. None }
+world_of devices = record { devices = λ name. device_of (devices name); volumes = λ _. None; group = None }
 
 -- each device tells what it holds
 abbrev pub IsTold : Option Seen → Type 0

@@ -1,0 +1,5 @@
+pub mod Holders
+pub mod Kept
+pub mod Stand
+pub mod Moves
+pub mod Closing

@@ -14,8 +14,9 @@ use vx_base::{BLOCK, OutOfMemory};
 use vx_names::Name;
 use vx_shelf::{Shelf, ShelfFault, in_order};
 
-/// The files of a folder as devices: each that has at least one whole sector. Bytes behind the last whole sector are
-/// not touched.
+/// The files of a folder as devices: each whose name is one and which has at least one whole sector. Bytes behind the
+/// last whole sector are not touched. Where a file cannot be looked at, neither it nor the names are told. A device that
+/// could not be made whole is removed again; where that fails too, its file is left as it is.
 #[derive(Drop)]
 pub struct FileShelf<R> {
     rt: R,
@@ -68,6 +69,9 @@ where
     }
 
     fn make(&mut self, alloc: Global, name: &Name, sectors: u64) -> Result<(), ShelfFault> {
+        if is_held(&self.known, name) {
+            return Err(ShelfFault::Exists);
+        }
         let Ok(path) = path_of(alloc, self.folder.as_str(), name) else {
             return Err(ShelfFault::OutOfMemory);
         };

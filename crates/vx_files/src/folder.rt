@@ -53,8 +53,8 @@ pub fn look<R: Files, P: AsPath>(rt: &R, path: P) -> io::Result<u64>
     }
 }
 
-/// Makes the file with so many zero bytes, and answers once it and its name are on the medium. It is removed again
-/// where it cannot be given its length.
+/// Makes the file with so many zero bytes, and answers once it and its name are on the medium. Where that fails the
+/// file is removed again, if it can be.
 pub fn create<R: Files>(rt: &R, folder: &str, path: &str, bytes: u64) -> io::Result<()> {
     let file = File::create_new(rt, path)?;
     match fill::<R>(rt, &file, folder, bytes) {

@@ -58,6 +58,7 @@ pub trait Shelf {
         ensures same { SameUnder (held self.old) (held self.new) }
         ensures stays { OnErr result (free self.new ≡ free self.old) }
         ensures exists { IfSome (free self.old) (λ devices. IsErrOf result ShelfFault.Exists ↔ IsUsed name.now devices (held self.old)) }
+        ensures held { IsSome (held self.old name.now) → IsErrOf result ShelfFault.Exists }
         ensures cause { IfErr result (MakeCause (faults self.old) (faults self.new)) }
 
         ensures later { faults self.old ≤ faults self.new };

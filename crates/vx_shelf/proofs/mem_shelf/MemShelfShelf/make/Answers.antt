@@ -1,4 +1,4 @@
-use Rattle.std.proofs.Common.{refl}
+use Rattle.std.proofs.Common.{refl, inr}
 use Rattle.vx_shelf.proofs.Listing.{first_used, missing_unused}
 use Rattle.vx_shelf.proofs.Made.{made_at_rest, made_below, made_joins, made_held}
 use Rattle.vx_shelf.proofs.mem_shelf.MemShelfShelf.make.Goals as goal
@@ -38,3 +38,13 @@ pub returns-in-Err-clause-exists : goal.returns-in-Err-clause-exists
 returns-in-Err-clause-exists c =
     let missing = rw c.as_slice.ensures.value at c.in-None.ensures in
     (λ e. cc, λ h. absurd (missing_unused c.args.self.now.places.items c.args.name.now missing h))
+
+pub returns-in-Ok-clause-held : goal.returns-in-Ok-clause-held
+returns-in-Ok-clause-held c =
+    let missing = rw c.as_slice.ensures.value at c.in-None.ensures in
+    λ h. absurd (missing_unused c.args.self.now.places.items c.args.name.now missing (inr h))
+
+pub returns-in-Err-clause-held : goal.returns-in-Err-clause-held
+returns-in-Err-clause-held c =
+    let missing = rw c.as_slice.ensures.value at c.in-None.ensures in
+    λ h. absurd (missing_unused c.args.self.now.places.items c.args.name.now missing (inr h))

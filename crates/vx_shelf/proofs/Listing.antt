@@ -1,5 +1,5 @@
 -- The names in a list, and those that are used on a shelf.
-use Rattle.std.proofs.Common.{◌≡◌, ◌⊎◌, ◌∙◌, ◌||◌, ℕ, zero, suc, Bool, true, false, cond, List, [], ◌∷◌, map, Option, Some, None, IsSome, IsTrue, IfOk, Result, Ok, Err, sym, ap, refl, inl, inr}
+use Rattle.std.proofs.Common.{◌≡◌, ◌⊎◌, ◌∙◌, ◌||◌, ℕ, zero, suc, Bool, true, false, cond, List, [], ◌∷◌, map, Some, None, IsSome, sym, ap, refl, inl, inr}
 use Rattle.std.specs.BTreeSet.{BTreeSet, IsFromIterResult}
 use Rattle.std.specs.Cmp.Lexicographic.{slice_cmp}
 use Rattle.std.specs.List.{list_any}
@@ -13,7 +13,7 @@ use Rattle.vx_piece.specs.MemPiece.{mem_seen}
 use Rattle.vx_piece.specs.declared.mem_piece.MemPiece.{MemPiece}
 use Rattle.vx_shelf.specs.Listed.{is_listed, Lists}
 use Rattle.vx_shelf.specs.MemShelf.{Place, is_under, is_empty, free_by, held_by, free_in, held_in, IsFirst, IsMissing}
-use Rattle.vx_shelf.specs.Shelf.{Held, IsUsed, IsNowhere}
+use Rattle.vx_shelf.specs.Shelf.{Held, IsUsed}
 use Rattle.vx_shelf.proofs.Taken.{not_some, nowhere}
 
 turned : (a b : Word) → bytes_eq a b ≡ bytes_eq b a

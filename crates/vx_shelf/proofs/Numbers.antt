@@ -1,10 +1,9 @@
 -- Numbers that are above those of all devices on a shelf.
-use Rattle.std.proofs.Common.{◌≡◌, ◌∙◌, ◌+◌, ◌<◌, ◌≤◌, ◌&&◌, ℕ, zero, suc, max, nat_lt, Bool, true, false, cond, List, [], ◌∷◌, length, take, get_or, Option, Some, None, IfSome, sym, ap, refl, arith}
+use Rattle.std.proofs.Common.{◌≡◌, ◌∙◌, ◌+◌, ◌<◌, ◌≤◌, ℕ, nat_lt, Bool, true, false, cond, List, [], ◌∷◌, length, take, get_or, Some, None, IfSome, ap, refl, arith}
 use Rattle.std.proofs.Math.ListN.{set}
 use Rattle.std.specs.List.{list_all}
 use Rattle.std.proofs.lemmas.Bool.{and_parts, and_from, ltb-true, lt-ltb}
 use Rattle.std.proofs.lemmas.List.Folds.{list_all_more}
-use Rattle.vx_base.specs.Named.{Word}
 use Rattle.vx_piece.specs.Seen.{Seen}
 use Rattle.vx_piece.specs.MemPiece.{mem_seen}
 use Rattle.vx_piece.specs.declared.mem_piece.MemPiece.{MemPiece}

@@ -99,6 +99,7 @@ pub fn bare<S: Shelf>(
         Ok(piece) => start(alloc, shelf, vol, device, piece),
         Err(ShelfFault::NoDisk) => Ok((Answer::Refused(Refusal::NoDisk(device)), None)),
         Err(ShelfFault::Held) => unreachable!(),
+        Err(ShelfFault::Exists) => unreachable!(),
         Err(ShelfFault::Failed) => {
             let parts = Parts::from_vec(Vec::new(alloc));
             Ok((Answer::Fault { device, parts }, None))

@@ -6,7 +6,7 @@ use Rattle.vx_files.specs.Known.{held_in}
 use Rattle.vx_files.specs.declared.file_shelf.FileShelf.{FileShelf}
 
 abbrev pub held_by_files : {R : Type 0} → FileShelf R → Word → Option Held
-held_by_files s = held_in s.known.items
+held_by_files s = held_in s.known
 
 abbrev pub shelf_faults : {R : Type 0} → FileShelf R → ℕ
 shelf_faults s = s.faults

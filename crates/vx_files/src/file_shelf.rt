@@ -1,25 +1,27 @@
-ghost use Rattle.std.specs.Prelude.{◌≡◌, ◌*◌, ◌<◌, ◌≤◌, ◌^◌, ℕ, None, IfOk, IsErrOf};
+ghost use Rattle.std.specs.Prelude.{◌≡◌, ◌≤◌, ℕ, None, IfOk};
 ghost use Rattle.vx_base.specs.Named.{Word};
 ghost use Rattle.vx_base.specs.Counts.{Rose};
 
 use crate::FilePiece;
-use crate::known::{Known, enlist, find};
-use std::alloc::Global;
+use crate::folder::{create, list, look};
+use crate::known::{Known, hold, is_held, release};
+use std::alloc::{AllocError, Global};
+use std::collections::BTreeMap;
 use std::io::ErrorKind;
 use std::os::unix::fs::FileExt;
 use std::rt::Files;
-use std::{fs, str};
 use vx_base::{BLOCK, OutOfMemory};
 use vx_names::Name;
-use vx_shelf::{Shelf, ShelfFault};
+use vx_shelf::{Shelf, ShelfFault, in_order};
 
-/// The files of a folder as devices: each that has at least one whole sector. Bytes behind the last whole sector are
-/// not touched.
+/// The files of a folder as devices: each whose name is one and which has at least one whole sector. Bytes behind the
+/// last whole sector are not touched. Where a file cannot be looked at, neither it nor the names are told. A device that
+/// could not be made whole is removed again; where that fails too, its file is left as it is.
 #[derive(Drop)]
 pub struct FileShelf<R> {
     rt: R,
     folder: String,
-    known: Vec<Known>,
+    known: BTreeMap<Name, Known>,
     faults: u64,
 }
 
@@ -32,7 +34,7 @@ impl<R: AllocGlobal + Drop> FileShelf<R> {
         ensures faults { IfOk result (λ shelf. shelf_faults shelf ≡ 0) }
     {
         let folder = String::from_str(rt.alloc(), folder)?;
-        let known = Vec::new(rt.alloc());
+        let known = BTreeMap::new(rt.alloc());
         Ok(FileShelf {
             rt,
             folder,
@@ -56,81 +58,72 @@ where
 
     ghost faults = { shelf_faults };
 
-    fn take(&mut self, name: &Name) -> Result<FilePiece<R>, ShelfFault> {
-        let Ok(i) = enlist(&mut self.known, name) else {
+    fn names(&mut self, alloc: Global) -> Result<Vec<Name>, ShelfFault> {
+        let Ok(names) = list(&self.rt, alloc, self.folder.as_str()) else {
+            return Err(failed(&mut self.faults));
+        };
+        match in_order(alloc, names) {
+            Ok(sorted) => Ok(sorted),
+            Err(_) => Err(ShelfFault::OutOfMemory),
+        }
+    }
+
+    fn make(&mut self, alloc: Global, name: &Name, sectors: u64) -> Result<(), ShelfFault> {
+        if is_held(&self.known, name) {
+            return Err(ShelfFault::Exists);
+        }
+        let Ok(path) = path_of(alloc, self.folder.as_str(), name) else {
             return Err(ShelfFault::OutOfMemory);
         };
-        let known = &mut self.known[i];
-        if known.held.is_some() {
+        let bytes = BLOCK as u64 * sectors;
+        match create(&self.rt, self.folder.as_str(), path.as_str(), bytes) {
+            Ok(()) => Ok(()),
+            Err(e) if e.kind() == ErrorKind::AlreadyExists => Err(ShelfFault::Exists),
+            Err(_) => Err(failed(&mut self.faults)),
+        }
+    }
+
+    fn take(&mut self, name: &Name) -> Result<FilePiece<R>, ShelfFault> {
+        if is_held(&self.known, name) {
             return Err(ShelfFault::Held);
         }
         let Ok(rt) = self.rt.clone() else {
             return Err(ShelfFault::OutOfMemory);
         };
-        match look(&rt, self.folder.as_str(), name) {
-            Err(fault) => {
-                count_failure(&mut self.faults, fault);
-                Err(fault)
-            }
-            Ok((path, sectors)) => {
-                known.held = Some(sectors);
-                Ok(FilePiece::new(rt, path, known.device, sectors))
-            }
+        let Ok(path) = path_of(rt.alloc(), self.folder.as_str(), name) else {
+            return Err(ShelfFault::OutOfMemory);
+        };
+        match look(&rt, path.as_str()) {
+            Ok(0) => Err(ShelfFault::NoDisk),
+            Ok(sectors) => match hold(&mut self.known, name, sectors) {
+                Ok(device) => Ok(FilePiece::new(rt, path, device, sectors)),
+                Err(_) => Err(ShelfFault::OutOfMemory),
+            },
+            Err(_) => Err(failed(&mut self.faults)),
         }
     }
 
     fn give(&mut self, name: &Name, _piece: FilePiece<R>) {
-        match find(self.known.as_slice(), name) {
-            None => {}
-            Some(i) => {
-                let known = &mut self.known[i];
-                known.held = None;
-            }
-        }
+        release(&mut self.known, name);
     }
 }
 
-/// The file of that name and its whole sectors, where it has one at least.
-fn look<R: Files + AllocGlobal>(
-    rt: &R,
-    folder: &str,
-    name: &Name,
-) -> Result<(String, u64), ShelfFault>
-    ensures sectors { IfOk result (λ x. 512 * x.1 < 2 ^ 64) }
-    ensures held { IsErrOf result ShelfFault.Held → ⊥ }
-{
-    let path = path_of(rt.alloc(), folder, name)?;
-    match fs::metadata(rt, path.as_str()) {
-        Ok(file) => {
-            let sectors = file.len() / BLOCK as u64;
-            if !file.is_file() || sectors == 0 {
-                return Err(ShelfFault::NoDisk);
-            }
-            Ok((path, sectors))
-        }
-        Err(e) if e.kind() == ErrorKind::NotFound => Err(ShelfFault::NoDisk),
-        Err(_) => Err(ShelfFault::Failed),
+/// The path of the file of that name.
+fn path_of(alloc: Global, folder: &str, name: &Name) -> Result<String, AllocError> {
+    let mut path = String::from_str(alloc, folder)?;
+    path.push('/')?;
+    for byte in name.as_bytes() {
+        path.push(*byte as char)?;
     }
+    Ok(path)
 }
 
-fn path_of(alloc: Global, folder: &str, name: &Name) -> Result<String, ShelfFault>
-    ensures held { IsErrOf result ShelfFault.Held → ⊥ }
-{
-    let Ok(text) = str::from_utf8(name.as_bytes()) else {
-        return Err(ShelfFault::NoDisk);
-    };
-    match format!(in alloc; "{folder}/{text}") {
-        Ok(path) => Ok(path),
-        Err(_) => Err(ShelfFault::OutOfMemory),
-    }
-}
-
-/// Counts the answer where the shelf itself failed.
-fn count_failure(faults: &mut u64, fault: ShelfFault)
-    ensures rose { fault ≡ ShelfFault.Failed → Rose faults.old faults.new }
+/// Counts a failure.
+fn failed(faults: &mut u64) -> ShelfFault
+    ensures rose { Rose faults.old faults.new }
     ensures later { faults.old ≤ faults.new }
+    ensures answer { result ≡ ShelfFault.Failed }
 {
-    if fault == ShelfFault::Failed {
-        *faults = faults.saturating_add(1);
-    }
+    *faults = faults.saturating_add(1);
+    ShelfFault::Failed
 }

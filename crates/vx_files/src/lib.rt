@@ -3,6 +3,7 @@
 
 mod file_piece;
 mod file_shelf;
+mod folder;
 mod known;
 
 pub use file_piece::FilePiece;

@@ -1,11 +1,12 @@
 -- The place of a name, and what stands on the shelf once one place has changed.
-use Rattle.std.proofs.Common.{◌≡◌, ◌∙◌, ℕ, ◌+◌, ◌<◌, suc, zero, Bool, true, false, cond, List, [], ◌∷◌, length, get_or, Option, Some, None, MatchOption, sym, ap, refl, arith}
+use Rattle.std.proofs.Common.{◌≡◌, ◌∙◌, ℕ, ◌+◌, ◌<◌, suc, zero, Bool, true, false, cond, List, [], ◌∷◌, ◌++◌, length, get_or, Option, Some, None, MatchOption, IfSome, sym, ap, refl, arith}
 use Rattle.std.proofs.Math.ListN.{set}
 use Rattle.std.specs.Str.{bytes_eq}
 use Rattle.std.specs.List.{position, position_from, list_all}
 use Rattle.std.proofs.lemmas.Slice.Eq.{bytes_eq-Decides}
 use Rattle.std.proofs.lemmas.Bool.{cond-true, cond-false, both_ways, and_parts, and_from}
 use Rattle.std.proofs.lemmas.Iterator.Adapters.{position_from-zero}
+use Rattle.std.proofs.lemmas.List.Folds.{list_all-append}
 use Rattle.std.proofs.lemmas.List.Quantifiers.{position-Some}
 use Rattle.vx_base.specs.Named.{Word, put}
 use Rattle.vx_shelf.specs.MemShelf.{Place, is_under, shown_under, IsFirst, IsMissing}
@@ -63,6 +64,22 @@ module _ {X : Type 0} (show : MemPiece → Option X) where
       ap (cond (bytes_eq q.0 other) (show q.1)) (shown_set ps name i p d first.1 same other)
       ∙ swapped q.0 name other (bytes_eq q.0 other) (bytes_eq name other) (show p.1) (show q.1) (shown_under show ps other) refl refl first.0
 
+  -- one device more, of a name that no other has
+  pub shown_push : (ps : List Place) (name : Word) (piece : MemPiece) → IsMissing name ps → (other : Word) → shown_under show (ps ++ (name, piece) ∷ []) other ≡ put name (show piece) (shown_under show ps) other
+  shown_push [] name piece missing other = refl
+  shown_push (q ∷ qs) name piece missing other =
+      ap (cond (bytes_eq q.0 other) (show q.1)) (shown_push qs name piece missing.1 other)
+      ∙ swapped q.0 name other (bytes_eq q.0 other) (bytes_eq name other) (show piece) (show q.1) (shown_under show qs other) refl refl missing.0
+
+  -- what all devices show that pass a test
+  pub shown_all : (P : X → Type 0) (test : Place → Bool) (each : (p : Place) → test p ≡ true → IfSome (show p.1) P) (ps : List Place) → list_all test ps ≡ true → (name : Word) → IfSome (shown_under show ps name) P
+  shown_all P test each [] all name = tt
+  shown_all P test each (p ∷ ps) all name = by_test (is_under name p) (each p (and_parts _ _ all).0) (shown_all P test each ps (and_parts _ _ all).1 name)
+    where
+      by_test : (b : Bool) → IfSome (show p.1) P → IfSome (shown_under show ps name) P → IfSome (cond b (show p.1) (shown_under show ps name)) P
+      by_test true here rest = here
+      by_test false here rest = rest
+
 -- a test that all pass
 pub list_all-get_or : {X : Type 0} (test : X → Bool) (xs : List X) (i : ℕ) (d : X) → list_all test xs ≡ true → i < length xs → test (get_or xs i d) ≡ true
 list_all-get_or test [] i d all lt = absurd (omega arith)
@@ -73,6 +90,9 @@ pub list_all-set : {X : Type 0} (test : X → Bool) (xs : List X) (i : ℕ) (y :
 list_all-set test [] i y all new = refl
 list_all-set test (x ∷ xs) zero y all new = and_from _ _ new (and_parts _ _ all).1
 list_all-set test (x ∷ xs) (suc i) y all new = and_from _ _ (and_parts _ _ all).0 (list_all-set test xs i y (and_parts _ _ all).1 new)
+
+pub list_all-push : {X : Type 0} (test : X → Bool) (xs : List X) (y : X) → list_all test xs ≡ true → test y ≡ true → list_all test (xs ++ y ∷ []) ≡ true
+list_all-push test xs y all new = list_all-append test xs (y ∷ []) ∙ and_from _ _ all (and_from _ _ new refl)
 
 -- what a search for the name finds
 pub found_by_position : (name : Word) (ps : List Place) (result : Option ℕ) → result ≡ position (is_under name) ps → MatchOption result (IsMissing name ps) (λ i. (i < length ps) × IsFirst name ps i)

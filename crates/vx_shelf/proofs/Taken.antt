@@ -121,3 +121,10 @@ module _ (ps : List Place) (name : Word) (i : ℕ) (place d : Place) (piece : Me
 
   pub given_at_rest : list_all is_at_rest (set ps i (place.0, piece)) ≡ true
   given_at_rest = list_all-set is_at_rest ps i (place.0, piece) rest (cond-false _ _ _ is_full ∙ eq-eqb _ _ whole)
+
+  same_device : (a b : Held) → Some a ≡ Some b → a.device ≡ b.device
+  same_device a b e = ap (λ h. h.device) (let p : a ≡ b = cc in p)
+
+  -- it has the number of what was left in its place
+  pub given_number : (mem_seen piece).device ≡ (mem_seen place.1).device
+  given_number = sym (same_device _ _ (sym (is_held place.1 left_here) ∙ out_here))

@@ -1,10 +1,10 @@
 -- What stands on a shelf in memory. Of a device that was taken the empty run behind its last sector is left.
-use Rattle.std.specs.Prelude.{◌≡◌, ◌+◌, ℕ, ◌==◌, ◌&&◌, nat_lt, not, Bool, true, false, zero, suc, if◌then◌else◌, List, [], ◌∷◌, Option, Some, None}
+use Rattle.std.specs.Prelude.{◌≡◌, ◌+◌, ◌++◌, ℕ, ◌==◌, ◌&&◌, nat_lt, not, Bool, true, false, zero, suc, if◌then◌else◌, List, [], ◌∷◌, Option, Some, None}
 use Rattle.std.specs.List.{list_all}
 use Rattle.std.specs.Str.{bytes_eq}
 use Rattle.vx_base.specs.Named.{Word}
 use Rattle.vx_piece.specs.Seen.{Seen}
-use Rattle.vx_shelf.specs.Shelf.{Held}
+use Rattle.vx_shelf.specs.Shelf.{Held, IsBlank}
 use Rattle.vx_piece.specs.MemPiece.{mem_seen}
 use Rattle.vx_piece.specs.declared.mem_piece.MemPiece.{MemPiece}
 
@@ -67,6 +67,17 @@ pub record HasLeft (device left : MemPiece) : Type 0 where
   pub empty : is_empty left ≡ true
   pub number : (mem_seen left).device ≡ (mem_seen device).device
   pub behind : (mem_seen left).start ≡ (mem_seen device).start + (mem_seen device).sectors
+
+-- the device's number is below this one
+abbrev pub is_numbered_below : ℕ → Place → Bool
+is_numbered_below next p = nat_lt (mem_seen p.1).device next
+
+-- a blank device of that name and number stands behind the others
+pub record IsAppended (name : Word) (count number : ℕ) (old new : List Place) : Type 0 where
+  pub piece : MemPiece
+  pub blank : IsBlank count (mem_seen piece)
+  pub numbered : (mem_seen piece).device ≡ number
+  pub behind : new ≡ old ++ (name, piece) ∷ []
 
 -- the place at the index is the first of the name
 abbrev pub IsFirst : Word → List Place → ℕ → Type 0

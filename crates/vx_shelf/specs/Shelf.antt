@@ -1,5 +1,5 @@
 -- What stands on a shelf.
-use Rattle.std.specs.Prelude.{◌≡◌, ℕ, Option, Some, None}
+use Rattle.std.specs.Prelude.{◌≡◌, ◌<◌, ◌⊎◌, ℕ, false, replicate, Option, Some, None, IsSome, IfSome}
 use Rattle.vx_base.specs.Named.{Word, put, SameUnder}
 use Rattle.vx_piece.specs.Seen.{Seen}
 
@@ -47,3 +47,37 @@ ComesToShelf name seen None None = Unit {0}
 ComesToShelf name seen None (Some new) = ⊥
 ComesToShelf name seen (Some old) None = ⊥
 ComesToShelf name seen (Some old) (Some new) = SameUnder (put name (Some seen) old) new
+
+-- a device has the name, whether it is held or not
+abbrev pub IsUsed : Word → (Word → Option Seen) → (Word → Option Held) → Type 0
+IsUsed name free held = IsSome (free name) ⊎ IsSome (held name)
+
+-- a whole device of so many sectors of zeros, which no call has met
+pub record IsBlank (count : ℕ) (seen : Seen) : Type 0 where
+  pub whole : IsWhole seen
+  pub sectors : seen.sectors ≡ count
+  pub told : IsSome seen.told
+  pub zeros : IfSome seen.told (λ contents. (k : ℕ) → k < count → contents k ≡ replicate 512 0)
+  pub faults : seen.faults ≡ 0
+  pub writes : seen.writes ≡ 0
+  pub cut : seen.cut ≡ false
+  pub stop : seen.stop ≡ None
+
+-- no device has the number, whether it is held or not
+pub record IsFresh (number : ℕ) (free : Word → Option Seen) (held : Word → Option Held) : Type 0 where
+  pub not_free : (name : Word) → IfSome (free name) (λ seen. seen.device ≡ number → ⊥)
+  pub not_held : (name : Word) → IfSome (held name) (λ held. held.device ≡ number → ⊥)
+
+-- a blank device, whose number no other has, joins those that nobody holds
+pub record Joins (name : Word) (count : ℕ) (held : Word → Option Held) (old new : Word → Option Seen) : Type 0 where
+  pub device : Seen
+  pub blank : IsBlank count device
+  pub fresh : IsFresh device.device old held
+  pub after : SameUnder (put name (Some device) old) new
+
+-- so it is for a shelf that tells its devices; one that tells nothing goes on so
+abbrev pub IsMade : Word → ℕ → (Word → Option Held) → Option (Word → Option Seen) → Option (Word → Option Seen) → Type 0
+IsMade name count held None None = Unit {0}
+IsMade name count held None (Some new) = ⊥
+IsMade name count held (Some old) None = ⊥
+IsMade name count held (Some old) (Some new) = Joins name count held old new

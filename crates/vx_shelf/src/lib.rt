@@ -2,9 +2,11 @@
 #![tactic(auto)]
 
 mod mem_shelf;
+mod names;
 mod shelf;
 
 pub use mem_shelf::MemShelf;
+pub use names::in_order;
 pub use shelf::{Shelf, ShelfFault};
 
 #[cfg(test)]

@@ -1,13 +1,17 @@
-ghost use Rattle.std.specs.Prelude.{◌≡◌, ◌↔◌, ◌<◌, IsTrue, IsNone, IfSome, MatchOption, length};
-ghost use Rattle.std.specs.List.{list_all, position};
+ghost use Rattle.std.specs.Prelude.{◌≡◌, ◌↔◌, ◌<◌, ◌≤◌, ◌^◌, ◌++◌, IsTrue, IsNone, IfSome, IfOk, OnOk, OnErr, MatchOption, length, map};
+ghost use Rattle.std.specs.List.{list_all, list_any, position};
 ghost use Rattle.vx_base.specs.Named.{Word};
 ghost use Rattle.vx_piece.specs.Seen.{Seen};
 ghost use Rattle.vx_piece.specs.MemPiece.{mem_seen};
-ghost use Rattle.vx_shelf.specs.MemShelf.{is_under, is_empty, is_whole_or_left, free_by, held_by, free_in, held_in, is_at_rest, is_whole, are_apart, fits, are_devices, HasLeft, IsFirst, IsMissing};
+ghost use Rattle.vx_shelf.specs.Shelf.{IsBlank};
+ghost use Rattle.vx_shelf.specs.Listed.{IsRising, is_listed};
+ghost use Rattle.vx_shelf.specs.MemShelf.{is_under, is_empty, is_whole_or_left, free_by, held_by, free_in, held_in, is_at_rest, is_whole, are_apart, fits, are_devices, is_numbered_below, HasLeft, IsAppended, IsFirst, IsMissing};
 
+use crate::names::in_order;
 use crate::{Shelf, ShelfFault};
-use std::alloc::Global;
+use std::alloc::{AllocError, Global};
 use std::mem;
+use vx_base::{BLOCK, OutOfMemory};
 use vx_names::Name;
 use vx_piece::{MemPiece, Piece};
 
@@ -15,7 +19,10 @@ use vx_piece::{MemPiece, Piece};
 #[derive(Drop)]
 pub struct MemShelf {
     places: Vec<(Name, MemPiece)>,
+    /// The number of the next device that is made.
+    next: u64,
     ghost at_rest: { IsTrue (list_all is_at_rest places.items) },
+    ghost below: { IsTrue (list_all (is_numbered_below next) places.items) },
 }
 
 impl MemShelf {
@@ -27,7 +34,11 @@ impl MemShelf {
         ensures free { free_on result ≡ Some (free_in devices.items) }
         ensures held { (name : Word) → held_on result name ≡ None }
     {
-        MemShelf { places: devices }
+        let next = number_above(devices.as_slice());
+        MemShelf {
+            places: devices,
+            next,
+        }
     }
 
     /// Whether these are whole devices with a sector at least, no two with one name or one number.
@@ -72,6 +83,26 @@ impl Shelf for MemShelf {
 
     ghost faults = { λ _. 0 };
 
+    fn names(&mut self, alloc: Global) -> Result<Vec<Name>, ShelfFault> {
+        match names_of(alloc, self.places.as_slice()) {
+            Ok(names) => Ok(names),
+            Err(_) => Err(ShelfFault::OutOfMemory),
+        }
+    }
+
+    fn make(&mut self, alloc: Global, name: &Name, sectors: u64) -> Result<(), ShelfFault> {
+        match find(self.places.as_slice(), name) {
+            Some(_) => Err(ShelfFault::Exists),
+            None => match append(&mut self.places, self.next, alloc, *name, sectors) {
+                Ok(()) => {
+                    self.next += 1;
+                    Ok(())
+                }
+                Err(OutOfMemory) => Err(ShelfFault::OutOfMemory),
+            },
+        }
+    }
+
     fn take(&mut self, name: &Name) -> Result<MemPiece, ShelfFault> {
         match find(self.places.as_slice(), name) {
             None => Err(ShelfFault::NoDisk),
@@ -97,6 +128,69 @@ impl Shelf for MemShelf {
     }
 }
 
+/// The names of the devices, in the order of their bytes.
+fn names_of(alloc: Global, places: &[(Name, MemPiece)]) -> Result<Vec<Name>, OutOfMemory>
+    ensures sorted { IfOk result (λ names. IsRising names.items) }
+    ensures all { IfOk result (λ names. (name : Word) → is_listed name names.items ≡ list_any (is_under name) places.now) }
+{
+    let names = all_names(alloc, places)?;
+    let sorted = in_order(alloc, names)?;
+    Ok(sorted)
+}
+
+fn all_names(alloc: Global, places: &[(Name, MemPiece)]) -> Result<Vec<Name>, AllocError>
+    ensures { IfOk result (λ names. names.items ≡ map (λ p. p.0) places.now) }
+{
+    places.iter().map(|place| place.0).collect(alloc)
+}
+
+/// A number that is above those of all devices.
+fn number_above(places: &[(Name, MemPiece)]) -> u64
+    ensures { IsTrue (list_all (is_numbered_below result) places.now) }
+{
+    let mut next = 0;
+    for place in places {
+        next = next.max(place.1.device() as u64 + 1);
+    }
+    next
+}
+
+/// Appends a device of zeros with that number. Where no device can have it, there is no memory.
+fn append(
+    places: &mut Vec<(Name, MemPiece)>,
+    number: u64,
+    alloc: Global,
+    name: Name,
+    sectors: u64,
+) -> Result<(), OutOfMemory>
+    requires some { 1 ≤ sectors }
+    requires few { sectors ≤ 2 ^ 40 }
+    ensures more { OnOk result (IsAppended name sectors number places.old.items places.new.items) }
+    ensures small { OnOk result (number < 2 ^ 32) }
+    ensures stays { OnErr result (places.new.items ≡ places.old.items) }
+{
+    let Ok(number) = u32::try_from(number) else {
+        return Err(OutOfMemory);
+    };
+    let piece = blank(alloc, number, sectors)?;
+    places.push((name, piece))?;
+    Ok(())
+}
+
+/// A device of so many sectors of zeros.
+fn blank(alloc: Global, number: u32, sectors: u64) -> Result<MemPiece, OutOfMemory>
+    requires some { 1 ≤ sectors }
+    requires few { sectors ≤ 2 ^ 40 }
+    ensures zeros { IfOk result (λ piece. IsBlank sectors (mem_seen piece)) }
+    ensures numbered { IfOk result (λ piece. (mem_seen piece).device ≡ number) }
+{
+    let bytes = vec![in alloc; 0u8; BLOCK * sectors as usize]?;
+    match MemPiece::new(number, bytes, Vec::new(alloc)) {
+        Some(piece) => Ok(piece),
+        None => unreachable!(),
+    }
+}
+
 /// The place of the first device of that name.
 fn find(places: &[(Name, MemPiece)], name: &Name) -> Option<usize>
     ensures { MatchOption result (IsMissing name.now places.now) (λ i. (i < length places.now) × IsFirst name.now places.now i) }
@@ -119,6 +213,7 @@ fn take_out(alloc: Global, device: &mut MemPiece) -> Option<MemPiece>
     ensures some { IfSome result (λ piece. piece ≡ device.old) }
     ensures left { IfSome result (λ piece. HasLeft piece device.new) }
     ensures rest { IsTrue (is_whole_or_left device.old) → IsTrue (is_whole_or_left device.new) }
+    ensures same { (mem_seen device.new).device ≡ (mem_seen device.old).device }
 {
     if is_empty(device) {
         return None;

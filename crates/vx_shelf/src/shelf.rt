@@ -1,14 +1,17 @@
-ghost use Rattle.std.specs.Prelude.{◌≡◌, ◌≤◌, ◌↔◌, ℕ, List, Option, IsSome, IfOk, IfSome, OnErr, IsErrOf};
+ghost use Rattle.std.specs.Prelude.{◌≡◌, ◌≤◌, ◌^◌, ◌↔◌, ℕ, List, Option, IsSome, IfOk, IfErr, IfSome, OnOk, OnErr, IsErrOf};
 ghost use Rattle.vx_base.specs.Counts.{Rose};
 ghost use Rattle.vx_base.specs.Named.{Word, SameUnder};
 ghost use Rattle.vx_piece.specs.Seen.{Seen};
-ghost use Rattle.vx_shelf.specs.Shelf.{Held, IsWhole, IsOut, IsTaken, LeavesShelf, IsGiven, ComesToShelf, IsNowhere};
+ghost use Rattle.vx_shelf.specs.Shelf.{Held, IsWhole, IsOut, IsTaken, LeavesShelf, IsGiven, ComesToShelf, IsNowhere, IsUsed, IsMade};
+ghost use Rattle.vx_shelf.specs.Listed.{IsRising, Lists};
+ghost use Rattle.vx_shelf.specs.Causes.{ListCause, MakeCause};
 
+use std::alloc::Global;
 use vx_base::OutOfMemory;
 use vx_names::Name;
 use vx_piece::Piece;
 
-/// Why a device could not be taken.
+/// Why a call of a shelf did nothing.
 #[derive(Clone, Copy, Debug, PartialEq, Eq)]
 pub enum ShelfFault {
     OutOfMemory,
@@ -18,6 +21,8 @@ pub enum ShelfFault {
     Held,
     /// The shelf failed, and its count of faults rose.
     Failed,
+    /// The name is used.
+    Exists,
 }
 
 /// A set of whole devices under names.
@@ -33,6 +38,31 @@ pub trait Shelf {
     /// How often a call of the shelf itself has failed.
     ghost faults: { Self → ℕ };
 
+    /// The names of all devices, those that are held too, sorted by their bytes.
+    fn names(&mut self, alloc: Global) -> Result<Vec<Name>, ShelfFault>
+        ensures sorted { IfOk result (λ names. IsRising names.items) }
+        ensures all { IfSome (free self.old) (λ devices. IfOk result (λ names. Lists names.items devices (held self.old))) }
+
+        ensures same { SameUnder (held self.old) (held self.new) }
+        ensures stays { free self.new ≡ free self.old }
+        ensures cause { IfErr result (ListCause (faults self.old) (faults self.new)) }
+
+        ensures later { faults self.old ≤ faults self.new };
+
+    /// Makes a device of so many sectors of zeros. After an error no device has joined the others.
+    fn make(&mut self, alloc: Global, name: &Name, sectors: u64) -> Result<(), ShelfFault>
+        requires some { 1 ≤ sectors }
+        requires few { sectors ≤ 2 ^ 40 }
+        ensures made { OnOk result (IsMade name.now sectors (held self.old) (free self.old) (free self.new)) }
+
+        ensures same { SameUnder (held self.old) (held self.new) }
+        ensures stays { OnErr result (free self.new ≡ free self.old) }
+        ensures exists { IfSome (free self.old) (λ devices. IsErrOf result ShelfFault.Exists ↔ IsUsed name.now devices (held self.old)) }
+        ensures held { IsSome (held self.old name.now) → IsErrOf result ShelfFault.Exists }
+        ensures cause { IfErr result (MakeCause (faults self.old) (faults self.new)) }
+
+        ensures later { faults self.old ≤ faults self.new };
+
     /// Takes a whole device.
     fn take(&mut self, name: &Name) -> Result<Self::P, ShelfFault>
         ensures taken { IfOk result (λ piece. IsTaken name.now (Self.P.seen piece) (held self.old) (held self.new)) }
@@ -43,6 +73,7 @@ pub trait Shelf {
         ensures no_disk { IfSome (free self.old) (λ devices. IsErrOf result ShelfFault.NoDisk ↔ IsNowhere name.now devices (held self.old)) }
         ensures held { IsErrOf result ShelfFault.Held ↔ IsSome (held self.old name.now) }
         ensures failed { IsErrOf result ShelfFault.Failed → Rose (faults self.old) (faults self.new) }
+        ensures never { IsErrOf result ShelfFault.Exists → ⊥ }
 
         ensures later { faults self.old ≤ faults self.new };
 

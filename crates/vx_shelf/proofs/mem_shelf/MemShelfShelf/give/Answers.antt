@@ -1,11 +1,17 @@
-use Rattle.vx_shelf.proofs.Taken.{nowhere, given, comes, given_at_rest}
+use Rattle.vx_shelf.proofs.Taken.{nowhere, given, comes, given_at_rest, given_number}
+use Rattle.vx_shelf.proofs.Numbers.{numbered_set}
 use Rattle.vx_shelf.proofs.mem_shelf.MemShelfShelf.give.Goals as goal
 
 pub invariant_of-self : goal.invariant_of-self
 invariant_of-self c =
     let found = rw c.as_slice.ensures.value at c.in-Some.ensures in
     let place = c.index_mut-place.result.now in
-    record { at_rest = given_at_rest c.args.self.now.places.items c.args.name.now c.in-Some.i place place c.args.piece c.args.self.now.at_rest found.0 found.1 c.index_mut-place.ensures.value c.requires.whole c.requires.out }
+    let places = c.args.self.now.places.items in
+    let number = given_number places c.args.name.now c.in-Some.i place place c.args.piece c.args.self.now.at_rest found.0 found.1 c.index_mut-place.ensures.value c.requires.whole c.requires.out in
+    record {
+      at_rest = given_at_rest places c.args.name.now c.in-Some.i place place c.args.piece c.args.self.now.at_rest found.0 found.1 c.index_mut-place.ensures.value c.requires.whole c.requires.out;
+      below = numbered_set c.args.self.now.next places c.in-Some.i place place c.args.piece c.args.self.now.below found.0 c.index_mut-place.ensures.value number;
+    }
 
 pub returns-in-Some-clause-given : goal.returns-in-Some-clause-given
 returns-in-Some-clause-given c =

@@ -1,6 +1,7 @@
 use Rattle.std.proofs.Common.{◌≡◌, refl, subst, sym, IsSome, false, true}
 use Rattle.vx_shelf.specs.MemShelf.{is_empty}
 use Rattle.vx_shelf.proofs.Taken.{not_some, not_true, nowhere, rest_here, free_under, none_held, taken, leaves, held_under, stays_at_rest}
+use Rattle.vx_shelf.proofs.Numbers.{numbered_set}
 use Rattle.vx_shelf.proofs.mem_shelf.MemShelfShelf.take.Goals as goal
 
 pub invariant_of-self : goal.invariant_of-self
@@ -9,7 +10,10 @@ invariant_of-self c =
     let places = c.args.self.now.places.items in
     let place = c.index_mut-place.result.now in
     let rest = rest_here places c.args.name.now c.in-Some.i place place c.args.self.now.at_rest found.0 found.1 c.index_mut-place.ensures.value in
-    record { at_rest = stays_at_rest places c.args.name.now c.in-Some.i place place c.args.self.now.at_rest found.0 found.1 c.index_mut-place.ensures.value c.take_out.new.device (c.take_out.ensures.rest rest) }
+    record {
+      at_rest = stays_at_rest places c.args.name.now c.in-Some.i place place c.args.self.now.at_rest found.0 found.1 c.index_mut-place.ensures.value c.take_out.new.device (c.take_out.ensures.rest rest);
+      below = numbered_set c.args.self.now.next places c.in-Some.i place place c.take_out.new.device c.args.self.now.below found.0 c.index_mut-place.ensures.value c.take_out.ensures.same;
+    }
 
 pub returns-in-None-clause-no_disk : goal.returns-in-None-clause-no_disk
 returns-in-None-clause-no_disk c = let missing = rw c.as_slice.ensures.value at c.in-None.ensures in (λ e. nowhere c.args.self.now.places.items c.args.name.now missing, λ e. refl)

@@ -10,7 +10,7 @@ use Rattle.vx_piece.specs.Seen.{Seen}
 use Rattle.vx_mask.specs.Mask.{has, only, union}
 use Rattle.vx_mask.proofs.MaskLemmas.{has-union, has-only_same, has-only_other, has-zero}
 use Rattle.vx_copies.specs.Lists.{AllOf}
-use Rattle.vx_copies.specs.Disks.{Held, held, IsReady, is_good_slot}
+use Rattle.vx_copies.specs.Disks.{Held, held, HasSlot, IsReady, is_good_slot}
 use Rattle.vx_copies.specs.declared.disk.Disk.{Disk}
 
 only_is : (slot : ℕ) → slot < 32 → 1 * 2 ^ slot % 4294967296 ≡ only slot
@@ -40,14 +40,14 @@ module _ {P : Type 0} (see : P → Seen) where
     behind : (x : Disk P) (xs : List (Disk P)) → ((slot : ℕ) → has m slot ≡ is_good_slot slot (map (held see) (take (length (x ∷ xs) - 1) (drop 1 (x ∷ xs))))) → (slot : ℕ) → has m slot ≡ is_good_slot slot (map (held see) xs)
     behind x xs rest slot = rest slot ∙ ap (λ ys. is_good_slot slot (map (held see) ys)) (take_all (length (x ∷ xs) - 1) xs (omega arith))
 
-    pub slots_more : (xs : List (Disk P)) (d : Disk P) → 1 ≤ length xs → d ≡ get_or xs 0 d → AllOf IsReady (map (held see) xs)
+    pub slots_more : (xs : List (Disk P)) (d : Disk P) → 1 ≤ length xs → d ≡ get_or xs 0 d → AllOf HasSlot (map (held see) xs)
         → ((slot : ℕ) → has m slot ≡ is_good_slot slot (map (held see) (take (length xs - 1) (drop 1 xs))))
         → d.good ≡ true → (slot : ℕ) → has (bit_or m (1 * 2 ^ d.slot % 4294967296)) slot ≡ is_good_slot slot (map (held see) xs)
-    slots_more [] d some is ready rest good slot = absurd (omega (arith, some))
-    slots_more (x ∷ xs) d some is ready rest good slot =
+    slots_more [] d some is slots rest good slot = absurd (omega (arith, some))
+    slots_more (x ∷ xs) d some is slots rest good slot =
         let number : d.slot ≡ x.slot = ap (λ (e : Disk P). e.slot) is in
         let is_good : x.good ≡ true = sym (ap (λ (e : Disk P). e.good) is) ∙ good in
-        ap (λ n. has (bit_or m (1 * 2 ^ n % 4294967296)) slot) number ∙ with_slot m x.slot slot ready.0.slot ∙ ap (λ b. (x.slot == slot) || b) (behind x xs rest slot)
+        ap (λ n. has (bit_or m (1 * 2 ^ n % 4294967296)) slot) number ∙ with_slot m x.slot slot slots.0 ∙ ap (λ b. (x.slot == slot) || b) (behind x xs rest slot)
         ∙ ap (λ b. (b && (x.slot == slot)) || is_good_slot slot (map (held see) xs)) (sym is_good)
 
     pub slots_same : (xs : List (Disk P)) (d : Disk P) → 1 ≤ length xs → d ≡ get_or xs 0 d
@@ -57,6 +57,11 @@ module _ {P : Type 0} (see : P → Seen) where
     slots_same (x ∷ xs) d some is rest good slot =
         let is_bad : x.good ≡ false = sym (ap (λ (e : Disk P). e.good) is) ∙ good in
         behind x xs rest slot ∙ ap (λ b. (b && (x.slot == slot)) || is_good_slot slot (map (held see) xs)) (sym is_bad)
+
+-- disks that are ready have slots of a mask
+pub ready_slots : (hs : List Held) → AllOf IsReady hs → AllOf HasSlot hs
+ready_slots [] all = tt
+ready_slots (h ∷ hs) all = (all.0.slot, ready_slots hs all.1)
 
 -- a good disk's slot is a good slot
 pub good_named : (m : ℕ) (hs : List Held) → ((slot : ℕ) → has m slot ≡ is_good_slot slot hs) → AllOf (λ h. h.good ≡ true → has m h.slot ≡ true) hs

@@ -123,6 +123,7 @@ impl<P: Piece> Group<P> {
         requires alive { IsJoined P.seen joined self.old }
         requires low { self.old.sequence < 2 ^ 64 - 64 }
         requires carriers { carriers ≤ length self.old.disks.items }
+        ensures group { IsGroup P.seen self.new }
         ensures written { IsWritten P.seen result carriers (text_of text) self.old self.new }
         ensures sound { (others : List Copy) → IsSound self.old.name others self.old.sequence carriers (members P.seen self.old) → IsSound self.old.name others self.new.sequence carriers (members P.seen self.new) }
         ensures all { OnOk result ((others : List Copy) → IsSound self.old.name others self.old.sequence carriers (members P.seen self.old) → IsSound self.old.name others self.new.sequence (length self.old.disks.items) (members P.seen self.new)) }
@@ -144,6 +145,7 @@ impl<P: Piece> Group<P> {
         requires alive { IsAlive P.seen self.old }
         requires low { self.old.sequence < 2 ^ 64 - 64 }
         requires carriers { carriers ≤ length self.old.disks.items }
+        ensures group { IsGroup P.seen self.new }
         ensures written { IsWritten P.seen result carriers (text_of text) self.old self.new }
         ensures sound { (others : List Copy) → IsSound self.old.name others self.old.sequence carriers (members P.seen self.old) → IsSound self.old.name others self.new.sequence carriers (members P.seen self.new) }
         ensures all { OnOk result ((others : List Copy) → IsSound self.old.name others self.old.sequence carriers (members P.seen self.old) → IsSound self.old.name others self.new.sequence (length self.old.disks.items) (members P.seen self.new)) }

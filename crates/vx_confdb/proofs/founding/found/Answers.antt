@@ -12,7 +12,7 @@ use Rattle.vx_confdb.proofs.founding.found.Goals as goal
 pub returns-in-Cut-clause-gives : goal.returns-in-Cut-clause-gives
 returns-in-Cut-clause-gives g c =
     let ends : AllPrepared Cut c.args.name (map (held g.P.Piece.seen) c.join_all.new.disks.items) = rw c.in-Cut.is at c.join_all.ensures.joined.ends in
-    (record { joins = all_prepare _ _ c.join_all.ensures.joined.prepares; none_or_text = none_still c.args.name (text_of c.args.text) _ (none_all c.args.name _ _ c.join_all.ensures.joined.prepares c.requires.none) }, ends)
+    (record { joins = all_prepare c.args.name (text_of c.args.text) _ _ c.join_all.ensures.joined.prepares; none_or_text = none_still c.args.name (text_of c.args.text) _ (none_all c.args.name _ _ c.join_all.ensures.joined.prepares c.requires.none) }, ends)
 
 pub write_all-requires-clause-ready : goal.write_all-requires-clause-ready
 write_all-requires-clause-ready g c κs within =
@@ -26,7 +26,7 @@ returns-in-Ok-clause-gives g c =
     let none = none_all c.args.name _ _ c.join_all.ensures.joined.prepares c.requires.none in
     let below = none_below c.args.name 0 _ none in
     let begun : IsBegun c.args.name (text_of c.args.text) (map (held g.P.Piece.seen) c.args.disks.items) (map (held g.P.Piece.seen) c.write_all.new.disks.items) = record {
-      joins = all_join 1 c.write_all.new.sequence (text_of c.args.text) _ _ _ c.join_all.ensures.joined.prepares carried.goes;
+      joins = all_join c.args.name 1 c.write_all.new.sequence (text_of c.args.text) _ _ _ c.join_all.ensures.joined.prepares prepared carried.goes;
       none_or_text = none_or_text c.args.name 1 c.write_all.new.sequence (text_of c.args.text) _ _ none (carried.old_or_new c.args.name below);
     } in
     rw c.of.ensures (record {
@@ -52,7 +52,7 @@ returns-in-Ok-clause-sound g c = λ others none_else tells.
     let prepared : AllPrepared Done c.args.name (map (held g.P.Piece.seen) c.join_all.new.disks.items) = rw c.in-Done.is at c.join_all.ensures.joined.ends in
     let none = none_all c.args.name _ _ c.join_all.ensures.joined.prepares c.requires.none in
     let below = none_below c.args.name 0 _ none in
-    let sound = carried.all c.args.name others (sound_none c.args.name others 0 c.len-carriers.result _ none_else none (tell_all _ _ c.join_all.ensures.joined.prepares tells) (prepared_headed c.args.name _ prepared)) in
+    let sound = carried.all c.args.name others (sound_none c.args.name others 0 c.len-carriers.result _ none_else none (tell_all c.args.name _ _ c.join_all.ensures.joined.prepares tells) (prepared_headed c.args.name _ prepared)) in
     let long : length (map (held g.P.Piece.seen) c.join_all.new.disks.items) ≡ length c.args.disks.items = length-map c.join_all.new.disks.items (held g.P.Piece.seen) ∙ c.join_all.ensures.long in
     rw c.of.ensures (rw long at sound)
 
@@ -63,7 +63,7 @@ returns-in-Err-clause-gives g c =
     let none = none_all c.args.name _ _ c.join_all.ensures.joined.prepares c.requires.none in
     let below = none_below c.args.name 0 _ none in
     let begun : IsBegun c.args.name (text_of c.args.text) (map (held g.P.Piece.seen) c.args.disks.items) (map (held g.P.Piece.seen) c.write_all.new.disks.items) = record {
-      joins = all_join 1 c.write_all.new.sequence (text_of c.args.text) _ _ _ c.join_all.ensures.joined.prepares carried.goes;
+      joins = all_join c.args.name 1 c.write_all.new.sequence (text_of c.args.text) _ _ _ c.join_all.ensures.joined.prepares prepared carried.goes;
       none_or_text = none_or_text c.args.name 1 c.write_all.new.sequence (text_of c.args.text) _ _ none (carried.old_or_new c.args.name below);
     } in
     let few : length (map (held g.P.Piece.seen) c.join_all.new.disks.items) ≤ c.len-carriers.result = omega (arith, length-map c.join_all.new.disks.items (held g.P.Piece.seen), c.join_all.new.disks.ok.0, c.len-carriers.ensures) in

@@ -4,6 +4,7 @@ use Rattle.vx_base.specs.Blocks.{Contents}
 use Rattle.vx_base.specs.Counts.{Rose}
 use Rattle.vx_base.specs.Named.{Word}
 use Rattle.vx_header.specs.Named.{header_of}
+use Rattle.vx_mask.specs.Mask.{only, union}
 use Rattle.vx_piece.specs.Seen.{Seen, Keeps}
 use Rattle.vx_copies.specs.Image.{Offer, toggle_at, half_start, offer_of, offer_told, names_group, text_in}
 use Rattle.vx_copies.specs.declared.disk.Disk.{Disk}
@@ -33,6 +34,11 @@ good_count (h ∷ hs) = (if h.good then 1 else 0) + good_count hs
 abbrev pub is_good_slot : ℕ → List Held → Bool
 is_good_slot slot [] = false
 is_good_slot slot (h ∷ hs) = (h.good && h.slot == slot) || is_good_slot slot hs
+
+-- the slots of the good disks, as a mask
+abbrev pub good_mask : List Held → ℕ
+good_mask [] = 0
+good_mask (h ∷ hs) = if h.good then union (good_mask hs) (only h.slot) else good_mask hs
 
 -- the toggle names this half, where there is one
 abbrev pub NamesHalf : ℕ → Option Contents → Type 0

@@ -13,7 +13,7 @@ use Rattle.vx_copies.specs.Disks.{Held, held, Drops, Goes, Offers, IsReady, IsBe
 use Rattle.vx_copies.specs.Config.{configuration, GivesOldOrNew}
 use Rattle.vx_copies.specs.Chain.{Copy, copy_of, IsGoodMember, IsSound}
 use Rattle.vx_copies.proofs.Going.{keeps_trans, drops_trans, rest_trans, each_map}
-use Rattle.vx_confdb.specs.Prepare.{Says, label_in, Begins, Prepares, IsPrepared, IsBlank, IsHeaded, OffersNone, Tells}
+use Rattle.vx_confdb.specs.Prepare.{Says, label_in, Begins, Prepares, IsPrepared, IsBlank, OffersNone, Tells}
 use Rattle.vx_confdb.specs.Groups.{IsMemberOf}
 use Rattle.vx_copies.specs.Commit.{CommitEnds, HasRisen}
 use Rattle.vx_copies.specs.declared.disk.Disk.{Disk}

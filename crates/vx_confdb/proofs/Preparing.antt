@@ -1,5 +1,5 @@
 -- What the writing of a first toggle and of a header does to what a device offers.
-use Rattle.std.proofs.Common.{◌≡◌, ◌⊎◌, ℕ, zero, suc, ◌-◌, ◌<◌, ◌≤◌, Bool, true, false, List, [], ◌∷◌, length, map, drop, set, get_or, Option, Some, None, Result, Ok, Err, refl, sym, ap, ◌∙◌, subst, arith, inl, inr}
+use Rattle.std.proofs.Common.{◌≡◌, ◌⊎◌, ℕ, zero, suc, ◌-◌, ◌*◌, ◌<◌, Bool, true, false, List, [], ◌∷◌, length, map, take, drop, set, get_or, Option, Some, None, Result, Ok, Err, refl, sym, ap, ◌∙◌, subst, arith, inl, inr}
 use Rattle.std.specs.Prelude.{MatchOption}
 use Rattle.std.proofs.lemmas.Bool.{cases_order}
 use Rattle.std.proofs.lemmas.List.{take_all}
@@ -15,6 +15,7 @@ use Rattle.vx_copies.specs.Lists.{AllOf}
 use Rattle.vx_copies.specs.Disks.{Held, held, NamesHalf, RestStays}
 use Rattle.vx_copies.specs.declared.disk.Disk.{Disk}
 use Rattle.vx_copies.specs.Image.{toggle_at, offer_by, offer_of, offer_if, names_group, offer_in}
+use Rattle.vx_copies.proofs.InGroup.{told_none}
 use Rattle.vx_copies.proofs.Halves.{torn_out, written_torn}
 use Rattle.vx_copies.proofs.Going.{keeps_trans, keeps_refl, drops_trans, drops_refl, rest_refl, rest_trans}
 use Rattle.vx_confdb.specs.Prepare.{IsFresh, IsBlank, Says, Begins, Prepares, AreJoined, label_in}
@@ -121,6 +122,17 @@ module _ (sector : List ℕ) (size : length sector ≡ 512) where
 pub blank_names : (half : ℕ) (told : Option Contents) → IsBlank told → NamesHalf half told
 blank_names half None blank = tt
 blank_names half (Some c) blank = subst (λ t. MatchOption t (Unit {0}) (λ x. x.half ≡ half)) (sym (zero_toggle c blank)) tt
+
+-- a device in memory whose first sector is no header offers nothing
+abbrev header_told : Option Contents → Option Label
+header_told None = None
+header_told (Some c) = header_of (c 0)
+
+pub bare_offers : (group : Word) (bytes items : List ℕ) → Some (block_at items) ≡ Some (block_at bytes) → header_of (take 512 bytes) ≡ None → offer_in group (block_at items) ≡ None
+bare_offers group bytes items same none =
+    let front : 512 * 0 ≡ 0 = omega arith in
+    let is : header_of (block_at items 0) ≡ None = ap header_told same ∙ ap (λ n. header_of (take 512 (drop n bytes))) front ∙ none in
+    told_none group (Some (block_at items)) is
 
 -- one write after the other
 begins_trans : (label : Label) (a b c : Option Contents) → Begins label a b → Begins label b c → Begins label a c

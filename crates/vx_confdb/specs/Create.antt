@@ -1,5 +1,5 @@
 -- What the making of a group leaves.
-use Rattle.std.specs.Prelude.{◌≡◌, ◌⊎◌, ℕ, ◌<◌, Bool, List, length, map, Option, Some, None, Result, Ok, Err, MatchOption}
+use Rattle.std.specs.Prelude.{◌≡◌, ◌⊎◌, ℕ, ◌<◌, ◌≤◌, Bool, List, length, map, Option, Some, None, Result, Ok, Err, MatchOption}
 use Rattle.vx_base.specs.Blocks.{Contents}
 use Rattle.vx_base.specs.Named.{Word}
 use Rattle.vx_sector.specs.Fields.{zeros}
@@ -57,6 +57,7 @@ RefusedBy see fault.PowerLost name text old new = IsBegun name text (map (held s
 
 pub record IsFounded {P : Type 0} (see : P → Seen) (name : Word) (text : List ℕ) (old : List (Disk P)) (g : Group P) : Type 0 where
   pub name_is : g.name ≡ name
+  pub few : g.sequence ≤ 32
   pub begun : IsBegun name text (map (held see) old) (members see g)
   pub carries : CarriesText see 1 text g
 

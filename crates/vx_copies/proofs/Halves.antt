@@ -86,8 +86,7 @@ module _ (half : ℕ) (text padded : List ℕ) (c d : Contents) (is_half : half 
   pub half_stays : NamesHalf half (Some c) → IsTorn (half_start (1 - half)) padded c d → StaysTold (Some c) (Some d)
   half_stays names torn =
       let out = torn_out (half_start (1 - half)) padded c d torn in
-      let one = out 1 (inl (omega arith)) in
-      (
+      let one = out 1 (inl (omega arith)) in (
         out 0 (inl (omega arith)),
         same_offer half c d names one (λ k le lt. out k (elim (halves half is_half) [ inl h ↦ inl (omega (arith, h, le, lt)) | inr h ↦ inr (omega (arith, h, le, lt, few)) ])),
         λ k le. out k (inr (omega (arith, is_half, le, few))),

@@ -25,8 +25,8 @@ pub record IsSame {P : Type 0} (old new : Group P) : Type 0 where
   pub text : new.text ≡ old.text
   pub lost : new.lost ≡ old.lost
 
--- The disk is the last of the group, and the others go on as in a commit. Whichever disks can be read, they give what they gave before, or the text, and the
--- copies stay chained.
+-- The disk is the last of the group, and the others go on as in a commit. Whichever disks can be read, they give what they
+-- gave before, or the text, and the copies stay chained.
 pub record IsTaken {P : Type 0} (see : P → Seen) (text : List ℕ) (disk : Disk P) (old new : Group P) : Type 0 where
   pub name : new.name ≡ old.name
   pub goes : Each (Goes (old.sequence + 1) new.sequence text) (members see old) (take (length old.disks.items) (members see new))

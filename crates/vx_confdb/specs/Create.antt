@@ -22,8 +22,8 @@ use Rattle.vx_confdb.specs.declared.group.Group.{Group}
 abbrev pub OffersText : List ℕ → Contents → Type 0
 OffersText text contents = MatchOption (offer_of contents) ⊥ (λ o. o.text ≡ text)
 
--- The private region is as before, but that the toggle may be zero; or the header says the label, and the toggle is zero
--- or the text is offered. What is behind the halves stays.
+-- The private region is as before; or its header stays and its toggle is zero; or its header says the label, and its toggle
+-- is zero or it offers the text. What is behind the halves stays.
 abbrev pub Enters : Label → List ℕ → Option Contents → Option Contents → Type 0
 Enters label text None None = Unit {0}
 Enters label text None (Some new) = ⊥

@@ -1,16 +1,15 @@
 -- A disk that offers nothing stands behind the others.
-use Rattle.std.proofs.Common.{◌≡◌, ◌⊎◌, ℕ, ◌+◌, ◌≤◌, Bool, cond, List, [], ◌∷◌, ◌++◌, length, map, take, Option, Some, None, Result, Ok, Err, refl, sym, ap, ◌∙◌, subst, inl, inr}
+use Rattle.std.proofs.Common.{◌≡◌, ◌⊎◌, ℕ, zero, suc, ◌+◌, ◌≤◌, Bool, cond, List, [], ◌∷◌, ◌++◌, length, map, take, drop, Option, Some, None, Result, Ok, Err, refl, sym, ap, ◌∙◌, subst, inl, inr}
 use Rattle.std.specs.Prelude.{MatchOption}
 use Rattle.std.proofs.lemmas.List.{length-append, length-map}
 use Rattle.vx_base.specs.Named.{Word}
 use Rattle.vx_piece.specs.Seen.{Seen}
 use Rattle.vx_copies.specs.Lists.{Each, AllOf, AnyOf}
 use Rattle.vx_copies.specs.Image.{Offer, offer_told, higher}
-use Rattle.vx_copies.specs.Disks.{Held, held, Goes, IsReady, IsBelow, IsCut}
+use Rattle.vx_copies.specs.Disks.{Held, held, HasSlot, Goes, IsReady, IsBelow, IsCut}
 use Rattle.vx_copies.specs.Config.{configuration, GivesOldOrNew}
 use Rattle.vx_copies.specs.Chain.{Copy, copy_of, AllUpTo, NamesNewer, IsChained, NamesGood, IsGoodMember, IsSound}
 use Rattle.vx_copies.specs.declared.disk.Disk.{Disk}
-use Rattle.vx_copies.proofs.Going.{keeps_refl, drops_refl, each_refl, each_trans, each_map}
 use Rattle.vx_copies.specs.Commit.{HasRisen}
 use Rattle.vx_confdb.specs.Add.{IsTaken, IsJoined, AddGives}
 use Rattle.vx_confdb.specs.Create.{Joins}
@@ -21,8 +20,8 @@ use Rattle.vx_confdb.specs.declared.fault.GroupFault.TheVariants as fault
 use Rattle.vx_confdb.specs.declared.group.Group.{Group}
 use Rattle.vx_confdb.specs.declared.joining.Prepared.{Prepared}
 use Rattle.vx_confdb.specs.declared.joining.Prepared.TheVariants.{Done, Cut}
-use Rattle.vx_confdb.proofs.Grouped.{same_length}
-use Rattle.vx_confdb.proofs.Begun.{prepares_joins, goes_joins, joins_trans, none_if, none_below, tells_still, member_one}
+use Rattle.vx_confdb.proofs.Grouped.{same_length, ready_slots}
+use Rattle.vx_confdb.proofs.Begun.{prepares_joins, written_joins, none_if, none_below, tells_still, member_one}
 
 pub all_last : {X : Type 0} (Q : X → Type 0) (xs : List X) (x : X) → AllOf Q xs → Q x → AllOf Q (xs ++ x ∷ [])
 all_last Q [] x all is = (is, tt)
@@ -57,13 +56,44 @@ pub same_configuration : (group : Word) (readable : ℕ → Bool) (hs : List Hel
 same_configuration group readable [] h none = ap (λ o. higher o None) (none_if (readable h.slot) (offer_told group h.seen.told) none)
 same_configuration group readable (a ∷ hs) h none = ap (higher (cond (readable a.slot) (offer_told group a.seen.told) None)) (same_configuration group readable hs h none)
 
--- joining
-joins_refl : (a : Held) → Joins a a
-joins_refl a = record { slot = refl; name = refl; size = refl; kept = keeps_refl a.seen; good = drops_refl a.good a.seen }
+-- the disks that were there, and the one that joined
+take_each : {X : Type 0} (R : X → X → Type 0) (n : ℕ) (xs ys : List X) → Each R xs ys → Each R (take n xs) (take n ys)
+take_each R zero xs ys is = tt
+take_each R (suc n) [] [] is = tt
+take_each R (suc n) [] (y ∷ ys) is = absurd is
+take_each R (suc n) (x ∷ xs) [] is = absurd is
+take_each R (suc n) (x ∷ xs) (y ∷ ys) is = (is.0, take_each R n xs ys is.1)
 
-pub joins_last : (f l : ℕ) (text : List ℕ) (hs new : List Held) (h h' : Held) → Prepares h h' → Each (Goes f l text) (hs ++ h' ∷ []) new → Each Joins (hs ++ h ∷ []) new
-joins_last f l text hs new h h' prepares goes =
-    each_trans Joins joins_trans (hs ++ h ∷ []) (hs ++ h' ∷ []) new (each_last Joins hs hs h h' (each_refl Joins joins_refl hs) (prepares_joins h h' prepares)) (each_map (Goes f l text) Joins (goes_joins f l text) (hs ++ h' ∷ []) new goes)
+drop_each : {X : Type 0} (R : X → X → Type 0) (n : ℕ) (xs ys : List X) → Each R xs ys → Each R (drop n xs) (drop n ys)
+drop_each R zero xs ys is = is
+drop_each R (suc n) [] [] is = tt
+drop_each R (suc n) [] (y ∷ ys) is = absurd is
+drop_each R (suc n) (x ∷ xs) [] is = absurd is
+drop_each R (suc n) (x ∷ xs) (y ∷ ys) is = drop_each R n xs ys is.1
+
+drop_first : {X : Type 0} (xs ys : List X) → drop (length xs) (xs ++ ys) ≡ ys
+drop_first [] ys = refl
+drop_first (x ∷ xs) ys = drop_first xs ys
+
+pub old_go : (n f l : ℕ) (text : List ℕ) (hs ms new : List Held) (h : Held) → n ≡ length hs → ms ≡ hs ++ h ∷ [] → Each (Goes f l text) ms new → Each (Goes f l text) hs (take n new)
+old_go n f l text hs ms new h long is goes = subst (λ xs. Each (Goes f l text) xs (take n new)) (ap (take n) is ∙ first_of n hs (h ∷ []) long) (take_each (Goes f l text) n ms new goes)
+
+-- the new disk, as it was written or not
+last_goes : (R : Held → Held → Type 0) (n : ℕ) (hs ms new : List Held) (h : Held) → n ≡ length hs → ms ≡ hs ++ h ∷ [] → Each R ms new → Each R (h ∷ []) (drop n new)
+last_goes R n hs ms new h long is goes = subst (λ xs. Each R xs (drop n new)) (ap (drop n) is ∙ ap (λ k. drop k (hs ++ h ∷ [])) long ∙ drop_first hs (h ∷ [])) (drop_each R n ms new goes)
+
+pub new_joins : (r : Prepared) (group : Word) (n f l : ℕ) (text : List ℕ) (hs ms new : List Held) (h h' : Held) → n ≡ length hs → ms ≡ hs ++ h' ∷ [] → Prepares group h h' → PrepareEnds r group h' → (r ≡ Cut → new ≡ ms)
+    → Each (Goes f l text) ms new → Each (Joins group text) (h ∷ []) (drop n new)
+new_joins Done group n f l text hs ms new h h' long is prepares ends stays goes =
+    by (drop n new) (last_goes (Goes f l text) n hs ms new h' long is goes)
+  where
+    by : (xs : List Held) → Each (Goes f l text) (h' ∷ []) xs → Each (Joins group text) (h ∷ []) xs
+    by [] all = absurd all
+    by (x ∷ []) all = (written_joins group f l text h h' x prepares ends all.0, tt)
+    by (x ∷ (y ∷ ys)) all = absurd all.1
+new_joins Cut group n f l text hs ms new h h' long is prepares ends stays goes =
+    let same : drop n new ≡ h' ∷ [] = ap (drop n) (stays refl ∙ is) ∙ ap (λ k. drop k (hs ++ h' ∷ [])) long ∙ drop_first hs (h' ∷ []) in
+    subst (Each (Joins group text) (h ∷ [])) (sym same) (prepares_joins group text h h' prepares, tt)
 
 -- the chain with a copy more that offers nothing
 module _ (x : Copy) (none : x.offer ≡ None) where
@@ -132,48 +162,53 @@ sound_with group os last n hs h long none member sound =
 
 -- one disk more has joined
 pub joined_is : {P : Type 0} (see : P → Seen) (r : Prepared) (mid : Group P) (hs : List Held) (h : Held) → members see mid ≡ hs ++ h ∷ [] → length mid.disks.items ≤ 32
-    → AllOf IsReady hs → AllOf (IsMemberOf mid.name) hs → AllOf (IsBelow mid.name mid.sequence) hs → OffersNone mid.name h → PrepareEnds r mid.name h → IsJoined see r mid
-joined_is see Done mid hs h is few ready headed below none ends = record {
+    → AllOf IsReady hs → AllOf (IsMemberOf mid.name) hs → AllOf (IsBelow mid.name mid.sequence) hs → OffersNone mid.name h → HasSlot h → PrepareEnds r mid.name h → IsJoined see r mid
+joined_is see Done mid hs h is few ready headed below none slot ends = record {
   ready = subst (AllOf IsReady) (sym is) (all_last IsReady hs h ready ends.ready);
   headed = subst (AllOf (IsMemberOf mid.name)) (sym is) (all_last (IsMemberOf mid.name) hs h headed ends.headed);
   below = subst (AllOf (IsBelow mid.name mid.sequence)) (sym is) (all_last (IsBelow mid.name mid.sequence) hs h below (none_below mid.name mid.sequence (h ∷ []) (none, tt)).0);
   few = few;
 }
-joined_is see Cut mid hs h is few ready headed below none ends = (
+joined_is see Cut mid hs h is few ready headed below none slot ends = (
+  subst (AllOf HasSlot) (sym is) (all_last HasSlot hs h (ready_slots hs ready) slot),
   subst (AllOf (IsBelow mid.name mid.sequence)) (sym is) (all_last (IsBelow mid.name mid.sequence) hs h below (none_below mid.name mid.sequence (h ∷ []) (none, tt)).0),
   subst (AnyOf IsCut) (sym is) (any_last IsCut hs h ends),
 )
 
 -- the disk as it joined
-pub member_by : (group : Word) (h h' : Held) → Prepares h h' → Tells h → IsPrepared group h' → IsGoodMember group h'
-member_by group h h' prepares tells prepared = λ good. member_one group (label_in group h') h'.seen.told refl (tells_still h.seen.told h'.seen.told prepares.told tells) (prepared.headed good)
+pub member_by : (group : Word) (h h' : Held) → Prepares group h h' → Tells h → IsPrepared group h' → IsGoodMember group h'
+member_by group h h' prepares tells prepared = λ good. member_one group (label_in group h') h'.seen.told refl (tells_still (label_in group h) h.seen.told h'.seen.told prepares.told tells) (prepared.headed good)
 
-pub chain_by : (r : Prepared) (group : Word) (os : List Copy) (last later n : ℕ) (hs ms new : List Held) (h h' : Held) → ms ≡ hs ++ h' ∷ [] → n ≡ length hs → Prepares h h' → OffersNone group h' → PrepareEnds r group h'
+pub chain_by : (r : Prepared) (group : Word) (os : List Copy) (last later n : ℕ) (hs ms new : List Held) (h h' : Held) → ms ≡ hs ++ h' ∷ [] → n ≡ length hs → Prepares group h h' → OffersNone group h' → PrepareEnds r group h'
     → (r ≡ Cut → new ≡ ms) → (IsSound group os last n ms → IsSound group os later n new) → Tells h → IsSound group os last n hs → IsChained (os ++ map (copy_of group) new)
 chain_by Done group os last later n hs ms new h h' is long prepares none ends stays goes tells sound =
     (goes (subst (IsSound group os last n) (sym is) (sound_with group os last n hs h' long none (member_by group h h' prepares tells ends) sound))).chained
 chain_by Cut group os last later n hs ms new h h' is long prepares none ends stays goes tells sound =
     subst (λ xs. IsChained (os ++ map (copy_of group) xs)) (sym (stays refl ∙ is)) (chain_with group os last n hs h' none sound)
 
-pub whole_by : (r : Prepared) (group : Word) (os : List Copy) (last later n k : ℕ) (hs ms new : List Held) (h h' : Held) → ms ≡ hs ++ h' ∷ [] → n ≡ length hs → Prepares h h' → OffersNone group h' → PrepareEnds r group h'
+pub whole_by : (r : Prepared) (group : Word) (os : List Copy) (last later n k : ℕ) (hs ms new : List Held) (h h' : Held) → ms ≡ hs ++ h' ∷ [] → n ≡ length hs → Prepares group h h' → OffersNone group h' → PrepareEnds r group h'
     → (r ≡ Cut → ⊥) → (IsSound group os last n ms → IsSound group os later k new) → Tells h → IsSound group os last n hs → IsSound group os later k new
 whole_by Done group os last later n k hs ms new h h' is long prepares none ends not goes tells sound =
     goes (subst (IsSound group os last n) (sym is) (sound_with group os last n hs h' long none (member_by group h h' prepares tells ends) sound))
 whole_by Cut group os last later n k hs ms new h h' is long prepares none ends not goes tells sound = absurd (not refl)
 
-pub taken_is : {P : Type 0} (see : P → Seen) (text : List ℕ) (disk d : Disk P) (old new : Group P) (ms : List Held) → ms ≡ members see old ++ held see d ∷ [] → Prepares (held see disk) (held see d) → OffersNone old.name (held see d)
+pub taken_is : {P : Type 0} (see : P → Seen) (r : Prepared) (text : List ℕ) (disk d : Disk P) (old new : Group P) (ms : List Held) → ms ≡ members see old ++ held see d ∷ [] → Prepares old.name (held see disk) (held see d) → OffersNone old.name (held see d)
+    → PrepareEnds r old.name (held see d) → (r ≡ Cut → members see new ≡ ms)
     → new.name ≡ old.name → Each (Goes (old.sequence + 1) new.sequence text) ms (members see new) → GivesOldOrNew old.name (old.sequence + 1) new.sequence text ms (members see new) → new.sequence ≤ old.sequence + 32
     → ((os : List Copy) → Tells (held see disk) → IsSound old.name os old.sequence (length old.disks.items) (members see old) → IsChained (os ++ map (copy_of old.name) (members see new))) → IsTaken see text disk old new
-taken_is see text disk d old new ms is prepares none name goes gives few chain = record {
-  name = name;
-  joins = joins_last (old.sequence + 1) new.sequence text (members see old) (members see new) (held see disk) (held see d) prepares (subst (λ xs. Each (Goes (old.sequence + 1) new.sequence text) xs (members see new)) is goes);
-  old_or_new = λ readable. elim (gives readable) [
-    | inl same ↦ inl (same ∙ ap (configuration old.name readable) is ∙ same_configuration old.name readable (members see old) (held see d) none)
-    | inr new_is ↦ inr new_is
-  ];
-  few = few;
-  chained = chain;
-}
+taken_is see r text disk d old new ms is prepares none ends stays name goes gives few chain =
+    let long : length old.disks.items ≡ length (members see old) = sym (length-map old.disks.items (held see)) in
+    record {
+      name = name;
+      goes = old_go (length old.disks.items) (old.sequence + 1) new.sequence text (members see old) ms (members see new) (held see d) long is goes;
+      joins = new_joins r old.name (length old.disks.items) (old.sequence + 1) new.sequence text (members see old) ms (members see new) (held see disk) (held see d) long is prepares ends stays goes;
+      old_or_new = λ readable. elim (gives readable) [
+        | inl same ↦ inl (same ∙ ap (configuration old.name readable) is ∙ same_configuration old.name readable (members see old) (held see d) none)
+        | inr new_is ↦ inr new_is
+      ];
+      few = few;
+      chained = chain;
+    }
 
 pub lost_taken : {P : Type 0} (see : P → Seen) (f : GroupFault) (n : ℕ) (text : List ℕ) (disk d : Disk P) (old mid new : Group P) → members see mid ≡ members see old ++ held see d ∷ [] → n ≡ length (members see old) → n ≡ length old.disks.items
     → IsTaken see text disk old new → WrittenBy see (Err f) n text mid new → AddGives see (Err (f, None)) text disk old new
@@ -187,7 +222,7 @@ pub one_longer : {X : Type 0} (xs ys zs : List X) (x : X) → ys ≡ xs → zs �
 one_longer xs ys zs x e f = ap (λ ws. length ws) f ∙ length-append ys (x ∷ []) ∙ ap (λ ws. length ws + 1) e
 
 pub alive_by : {P : Type 0} (see : P → Seen) (g : Group P) → g.lost ≡ None → IsGroup see g → IsAlive see g
-alive_by see g e is = subst (λ l. MatchOption l (IsAlive see g) (λ x. Unit {0})) e is
+alive_by see g e is = subst (λ l. MatchOption l (IsAlive see g) (λ x. AllOf HasSlot (members see g))) e is
 
 pub ok_not_err : {T E : Type 0} (r : Result T E) (u : T) (e : E) → r ≡ Ok u → r ≡ Err e → ⊥
 ok_not_err (Ok v) u e is not = cc

@@ -1,20 +1,20 @@
 -- What a commit leaves of a group.
-use Rattle.std.proofs.Common.{◌≡◌, ℕ, suc, ◌≤◌, Bool, true, false, List, [], ◌∷◌, length, take, Option, Some, None, Result, Ok, Err, refl, sym, ap, ◌∙◌, subst, inl, inr}
-use Rattle.std.specs.Prelude.{IsTrue}
+use Rattle.std.proofs.Common.{◌≡◌, ℕ, suc, ◌<◌, ◌≤◌, Bool, true, false, List, [], ◌∷◌, length, take, Option, Some, None, Result, Ok, Err, refl, sym, ap, ◌∙◌, subst, inl, inr}
+use Rattle.std.specs.Prelude.{IsTrue, MatchOption}
 use Rattle.std.proofs.lemmas.List.{take_all}
 use Rattle.vx_base.specs.Blocks.{Contents}
 use Rattle.vx_base.specs.Named.{Word}
 use Rattle.vx_header.specs.Named.{header_of}
 use Rattle.vx_piece.specs.Seen.{Seen}
 use Rattle.vx_copies.specs.Lists.{Each, AllOf}
-use Rattle.vx_copies.specs.Disks.{Held, Drops, Goes, Offers}
+use Rattle.vx_copies.specs.Disks.{Held, HasSlot, IsReady, Drops, Goes, Offers}
 use Rattle.vx_copies.specs.Commit.{CommitEnds, HasRisen}
 use Rattle.vx_copies.specs.declared.writing.Lost.{Lost}
 use Rattle.vx_copies.specs.declared.writing.Lost.TheVariants as lost
 use Rattle.vx_confdb.specs.Faults.{fault_of}
 use Rattle.vx_header.specs.Named.{Label}
 use Rattle.vx_confdb.specs.Prepare.{Says, label_in}
-use Rattle.vx_confdb.specs.Groups.{members, IsMemberOf, WrittenBy, IsWritten, CommitGives}
+use Rattle.vx_confdb.specs.Groups.{members, IsAlive, IsGroup, IsMemberOf, WrittenBy, IsWritten, CommitGives}
 use Rattle.vx_confdb.specs.declared.fault.GroupFault.{GroupFault}
 use Rattle.vx_confdb.specs.declared.fault.GroupFault.TheVariants as fault
 use Rattle.vx_confdb.specs.declared.group.Group.{Group}
@@ -29,7 +29,7 @@ headed_told a b f l text None (Some d) same offers is = absurd offers
 headed_told a b f l text (Some c) None same offers is = absurd offers
 headed_told a b f l text (Some c) (Some d) same offers is = ap header_of offers.0 ∙ is ∙ ap Some (sym same)
 
-same_label : (group : Word) (a b : Held) → b.name ≡ a.name → b.slot ≡ a.slot → b.sectors ≡ a.sectors → label_in group b ≡ label_in group a
+pub same_label : (group : Word) (a b : Held) → b.name ≡ a.name → b.slot ≡ a.slot → b.sectors ≡ a.sectors → label_in group b ≡ label_in group a
 same_label group a b p q r = λ i. record { group = group; disk = p i; slot = q i; sectors = r i }
 
 -- headers stay
@@ -39,6 +39,33 @@ headed_stays group f l text [] (b ∷ bs) goes all = absurd goes
 headed_stays group f l text (a ∷ hs) [] goes all = absurd goes
 headed_stays group f l text (a ∷ hs) (b ∷ bs) goes all =
     (λ good. headed_told (label_in group a) (label_in group b) f l text a.seen.told b.seen.told (same_label group a b goes.0.name goes.0.slot goes.0.size) goes.0.offers (all.0 (was_good a.good b.good a.seen b.seen goes.0.good good)), headed_stays group f l text hs bs goes.1 all.1)
+
+-- slots stay
+pub slots_stay : (f l : ℕ) (text : List ℕ) (hs bs : List Held) → Each (Goes f l text) hs bs → AllOf HasSlot hs → AllOf HasSlot bs
+slots_stay f l text [] [] goes all = tt
+slots_stay f l text [] (b ∷ bs) goes all = absurd goes
+slots_stay f l text (a ∷ hs) [] goes all = absurd goes
+slots_stay f l text (a ∷ hs) (b ∷ bs) goes all = (subst (λ n. n < 32) (sym goes.0.slot) all.0, slots_stay f l text hs bs goes.1 all.1)
+
+pub ready_slots : (hs : List Held) → AllOf IsReady hs → AllOf HasSlot hs
+ready_slots [] all = tt
+ready_slots (h ∷ hs) all = (all.0.slot, ready_slots hs all.1)
+
+-- the slots of a group, lost or not
+pub group_slots : {P : Type 0} (see : P → Seen) (g : Group P) → IsGroup see g → AllOf HasSlot (members see g)
+group_slots see g is = by g.lost is
+  where
+    by : (l : Option Lost) → MatchOption l (IsAlive see g) (λ x. AllOf HasSlot (members see g)) → AllOf HasSlot (members see g)
+    by None alive = ready_slots (members see g) alive.ready
+    by (Some x) slots = slots
+
+-- a group that is lost
+pub lost_group : {P : Type 0} (see : P → Seen) (g : Group P) (l : Lost) → g.lost ≡ Some l → AllOf HasSlot (members see g) → IsGroup see g
+lost_group see g l is slots = subst (λ o. MatchOption o (IsAlive see g) (λ x. AllOf HasSlot (members see g))) (sym is) slots
+
+-- one whose good disks carry a text
+pub alive_group : {P : Type 0} (see : P → Seen) (g : Group P) → g.lost ≡ None → IsAlive see g → IsGroup see g
+alive_group see g is alive = subst (λ o. MatchOption o (IsAlive see g) (λ x. AllOf HasSlot (members see g))) (sym is) alive
 
 -- the answer of a lost commit
 pub lost_by : {P : Type 0} (see : P → Seen) (r : Result (Unit {0}) Lost) (l : Lost) (carriers n : ℕ) (text : List ℕ) (old new : Group P) → r ≡ Err l → new.lost ≡ Some l → CommitEnds r carriers n text (members see old) (members see new) → WrittenBy see (Err (fault_of l)) carriers text old new

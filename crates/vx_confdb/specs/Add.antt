@@ -1,8 +1,8 @@
 -- What the taking of a disk into a group leaves.
-use Rattle.std.specs.Prelude.{◌≡◌, ◌⊎◌, ℕ, ◌+◌, ◌<◌, ◌≤◌, List, [], ◌∷◌, ◌++◌, length, map, take, Option, Some, None, Result, Ok, Err}
+use Rattle.std.specs.Prelude.{◌≡◌, ◌⊎◌, ℕ, ◌+◌, ◌<◌, ◌≤◌, List, [], ◌∷◌, ◌++◌, length, map, take, drop, Option, Some, None, Result, Ok, Err}
 use Rattle.vx_piece.specs.Seen.{Seen}
 use Rattle.vx_copies.specs.Lists.{Each, AllOf, AnyOf}
-use Rattle.vx_copies.specs.Disks.{Held, held, IsCut, IsBelow}
+use Rattle.vx_copies.specs.Disks.{held, HasSlot, IsCut, IsBelow, Goes}
 use Rattle.vx_copies.specs.Config.{GivesOldOrNew}
 use Rattle.vx_copies.specs.Chain.{Copy, copy_of, IsChained, IsSound}
 use Rattle.vx_copies.specs.Commit.{HasRisen}
@@ -25,15 +25,12 @@ pub record IsSame {P : Type 0} (old new : Group P) : Type 0 where
   pub text : new.text ≡ old.text
   pub lost : new.lost ≡ old.lost
 
--- the disks with the new one behind them
-abbrev pub with_disk : {P : Type 0} → (P → Seen) → Group P → Disk P → List Held
-with_disk see g d = members see g ++ held see d ∷ []
-
--- The disk is the last of the group. Whichever disks can be read, they give what they gave before, or the text, and the
--- copies stay chained.
+-- The disk is the last of the group, and the others go on as in a commit. Whichever disks can be read, they give what they
+-- gave before, or the text, and the copies stay chained.
 pub record IsTaken {P : Type 0} (see : P → Seen) (text : List ℕ) (disk : Disk P) (old new : Group P) : Type 0 where
   pub name : new.name ≡ old.name
-  pub joins : Each Joins (with_disk see old disk) (members see new)
+  pub goes : Each (Goes (old.sequence + 1) new.sequence text) (members see old) (take (length old.disks.items) (members see new))
+  pub joins : Each (Joins old.name text) (held see disk ∷ []) (drop (length old.disks.items) (members see new))
   pub old_or_new : GivesOldOrNew old.name (old.sequence + 1) new.sequence text (members see old) (members see new)
   pub few : new.sequence ≤ old.sequence + 32
   pub chained : (others : List Copy) → Tells (held see disk) → IsSound old.name others old.sequence (length old.disks.items) (members see old) → IsChained (others ++ map (copy_of old.name) (members see new))
@@ -61,4 +58,4 @@ AddGives see (Err (fault.PowerLost, back)) text disk old new = ((old.lost ≡ So
 -- a new disk has joined, or a disk is cut; the others are those of a group
 abbrev pub IsJoined : {P : Type 0} → (P → Seen) → Prepared → Group P → Type 0
 IsJoined see Done g = IsAlive see g
-IsJoined see Cut g = AllOf (IsBelow g.name g.sequence) (members see g) × AnyOf IsCut (members see g)
+IsJoined see Cut g = AllOf HasSlot (members see g) × AllOf (IsBelow g.name g.sequence) (members see g) × AnyOf IsCut (members see g)

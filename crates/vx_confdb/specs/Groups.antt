@@ -3,7 +3,7 @@ use Rattle.std.specs.Prelude.{◌≡◌, ◌⊎◌, ℕ, ◌+◌, ◌<◌, ◌�
 use Rattle.vx_base.specs.Named.{Word}
 use Rattle.vx_piece.specs.Seen.{Seen}
 use Rattle.vx_copies.specs.Lists.{Each, AllOf, AnyOf}
-use Rattle.vx_copies.specs.Disks.{Held, held, IsCut, IsReady, IsBelow, Goes}
+use Rattle.vx_copies.specs.Disks.{Held, held, HasSlot, IsCut, IsReady, IsBelow, Goes}
 use Rattle.vx_copies.specs.Config.{GivesOldOrNew, GivesNew}
 use Rattle.vx_copies.specs.Commit.{AllOffer, HasRisen}
 use Rattle.vx_copies.specs.declared.writing.Lost.TheVariants as lost
@@ -28,9 +28,9 @@ pub record IsAlive {P : Type 0} (see : P → Seen) (g : Group P) : Type 0 where
   pub below : AllOf (IsBelow g.name g.sequence) (members see g)
   pub few : length g.disks.items ≤ 32
 
--- one whose last commit was not lost
+-- where no commit was lost, the next can be written; in any case the slots are those of a mask
 abbrev pub IsGroup : {P : Type 0} → (P → Seen) → Group P → Type 0
-IsGroup see g = MatchOption g.lost (IsAlive see g) (λ l. Unit {0})
+IsGroup see g = MatchOption g.lost (IsAlive see g) (λ l. AllOf HasSlot (members see g))
 
 -- what any commit does
 pub record IsCommitted {P : Type 0} (see : P → Seen) (text : List ℕ) (old new : Group P) : Type 0 where

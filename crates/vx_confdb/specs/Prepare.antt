@@ -6,8 +6,9 @@ use Rattle.vx_header.specs.Named.{Label, header_of}
 use Rattle.vx_header.specs.Sectors.{is_short_name}
 use Rattle.vx_piece.specs.Seen.{Seen, Keeps}
 use Rattle.vx_copies.specs.Lists.{Each, AllOf, AnyOf}
-use Rattle.vx_copies.specs.Image.{toggle_at, offer_in, offer_told}
-use Rattle.vx_copies.specs.Disks.{Held, IsCut, IsReady, Drops}
+use Rattle.vx_sector.specs.Fields.{zeros}
+use Rattle.vx_copies.specs.Image.{offer_told}
+use Rattle.vx_copies.specs.Disks.{Held, IsCut, IsReady, Drops, RestStays}
 use Rattle.vx_copies.specs.declared.disk.Disk.{Disk}
 use Rattle.vx_confdb.specs.declared.joining.Prepared.{Prepared}
 use Rattle.vx_confdb.specs.declared.joining.Prepared.TheVariants.{Done, Cut}
@@ -23,10 +24,10 @@ pub record IsFresh {P : Type 0} (see : P → Seen) (group : Word) (d : Disk P) :
   pub public : 2048 < d.sectors
   pub at_most : d.sectors ≤ 2 ^ 40
 
--- the toggle says nothing
+-- the sector of the toggle is zero
 abbrev pub IsBlank : Option Contents → Type 0
 IsBlank None = Unit {0}
-IsBlank (Some contents) = toggle_at contents ≡ None
+IsBlank (Some contents) = contents 1 ≡ zeros 512
 
 -- what the header of a member says
 abbrev pub label_in : Word → Held → Label
@@ -41,21 +42,23 @@ Says label (Some contents) = header_of (contents 0) ≡ Some label
 abbrev pub IsHeaded : Word → Held → Type 0
 IsHeaded group h = Says (label_in group h) h.seen.told
 
--- in each group the device offers what it did, or nothing
-abbrev pub OffersLess : Option Contents → Option Contents → Type 0
-OffersLess None None = Unit {0}
-OffersLess None (Some new) = ⊥
-OffersLess (Some old) None = ⊥
-OffersLess (Some old) (Some new) = (group : Word) → (offer_in group new ≡ offer_in group old) ⊎ (offer_in group new ≡ None)
+-- The private region is as before; or its toggle is zero, and its header the old one or the label's. What is behind the
+-- halves stays.
+abbrev pub Begins : Label → Option Contents → Option Contents → Type 0
+Begins label None None = Unit {0}
+Begins label None (Some new) = ⊥
+Begins label (Some old) None = ⊥
+Begins label (Some old) (Some new) =
+    ((new ≡ old) ⊎ ((new 0 ≡ old 0) × (new 1 ≡ zeros 512)) ⊎ ((header_of (new 0) ≡ Some label) × (new 1 ≡ zeros 512))) × RestStays old new
 
-pub record Prepares (old new : Held) : Type 0 where
+pub record Prepares (group : Word) (old new : Held) : Type 0 where
   pub slot : new.slot ≡ old.slot
   pub name : new.name ≡ old.name
   pub size : new.sectors ≡ old.sectors
   pub half : new.half ≡ old.half
   pub kept : Keeps old.seen new.seen
   pub good : Drops old.good new.good old.seen new.seen
-  pub told : OffersLess old.seen.told new.seen.told
+  pub told : Begins (label_in group old) old.seen.told new.seen.told
 
 -- ready for a commit, and a member without a configuration, where it is good
 pub record IsPrepared (group : Word) (h : Held) : Type 0 where
@@ -72,7 +75,7 @@ AllPrepared Done group hs = AllOf (IsPrepared group) hs
 AllPrepared Cut group hs = AnyOf IsCut hs
 
 pub record AreJoined (result : Prepared) (group : Word) (old new : List Held) : Type 0 where
-  pub prepares : Each Prepares old new
+  pub prepares : Each (Prepares group) old new
   pub ends : AllPrepared result group new
 
 -- the device offers nothing in the group

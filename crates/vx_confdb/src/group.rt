@@ -1,6 +1,7 @@
-ghost use Rattle.std.specs.Prelude.{◌≡◌, ◌+◌, ◌-◌, ◌<◌, ◌≤◌, ◌^◌, List, length, map, None, Some, Err, OnOk, IfSome, vec_len, vec_capacity, ◌++◌, ◌∷◌, []};
+ghost use Rattle.std.specs.Prelude.{◌≡◌, ◌+◌, ◌-◌, ◌<◌, ◌≤◌, ◌^◌, List, length, map, None, Some, Err, OnOk, IfSome, is_some, ℕ, vec_len, vec_capacity, ◌++◌, ◌∷◌, []};
 ghost use Rattle.vx_copies.specs.Lists.{Each};
-ghost use Rattle.vx_copies.specs.Disks.{held, Goes, good_count};
+ghost use Rattle.vx_mask.specs.Mask.{has};
+ghost use Rattle.vx_copies.specs.Disks.{held, Goes, good_count, is_good_slot, good_mask};
 ghost use Rattle.vx_copies.specs.Config.{GivesOldOrNew};
 ghost use Rattle.vx_copies.specs.Chain.{Copy, IsSound};
 ghost use Rattle.vx_confdb.specs.Faults.{fault_of};
@@ -14,7 +15,7 @@ use crate::joining::{Prepared, join_one};
 use crate::text::Text;
 use crate::writing::write_all;
 use std::alloc::Global;
-use vx_copies::{Disk, Lost};
+use vx_copies::{Disk, Lost, good_slots};
 use vx_header::MOST_TEXT;
 use vx_names::Name;
 use vx_piece::Piece;
@@ -123,6 +124,7 @@ impl<P: Piece> Group<P> {
         requires alive { IsJoined P.seen joined self.old }
         requires low { self.old.sequence < 2 ^ 64 - 64 }
         requires carriers { carriers ≤ length self.old.disks.items }
+        ensures group { IsGroup P.seen self.new }
         ensures written { IsWritten P.seen result carriers (text_of text) self.old self.new }
         ensures sound { (others : List Copy) → IsSound self.old.name others self.old.sequence carriers (members P.seen self.old) → IsSound self.old.name others self.new.sequence carriers (members P.seen self.new) }
         ensures all { OnOk result ((others : List Copy) → IsSound self.old.name others self.old.sequence carriers (members P.seen self.old) → IsSound self.old.name others self.new.sequence (length self.old.disks.items) (members P.seen self.new)) }
@@ -144,6 +146,7 @@ impl<P: Piece> Group<P> {
         requires alive { IsAlive P.seen self.old }
         requires low { self.old.sequence < 2 ^ 64 - 64 }
         requires carriers { carriers ≤ length self.old.disks.items }
+        ensures group { IsGroup P.seen self.new }
         ensures written { IsWritten P.seen result carriers (text_of text) self.old self.new }
         ensures sound { (others : List Copy) → IsSound self.old.name others self.old.sequence carriers (members P.seen self.old) → IsSound self.old.name others self.new.sequence carriers (members P.seen self.new) }
         ensures all { OnOk result ((others : List Copy) → IsSound self.old.name others self.old.sequence carriers (members P.seen self.old) → IsSound self.old.name others self.new.sequence (length self.old.disks.items) (members P.seen self.new)) }
@@ -158,6 +161,35 @@ impl<P: Piece> Group<P> {
                 Err(fault_of(lost))
             }
         }
+    }
+
+    pub fn name(&self) -> &Name
+        ensures { result.now ≡ self.now.name }
+    {
+        &self.name
+    }
+
+    /// The disks, in the order in which they came.
+    pub fn disks(&self) -> &[Disk<P>]
+        ensures { result.now ≡ self.now.disks.items }
+    {
+        &self.disks
+    }
+
+    /// The slots of the good disks, as a mask: the one that each good disk's toggle has after a commit.
+    pub fn good(&self) -> u32
+        requires { IsGroup P.seen self.now }
+        ensures names { (slot : ℕ) → has result slot ≡ is_good_slot slot (members P.seen self.now) }
+        ensures just { result ≡ good_mask (members P.seen self.now) }
+    {
+        good_slots(&self.disks)
+    }
+
+    /// Whether a commit was lost, so that the group has to be imported again.
+    pub fn is_lost(&self) -> bool
+        ensures { result ≡ is_some self.now.lost }
+    {
+        self.lost.is_some()
     }
 
     /// The configuration's text.

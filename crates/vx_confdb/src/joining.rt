@@ -31,7 +31,7 @@ pub fn join_all<P: Piece>(disks: &mut Vec<Disk<P>>, group: &Name) -> Prepared
 /// The same of one disk.
 pub fn join_one<P: Piece>(disk: &mut Disk<P>, group: &Name) -> Prepared
     requires fresh { IsFresh P.seen group.now disk.old }
-    ensures prepares { Prepares (held P.seen disk.old) (held P.seen disk.new) }
+    ensures prepares { Prepares group.now (held P.seen disk.old) (held P.seen disk.new) }
     ensures ends { PrepareEnds result group.now (held P.seen disk.new) }
 {
     let mut sector = [0; 512];
@@ -42,7 +42,7 @@ fn prepare_all<P: Piece>(disks: &mut [Disk<P>], group: &Name, sector: &mut [u8])
     requires fresh { AllOf (IsFresh P.seen group.now) disks.old }
     requires size { length sector.old ≡ 512 }
     ensures size { length sector.new ≡ 512 }
-    ensures prepares { Each Prepares (map (held P.seen) disks.old) (map (held P.seen) disks.new) }
+    ensures prepares { Each (Prepares group.now) (map (held P.seen) disks.old) (map (held P.seen) disks.new) }
     ensures ends { AllPrepared result group.now (map (held P.seen) disks.new) }
 {
     let mut i = 0;
@@ -63,7 +63,7 @@ fn prepare<P: Piece>(disk: &mut Disk<P>, group: &Name, sector: &mut [u8]) -> Pre
     requires fresh { IsFresh P.seen group.now disk.old }
     requires size { length sector.old ≡ 512 }
     ensures size { length sector.new ≡ 512 }
-    ensures prepares { Prepares (held P.seen disk.old) (held P.seen disk.new) }
+    ensures prepares { Prepares group.now (held P.seen disk.old) (held P.seen disk.new) }
     ensures ends { PrepareEnds result group.now (held P.seen disk.new) }
 {
     put_zeros(512, 0, sector);
@@ -83,7 +83,7 @@ fn put_header<P: Piece>(disk: &mut Disk<P>, group: &Name, sector: &mut [u8]) -> 
     requires blank { IsBlank (P.seen disk.old.piece).told }
     requires size { length sector.old ≡ 512 }
     ensures size { length sector.new ≡ 512 }
-    ensures prepares { Prepares (held P.seen disk.old) (held P.seen disk.new) }
+    ensures prepares { Prepares group.now (held P.seen disk.old) (held P.seen disk.new) }
     ensures ends { PrepareEnds result group.now (held P.seen disk.new) }
 {
     let header = Header {

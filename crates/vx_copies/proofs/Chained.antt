@@ -127,7 +127,7 @@ told_same : (group : Word) (a b : Option Contents) → StaysTold a b → offer_t
 told_same group None None is = refl
 told_same group None (Some b) is = absurd is
 told_same group (Some a) None is = absurd is
-told_same group (Some a) (Some b) is = in_same group a b is.0 is.2
+told_same group (Some a) (Some b) is = in_same group a b is.0 is.1.1
 
 pub copies_stay : (group : Word) (hs bs : List Held) → Each Stays hs bs → map (copy_of group) bs ≡ map (copy_of group) hs
 copies_stay group [] [] is = refl
@@ -246,8 +246,8 @@ module _ (group : Word) (others : List Copy) (last sequence mask : ℕ) (text : 
       by None None is = inl refl
       by None (Some u) is = absurd is
       by (Some t) None is = absurd is
-      by (Some t) (Some u) (header, inl same) = inl (in_same group t u header same)
-      by (Some t) (Some u) (header, inr just) = in_just group t u (record { sequence = sequence; good = mask; text = text }) header just.1
+      by (Some t) (Some u) (header, inl same, rest) = inl (in_same group t u header same.1)
+      by (Some t) (Some u) (header, inr just, rest) = in_just group t u (record { sequence = sequence; good = mask; text = text }) header just.1
 
   turn_members : (copies : List Copy) (hs bs : List Held) → Each (Stamps sequence mask text) hs bs → Each (Turned copies last sequence mask text later) (map (copy_of group) hs) (map (copy_of group) bs)
   turn_members copies [] [] is = tt
@@ -299,7 +299,7 @@ module _ (group : Word) (others : List Copy) (last sequence mask : ℕ) (text : 
       by None None is = refl
       by None (Some u) is = absurd is
       by (Some t) None is = absurd is
-      by (Some t) (Some u) is = in_same group t u is.0 is.1
+      by (Some t) (Some u) is = in_same group t u is.0 is.1.1
 
   any_behind : (Q : Copy → Type 0) (os cs : List Copy) → AnyOf Q cs → AnyOf Q (os ++ cs)
   any_behind Q [] cs any = any

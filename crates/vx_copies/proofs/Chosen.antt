@@ -46,7 +46,8 @@ module _ (group : Word) (old last : ℕ) (text : List ℕ) where
   told_goes None None is = inl refl
   told_goes None (Some b) is = absurd is
   told_goes (Some a) None is = absurd is
-  told_goes (Some a) (Some b) is = in_goes group (old + 1) last text a b is.0 is.1
+  told_goes (Some a) (Some b) (header, inl same, rest) = in_goes group (old + 1) last text a b header (inl same.1)
+  told_goes (Some a) (Some b) (header, inr new, rest) = in_goes group (old + 1) last text a b header (inr new)
 
   mask_goes : (r : Bool) (a b : Option Offer) → (b ≡ a) ⊎ IsNew (old + 1) last text b → (cond r b None ≡ cond r a None) ⊎ IsNew (old + 1) last text (cond r b None)
   mask_goes true a b is = is

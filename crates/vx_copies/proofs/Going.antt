@@ -1,12 +1,13 @@
 -- What a commit does to a disk, one step after another.
-use Rattle.std.proofs.Common.{◌≡◌, ℕ, zero, suc, ◌≤◌, Bool, true, false, List, [], ◌∷◌, take, Option, Some, None, refl, sym, ◌∙◌, subst, arith, inl, inr}
-use Rattle.std.specs.Prelude.{IsTrue}
+use Rattle.std.proofs.Common.{◌≡◌, ℕ, zero, suc, ◌+◌, ◌<◌, ◌≤◌, Bool, true, false, List, [], ◌∷◌, take, Option, Some, None, refl, sym, ap, ◌∙◌, subst, arith, inl, inr}
+use Rattle.std.specs.Prelude.{IsTrue, MatchOption}
 use Rattle.vx_base.specs.Blocks.{Contents}
 use Rattle.vx_base.specs.Counts.{Rose}
 use Rattle.vx_piece.specs.Seen.{Seen, Keeps}
 use Rattle.vx_copies.specs.Lists.{Each, AllOf}
-use Rattle.vx_copies.specs.Image.{Offer, offer_of}
-use Rattle.vx_copies.specs.Disks.{Held, Goes, Stays, Stamps, Drops, Offers, OffersJust, StaysTold, IsNew}
+use Rattle.vx_header.specs.Said.{Said, toggle_of}
+use Rattle.vx_copies.specs.Image.{Offer, half_start, toggle_at, offer_of}
+use Rattle.vx_copies.specs.Disks.{Held, Goes, Stays, Stamps, Drops, Offers, OffersJust, StaysTold, IsNew, KeepsNamed, SameOffer, RestStays}
 use Rattle.vx_copies.specs.Commit.{HasRisen}
 
 pub keeps_trans : (a b c : Seen) → Keeps a b → Keeps b c → Keeps a c
@@ -35,6 +36,46 @@ pub drops_refl : (x : Bool) (a : Seen) → Drops x x a a
 drops_refl true a = refl
 drops_refl false a = tt
 
+-- an offer that stays, and what is behind the halves
+abbrev HalfStays : ℕ → Contents → Contents → Type 0
+HalfStays half a b = (k : ℕ) → half_start half ≤ k → k < half_start half + 1020 → b k ≡ a k
+
+named_refl : (a : Contents) → KeepsNamed a a
+named_refl a = by (toggle_at a)
+  where
+    by : (o : Option Said) → MatchOption o (Unit {0}) (λ t. HalfStays t.half a a)
+    by None = tt
+    by (Some t) = λ k le lt. refl
+
+pub same_toggle : (a b : Contents) → b 1 ≡ a 1 → toggle_at b ≡ toggle_at a
+unfolding toggle_at
+same_toggle a b e = ap toggle_of e
+
+named_trans : (a b c : Contents) → b 1 ≡ a 1 → KeepsNamed a b → KeepsNamed b c → KeepsNamed a c
+named_trans a b c e p q = by (toggle_at a) p (subst (λ o. MatchOption o (Unit {0}) (λ t. HalfStays t.half b c)) (same_toggle a b e) q)
+  where
+    by : (o : Option Said) → MatchOption o (Unit {0}) (λ t. HalfStays t.half a b) → MatchOption o (Unit {0}) (λ t. HalfStays t.half b c) → MatchOption o (Unit {0}) (λ t. HalfStays t.half a c)
+    by None f g = tt
+    by (Some t) f g = λ k le lt. g k le lt ∙ f k le lt
+
+pub same_offer_refl : (a : Contents) → SameOffer a a
+same_offer_refl a = (refl, refl, named_refl a)
+
+same_offer_trans : (a b c : Contents) → SameOffer a b → SameOffer b c → SameOffer a c
+same_offer_trans a b c p q = (q.0 ∙ p.0, q.1 ∙ p.1, named_trans a b c p.0 p.2 q.2)
+
+pub rest_refl : (a : Contents) → RestStays a a
+rest_refl a = λ k le. refl
+
+pub rest_trans : (a b c : Contents) → RestStays a b → RestStays b c → RestStays a c
+rest_trans a b c p q = λ k le. q k le ∙ p k le
+
+-- a disk that is not good is let alone
+idle_trans : (x y : Bool) (a b c : Seen) → Drops x y a b → (x ≡ false → b ≡ a) → (y ≡ false → c ≡ b) → x ≡ false → c ≡ a
+idle_trans true y a b c d p q e = cc
+idle_trans false true a b c d p q e = cc
+idle_trans false false a b c d p q e = q refl ∙ p refl
+
 new_wider : (f f' l l' : ℕ) (text : List ℕ) (o : Option Offer) → f' ≤ f → l ≤ l' → IsNew f l text o → IsNew f' l' text o
 new_wider f f' l l' text None p q is = absurd is
 new_wider f f' l l' text (Some o) p q is = (omega (arith, is.0), omega (arith, is.1), is.2)
@@ -43,8 +84,8 @@ offers_wider : (f f' l l' : ℕ) (text : List ℕ) (a b : Option Contents) → f
 offers_wider f f' l l' text None None p q is = tt
 offers_wider f f' l l' text None (Some b) p q is = absurd is
 offers_wider f f' l l' text (Some a) None p q is = absurd is
-offers_wider f f' l l' text (Some a) (Some b) p q (header, inl same) = (header, inl same)
-offers_wider f f' l l' text (Some a) (Some b) p q (header, inr new) = (header, inr (new_wider f f' l l' text _ p q new))
+offers_wider f f' l l' text (Some a) (Some b) p q (header, inl same, rest) = (header, inl same, rest)
+offers_wider f f' l l' text (Some a) (Some b) p q (header, inr new, rest) = (header, inr (new_wider f f' l l' text _ p q new), rest)
 
 offers_trans : (f l : ℕ) (text : List ℕ) (a b c : Option Contents) → Offers f l text a b → Offers f l text b c → Offers f l text a c
 offers_trans f l text None None None p q = tt
@@ -52,19 +93,19 @@ offers_trans f l text None None (Some c) p q = absurd q
 offers_trans f l text None (Some b) c p q = absurd p
 offers_trans f l text (Some a) None c p q = absurd p
 offers_trans f l text (Some a) (Some b) None p q = absurd q
-offers_trans f l text (Some a) (Some b) (Some c) (h, p) (k, inr new) = (k ∙ h, inr new)
-offers_trans f l text (Some a) (Some b) (Some c) (h, inl same) (k, inl e) = (k ∙ h, inl (e ∙ same))
-offers_trans f l text (Some a) (Some b) (Some c) (h, inr new) (k, inl e) = (k ∙ h, inr (subst (IsNew f l text) (sym e) new))
+offers_trans f l text (Some a) (Some b) (Some c) (h, p, r) (k, inr new, t) = (k ∙ h, inr new, rest_trans a b c r t)
+offers_trans f l text (Some a) (Some b) (Some c) (h, inl same, r) (k, inl e, t) = (k ∙ h, inl (same_offer_trans a b c same e), rest_trans a b c r t)
+offers_trans f l text (Some a) (Some b) (Some c) (h, inr new, r) (k, inl e, t) = (k ∙ h, inr (subst (IsNew f l text) (sym e.1) new), rest_trans a b c r t)
 
 offers_refl : (f l : ℕ) (text : List ℕ) (a : Option Contents) → Offers f l text a a
 offers_refl f l text None = tt
-offers_refl f l text (Some a) = (refl, inl refl)
+offers_refl f l text (Some a) = (refl, inl (same_offer_refl a), rest_refl a)
 
 stays_offers : (f l : ℕ) (text : List ℕ) (a b : Option Contents) → StaysTold a b → Offers f l text a b
 stays_offers f l text None None is = tt
 stays_offers f l text None (Some b) is = absurd is
 stays_offers f l text (Some a) None is = absurd is
-stays_offers f l text (Some a) (Some b) is = (is.0, inl is.2)
+stays_offers f l text (Some a) (Some b) is = (is.0, inl is.1, is.2)
 
 pub goes_trans : (f l : ℕ) (text : List ℕ) (a b c : Held) → Goes f l text a b → Goes f l text b c → Goes f l text a c
 goes_trans f l text a b c p q = record {
@@ -74,16 +115,17 @@ goes_trans f l text a b c p q = record {
   kept = keeps_trans _ _ _ p.kept q.kept;
   good = drops_trans a.good b.good c.good a.seen b.seen c.seen p.kept q.kept p.good q.good;
   offers = offers_trans f l text _ _ _ p.offers q.offers;
+  idle = idle_trans a.good b.good a.seen b.seen c.seen p.good p.idle q.idle;
 }
 
 pub goes_wider : (f f' l l' : ℕ) (text : List ℕ) (a b : Held) → f' ≤ f → l ≤ l' → Goes f l text a b → Goes f' l' text a b
-goes_wider f f' l l' text a b p q is = record { slot = is.slot; name = is.name; size = is.size; kept = is.kept; good = is.good; offers = offers_wider f f' l l' text _ _ p q is.offers }
+goes_wider f f' l l' text a b p q is = record { slot = is.slot; name = is.name; size = is.size; kept = is.kept; good = is.good; offers = offers_wider f f' l l' text _ _ p q is.offers; idle = is.idle }
 
 pub stays_goes : (f l : ℕ) (text : List ℕ) (a b : Held) → Stays a b → Goes f l text a b
-stays_goes f l text a b is = record { slot = is.slot; name = is.name; size = is.size; kept = is.kept; good = is.good; offers = stays_offers f l text _ _ is.told }
+stays_goes f l text a b is = record { slot = is.slot; name = is.name; size = is.size; kept = is.kept; good = is.good; offers = stays_offers f l text _ _ is.told; idle = is.idle }
 
 goes_refl : (f l : ℕ) (text : List ℕ) (a : Held) → Goes f l text a a
-goes_refl f l text a = record { slot = refl; name = refl; size = refl; kept = keeps_refl a.seen; good = drops_refl a.good a.seen; offers = offers_refl f l text a.seen.told }
+goes_refl f l text a = record { slot = refl; name = refl; size = refl; kept = keeps_refl a.seen; good = drops_refl a.good a.seen; offers = offers_refl f l text a.seen.told; idle = λ e. refl }
 
 -- a disk that stays
 told_trans : (a b c : Option Contents) → StaysTold a b → StaysTold b c → StaysTold a c
@@ -92,11 +134,11 @@ told_trans None None (Some c) p q = absurd q
 told_trans None (Some b) c p q = absurd p
 told_trans (Some a) None c p q = absurd p
 told_trans (Some a) (Some b) None p q = absurd q
-told_trans (Some a) (Some b) (Some c) p q = (q.0 ∙ p.0, q.1 ∙ p.1, q.2 ∙ p.2)
+told_trans (Some a) (Some b) (Some c) p q = (q.0 ∙ p.0, same_offer_trans a b c p.1 q.1, rest_trans a b c p.2 q.2)
 
 told_refl : (a : Option Contents) → StaysTold a a
 told_refl None = tt
-told_refl (Some a) = (refl, refl, refl)
+told_refl (Some a) = (refl, same_offer_refl a, rest_refl a)
 
 pub stays_trans : (a b c : Held) → Stays a b → Stays b c → Stays a c
 stays_trans a b c p q = record {
@@ -107,10 +149,11 @@ stays_trans a b c p q = record {
   kept = keeps_trans _ _ _ p.kept q.kept;
   good = drops_trans a.good b.good c.good a.seen b.seen c.seen p.kept q.kept p.good q.good;
   told = told_trans _ _ _ p.told q.told;
+  idle = idle_trans a.good b.good a.seen b.seen c.seen p.good p.idle q.idle;
 }
 
 pub stays_refl : (a : Held) → Stays a a
-stays_refl a = record { slot = refl; name = refl; size = refl; half = refl; kept = keeps_refl a.seen; good = drops_refl a.good a.seen; told = told_refl a.seen.told }
+stays_refl a = record { slot = refl; name = refl; size = refl; half = refl; kept = keeps_refl a.seen; good = drops_refl a.good a.seen; told = told_refl a.seen.told; idle = λ e. refl }
 
 -- a disk that may get a toggle
 was_good : (x y : Bool) (a b : Seen) → Drops x y a b → IsTrue y → IsTrue x
@@ -123,13 +166,13 @@ just_trans s m text x y None None (Some c) was p q = absurd q
 just_trans s m text x y None (Some b) c was p q = absurd p
 just_trans s m text x y (Some a) None c was p q = absurd p
 just_trans s m text x y (Some a) (Some b) None was p q = absurd q
-just_trans s m text x y (Some a) (Some b) (Some c) was (h, p) (k, inr just) = (k ∙ h, inr (was just.0, just.1))
-just_trans s m text x y (Some a) (Some b) (Some c) was (h, inl same) (k, inl e) = (k ∙ h, inl (e ∙ same))
-just_trans s m text x y (Some a) (Some b) (Some c) was (h, inr just) (k, inl e) = (k ∙ h, inr (just.0, e ∙ just.1))
+just_trans s m text x y (Some a) (Some b) (Some c) was (h, p, r) (k, inr just, t) = (k ∙ h, inr (was just.0, just.1), rest_trans a b c r t)
+just_trans s m text x y (Some a) (Some b) (Some c) was (h, inl same, r) (k, inl e, t) = (k ∙ h, inl (same_offer_trans a b c same e), rest_trans a b c r t)
+just_trans s m text x y (Some a) (Some b) (Some c) was (h, inr just, r) (k, inl e, t) = (k ∙ h, inr (just.0, e.1 ∙ just.1), rest_trans a b c r t)
 
 just_refl : (s m : ℕ) (text : List ℕ) (x : Bool) (a : Option Contents) → OffersJust s m text x a a
 just_refl s m text x None = tt
-just_refl s m text x (Some a) = (refl, inl refl)
+just_refl s m text x (Some a) = (refl, inl (same_offer_refl a), rest_refl a)
 
 just_is_new : (s m : ℕ) (text : List ℕ) (o : Option Offer) → o ≡ Some (record { sequence = s; good = m; text = text }) → IsNew s s text o
 just_is_new s m text o e = subst (IsNew s s text) (sym e) (omega arith, omega arith, refl)
@@ -138,8 +181,8 @@ just_offers : (s m : ℕ) (text : List ℕ) (x : Bool) (a b : Option Contents) �
 just_offers s m text x None None is = tt
 just_offers s m text x None (Some b) is = absurd is
 just_offers s m text x (Some a) None is = absurd is
-just_offers s m text x (Some a) (Some b) (h, inl same) = (h, inl same)
-just_offers s m text x (Some a) (Some b) (h, inr just) = (h, inr (just_is_new s m text (offer_of b) just.1))
+just_offers s m text x (Some a) (Some b) (h, inl same, r) = (h, inl same, r)
+just_offers s m text x (Some a) (Some b) (h, inr just, r) = (h, inr (just_is_new s m text (offer_of b) just.1), r)
 
 -- a disk that was good
 pub if_good : (s m : ℕ) (text : List ℕ) (x : Bool) (a b : Option Contents) → IsTrue x → OffersJust s m text true a b → OffersJust s m text x a b
@@ -154,13 +197,14 @@ stamps_trans s m text a b c p q = record {
   kept = keeps_trans _ _ _ p.kept q.kept;
   good = drops_trans a.good b.good c.good a.seen b.seen c.seen p.kept q.kept p.good q.good;
   offers = just_trans s m text a.good b.good _ _ _ (was_good a.good b.good a.seen b.seen p.good) p.offers q.offers;
+  idle = idle_trans a.good b.good a.seen b.seen c.seen p.good p.idle q.idle;
 }
 
 pub stamps_refl : (s m : ℕ) (text : List ℕ) (a : Held) → Stamps s m text a a
-stamps_refl s m text a = record { slot = refl; name = refl; size = refl; kept = keeps_refl a.seen; good = drops_refl a.good a.seen; offers = just_refl s m text a.good a.seen.told }
+stamps_refl s m text a = record { slot = refl; name = refl; size = refl; kept = keeps_refl a.seen; good = drops_refl a.good a.seen; offers = just_refl s m text a.good a.seen.told; idle = λ e. refl }
 
 pub stamps_goes : (s m : ℕ) (text : List ℕ) (a b : Held) → Stamps s m text a b → Goes s s text a b
-stamps_goes s m text a b is = record { slot = is.slot; name = is.name; size = is.size; kept = is.kept; good = is.good; offers = just_offers s m text a.good _ _ is.offers }
+stamps_goes s m text a b is = record { slot = is.slot; name = is.name; size = is.size; kept = is.kept; good = is.good; offers = just_offers s m text a.good _ _ is.offers; idle = is.idle }
 
 -- a disk that stays good, or not good
 pub same_refl : (a : Held) → a.good ≡ a.good

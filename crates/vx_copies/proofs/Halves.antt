@@ -9,8 +9,9 @@ use Rattle.vx_header.specs.Said.{Said, toggle_of}
 use Rattle.vx_header.specs.Sectors.{toggle_sector}
 use Rattle.vx_header.proofs.Saying.{said_spells, said_back}
 use Rattle.vx_copies.specs.Image.{blocks_from, sectors_for, half_start, text_in, toggle_at, offer_by, offer_of}
-use Rattle.vx_copies.specs.Disks.{NamesHalf, HasText, StaysTold, OffersJust}
+use Rattle.vx_copies.specs.Disks.{NamesHalf, HasText, StaysTold, OffersJust, KeepsNamed, SameOffer}
 use Rattle.vx_copies.specs.Pass.{IsPadded}
+use Rattle.vx_copies.proofs.Going.{same_toggle}
 
 pub blocks_same : (n at : ℕ) (c d : Contents) → ((k : ℕ) → at ≤ k → k < at + n → d k ≡ c k) → blocks_from n at d ≡ blocks_from n at c
 blocks_same zero at c d same = refl
@@ -66,17 +67,30 @@ offer_same half c d names toggle same = ap (λ b. offer_by (toggle_of b) d) togg
         let text = text_same t.half t.length c d (λ k le lt. same k (omega (arith, is, le)) (omega (arith, is, lt, few))) in
         ap (λ x. Some (record { sequence = t.sequence; good = t.good; text = x })) text
 
+-- the half that is named stays
+named_stays : (half : ℕ) (c d : Contents) → NamesHalf half (Some c) → ((k : ℕ) → half_start half ≤ k → k < half_start half + 1020 → d k ≡ c k) → KeepsNamed c d
+named_stays half c d names same = by (toggle_at c) names
+  where
+    by : (o : Option Said) → MatchOption o (Unit {0}) (λ t. t.half ≡ half) → MatchOption o (Unit {0}) (λ t. (k : ℕ) → half_start t.half ≤ k → k < half_start t.half + 1020 → d k ≡ c k)
+    by None is = tt
+    by (Some t) is = λ k le lt. same k (omega (arith, is, le)) (omega (arith, is, lt))
+
+same_offer : (half : ℕ) (c d : Contents) → NamesHalf half (Some c) → d 1 ≡ c 1 → ((k : ℕ) → half_start half ≤ k → k < half_start half + 1020 → d k ≡ c k) → SameOffer c d
+same_offer half c d names toggle same = (toggle, offer_same half c d names toggle same, named_stays half c d names same)
+
 module _ (half : ℕ) (text padded : List ℕ) (c d : Contents) (is_half : half < 2) (fills : IsPadded text padded) where
   few : blocks_in padded ≤ 1020
   few = omega (arith, fills.size, fills.fits, few_sectors (length text) fills.fits)
 
   -- a write of the spare half, torn or not, leaves the offer
   pub half_stays : NamesHalf half (Some c) → IsTorn (half_start (1 - half)) padded c d → StaysTold (Some c) (Some d)
-  unfolding toggle_at
   half_stays names torn =
       let out = torn_out (half_start (1 - half)) padded c d torn in
-      let one = out 1 (inl (omega arith)) in
-      (out 0 (inl (omega arith)), ap toggle_of one, offer_same half c d names one (λ k le lt. out k (elim (halves half is_half) [ inl h ↦ inl (omega (arith, h, le, lt)) | inr h ↦ inr (omega (arith, h, le, lt, few)) ])))
+      let one = out 1 (inl (omega arith)) in (
+        out 0 (inl (omega arith)),
+        same_offer half c d names one (λ k le lt. out k (elim (halves half is_half) [ inl h ↦ inl (omega (arith, h, le, lt)) | inr h ↦ inr (omega (arith, h, le, lt, few)) ])),
+        λ k le. out k (inr (omega (arith, is_half, le, few))),
+      )
     where
       halves : (h : ℕ) → h < 2 → (h ≡ 0) ⊎ (h ≡ 1)
       halves zero lt = inl refl
@@ -126,7 +140,7 @@ pub names_on : (half : ℕ) (told after : Option Contents) → StaysTold told af
 names_on half None None stays names = tt
 names_on half None (Some d) stays names = absurd stays
 names_on half (Some c) None stays names = absurd stays
-names_on half (Some c) (Some d) stays names = let P : Option Said → Type 0 = λ o. MatchOption o (Unit {0}) (λ t. t.half ≡ half) in subst P (sym stays.1) names
+names_on half (Some c) (Some d) stays names = let P : Option Said → Type 0 = λ o. MatchOption o (Unit {0}) (λ t. t.half ≡ half) in subst P (sym (same_toggle c d stays.1.0)) names
 
 -- the offer of a toggle and its text
 new_offer : (d : Contents) (t : Said) (text : List ℕ) → toggle_of (d 1) ≡ Some t → text_in t.half t.length d ≡ text → offer_of d ≡ Some (record { sequence = t.sequence; good = t.good; text = text })
@@ -151,9 +165,10 @@ module _ (half sequence mask : ℕ) (text sector : List ℕ) (is_half : half < 2
   toggle_torn c d names has torn = (
     torn_out 1 sector c d torn 0 (inl (omega arith)),
     elim (torn 1) [
-      | inl same ↦ inl (offer_same half c d names same (λ k le lt. others c d torn k (omega (arith, le))))
+      | inl same ↦ inl (same_offer half c d names same (λ k le lt. others c d torn k (omega (arith, le))))
       | inr new ↦ inr (refl, new_offer d (record { sequence = sequence; half = 1 - half; length = length text; good = mask }) text (ap toggle_of (new ∙ there c) ∙ is) (text_stays c d torn has))
     ],
+    λ k le. others c d torn k (omega (arith, le)),
   )
 
   toggle_names : (c d : Contents) → ((k : ℕ) → d k ≡ written 1 sector c k) → NamesHalf (1 - half) (Some d)

@@ -1,9 +1,10 @@
 -- What a device offers in a group, where its header stays.
-use Rattle.std.proofs.Common.{◌≡◌, ◌⊎◌, ℕ, Bool, true, false, List, Option, Some, refl, sym, ap, ◌∙◌, subst, inl, inr}
+use Rattle.std.proofs.Common.{◌≡◌, ◌⊎◌, ℕ, Bool, true, false, List, Option, Some, None, refl, sym, ap, ◌∙◌, subst, inl, inr}
+use Rattle.std.specs.Prelude.{MatchOption}
 use Rattle.vx_base.specs.Blocks.{Contents}
 use Rattle.vx_base.specs.Named.{Word}
 use Rattle.vx_header.specs.Named.{header_of}
-use Rattle.vx_copies.specs.Image.{Offer, offer_of, names_group, offer_if, offer_in}
+use Rattle.vx_copies.specs.Image.{Offer, offer_of, names_group, offer_if, offer_in, offer_told}
 use Rattle.vx_copies.specs.Disks.{IsNew}
 
 module _ (group : Word) where
@@ -17,6 +18,15 @@ module _ (group : Word) where
   pub in_member : (c : Contents) → names_group group (header_of (c 0)) ≡ true → offer_in group c ≡ offer_of c
   unfolding offer_in
   in_member c is = ap (λ b. offer_if b (offer_of c)) is
+
+  -- a device whose header is none, or names another group, offers nothing
+  pub in_other : (c : Contents) → names_group group (header_of (c 0)) ≡ false → offer_in group c ≡ None
+  unfolding offer_in
+  in_other c is = ap (λ b. offer_if b (offer_of c)) is
+
+  pub told_none : (t : Option Contents) → MatchOption t (Unit {0}) (λ c. header_of (c 0) ≡ None) → offer_told group t ≡ None
+  told_none None is = refl
+  told_none (Some c) is = in_other c (ap (names_group group) is)
 
   by_name : (d : Contents) (b : Bool) (old : Option Offer) (f l : ℕ) (text : List ℕ) → IsNew f l text (offer_of d) → (offer_if b (offer_of d) ≡ offer_if b old) ⊎ IsNew f l text (offer_if b (offer_of d))
   by_name d true old f l text is = inr is

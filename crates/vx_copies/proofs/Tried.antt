@@ -6,10 +6,10 @@ use Rattle.vx_copies.specs.declared.disk.Disk.{Disk}
 use Rattle.vx_copies.specs.declared.disk.Pass.{Pass}
 use Rattle.vx_copies.specs.declared.disk.Pass.TheVariants.{Done, Dropped, Cut}
 use Rattle.vx_copies.specs.Lists.{Each}
-use Rattle.vx_copies.specs.Disks.{Held, held, Goes, good_count, is_good_slot}
+use Rattle.vx_copies.specs.Disks.{Held, held, Goes, good_count, is_good_slot, good_mask}
 use Rattle.vx_copies.specs.Pass.{HalvesEnd, TogglesEnd}
 use Rattle.vx_copies.specs.Commit.{AttemptEnds}
-use Rattle.vx_mask.specs.Mask.{has}
+use Rattle.vx_mask.specs.Mask.{has, only, union}
 use Rattle.vx_copies.proofs.Going.{all_trans, all_wider, each_trans, same_trans}
 use Rattle.vx_copies.proofs.Placed.{same_count}
 
@@ -25,12 +25,18 @@ same_slots slot [] (b ∷ bs) p q = absurd p
 same_slots slot (a ∷ hs) [] p q = absurd p
 same_slots slot (a ∷ hs) (b ∷ bs) p q = ap (λ x. (x && b.slot == slot) || is_good_slot slot bs) q.0 ∙ ap (λ n. (a.good && n == slot) || is_good_slot slot bs) p.0 ∙ ap (λ x. (a.good && a.slot == slot) || x) (same_slots slot hs bs p.1 q.1)
 
-pub toggles_tried : (r : Pass) (sequence mask : ℕ) (text : List ℕ) (old mid new : List Held) → Each (λ a b. b.good ≡ a.good) old mid → Each (λ a b. b.slot ≡ a.slot) old new → ((slot : ℕ) → has mask slot ≡ is_good_slot slot old) → TogglesEnd r sequence mask text mid new → AttemptEnds r sequence text old new
-toggles_tried Done sequence mask text old mid new same slots names ends =
+pub same_mask : (hs bs : List Held) → Each (λ a b. b.slot ≡ a.slot) hs bs → Each (λ a b. b.good ≡ a.good) hs bs → good_mask bs ≡ good_mask hs
+same_mask [] [] p q = refl
+same_mask [] (b ∷ bs) p q = absurd p
+same_mask (a ∷ hs) [] p q = absurd p
+same_mask (a ∷ hs) (b ∷ bs) p q = ap (λ x. cond x (union (good_mask bs) (only b.slot)) (good_mask bs)) q.0 ∙ ap (λ n. cond a.good (union (good_mask bs) (only n)) (good_mask bs)) p.0 ∙ ap (λ m. cond a.good (union m (only a.slot)) m) (same_mask hs bs p.1 q.1)
+
+pub toggles_tried : (r : Pass) (sequence mask : ℕ) (text : List ℕ) (old mid new : List Held) → Each (λ a b. b.good ≡ a.good) old mid → Each (λ a b. b.slot ≡ a.slot) old new → ((slot : ℕ) → has mask slot ≡ is_good_slot slot old) → mask ≡ good_mask old → TogglesEnd r sequence mask text mid new → AttemptEnds r sequence text old new
+toggles_tried Done sequence mask text old mid new same slots names just ends =
     let good = each_trans (λ (a b : Held). b.good ≡ a.good) same_trans old mid new same ends.2 in
-    (ends.0, record { mask = mask; names = λ slot. names slot ∙ sym (same_slots slot old new slots good); each = ends.1 }, good)
-toggles_tried Dropped sequence mask text old mid new same slots names ends = let less = ends.1 in let count = same_count old mid same in (ends.0, omega (arith, less, count))
-toggles_tried Cut sequence mask text old mid new same slots names ends = ends
+    (ends.0, record { mask = mask; names = λ slot. names slot ∙ sym (same_slots slot old new slots good); just = just ∙ sym (same_mask old new slots good); each = ends.1 }, good)
+toggles_tried Dropped sequence mask text old mid new same slots names just ends = let less = ends.1 in let count = same_count old mid same in (ends.0, omega (arith, less, count))
+toggles_tried Cut sequence mask text old mid new same slots names just ends = ends
 
 -- one more attempt
 pub one_more : (first last : ℕ) (text : List ℕ) (a b c : List Held) → first ≤ last + 1 → Each (Goes first last text) a b → Each (Goes (last + 1) (last + 1) text) b c → Each (Goes first (last + 1) text) a c

@@ -10,13 +10,14 @@ use Rattle.vx_copies.specs.Disks.{Held, held, Stamps, OffersJust, IsOffer, IsMem
 use Rattle.vx_copies.specs.Chain.{IsGoodMember}
 use Rattle.vx_copies.specs.Pass.{NowOffers, FirstTurned, KeepsOffer, TurnsFirst, TellsIfGood}
 use Rattle.vx_copies.specs.declared.disk.Disk.{Disk}
+use Rattle.vx_copies.proofs.Going.{same_offer_refl, rest_refl}
 
 abbrev Kept : Held → Held → Type 0
 Kept a b = KeepsOffer a.seen.told b.seen.told
 
 kept_refl : (t : Option Contents) → KeepsOffer t t
 kept_refl None = tt
-kept_refl (Some c) = (refl, refl)
+kept_refl (Some c) = (refl, same_offer_refl c, rest_refl c)
 
 pub all_kept : (hs : List Held) → Each Kept hs hs
 all_kept [] = tt
@@ -36,8 +37,8 @@ module _ (s m : ℕ) (text : List ℕ) where
   not_turned g None None e is = tt
   not_turned g None (Some u) e is = absurd is
   not_turned g (Some t) None e is = absurd is
-  not_turned g (Some t) (Some u) e (header, inl same) = (header, same)
-  not_turned g (Some t) (Some u) e (header, inr just) = both g e just.0
+  not_turned g (Some t) (Some u) e (header, inl same, rest) = (header, same, rest)
+  not_turned g (Some t) (Some u) e (header, inr just, rest) = both g e just.0
     where
       both : (b : Bool) → b ≡ false → IsTrue b → KeepsOffer (Some t) (Some u)
       both true e is = cc
@@ -48,8 +49,8 @@ module _ (s m : ℕ) (text : List ℕ) where
   turned_or_kept g None None is = inl tt
   turned_or_kept g None (Some u) is = absurd is
   turned_or_kept g (Some t) None is = absurd is
-  turned_or_kept g (Some t) (Some u) (header, inl same) = inl (header, same)
-  turned_or_kept g (Some t) (Some u) (header, inr just) = inr just.1
+  turned_or_kept g (Some t) (Some u) (header, inl same, rest) = inl (header, same, rest)
+  turned_or_kept g (Some t) (Some u) (header, inr just, rest) = inr just.1
 
   now_offered : (g : Bool) (t u : Option Contents) → OffersJust s m text g t u → MatchOption t ⊥ (λ c. Unit {0}) → MatchOption u (Unit {0}) (λ c. offer_of c ≡ Some (record { sequence = s; good = m; text = text })) → NowOffers s m text u
   now_offered g None u just tells offer = absurd tells

@@ -3,7 +3,7 @@ use Rattle.std.specs.Prelude.{◌≡◌, ℕ, ◌<◌, IsTrue, List, take, Resul
 use Rattle.vx_base.specs.Counts.{Rose}
 use Rattle.vx_mask.specs.Mask.{has}
 use Rattle.vx_copies.specs.Lists.{Each, AllOf, AnyOf}
-use Rattle.vx_copies.specs.Disks.{Held, IsCut, IsReady, IsOffer, good_count, is_good_slot}
+use Rattle.vx_copies.specs.Disks.{Held, IsCut, IsReady, IsOffer, good_count, is_good_slot, good_mask}
 use Rattle.vx_copies.specs.declared.disk.Pass.{Pass}
 use Rattle.vx_copies.specs.declared.disk.Pass.TheVariants.{Done, Dropped, Cut}
 use Rattle.vx_copies.specs.declared.writing.Lost.{Lost}
@@ -13,6 +13,7 @@ use Rattle.vx_copies.specs.declared.writing.Lost.TheVariants.{GroupLost, PowerLo
 pub record AllOffer (sequence : ℕ) (text : List ℕ) (disks : List Held) : Type 0 where
   pub mask : ℕ
   pub names : (slot : ℕ) → has mask slot ≡ is_good_slot slot disks
+  pub just : mask ≡ good_mask disks
   pub each : AllOf (IsOffer sequence mask text) disks
 
 abbrev pub AttemptEnds : Pass → ℕ → List ℕ → List Held → List Held → Type 0

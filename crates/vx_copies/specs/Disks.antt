@@ -4,8 +4,9 @@ use Rattle.vx_base.specs.Blocks.{Contents}
 use Rattle.vx_base.specs.Counts.{Rose}
 use Rattle.vx_base.specs.Named.{Word}
 use Rattle.vx_header.specs.Named.{header_of}
+use Rattle.vx_mask.specs.Mask.{only, union}
 use Rattle.vx_piece.specs.Seen.{Seen, Keeps}
-use Rattle.vx_copies.specs.Image.{Offer, toggle_at, offer_of, offer_told, names_group, text_in}
+use Rattle.vx_copies.specs.Image.{Offer, toggle_at, half_start, offer_of, offer_told, names_group, text_in}
 use Rattle.vx_copies.specs.declared.disk.Disk.{Disk}
 
 -- a disk with what is seen of its piece
@@ -34,10 +35,19 @@ abbrev pub is_good_slot : ℕ → List Held → Bool
 is_good_slot slot [] = false
 is_good_slot slot (h ∷ hs) = (h.good && h.slot == slot) || is_good_slot slot hs
 
+-- the slots of the good disks, as a mask
+abbrev pub good_mask : List Held → ℕ
+good_mask [] = 0
+good_mask (h ∷ hs) = if h.good then union (good_mask hs) (only h.slot) else good_mask hs
+
 -- the toggle names this half, where there is one
 abbrev pub NamesHalf : ℕ → Option Contents → Type 0
 NamesHalf half None = Unit {0}
 NamesHalf half (Some contents) = MatchOption (toggle_at contents) (Unit {0}) (λ t. t.half ≡ half)
+
+-- the slot of a disk is one of a mask's
+abbrev pub HasSlot : Held → Type 0
+HasSlot h = h.slot < 32
 
 -- a good disk's half is the one that its toggle names; the piece is a private region
 pub record IsReady (h : Held) : Type 0 where
@@ -54,25 +64,37 @@ HasText half text (Some contents) = text_in half (length text) contents ≡ text
 abbrev pub HasSpare : List ℕ → Held → Type 0
 HasSpare text h = IsTrue h.good → HasText (1 - h.half) text h.seen.told
 
+-- the half that the toggle names stays
+abbrev pub KeepsNamed : Contents → Contents → Type 0
+KeepsNamed old new = MatchOption (toggle_at old) (Unit {0}) (λ t. (k : ℕ) → half_start t.half ≤ k → k < half_start t.half + 1020 → new k ≡ old k)
+
+-- the sector of the toggle, the offer, and the half that the toggle names stay
+abbrev pub SameOffer : Contents → Contents → Type 0
+SameOffer old new = (new 1 ≡ old 1) × (offer_of new ≡ offer_of old) × KeepsNamed old new
+
+-- the sectors behind the halves stay
+abbrev pub RestStays : Contents → Contents → Type 0
+RestStays old new = (k : ℕ) → 2042 ≤ k → new k ≡ old k
+
 -- the disk offers the text under a sequence of this commit
 abbrev pub IsNew : ℕ → ℕ → List ℕ → Option Offer → Type 0
 IsNew first last text None = ⊥
 IsNew first last text (Some o) = (first ≤ o.sequence) × (o.sequence ≤ last) × (o.text ≡ text)
 
--- the header stays, and the disk offers what it did, or the new text
+-- the header and what is behind the halves stay, and the disk offers what it did, or the new text
 abbrev pub Offers : ℕ → ℕ → List ℕ → Option Contents → Option Contents → Type 0
 Offers first last text None None = Unit {0}
 Offers first last text None (Some new) = ⊥
 Offers first last text (Some old) None = ⊥
-Offers first last text (Some old) (Some new) = (new 0 ≡ old 0) × ((offer_of new ≡ offer_of old) ⊎ IsNew first last text (offer_of new))
+Offers first last text (Some old) (Some new) = (new 0 ≡ old 0) × (SameOffer old new ⊎ IsNew first last text (offer_of new)) × RestStays old new
 
--- the header stays, and the disk offers what it did, or it was good and offers just this
+-- the header and what is behind the halves stay, and the disk offers what it did, or it was good and offers just this
 abbrev pub OffersJust : ℕ → ℕ → List ℕ → Bool → Option Contents → Option Contents → Type 0
 OffersJust sequence mask text good None None = Unit {0}
 OffersJust sequence mask text good None (Some new) = ⊥
 OffersJust sequence mask text good (Some old) None = ⊥
 OffersJust sequence mask text good (Some old) (Some new) =
-    (new 0 ≡ old 0) × ((offer_of new ≡ offer_of old) ⊎ (IsTrue good × (offer_of new ≡ Some (record { sequence = sequence; good = mask; text = text }))))
+    (new 0 ≡ old 0) × (SameOffer old new ⊎ (IsTrue good × (offer_of new ≡ Some (record { sequence = sequence; good = mask; text = text })))) × RestStays old new
 
 -- good stays, or is dropped by a fault
 abbrev pub Drops : Bool → Bool → Seen → Seen → Type 0
@@ -88,6 +110,8 @@ pub record Goes (first last : ℕ) (text : List ℕ) (old new : Held) : Type 0 w
   pub kept : Keeps old.seen new.seen
   pub good : Drops old.good new.good old.seen new.seen
   pub offers : Offers first last text old.seen.told new.seen.told
+  -- one that is not good is let alone
+  pub idle : old.good ≡ false → new.seen ≡ old.seen
 
 -- what the writing of a toggle does to a disk
 pub record Stamps (sequence mask : ℕ) (text : List ℕ) (old new : Held) : Type 0 where
@@ -97,13 +121,15 @@ pub record Stamps (sequence mask : ℕ) (text : List ℕ) (old new : Held) : Typ
   pub kept : Keeps old.seen new.seen
   pub good : Drops old.good new.good old.seen new.seen
   pub offers : OffersJust sequence mask text old.good old.seen.told new.seen.told
+  -- one that is not good is let alone
+  pub idle : old.good ≡ false → new.seen ≡ old.seen
 
--- the header, the toggle and what it offers stay
+-- the header, the toggle, what it offers and what is behind the halves stay
 abbrev pub StaysTold : Option Contents → Option Contents → Type 0
 StaysTold None None = Unit {0}
 StaysTold None (Some new) = ⊥
 StaysTold (Some old) None = ⊥
-StaysTold (Some old) (Some new) = (new 0 ≡ old 0) × (toggle_at new ≡ toggle_at old) × (offer_of new ≡ offer_of old)
+StaysTold (Some old) (Some new) = (new 0 ≡ old 0) × SameOffer old new × RestStays old new
 
 -- what the writing of a spare half does to a disk
 pub record Stays (old new : Held) : Type 0 where
@@ -114,6 +140,7 @@ pub record Stays (old new : Held) : Type 0 where
   pub kept : Keeps old.seen new.seen
   pub good : Drops old.good new.good old.seen new.seen
   pub told : StaysTold old.seen.told new.seen.told
+  pub idle : old.good ≡ false → new.seen ≡ old.seen
 
 -- where it is good, the disk offers just this
 abbrev pub IsOffer : ℕ → ℕ → List ℕ → Held → Type 0

@@ -3,7 +3,7 @@ use Rattle.std.specs.Prelude.{◌≡◌, ◌⊎◌, ℕ, ◌*◌, ◌≤◌, ◌
 use Rattle.vx_base.specs.Blocks.{Contents}
 use Rattle.vx_copies.specs.Image.{offer_of, sectors_for}
 use Rattle.vx_copies.specs.Lists.{Each, AllOf, AnyOf}
-use Rattle.vx_copies.specs.Disks.{Held, good_count, IsCut, IsReady, HasSpare, IsOffer}
+use Rattle.vx_copies.specs.Disks.{Held, good_count, IsCut, IsReady, HasSpare, IsOffer, SameOffer, RestStays}
 use Rattle.vx_copies.specs.declared.disk.Pass.{Pass}
 use Rattle.vx_copies.specs.declared.disk.Pass.TheVariants.{Done, Dropped, Cut}
 
@@ -24,12 +24,12 @@ FirstTurned sequence mask text [] new = ⊥
 FirstTurned sequence mask text (a ∷ old) [] = ⊥
 FirstTurned sequence mask text (a ∷ old) (b ∷ new) = (IsTrue a.good × NowOffers sequence mask text b.seen.told) ⊎ ((a.good ≡ false) × FirstTurned sequence mask text old new)
 
--- the header and what is offered stay
+-- the header, the toggle, what it offers and what is behind the halves stay
 abbrev pub KeepsOffer : Option Contents → Option Contents → Type 0
 KeepsOffer None None = Unit {0}
 KeepsOffer None (Some new) = ⊥
 KeepsOffer (Some old) None = ⊥
-KeepsOffer (Some old) (Some new) = (new 0 ≡ old 0) × (offer_of new ≡ offer_of old)
+KeepsOffer (Some old) (Some new) = (new 0 ≡ old 0) × SameOffer old new × RestStays old new
 
 -- the first good disk has got the toggle, or none has
 abbrev pub TurnsFirst : ℕ → ℕ → List ℕ → List Held → List Held → Type 0

@@ -7,4 +7,4 @@ mod pass;
 mod writing;
 
 pub use disk::Disk;
-pub use writing::{Lost, commit};
+pub use writing::{Lost, commit, good_slots};

@@ -2,7 +2,7 @@ ghost use Rattle.std.specs.Prelude.{◌≡◌, ◌+◌, ◌-◌, ◌<◌, ◌≤
 ghost use Rattle.vx_base.specs.Named.{Word};
 ghost use Rattle.vx_mask.specs.Mask.{has};
 ghost use Rattle.vx_copies.specs.Lists.{Each, AllOf};
-ghost use Rattle.vx_copies.specs.Disks.{held, Goes, IsReady, IsBelow, good_count, is_good_slot};
+ghost use Rattle.vx_copies.specs.Disks.{held, Goes, HasSlot, IsReady, IsBelow, good_count, is_good_slot, good_mask};
 ghost use Rattle.vx_copies.specs.Config.{GivesOldOrNew, GivesNew};
 ghost use Rattle.vx_copies.specs.Chain.{Copy, IsSound};
 ghost use Rattle.vx_copies.specs.Commit.{AttemptEnds, CommitEnds};
@@ -23,9 +23,10 @@ pub enum Lost {
 }
 
 /// The slots of the good disks.
-fn good_slots<P: Piece>(disks: &[Disk<P>]) -> u32
-    requires ready { AllOf IsReady (map (held P.seen) disks.now) }
-    ensures { (slot : ℕ) → has result slot ≡ is_good_slot slot (map (held P.seen) disks.now) }
+pub fn good_slots<P: Piece>(disks: &[Disk<P>]) -> u32
+    requires slots { AllOf HasSlot (map (held P.seen) disks.now) }
+    ensures names { (slot : ℕ) → has result slot ≡ is_good_slot slot (map (held P.seen) disks.now) }
+    ensures just { result ≡ good_mask (map (held P.seen) disks.now) }
 {
     match disks {
         [] => 0,

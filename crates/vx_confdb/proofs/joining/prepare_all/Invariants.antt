@@ -8,7 +8,7 @@ abbrev pub invariant-disks : goal.invariant-disks
 invariant-disks g l = record {
   most : l.i ≤ length l.disks;
   size : length l.sector ≡ 512;
-  prepares : Each Prepares (map (held g.P.Piece.seen) l.fn.disks) (map (held g.P.Piece.seen) l.disks);
+  prepares : Each (Prepares l.group) (map (held g.P.Piece.seen) l.fn.disks) (map (held g.P.Piece.seen) l.disks);
   fresh : AllOf (IsFresh g.P.Piece.seen l.group) (drop l.i l.disks);
   prepared : AllOf (IsPrepared l.group) (map (held g.P.Piece.seen) (take l.i l.disks));
 }

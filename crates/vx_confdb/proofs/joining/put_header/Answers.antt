@@ -1,41 +1,50 @@
 use Rattle.std.proofs.Common.{◌≡◌, rules, refl, ◌∙◌, ap, Some}
 use Rattle.vx_header.specs.Named.{Label, header_of}
 use Rattle.vx_header.proofs.Naming.{header_back}
-use Rattle.vx_confdb.proofs.Preparing.{header_less, header_blank, header_named, blank_names}
+use Rattle.vx_confdb.proofs.Preparing.{header_begins, header_blank, header_named, blank_names}
 use Rattle.vx_confdb.proofs.joining.put_header.Goals as goal
 
 pub returns-in-Ok-clause-prepares : goal.returns-in-Ok-clause-prepares
-returns-in-Ok-clause-prepares g c = record {
-  slot = refl;
-  name = refl;
-  size = refl;
-  half = refl;
-  kept = c.write.ensures.kept;
-  good = search rules;
-  told = header_less c.put.new.out (c.put.auto.out ∙ c.requires.size) _ _ c.write.result c.requires.blank c.write.ensures.told.told;
-}
+returns-in-Ok-clause-prepares g c =
+    let label : Label = record { group = c.args.group.now; disk = c.args.disk.now.name; slot = c.args.disk.now.slot; sectors = c.args.disk.now.sectors } in
+    let says : header_of c.put.new.out ≡ Some label = ap header_of c.put.ensures ∙ header_back label (record { group = c.requires.fresh.group_short; disk = c.requires.fresh.name_short; slot = c.requires.fresh.slot; public = c.requires.fresh.public; at_most = c.requires.fresh.at_most }) in
+    record {
+      slot = refl;
+      name = refl;
+      size = refl;
+      half = refl;
+      kept = c.write.ensures.kept;
+      good = search rules;
+      told = header_begins c.put.new.out (c.put.auto.out ∙ c.requires.size) label says _ _ c.write.result c.requires.blank c.write.ensures.told.told;
+    }
 
 pub returns-in-Err-Failed-clause-prepares : goal.returns-in-Err-Failed-clause-prepares
-returns-in-Err-Failed-clause-prepares g c = record {
-  slot = refl;
-  name = refl;
-  size = refl;
-  half = refl;
-  kept = c.write.ensures.kept;
-  good = search rules;
-  told = header_less c.put.new.out (c.put.auto.out ∙ c.requires.size) _ _ c.write.result c.requires.blank c.write.ensures.told.told;
-}
+returns-in-Err-Failed-clause-prepares g c =
+    let label : Label = record { group = c.args.group.now; disk = c.args.disk.now.name; slot = c.args.disk.now.slot; sectors = c.args.disk.now.sectors } in
+    let says : header_of c.put.new.out ≡ Some label = ap header_of c.put.ensures ∙ header_back label (record { group = c.requires.fresh.group_short; disk = c.requires.fresh.name_short; slot = c.requires.fresh.slot; public = c.requires.fresh.public; at_most = c.requires.fresh.at_most }) in
+    record {
+      slot = refl;
+      name = refl;
+      size = refl;
+      half = refl;
+      kept = c.write.ensures.kept;
+      good = search rules;
+      told = header_begins c.put.new.out (c.put.auto.out ∙ c.requires.size) label says _ _ c.write.result c.requires.blank c.write.ensures.told.told;
+    }
 
 pub returns-in-Err-PowerLost-clause-prepares : goal.returns-in-Err-PowerLost-clause-prepares
-returns-in-Err-PowerLost-clause-prepares g c = record {
-  slot = refl;
-  name = refl;
-  size = refl;
-  half = refl;
-  kept = c.write.ensures.kept;
-  good = search rules;
-  told = header_less c.put.new.out (c.put.auto.out ∙ c.requires.size) _ _ c.write.result c.requires.blank c.write.ensures.told.told;
-}
+returns-in-Err-PowerLost-clause-prepares g c =
+    let label : Label = record { group = c.args.group.now; disk = c.args.disk.now.name; slot = c.args.disk.now.slot; sectors = c.args.disk.now.sectors } in
+    let says : header_of c.put.new.out ≡ Some label = ap header_of c.put.ensures ∙ header_back label (record { group = c.requires.fresh.group_short; disk = c.requires.fresh.name_short; slot = c.requires.fresh.slot; public = c.requires.fresh.public; at_most = c.requires.fresh.at_most }) in
+    record {
+      slot = refl;
+      name = refl;
+      size = refl;
+      half = refl;
+      kept = c.write.ensures.kept;
+      good = search rules;
+      told = header_begins c.put.new.out (c.put.auto.out ∙ c.requires.size) label says _ _ c.write.result c.requires.blank c.write.ensures.told.told;
+    }
 
 pub returns-in-Ok-clause-ends : goal.returns-in-Ok-clause-ends
 returns-in-Ok-clause-ends g c =

@@ -14,6 +14,7 @@ returns-in-Ok-clause-stays g c = record {
   kept = c.write.ensures.kept;
   good = search rules;
   told = half_told c.args.disk.now.half c.args.text.now c.args.padded.now c.requires.ready.half c.requires.padded _ _ c.write.result (c.requires.ready.names (search rules)) c.write.ensures.told.told;
+  idle = λ e. search rules;
 }
 
 pub returns-in-Ok-clause-ends : goal.returns-in-Ok-clause-ends
@@ -33,6 +34,7 @@ returns-in-Err-Failed-clause-stays g c = record {
   kept = c.write.ensures.kept;
   good = search rules;
   told = half_told c.args.disk.now.half c.args.text.now c.args.padded.now c.requires.ready.half c.requires.padded _ _ c.write.result (c.requires.ready.names (search rules)) c.write.ensures.told.told;
+  idle = λ e. search rules;
 }
 
 pub returns-in-Err-PowerLost-clause-stays : goal.returns-in-Err-PowerLost-clause-stays
@@ -44,4 +46,5 @@ returns-in-Err-PowerLost-clause-stays g c = record {
   kept = c.write.ensures.kept;
   good = search rules;
   told = half_told c.args.disk.now.half c.args.text.now c.args.padded.now c.requires.ready.half c.requires.padded _ _ c.write.result (c.requires.ready.names (search rules)) c.write.ensures.told.told;
+  idle = λ e. search rules;
 }

@@ -13,6 +13,7 @@ returns-in-Ok-clause-stamps g c =
       kept = c.write.ensures.kept;
       good = search rules;
       offers = if_good c.args.sequence c.args.mask c.args.text.now c.args.disk.now.good _ _ (search rules) (toggle_told c.args.disk.now.half c.args.sequence c.args.mask c.args.text.now c.put.new.out c.requires.ready.half (search rules) said _ _ c.write.result (c.requires.ready.names (search rules)) (c.requires.spare (search rules)) c.write.ensures.told.told);
+      idle = λ e. search rules;
     }
 
 pub returns-in-Err-Failed-clause-stamps : goal.returns-in-Err-Failed-clause-stamps
@@ -25,6 +26,7 @@ returns-in-Err-Failed-clause-stamps g c =
       kept = c.write.ensures.kept;
       good = search rules;
       offers = if_good c.args.sequence c.args.mask c.args.text.now c.args.disk.now.good _ _ (search rules) (toggle_told c.args.disk.now.half c.args.sequence c.args.mask c.args.text.now c.put.new.out c.requires.ready.half (search rules) said _ _ c.write.result (c.requires.ready.names (search rules)) (c.requires.spare (search rules)) c.write.ensures.told.told);
+      idle = λ e. search rules;
     }
 
 pub returns-in-Err-PowerLost-clause-stamps : goal.returns-in-Err-PowerLost-clause-stamps
@@ -37,6 +39,7 @@ returns-in-Err-PowerLost-clause-stamps g c =
       kept = c.write.ensures.kept;
       good = search rules;
       offers = if_good c.args.sequence c.args.mask c.args.text.now c.args.disk.now.good _ _ (search rules) (toggle_told c.args.disk.now.half c.args.sequence c.args.mask c.args.text.now c.put.new.out c.requires.ready.half (search rules) said _ _ c.write.result (c.requires.ready.names (search rules)) (c.requires.spare (search rules)) c.write.ensures.told.told);
+      idle = λ e. search rules;
     }
 
 pub returns-in-Ok-clause-ends : goal.returns-in-Ok-clause-ends

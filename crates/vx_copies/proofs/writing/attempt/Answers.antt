@@ -18,7 +18,7 @@ returns-in-Done-clause-sound g c = λ group others last carriers lt some sound.
     let ends : HalvesEnd Done c.args.text.now (map (held g.P.Piece.seen) c.args.disks.now) (map (held g.P.Piece.seen) c.put_halves.new.disks) = rw c.in-Done.is at c.put_halves.ensures.ends in
     let mid = sound_stays group others last carriers _ _ c.put_halves.ensures.stays sound in
     let same : good_count (take carriers (map (held g.P.Piece.seen) c.put_halves.new.disks)) ≡ good_count (take carriers (map (held g.P.Piece.seen) c.args.disks.now)) = same_count _ _ (each_first _ carriers _ _ ends.2) in
-    let names = still_named c.good_slots-mask.result _ _ (stays_was _ _ c.put_halves.ensures.stays) (good_named c.good_slots-mask.result _ c.good_slots-mask.ensures) in
+    let names = still_named c.good_slots-mask.result _ _ (stays_was _ _ c.put_halves.ensures.stays) (good_named c.good_slots-mask.result _ c.good_slots-mask.ensures.names) in
     let first = c.put_toggles.ensures.first (tells_if_good group _ mid.members) in
     sound_stamps group others last c.args.sequence c.good_slots-mask.result c.args.text.now lt carriers _ _ c.put_toggles.ensures.stamps names mid (omega (arith, same, some)) first
 
@@ -27,7 +27,7 @@ returns-in-Done-clause-all g c = λ group others last carriers lt some sound don
     let ends : HalvesEnd Done c.args.text.now (map (held g.P.Piece.seen) c.args.disks.now) (map (held g.P.Piece.seen) c.put_halves.new.disks) = rw c.in-Done.is at c.put_halves.ensures.ends in
     let mid = sound_stays group others last carriers _ _ c.put_halves.ensures.stays sound in
     let same : good_count (take carriers (map (held g.P.Piece.seen) c.put_halves.new.disks)) ≡ good_count (take carriers (map (held g.P.Piece.seen) c.args.disks.now)) = same_count _ _ (each_first _ carriers _ _ ends.2) in
-    let names = still_named c.good_slots-mask.result _ _ (stays_was _ _ c.put_halves.ensures.stays) (good_named c.good_slots-mask.result _ c.good_slots-mask.ensures) in
+    let names = still_named c.good_slots-mask.result _ _ (stays_was _ _ c.put_halves.ensures.stays) (good_named c.good_slots-mask.result _ c.good_slots-mask.ensures.names) in
     let first = c.put_toggles.ensures.first (tells_if_good group _ mid.members) in
     let whole : TogglesEnd Done c.args.sequence c.good_slots-mask.result c.args.text.now (map (held g.P.Piece.seen) c.put_halves.new.disks) (map (held g.P.Piece.seen) c.put_toggles.new.disks) = rw done at c.put_toggles.ensures.ends in
     sound_turned group others last c.args.sequence c.good_slots-mask.result c.args.text.now lt carriers _ _ c.put_toggles.ensures.stamps names mid _ (omega (arith, same, some))
@@ -38,7 +38,7 @@ returns-in-Done-clause-ends g c =
     let ends : HalvesEnd Done c.args.text.now (map (held g.P.Piece.seen) c.args.disks.now) (map (held g.P.Piece.seen) c.put_halves.new.disks) = rw c.in-Done.is at c.put_halves.ensures.ends in
     toggles_tried c.put_toggles.result c.args.sequence c.good_slots-mask.result c.args.text.now _ _ _ ends.2
     (slots_stay c.args.sequence c.args.sequence c.args.text.now _ _ (all_trans c.args.sequence c.args.sequence c.args.text.now _ _ _ (stays_all c.args.sequence c.args.sequence c.args.text.now _ _ c.put_halves.ensures.stays) (stamps_all c.args.sequence c.good_slots-mask.result c.args.text.now _ _ c.put_toggles.ensures.stamps)))
-    c.good_slots-mask.ensures c.put_toggles.ensures.ends
+    c.good_slots-mask.ensures.names c.good_slots-mask.ensures.just c.put_toggles.ensures.ends
 
 pub returns-in_default : goal.returns-in_default
 returns-in_default g c = record {

@@ -17,7 +17,7 @@ write_joined-requires-clause-alive g c κs within =
     let is = mid_members g.P.Piece.seen c.args.self.now.disks.items c.reserve.new.self.items c.put_last.new.disks.items c.join_one-joined.new.disk c.reserve.ensures.items c.put_last.ensures.put in
     let none = (none_all c.args.self.now.name (held g.P.Piece.seen c.args.disk ∷ []) (held g.P.Piece.seen c.join_one-joined.new.disk ∷ []) (c.join_one-joined.ensures.prepares, tt) (c.requires.none, tt)).0 in
     let few : length c.put_last.new.disks.items ≤ 32 = omega (arith, one_longer c.args.self.now.disks.items c.reserve.new.self.items c.put_last.new.disks.items c.join_one-joined.new.disk c.reserve.ensures.items c.put_last.ensures.put, c.requires.room) in
-    joined_is g.P.Piece.seen c.join_one-joined.result _ (members g.P.Piece.seen c.args.self.now) (held g.P.Piece.seen c.join_one-joined.new.disk) is few alive.ready alive.headed alive.below none c.join_one-joined.ensures.ends
+    joined_is g.P.Piece.seen c.join_one-joined.result _ (members g.P.Piece.seen c.args.self.now) (held g.P.Piece.seen c.join_one-joined.new.disk) is few alive.ready alive.headed alive.below none (rw c.join_one-joined.ensures.prepares.slot c.requires.fresh.slot) c.join_one-joined.ensures.ends
 
 pub returns-in-Ok-write_joined-clause-ends : goal.returns-in-Ok-write_joined-clause-ends
 returns-in-Ok-write_joined-clause-ends g c =
@@ -32,7 +32,7 @@ returns-in-Ok-write_joined-clause-ends g c =
     (λ cut. same (c.write_joined.ensures.stays cut)) (c.write_joined.ensures.sound os) tells (rw size sound) in
     let committed = c.write_joined.ensures.written.committed in
     let taken : IsTaken g.P.Piece.seen (text_of c.in-Ok.text) c.args.disk c.args.self.now c.write_joined.new.self =
-    taken_is g.P.Piece.seen (text_of c.in-Ok.text) c.args.disk c.join_one-joined.new.disk c.args.self.now c.write_joined.new.self (members g.P.Piece.seen mid) is c.join_one-joined.ensures.prepares none committed.name committed.goes committed.old_or_new committed.few chain in
+    taken_is g.P.Piece.seen c.join_one-joined.result (text_of c.in-Ok.text) c.args.disk c.join_one-joined.new.disk c.args.self.now c.write_joined.new.self (members g.P.Piece.seen mid) is c.join_one-joined.ensures.prepares none c.join_one-joined.ensures.ends (λ cut. same (c.write_joined.ensures.stays cut)) committed.name committed.goes committed.old_or_new committed.few chain in
     let longer : length c.write_joined.new.self.disks.items ≡ length c.put_last.new.disks.items = held_length g.P.Piece.seen _ c.put_last.new.disks.items c.write_joined.new.self.disks.items committed.goes in
     let whole : (os : List Copy) → Tells (held g.P.Piece.seen c.args.disk) → IsSound c.args.self.now.name os c.args.self.now.sequence (length c.args.self.now.disks.items) (members g.P.Piece.seen c.args.self.now) → IsSound c.args.self.now.name os c.write_joined.new.self.sequence (length c.write_joined.new.self.disks.items) (members g.P.Piece.seen c.write_joined.new.self) = λ os tells sound.
     whole_by c.join_one-joined.result c.args.self.now.name os c.args.self.now.sequence c.write_joined.new.self.sequence c.len-carriers.result (length c.write_joined.new.self.disks.items) (members g.P.Piece.seen c.args.self.now) (members g.P.Piece.seen mid) (members g.P.Piece.seen c.write_joined.new.self) (held g.P.Piece.seen c.args.disk) (held g.P.Piece.seen c.join_one-joined.new.disk) is long c.join_one-joined.ensures.prepares none c.join_one-joined.ensures.ends
@@ -53,7 +53,7 @@ returns-in-Err-clause-ends g c =
     (λ cut. same (c.write_joined.ensures.stays cut)) (c.write_joined.ensures.sound os) tells (rw size sound) in
     let committed = c.write_joined.ensures.written.committed in
     let taken : IsTaken g.P.Piece.seen (text_of c.in-Ok.text) c.args.disk c.args.self.now c.write_joined.new.self =
-    taken_is g.P.Piece.seen (text_of c.in-Ok.text) c.args.disk c.join_one-joined.new.disk c.args.self.now c.write_joined.new.self (members g.P.Piece.seen mid) is c.join_one-joined.ensures.prepares none committed.name committed.goes committed.old_or_new committed.few chain in
+    taken_is g.P.Piece.seen c.join_one-joined.result (text_of c.in-Ok.text) c.args.disk c.join_one-joined.new.disk c.args.self.now c.write_joined.new.self (members g.P.Piece.seen mid) is c.join_one-joined.ensures.prepares none c.join_one-joined.ensures.ends (λ cut. same (c.write_joined.ensures.stays cut)) committed.name committed.goes committed.old_or_new committed.few chain in
     let ends : AddGives g.P.Piece.seen (Err (c.in-Err.fault, None)) (text_of c.in-Ok.text) c.args.disk c.args.self.now c.write_joined.new.self =
     lost_taken g.P.Piece.seen c.in-Err.fault c.len-carriers.result (text_of c.in-Ok.text) c.args.disk c.join_one-joined.new.disk c.args.self.now mid c.write_joined.new.self is long size taken c.in-Err.ensures.written.ends in
     rw c.in-Ok.ensures at ends

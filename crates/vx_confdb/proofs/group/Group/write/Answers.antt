@@ -2,7 +2,7 @@ use Rattle.std.proofs.Common.{refl, arith}
 use Rattle.std.proofs.lemmas.List.{length-map}
 use Rattle.vx_copies.specs.Disks.{held}
 use Rattle.vx_confdb.specs.Texts.{text_of}
-use Rattle.vx_confdb.proofs.Grouped.{headed_stays, lost_by}
+use Rattle.vx_confdb.proofs.Grouped.{headed_stays, slots_stay, ready_slots, alive_group, lost_by}
 use Rattle.vx_confdb.proofs.group.Group.write.Goals as goal
 
 pub returns-in-Ok-clause-written : goal.returns-in-Ok-clause-written
@@ -47,3 +47,16 @@ returns-in-Err-clause-written g c =
       };
       ends = rw c.fault_of.ensures (lost_by g.P.Piece.seen c.write_all.result c.in-Err.lost c.args.carriers c.write_all.new.sequence (text_of c.args.text) c.args.self.now _ c.in-Err.is refl carried.ends);
     }
+
+pub returns-in-Ok-clause-group : goal.returns-in-Ok-clause-group
+returns-in-Ok-clause-group g c =
+    let carried = c.in-Ok.ensures.carried in
+    alive_group g.P.Piece.seen _ c.requires.going (record {
+      ready = carried.ends.0;
+      headed = headed_stays c.args.self.now.name _ _ _ _ _ carried.goes c.requires.alive.headed;
+      below = carried.below c.args.self.now.name c.requires.alive.below;
+      few = omega (arith, c.write_all.ensures.long, c.requires.alive.few);
+    })
+
+pub returns-in-Err-clause-group : goal.returns-in-Err-clause-group
+returns-in-Err-clause-group g c = slots_stay _ _ _ _ _ c.write_all.ensures.carried.goes (ready_slots _ c.requires.alive.ready)

@@ -10,5 +10,10 @@ returns-in-Cut-clause-written g c =
     let cut : IsJoined g.P.Piece.seen Cut c.args.self.now = rw c.in-Cut.is at c.requires.alive in
     record {
       committed = record { name = refl; goes = all_refl (c.args.self.now.sequence + 1) c.args.self.now.sequence (text_of c.args.text) _; old_or_new = λ readable. inl refl; few = omega arith };
-      ends = (refl, cut.1);
+      ends = (refl, cut.2);
     }
+
+pub returns-in-Cut-clause-group : goal.returns-in-Cut-clause-group
+returns-in-Cut-clause-group g c =
+    let cut : IsJoined g.P.Piece.seen Cut c.args.self.now = rw c.in-Cut.is at c.requires.alive in
+    cut.0

@@ -39,8 +39,9 @@ pub record Looked : Type 0 where
 abbrev pub looked : {P : Type 0} → (P → Seen) → Found P → Looked
 looked see f = record { label = label_of f.header; readable = f.readable; reading = f.reading; seen = see f.piece }
 
+-- the device has a private region
 abbrev pub IsPrivate : Looked → Type 0
-IsPrivate f = f.seen.sectors ≡ 2048
+IsPrivate f = 2048 ≤ f.seen.sectors
 
 -- where it can be read, its toggle was read
 abbrev pub HasReading : Looked → Type 0

@@ -18,6 +18,6 @@ pub struct Found<P> {
     pub readable: bool,
     /// What its toggle says, where it could be read.
     pub reading: Reading,
-    /// Its private region.
+    /// The whole device.
     pub piece: P,
 }

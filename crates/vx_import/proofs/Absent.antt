@@ -1,10 +1,9 @@
 -- The slots that no device has, and the devices that are damaged.
-use Rattle.std.proofs.Common.{◌≡◌, ℕ, zero, suc, ◌+◌, ◌-◌, ◌<◌, ◌≤◌, Bool, true, false, List, [], ◌∷◌, length, map, take, drop, get_or, set, Option, Some, None, refl, sym, ap, ◌∙◌, subst, arith, inl, inr, add-one}
+use Rattle.std.proofs.Common.{◌≡◌, ℕ, zero, suc, ◌+◌, ◌-◌, ◌<◌, ◌≤◌, true, List, [], ◌∷◌, length, map, take, drop, get_or, Option, Some, None, sym, subst, arith, inl, inr, add-one}
 use Rattle.std.proofs.lemmas.List.{take_all}
 use Rattle.std.proofs.lemmas.Bool.{cases_eq}
 use Rattle.vx_piece.specs.Seen.{Seen}
 use Rattle.vx_mask.specs.Mask.{has}
-use Rattle.vx_copies.specs.Lists.{AllOf}
 use Rattle.vx_import.specs.Looks.{Looked, looked}
 use Rattle.vx_import.specs.Choice.{At}
 use Rattle.vx_import.specs.Naming.{is_readable_slot, AllThere, IsWhole, DamageIs}

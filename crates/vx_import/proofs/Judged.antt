@@ -1,6 +1,5 @@
 -- What is chosen, and what is answered of it.
-use Rattle.std.proofs.Common.{◌≡◌, ℕ, ◌<◌, ◌≤◌, ◌^◌, List, length, take, Option, Some, None, sym, arith, subst, inl, inr}
-use Rattle.std.proofs.lemmas.List.{length-take-le}
+use Rattle.std.proofs.Common.{◌≡◌, ℕ, ◌<◌, ◌≤◌, ◌^◌, List, length, Some, sym, arith, subst, inl, inr}
 use Rattle.vx_base.specs.Named.{Word}
 use Rattle.vx_header.specs.Said.{Said}
 use Rattle.vx_copies.specs.Lists.{AllOf}

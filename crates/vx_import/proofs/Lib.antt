@@ -7,3 +7,4 @@ pub mod Passing
 pub mod Absent
 pub mod Judged
 pub mod Topmost
+pub mod Members

@@ -1,5 +1,5 @@
 -- Where each slot that is named has a device that can be read, what is taken is the newest of all devices of the group.
-use Rattle.std.proofs.Common.{◌≡◌, ◌≢◌, ℕ, ◌<◌, ◌≤◌, ◌^◌, Bool, true, false, List, [], ◌∷◌, refl, sym, ap, subst, arith, inl, inr}
+use Rattle.std.proofs.Common.{◌≡◌, ◌≢◌, ℕ, ◌<◌, ◌≤◌, ◌^◌, Bool, true, false, List, [], ◌∷◌, refl, subst, arith, inl, inr}
 use Rattle.std.specs.Prelude.{◌&&◌, ◌||◌, ◌==◌, Result, Ok, Err, IfOk}
 use Rattle.std.proofs.lemmas.Bool.{cases_lt, ne_eqb}
 use Rattle.std.proofs.lemmas.Nat.Bits.{bit_at_above}
@@ -10,7 +10,6 @@ use Rattle.vx_copies.specs.Image.{Offer}
 use Rattle.vx_copies.specs.Chain.{Copy, NamesNewer}
 use Rattle.vx_confdb.specs.Texts.{text_of}
 use Rattle.vx_import.specs.Looks.{Looked}
-use Rattle.vx_import.specs.Newest.{NamesUnread}
 use Rattle.vx_import.specs.Naming.{is_readable_slot, AllThere}
 use Rattle.vx_import.specs.Answers.{IsRising, IsChosen, IsElsewhere, IsNewestOf, Answers}
 use Rattle.vx_import.specs.declared.judging.Given.{Given}

@@ -1,16 +1,18 @@
 -- What the devices of a group give, or why they give nothing.
-use Rattle.std.specs.Prelude.{◌≡◌, ◌≢◌, ◌⊎◌, ℕ, ◌<◌, ◌≤◌, ◌^◌, List, [], ◌∷◌, length, Option, Some, None, IfSome, Result, Ok, Err}
+use Rattle.std.specs.Prelude.{◌≡◌, ◌≢◌, ◌⊎◌, ℕ, Bool, ◌<◌, ◌≤◌, ◌^◌, List, [], ◌∷◌, length, Option, Some, None, IfSome, Result, Ok, Err}
 use Rattle.vx_base.specs.Named.{Word}
 use Rattle.vx_header.specs.Named.{header_of}
 use Rattle.vx_header.specs.Said.{Said}
+use Rattle.vx_piece.specs.Seen.{Seen}
+use Rattle.vx_copies.specs.Disks.{Held}
 use Rattle.vx_copies.specs.Lists.{AllOf, AnyOf}
 use Rattle.vx_copies.specs.Chain.{Copy, AllUpTo, IsChained}
 use Rattle.vx_confdb.specs.Texts.{text_of}
-use Rattle.vx_import.specs.Looks.{Looked, IsPrivate, HasReading}
+use Rattle.vx_import.specs.Looks.{Looked, HasReading, half_in}
 use Rattle.vx_import.specs.Choice.{At, IsTop, HasNone, HoldsText, Tells, given}
 use Rattle.vx_import.specs.Newest.{copies_with}
 use Rattle.vx_import.specs.Naming.{AllThere, IsGone, IsWhole, DamageIs}
-use Rattle.vx_import.specs.Toggles.{IsUnread, IsOff}
+use Rattle.vx_import.specs.Toggles.{IsOff}
 use Rattle.vx_import.specs.declared.naming.Damage.{Damage}
 use Rattle.vx_import.specs.declared.judging.Given.{Given}
 use Rattle.vx_import.specs.declared.judging.ImportFault.{ImportFault}
@@ -113,3 +115,7 @@ IsElsewhere fs c = AllOf (λ f. f.label.slot ≢ c.slot) fs
 -- whatever other devices the group has, none of them and none of these has a newer configuration, where all are chained
 abbrev pub IsNewestOf : Word → ℕ → List Looked → Type 0
 IsNewestOf group sequence fs = (others : List Copy) → AllOf Tells fs → AllOf (IsElsewhere fs) others → IsChained (copies_with group others fs) → AllUpTo sequence (copies_with group others fs)
+
+-- the disk that a device becomes, with the private region that was split off
+abbrev pub disk_of : Bool → Looked → Seen → Held
+disk_of good f private = record { name = f.label.disk; slot = f.label.slot; sectors = f.label.sectors; good = good; half = half_in f.reading; seen = private }

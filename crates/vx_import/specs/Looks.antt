@@ -18,6 +18,12 @@ said_in Blank = None
 said_in (Says t) = Some (said_of t)
 said_in (Damaged byte) = None
 
+-- the half that the toggle names, else the first
+abbrev pub half_in : Reading → ℕ
+half_in Blank = 0
+half_in (Says t) = t.half
+half_in (Damaged byte) = 0
+
 -- zeros, or a toggle, or the byte behind 512 others at which the sector is none
 abbrev pub HasForm : Reading → List ℕ → Type 0
 HasForm Blank sector = sector ≡ zeros 512

@@ -1,7 +1,6 @@
-use Rattle.std.proofs.Common.{map, List}
-use Rattle.vx_copies.specs.Lists.{AllOf, AnyOf}
+use Rattle.std.proofs.Common.{map}
 use Rattle.vx_copies.proofs.Going.{each_trans, each_map}
-use Rattle.vx_import.specs.Looks.{Looked, looked, IsPrivate, HasReading, Reads}
+use Rattle.vx_import.specs.Looks.{looked, IsPrivate, HasReading, Reads}
 use Rattle.vx_import.specs.Toggles.{Inspects, PassedAll}
 use Rattle.vx_import.specs.declared.toggles.Passed.TheVariants.{Done}
 use Rattle.vx_import.proofs.Looking.{all_on}

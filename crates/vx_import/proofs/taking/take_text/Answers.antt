@@ -1,8 +1,6 @@
-use Rattle.std.proofs.Common.{◌∙◌, map, subst, sym, arith}
+use Rattle.std.proofs.Common.{arith}
 use Rattle.vx_copies.proofs.Going.{each_trans}
-use Rattle.vx_import.specs.Looks.{looked, IsPrivate, Reads}
-use Rattle.vx_import.specs.Tries.{TriesIs}
-use Rattle.std.specs.Prelude.{None}
+use Rattle.vx_import.specs.Looks.{IsPrivate, Reads}
 use Rattle.vx_import.proofs.Looking.{each_refl, reads_trans, all_on, private_on}
 use Rattle.vx_import.proofs.taking.take_text.Goals as goal
 

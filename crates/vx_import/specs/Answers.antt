@@ -18,7 +18,7 @@ use Rattle.vx_import.specs.declared.judging.Given.{Given}
 use Rattle.vx_import.specs.declared.judging.ImportFault.{ImportFault}
 use Rattle.vx_import.specs.declared.judging.ImportFault.TheVariants as fault
 
--- the header names the group, and says what the label says
+-- the header names the group, and says what the label says, where the device tells what it holds
 pub record IsOf (group : Word) (f : Looked) : Type 0 where
   pub group_is : f.label.group ≡ group
   pub headed : IfSome f.seen.told (λ contents. header_of (contents 0) ≡ Some f.label)
@@ -90,6 +90,7 @@ pub record IsDamagedNamed (group : Word) (d : Damage) (fs : List Looked) : Type 
   pub low : sequence ≤ 2 ^ 63
   pub first : DamageIs (Some d) (Some good) fs
 
+-- this disk is told to be damaged: nothing else is there, or its sequence is too high, or the configuration names it
 abbrev pub IsDamaged : Word → Damage → List Looked → Type 0
 IsDamaged group d fs = IsDamagedAlone group d fs ⊎ (IsTooHigh group d fs ⊎ IsDamagedNamed group d fs)
 

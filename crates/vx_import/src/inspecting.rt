@@ -18,8 +18,9 @@ use vx_piece::Piece;
 
 /// What the devices of a group give: the text of the highest toggle among those that can be read. The devices are whole
 /// ones, one for each slot in rising order, and no read of them has failed yet. Nothing is written, and no device is read
-/// again once a read of it has failed. It is not taken where it names a slot without a device that can be read, or a
-/// device whose toggle is damaged; of two such causes the damage is told.
+/// again once a read of it has failed. The text is not taken where its toggle names a device that is damaged, or a slot
+/// without a device that can be read; where both are so the damage is told. Takes 522,240 bytes before the first read and
+/// gives them back, and for a text that is taken or told as much as it needs.
 pub fn inspect<P: Piece>(alloc: Global, found: &mut [Found<P>]) -> Result<Given, ImportFault>
     requires few { length found.old ≤ 32 }
     requires private { AllOf IsPrivate (map (looked P.seen) found.old) }

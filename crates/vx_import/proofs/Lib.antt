@@ -1,5 +1,10 @@
 pub mod Sectors
 pub mod Picking
-pub mod Given
+pub mod Giving
 pub mod Looking
 pub mod Chained
+pub mod Passing
+pub mod Absent
+pub mod Judged
+pub mod Topmost
+pub mod Members

@@ -49,7 +49,7 @@ module _ (Q : Looked → Type 0) (on : (a b : Looked) → Reads a b → Q a → 
   all_on (x ∷ xs) (y ∷ ys) is all = (on x y is.0 all.0, all_on xs ys is.1 all.1)
 
 pub private_on : (a b : Looked) → Reads a b → IsPrivate a → IsPrivate b
-private_on a b is private = is.kept.sectors ∙ private
+private_on a b is private = let same = is.kept.sectors in let more : 2048 ≤ b.seen.sectors = omega (arith, same, private) in more
 
 pub tells_on : (a b : Looked) → Reads a b → Tells a → Tells b
 tells_on a b is tells = subst (λ (o : Option Contents). MatchOption o ⊥ (λ c. Unit {0})) (sym is.same.told) tells

@@ -43,7 +43,7 @@ text_told (Ok u) None half len buffer size are = are
 text_told (Ok u) (Some c) half len buffer size are = text_read half len buffer c size are
 text_told (Err e) told half len buffer size are = tt
 
-pub text_inside : (piece : Seen) (half len n : ℕ) → half < 2 → len ≤ 522240 → piece.sectors ≡ 2048 → n ≡ 512 * sectors_for len → IsInside piece (half_start half) n
+pub text_inside : (piece : Seen) (half len n : ℕ) → half < 2 → len ≤ 522240 → 2048 ≤ piece.sectors → n ≡ 512 * sectors_for len → IsInside piece (half_start half) n
 text_inside piece half len n lt fits size is = record {
   some = omega (arith, is, one_sector len);
   whole = omega (arith, is);

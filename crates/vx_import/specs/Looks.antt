@@ -18,6 +18,12 @@ said_in Blank = None
 said_in (Says t) = Some (said_of t)
 said_in (Damaged byte) = None
 
+-- the half that the toggle names, else the first
+abbrev pub half_in : Reading → ℕ
+half_in Blank = 0
+half_in (Says t) = t.half
+half_in (Damaged byte) = 0
+
 -- zeros, or a toggle, or the byte behind 512 others at which the sector is none
 abbrev pub HasForm : Reading → List ℕ → Type 0
 HasForm Blank sector = sector ≡ zeros 512
@@ -39,8 +45,9 @@ pub record Looked : Type 0 where
 abbrev pub looked : {P : Type 0} → (P → Seen) → Found P → Looked
 looked see f = record { label = label_of f.header; readable = f.readable; reading = f.reading; seen = see f.piece }
 
+-- the device has a private region
 abbrev pub IsPrivate : Looked → Type 0
-IsPrivate f = f.seen.sectors ≡ 2048
+IsPrivate f = 2048 ≤ f.seen.sectors
 
 -- where it can be read, its toggle was read
 abbrev pub HasReading : Looked → Type 0

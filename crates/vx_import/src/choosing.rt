@@ -104,7 +104,7 @@ pub enum Tried {
 
 /// Reads the text that a device's toggle names into a buffer, which has room for any text.
 pub fn take_one<P: Piece>(found: &mut Found<P>, toggle: &Toggle, buffer: &mut [u8]) -> Tried
-    requires private { (P.seen found.old.piece).sectors ≡ 2048 }
+    requires private { 2048 ≤ (P.seen found.old.piece).sectors }
     requires readable { found.old.readable ≡ true }
     requires room { length buffer.old ≡ 522240 }
     ensures room { length buffer.new ≡ 522240 }

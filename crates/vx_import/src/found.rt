@@ -1,3 +1,6 @@
+ghost use Rattle.std.specs.Prelude.{◌≡◌, ◌<◌};
+ghost use Rattle.vx_import.specs.Looks.{half_in};
+
 use vx_header::{Header, Toggle};
 
 /// What the second sector of a private region says.
@@ -18,6 +21,18 @@ pub struct Found<P> {
     pub readable: bool,
     /// What its toggle says, where it could be read.
     pub reading: Reading,
-    /// Its private region.
+    /// The whole device.
     pub piece: P,
+}
+
+/// The half that a toggle names, and the first where there is none: the spare half of its disk is the other one.
+pub fn half_of(reading: &Reading) -> u8
+    ensures names { result ≡ half_in reading.now }
+    ensures below { result < 2 }
+{
+    match *reading {
+        Reading::Says(toggle) => toggle.half,
+        Reading::Blank => 0,
+        Reading::Damaged(_) => 0,
+    }
 }

@@ -3,10 +3,20 @@
 
 mod choosing;
 mod found;
+mod inspecting;
+mod judging;
+mod naming;
 mod reading;
 mod taking;
+mod toggles;
 
 pub use choosing::{Best, Taken, Tried, choose, take_one};
-pub use found::{Found, Reading};
+pub use found::{Found, Reading, half_of};
+pub use inspecting::inspect;
+pub use judging::{Given, ImportFault};
+pub use naming::Damage;
 pub use reading::{find, read_text, read_toggle};
 pub use taking::try_best;
+
+#[cfg(test)]
+mod tests;

@@ -11,7 +11,7 @@ use vx_piece::{Piece, PieceFault};
 
 /// What the header of a private region says; None where sector 0 holds no header.
 pub fn find<P: Piece>(piece: &mut P) -> Result<Option<Header>, PieceFault>
-    requires sectors { (P.seen piece.old).sectors ≡ 2048 }
+    requires sectors { 2048 ≤ (P.seen piece.old).sectors }
     ensures kept { Keeps (P.seen piece.old) (P.seen piece.new) }
     ensures same { IsRead (P.seen piece.old) (P.seen piece.new) }
     ensures header { IfOk result (λ h. IfSome (P.seen piece.old).told (λ contents. header_of (contents 0) ≡ option_map label_of h)) }
@@ -24,7 +24,7 @@ pub fn find<P: Piece>(piece: &mut P) -> Result<Option<Header>, PieceFault>
 /// The same, with room for a sector.
 pub fn read_header<P: Piece>(piece: &mut P, sector: &mut [u8]) -> Result<Option<Header>, PieceFault>
     requires size { length sector.old ≡ 512 }
-    requires sectors { (P.seen piece.old).sectors ≡ 2048 }
+    requires sectors { 2048 ≤ (P.seen piece.old).sectors }
     ensures size { length sector.new ≡ 512 }
     ensures kept { Keeps (P.seen piece.old) (P.seen piece.new) }
     ensures same { IsRead (P.seen piece.old) (P.seen piece.new) }
@@ -50,7 +50,7 @@ fn header_in(sector: &[u8]) -> Option<Header>
 /// What the toggle of a private region says. `sector` is room for a sector.
 pub fn read_toggle<P: Piece>(piece: &mut P, sector: &mut [u8]) -> Result<Reading, PieceFault>
     requires size { length sector.old ≡ 512 }
-    requires sectors { (P.seen piece.old).sectors ≡ 2048 }
+    requires sectors { 2048 ≤ (P.seen piece.old).sectors }
     ensures size { length sector.new ≡ 512 }
     ensures kept { Keeps (P.seen piece.old) (P.seen piece.new) }
     ensures same { IsRead (P.seen piece.old) (P.seen piece.new) }
@@ -82,7 +82,7 @@ pub fn read_text<P: Piece>(
     buffer: &mut [u8],
 ) -> Result<(), PieceFault>
     requires size { length buffer.old ≡ 512 * sectors_for toggle.now.length }
-    requires sectors { (P.seen piece.old).sectors ≡ 2048 }
+    requires sectors { 2048 ≤ (P.seen piece.old).sectors }
     ensures size { length buffer.new ≡ length buffer.old }
     ensures kept { Keeps (P.seen piece.old) (P.seen piece.new) }
     ensures same { IsRead (P.seen piece.old) (P.seen piece.new) }

@@ -2,7 +2,7 @@ ghost use Rattle.std.specs.Prelude.{◌≡◌, ◌<◌, ◌^◌, length, map};
 ghost use Rattle.vx_header.specs.Said.{said_of};
 ghost use Rattle.vx_copies.specs.Lists.{Each, AllOf};
 ghost use Rattle.vx_import.specs.Looks.{looked, IsPrivate, Reads};
-ghost use Rattle.vx_import.specs.Choice.{IsTop};
+ghost use Rattle.vx_import.specs.Choice.{IsTop, TakenIs};
 ghost use Rattle.vx_import.specs.Tries.{TriesIs};
 
 use crate::choosing::{Best, Taken, Tried, choose, take_one};
@@ -40,5 +40,23 @@ fn try_at<P: Piece>(found: &mut [Found<P>], best: Best, buffer: &mut [u8]) -> Op
         Tried::Done => Some(Taken::Text(best)),
         Tried::Cut => Some(Taken::Cut),
         Tried::Dropped => None,
+    }
+}
+
+/// Takes the text of the highest sequence among the devices that can be read. Where a read fails the device cannot be
+/// read any more, and the choice starts again. The text stands at the front of the buffer, which has room for any text.
+pub fn take_text<P: Piece>(found: &mut [Found<P>], buffer: &mut [u8]) -> Taken
+    requires few { length found.old < 2 ^ 64 }
+    requires private { AllOf IsPrivate (map (looked P.seen) found.old) }
+    requires room { length buffer.old ≡ 522240 }
+    ensures room { length buffer.new ≡ 522240 }
+    ensures reads { Each Reads (map (looked P.seen) found.old) (map (looked P.seen) found.new) }
+    ensures taken { TakenIs result buffer.new (map (looked P.seen) found.new) }
+{
+    'tries: loop {
+        match try_best(found, buffer) {
+            Some(taken) => return taken,
+            None => {}
+        }
     }
 }

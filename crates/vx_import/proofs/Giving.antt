@@ -12,7 +12,7 @@ use Rattle.vx_copies.specs.Image.{Offer, offer_by, offer_of, offer_in, offer_if,
 use Rattle.vx_import.specs.Looks.{Looked, IsOurs, IsReading, toggle_read, said_in}
 use Rattle.vx_import.specs.Choice.{At, IfToggle, HasNone, HoldsText, Tells, given}
 
-abbrev IfOffer : (ℕ → Type 0) → Option Offer → Type 0
+abbrev pub IfOffer : (ℕ → Type 0) → Option Offer → Type 0
 IfOffer Q o = MatchOption o (Unit {0}) (λ p. Q p.sequence)
 
 higher_up : (n : ℕ) (a b : Option Offer) → IfOffer (λ k. k ≤ n) a → IfOffer (λ k. k ≤ n) b → IfOffer (λ k. k ≤ n) (higher a b)
@@ -37,7 +37,7 @@ if_offer Q None c is = tt
 if_offer Q (Some t) c is = is
 
 module _ (group : Word) where
-  abbrev offer_here : Looked → Option Offer
+  abbrev pub offer_here : Looked → Option Offer
   offer_here f = cond f.readable (offer_told group f.seen.told) None
 
   in_group : (c : Contents) (label : Label) (s : Option Said) → header_of (c 0) ≡ Some label → label.group ≡ group → toggle_of (c 1) ≡ s → offer_in group c ≡ offer_by s c
@@ -61,7 +61,7 @@ module _ (group : Word) where
   tell None is = absurd is
   tell (Some c) is = (c, refl)
 
-  offer_if_toggle : (Q : ℕ → Type 0) (f : Looked) → IsOurs group f → Tells f → IfToggle Q f → IfOffer Q (offer_here f)
+  pub offer_if_toggle : (Q : ℕ → Type 0) (f : Looked) → IsOurs group f → Tells f → IfToggle Q f → IfOffer Q (offer_here f)
   offer_if_toggle Q f ours tells is =
       let c = tell f.seen.told tells in
       subst (IfOffer Q) (sym (offer_is f c.0 c.1 ours)) (if_offer Q (toggle_read f) c.0 is)

@@ -18,7 +18,7 @@ pub record IsFresh {P : Type 0} (see : P → Seen) (group : Word) (d : Disk P) :
   pub good : d.good ≡ true
   pub slot : d.slot < 32
   pub half : d.half < 2
-  pub private : (see d.piece).sectors ≡ 2048
+  pub private : 2048 ≤ (see d.piece).sectors
   pub group_short : IsTrue (is_short_name group)
   pub name_short : IsTrue (is_short_name d.name)
   pub public : 2048 < d.sectors

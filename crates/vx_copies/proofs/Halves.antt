@@ -113,7 +113,11 @@ pub one_sector : (n : ℕ) → 1 ≤ sectors_for n
 unfolding sectors_for
 one_sector n = omega arith
 
-pub half_inside : (piece : Seen) (half : ℕ) (text padded : List ℕ) → half < 2 → piece.sectors ≡ 2048 → IsPadded text padded → IsInside piece (half_start (1 - half)) (length padded)
+-- a piece that keeps its sectors has a private region as before
+pub wide_on : (m n : ℕ) → n ≡ m → 2048 ≤ m → 2048 ≤ n
+wide_on m n same wide = let more : 2048 ≤ n = omega (arith, same, wide) in more
+
+pub half_inside : (piece : Seen) (half : ℕ) (text padded : List ℕ) → half < 2 → 2048 ≤ piece.sectors → IsPadded text padded → IsInside piece (half_start (1 - half)) (length padded)
 half_inside piece half text padded lt size fills = record {
   some = omega (arith, fills.size, one_sector (length text));
   whole = omega (arith, fills.size);

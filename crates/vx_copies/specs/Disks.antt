@@ -49,11 +49,11 @@ NamesHalf half (Some contents) = MatchOption (toggle_at contents) (Unit {0}) (λ
 abbrev pub HasSlot : Held → Type 0
 HasSlot h = h.slot < 32
 
--- a good disk's half is the one that its toggle names; the piece is a private region
+-- a good disk's half is the one that its toggle names; the piece has a private region
 pub record IsReady (h : Held) : Type 0 where
   pub slot : h.slot < 32
   pub half : h.half < 2
-  pub sectors : h.seen.sectors ≡ 2048
+  pub sectors : 2048 ≤ h.seen.sectors
   pub names : IsTrue h.good → NamesHalf h.half h.seen.told
 
 abbrev pub HasText : ℕ → List ℕ → Option Contents → Type 0

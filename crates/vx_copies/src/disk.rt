@@ -24,7 +24,7 @@ pub struct Disk<P> {
     pub good: bool,
     /// The half that its toggle names, 0 or 1; the other one is spare.
     pub half: u8,
-    /// Its private region.
+    /// The device, or the front of it with the private region.
     pub piece: P,
 }
 

@@ -3,3 +3,4 @@ pub mod Kept
 pub mod Stand
 pub mod Moves
 pub mod Closing
+pub mod Looks

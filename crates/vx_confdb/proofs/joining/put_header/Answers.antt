@@ -1,3 +1,4 @@
+use Rattle.vx_copies.proofs.Halves.{wide_on}
 use Rattle.std.proofs.Common.{◌≡◌, rules, refl, ◌∙◌, ap, Some}
 use Rattle.vx_header.specs.Named.{Label, header_of}
 use Rattle.vx_header.proofs.Naming.{header_back}
@@ -52,7 +53,7 @@ returns-in-Ok-clause-ends g c =
     let blank = header_blank c.put.new.out (c.put.auto.out ∙ c.requires.size) _ _ c.write.result c.requires.blank c.write.ensures.told.told in
     let says : header_of c.put.new.out ≡ Some label = ap header_of c.put.ensures ∙ header_back label (record { group = c.requires.fresh.group_short; disk = c.requires.fresh.name_short; slot = c.requires.fresh.slot; public = c.requires.fresh.public; at_most = c.requires.fresh.at_most }) in
     record {
-      ready = record { slot = c.requires.fresh.slot; half = c.requires.fresh.half; sectors = c.write.ensures.kept.sectors ∙ c.requires.fresh.private; names = λ is. blank_names _ _ blank };
+      ready = record { slot = c.requires.fresh.slot; half = c.requires.fresh.half; sectors = wide_on _ _ c.write.ensures.kept.sectors c.requires.fresh.private; names = λ is. blank_names _ _ blank };
       blank = λ is. blank;
       headed = λ is. header_named c.put.new.out (c.put.auto.out ∙ c.requires.size) label _ _ c.write.result c.in-Ok.field-0 says c.in-Ok.is c.write.ensures.told.told;
     }

@@ -1,5 +1,5 @@
 use Rattle.std.proofs.Common.{◌-◌, rules, refl, ◌∙◌, arith, length}
-use Rattle.vx_copies.proofs.Halves.{said_there, toggle_told, toggle_offer, toggle_named}
+use Rattle.vx_copies.proofs.Halves.{wide_on, said_there, toggle_told, toggle_offer, toggle_named}
 use Rattle.vx_copies.proofs.Going.{if_good}
 use Rattle.vx_copies.proofs.disk.put_toggle.Goals as goal
 
@@ -48,7 +48,7 @@ returns-in-Ok-clause-ends g c =
       record {
         slot = c.requires.ready.slot;
         half = omega (arith, c.requires.ready.half);
-        sectors = c.write.ensures.kept.sectors ∙ c.requires.ready.sectors;
+        sectors = wide_on _ _ c.write.ensures.kept.sectors c.requires.ready.sectors;
         names = λ is. toggle_named c.args.disk.now.half c.args.sequence c.args.mask c.args.text.now c.put.new.out c.requires.ready.half (search rules) said _ _ c.write.result c.in-Ok.field-0 c.in-Ok.is c.write.ensures.told.told;
       },
       λ is. toggle_offer c.args.disk.now.half c.args.sequence c.args.mask c.args.text.now c.put.new.out c.requires.ready.half (search rules) said _ _ c.write.result c.in-Ok.field-0 c.in-Ok.is (c.requires.spare (search rules)) c.write.ensures.told.told,

@@ -26,6 +26,11 @@ pub enum Difference {
         image: String,
         sector: u64,
     },
+    /// A byte is not the one that is wanted, or its device was not given back.
+    Byte {
+        image: String,
+        place: u64,
+    },
 }
 
 impl fmt::Display for Difference {
@@ -44,6 +49,9 @@ impl fmt::Display for Difference {
             }
             Difference::Content { image, sector } => {
                 write!(f, "sector {sector} of {image} holds something else")
+            }
+            Difference::Byte { image, place } => {
+                write!(f, "byte {place} of {image} is another")
             }
         }
     }

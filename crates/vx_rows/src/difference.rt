@@ -9,6 +9,8 @@ pub enum Difference {
     /// Memory was wanting; what was written is a front of what is wanted. No row wants it: it is told where an allocation
     /// is made to fail.
     NoMemory,
+    /// A fault that moves fires at each call.
+    Endless,
     /// A line of the answers, counted from 1, as it was written and as it is wanted.
     Answer {
         line: usize,
@@ -37,6 +39,7 @@ impl fmt::Display for Difference {
     fn fmt<W: fmt::Write>(&self, f: &mut fmt::Formatter<W>) -> fmt::Result {
         match self {
             Difference::Images => write!(f, "these images stand on no shelf"),
+            Difference::Endless => write!(f, "the fault fires at each call"),
             Difference::NoMemory => write!(f, "memory was wanting"),
             Difference::Answer {
                 line,

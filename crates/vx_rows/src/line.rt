@@ -18,6 +18,16 @@ pub enum Line<'a> {
         name: &'a str,
         bad: Bad,
     },
+    /// `moving NAME read|write TIMES`: calls of this kind on the image fail, so many times, from call 0, 1, 2, .. on.
+    Moving {
+        name: &'a str,
+        on_read: bool,
+        times: u64,
+    },
+    /// `any`: any answers and any status of this run will do.
+    Any,
+    /// `or`: the answers behind it would do as well as those before.
+    Or,
     /// `again`: a further run over the same devices. The lines behind it are of that run.
     Again,
     /// `without NAME`: the image is not on the shelf of this run.
@@ -73,6 +83,7 @@ pub fn read_line(text: &str) -> Option<Line<'_>> {
         "without" => Some(Line::Without(rest)),
         "change" => read_change(rest),
         "byte" => read_end(rest),
+        "moving" => read_moving(rest),
         _ => read_figure(text),
     }
 }
@@ -82,8 +93,11 @@ fn read_figure(text: &str) -> Option<Line<'_>> {
     if text == "no last newline" {
         return Some(Line::NoLastNewline);
     }
-    if text == "again" {
-        return Some(Line::Again);
+    match text {
+        "again" => return Some(Line::Again),
+        "any" => return Some(Line::Any),
+        "or" => return Some(Line::Or),
+        _ => {}
     }
     if let Some(number) = text.strip_prefix("source fails at ") {
         return Some(Line::SourceFails(number.parse().ok()?));
@@ -134,6 +148,19 @@ fn read_holds(text: &str) -> Option<Line<'_>> {
 fn read_change(text: &str) -> Option<Line<'_>> {
     let (name, place, byte) = read_byte(text)?;
     Some(Line::Change { name, place, byte })
+}
+
+fn read_moving(text: &str) -> Option<Line<'_>> {
+    let (name, rest) = text.split_once(' ')?;
+    let (kind, times) = rest.split_once(' ')?;
+    if kind != "read" && kind != "write" {
+        return None;
+    }
+    Some(Line::Moving {
+        name,
+        on_read: kind == "read",
+        times: times.parse().ok()?,
+    })
 }
 
 fn read_end(text: &str) -> Option<Line<'_>> {

@@ -11,6 +11,16 @@ pub struct Row {
     pub images: Vec<Image>,
     /// At least one.
     pub runs: Vec<Run>,
+    /// A fault that is moved along: the row is tried with it at call 0, 1, 2 and so on, until it no longer fires.
+    pub moving: Option<Moving>,
+}
+
+/// Calls of one kind on an image that fail, so many times from some call on.
+#[derive(Clone, Copy)]
+pub struct Moving {
+    pub image: Name,
+    pub on_read: bool,
+    pub times: u64,
 }
 
 /// A run of a script that is to be tried, and what is wanted of it.
@@ -28,6 +38,10 @@ pub struct Run {
     pub words: String,
     pub script: Vec<u8>,
     pub answers: Vec<u8>,
+    /// Answers that would do as well.
+    pub others: Vec<Vec<u8>>,
+    /// Whether any answers and any status will do.
+    pub any: bool,
     pub contents: Vec<Content>,
     /// Bytes as they are at the end.
     pub bytes: Vec<Byte>,
@@ -86,6 +100,8 @@ impl Run {
             words: String::from_str(alloc, "--images .")?,
             script: Vec::new(alloc),
             answers: Vec::new(alloc),
+            others: Vec::new(alloc),
+            any: false,
             contents: Vec::new(alloc),
             bytes: Vec::new(alloc),
             status: 0,
@@ -102,11 +118,21 @@ impl Run {
             Line::NoLastNewline => {
                 let _ = self.script.pop();
             }
-            Line::Answer(text) => put_line(&mut self.answers, text)?,
+            Line::Answer(text) => put_line(self.answers_mut(), text)?,
+            Line::Or => self.others.push(Vec::new(alloc))?,
+            Line::Any => self.any = true,
             Line::Status(status) => self.status = status,
             other => return self.take_named(other),
         }
         Ok(true)
+    }
+
+    /// The answers that lines are added to now.
+    fn answers_mut(&mut self) -> &mut Vec<u8> {
+        match self.others.last_mut() {
+            None => &mut self.answers,
+            Some(last) => last,
+        }
     }
 
     /// Takes a line that names an image.
@@ -144,6 +170,7 @@ impl Row {
             title: String::new(alloc),
             images: Vec::new(alloc),
             runs,
+            moving: None,
         })
     }
 
@@ -170,6 +197,11 @@ impl Row {
             Line::Title(text) => self.title = String::from_str(alloc, text)?,
             Line::Image { name, sectors } => return self.add_image(alloc, name, sectors),
             Line::Bad { name, bad } => return self.add_bad(name, bad),
+            Line::Moving {
+                name,
+                on_read,
+                times,
+            } => return Ok(self.move_fault(name, on_read, times)),
             Line::Again => self.runs.push(Run::new(alloc)?)?,
             other => return self.take_in_run(alloc, other),
         }
@@ -182,6 +214,18 @@ impl Row {
             None => Ok(false),
             Some(run) => run.take(alloc, line),
         }
+    }
+
+    fn move_fault(&mut self, name: &str, on_read: bool, times: u64) -> bool {
+        let Ok(image) = Name::read(name.as_bytes()) else {
+            return false;
+        };
+        self.moving = Some(Moving {
+            image,
+            on_read,
+            times,
+        });
+        true
     }
 
     fn add_image(&mut self, alloc: Global, name: &str, sectors: u64) -> Result<bool, AllocError> {

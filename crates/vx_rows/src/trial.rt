@@ -6,7 +6,7 @@ ghost use Rattle.vx_shelf.specs.OnShelf.{held_on};
 use crate::build::devices;
 use crate::compare::compare;
 use crate::difference::Difference;
-use crate::row::{Byte, Content, Row, Run};
+use crate::row::{Byte, Content, Moving, Row, Run};
 use std::alloc::{AllocError, Global};
 use vx_flow::{MemSink, MemSource};
 use vx_names::Name;
@@ -17,26 +17,49 @@ use vx_shelf::{MemShelf, Shelf};
 /// The status of a run in which memory was wanting.
 const NO_MEMORY: u8 = 6;
 
-/// Runs the scripts of the row, and tells the first thing that differs from what is wanted.
+/// The most calls that a fault is moved along.
+const CALLS: u64 = 1000;
+
+/// Runs the scripts of the row, and tells the first thing that differs from what is wanted. A fault that moves is tried
+/// at each call, until it does not fire any more.
 pub fn try_row(alloc: Global, row: &Row) -> Result<Option<Difference>, AllocError> {
-    let mut devices = devices(alloc, row.images.as_slice())?;
+    let Some(moving) = row.moving else {
+        return Ok(try_runs(alloc, row, None)?.err());
+    };
+    for call in 0..CALLS {
+        match try_runs(alloc, row, Some((moving, call)))? {
+            Err(difference) => return Ok(Some(difference)),
+            Ok(false) => return Ok(None),
+            Ok(true) => {}
+        }
+    }
+    Ok(Some(Difference::Endless))
+}
+
+/// Runs the scripts of the row one after the other, and tells whether the fault fired.
+fn try_runs(
+    alloc: Global,
+    row: &Row,
+    fault: Option<(Moving, u64)>,
+) -> Result<Result<bool, Difference>, AllocError> {
+    let mut devices = devices(alloc, row.images.as_slice(), fault)?;
     if devices.len() != row.images.len() {
-        return Ok(Some(Difference::Images));
+        return Ok(Err(Difference::Images));
     }
     for run in row.runs.as_slice() {
         change_all(alloc, &mut devices, run.changes.as_slice())?;
         let mut away = Vec::new(alloc);
         let here = part(alloc, devices, &mut away, run.without.as_slice())?;
         if !MemShelf::accepts(here.as_slice()) {
-            return Ok(Some(Difference::Images));
+            return Ok(Err(Difference::Images));
         }
         let mut shelf = MemShelf::new(here);
         if let Some(difference) = try_on(alloc, run, &mut shelf)? {
-            return Ok(Some(difference));
+            return Ok(Err(difference));
         }
         devices = collect(alloc, shelf, away)?;
     }
-    Ok(None)
+    Ok(Ok(devices.iter().any(|device| 0 < device.1.counts().faults)))
 }
 
 /// Changes bytes of devices.
@@ -128,9 +151,15 @@ fn judge(
     status: u8,
     written: &[u8],
 ) -> Result<Option<Difference>, AllocError> {
+    if row.any {
+        return Ok(None);
+    }
     let wanted = fitting(row);
     if status == NO_MEMORY && wanted.starts_with(written) {
         return Ok(Some(Difference::NoMemory));
+    }
+    if row.others.iter().any(|other| other.as_slice() == written) {
+        return Ok(None);
     }
     if let Some(difference) = compare(alloc, written, wanted)? {
         return Ok(Some(difference));

@@ -1,6 +1,6 @@
 -- The answer of a view is a step of the world that the system stands for.
 use Rattle.std.proofs.Common.{◌≡◌, ◌⊎◌, inl, inr, ℕ, Bool, true, false, Option, Some, None, Result, Ok, Err, List, [], refl, sym, ap, ◌∙◌, subst}
-use Rattle.std.specs.Prelude.{MatchOption, MatchBool, OnOk, IfOk, IfErr, IfSome}
+use Rattle.std.specs.Prelude.{MatchOption, MatchBool, OnOk, IfOk}
 use Rattle.vx_base.specs.Named.{Word}
 use Rattle.vx_piece.specs.Seen.{Seen}
 use Rattle.vx_objects.specs.declared.config.Config.{Config}
@@ -27,13 +27,13 @@ named_meant None config g same = refl
 named_meant (Some name) config g same = ap (λ (c : Config). is_named (Some name) c) same
 
 -- nothing is printed of a volume that is not there
-pub unshown_none : (missed : Option Word) (fault : PrintFault) (answer : Answer) → UnshownBy fault answer → (fault ≡ kind.OutOfMemory) ⊎ IfSome missed (λ vol. fault ≡ kind.NoObject vol) → (X : Type 0) → MatchOption missed X (λ name. answer ≡ Refused (NoObject name))
+pub unshown_none : (missed : Option Word) (fault : PrintFault) (answer : Answer) → UnshownBy fault answer → (fault ≡ kind.OutOfMemory) ⊎ MatchOption missed ⊥ (λ vol. fault ≡ kind.NoObject vol) → (X : Type 0) → MatchOption missed X (λ name. answer ≡ Refused (NoObject name))
 unshown_none missed kind.OutOfMemory answer by only X = absurd by
 unshown_none missed (kind.NoObject name) answer by (inl wanting) X = absurd (cc)
 unshown_none None (kind.NoObject name) answer by (inr is) X = absurd is
 unshown_none (Some vol) (kind.NoObject name) answer by (inr is) X = cc
 
-pub unshown_all : {E : Type 0} (r : Result Answer E) (vol : Option Word) (config : Config) (fault : PrintFault) → IfOk r (UnshownBy fault) → (fault ≡ kind.OutOfMemory) ⊎ IfSome (missing vol config) (λ name. fault ≡ kind.NoObject name) → IfOk r (ShowsOf vol config)
+pub unshown_all : {E : Type 0} (r : Result Answer E) (vol : Option Word) (config : Config) (fault : PrintFault) → IfOk r (UnshownBy fault) → (fault ≡ kind.OutOfMemory) ⊎ MatchOption (missing vol config) ⊥ (λ name. fault ≡ kind.NoObject name) → IfOk r (ShowsOf vol config)
 unshown_all (Ok answer) vol config fault by only = unshown_none (missing vol config) fault answer by only (Shows vol config answer)
 unshown_all (Err x) vol config fault by only = tt
 

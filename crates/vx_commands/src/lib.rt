@@ -2,10 +2,6 @@
 #![tactic(auto)]
 
 mod lines;
-mod system;
 
-pub use lines::{Stop, run_commands};
-pub use system::{bare, call, finish};
+pub use lines::Stop;
 
-#[cfg(test)]
-mod tests;

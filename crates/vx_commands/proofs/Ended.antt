@@ -113,7 +113,7 @@ pub ends : {P : Type 0} (seen : P → Seen) (s : System P) (free free' : Option 
 ends seen s None free' faults held w stand keeps back = absurd stand
 ends seen s (Some devices) None faults held w stand keeps back = absurd back
 ends seen s (Some devices) (Some devices') faults held w stand keeps back =
-    let c = ? in record {
+    let c : (next : World) × IsCutOff w next × ((name : Word) → IsDeviceOf (devices' name) (next.devices name)) = ? in record {
       devices = devices';
       here = refl;
       stand = stand_for devices' w c.0 c.1 c.2;

@@ -3,5 +3,4 @@
 
 mod lines;
 
-pub use lines::Stop;
-
+pub use lines::{Stop, run_commands};

@@ -13,7 +13,7 @@ ghost use Rattle.vx_commands.specs.declared.lines.Stop.TheVariants as stops;
 use std::alloc::Global;
 use vx_base::OutOfMemory;
 use vx_flow::Sink;
-use vx_hold::System;
+use vx_hold::{System, close};
 use vx_script::Command;
 use vx_shelf::Shelf;
 use vx_system::execute;
@@ -114,3 +114,28 @@ fn all_lines<S: Shelf, B: Sink>(
     Ok(fine)
 }
 
+/// Serves the commands of a script, and gives all devices back at the end. It tells whether all answers were fine.
+pub fn run_commands<S: Shelf, B: Sink>(
+    alloc: Global,
+    shelf: &mut S,
+    sink: &mut B,
+    commands: &[Command],
+) -> Result<bool, Stop>
+    requires kept { IsTrue (is_kept commands.now) }
+    requires short { length commands.now < 2 ^ 32 }
+    requires here { NoneHeld (S.held shelf.old) }
+    ensures run { IfOk result (λ fine. CarriesOut commands.now
+        (record { free = S.free shelf.old; faults = S.faults shelf.old }) (B.taken sink.old)
+        (record { free = S.free shelf.new; faults = S.faults shelf.new }) (B.taken sink.new) fine) }
+    ensures partly { OnErr result (StopsShort commands.now
+        (record { free = S.free shelf.old; faults = S.faults shelf.old }) (B.taken sink.old)
+        (record { free = S.free shelf.new; faults = S.faults shelf.new }) (B.taken sink.new)) }
+    ensures back { NoneHeld (S.held shelf.new) }
+    ensures cause { IsErrOf result Stop.SinkFailed → Rose (B.faults sink.old) (B.faults sink.new) }
+    ensures later { B.faults sink.old ≤ B.faults sink.new }
+{
+    let mut system = System::new(alloc);
+    let outcome = all_lines(alloc, &mut system, shelf, sink, commands);
+    close(&mut system, shelf);
+    outcome
+}

@@ -6,7 +6,7 @@ use Rattle.vx_base.specs.Named.{Word}
 use Rattle.vx_header.specs.Named.{Label, label_of, header_of}
 use Rattle.vx_header.specs.Said.{Said, toggle_of}
 use Rattle.vx_header.proofs.Saying.{said_spells}
-use Rattle.vx_piece.specs.Seen.{Seen, IsPartTold, IsSplit}
+use Rattle.vx_piece.specs.Seen.{Seen, IsPartTold}
 use Rattle.vx_copies.specs.Image.{Offer, toggle_at, offer_in, offer_told, offer_of}
 use Rattle.vx_copies.specs.Disks.{IsReady, IsBelow, NamesHalf}
 use Rattle.vx_copies.proofs.Halves.{offer_same}
@@ -77,10 +77,15 @@ below_some group last f c e readable ours is =
     let tells = subst (λ (x : Option Contents). MatchOption x ⊥ (λ d. Unit {0})) (sym e) tt in
     subst (λ b. IfOffer (λ n. n ≤ last) (cond b (offer_told group f.seen.told) None)) readable (offer_if_toggle group (λ n. n ≤ last) f ours tells is)
 
-module _ {P : Type 0} (see : P → Seen) (group : Word) (f : Found P) (private rest : Seen) (split : IsSplit 2048 (see f.piece) private rest) where
+-- a device is its own front
+pub own_front : (told : Option Contents) → IsPartTold 0 2048 told told
+own_front None = tt
+own_front (Some c) = λ k lt. let here : 0 + k ≡ k = omega arith in sym (ap c here)
+
+module _ {P : Type 0} (see : P → Seen) (group : Word) (f : Found P) (private : Seen) (wide : 2048 ≤ private.sectors) (front : IsPartTold 0 2048 (see f.piece).told private.told) where
   -- what the device offers
   pub offer_kept : offer_told group private.told ≡ offer_told group (see f.piece).told
-  offer_kept = told_same group (see f.piece).told private.told split.front
+  offer_kept = told_same group (see f.piece).told private.told front
 
   module _ (of : IsOf group (looked see f)) (read : HasReading (looked see f)) (readable : f.readable ≡ true) (good : Bool) where
     -- it can take part in a commit
@@ -88,13 +93,13 @@ module _ {P : Type 0} (see : P → Seen) (group : Word) (f : Found P) (private r
     ready = record {
       slot = f.header.slot_below;
       half = half_below f.reading;
-      sectors = split.sizes.0;
-      names = λ is. names_half f.reading (see f.piece).told private.told (read readable) split.front;
+      sectors = wide;
+      names = λ is. names_half f.reading (see f.piece).told private.told (read readable) front;
     }
 
     -- its header says what the disk says
     pub member_of : IsMemberOf group (disk_of good (looked see f) private)
-    member_of = λ is. subst (λ g. Says (record { group = g; disk = f.header.disk; slot = f.header.slot; sectors = f.header.sectors }) private.told) of.group_is (says_label (label_of f.header) (see f.piece).told private.told of.headed split.front)
+    member_of = λ is. subst (λ g. Says (record { group = g; disk = f.header.disk; slot = f.header.slot; sectors = f.header.sectors }) private.told) of.group_is (says_label (label_of f.header) (see f.piece).told private.told of.headed front)
 
     -- it offers nothing above what was chosen
     pub below : (last : ℕ) → IfToggle (λ n. n ≤ last) (looked see f) → IsBelow group last (disk_of good (looked see f) private)

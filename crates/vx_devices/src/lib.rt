@@ -1,0 +1,7 @@
+//! Commands on devices that nobody holds: devices of zeros, headers that are wiped out, and the search for a group's
+//! devices.
+#![tactic(auto)]
+
+mod claim;
+
+pub use claim::{Claim, find_claim};

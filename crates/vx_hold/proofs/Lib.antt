@@ -1,3 +1,5 @@
 pub mod Rooms
 pub mod Held
 pub mod Returned
+pub mod Blamed
+pub mod Listed

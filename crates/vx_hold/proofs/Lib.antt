@@ -3,3 +3,4 @@ pub mod Held
 pub mod Returned
 pub mod Blamed
 pub mod Listed
+pub mod Leaving

@@ -1,5 +1,8 @@
 //! The devices of the words are taken, and their headers read.
 ghost use Rattle.std.specs.Prelude.{◌≡◌, ◌++◌, ◌∷◌, ◌+◌, ◌<◌, ◌≤◌, ℕ, [], None, true, false, IfOk, IfErr, OnOk, OnErr, IfSome, is_some, vec_len, vec_capacity, length, min};
+ghost use Rattle.std.specs.BTreeMap.{IsOrdered};
+ghost use Rattle.std.specs.Cmp.Lexicographic.{slice_cmp};
+ghost use Rattle.std.specs.Ordering.{nat_cmp};
 ghost use Rattle.vx_base.specs.Named.{SameUnder};
 ghost use Rattle.vx_header.specs.Named.{header_of};
 ghost use Rattle.vx_piece.specs.Seen.{Keeps, IsRead};
@@ -48,7 +51,7 @@ pub(crate) fn gather<S: Shelf>(
     ensures back { OnErr result (AreHeld (S.held shelf.new) (holders S.P.seen _system.now)) }
     ensures read { OnErr result (AreOnlyRead (S.free shelf.old) (S.free shelf.new)) }
     ensures cause { IfErr result (λ stop. HasCause stop (S.free shelf.old) (S.free shelf.new) (S.faults shelf.old) (S.faults shelf.new)) }
-    ensures away { IfErr result (λ stop. (w : World) → Stand S.P.seen (S.free shelf.old) _system.now w → IsAwayStop pairs.now w stop) }
+    ensures away { IfErr result (λ stop. IsOrdered (slice_cmp nat_cmp) _system.now.volumes → (w : World) → Stand S.P.seen (S.free shelf.old) _system.now w → IsAwayStop pairs.now w stop) }
     ensures later { S.faults shelf.old ≤ S.faults shelf.new }
 {
     let Ok(taken) = none_taken(alloc, pairs.len()) else {

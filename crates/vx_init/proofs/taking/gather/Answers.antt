@@ -34,8 +34,8 @@ returns-in-Err-clause-cause g c =
     all_back_cause (taken_holders g.S.P.Piece.seen c.pairs.taken) (g.S.Shelf.free c.args.shelf.now) (g.S.Shelf.free c.pairs.shelf) (g.S.Shelf.free c.take_next.new.shelf) (g.S.Shelf.free c.give_disks.new.shelf) c.in-Err.stop (g.S.Shelf.faults c.pairs.shelf) (g.S.Shelf.faults c.take_next.new.shelf) (g.S.Shelf.faults c.args.shelf.now) (g.S.Shelf.faults c.give_disks.new.shelf) c.pairs.invariant.gathered.seen_with c.in-Err.ensures.read (rw c.in-Err.ensures.stays at c.give_disks.ensures.back) c.pairs.invariant.later c.give_disks.ensures.later c.in-Err.ensures.cause
 
 pub returns-in-Err-clause-away : goal.returns-in-Err-clause-away
-returns-in-Err-clause-away g c = λ w stand.
-    stop_away g.S.P.Piece.seen c.args.pairs.now c.pairs.i c.index-pairs-i.result c.pairs-test.true c.index-pairs-i.is c.pairs.taken c.args._system.now (g.S.Shelf.held c.pairs.shelf) (g.S.Shelf.free c.args.shelf.now) (g.S.Shelf.free c.pairs.shelf) c.pairs.invariant.held c.pairs.invariant.gathered c.in-Err.stop c.in-Err.ensures.away w stand
+returns-in-Err-clause-away g c = λ ordered w stand.
+    stop_away g.S.P.Piece.seen c.args.pairs.now c.pairs.i c.index-pairs-i.result c.pairs-test.true c.index-pairs-i.is c.pairs.taken c.args._system.now (g.S.Shelf.held c.pairs.shelf) (g.S.Shelf.free c.args.shelf.now) (g.S.Shelf.free c.pairs.shelf) c.pairs.invariant.held c.pairs.invariant.gathered c.in-Err.stop c.in-Err.ensures.away ordered w stand
 
 pub pairs-preserved : goal.pairs-preserved
 pairs-preserved g c =

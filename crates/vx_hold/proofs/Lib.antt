@@ -8,3 +8,4 @@ pub mod Cut
 pub mod Closed
 pub mod Looked
 pub mod Answered
+pub mod Heads

@@ -126,21 +126,21 @@ module _ (name : Word) (before after : Seen) (old new : Word → Option Seen) (b
       pub seen_after : held_as (holders see s) name ≡ None → device_seen see (state (Some new) faults' s) name ≡ Some after
       seen_after none = ap (λ o. seen_at o (Some new) name) none ∙ back.same name ∙ cond-true _ _ _ (bytes_eq_self name)
 
+put_over : {X : Type 0} (b : Bool) (x y z : X) → cond b x (cond b y z) ≡ cond b x z
+put_over true x y z = refl
+put_over false x y z = refl
+
 -- a device that was taken and read, and is given back
+pub taken_back : (name : Word) (before after : Seen) (old mid new : Word → Option Seen) → PieceKeeps before after → IsRead before after → LeavesShelf name before (Some old) (Some mid) → ComesToShelf name after (Some mid) (Some new) → IsReadBack name before after old new
+taken_back name before after old mid new kept read left comes = record {
+  here = left.0;
+  kept = kept;
+  read = read;
+  same = λ other. comes other ∙ ap (λ o. cond (bytes_eq name other) (Some after) o) (left.1 other) ∙ put_over (bytes_eq name other) (Some after) None (old other);
+}
+
 pub read_back : (name : Word) (after : Seen) (old mid new : Word → Option Seen) → LeavesRead name after (Some old) (Some mid) → ComesToShelf name after (Some mid) (Some new) → (before : Seen) × IsReadBack name before after old new
-read_back name after old mid new left comes = (
-  left.0,
-  record {
-    here = left.1;
-    kept = left.2;
-    read = left.3;
-    same = λ other. comes other ∙ ap (λ o. cond (bytes_eq name other) (Some after) o) (left.4 other) ∙ over (bytes_eq name other) (Some after) None (old other);
-  },
-)
-  where
-    over : {X : Type 0} (b : Bool) (x y z : X) → cond b x (cond b y z) ≡ cond b x z
-    over true x y z = refl
-    over false x y z = refl
+read_back name after old mid new left comes = (left.0, taken_back name left.0 after old mid new left.2 left.3 (left.1, left.4) comes)
 
 -- nobody holds it again
 pub given_back : (name : Word) (seen : Seen) (held held' held'' : Word → Option Held) → IsTaken name seen held held' → IsGiven name held' held'' → SameUnder held held''

@@ -1,1 +1,3 @@
+pub mod Imaged
 pub mod Listing
+pub mod Used

@@ -3,5 +3,7 @@
 #![tactic(auto)]
 
 mod claim;
+mod image;
 
 pub use claim::{Claim, find_claim};
+pub use image::make_image;

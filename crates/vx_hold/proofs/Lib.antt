@@ -4,3 +4,4 @@ pub mod Returned
 pub mod Blamed
 pub mod Listed
 pub mod Leaving
+pub mod Cut

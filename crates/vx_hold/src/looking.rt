@@ -1,5 +1,5 @@
 //! A device that is taken from the shelf, and its header.
-ghost use Rattle.std.specs.Prelude.{◌≡◌, ◌+◌, ℕ, IfOk, OnErr};
+ghost use Rattle.std.specs.Prelude.{◌≡◌, ◌+◌, ◌≤◌, ℕ, IfOk, OnErr};
 ghost use Rattle.vx_world.specs.World.{World};
 ghost use Rattle.vx_hold.specs.Kept.{Keeps, HasRoom};
 ghost use Rattle.vx_hold.specs.Stand.{Stand};
@@ -40,6 +40,7 @@ pub fn look_at<S: Shelf>(
     ensures rests { OnErr result (Keeps S.P.seen (S.held _shelf.new) _system.new × ((w : World) → Stand S.P.seen (S.free _shelf.old) _system.old w → Rests S.P.seen w
         (record { free = S.free _shelf.old; faults = S.faults _shelf.old; system = _system.old })
         (record { free = S.free _shelf.new; faults = S.faults _shelf.new; system = _system.new }))) }
+    ensures later { S.faults _shelf.old ≤ S.faults _shelf.new }
 {
     Err(OutOfMemory)
 }

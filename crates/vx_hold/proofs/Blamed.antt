@@ -191,3 +191,13 @@ failed_between f older old new newer r s t u before less after more h = record {
   devices = λ name is. later_and_rose 1 (faults_in (older name)) (faults_in (old name)) (faults_in (newer name)) (before.faults name) (rose_and_later 1 (faults_in (old name)) (faults_in (new name)) (faults_in (newer name)) (h.devices name is) (after.faults name));
   shelfs = λ is. later_and_rose 1 r s u less (rose_and_later 1 s t u (h.shelfs is) more);
 }
+
+-- an answer that tells no fault and no loss adds nothing
+pub silent_too : (answer : Answer) (old new : Word → Option Seen) (shelf shelf' : ℕ) → IsSilent answer → HasBlame [] old new shelf shelf' → HasBlame (answer ∷ []) old new shelf shelf'
+silent_too (Done parts blocks) old new shelf shelf' is h = record { counts = h.counts; lost = λ e. cc; cuts = h.cuts }
+silent_too (Shown text) old new shelf shelf' is h = record { counts = h.counts; lost = λ e. cc; cuts = h.cuts }
+silent_too (Refused refusal) old new shelf shelf' is h = record { counts = h.counts; lost = λ e. cc; cuts = h.cuts }
+silent_too GroupLost old new shelf shelf' is h = record { counts = h.counts; lost = λ e. cc; cuts = h.cuts }
+silent_too (Fault device parts) old new shelf shelf' is h = absurd is
+silent_too ShelfFailed old new shelf shelf' is h = absurd is
+silent_too (Lost parts) old new shelf shelf' is h = absurd is

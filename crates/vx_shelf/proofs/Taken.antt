@@ -91,8 +91,8 @@ module _ (ps : List Place) (name : Word) (i : ℕ) (place d : Place) (rest : lis
     pub held_under : held_in ps name ≡ Some (record { device = (mem_seen place.1).device; sectors = (mem_seen place.1).start })
     held_under = held_here ∙ is_held place.1 empty
 
-    pub away_under : free_in ps name ≡ None
-    away_under = free_here ∙ not_free place.1 empty
+    pub free_gone : free_in ps name ≡ None
+    free_gone = free_here ∙ not_free place.1 empty
 
   pub stays_at_rest : (p : MemPiece) → is_whole_or_left p ≡ true → list_all is_at_rest (set ps i (place.0, p)) ≡ true
   stays_at_rest p new = list_all-set is_at_rest ps i (place.0, p) rest new

@@ -63,7 +63,7 @@ pub trait Shelf {
 
         ensures later { faults self.old ≤ faults self.new };
 
-    /// Takes a whole device, of a sector at least.
+    /// Takes a whole device, of a sector at least. One that is held is not told among those that nobody holds.
     fn take(&mut self, name: &Name) -> Result<Self::P, ShelfFault>
         ensures taken { IfOk result (λ piece. IsTaken name.now (Self.P.seen piece) (held self.old) (held self.new)) }
         ensures left { IfOk result (λ piece. LeavesShelf name.now (Self.P.seen piece) (free self.old) (free self.new)) }

@@ -22,9 +22,9 @@ use Rattle.vx_hold.specs.Looks.{EndsAt, LeavesRead, IsFound}
 use Rattle.vx_hold.specs.Moves.{Moves, Rests}
 use Rattle.vx_hold.specs.Stand.{State, Stand, StandWith}
 use Rattle.vx_hold.specs.declared.system.System.{System}
+use Rattle.vx_hold.proofs.Closed.{state}
 use Rattle.vx_calls.specs.Beginning.{is_named, IsTurnedDown, IsPutBack, IsRefusedBack, IsBegun}
 use Rattle.vx_calls.proofs.Begun.{named_there, new_there, begun_keeps, begun_room, begun_moves, next}
-use Rattle.vx_calls.proofs.Called.{state}
 use Rattle.vx_calls.proofs.PutBack.{back_keeps, refused_back, rests_back}
 use Rattle.vx_calls.proofs.Same.{same_room}
 

@@ -29,12 +29,13 @@ use Rattle.vx_hold.specs.Stand.{State, StandWith, IsAtVolume, IsAtGroup, IsVolum
 use Rattle.vx_hold.specs.declared.system.System.{System}
 use Rattle.vx_hold.specs.declared.system.Imported.{Imported}
 use Rattle.vx_hold.proofs.Blamed.{AreLater, IsDeviceLater, later_each_device, silent}
+use Rattle.vx_hold.proofs.Closed.{state}
+use Rattle.vx_hold.proofs.Looked.{not_held_by}
 use Rattle.vx_hold.proofs.Held.{take_one, held_at}
 use Rattle.vx_hold.proofs.Rooms.{more_room}
 use Rattle.vx_calls.specs.Beginning.{is_recorded, is_named, IsFresh, IsPutIn}
-use Rattle.vx_calls.proofs.Called.{state, nobody, nobody_failed}
+use Rattle.vx_calls.proofs.Called.{nobody, nobody_failed}
 use Rattle.vx_calls.proofs.Entries.{IsPutAt, put_at, held_before, held_behind, holders_round, holders_but}
-use Rattle.vx_calls.proofs.PutBack.{not_held_by}
 
 -- a name that no volume has
 none_started : {X : Type 0} (o : Option X) (r : Bool) → (is_some o || r) ≡ false → o ≡ None

@@ -29,16 +29,12 @@ use Rattle.vx_hold.specs.Moves.{HasBlame, HaveFailed, Moves, Rests, faults_in, c
 use Rattle.vx_hold.specs.Stand.{State, StandsFor, Stand, StandWith, seen_at, device_seen}
 use Rattle.vx_hold.specs.declared.system.System.{System}
 use Rattle.vx_hold.specs.declared.system.Imported.{Imported}
-use Rattle.vx_hold.proofs.Held.{holds_none}
-use Rattle.vx_hold.proofs.Cut.{cut_off}
+use Rattle.vx_hold.proofs.Closed.{state, Closes, closes}
 use Rattle.vx_hold.proofs.Blamed.{AreLater, IsDeviceLater, later_each_device, later_same, silent, none_told, same_blame, blame_later}
 use Rattle.vx_calls.specs.Serving.{IsServedAmong, ServesAmong}
 use Rattle.vx_calls.proofs.Later.{later_as, held_before_as, later_keeps, later_room}
-use Rattle.vx_calls.proofs.Same.{same_at, same_holders, same_keeps, same_room, same_stand}
+use Rattle.vx_calls.proofs.Same.{same_seen, same_keeps, same_room, same_stand}
 use Rattle.vx_calls.proofs.Served.{not_started, past_end, after, stands_after, steps_on, steps_off, started_there, none_there, call_blamed, v, lived}
-
-abbrev pub state : {P : Type 0} → Option (Word → Option Seen) → ℕ → System P → State P
-state free faults system = record { free = free; faults = faults; system = system }
 
 -- no device is named, and the shelf is not
 abbrev pub nobody : Failures
@@ -81,15 +77,12 @@ outcome_by see call s s' answer (Some b) found h = by_range see call s s' answer
 
 -- where nothing has changed
 module _ {P : Type 0} (see : P → Seen) (s s' : System P) (entries : s'.volumes.entries ≡ s.volumes.entries) (group : s'.group ≡ s.group) (free : Option (Word → Option Seen)) (faults : ℕ) (w : World) where
-  seen_same : (name : Word) → device_seen see (state free faults s') name ≡ device_seen see (state free faults s) name
-  seen_same name = ap (λ hs. seen_at (held_as hs name) free name) (same_holders see s s' entries group)
-
   stand_same : (o : Option (Word → Option Seen)) → Stand see o s w → Stand see o s' w
   stand_same None stand = absurd stand
   stand_same (Some devices) stand = same_stand see s s' entries group devices w stand
 
   later_all : AreLater (device_seen see (state free faults s)) (device_seen see (state free faults s'))
-  later_all = later_same (device_seen see (state free faults s)) (device_seen see (state free faults s')) seen_same
+  later_all = later_same (device_seen see (state free faults s)) (device_seen see (state free faults s')) (same_seen see s s' entries group free faults faults)
 
   pub refused_moves : (steps : World → Answer → World → Type 0) (refusal : Refusal) → steps w (Refused refusal) w → Stand see free s w → Moves see (λ f. steps) (Refused refusal) w (state free faults s) (state free faults s')
   refused_moves steps refusal step stand = record {
@@ -170,43 +163,19 @@ module _ {P : Type 0} (see : P → Seen) (call : Call) (s s' : System P) (answer
   }
 
   -- and then the power is lost
-  pub lost_moves : is_lost answer ≡ true → (s'' : System P) → holders see s'' ≡ [] → (devices' : Word → Option Seen) (faults' : ℕ) → faults ≤ faults' → AreBack (holders see s') (Some devices) (Some devices')
-      → ((m : World) → StandWith see devices s' m → (next : World) × IsCutOff m next × StandWith see devices' s'' next)
-      → Moves see (λ f. CallStep place call) answer w (state (Some devices) faults s) (state (Some devices') faults' s'')
+  pub lost_moves : is_lost answer ≡ true → (s'' : System P) (free' : Option (Word → Option Seen)) (faults' : ℕ) → faults ≤ faults' → Closes see mid_world (state (Some devices) faults s') (state free' faults' s'')
+      → Moves see (λ f. CallStep place call) answer w (state (Some devices) faults s) (state free' faults' s'')
   unfolding old mid mid_world
-  lost_moves gone s'' none devices' faults' more back cut =
-      let new = device_seen see (state (Some devices') faults' s'') in
-      let off = cut mid_world mid_stands in
-      let same = λ (name : Word). ap (λ hs. seen_at (held_as hs name) (Some devices') name) none ∙ back name in
+  lost_moves gone s'' free' faults' more off =
+      let new = device_seen see (state free' faults' s'') in
       record {
         failures = nobody;
         failed = nobody_failed old new faults faults';
-        next = off.0;
-        step = steps_off see call s s' b later answer h.found h.among.served h.among.puts group devices place w stand h.within gone off.0 off.1;
-        stands = off.2;
-        blame = blame_later (answer ∷ []) old mid new faults faults faults' (later_same mid new same) more lives_blamed;
+        next = off.next;
+        step = steps_off see call s s' b later answer h.found h.among.served h.among.puts group devices place w stand h.within gone off.next off.cut;
+        stands = off.stands;
+        blame = blame_later (answer ∷ []) old mid new faults faults faults' (later_same mid new off.same) more lives_blamed;
       }
-
--- a system that holds nothing
-module _ {P : Type 0} (see : P → Seen) (s : System P) (empty : s.volumes.entries ≡ []) (none : s.group ≡ None) where
-  pub none_holds : holders see s ≡ []
-  none_holds = ap (λ es. map (volume_holder see) es ++ group_holders see s.group) empty ∙ ap (group_holders see) none
-
-  no_volume : {R : Type 0} (name : Word) (b : Started P) → volume_at s name ≡ Some b → R
-  no_volume name b is = let gone : volume_at s name ≡ None = ap (lookup (is_at (slice_cmp nat_cmp name))) empty in cc
-
-  pub empty_keeps : (held : Word → Option Held) → NoneHeld held → Keeps see held s
-  empty_keeps held nothing = record {
-    devices = subst (AreHeld held) (sym none_holds) (holds_none held nothing);
-    volumes = λ name b is. no_volume name b is;
-    group = subst (λ g. IfSome g (IsGroupKept see)) (sym none) tt;
-  }
-
-  pub empty_room : (n : ℕ) → HasRoom n s
-  empty_room n = record {
-    numbers = λ name b is. no_volume name b is;
-    sequence = subst (λ (g : Option (Imported P)). IfSome g (λ x. x.base.sequence ≤ 2 ^ 63 + 32 * n)) (sym none) tt;
-  }
 
 module _ {P : Type 0} (see : P → Seen) (call : Call) (s s' : System P) (answer : Answer) (serves : ServesAmong see call (volume_at s (volume_of call)) s.volumes s'.volumes answer) (group : s'.group ≡ s.group) where
   outcome : Outcome see call s s' answer
@@ -260,10 +229,9 @@ module _ {P : Type 0} (see : P → Seen) (call : Call) (s s' : System P) (answer
 
     within_lost : (o o' : Option (Word → Option Seen)) (faults faults' : ℕ) (s'' : System P) → IsWithin see call s s' answer → is_lost answer ≡ true → IsOrdered (slice_cmp nat_cmp) s'.volumes → s''.volumes.entries ≡ [] → s''.group ≡ None → faults ≤ faults' → AreBack (holders see s') o o' → Stand see o s w → Moves see (λ f. CallStep place call) answer w (state o faults s) (state o' faults' s'')
     within_lost None o' faults faults' s'' h gone ordered empty none more back stand = absurd stand
-    within_lost (Some devices) None faults faults' s'' h gone ordered empty none more back stand = absurd back
-    within_lost (Some devices) (Some devices') faults faults' s'' h gone ordered empty none more back stand =
-        lost_moves see call s s' answer h group held keeps devices faults place w stand gone s'' (none_holds see s'' empty none) devices' faults' more back
-        (λ m stands. cut_off see devices s' m stands ordered held (called_keeps held keeps) devices' back s'' empty none)
+    within_lost (Some devices) o' faults faults' s'' h gone ordered empty none more back stand =
+        lost_moves see call s s' answer h group held keeps devices faults place w stand gone s'' o' faults' more
+        (closes see held (Some devices) o' faults faults' s' s'' (mid_world see call s s' answer h group held keeps devices faults place w stand) (mid_stands see call s s' answer h group held keeps devices faults place w stand) (called_keeps held keeps) ordered back empty none)
 
     -- the power is lost
     pub called_lost : (free free' : Option (Word → Option Seen)) (faults faults' : ℕ) (s'' : System P) → is_lost answer ≡ true → IsOrdered (slice_cmp nat_cmp) s'.volumes → s''.volumes.entries ≡ [] → s''.group ≡ None → faults ≤ faults' → AreBack (holders see s') free free' → Stand see free s w → Moves see (λ f. CallStep place call) answer w (state free faults s) (state free' faults' s'')

@@ -12,8 +12,9 @@ use Rattle.vx_bare.specs.declared.started.Started.{Started}
 use Rattle.vx_world.specs.World.{World}
 use Rattle.vx_hold.specs.Holders.{volume_at, volume_holder, group_holders, holders, held_as, AreHeld}
 use Rattle.vx_hold.specs.Kept.{Keeps, HasRoom, IsGroupKept}
-use Rattle.vx_hold.specs.Stand.{StandWith, Stand, IsAtVolume, IsAtGroup}
+use Rattle.vx_hold.specs.Stand.{StandWith, IsAtVolume, IsAtGroup, seen_at, device_seen}
 use Rattle.vx_hold.specs.declared.system.System.{System}
+use Rattle.vx_hold.proofs.Closed.{state}
 use Rattle.vx_hold.proofs.Rooms.{more_room}
 
 module _ {P : Type 0} (see : P → Seen) (s s' : System P) (entries : s'.volumes.entries ≡ s.volumes.entries) (group : s'.group ≡ s.group) where
@@ -22,6 +23,9 @@ module _ {P : Type 0} (see : P → Seen) (s s' : System P) (entries : s'.volumes
 
   pub same_holders : holders see s' ≡ holders see s
   same_holders = ap (λ es. map (volume_holder see) es ++ group_holders see s'.group) entries ∙ ap (λ g. map (volume_holder see) s.volumes.entries ++ group_holders see g) group
+
+  pub same_seen : (free : Option (Word → Option Seen)) (faults faults' : ℕ) (name : Word) → device_seen see (state free faults' s') name ≡ device_seen see (state free faults s) name
+  same_seen free faults faults' name = ap (λ hs. seen_at (held_as hs name) free name) same_holders
 
   pub same_keeps : (held : Word → Option Held) → Keeps see held s → Keeps see held s'
   same_keeps held keeps = record {

@@ -151,8 +151,8 @@ fn start<S: Shelf>(
     ensures later { S.faults shelf.old ≤ S.faults shelf.new }
 {
     match Started::new(alloc, vol, device, piece, geometry) {
-        Err((piece, refused)) => {
-            shelf.give(&device, piece);
+        Err((back, refused)) => {
+            shelf.give(&device, back);
             Err(refused)
         }
         Ok(started) => match system.volumes.insert(vol, started) {

@@ -1,9 +1,8 @@
 use Rattle.std.proofs.Common.{refl, rules}
-use Rattle.vx_hold.specs.Stand.{State}
-use Rattle.vx_hold.specs.declared.system.System.{System}
+use Rattle.vx_hold.proofs.Closed.{keeps_empty, room_empty}
 use Rattle.vx_calls.proofs.Among.{any_err}
 use Rattle.vx_calls.proofs.Same.{same_keeps, same_room}
-use Rattle.vx_calls.proofs.Called.{same_rests, called_keeps, called_room, called_moves, called_lost, empty_keeps, empty_room}
+use Rattle.vx_calls.proofs.Called.{same_rests, called_keeps, called_room, called_moves, called_lost}
 use Rattle.vx_calls.proofs.calling.call.Goals as goal
 use Rattle.vx_calls.proofs.calling.call.Goals.{then-is_lost, else-is_lost}
 
@@ -21,13 +20,13 @@ close-requires-clause-held g c κs within = (called_keeps g.S.P.Piece.seen c.arg
 
 pub returns-clause-keeps : goal.returns-clause-keeps
 returns-clause-keeps g c = elim c.if-is_lost.branch [
-  | then-is_lost w ↦ rw (w.system-is, w.shelf-is) (empty_keeps g.S.P.Piece.seen w.close.new.system w.close.ensures.volumes w.close.ensures.group (g.S.Shelf.held w.close.new.shelf) w.close.ensures.none)
+  | then-is_lost w ↦ rw (w.system-is, w.shelf-is) (keeps_empty g.S.P.Piece.seen w.close.new.system w.close.ensures.volumes w.close.ensures.group (g.S.Shelf.held w.close.new.shelf) w.close.ensures.none)
   | else-is_lost w ↦ rw (w.system-is, w.shelf-is) (called_keeps g.S.P.Piece.seen c.args.call.now c.args.system.now (record { volumes = c.serve_among.new.volumes; group = c.args.system.now.group }) c.in_ok-answer.answer c.in_ok-answer.ensures.serves refl (g.S.Shelf.held c.args.shelf.now) c.requires.keeps)
 ]
 
 pub returns-clause-room : goal.returns-clause-room
 returns-clause-room g c = elim c.if-is_lost.branch [
-  | then-is_lost w ↦ rw w.system-is (λ n room. empty_room g.S.P.Piece.seen w.close.new.system w.close.ensures.volumes w.close.ensures.group _)
+  | then-is_lost w ↦ rw w.system-is (λ n room. room_empty g.S.P.Piece.seen w.close.new.system w.close.ensures.volumes w.close.ensures.group _)
   | else-is_lost w ↦ rw w.system-is (λ n room. called_room g.S.P.Piece.seen c.args.call.now c.args.system.now (record { volumes = c.serve_among.new.volumes; group = c.args.system.now.group }) c.in_ok-answer.answer c.in_ok-answer.ensures.serves refl n room)
 ]
 

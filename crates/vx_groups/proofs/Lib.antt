@@ -1,3 +1,4 @@
 pub mod Quiet
 pub mod Shown
 pub mod Back
+pub mod Deported

@@ -4,3 +4,4 @@ pub mod Back
 pub mod Deported
 pub mod Lowest
 pub mod Edited
+pub mod Joined

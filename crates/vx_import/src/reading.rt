@@ -9,9 +9,9 @@ use crate::found::Reading;
 use vx_header::{Header, HeaderFault, Toggle};
 use vx_piece::{Piece, PieceFault};
 
-/// What the header of a private region says; None where sector 0 holds no header.
+/// What the header of a device says; None where sector 0 holds no header.
 pub fn find<P: Piece>(piece: &mut P) -> Result<Option<Header>, PieceFault>
-    requires sectors { 2048 ≤ (P.seen piece.old).sectors }
+    requires some { 0 < (P.seen piece.old).sectors }
     ensures kept { Keeps (P.seen piece.old) (P.seen piece.new) }
     ensures same { IsRead (P.seen piece.old) (P.seen piece.new) }
     ensures header { IfOk result (λ h. IfSome (P.seen piece.old).told (λ contents. header_of (contents 0) ≡ option_map label_of h)) }
@@ -24,7 +24,7 @@ pub fn find<P: Piece>(piece: &mut P) -> Result<Option<Header>, PieceFault>
 /// The same, with room for a sector.
 pub fn read_header<P: Piece>(piece: &mut P, sector: &mut [u8]) -> Result<Option<Header>, PieceFault>
     requires size { length sector.old ≡ 512 }
-    requires sectors { 2048 ≤ (P.seen piece.old).sectors }
+    requires some { 0 < (P.seen piece.old).sectors }
     ensures size { length sector.new ≡ 512 }
     ensures kept { Keeps (P.seen piece.old) (P.seen piece.new) }
     ensures same { IsRead (P.seen piece.old) (P.seen piece.new) }

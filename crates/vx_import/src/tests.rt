@@ -2,7 +2,7 @@
 ghost use Rattle.std.specs.Prelude.{◌≡◌, ◌<◌, ◌≤◌, length, true, IfSome};
 ghost use Rattle.vx_piece.specs.MemPiece.{mem_seen};
 
-use crate::{Found, ImportFault, Reading, inspect};
+use crate::{Found, ImportFault, Reading, find, half_of, inspect};
 use std::alloc::Global;
 use std::test::Fail;
 use vx_header::{Header, Toggle};
@@ -82,6 +82,32 @@ fn damaged_byte(fault: &ImportFault) -> Option<u64> {
         ImportFault::Damaged { byte, .. } => Some(*byte),
         _ => None,
     }
+}
+
+/// The slot that the header of a device says.
+fn slot_of(piece: &mut MemPiece) -> Option<u8>
+    requires { 2048 ≤ (mem_seen piece.old).sectors }
+{
+    match find(piece) {
+        Ok(Some(header)) => Some(header.slot),
+        _ => None,
+    }
+}
+
+/// A header that was written is found.
+#[test]
+fn a_header_is_found(rt: HostRuntime) -> Result<(), Fail> {
+    let mut piece = zeros(rt.alloc()).ok_or("no device")?;
+    let mut sector = [0; 512];
+    header(5).put(&mut sector);
+    assert_eq!(rt; piece.write(0, &sector), Ok(()));
+    assert_eq!(rt; slot_of(&mut piece), Some(5));
+    Ok(())
+}
+
+#[test]
+fn no_toggle_names_the_first_half(rt: HostRuntime) {
+    assert_eq!(rt; half_of(&Reading::Blank), 0);
 }
 
 /// Of two devices the one with the higher sequence is taken.

@@ -9,6 +9,10 @@ pub enum Difference {
     /// Memory was wanting; what was written is a front of what is wanted. No row wants it: it is told where an allocation
     /// is made to fail.
     NoMemory,
+    /// A fault that moves fires at each call.
+    Endless,
+    /// The images are not written to in the order that the row says.
+    Order,
     /// A line of the answers, counted from 1, as it was written and as it is wanted.
     Answer {
         line: usize,
@@ -26,12 +30,19 @@ pub enum Difference {
         image: String,
         sector: u64,
     },
+    /// A byte is not the one that is wanted, or its device was not given back.
+    Byte {
+        image: String,
+        place: u64,
+    },
 }
 
 impl fmt::Display for Difference {
     fn fmt<W: fmt::Write>(&self, f: &mut fmt::Formatter<W>) -> fmt::Result {
         match self {
             Difference::Images => write!(f, "these images stand on no shelf"),
+            Difference::Endless => write!(f, "the fault fires at each call"),
+            Difference::Order => write!(f, "the writes are others, or in another order"),
             Difference::NoMemory => write!(f, "memory was wanting"),
             Difference::Answer {
                 line,
@@ -44,6 +55,9 @@ impl fmt::Display for Difference {
             }
             Difference::Content { image, sector } => {
                 write!(f, "sector {sector} of {image} holds something else")
+            }
+            Difference::Byte { image, place } => {
+                write!(f, "byte {place} of {image} is another")
             }
         }
     }

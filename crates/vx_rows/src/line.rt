@@ -18,6 +18,35 @@ pub enum Line<'a> {
         name: &'a str,
         bad: Bad,
     },
+    /// `moving NAME read|write TIMES`: calls of this kind on the image fail, so many times, from call 0, 1, 2, .. on.
+    Moving {
+        name: &'a str,
+        on_read: bool,
+        times: u64,
+    },
+    /// `order NAME ..`: the images in the order in which the first run writes to them.
+    Order(&'a str),
+    /// `cuts N M`: all images fail for good after N of these writes, after N + 1, and so on up to M.
+    Cuts {
+        first: u64,
+        last: u64,
+    },
+    /// `heal`: no sector is bad any more as this run begins.
+    Heal,
+    /// `any`: any answers and any status of this run will do.
+    Any,
+    /// `or`: the answers behind it would do as well as those before.
+    Or,
+    /// `again`: a further run over the same devices. The lines behind it are of that run.
+    Again,
+    /// `without NAME`: the image is not on the shelf of this run.
+    Without(&'a str),
+    /// `change NAME BYTE XX`: a byte of an image, by its place from the image's start, is changed before this run.
+    Change {
+        name: &'a str,
+        place: u64,
+        byte: u8,
+    },
     /// `source fails at N`: the source fails once N bytes have passed.
     SourceFails(u64),
     /// `room N`: the sink takes N bytes.
@@ -34,6 +63,12 @@ pub enum Line<'a> {
     Holds {
         name: &'a str,
         sector: u64,
+        byte: u8,
+    },
+    /// `byte NAME PLACE XX`: what a byte of an image is at the end, by its place from the image's start.
+    Byte {
+        name: &'a str,
+        place: u64,
         byte: u8,
     },
     /// `status N`
@@ -54,6 +89,12 @@ pub fn read_line(text: &str) -> Option<Line<'_>> {
         "image" => read_image(rest),
         "bad" => read_bad(rest),
         "holds" => read_holds(rest),
+        "without" => Some(Line::Without(rest)),
+        "change" => read_change(rest),
+        "byte" => read_end(rest),
+        "moving" => read_moving(rest),
+        "order" => Some(Line::Order(rest)),
+        "cuts" => read_cuts(rest),
         _ => read_figure(text),
     }
 }
@@ -62,6 +103,13 @@ pub fn read_line(text: &str) -> Option<Line<'_>> {
 fn read_figure(text: &str) -> Option<Line<'_>> {
     if text == "no last newline" {
         return Some(Line::NoLastNewline);
+    }
+    match text {
+        "again" => return Some(Line::Again),
+        "any" => return Some(Line::Any),
+        "or" => return Some(Line::Or),
+        "heal" => return Some(Line::Heal),
+        _ => {}
     }
     if let Some(number) = text.strip_prefix("source fails at ") {
         return Some(Line::SourceFails(number.parse().ok()?));
@@ -105,10 +153,46 @@ fn read_bad(text: &str) -> Option<Line<'_>> {
 }
 
 fn read_holds(text: &str) -> Option<Line<'_>> {
-    let (name, rest) = text.split_once(' ')?;
-    let (sector, byte) = read_number(rest)?;
-    let byte = u8::from_str_radix(byte, 16).ok()?;
+    let (name, sector, byte) = read_byte(text)?;
     Some(Line::Holds { name, sector, byte })
+}
+
+fn read_change(text: &str) -> Option<Line<'_>> {
+    let (name, place, byte) = read_byte(text)?;
+    Some(Line::Change { name, place, byte })
+}
+
+fn read_moving(text: &str) -> Option<Line<'_>> {
+    let (name, rest) = text.split_once(' ')?;
+    let (kind, times) = rest.split_once(' ')?;
+    if kind != "read" && kind != "write" {
+        return None;
+    }
+    Some(Line::Moving {
+        name,
+        on_read: kind == "read",
+        times: times.parse().ok()?,
+    })
+}
+
+fn read_cuts(text: &str) -> Option<Line<'_>> {
+    let (first, last) = read_number(text)?;
+    Some(Line::Cuts {
+        first,
+        last: last.parse().ok()?,
+    })
+}
+
+fn read_end(text: &str) -> Option<Line<'_>> {
+    let (name, place, byte) = read_byte(text)?;
+    Some(Line::Byte { name, place, byte })
+}
+
+/// A name, a place and a byte.
+fn read_byte(text: &str) -> Option<(&str, u64, u8)> {
+    let (name, rest) = text.split_once(' ')?;
+    let (place, byte) = read_number(rest)?;
+    Some((name, place, u8::from_str_radix(byte, 16).ok()?))
 }
 
 /// The number up to the first blank, and the text behind that.

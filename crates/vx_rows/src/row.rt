@@ -4,11 +4,39 @@ use std::alloc::{AllocError, Global};
 use vx_names::Name;
 use vx_piece::Bad;
 
-/// A run of a script that is to be tried, and what is wanted of it.
+/// Runs over the same devices, one after the other, and what is wanted of them.
 #[derive(Drop)]
 pub struct Row {
     pub title: String,
     pub images: Vec<Image>,
+    /// At least one.
+    pub runs: Vec<Run>,
+    /// A fault that is moved along: the row is tried with it at call 0, 1, 2 and so on, until it no longer fires.
+    pub moving: Option<Moving>,
+    /// The images in the order in which the first run writes to them, one for each write.
+    pub order: Vec<Name>,
+    /// After how many of these writes all images fail for good: the row is tried with each number from the first to the
+    /// last. What is left of the images is what a power cut there leaves.
+    pub cuts: Option<(u64, u64)>,
+}
+
+/// Calls of one kind on an image that fail, so many times from some call on.
+#[derive(Clone, Copy)]
+pub struct Moving {
+    pub image: Name,
+    pub on_read: bool,
+    pub times: u64,
+}
+
+/// A run of a script that is to be tried, and what is wanted of it.
+#[derive(Drop)]
+pub struct Run {
+    /// Images that are not on the shelf of this run.
+    pub without: Vec<Name>,
+    /// Whether no sector is bad any more as the run begins.
+    pub heals: bool,
+    /// Bytes that are changed before the run.
+    pub changes: Vec<Byte>,
     /// After how many bytes the source fails.
     pub fails_at: Option<u64>,
     /// How many bytes the sink takes.
@@ -17,7 +45,13 @@ pub struct Row {
     pub words: String,
     pub script: Vec<u8>,
     pub answers: Vec<u8>,
+    /// Answers that would do as well.
+    pub others: Vec<Vec<u8>>,
+    /// Whether any answers and any status will do.
+    pub any: bool,
     pub contents: Vec<Content>,
+    /// Bytes as they are at the end.
+    pub bytes: Vec<Byte>,
     pub status: u8,
 }
 
@@ -27,6 +61,14 @@ pub struct Image {
     pub name: Name,
     pub sectors: u64,
     pub bads: Vec<Bad>,
+}
+
+/// A byte of an image, by its place from the image's start.
+#[derive(Clone, Copy)]
+pub struct Byte {
+    pub image: Name,
+    pub place: u64,
+    pub byte: u8,
 }
 
 /// What all bytes of a sector are at the end.
@@ -54,19 +96,92 @@ impl From<AllocError> for RowFault {
 /// The room of a sink that has no line of its own.
 const ROOM: u64 = 65_536;
 
-impl Row {
-    /// A row without a script over no images, of which nothing is wanted but status 0.
-    fn new(alloc: Global) -> Result<Row, AllocError> {
-        Ok(Row {
-            title: String::new(alloc),
-            images: Vec::new(alloc),
+impl Run {
+    /// A run without a script, of which nothing is wanted but status 0.
+    fn new(alloc: Global) -> Result<Run, AllocError> {
+        Ok(Run {
+            without: Vec::new(alloc),
+            heals: false,
+            changes: Vec::new(alloc),
             fails_at: None,
             room: ROOM,
             words: String::from_str(alloc, "--images .")?,
             script: Vec::new(alloc),
             answers: Vec::new(alloc),
+            others: Vec::new(alloc),
+            any: false,
             contents: Vec::new(alloc),
+            bytes: Vec::new(alloc),
             status: 0,
+        })
+    }
+
+    /// Takes what a line says of the run. It tells whether the line is one of a run, and its names are names.
+    fn take(&mut self, alloc: Global, line: Line<'_>) -> Result<bool, AllocError> {
+        match line {
+            Line::SourceFails(at) => self.fails_at = Some(at),
+            Line::Room(room) => self.room = room,
+            Line::Words(words) => self.words = String::from_str(alloc, words)?,
+            Line::Script(text) => put_line(&mut self.script, text)?,
+            Line::NoLastNewline => {
+                let _ = self.script.pop();
+            }
+            Line::Answer(text) => put_line(self.answers_mut(), text)?,
+            Line::Or => self.others.push(Vec::new(alloc))?,
+            Line::Any => self.any = true,
+            Line::Heal => self.heals = true,
+            Line::Status(status) => self.status = status,
+            other => return self.take_named(other),
+        }
+        Ok(true)
+    }
+
+    /// The answers that lines are added to now.
+    fn answers_mut(&mut self) -> &mut Vec<u8> {
+        match self.others.last_mut() {
+            None => &mut self.answers,
+            Some(last) => last,
+        }
+    }
+
+    /// Takes a line that names an image.
+    fn take_named(&mut self, line: Line<'_>) -> Result<bool, AllocError> {
+        let (word, place, byte) = match line {
+            Line::Without(name) => (name, 0, 0),
+            Line::Change { name, place, byte } => (name, place, byte),
+            Line::Byte { name, place, byte } => (name, place, byte),
+            Line::Holds { name, sector, byte } => (name, sector, byte),
+            _ => return Ok(false),
+        };
+        let Ok(image) = Name::read(word.as_bytes()) else {
+            return Ok(false);
+        };
+        match line {
+            Line::Without(_) => self.without.push(image)?,
+            Line::Change { .. } => self.changes.push(Byte { image, place, byte })?,
+            Line::Byte { .. } => self.bytes.push(Byte { image, place, byte })?,
+            _ => self.contents.push(Content {
+                image,
+                sector: place,
+                byte,
+            })?,
+        }
+        Ok(true)
+    }
+}
+
+impl Row {
+    /// A row of one run over no images.
+    fn new(alloc: Global) -> Result<Row, AllocError> {
+        let mut runs = Vec::new(alloc);
+        runs.push(Run::new(alloc)?)?;
+        Ok(Row {
+            title: String::new(alloc),
+            images: Vec::new(alloc),
+            runs,
+            moving: None,
+            order: Vec::new(alloc),
+            cuts: None,
         })
     }
 
@@ -93,18 +208,47 @@ impl Row {
             Line::Title(text) => self.title = String::from_str(alloc, text)?,
             Line::Image { name, sectors } => return self.add_image(alloc, name, sectors),
             Line::Bad { name, bad } => return self.add_bad(name, bad),
-            Line::SourceFails(at) => self.fails_at = Some(at),
-            Line::Room(room) => self.room = room,
-            Line::Words(words) => self.words = String::from_str(alloc, words)?,
-            Line::Script(text) => put_line(&mut self.script, text)?,
-            Line::NoLastNewline => {
-                let _ = self.script.pop();
-            }
-            Line::Answer(text) => put_line(&mut self.answers, text)?,
-            Line::Holds { name, sector, byte } => return self.add_content(name, sector, byte),
-            Line::Status(status) => self.status = status,
+            Line::Moving {
+                name,
+                on_read,
+                times,
+            } => return Ok(self.move_fault(name, on_read, times)),
+            Line::Order(names) => return self.set_order(names),
+            Line::Cuts { first, last } => self.cuts = Some((first, last)),
+            Line::Again => self.runs.push(Run::new(alloc)?)?,
+            other => return self.take_in_run(alloc, other),
         }
         Ok(true)
+    }
+
+    /// Takes a line of the last run.
+    fn take_in_run(&mut self, alloc: Global, line: Line<'_>) -> Result<bool, AllocError> {
+        match self.runs.last_mut() {
+            None => Ok(false),
+            Some(run) => run.take(alloc, line),
+        }
+    }
+
+    fn set_order(&mut self, names: &str) -> Result<bool, AllocError> {
+        for word in names.split_whitespace() {
+            let Ok(name) = Name::read(word.as_bytes()) else {
+                return Ok(false);
+            };
+            self.order.push(name)?;
+        }
+        Ok(true)
+    }
+
+    fn move_fault(&mut self, name: &str, on_read: bool, times: u64) -> bool {
+        let Ok(image) = Name::read(name.as_bytes()) else {
+            return false;
+        };
+        self.moving = Some(Moving {
+            image,
+            on_read,
+            times,
+        });
+        true
     }
 
     fn add_image(&mut self, alloc: Global, name: &str, sectors: u64) -> Result<bool, AllocError> {
@@ -128,18 +272,6 @@ impl Row {
             }
         }
         Ok(false)
-    }
-
-    fn add_content(&mut self, name: &str, sector: u64, byte: u8) -> Result<bool, AllocError> {
-        let Ok(image) = Name::read(name.as_bytes()) else {
-            return Ok(false);
-        };
-        self.contents.push(Content {
-            image,
-            sector,
-            byte,
-        })?;
-        Ok(true)
     }
 }
 

@@ -3,29 +3,168 @@ ghost use Rattle.std.specs.Prelude.{◌≡◌, None};
 ghost use Rattle.vx_base.specs.Named.{Word};
 ghost use Rattle.vx_shelf.specs.OnShelf.{held_on};
 
-use crate::build::devices;
+use crate::build::{Faulty, devices, healed};
 use crate::compare::compare;
 use crate::difference::Difference;
-use crate::row::{Content, Row};
+use crate::row::{Byte, Content, Row, Run};
 use std::alloc::{AllocError, Global};
 use vx_flow::{MemSink, MemSource};
+use vx_names::Name;
+use vx_piece::{MemPiece, Piece};
 use vx_run::run;
-use vx_shelf::MemShelf;
+use vx_shelf::{MemShelf, Shelf};
 
 /// The status of a run in which memory was wanting.
 const NO_MEMORY: u8 = 6;
 
-/// Runs the script of the row, and tells the first thing that differs from what is wanted.
+/// The most calls that a fault is moved along.
+const CALLS: u64 = 1000;
+
+/// Runs the scripts of the row, and tells the first thing that differs from what is wanted. A fault that moves is tried
+/// at each call, until it does not fire any more.
 pub fn try_row(alloc: Global, row: &Row) -> Result<Option<Difference>, AllocError> {
-    let devices = devices(alloc, row.images.as_slice())?;
-    if devices.len() != row.images.len() || !MemShelf::accepts(devices.as_slice()) {
-        return Ok(Some(Difference::Images));
+    if let Some((first, last)) = row.cuts {
+        return try_cuts(alloc, row, first, last);
     }
-    let mut shelf = MemShelf::new(devices);
-    try_on(alloc, row, &mut shelf)
+    let Some(moving) = row.moving else {
+        return Ok(try_runs(alloc, row, Faulty::Nothing)?.err());
+    };
+    for call in 0..CALLS {
+        match try_runs(alloc, row, Faulty::From(moving, call))? {
+            Err(difference) => return Ok(Some(difference)),
+            Ok(false) => return Ok(None),
+            Ok(true) => {}
+        }
+    }
+    Ok(Some(Difference::Endless))
 }
 
-fn try_on(alloc: Global, row: &Row, shelf: &mut MemShelf) -> Result<Option<Difference>, AllocError>
+/// Tries the row with all images failing after each number of writes. The fault fires where a write is left.
+fn try_cuts(
+    alloc: Global,
+    row: &Row,
+    first: u64,
+    last: u64,
+) -> Result<Option<Difference>, AllocError> {
+    let order = row.order.as_slice();
+    for writes in first..last.saturating_add(1) {
+        match try_runs(alloc, row, Faulty::After(order, writes))? {
+            Err(difference) => return Ok(Some(difference)),
+            Ok(fired) => {
+                if fired != (writes < order.len() as u64) {
+                    return Ok(Some(Difference::Order));
+                }
+            }
+        }
+    }
+    Ok(None)
+}
+
+/// Runs the scripts of the row one after the other, and tells whether a fault fired.
+fn try_runs(
+    alloc: Global,
+    row: &Row,
+    faulty: Faulty<'_>,
+) -> Result<Result<bool, Difference>, AllocError> {
+    let mut devices = devices(alloc, row.images.as_slice(), faulty)?;
+    if devices.len() != row.images.len() {
+        return Ok(Err(Difference::Images));
+    }
+    let mut fired = false;
+    for run in row.runs.as_slice() {
+        if run.heals {
+            devices = healed(alloc, devices)?;
+        }
+        change_all(alloc, &mut devices, run.changes.as_slice())?;
+        let mut away = Vec::new(alloc);
+        let here = part(alloc, devices, &mut away, run.without.as_slice())?;
+        if !MemShelf::accepts(here.as_slice()) {
+            return Ok(Err(Difference::Images));
+        }
+        let mut shelf = MemShelf::new(here);
+        if let Some(difference) = try_on(alloc, run, &mut shelf)? {
+            return Ok(Err(difference));
+        }
+        devices = collect(alloc, shelf, away)?;
+        fired = fired || has_failed(devices.as_slice());
+    }
+    Ok(Ok(fired))
+}
+
+/// Whether a call of some device has failed.
+fn has_failed(devices: &[(Name, MemPiece)]) -> bool {
+    devices.iter().any(|device| 0 < device.1.counts().faults)
+}
+
+/// Changes bytes of devices.
+fn change_all(
+    alloc: Global,
+    devices: &mut Vec<(Name, MemPiece)>,
+    changes: &[Byte],
+) -> Result<(), AllocError> {
+    for change in changes {
+        for device in devices.iter_mut() {
+            if device.0.as_bytes() == change.image.as_bytes() {
+                change_byte(alloc, &mut device.1, change)?;
+            }
+        }
+    }
+    Ok(())
+}
+
+/// Writes the byte's sector with that byte changed. A byte past the device's end changes nothing.
+fn change_byte(alloc: Global, device: &mut MemPiece, change: &Byte) -> Result<(), AllocError> {
+    let sector = change.place / 512;
+    let Some(old) = sector_of(device.bytes(), sector) else {
+        return Ok(());
+    };
+    let mut bytes = Vec::from_slice(alloc, old)?;
+    let place = (change.place % 512) as usize;
+    if place < bytes.len() && bytes.len() == 512 && sector < device.sectors() {
+        bytes[place] = change.byte;
+        let _ = device.write(sector, bytes.as_slice());
+    }
+    Ok(())
+}
+
+/// The devices that are on the shelf of a run; the others are put away.
+fn part(
+    alloc: Global,
+    devices: Vec<(Name, MemPiece)>,
+    away: &mut Vec<(Name, MemPiece)>,
+    without: &[Name],
+) -> Result<Vec<(Name, MemPiece)>, AllocError> {
+    let mut here = Vec::new(alloc);
+    for device in devices {
+        if without.iter().any(|name| name.as_bytes() == device.0.as_bytes()) {
+            away.push(device)?;
+        } else {
+            here.push(device)?;
+        }
+    }
+    Ok(here)
+}
+
+/// All devices of the row again, and those that a run made.
+fn collect(
+    alloc: Global,
+    shelf: MemShelf,
+    away: Vec<(Name, MemPiece)>,
+) -> Result<Vec<(Name, MemPiece)>, AllocError> {
+    let mut shelf = shelf;
+    let mut all = away;
+    let Ok(names) = shelf.names(alloc) else {
+        return Err(AllocError);
+    };
+    for name in names.as_slice() {
+        if let Ok(piece) = shelf.take(name) {
+            all.push((*name, piece))?;
+        }
+    }
+    Ok(all)
+}
+
+fn try_on(alloc: Global, row: &Run, shelf: &mut MemShelf) -> Result<Option<Difference>, AllocError>
     requires { (name : Word) → held_on shelf.old name ≡ None }
 {
     let words: Vec<&str> = row.words.as_str().split_whitespace().collect(alloc)?;
@@ -41,14 +180,20 @@ fn try_on(alloc: Global, row: &Row, shelf: &mut MemShelf) -> Result<Option<Diffe
 /// The first thing of a run that differs from what is wanted.
 fn judge(
     alloc: Global,
-    row: &Row,
+    row: &Run,
     shelf: &MemShelf,
     status: u8,
     written: &[u8],
 ) -> Result<Option<Difference>, AllocError> {
+    if row.any {
+        return Ok(None);
+    }
     let wanted = fitting(row);
     if status == NO_MEMORY && wanted.starts_with(written) {
         return Ok(Some(Difference::NoMemory));
+    }
+    if row.others.iter().any(|other| other.as_slice() == written) {
+        return Ok(None);
     }
     if let Some(difference) = compare(alloc, written, wanted)? {
         return Ok(Some(difference));
@@ -59,11 +204,38 @@ fn judge(
             wanted: row.status,
         }));
     }
-    compare_contents(alloc, shelf, row.contents.as_slice())
+    if let Some(difference) = compare_contents(alloc, shelf, row.contents.as_slice())? {
+        return Ok(Some(difference));
+    }
+    compare_bytes(alloc, shelf, row.bytes.as_slice())
+}
+
+/// The first byte that is not what is wanted.
+fn compare_bytes(
+    alloc: Global,
+    shelf: &MemShelf,
+    bytes: &[Byte],
+) -> Result<Option<Difference>, AllocError> {
+    for byte in bytes {
+        if byte_at(shelf, byte) != Some(byte.byte) {
+            return Ok(Some(Difference::Byte {
+                image: word_of(alloc, &byte.image)?,
+                place: byte.place,
+            }));
+        }
+    }
+    Ok(None)
+}
+
+/// The byte of a device that is on the shelf.
+fn byte_at(shelf: &MemShelf, byte: &Byte) -> Option<u8> {
+    let device = shelf.device(&byte.image)?;
+    let place = usize::try_from(byte.place).ok()?;
+    device.bytes().get(place).copied()
 }
 
 /// The answers, as far as the sink has room for them.
-fn fitting(row: &Row) -> &[u8] {
+fn fitting(row: &Run) -> &[u8] {
     let answers = row.answers.as_slice();
     let room = usize::try_from(row.room).unwrap_or(usize::MAX);
     &answers[..answers.len().min(room)]
@@ -78,7 +250,7 @@ fn compare_contents(
     for content in contents {
         if !is_held(shelf, content) {
             return Ok(Some(Difference::Content {
-                image: name_of(alloc, content)?,
+                image: word_of(alloc, &content.image)?,
                 sector: content.sector,
             }));
         }
@@ -86,8 +258,8 @@ fn compare_contents(
     Ok(None)
 }
 
-fn name_of(alloc: Global, content: &Content) -> Result<String, AllocError> {
-    let name = std::str::from_utf8(content.image.as_bytes()).unwrap_or("");
+fn word_of(alloc: Global, image: &Name) -> Result<String, AllocError> {
+    let name = std::str::from_utf8(image.as_bytes()).unwrap_or("");
     String::from_str(alloc, name)
 }
 

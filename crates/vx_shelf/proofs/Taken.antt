@@ -1,5 +1,5 @@
 -- What is seen of a shelf as a device is taken from it, and as it comes back.
-use Rattle.std.proofs.Common.{◌≡◌, ◌∙◌, ◌<◌, ℕ, Bool, true, false, List, length, get_or, Option, Some, None, IsSome, sym, ap, subst, refl, arith}
+use Rattle.std.proofs.Common.{◌≡◌, ◌∙◌, ◌<◌, ◌==◌, ℕ, zero, suc, Bool, true, false, List, length, get_or, Option, Some, None, IsSome, sym, ap, subst, refl, arith}
 use Rattle.std.proofs.Math.ListN.{set}
 use Rattle.std.specs.List.{list_all}
 use Rattle.std.proofs.lemmas.Bool.{cond-true, cond-false, eqb-true, eq-eqb, ne_eqb, ltb-true}
@@ -33,6 +33,13 @@ module _ (piece : MemPiece) where
 
   pub whole_at_rest : is_empty piece ≡ false → is_whole_or_left piece ≡ true → (mem_seen piece).start ≡ 0
   whole_at_rest full rest = eqb-true _ _ (sym (cond-false _ _ _ full) ∙ rest)
+
+  pub some_left : is_empty piece ≡ false → 0 < (mem_seen piece).sectors
+  some_left full = above (mem_seen piece).sectors full
+    where
+      above : (n : ℕ) → n == 0 ≡ false → 0 < n
+      above zero e = cc
+      above (suc n) e = omega arith
 
   pub left_at_rest : is_empty piece ≡ true → is_whole_or_left piece ≡ true → 0 < (mem_seen piece).start
   left_at_rest empty rest = ltb-true _ _ (sym (cond-true _ _ _ empty) ∙ rest)
@@ -71,6 +78,7 @@ module _ (ps : List Place) (name : Word) (i : ℕ) (place d : Place) (rest : lis
     pub taken : (left : MemPiece) → HasLeft place.1 left → IsTaken name (mem_seen place.1) (held_in ps) (held_in (set ps i (place.0, left)))
     taken left has = record {
       whole = whole_at_rest place.1 full rest_here;
+      some = some_left place.1 full;
       before = none_held;
       after = λ other. held_then left other ∙ ap (λ h. put name h (held_in ps) other) (held_of_left place.1 left (whole_at_rest place.1 full rest_here) has);
     }
@@ -82,6 +90,9 @@ module _ (ps : List Place) (name : Word) (i : ℕ) (place d : Place) (rest : lis
   module _ (empty : is_empty place.1 ≡ true) where
     pub held_under : held_in ps name ≡ Some (record { device = (mem_seen place.1).device; sectors = (mem_seen place.1).start })
     held_under = held_here ∙ is_held place.1 empty
+
+    pub free_gone : free_in ps name ≡ None
+    free_gone = free_here ∙ not_free place.1 empty
 
   pub stays_at_rest : (p : MemPiece) → is_whole_or_left p ≡ true → list_all is_at_rest (set ps i (place.0, p)) ≡ true
   stays_at_rest p new = list_all-set is_at_rest ps i (place.0, p) rest new

@@ -24,9 +24,10 @@ pub record IsNowhere (name : Word) (free : Word → Option Seen) (held : Word �
   pub not_free : free name ≡ None
   pub not_held : held name ≡ None
 
--- the whole device is held now, and nobody held it before
+-- the whole device is held now, with a sector at least, and nobody held it before
 pub record IsTaken (name : Word) (seen : Seen) (old new : Word → Option Held) : Type 0 where
   pub whole : IsWhole seen
+  pub some : 0 < seen.sectors
   pub before : old name ≡ None
   pub after : SameUnder (put name (Some (held_as seen)) old) new
 

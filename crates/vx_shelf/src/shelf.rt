@@ -1,4 +1,4 @@
-ghost use Rattle.std.specs.Prelude.{◌≡◌, ◌≤◌, ◌^◌, ◌↔◌, ℕ, List, Option, IsSome, IfOk, IfErr, IfSome, OnOk, OnErr, IsErrOf};
+ghost use Rattle.std.specs.Prelude.{◌≡◌, ◌≤◌, ◌^◌, ◌↔◌, ℕ, List, Option, None, IsSome, IfOk, IfErr, IfSome, OnOk, OnErr, IsErrOf};
 ghost use Rattle.vx_base.specs.Counts.{Rose};
 ghost use Rattle.vx_base.specs.Named.{Word, SameUnder};
 ghost use Rattle.vx_piece.specs.Seen.{Seen};
@@ -63,7 +63,7 @@ pub trait Shelf {
 
         ensures later { faults self.old ≤ faults self.new };
 
-    /// Takes a whole device.
+    /// Takes a whole device, of a sector at least. One that is held is not told among those that nobody holds.
     fn take(&mut self, name: &Name) -> Result<Self::P, ShelfFault>
         ensures taken { IfOk result (λ piece. IsTaken name.now (Self.P.seen piece) (held self.old) (held self.new)) }
         ensures left { IfOk result (λ piece. LeavesShelf name.now (Self.P.seen piece) (free self.old) (free self.new)) }
@@ -72,6 +72,7 @@ pub trait Shelf {
         ensures stays { OnErr result (free self.new ≡ free self.old) }
         ensures no_disk { IfSome (free self.old) (λ devices. IsErrOf result ShelfFault.NoDisk ↔ IsNowhere name.now devices (held self.old)) }
         ensures held { IsErrOf result ShelfFault.Held ↔ IsSome (held self.old name.now) }
+        ensures away { IfSome (free self.old) (λ devices. IsErrOf result ShelfFault.Held → devices name.now ≡ None) }
         ensures failed { IsErrOf result ShelfFault.Failed → Rose (faults self.old) (faults self.new) }
         ensures never { IsErrOf result ShelfFault.Exists → ⊥ }
 

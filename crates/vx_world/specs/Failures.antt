@@ -11,3 +11,8 @@ pub record Failures : Type 0 where
 -- the device failed, or the shelf
 abbrev pub HasFailed : Failures → Word → Type 0
 HasFailed f name = (f.devices name ≡ true) ⊎ (f.shelf ≡ true)
+
+-- what failed here failed there
+pub record IsWithin (here there : Failures) : Type 0 where
+  pub devices : (name : Word) → here.devices name ≡ true → there.devices name ≡ true
+  pub shelfs : here.shelf ≡ true → there.shelf ≡ true

@@ -4,6 +4,8 @@ use Rattle.vx_base.specs.Blocks.{Contents}
 use Rattle.vx_base.specs.Named.{Word}
 use Rattle.vx_piece.specs.Seen.{Seen}
 use Rattle.vx_world.specs.World.{World, Device, Volume, DeviceStands}
+use Rattle.vx_world.specs.Tests.{IsHeld}
+use Rattle.vx_world.specs.Back.{IsBackOf}
 
 -- a device with what it tells; one that tells nothing is none
 abbrev pub device_told : ℕ → Option Contents → Option Device
@@ -38,10 +40,6 @@ IsDeviceOf None (Some device) = ⊥
 IsDeviceOf (Some seen) None = ⊥
 IsDeviceOf (Some seen) (Some device) = IsImage seen device
 
--- a volume of the world lies on the device
-abbrev pub LiesOn : World → Word → Type 0
-LiesOn w name = (vol : Word) × (v : Volume) × (w.volumes vol ≡ Some v) × (v.device ≡ name)
-
 -- the device that a volume lies on is back, and stands for it
 pub record IsBack (devices : Word → Option Seen) (v : Volume) : Type 0 where
   pub seen : Seen
@@ -50,8 +48,9 @@ pub record IsBack (devices : Word → Option Seen) (v : Volume) : Type 0 where
   pub image : IsImage seen device
   pub stands : DeviceStands v device
 
--- The devices stand for the world: each volume's device for its volume, and all others are the world's, no more and
--- no fewer.
+-- The devices stand for the world: each volume's device for its volume, those of the group's members for the group, and
+-- all others are the world's, no more and no fewer.
 pub record StandFor (devices : Word → Option Seen) (w : World) : Type 0 where
   pub volumes : (vol : Word) (v : Volume) → w.volumes vol ≡ Some v → IsBack devices v
-  pub others : (name : Word) → (LiesOn w name → ⊥) → IsDeviceOf (devices name) (w.devices name)
+  pub members : IsBackOf w.group (λ name. device_of (devices name))
+  pub others : (name : Word) → (IsHeld w name → ⊥) → IsDeviceOf (devices name) (w.devices name)

@@ -6,7 +6,7 @@ use Rattle.vx_script_forms.specs.declared.form.Form.TheVariants as form
 use Rattle.vx_script.specs.declared.command.Command.{Command}
 use Rattle.vx_world.specs.declared.answer.Answer.{Answer}
 use Rattle.vx_world.specs.declared.answer.Refusal.TheVariants.{NotBuilt}
-use Rattle.vx_world.specs.Failures.{Failures}
+use Rattle.vx_world.specs.Failures.{Failures, IsWithin}
 use Rattle.vx_world.specs.World.{World, IsRefused}
 use Rattle.vx_world.specs.Form.{call_of, is_built}
 use Rattle.vx_world.specs.Bare.{BareStep}
@@ -34,10 +34,10 @@ FormStep f place group other old answer new = ⊥
 abbrev pub Step : Failures → ℕ → Command → World → Answer → World → Type 0
 Step f place c old answer new = MatchBool (is_built c) (FormStep f place c.group c.form old answer new) (IsRefused NotBuilt old answer new)
 
--- The commands from this place on may have these answers, one after the other. Each device that fails a step is one of
--- these, and where the shelf fails one it is told.
+-- The commands from this place on may have these answers, one after the other. Each step has failures of its own, and
+-- these are among those of the run.
 abbrev pub IsTranscript : Failures → ℕ → World → List Command → List Answer → World → Type 0
 IsTranscript f place old [] [] new = new ≡ old
-IsTranscript f place old (c ∷ cs) (a ∷ rest) new = (mid : World) × Step f place c old a mid × IsTranscript f (place + 1) mid cs rest new
+IsTranscript f place old (c ∷ cs) (a ∷ rest) new = (mid : World) × (g : Failures) × IsWithin g f × Step g place c old a mid × IsTranscript f (place + 1) mid cs rest new
 IsTranscript f place old [] (a ∷ rest) new = ⊥
 IsTranscript f place old (c ∷ cs) [] new = ⊥

@@ -1,6 +1,6 @@
 use Rattle.std.proofs.Common.{◌≡◌, refl, subst, sym, IsSome, false, true}
 use Rattle.vx_shelf.specs.MemShelf.{is_empty}
-use Rattle.vx_shelf.proofs.Taken.{not_some, not_true, nowhere, rest_here, free_under, none_held, taken, leaves, held_under, stays_at_rest}
+use Rattle.vx_shelf.proofs.Taken.{not_some, not_true, nowhere, rest_here, free_under, none_held, taken, leaves, held_under, free_gone, stays_at_rest}
 use Rattle.vx_shelf.proofs.Numbers.{numbered_set}
 use Rattle.vx_shelf.proofs.mem_shelf.MemShelfShelf.take.Goals as goal
 
@@ -38,6 +38,13 @@ returns-in-None-take_out-clause-held c =
     let empty : is_empty place.1 ≡ true = c.in-None-take_out.ensures.none.0 refl in
     let held = held_under c.args.self.now.places.items c.args.name.now c.in-Some.i place place c.args.self.now.at_rest found.0 found.1 c.index_mut-place.ensures.value empty in
     (λ e. subst IsSome (sym held) refl, λ h. refl)
+
+pub returns-in-None-take_out-clause-away : goal.returns-in-None-take_out-clause-away
+returns-in-None-take_out-clause-away c =
+    let found = rw c.as_slice.ensures.value at c.in-Some.ensures in
+    let place = c.index_mut-place.result.now in
+    let empty : is_empty place.1 ≡ true = c.in-None-take_out.ensures.none.0 refl in
+    λ e. free_gone c.args.self.now.places.items c.args.name.now c.in-Some.i place place c.args.self.now.at_rest found.0 found.1 c.index_mut-place.ensures.value empty
 
 pub returns-in-Some-take_out-clause-taken : goal.returns-in-Some-take_out-clause-taken
 returns-in-Some-take_out-clause-taken c =

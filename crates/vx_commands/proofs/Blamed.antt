@@ -1,5 +1,5 @@
 -- What runs of commands, one after the other, lay to devices and to the shelf.
-use Rattle.std.proofs.Common.{◌≡◌, ◌⊎◌, ℕ, ◌+◌, ◌≤◌, Bool, true, false, List, [], ◌∷◌, ◌++◌, Option, Some, refl, sym, ap, ◌∙◌, arith, subst, inl, inr, add_assoc, zero-add}
+use Rattle.std.proofs.Common.{◌≡◌, ◌⊎◌, ℕ, ◌+◌, ◌≤◌, Bool, true, false, List, [], ◌∷◌, ◌++◌, Option, refl, sym, ap, ◌∙◌, arith, subst, inl, inr, add_assoc, zero-add}
 use Rattle.std.specs.Prelude.{IsTrue, ◌||◌}
 use Rattle.vx_base.specs.Counts.{Rose, RoseBy}
 use Rattle.vx_base.specs.Named.{Word}
@@ -53,13 +53,13 @@ pub failed_then : (xs ys : List Answer) (f g : Failures) (old mid new : Word →
 unfolding either_failed
 failed_then xs ys f g old mid new s t u h k first second = record {
   devices = λ name is. elim (one_true (f.devices name) (g.devices name) is) [
-      | inl one ↦ still_rose (k.counts name).own _ _ _ (first.devices name one) (k.counts name).device_rose
-      | inr other ↦ rose_later (h.counts name).own _ _ _ (h.counts name).device_rose (second.devices name other)
-    ];
+    | inl one ↦ still_rose (k.counts name).own _ _ _ (first.devices name one) (k.counts name).device_rose
+    | inr other ↦ rose_later (h.counts name).own _ _ _ (h.counts name).device_rose (second.devices name other)
+  ];
   shelfs = λ is. elim (one_true f.shelf g.shelf is) [
-      | inl one ↦ still_rose ((k.counts []).shelfs + all_shelf_told ys) _ _ _ (first.shelfs one) (k.counts []).shelf_rose
-      | inr other ↦ rose_later ((h.counts []).shelfs + all_shelf_told xs) _ _ _ (h.counts []).shelf_rose (second.shelfs other)
-    ];
+    | inl one ↦ still_rose ((k.counts []).shelfs + all_shelf_told ys) _ _ _ (first.shelfs one) (k.counts []).shelf_rose
+    | inr other ↦ rose_later ((h.counts []).shelfs + all_shelf_told xs) _ _ _ (h.counts []).shelf_rose (second.shelfs other)
+  ];
 }
 
 -- the shelf's count may go on to rise

@@ -1,6 +1,9 @@
 -- Before a run the devices stand for the world that is read from them; once all devices are back, for the last.
-use Rattle.std.proofs.Common.{◌≡◌, ℕ, ◌≤◌, Bool, true, false, cond, List, [], ◌∷◌, ◌++◌, map, Option, Some, None, subst, sym, ap, ◌∙◌, refl, inl, inr}
+use Rattle.std.proofs.Common.{◌≡◌, ℕ, ◌≤◌, Bool, List, [], ◌∷◌, Option, Some, None, subst, sym, ap, ◌∙◌, refl}
 use Rattle.std.specs.Prelude.{IsSome}
+use Rattle.std.specs.BTreeMap.{IsOrdered}
+use Rattle.std.specs.Cmp.Lexicographic.{slice_cmp}
+use Rattle.std.specs.Ordering.{nat_cmp}
 use Rattle.vx_base.specs.Blocks.{Contents}
 use Rattle.vx_base.specs.Named.{Word}
 use Rattle.vx_piece.specs.Seen.{Seen}
@@ -8,12 +11,13 @@ use Rattle.vx_shelf.specs.Shelf.{Held}
 use Rattle.vx_script.specs.declared.command.Command.{Command}
 use Rattle.vx_world.specs.World.{World, Device, Member, Group}
 use Rattle.vx_world.specs.Back.{AreDevicesOf, IsBackOf, IsCutOff}
-use Rattle.vx_world.specs.Images.{device_of, device_told, world_of, IsTold, AllTold, IsImage, IsDeviceOf, IsBack, StandFor}
+use Rattle.vx_world.specs.Images.{device_of, device_told, world_of, IsTold, AllTold, IsImage, IsDeviceOf, StandFor}
 use Rattle.vx_hold.specs.declared.system.System.{System}
-use Rattle.vx_hold.specs.Holders.{volume_holder, group_holders, holders, volume_at, held_as, AreHeld}
+use Rattle.vx_hold.specs.Holders.{holders, volume_at, held_as, AreHeld}
 use Rattle.vx_hold.specs.Kept.{Keeps, HasRoom}
-use Rattle.vx_hold.specs.Stand.{State, StandWith, Stand, IsAtVolume, IsAtGroup, seen_at, device_seen}
+use Rattle.vx_hold.specs.Stand.{Stand, IsAtVolume, IsAtGroup, seen_at, device_seen}
 use Rattle.vx_hold.specs.Closing.{NoneHeld, AreBack}
+use Rattle.vx_hold.proofs.Cut.{cut_off}
 use Rattle.vx_commands.specs.Run.{Runs, RunsPartly}
 use Rattle.vx_commands.specs.Ends.{CarriesOut, StopsShort}
 use Rattle.vx_commands.proofs.Blamed.{same_blame, blame_later, same_failed, failed_later}
@@ -109,23 +113,23 @@ pub record Leaves {P : Type 0} (seen : P → Seen) (free free' : Option (Word �
   pub stand : StandFor devices w
   pub same : (name : Word) → devices name ≡ device_seen seen (record { free = free; faults = faults; system = s }) name
 
-pub ends : {P : Type 0} (seen : P → Seen) (s : System P) (free free' : Option (Word → Option Seen)) (faults : ℕ) (held : Word → Option Held) (w : World) → Stand seen free s w → Keeps seen held s → AreBack (holders seen s) free free' → Leaves seen free free' faults s w
-ends seen s None free' faults held w stand keeps back = absurd stand
-ends seen s (Some devices) None faults held w stand keeps back = absurd back
-ends seen s (Some devices) (Some devices') faults held w stand keeps back =
-    let c : (next : World) × IsCutOff w next × ((name : Word) → IsDeviceOf (devices' name) (next.devices name)) = ? in record {
+pub ends : {P : Type 0} (seen : P → Seen) (empty s : System P) → empty.volumes.entries ≡ [] → empty.group ≡ None → IsOrdered (slice_cmp nat_cmp) s.volumes → (free free' : Option (Word → Option Seen)) (faults : ℕ) (held : Word → Option Held) (w : World) → Stand seen free s w → Keeps seen held s → AreBack (holders seen s) free free' → Leaves seen free free' faults s w
+ends seen empty s no_volumes no_group ordered None free' faults held w stand keeps back = absurd stand
+ends seen empty s no_volumes no_group ordered (Some devices) None faults held w stand keeps back = absurd back
+ends seen empty s no_volumes no_group ordered (Some devices) (Some devices') faults held w stand keeps back =
+    let c = cut_off seen devices s w stand ordered held keeps devices' back empty no_volumes no_group in record {
       devices = devices';
       here = refl;
-      stand = stand_for devices' w c.0 c.1 c.2;
+      stand = stand_for devices' w c.0 c.1 c.2.devices_are;
       same = back;
     }
 
 module _ {P : Type 0} (seen : P → Seen) (commands : List Command) (free mid free' : Option (Word → Option Seen)) (faults faults' faults'' : ℕ) (first last : System P) (held : Word → Option Held) (taken taken' : Option (List ℕ))
-    (no_volumes : first.volumes.entries ≡ []) (no_group : first.group ≡ None) (keeps : Keeps seen held last) (back : AreBack (holders seen last) mid free') (later : faults' ≤ faults'') where
+    (no_volumes : first.volumes.entries ≡ []) (no_group : first.group ≡ None) (ordered : IsOrdered (slice_cmp nat_cmp) last.volumes) (keeps : Keeps seen held last) (back : AreBack (holders seen last) mid free') (later : faults' ≤ faults'') where
   pub carried_out : (fine : Bool) → Runs seen 0 commands (record { free = free; faults = faults; system = first }) taken (record { free = mid; faults = faults'; system = last }) taken' fine → CarriesOut commands (record { free = free; faults = faults }) taken (record { free = free'; faults = faults'' }) taken' fine
   carried_out fine runs devices text is told written =
       let r = runs (world_of devices) text (subst (λ f. Stand seen f first (world_of devices)) (sym is) (begins seen first no_volumes no_group devices told)) written in
-      let e = ends seen last mid free' faults' held r.last r.stands keeps back in
+      let e = ends seen first last no_volumes no_group ordered mid free' faults' held r.last r.stands keeps back in
       let before : (name : Word) → devices name ≡ device_seen seen (record { free = free; faults = faults; system = first }) name = seen_before seen first no_volumes no_group free faults devices is in record {
         answers = r.answers;
         failures = r.failures;
@@ -143,7 +147,7 @@ module _ {P : Type 0} (seen : P → Seen) (commands : List Command) (free mid fr
   pub stopped_short : RunsPartly seen 0 commands (record { free = free; faults = faults; system = first }) taken (record { free = mid; faults = faults'; system = last }) taken' → StopsShort commands (record { free = free; faults = faults }) taken (record { free = free'; faults = faults'' }) taken'
   stopped_short runs devices text is told written =
       let r = runs (world_of devices) text (subst (λ f. Stand seen f first (world_of devices)) (sym is) (begins seen first no_volumes no_group devices told)) written in
-      let e = ends seen last mid free' faults' held r.last r.stands keeps back in
+      let e = ends seen first last no_volumes no_group ordered mid free' faults' held r.last r.stands keeps back in
       let before : (name : Word) → devices name ≡ device_seen seen (record { free = free; faults = faults; system = first }) name = seen_before seen first no_volumes no_group free faults devices is in record {
         begun = r.begun;
         left = r.left;

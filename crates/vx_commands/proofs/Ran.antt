@@ -1,6 +1,6 @@
 -- Runs of commands, one after the other.
-use Rattle.std.proofs.Common.{◌≡◌, ◌⊎◌, ℕ, ◌+◌, ◌≤◌, Bool, true, false, List, [], ◌∷◌, ◌++◌, length, take, Option, Some, None, Result, Ok, Err, subst, sym, ap, ◌∙◌, refl, inl, inr, arith, append_assoc, add_assoc, zero-add, suc}
-use Rattle.std.specs.Prelude.{IsTrue, ◌&&◌, ◌||◌, IfOk, OnOk, OnErr}
+use Rattle.std.proofs.Common.{◌≡◌, ℕ, ◌+◌, Bool, true, false, List, [], ◌∷◌, ◌++◌, length, take, Option, Some, Result, Ok, Err, subst, sym, ap, ◌∙◌, refl, arith, append_assoc, zero-add, suc}
+use Rattle.std.specs.Prelude.{◌&&◌, IfOk, OnOk, OnErr}
 use Rattle.std.proofs.lemmas.List.Concat.{flat_map-append}
 use Rattle.std.proofs.lemmas.List.Folds.{list_all-append}
 use Rattle.std.proofs.lemmas.List.{append-nil, length-append}

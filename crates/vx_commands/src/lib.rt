@@ -4,3 +4,6 @@
 mod lines;
 
 pub use lines::{Stop, run_commands};
+
+#[cfg(test)]
+mod tests;

@@ -1,6 +1,6 @@
 -- A script has no more commands than bytes: each line adds one at most, and has one byte at least.
 use Rattle.std.proofs.Common.{◌≡◌, ℕ, ◌+◌, ◌≤◌, Bool, true, false, cond, eqb, List, [], ◌∷◌, ◌++◌, length, min, Option, Some, None, Result, Ok, Err, arith, refl, subst, sym, codes}
-use Rattle.std.specs.Prelude.{IfOk}
+use Rattle.std.specs.Prelude.{IfOk, nat_le, ◌&&◌}
 use Rattle.std.specs.Str.{bytes_eq}
 use Rattle.std.proofs.lemmas.List.{length-append}
 use Rattle.vx_script_words.specs.Number.{number_of, within}
@@ -84,12 +84,18 @@ ended_adds : (done : List Command) (c : Command) (rest : List ℕ) → AddsOne d
 ended_adds done c [] = one_more done c Closed
 ended_adds done c (b ∷ bs) = tt
 
+added_adds : (done : List Command) (cut : Option ℕ) (sessions : ℕ) (lines : List Line) (calls sectors whole : ℕ) (l : Line) → AddsOne done (added done cut sessions lines calls sectors whole l)
+added_adds done cut sessions lines calls sectors whole l =
+    by_test done (nat_le (calls + line_calls l) 65536 && nat_le (sectors + line_sectors l) 262144)
+    (Ok (let r : Reader = record { done = done; begun = Inside cut sessions (lines ++ l ∷ []) (calls + line_calls l) (sectors + line_sectors l) } in r)) (Err whole)
+    (same done (Inside cut sessions (lines ++ l ∷ []) (calls + line_calls l) (sectors + line_sectors l))) tt
+
 inside_adds : (done : List Command) (cut : Option ℕ) (sessions : ℕ) (lines : List Line) (calls sectors : ℕ) (line : List ℕ) → AddsOne done (inside_step done cut sessions lines calls sectors line)
 inside_adds done cut sessions lines calls sectors line =
     by_test done (is_passed_over line) _ _ (bad_adds done (bad_word line) (Inside cut sessions lines calls sectors))
     (by_test done (bytes_eq (first_word (from_word line)) (codes "end")) _ _
     (ended_adds done (record { group = None; form = form.Sessions (record { sessions = sessions; lines = lines }); cut = cut }) (from_word (past_word (from_word line))))
-    (then_adds done (session_line sessions (from_word line)) (added done cut sessions lines calls sectors (length line)) (λ l. by_test done _ _ _ (same done (Inside cut sessions (lines ++ l ∷ []) (calls + line_calls l) (sectors + line_sectors l))) tt)))
+    (then_adds done (session_line sessions (from_word line)) (added done cut sessions lines calls sectors (length line)) (added_adds done cut sessions lines calls sectors (length line))))
 
 open_adds : (begun : Open) (done : List Command) (line : List ℕ) → AddsOne done (open_step begun done line)
 open_adds Closed done line = closed_adds done line

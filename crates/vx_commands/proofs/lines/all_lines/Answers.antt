@@ -1,4 +1,4 @@
-use Rattle.std.proofs.Common.{◌≡◌, ◌+◌, [], ◌∷◌, ◌++◌, take, drop, length, List, ℕ, true, subst, sym, ap, ◌∙◌, arith, rules}
+use Rattle.std.proofs.Common.{◌≡◌, ◌+◌, [], ◌∷◌, ◌++◌, take, drop, length, List, ℕ, true, subst, sym, ap, ◌∙◌, rules}
 use Rattle.std.proofs.lemmas.List.{take_more, take_all, take-append-drop}
 use Rattle.vx_shelf.proofs.Places.{list_all-get_or}
 use Rattle.vx_script.specs.Kept.{is_command}

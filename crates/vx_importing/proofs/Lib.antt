@@ -1,0 +1,5 @@
+pub mod Placed
+pub mod Kept
+pub mod Went
+pub mod Keeping
+pub mod Gathered

@@ -3,3 +3,4 @@ pub mod Kept
 pub mod Went
 pub mod Keeping
 pub mod Gathered
+pub mod Judged

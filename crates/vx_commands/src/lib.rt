@@ -2,10 +2,5 @@
 #![tactic(auto)]
 
 mod lines;
-mod system;
 
 pub use lines::{Stop, run_commands};
-pub use system::{bare, call, finish};
-
-#[cfg(test)]
-mod tests;

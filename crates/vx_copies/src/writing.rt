@@ -3,7 +3,7 @@ ghost use Rattle.vx_base.specs.Named.{Word};
 ghost use Rattle.vx_mask.specs.Mask.{has};
 ghost use Rattle.vx_copies.specs.Lists.{Each, AllOf};
 ghost use Rattle.vx_copies.specs.Disks.{held, Goes, HasSlot, IsReady, IsBelow, good_count, is_good_slot, good_mask};
-ghost use Rattle.vx_copies.specs.Config.{GivesOldOrNew, GivesNew};
+ghost use Rattle.vx_copies.specs.Config.{GivesOldOrNew, GivesNew, IsOlder};
 ghost use Rattle.vx_copies.specs.Chain.{Copy, IsSound};
 ghost use Rattle.vx_copies.specs.Commit.{AttemptEnds, CommitEnds};
 ghost use Rattle.vx_copies.specs.Pass.{IsPadded};
@@ -96,6 +96,7 @@ fn commit_on<P: Piece>(
     ensures ends { CommitEnds result carriers sequence.new text.now (map (held P.seen) disks.old) (map (held P.seen) disks.new) }
     ensures sound { (group : Word) (others : List Copy) → IsSound group others sequence.old carriers (map (held P.seen) disks.old) → IsSound group others sequence.new carriers (map (held P.seen) disks.new) }
     ensures all { OnOk result ((group : Word) (others : List Copy) → IsSound group others sequence.old carriers (map (held P.seen) disks.old) → IsSound group others sequence.new (length disks.old) (map (held P.seen) disks.new)) }
+    ensures older { OnOk result ((group : Word) → AllOf (IsBelow group sequence.old) (map (held P.seen) disks.old) → AllOf (IsOlder group sequence.new) (map (held P.seen) disks.new)) }
     ensures more { sequence.old ≤ sequence.new }
     ensures next { OnOk result (sequence.old < sequence.new) }
     ensures few { sequence.new ≤ sequence.old + 32 }

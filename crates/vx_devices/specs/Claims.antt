@@ -5,6 +5,8 @@ use Rattle.vx_base.specs.Named.{Word}
 use Rattle.vx_header.specs.Named.{header_of}
 use Rattle.vx_copies.specs.Image.{names_group}
 use Rattle.vx_piece.specs.Seen.{Seen, Keeps, IsRead}
+use Rattle.vx_shelf.specs.Shelf.{Held}
+use Rattle.vx_hold.specs.Moves.{faults_in, cut_in}
 use Rattle.vx_devices.specs.declared.claim.Claim.{Claim}
 use Rattle.vx_devices.specs.declared.claim.Claim.TheVariants.{Free, Claimed, Failed, ShelfFailed, Lost}
 
@@ -29,18 +31,35 @@ Names group seen = IfSome seen.told (λ contents. names_group group (header_of (
 abbrev pub NamesNot : Word → Seen → Type 0
 NamesNot group seen = IfSome seen.told (λ contents. names_group group (header_of (contents 0)) ≡ false)
 
--- the device's count rose, or the shelf's
-abbrev pub HasRisen : Word → (Word → Option Seen) → (Word → Option Seen) → ℕ → ℕ → Type 0
-HasRisen name old new shelf shelf' = IfSome (old name) (λ before. IfSome (new name) (λ now. Rose before.faults now.faults)) ⊎ Rose shelf shelf'
+-- what is seen of a look: what is held, and the devices and the count of the shelf before and after
+pub record Sight : Type 0 where
+  pub held : Word → Option Held
+  pub old : Word → Option Seen
+  pub new : Word → Option Seen
+  pub shelf : ℕ
+  pub shelf' : ℕ
+
+-- the device is one that nobody holds, and its count rose, or the shelf's rose
+abbrev pub HasRisen : Word → Sight → Type 0
+HasRisen name s = ((s.held name ≡ None) × Rose (faults_in (s.old name)) (faults_in (s.new name))) ⊎ Rose s.shelf s.shelf'
+
+-- one of the devices that nobody holds is a group's
+abbrev pub IsClaimed : Word → Sight → Type 0
+IsClaimed group s = (name : Word) × (seen : Seen) × (s.old name ≡ Some seen) × Names group seen
+
+-- one of the devices that nobody holds has lost its power
+abbrev pub IsCut : Sight → Type 0
+IsCut s = (name : Word) × (s.held name ≡ None) × IsTrue (cut_in (s.new name))
 
 -- What the look says, over a shelf that tells its devices.
-abbrev pub ClaimIs : Claim → Word → (Word → Option Seen) → (Word → Option Seen) → ℕ → ℕ → Type 0
-ClaimIs Free group old new shelf shelf' = (name : Word) → IfSome (old name) (NamesNot group)
-ClaimIs Claimed group old new shelf shelf' = (name : Word) × (seen : Seen) × (old name ≡ Some seen) × Names group seen
-ClaimIs (Failed name) group old new shelf shelf' = HasRisen name old new shelf shelf'
-ClaimIs ShelfFailed group old new shelf shelf' = Rose shelf shelf'
-ClaimIs Lost group old new shelf shelf' = (name : Word) × (seen : Seen) × (new name ≡ Some seen) × IsTrue seen.cut
+abbrev pub ClaimIs : Claim → Word → Sight → Type 0
+ClaimIs Free group s = (name : Word) → IfSome (s.old name) (NamesNot group)
+ClaimIs Claimed group s = IsClaimed group s
+ClaimIs (Failed name) group s = HasRisen name s
+ClaimIs ShelfFailed group s = Rose s.shelf s.shelf'
+ClaimIs Lost group s = IsCut s
 
-abbrev pub ClaimGives : Word → Option (Word → Option Seen) → Option (Word → Option Seen) → ℕ → ℕ → Claim → Type 0
-ClaimGives group (Some old) (Some new) shelf shelf' claim = ClaimIs claim group old new shelf shelf'
-ClaimGives group old new shelf shelf' claim = Unit {0}
+-- what the look says; of devices that are not told nothing is said
+abbrev pub ClaimGives : Word → (Word → Option Held) → Option (Word → Option Seen) → Option (Word → Option Seen) → ℕ → ℕ → Claim → Type 0
+ClaimGives group held (Some old) (Some new) shelf shelf' claim = ClaimIs claim group (record { held = held; old = old; new = new; shelf = shelf; shelf' = shelf' })
+ClaimGives group held old new shelf shelf' claim = Unit {0}

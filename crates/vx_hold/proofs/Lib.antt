@@ -1,3 +1,10 @@
 pub mod Rooms
 pub mod Held
 pub mod Returned
+pub mod Blamed
+pub mod Listed
+pub mod Leaving
+pub mod Cut
+pub mod Closed
+pub mod Looked
+pub mod Answered

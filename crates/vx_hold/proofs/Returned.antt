@@ -1,6 +1,13 @@
 -- The devices of a group and of volumes are given back, one after the other.
 use Rattle.std.proofs.Common.{◌≡◌, ◌∙◌, ◌<◌, false, true, List, [], ◌∷◌, ◌++◌, length, map, Option, Some, None, IsSome, refl, sym, ap, subst, append_assoc, arith}
 use Rattle.std.proofs.lemmas.List.{append-nil, length-append}
+use Rattle.std.specs.List.{All}
+use Rattle.std.specs.List.Sorted.{IsStrictlySortedBy}
+use Rattle.std.specs.Map.{keys_of}
+use Rattle.std.specs.Cmp.Lexicographic.{slice_cmp}
+use Rattle.std.specs.Ordering.{nat_cmp}
+use Rattle.std.specs.declared.cmp.Ordering.TheVariants.{Less}
+use Rattle.std.proofs.lemmas.List.Elements.{recursion_from_All}
 use Rattle.vx_base.specs.Named.{Word}
 use Rattle.vx_piece.specs.Seen.{Seen}
 use Rattle.vx_shelf.specs.Shelf.{Held, IsGiven, ComesToShelf}
@@ -77,3 +84,11 @@ module _ {P : Type 0} (see : P → Seen) (s s' : System P) (e : Word × Started 
 -- no volume is left
 pub group_alone : {P : Type 0} (see : P → Seen) (s : System P) (g : Option (Imported P)) → s.volumes.entries ≡ [] → s.group ≡ g → holders see s ≡ group_holders see g
 group_alone see s g empty is = ap (λ es. map (volume_holder see) es ++ group_holders see s.group) empty ∙ ap (group_holders see) is
+
+behind_first : {X : Type 0} (e : Word × X) (fs : List (Word × X)) → All (λ k. slice_cmp nat_cmp e.0 k ≡ Less) (keys_of fs) → IsStrictlySortedBy (slice_cmp nat_cmp) (keys_of fs) → IsStrictlySortedBy (slice_cmp nat_cmp) (keys_of (e ∷ fs))
+unfolding IsStrictlySortedBy
+behind_first e fs above behind = (recursion_from_All (λ k. slice_cmp nat_cmp e.0 k ≡ Less) (keys_of fs) above, behind)
+
+-- a key that is below all others stands first
+pub ordered_first : {X : Type 0} (es fs : List (Word × X)) (e : Word × X) → es ≡ e ∷ fs → All (λ k. slice_cmp nat_cmp e.0 k ≡ Less) (keys_of fs) → IsStrictlySortedBy (slice_cmp nat_cmp) (keys_of fs) → IsStrictlySortedBy (slice_cmp nat_cmp) (keys_of es)
+ordered_first es fs e is above behind = subst (λ xs. IsStrictlySortedBy (slice_cmp nat_cmp) (keys_of xs)) (sym is) (behind_first e fs above behind)

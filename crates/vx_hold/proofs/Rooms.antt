@@ -19,3 +19,6 @@ module _ {P : Type 0} where
     numbers = λ name b is. let low = room.numbers name b is in let up : b.most ≤ 262144 * n = omega (arith, low, more) in up;
     sequence = low_on m n more s.group room.sequence;
   }
+
+  pub room_next : (s : System P) (n : ℕ) → HasRoom n s → HasRoom (n + 1) s
+  room_next s n room = more_room n (n + 1) (omega arith) s room

@@ -1,5 +1,8 @@
 //! Devices that go back to the shelf.
 ghost use Rattle.std.specs.Prelude.{◌≡◌, ◌++◌, ◌≤◌, [], List, None, Some, IfSome, length};
+ghost use Rattle.std.specs.BTreeMap.{IsOrdered};
+ghost use Rattle.std.specs.Cmp.Lexicographic.{slice_cmp};
+ghost use Rattle.std.specs.Ordering.{nat_cmp};
 ghost use Rattle.vx_copies.specs.Lists.{AllOf};
 ghost use Rattle.vx_shelf.specs.Shelf.{IsWhole, IsOut, IsGiven, ComesToShelf};
 ghost use Rattle.vx_hold.specs.Holders.{Holder, holders, disk_holders, group_holders, IsTakenFrom, AreApart, AreHeld};
@@ -19,6 +22,7 @@ pub fn close<S: Shelf>(system: &mut System<S::P>, shelf: &mut S)
     ensures volumes { system.new.volumes.entries ≡ [] }
     ensures group { system.new.group ≡ None }
     ensures back { AreBack (holders S.P.seen system.old) (S.free shelf.old) (S.free shelf.new) }
+    ensures ordered { IsOrdered (slice_cmp nat_cmp) system.old.volumes }
     ensures later { S.faults shelf.old ≤ S.faults shelf.new }
 {
     while let Some((_, started)) = system.volumes.pop_first() {

@@ -1,4 +1,4 @@
-use Rattle.std.proofs.Common.{rules, refl, ◌∙◌}
+use Rattle.std.proofs.Common.{rules, refl}
 use Rattle.vx_copies.proofs.Halves.{wide_on, half_inside, half_told, half_text, names_on}
 use Rattle.vx_copies.proofs.disk.put_half.Goals as goal
 

@@ -1,4 +1,4 @@
-use Rattle.std.proofs.Common.{◌-◌, rules, refl, ◌∙◌, arith, length}
+use Rattle.std.proofs.Common.{◌-◌, rules, refl, arith, length}
 use Rattle.vx_copies.proofs.Halves.{wide_on, said_there, toggle_told, toggle_offer, toggle_named}
 use Rattle.vx_copies.proofs.Going.{if_good}
 use Rattle.vx_copies.proofs.disk.put_toggle.Goals as goal

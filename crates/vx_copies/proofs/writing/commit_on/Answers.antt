@@ -6,6 +6,8 @@ use Rattle.vx_copies.specs.Commit.{AttemptEnds}
 use Rattle.vx_copies.specs.declared.disk.Pass.TheVariants.{Done, Dropped}
 use Rattle.vx_copies.proofs.Going.{all_refl, all_risen, each_first}
 use Rattle.vx_copies.proofs.Placed.{count_first, same_count}
+use Rattle.vx_copies.proofs.Chosen.{below_all}
+use Rattle.vx_copies.proofs.Left.{older_all}
 use Rattle.vx_copies.proofs.Tried.{one_more, count_few}
 use Rattle.vx_copies.proofs.writing.commit_on.Goals as goal
 
@@ -25,6 +27,12 @@ returns-in-Done-clause-ends g c =
     let some = c.any_good.ensures.some c.again-test.true in
     let there : good_count (map (held g.P.Piece.seen) (take c.args.carriers c.again.disks)) ≡ good_count (take c.args.carriers (map (held g.P.Piece.seen) c.again.disks)) = ap good_count (sym (take-map (held g.P.Piece.seen) c.args.carriers c.again.disks)) in
     (ends.0, ends.1, omega (arith, same, some, there))
+
+pub returns-in-Done-clause-older : goal.returns-in-Done-clause-older
+returns-in-Done-clause-older g c = λ group below.
+    let ends : AttemptEnds Done (c.again.sequence + 1) c.args.text.now (map (held g.P.Piece.seen) c.again.disks) (map (held g.P.Piece.seen) c.attempt.new.disks) = rw c.in-Done.is at c.attempt.ensures.ends in
+    let mids = below_all group c.args.sequence.now c.again.sequence c.args.text.now (map (held g.P.Piece.seen) c.args.disks.now) (map (held g.P.Piece.seen) c.again.disks) c.again.invariant.later below c.again.invariant.goes in
+    older_all group c.again.sequence (c.again.sequence + 1) c.args.text.now (map (held g.P.Piece.seen) c.again.disks) (map (held g.P.Piece.seen) c.attempt.new.disks) (omega arith) mids c.attempt.ensures.goes ends.2
 
 pub returns-in-Done-clause-sound : goal.returns-in-Done-clause-sound
 returns-in-Done-clause-sound g c = λ group others is.

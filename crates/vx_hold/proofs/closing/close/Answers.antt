@@ -2,7 +2,7 @@ use Rattle.std.proofs.Common.{◌≡◌, [], ◌∷◌, Some, sym, ◌∙◌, re
 use Rattle.vx_hold.specs.Holders.{AreHeld}
 use Rattle.vx_hold.specs.Closing.{AreBack}
 use Rattle.vx_hold.proofs.Held.{none_held}
-use Rattle.vx_hold.proofs.Returned.{no_entries, held_behind, back_behind, group_alone}
+use Rattle.vx_hold.proofs.Returned.{no_entries, ordered_first, held_behind, back_behind, group_alone}
 use Rattle.vx_hold.proofs.closing.close.Goals as goal
 
 pub loop-started-preserved : goal.loop-started-preserved
@@ -12,6 +12,7 @@ loop-started-preserved g c =
       held = held_behind g.S.P.Piece.seen c.loop-started.system (record { volumes = c.pop_first.new.self; group = c.loop-started.system.group }) (c.in-Some.field-0-0, c.in-Some.started) removal refl (g.S.Shelf.held c.loop-started.shelf) (g.S.Shelf.held c.give_volume.new.shelf) c.give_volume.ensures.given c.loop-started.invariant.held;
       group = c.loop-started.invariant.group;
       back = λ free back. c.loop-started.invariant.back free (back_behind g.S.P.Piece.seen c.loop-started.system (record { volumes = c.pop_first.new.self; group = c.loop-started.system.group }) (c.in-Some.field-0-0, c.in-Some.started) removal refl (g.S.Shelf.held c.loop-started.shelf) (g.S.Shelf.free c.loop-started.shelf) (g.S.Shelf.free c.give_volume.new.shelf) free c.loop-started.invariant.held c.give_volume.ensures.back back);
+      ordered = λ behind. c.loop-started.invariant.ordered (ordered_first c.loop-started.system.volumes.entries c.pop_first.new.self.entries (c.in-Some.field-0-0, c.in-Some.started) removal (rw c.in-Some.is at c.pop_first.ensures.all_above) behind);
       later = omega (arith, c.loop-started.invariant.later, c.give_volume.ensures.later);
     }
 

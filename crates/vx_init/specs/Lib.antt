@@ -1,0 +1,4 @@
+pub mod Stops
+pub mod Ends
+pub mod Gathered
+pub mod Judged

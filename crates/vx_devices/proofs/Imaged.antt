@@ -22,11 +22,9 @@ use Rattle.vx_hold.specs.Kept.{Keeps}
 use Rattle.vx_hold.specs.Stand.{State, Stand, StandWith, seen_at}
 use Rattle.vx_hold.specs.Moves.{Moves, Rests, faults_in, cut_in}
 use Rattle.vx_hold.specs.declared.system.System.{System}
+use Rattle.vx_hold.proofs.Closed.{state}
 use Rattle.vx_hold.proofs.Blamed.{AreLater, later_same, silent, none_told, fault_shelf, nobody, none_failed}
 use Rattle.vx_devices.proofs.Used.{used_in_world, world_used}
-
-abbrev pub state : {P : Type 0} → Option (Word → Option Seen) → ℕ → System P → State P
-state free faults s = record { free = free; faults = faults; system = s }
 
 -- where the counts of the devices on the shelf only rose, so did those of all devices
 pub later_seen : (hs : List Holder) (old new : Word → Option Seen) → AreLater old new → AreLater (λ name. seen_at (held_as hs name) (Some old) name) (λ name. seen_at (held_as hs name) (Some new) name)

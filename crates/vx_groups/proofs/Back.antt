@@ -112,7 +112,7 @@ module _ {P : Type 0} (see : P → Seen) where
   pub not_held : (name : Word) (ns : List Word) (ds : List (Disk P)) (ms : List Member) → AreMembersOf see ns ds ms → (AnyOf (λ m. m.device ≡ name) ms → ⊥) → held_as (disk_holders see ns ds) name ≡ None
   not_held name [] [] [] at none = refl
   not_held name (n ∷ ns) (d ∷ ds) (m ∷ ms) at none = elim (name_cases n name) [
-      inl same ↦ absurd (none (inl (at.0.device_is ∙ same)))
+    | inl same ↦ absurd (none (inl (at.0.device_is ∙ same)))
     | inr apart ↦ cond-false _ _ _ apart ∙ not_held name ns ds ms at.1 (λ any. none (inr any))
   ]
   not_held name [] [] (m ∷ ms) at none = absurd at
@@ -147,7 +147,7 @@ module _ {P : Type 0} (see : P → Seen) where
   offers_back group readable (n ∷ ns) (d ∷ ds) (m ∷ ms) at =
       let said : IsSaid (see d.piece).told = public_said (see d.piece).told m.public at.0.public_is in
       let one : cond (readable m.slot) (offer_in group (contents_of (see d.piece).told)) None ≡ cond (readable d.slot) (offer_told group (see d.piece).told) None =
-          ap (λ s. cond (readable s) (offer_in group (contents_of (see d.piece).told)) None) at.0.slot_is ∙ ap (λ o. cond (readable d.slot) o None) (told_offer group (see d.piece).told said) in
+      ap (λ s. cond (readable s) (offer_in group (contents_of (see d.piece).told)) None) at.0.slot_is ∙ ap (λ o. cond (readable d.slot) o None) (told_offer group (see d.piece).told said) in
       let rest = offers_back group readable ns ds ms at.1 in
       ap (λ o. o ∷ offers_of group readable ms (devices_back ds)) one ∙ ap (λ os. cond (readable d.slot) (offer_told group (see d.piece).told) None ∷ os) rest
   offers_back group readable [] [] (m ∷ ms) at = absurd at

@@ -61,10 +61,14 @@ module _ {P : Type 0} (see : P → Seen) (i : Imported P) (g : Group) (kept : Is
 
   of_offer : (o : Option Offer) → IsNew kept.first i.base.sequence (text_of i.base.text) o → HasGoodMask (members see i.base) o → (x : Offer) × (o ≡ Some x) × IsOfferOf g x
   of_offer None new mask = absurd new
-  of_offer (Some x) new mask = (x, refl, record {
-    text = subst (λ t. IsTextOf g.config t) (sym new.2) (subst (λ c. IsTextOf c (text_of i.base.text)) (sym of.config_is) kept.text);
-    good = λ slot. ap (λ m. has m slot) (mask ∙ sym kept.carries.offers.just) ∙ kept.carries.offers.names slot ∙ sym (of.good_is slot);
-  })
+  of_offer (Some x) new mask = (
+    x,
+    refl,
+    record {
+      text = subst (λ t. IsTextOf g.config t) (sym new.2) (subst (λ c. IsTextOf c (text_of i.base.text)) (sym of.config_is) kept.text);
+      good = λ slot. ap (λ m. has m slot) (mask ∙ sym kept.carries.offers.just) ∙ kept.carries.offers.names slot ∙ sym (of.good_is slot);
+    },
+  )
 
   -- the group's devices are back
   pub group_back : (devices : Word → Option Device) → AllOf (λ h. devices h.name ≡ Some (device_as h.seen)) here_holders → IsGroupBack (IsOfferOf g) g devices
@@ -77,7 +81,7 @@ module _ {P : Type 0} (see : P → Seen) (i : Imported P) (g : Group) (kept : Is
             let any = readable_good see i.base.name g.good readable i.devices.items i.base.disks.items g.members of.members_are slots_good kept.carries.alive.headed can in
             let given = kept.carries.gives readable any in
             let same : configuration i.base.name readable (members see i.base) ≡ highest (offers_of g.config.group readable g.members (devices_back see i.base.disks.items)) =
-                ap (λ n. configuration n readable (members see i.base)) same_name ∙ ap highest (sym (offers_back see g.config.group readable i.devices.items i.base.disks.items g.members of.members_are)) in
+            ap (λ n. configuration n readable (members see i.base)) same_name ∙ ap highest (sym (offers_back see g.config.group readable i.devices.items i.base.disks.items g.members of.members_are)) in
             of_offer (highest (offers_of g.config.group readable g.members (devices_back see i.base.disks.items)))
             (subst (IsNew kept.first i.base.sequence (text_of i.base.text)) same given.0) (subst (HasGoodMask (members see i.base)) same given.1);
       }

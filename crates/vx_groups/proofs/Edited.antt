@@ -46,9 +46,10 @@ refusal_is disk all =
     ∙ ap (λ (os : List Object). first_broken (in_kinds os)) (edited_is disk all)
 
 pub made_of : (disk : Disk) (old new : Config) (all : List Object) → all ≡ objects_of old ++ DiskRecord disk ∷ [] → IsMadeOf all new → IsJoinedBy disk old new
-made_of disk old new all are made =
-    (made ∙ ap in_kinds (are ∙ sym (edited_is disk (objects_of old))),
-    refusal_is disk (objects_of old) ∙ ap (λ (os : List Object). first_broken (in_kinds os)) (sym are) ∙ ap first_broken (sym made) ∙ valid_none (objects_of new) new.valid)
+made_of disk old new all are made = (
+  made ∙ ap in_kinds (are ∙ sym (edited_is disk (objects_of old))),
+  refusal_is disk (objects_of old) ∙ ap (λ (os : List Object). first_broken (in_kinds os)) (sym are) ∙ ap first_broken (sym made) ∙ valid_none (objects_of new) new.valid,
+)
 
 means_is : (f : ObjectFault) (r : Refusal) → Means f r → r ≡ refusal_by f
 means_is kind.OutOfMemory r is = absurd is

@@ -43,14 +43,14 @@ or_second false b is = is
 pub good_both : (slot : ℕ) (xs ys : List Held) → is_good_slot slot (xs ++ ys) ≡ true → (is_good_slot slot xs ≡ true) ⊎ (is_good_slot slot ys ≡ true)
 good_both slot [] ys is = inr is
 good_both slot (x ∷ xs) ys is = elim (or_cases (x.good && x.slot == slot) (is_good_slot slot (xs ++ ys)) is) [
-    inl here ↦ inl (or_first (x.good && x.slot == slot) (is_good_slot slot xs) here)
+  | inl here ↦ inl (or_first (x.good && x.slot == slot) (is_good_slot slot xs) here)
   | inr there ↦ elim (good_both slot xs ys there) [ inl front ↦ inl (or_second (x.good && x.slot == slot) (is_good_slot slot xs) front) | inr back ↦ inr back ]
 ]
 
 pub good_front : (slot : ℕ) (xs ys : List Held) → is_good_slot slot xs ≡ true → is_good_slot slot (xs ++ ys) ≡ true
 good_front slot [] ys is = absurd (cc)
 good_front slot (x ∷ xs) ys is = elim (or_cases (x.good && x.slot == slot) (is_good_slot slot xs) is) [
-    inl here ↦ or_first (x.good && x.slot == slot) (is_good_slot slot (xs ++ ys)) here
+  | inl here ↦ or_first (x.good && x.slot == slot) (is_good_slot slot (xs ++ ys)) here
   | inr there ↦ or_second (x.good && x.slot == slot) (is_good_slot slot (xs ++ ys)) (good_front slot xs ys there)
 ]
 
@@ -71,7 +71,7 @@ was_good_slot first last slot text [] [] goes is = is
 was_good_slot first last slot text [] (b ∷ bs) goes is = absurd goes
 was_good_slot first last slot text (h ∷ hs) [] goes is = absurd goes
 was_good_slot first last slot text (h ∷ hs) (b ∷ bs) goes is = elim (or_cases (b.good && b.slot == slot) (is_good_slot slot bs) is) [
-    inl here ↦ let parts = and_parts b.good (b.slot == slot) here in
+  | inl here ↦ let parts = and_parts b.good (b.slot == slot) here in
       or_first (h.good && h.slot == slot) (is_good_slot slot hs) (good_here h slot (was_good_one h.good b.good h.seen b.seen goes.0.good parts.0) (sym goes.0.slot ∙ eqb-true b.slot slot parts.1))
   | inr there ↦ or_second (h.good && h.slot == slot) (is_good_slot slot hs) (was_good_slot first last slot text hs bs goes.1 there)
 ]
@@ -196,6 +196,7 @@ module _ {P : Type 0} (see : P → Seen) where
           subst (λ (x : Word). (failures_of old new shelf shelf').devices x ≡ true) (sym at.0.device_is)
           (failed_one old new shelf shelf' n (see d.piece) (see e.piece) before.0 after.0
           (dropped_one d.good e.good (see d.piece) (see e.piece) goes.0.good (sym was.0 ∙ ap (has good) (sym at.0.slot_is) ∙ is_good) (named.0 (ap (has good') (goes.0.slot ∙ sym at.0.slot_is) ∙ gone))))
+
       by_test : (b : Bool) → has good m.slot ≡ b → DropsFailed (failures_of old new shelf shelf') (filter (λ o. has good o.slot) ms) good' → DropsFailed (failures_of old new shelf shelf') (cond b (m ∷ filter (λ o. has good o.slot) ms) (filter (λ o. has good o.slot) ms)) good'
       by_test true is rest = (here is, rest)
       by_test false is rest = rest

@@ -5,3 +5,5 @@ pub mod Deported
 pub mod Lowest
 pub mod Edited
 pub mod Joined
+pub mod JudgedSteps
+pub mod Outside

@@ -17,7 +17,7 @@ lowest_from c zero slot s taken free from below = absurd (omega (arith, from, be
 lowest_from c (suc n) slot s taken free from below =
     by_has (has_slot slot c) (free_slot_from n (slot + 1) c) slot s
     (λ is. let other : slot ≡ s → ⊥ = λ same. not_free (has_slot s c) (subst (λ k. has_slot k c ≡ true) same is) free in
-        lowest_from c n (slot + 1) s (λ k more less. taken k (omega (arith, more)) less) free (omega (arith, from, other)) (omega (arith, below)))
+    lowest_from c n (slot + 1) s (λ k more less. taken k (omega (arith, more)) less) free (omega (arith, from, other)) (omega (arith, below)))
     (λ not_here. let none : slot < s → ⊥ = λ less. not_free (has_slot slot c) (taken slot (omega arith) less) not_here in omega (arith, from, none))
 
 none_from : (c : Config) (n slot : ℕ) → ((k : ℕ) → slot ≤ k → k < slot + n → has_slot k c ≡ true) → free_slot_from n slot c ≡ None

@@ -16,15 +16,11 @@ use Rattle.vx_script_words.specs.declared.value.DiskAt.{DiskAt}
 use Rattle.vx_world.specs.declared.answer.Refusal.{Refusal}
 use Rattle.vx_world.specs.declared.answer.Refusal.TheVariants.{InUse, NoGroup}
 use Rattle.vx_world.specs.World.{Device}
-use Rattle.vx_world.specs.Back.{IsTextOf}
 use Rattle.vx_world.specs.Joining.{limit_passed}
 use Rattle.vx_world.specs.Groups.{next_slot}
 use Rattle.vx_world.specs.Refusals.{refusal_by}
-use Rattle.vx_hold.specs.declared.system.Imported.{Imported}
 use Rattle.vx_groups.specs.declared.editing.Edited.{Edited}
 use Rattle.vx_groups.specs.declared.editing.Edited.TheVariants as edited
-use Rattle.vx_groups.specs.declared.editing.Plan.{Plan}
-use Rattle.vx_groups.specs.declared.editing.Plan.TheVariants as plan
 
 -- a disk of the configuration has the slot
 abbrev pub has_slot : ℕ → Config → Bool
@@ -61,11 +57,6 @@ EarlyIn dg pair headed sectors config (Err r) =
     (MatchBool headed (r ≡ InUse pair.device) (limit_passed (next_slot config + 1) (pair.disk ∷ []) (sized sectors ∷ []) ≡ Some r))
     (r ≡ NoGroup (Some dg))
 
-abbrev pub EarlyGives : {P : Type 0} → Word → DiskAt → Bool → ℕ → Option (Imported P) → Result ℕ Refusal → Type 0
-EarlyGives dg pair headed sectors None (Ok slot) = ⊥
-EarlyGives dg pair headed sectors None (Err r) = r ≡ NoGroup (Some dg)
-EarlyGives dg pair headed sectors (Some g) result = EarlyIn dg pair headed sectors g.config result
-
 -- the refusal of a fault, which is no want of memory
 abbrev pub Means : ObjectFault → Refusal → Type 0
 Means fault.OutOfMemory r = ⊥
@@ -87,7 +78,3 @@ IsJoinedBy disk old new = IsEdited (AddDisk disk ∷ []) old new × (refusal_of 
 abbrev pub EditGives : Disk → Config → Edited → Type 0
 EditGives disk config (edited.Made new) = IsJoinedBy disk config new
 EditGives disk config (edited.Refused r) = IsUnedited disk config r
-
-abbrev pub PlanGives : Disk → Config → Plan → Type 0
-PlanGives disk config (plan.Joins new text) = IsJoinedBy disk config new × IsTextOf new text.items
-PlanGives disk config (plan.Refused r) = IsUnedited disk config r

@@ -1,8 +1,7 @@
 //! The tests of a disk that is to join, before other devices are looked at.
-ghost use Rattle.vx_groups.specs.Joining.{EarlyIn, EarlyGives};
+ghost use Rattle.vx_groups.specs.Joining.{EarlyIn};
 
 use crate::slots::slot_within;
-use vx_hold::System;
 use vx_names::Name;
 use vx_objects::Config;
 use vx_parts::same;
@@ -10,22 +9,7 @@ use vx_script_words::DiskAt;
 use vx_world::Refusal;
 
 /// The slot of the disk, or why it cannot join: the group, its header, the limits.
-pub(crate) fn early<P>(
-    system: &System<P>,
-    dg: &Name,
-    disk: &DiskAt,
-    headed: bool,
-    sectors: u64,
-) -> Result<u8, Refusal>
-    ensures { EarlyGives dg.now disk.now headed sectors system.now.group result }
-{
-    match &system.group {
-        None => Err(Refusal::NoGroup(Some(*dg))),
-        Some(group) => early_in(&group.config, dg, disk, headed, sectors),
-    }
-}
-
-fn early_in(
+pub(crate) fn early(
     config: &Config,
     dg: &Name,
     disk: &DiskAt,

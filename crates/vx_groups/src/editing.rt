@@ -1,7 +1,7 @@
 //! The configuration with a disk beside the old one, and its text.
 ghost use Rattle.std.specs.Prelude.{◌≡◌, IfOk, OnErr};
 ghost use Rattle.vx_world.specs.Back.{IsTextOf};
-ghost use Rattle.vx_groups.specs.Joining.{Means, UneditedBy, EditGives, PlanGives};
+ghost use Rattle.vx_groups.specs.Joining.{Means, UneditedBy, EditGives};
 
 use std::alloc::Global;
 use vx_base::OutOfMemory;
@@ -17,28 +17,8 @@ pub enum Edited {
     Refused(Refusal),
 }
 
-/// What is to be committed, or why nothing is.
-#[derive(Drop)]
-pub enum Plan {
-    Joins(Config, Vec<u8>),
-    Refused(Refusal),
-}
-
-/// The configuration with the disk, and its text.
-pub(crate) fn planned(alloc: Global, config: &Config, disk: Disk) -> Result<Plan, OutOfMemory>
-    ensures { IfOk result (PlanGives disk config.now) }
-{
-    match with_disk(alloc, config, disk)? {
-        Edited::Made(new) => {
-            let text = text_of(alloc, &new)?;
-            Ok(Plan::Joins(new, text))
-        }
-        Edited::Refused(refusal) => Ok(Plan::Refused(refusal)),
-    }
-}
-
 /// The configuration with the record behind its own.
-fn with_disk(alloc: Global, config: &Config, disk: Disk) -> Result<Edited, OutOfMemory>
+pub(crate) fn with_disk(alloc: Global, config: &Config, disk: Disk) -> Result<Edited, OutOfMemory>
     ensures { IfOk result (EditGives disk config.now) }
 {
     let mut all = config.objects(alloc)?;
@@ -76,7 +56,7 @@ fn refusal_of(fault: &ObjectFault) -> Result<Refusal, OutOfMemory>
 }
 
 /// The text of the configuration.
-fn text_of(alloc: Global, config: &Config) -> Result<Vec<u8>, OutOfMemory>
+pub(crate) fn text_of(alloc: Global, config: &Config) -> Result<Vec<u8>, OutOfMemory>
     ensures { IfOk result (λ text. IsTextOf config.now text.items) }
 {
     let mut text = Vec::new(alloc);

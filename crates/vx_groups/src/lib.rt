@@ -3,6 +3,7 @@
 
 mod early;
 mod editing;
+mod judging;
 mod leaving;
 mod printing;
 mod slots;

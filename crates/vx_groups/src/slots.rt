@@ -33,11 +33,7 @@ pub(crate) fn free_slot(config: &Config) -> Option<u8>
 fn has_slot(slot: u8, config: &Config) -> bool
     ensures { result ≡ has_slot slot config.now }
 {
-    config
-        .disks
-        .as_slice()
-        .iter()
-        .any(|disk| disk.slot == slot)
+    config.disks.as_slice().iter().any(|disk| disk.slot == slot)
 }
 
 /// The slot of a new disk, or the first limit that is passed: on its device, on the number of disks, on its name.

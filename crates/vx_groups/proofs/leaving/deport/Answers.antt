@@ -23,8 +23,8 @@ returns-in-None-clause-step g c = λ w stands.
     let see = g.S.P.Piece.seen in
     let answer = Refused (NoGroup (Some c.args.dg)) in
     subst (λ s. Moves see (λ f. DeportStep c.args.dg) answer w
-        (record { free = g.S.Shelf.free c.args.shelf.now; faults = g.S.Shelf.faults c.args.shelf.now; system = c.args.system.now })
-        (record { free = g.S.Shelf.free c.args.shelf.now; faults = g.S.Shelf.faults c.args.shelf.now; system = s })) (sym c.in-None.ensures.1)
+    (record { free = g.S.Shelf.free c.args.shelf.now; faults = g.S.Shelf.faults c.args.shelf.now; system = c.args.system.now })
+    (record { free = g.S.Shelf.free c.args.shelf.now; faults = g.S.Shelf.faults c.args.shelf.now; system = s })) (sym c.in-None.ensures.1)
     (refused_moves see c.args.dg (record { free = g.S.Shelf.free c.args.shelf.now; faults = g.S.Shelf.faults c.args.shelf.now; system = c.args.system.now }) answer w refl c.in-None.ensures.0 stands)
 
 pub returns-in-Some-clause-keeps : goal.returns-in-Some-clause-keeps
@@ -40,10 +40,10 @@ pub returns-in-Some-clause-step : goal.returns-in-Some-clause-step
 returns-in-Some-clause-step g c = λ w stands.
     let see = g.S.P.Piece.seen in
     subst (λ s. Moves see (λ f. DeportStep c.args.dg) c.done.result w
-        (record { free = g.S.Shelf.free c.args.shelf.now; faults = g.S.Shelf.faults c.args.shelf.now; system = c.args.system.now })
-        (record { free = g.S.Shelf.free c.give_group.new.shelf; faults = g.S.Shelf.faults c.give_group.new.shelf; system = s })) (left_is c.args.system.now c.take_named.new.system c.in-Some.ensures.volumes c.in-Some.ensures.none)
+    (record { free = g.S.Shelf.free c.args.shelf.now; faults = g.S.Shelf.faults c.args.shelf.now; system = c.args.system.now })
+    (record { free = g.S.Shelf.free c.give_group.new.shelf; faults = g.S.Shelf.faults c.give_group.new.shelf; system = s })) (left_is c.args.system.now c.take_named.new.system c.in-Some.ensures.volumes c.in-Some.ensures.none)
     (subst (λ a. Moves see (λ f. DeportStep c.args.dg) a w
-        (record { free = g.S.Shelf.free c.args.shelf.now; faults = g.S.Shelf.faults c.args.shelf.now; system = c.args.system.now })
-        (record { free = g.S.Shelf.free c.give_group.new.shelf; faults = g.S.Shelf.faults c.give_group.new.shelf; system = left_by c.args.system.now })) (sym c.done.ensures)
+    (record { free = g.S.Shelf.free c.args.shelf.now; faults = g.S.Shelf.faults c.args.shelf.now; system = c.args.system.now })
+    (record { free = g.S.Shelf.free c.give_group.new.shelf; faults = g.S.Shelf.faults c.give_group.new.shelf; system = left_by c.args.system.now })) (sym c.done.ensures)
     (deport_moves see c.args.system.now c.in-Some.group c.in-Some.ensures.was c.args.dg c.in-Some.ensures.named (g.S.Shelf.held c.args.shelf.now) c.requires.keeps
-        (g.S.Shelf.free c.args.shelf.now) (g.S.Shelf.free c.give_group.new.shelf) (g.S.Shelf.faults c.args.shelf.now) (g.S.Shelf.faults c.give_group.new.shelf) w c.give_group.ensures.later c.give_group.ensures.back stands))
+    (g.S.Shelf.free c.args.shelf.now) (g.S.Shelf.free c.give_group.new.shelf) (g.S.Shelf.faults c.args.shelf.now) (g.S.Shelf.faults c.give_group.new.shelf) w c.give_group.ensures.later c.give_group.ensures.back stands))

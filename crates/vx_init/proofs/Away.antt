@@ -1,5 +1,5 @@
 -- The first device that is away, told to the world.
-use Rattle.std.proofs.Common.{◌≡◌, ◌∙◌, ◌⊎◌, ℕ, zero, suc, ◌+◌, ◌<◌, ◌≤◌, ◌||◌, Bool, true, false, cond, List, [], ◌∷◌, ◌++◌, map, length, take, drop, get_or, Option, Some, None, refl, sym, ap, subst, inl, inr, arith}
+use Rattle.std.proofs.Common.{◌≡◌, ◌∙◌, ◌⊎◌, ℕ, zero, suc, ◌+◌, ◌<◌, ◌≤◌, ◌||◌, Bool, true, false, cond, List, [], ◌∷◌, ◌++◌, map, length, take, drop, get_or, Option, Some, None, refl, sym, ap, subst, inl, inr, arith, append_assoc}
 use Rattle.std.proofs.lemmas.Bool.{cond-true, cond-false}
 use Rattle.std.proofs.lemmas.List.{take_more, take-append-drop}
 use Rattle.std.specs.Prelude.{IsTrue, IsSome, IfSome, is_some}
@@ -222,7 +222,7 @@ held_first (x ∷ xs) ys name none = by_test (bytes_eq x.name name) none (held_f
     by_test true none rest = cc
     by_test false none rest = rest none
 
-held_neither : (xs ys : List Holder) (name : Word) → held_as (xs ++ ys) name ≡ None → (held_as xs name ≡ None) × (held_as ys name ≡ None)
+pub held_neither : (xs ys : List Holder) (name : Word) → held_as (xs ++ ys) name ≡ None → (held_as xs name ≡ None) × (held_as ys name ≡ None)
 held_neither [] ys name none = (refl, none)
 held_neither (x ∷ xs) ys name none = by_test (bytes_eq x.name name) none (held_neither xs ys name)
   where
@@ -231,12 +231,16 @@ held_neither (x ∷ xs) ys name none = by_test (bytes_eq x.name name) none (held
     by_test false none rest = rest none
 
 -- what is not held nobody took
-not_out : (held : Word → Option Held) (hs : List Holder) (name : Word) → AreHeld held hs → held name ≡ None → held_as hs name ≡ None
+pub not_out : (held : Word → Option Held) (hs : List Holder) (name : Word) → AreHeld held hs → held name ≡ None → held_as hs name ≡ None
 not_out held hs name are none = by (held_as hs name) refl
   where
     by : (o : Option Seen) → held_as hs name ≡ o → held_as hs name ≡ None
     by None is = is
     by (Some seen) is = held_by_one (IsTakenFrom held) hs name seen is are.each (λ h same seen_is taken. absurd (some_none (held_of h.seen) (sym taken.1 ∙ ap held same ∙ none)))
+
+-- what nobody holds with more devices out nobody held before
+pub held_before : (held held' : Word → Option Held) (xs ys : List Holder) → AreHeld held (xs ++ ys) → AreHeld held' xs → (name : Word) → held name ≡ None → held' name ≡ None
+held_before held held' xs ys more few name none = few.only name (held_neither xs ys name (not_out held (xs ++ ys) name more none)).0
 
 module _ {P : Type 0} (see : P → Seen) (ps : List DiskAt) (p : DiskAt) (rest : List DiskAt) (t : Taken P) (s : System P) (held : Word → Option Held) (old mid : Word → Option Seen)
     (are : AreHeld held (holders see s ++ taken_holders see t)) (disks : AreDisksAt see 0 ps t.devices.items t.disks.items) (with : IsSeenWith (taken_holders see t) old mid) (ordered : IsOrdered (slice_cmp nat_cmp) s.volumes) (w : World) (stand : StandWith see old s w) where
@@ -260,7 +264,7 @@ module _ {P : Type 0} (see : P → Seen) (ps : List DiskAt) (p : DiskAt) (rest :
       by : (o q : Option Seen) → held_as (taken_holders see t) p.device ≡ o → held_as (holders see s) p.device ≡ q → FirstAway [] w (ps ++ p ∷ rest) (refusal.Held p.device)
       by (Some seen) q is also = away_twice [] w ps free_here.devices p rest free_here.free (inl (among_here ∙ ap is_some is))
       by None (Some seen) is also = away_behind [] w ps free_here.devices p rest (refusal.Held p.device) free_here.free (among_here ∙ ap is_some is) refl (gone_here is gone) (inl (held_in_world see old s w stand ordered p.device seen also, refl))
-      by None None is also = let none : held p.device ≡ None = are.only p.device (held_first (holders see s) (taken_holders see t) p.device also ∙ is) in let h : IsSome None = subst (λ (o : Option Held). IsSome o) none some in cc
+      by None None is also = let none : held p.device ≡ None = are.only p.device (held_first (holders see s) (taken_holders see t) p.device also ∙ is) in let h : IsSome {T = Held} None = subst (λ (o : Option Held). IsSome o) none some in cc
 
 away_by : {P : Type 0} (see : P → Seen) (ps : List DiskAt) (p : DiskAt) (rest : List DiskAt) (t : Taken P) (s : System P) (held : Word → Option Held) (old mid : Option (Word → Option Seen))
     → AreHeld held (holders see s ++ taken_holders see t) → IsGathered see ps t old mid → (st : Stop) → IsAwayAt st p.device held mid → IsOrdered (slice_cmp nat_cmp) s.volumes → (w : World) → Stand see old s w → IsAwayStop (ps ++ p ∷ rest) w st
@@ -283,4 +287,5 @@ stop_away see pairs i p within is t s held old mid are gathered st away ordered 
     subst (λ xs. IsAwayStop xs w st) (sym (parted pairs i p within is)) (away_by see (take i pairs) p (drop (i + 1) pairs) t s held old mid are gathered st away ordered w stand)
   where
     parted : (xs : List DiskAt) (i : ℕ) (p : DiskAt) → i < length xs → p ≡ get_or xs i p → xs ≡ take i xs ++ p ∷ drop (i + 1) xs
-    parted xs i p lt e = ?
+    parted xs i p lt e =
+        sym (take-append-drop (i + 1) xs) ∙ ap (λ (f : List DiskAt). f ++ drop (i + 1) xs) (take_more xs i p lt) ∙ append_assoc (take i xs) (get_or xs i p ∷ []) (drop (i + 1) xs) ∙ ap (λ (x : DiskAt). take i xs ++ x ∷ drop (i + 1) xs) (sym e)

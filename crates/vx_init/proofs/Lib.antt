@@ -1,3 +1,9 @@
 pub mod Views
 pub mod Gathering
 pub mod Away
+pub mod Passing
+pub mod Joined
+pub mod Ready
+pub mod Ended
+pub mod Written
+pub mod Steps

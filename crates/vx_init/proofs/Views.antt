@@ -22,7 +22,7 @@ use Rattle.vx_hold.proofs.Held.{held_at, apart_here, not_both, apart_turned, IsA
 use Rattle.vx_init.specs.declared.stop.Stop.{Stop}
 use Rattle.vx_init.specs.declared.stop.Stop.TheVariants as stop
 use Rattle.vx_init.specs.Gathered.{view_of, IsSeenWith, SeenWith, ComesRead, IsShown}
-use Rattle.vx_init.specs.Stops.{Shows, HasCause, HasRisen}
+use Rattle.vx_init.specs.Stops.{Shows, HasCause, HasRisen, sight}
 
 pub on_err : {T E : Type 0} (r : Result T E) (P : E → Type 0) (Q : Type 0) → ((e : E) → P e → Q) → IfErr r P → OnErr r Q
 on_err (Ok x) P Q f h = tt
@@ -79,14 +79,14 @@ module _ (name : Word) (seen now : Seen) (old mid new : Word → Option Seen) (w
           let still : new other ≡ old other = back other ∙ cond-false _ _ _ e ∙ left other ∙ cond-false _ _ _ e in
           subst (IsOnlyRead (old other)) (sym still) (read_refl (old other))
 
-  pub back_shows : (s : Stop) (shelf shelf' : ℕ) → IsShown s name seen now → Shows s old new shelf shelf'
-  back_shows stop.OutOfMemory shelf shelf' is = absurd is
-  back_shows (stop.Refused r) shelf shelf' is = absurd is
-  back_shows (stop.Fault n) shelf shelf' is =
-      subst (λ n. HasRisen n old new shelf shelf') (sym is.0) (inl (subst (λ o. Rose (faults_in o) (faults_in (new name))) (sym was) (subst (λ o. Rose seen.faults (faults_in o)) (sym here_now) is.1)))
-  back_shows stop.ShelfFailed shelf shelf' is = absurd is
-  back_shows stop.GroupLost shelf shelf' is = absurd is
-  back_shows stop.Lost shelf shelf' is = (name, subst (λ o. IsTrue (cut_in o)) (sym here_now) is)
+  pub back_shows : (s : Stop) (held : Word → Option Held) (shelf shelf' : ℕ) → held name ≡ None → IsShown s name seen now → Shows s (sight held old new shelf shelf')
+  back_shows stop.OutOfMemory held shelf shelf' none is = absurd is
+  back_shows (stop.Refused r) held shelf shelf' none is = absurd is
+  back_shows (stop.Fault n) held shelf shelf' none is =
+      subst (λ n. HasRisen n (sight held old new shelf shelf')) (sym is.0) (inl (none, subst (λ o. Rose (faults_in o) (faults_in (new name))) (sym was) (subst (λ o. Rose seen.faults (faults_in o)) (sym here_now) is.1)))
+  back_shows stop.ShelfFailed held shelf shelf' none is = absurd is
+  back_shows stop.GroupLost held shelf shelf' none is = absurd is
+  back_shows stop.Lost held shelf shelf' none is = (name, none, subst (λ o. IsTrue (cut_in o)) (sym here_now) is)
 
 pub comes_read : (s : Stop) (name : Word) (seen : Seen) (old mid new : Option (Word → Option Seen)) → LeavesShelf name seen old mid → ComesRead s name seen mid new → AreOnlyRead old new
 comes_read s name seen None None None leaves (now, kept, read, comes, shown) = tt
@@ -96,11 +96,11 @@ comes_read s name seen (Some old) None new leaves (now, kept, read, comes, shown
 comes_read s name seen (Some old) (Some mid) None leaves (now, kept, read, comes, shown) = absurd comes
 comes_read s name seen (Some old) (Some mid) (Some new) leaves (now, kept, read, comes, shown) = back_read name seen now old mid new leaves.0 leaves.1 comes kept read
 
-pub comes_cause : (s : Stop) (name : Word) (seen : Seen) (old mid new : Option (Word → Option Seen)) (shelf shelf' : ℕ) → LeavesShelf name seen old mid → ComesRead s name seen mid new → HasCause s old new shelf shelf'
-comes_cause s name seen None mid new shelf shelf' leaves comes = tt
-comes_cause s name seen (Some old) None new shelf shelf' leaves comes = absurd leaves
-comes_cause s name seen (Some old) (Some mid) None shelf shelf' leaves comes = tt
-comes_cause s name seen (Some old) (Some mid) (Some new) shelf shelf' leaves (now, kept, read, comes, shown) = back_shows name seen now old mid new leaves.0 leaves.1 comes kept read s shelf shelf' shown
+pub comes_cause : (s : Stop) (name : Word) (seen : Seen) (held : Word → Option Held) (old mid new : Option (Word → Option Seen)) (shelf shelf' : ℕ) → held name ≡ None → LeavesShelf name seen old mid → ComesRead s name seen mid new → HasCause s held old new shelf shelf'
+comes_cause s name seen held None mid new shelf shelf' nobody leaves comes = tt
+comes_cause s name seen held (Some old) None new shelf shelf' nobody leaves comes = absurd leaves
+comes_cause s name seen held (Some old) (Some mid) None shelf shelf' nobody leaves comes = tt
+comes_cause s name seen held (Some old) (Some mid) (Some new) shelf shelf' nobody leaves (now, kept, read, comes, shown) = back_shows name seen now old mid new leaves.0 leaves.1 comes kept read s held shelf shelf' nobody shown
 
 -- a device that was taken and read is no longer told
 pub leaves_read : (name : Word) (seen now : Seen) (old new : Option (Word → Option Seen)) → LeavesShelf name seen old new → Keeps seen now → IsRead seen now → LeavesRead name now old new
@@ -150,18 +150,18 @@ module _ (hs : List Holder) (old mid mid' new : Word → Option Seen) (seen : Is
   no_cut : (name : Word) → IsTrue (cut_in (mid' name)) → mid name ≡ None → mid' name ≡ None → ⊥
   no_cut name cut a b = let e : IsTrue (cut_in None) = subst (λ o. IsTrue (cut_in o)) b cut in cc
 
-  pub back_then_shows : (s : Stop) (f f' g g' : ℕ) → g ≤ f → f' ≤ g' → Shows s mid mid' f f' → Shows s old new g g'
-  back_then_shows stop.OutOfMemory f f' g g' before behind is = tt
-  back_then_shows (stop.Refused r) f f' g g' before behind is = tt
-  back_then_shows (stop.Fault name) f f' g g' before behind (inl rose) =
+  pub back_then_shows : (s : Stop) (held held' : Word → Option Held) (f f' g g' : ℕ) → ((name : Word) → held name ≡ None → held' name ≡ None) → g ≤ f → f' ≤ g' → Shows s (sight held mid mid' f f') → Shows s (sight held' old new g g')
+  back_then_shows stop.OutOfMemory held held' f f' g g' less before behind is = tt
+  back_then_shows (stop.Refused r) held held' f f' g g' less before behind is = tt
+  back_then_shows (stop.Fault name) held held' f f' g g' less before behind (inl (none, rose)) =
       let some = no_rise name rose in
-      let less = low (old name) (mid name) (was_between name some) in
+      let fewer = low (old name) (mid name) (was_between name some) in
       let same = ap faults_in (as_between name some) in
-      inl (omega (arith, rose, less, same))
-  back_then_shows (stop.Fault name) f f' g g' before behind (inr rose) = inr (omega (arith, rose, before, behind))
-  back_then_shows stop.ShelfFailed f f' g g' before behind is = omega (arith, is, before, behind)
-  back_then_shows stop.GroupLost f f' g g' before behind is = tt
-  back_then_shows stop.Lost f f' g g' before behind is = (is.0, subst (λ o. IsTrue (cut_in o)) (sym (as_between is.0 (no_cut is.0 is.1))) is.1)
+      inl (less name none, omega (arith, rose, fewer, same))
+  back_then_shows (stop.Fault name) held held' f f' g g' less before behind (inr rose) = inr (omega (arith, rose, before, behind))
+  back_then_shows stop.ShelfFailed held held' f f' g g' less before behind is = omega (arith, is, before, behind)
+  back_then_shows stop.GroupLost held held' f f' g g' less before behind is = is
+  back_then_shows stop.Lost held held' f f' g g' less before behind is = (is.0, less is.0 is.1, subst (λ o. IsTrue (cut_in o)) (sym (as_between is.0 (no_cut is.0 is.2))) is.2)
 
 pub all_back_read : (hs : List Holder) (old mid mid' new : Option (Word → Option Seen)) → SeenWith hs old mid → AreOnlyRead mid mid' → AreBack hs mid' new → AreOnlyRead old new
 all_back_read hs None None None None seen read back = tt
@@ -173,9 +173,9 @@ all_back_read hs (Some old) (Some mid) None new seen read back = absurd read
 all_back_read hs (Some old) (Some mid) (Some mid') None seen read back = absurd back
 all_back_read hs (Some old) (Some mid) (Some mid') (Some new) seen read back = back_only_read hs old mid mid' new seen read back
 
-pub all_back_cause : (hs : List Holder) (old mid mid' new : Option (Word → Option Seen)) (s : Stop) (f f' g g' : ℕ) → SeenWith hs old mid → AreOnlyRead mid mid' → AreBack hs mid' new → g ≤ f → f' ≤ g' → HasCause s mid mid' f f' → HasCause s old new g g'
-all_back_cause hs None mid mid' new s f f' g g' seen read back before behind is = tt
-all_back_cause hs (Some old) None mid' new s f f' g g' seen read back before behind is = absurd seen
-all_back_cause hs (Some old) (Some mid) None new s f f' g g' seen read back before behind is = absurd read
-all_back_cause hs (Some old) (Some mid) (Some mid') None s f f' g g' seen read back before behind is = absurd back
-all_back_cause hs (Some old) (Some mid) (Some mid') (Some new) s f f' g g' seen read back before behind is = back_then_shows hs old mid mid' new seen read back s f f' g g' before behind is
+pub all_back_cause : (hs : List Holder) (old mid mid' new : Option (Word → Option Seen)) (s : Stop) (held held' : Word → Option Held) (f f' g g' : ℕ) → SeenWith hs old mid → AreOnlyRead mid mid' → AreBack hs mid' new → ((name : Word) → held name ≡ None → held' name ≡ None) → g ≤ f → f' ≤ g' → HasCause s held mid mid' f f' → HasCause s held' old new g g'
+all_back_cause hs None mid mid' new s held held' f f' g g' seen read back less before behind is = tt
+all_back_cause hs (Some old) None mid' new s held held' f f' g g' seen read back less before behind is = absurd seen
+all_back_cause hs (Some old) (Some mid) None new s held held' f f' g g' seen read back less before behind is = absurd read
+all_back_cause hs (Some old) (Some mid) (Some mid') None s held held' f f' g g' seen read back less before behind is = absurd back
+all_back_cause hs (Some old) (Some mid) (Some mid') (Some new) s held held' f f' g g' seen read back less before behind is = back_then_shows hs old mid mid' new seen read back s held held' f f' g g' less before behind is

@@ -1,5 +1,8 @@
 -- How a command that stops ends.
 use Rattle.std.specs.Prelude.{◌≡◌, List, [], Option, Some, None, Result, Ok, Err}
+use Rattle.std.specs.BTreeMap.{IsOrdered}
+use Rattle.std.specs.Cmp.Lexicographic.{slice_cmp}
+use Rattle.std.specs.Ordering.{nat_cmp}
 use Rattle.vx_base.specs.Named.{Word}
 use Rattle.vx_piece.specs.Seen.{Seen}
 use Rattle.vx_world.specs.declared.answer.Answer.{Answer}
@@ -33,7 +36,8 @@ WhereLost stop.Lost T = T
 WhereLost s T = Unit {0}
 
 -- the system holds nothing any more, and what it held is back
-pub record IsClosed {P : Type 0} (hs : List Holder) (system : System P) (old new : Option (Word → Option Seen)) : Type 0 where
-  pub volumes : system.volumes.entries ≡ []
-  pub group : system.group ≡ None
+pub record IsClosed {P : Type 0} (hs : List Holder) (system system' : System P) (old new : Option (Word → Option Seen)) : Type 0 where
+  pub ordered : IsOrdered (slice_cmp nat_cmp) system.volumes
+  pub volumes : system'.volumes.entries ≡ []
+  pub group : system'.group ≡ None
   pub back : AreBack hs old new

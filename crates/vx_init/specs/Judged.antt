@@ -29,12 +29,10 @@ abbrev pub is_size : ℕ → Bool
 is_size sectors = nat_lt 2048 sectors && nat_le sectors (2 ^ 40)
 
 abbrev pub are_sized : {P : Type 0} → List (Disk P) → Bool
-are_sized [] = true
-are_sized (d ∷ ds) = is_size d.sectors && are_sized ds
+are_sized ds = list_all (λ d. is_size d.sectors) ds
 
 abbrev pub are_short : {P : Type 0} → List (Disk P) → Bool
-are_short [] = true
-are_short (d ∷ ds) = is_short_name d.name && are_short ds
+are_short ds = list_all (λ d. is_short_name d.name) ds
 
 -- the first limit that is passed
 abbrev pub limit_of : {P : Type 0} → Word → List (Disk P) → Option Refusal

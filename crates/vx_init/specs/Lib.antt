@@ -2,3 +2,4 @@ pub mod Stops
 pub mod Ends
 pub mod Gathered
 pub mod Judged
+pub mod Made

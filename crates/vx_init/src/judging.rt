@@ -85,7 +85,7 @@ pub(crate) fn look_for_claim<S: Shelf>(
     ensures read { AreOnlyRead (S.free shelf.old) (S.free shelf.new) }
     ensures none { OnOk result (NoneNames dg.now (S.free shelf.old)) }
     ensures claim { IfErr result (IsClaimStop dg.now (S.free shelf.old)) }
-    ensures cause { IfErr result (λ stop. HasCause stop (S.free shelf.old) (S.free shelf.new) (S.faults shelf.old) (S.faults shelf.new)) }
+    ensures cause { IfErr result (λ stop. HasCause stop (S.held shelf.old) (S.free shelf.old) (S.free shelf.new) (S.faults shelf.old) (S.faults shelf.new)) }
     ensures later { S.faults shelf.old ≤ S.faults shelf.new }
 {
     match find_claim(alloc, shelf, dg) {

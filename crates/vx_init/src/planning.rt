@@ -26,7 +26,7 @@ pub struct Plan {
 }
 
 /// The configuration of a group of these disks.
-pub(crate) fn plan<P: Piece>(alloc: Global, dg: &Name, taken: &Taken<P>) -> Result<Plan, Stop>
+pub(crate) fn plan_of<P: Piece>(alloc: Global, dg: &Name, taken: &Taken<P>) -> Result<Plan, Stop>
     requires long { length taken.now.devices.items ≡ length taken.now.disks.items }
     ensures plan { IfOk result (IsPlan (group_records dg.now taken.now.devices.items taken.now.disks.items)) }
     ensures broken { IfErr result (IsUnplanned (group_records dg.now taken.now.devices.items taken.now.disks.items)) }

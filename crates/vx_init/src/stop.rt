@@ -37,7 +37,7 @@ pub(crate) fn end<S: Shelf>(
     ensures keeps { Keeps S.P.seen (S.held shelf.new) system.new }
     ensures answers { Answers stop result }
     ensures stays { UnlessLost stop ((system.new ≡ system.old) × (shelf.new ≡ shelf.old)) }
-    ensures closed { WhereLost stop (IsClosed (holders S.P.seen system.old) system.new (S.free shelf.old) (S.free shelf.new)) }
+    ensures closed { WhereLost stop (IsClosed (holders S.P.seen system.old) system.old system.new (S.free shelf.old) (S.free shelf.new)) }
     ensures later { S.faults shelf.old ≤ S.faults shelf.new }
 {
     match stop {

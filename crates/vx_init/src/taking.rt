@@ -50,7 +50,7 @@ pub(crate) fn gather<S: Shelf>(
     ensures gathered { IfOk result (λ t. IsGathered S.P.seen pairs.now t (S.free shelf.old) (S.free shelf.new)) }
     ensures back { OnErr result (AreHeld (S.held shelf.new) (holders S.P.seen _system.now)) }
     ensures read { OnErr result (AreOnlyRead (S.free shelf.old) (S.free shelf.new)) }
-    ensures cause { IfErr result (λ stop. HasCause stop (S.free shelf.old) (S.free shelf.new) (S.faults shelf.old) (S.faults shelf.new)) }
+    ensures cause { IfErr result (λ stop. HasCause stop (S.held shelf.old) (S.free shelf.old) (S.free shelf.new) (S.faults shelf.old) (S.faults shelf.new)) }
     ensures away { IfErr result (λ stop. IsOrdered (slice_cmp nat_cmp) _system.now.volumes → (w : World) → Stand S.P.seen (S.free shelf.old) _system.now w → IsAwayStop pairs.now w stop) }
     ensures later { S.faults shelf.old ≤ S.faults shelf.new }
 {
@@ -99,7 +99,7 @@ fn take_next<S: Shelf>(
     ensures stays { OnErr result (taken.new ≡ taken.old) }
     ensures held { OnErr result (SameUnder (S.held shelf.old) (S.held shelf.new)) }
     ensures read { OnErr result (AreOnlyRead (S.free shelf.old) (S.free shelf.new)) }
-    ensures cause { IfErr result (λ stop. HasCause stop (S.free shelf.old) (S.free shelf.new) (S.faults shelf.old) (S.faults shelf.new)) }
+    ensures cause { IfErr result (λ stop. HasCause stop (S.held shelf.old) (S.free shelf.old) (S.free shelf.new) (S.faults shelf.old) (S.faults shelf.new)) }
     ensures away { IfErr result (λ stop. IsAwayAt stop pair.now.device (S.held shelf.old) (S.free shelf.old)) }
     ensures later { S.faults shelf.old ≤ S.faults shelf.new }
 {
@@ -157,7 +157,7 @@ fn take_headed<S: Shelf>(shelf: &mut S, device: &Name) -> Result<(S::P, bool), S
     ensures header { IfOk result (λ x. IsHeader x.1 (S.P.seen x.0).told) }
     ensures held { OnErr result (SameUnder (S.held shelf.old) (S.held shelf.new)) }
     ensures read { OnErr result (AreOnlyRead (S.free shelf.old) (S.free shelf.new)) }
-    ensures cause { IfErr result (λ stop. HasCause stop (S.free shelf.old) (S.free shelf.new) (S.faults shelf.old) (S.faults shelf.new)) }
+    ensures cause { IfErr result (λ stop. HasCause stop (S.held shelf.old) (S.free shelf.old) (S.free shelf.new) (S.faults shelf.old) (S.faults shelf.new)) }
     ensures away { IfErr result (λ stop. IsAwayAt stop device.now (S.held shelf.old) (S.free shelf.old)) }
     ensures later { S.faults shelf.old ≤ S.faults shelf.new }
 {

@@ -8,4 +8,3 @@ pub mod Cut
 pub mod Closed
 pub mod Looked
 pub mod Answered
-pub mod Heads

@@ -1,7 +1,5 @@
 //! A device that is taken from the shelf, and its header.
-ghost use Rattle.std.specs.Prelude.{◌≡◌, ◌+◌, ◌<◌, ◌≤◌, ℕ, length, IfOk, OnErr, IfSome, option_map};
-ghost use Rattle.vx_header.specs.Named.{header_of, label_of};
-ghost use Rattle.vx_piece.specs.Seen.{Keeps as PieceKeeps, IsRead, HasCause};
+ghost use Rattle.std.specs.Prelude.{◌≡◌, ◌+◌, ◌≤◌, ℕ, IfOk, OnErr};
 ghost use Rattle.vx_world.specs.World.{World};
 ghost use Rattle.vx_hold.specs.Kept.{Keeps, HasRoom};
 ghost use Rattle.vx_hold.specs.Stand.{Stand};
@@ -14,8 +12,9 @@ use crate::closing::close;
 use std::alloc::Global;
 use vx_base::OutOfMemory;
 use vx_header::Header;
+use vx_import::find;
 use vx_names::Name;
-use vx_piece::{Piece, PieceFault};
+use vx_piece::PieceFault;
 use vx_shelf::{Shelf, ShelfFault};
 use vx_world::{Answer, Refusal};
 
@@ -52,7 +51,7 @@ pub fn look_at<S: Shelf>(
     match shelf.take(name) {
         Ok(piece) => {
             let mut piece = piece;
-            match first_header(&mut piece) {
+            match find(&mut piece) {
                 Ok(header) => Ok(Look::Found(piece, header)),
                 Err(PieceFault::Failed) => {
                     shelf.give(name, piece);
@@ -70,30 +69,5 @@ pub fn look_at<S: Shelf>(
         Err(ShelfFault::Failed) => Ok(Look::Answered(fault(alloc, *name))),
         Err(ShelfFault::Exists) => unreachable!(),
         Err(ShelfFault::OutOfMemory) => Err(OutOfMemory),
-    }
-}
-
-/// What the first sector of a device says as a header.
-fn first_header<P: Piece>(piece: &mut P) -> Result<Option<Header>, PieceFault>
-    requires some { 0 < (P.seen piece.old).sectors }
-    ensures kept { PieceKeeps (P.seen piece.old) (P.seen piece.new) }
-    ensures same { IsRead (P.seen piece.old) (P.seen piece.new) }
-    ensures header { IfOk result (λ h. IfSome (P.seen piece.old).told (λ contents. option_map label_of h ≡ header_of (contents 0))) }
-    ensures cause { HasCause (P.seen piece.old) (P.seen piece.new) result }
-{
-    let mut sector = [0; 512];
-    match piece.read(0, &mut sector) {
-        Ok(_) => Ok(header_in(&sector)),
-        Err(fault) => Err(fault),
-    }
-}
-
-fn header_in(sector: &[u8]) -> Option<Header>
-    requires { length sector.now ≡ 512 }
-    ensures { option_map label_of result ≡ header_of sector.now }
-{
-    match Header::read(sector) {
-        Ok(header) => Some(header),
-        Err(_) => None,
     }
 }

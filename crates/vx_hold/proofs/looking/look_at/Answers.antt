@@ -6,11 +6,11 @@ use Rattle.vx_hold.proofs.Looked.{given_back}
 use Rattle.vx_hold.proofs.Answered.{shelf_fault, no_disk, device_held, fault_moves, lost_moves}
 use Rattle.vx_hold.proofs.looking.look_at.Goals as goal
 
-pub returns-in-Ok-first_header-clause-room : goal.returns-in-Ok-first_header-clause-room
-returns-in-Ok-first_header-clause-room g c = room_next c.args.system.now
+pub returns-in-Ok-find-clause-room : goal.returns-in-Ok-find-clause-room
+returns-in-Ok-find-clause-room g c = room_next c.args.system.now
 
-pub returns-in-Err-Failed-first_header-clause-room : goal.returns-in-Err-Failed-first_header-clause-room
-returns-in-Err-Failed-first_header-clause-room g c = room_next c.args.system.now
+pub returns-in-Err-Failed-find-clause-room : goal.returns-in-Err-Failed-find-clause-room
+returns-in-Err-Failed-find-clause-room g c = room_next c.args.system.now
 
 pub returns-in-Err-NoDisk-clause-room : goal.returns-in-Err-NoDisk-clause-room
 returns-in-Err-NoDisk-clause-room g c = room_next c.args.system.now
@@ -24,14 +24,14 @@ returns-in-Err-Failed-clause-room g c = room_next c.args.system.now
 pub returns-in-Err-OutOfMemory-clause-room : goal.returns-in-Err-OutOfMemory-clause-room
 returns-in-Err-OutOfMemory-clause-room g c = room_next c.args.system.now
 
-pub returns-in-Err-Failed-first_header-clause-looks : goal.returns-in-Err-Failed-first_header-clause-looks
-returns-in-Err-Failed-first_header-clause-looks g c = (
+pub returns-in-Err-Failed-find-clause-looks : goal.returns-in-Err-Failed-find-clause-looks
+returns-in-Err-Failed-find-clause-looks g c = (
   keeps_same g.S.P.Piece.seen (g.S.Shelf.held c.args.shelf.now) (g.S.Shelf.held c.give.new.self) c.args.system.now
       (given_back c.args.name.now (g.S.P.Piece.seen c.in-Ok.piece) (g.S.Shelf.held c.args.shelf.now) (g.S.Shelf.held c.take.new.self) (g.S.Shelf.held c.give.new.self) c.in-Ok.ensures.taken c.give.ensures.given) c.requires.keeps,
   λ w stand. rw c.fault.ensures
       (fault_moves g.S.P.Piece.seen c.args.name.now (g.S.Shelf.held c.args.shelf.now) c.args.system.now c.requires.keeps (g.S.Shelf.faults c.args.shelf.now) (g.S.Shelf.faults c.give.new.self) (omega (arith, c.in-Ok.ensures.later, c.give.ensures.later)) w c.in-Ok.ensures.taken.before
-      (g.S.P.Piece.seen c.in-Ok.piece) (g.S.P.Piece.seen c.first_header.new.piece) c.first_header.ensures.kept c.first_header.ensures.same
-      (g.S.Shelf.free c.args.shelf.now) (g.S.Shelf.free c.take.new.self) (g.S.Shelf.free c.give.new.self) c.in-Ok.ensures.left c.give.ensures.back (c.in-Err-Failed-first_header.ensures.cause.failed (search rules)) stand),
+      (g.S.P.Piece.seen c.in-Ok.piece) (g.S.P.Piece.seen c.find.new.piece) c.find.ensures.kept c.find.ensures.same
+      (g.S.Shelf.free c.args.shelf.now) (g.S.Shelf.free c.take.new.self) (g.S.Shelf.free c.give.new.self) c.in-Ok.ensures.left c.give.ensures.back (c.in-Err-Failed-find.ensures.cause.failed (search rules)) stand),
 )
 
 pub returns-in-Err-PowerLost-clause-looks : goal.returns-in-Err-PowerLost-clause-looks
@@ -41,7 +41,7 @@ returns-in-Err-PowerLost-clause-looks g c =
       keeps_empty g.S.P.Piece.seen c.close.new.system c.close.ensures.volumes c.close.ensures.group (g.S.Shelf.held c.close.new.shelf) c.close.ensures.none,
       λ w stand. rw c.lost.ensures
           (lost_moves g.S.P.Piece.seen c.args.name.now (g.S.Shelf.held c.args.shelf.now) c.args.system.now c.requires.keeps (g.S.Shelf.faults c.args.shelf.now) (g.S.Shelf.faults c.give-in-Err-PowerLost.new.self) (omega (arith, c.in-Ok.ensures.later, c.give-in-Err-PowerLost.ensures.later)) w c.in-Ok.ensures.taken.before
-          (g.S.P.Piece.seen c.in-Ok.piece) (g.S.P.Piece.seen c.first_header.new.piece) c.first_header.ensures.kept c.first_header.ensures.same
+          (g.S.P.Piece.seen c.in-Ok.piece) (g.S.P.Piece.seen c.find.new.piece) c.find.ensures.kept c.find.ensures.same
           (g.S.Shelf.free c.args.shelf.now) (g.S.Shelf.free c.take.new.self) (g.S.Shelf.free c.give-in-Err-PowerLost.new.self) (g.S.Shelf.free c.close.new.shelf) (g.S.Shelf.faults c.close.new.shelf) c.close.new.system (g.S.Shelf.held c.give-in-Err-PowerLost.new.self)
           c.in-Ok.ensures.left c.give-in-Err-PowerLost.ensures.back held (c.in-Err-PowerLost.ensures.cause.cut (search rules)) c.close.ensures.later c.close.ensures.ordered c.close.ensures.back c.close.ensures.volumes c.close.ensures.group stand),
     )

@@ -19,7 +19,7 @@ use Rattle.vx_world.specs.Images.{IsDeviceOf}
 use Rattle.vx_world.specs.Disks.{MkImageStep, with_device}
 use Rattle.vx_hold.specs.Holders.{Holder, holders, held_as}
 use Rattle.vx_hold.specs.Kept.{Keeps}
-use Rattle.vx_hold.specs.Stand.{State, Stand, StandWith, seen_at}
+use Rattle.vx_hold.specs.Stand.{Stand, StandWith, seen_at}
 use Rattle.vx_hold.specs.Moves.{Moves, Rests, faults_in, cut_in}
 use Rattle.vx_hold.specs.declared.system.System.{System}
 use Rattle.vx_hold.proofs.Closed.{state}

@@ -1,5 +1,5 @@
 -- A name that is used on the shelf is used in the world, and the other way round.
-use Rattle.std.proofs.Common.{◌≡◌, ◌⊎◌, Option, Some, None, refl, subst, inl, inr}
+use Rattle.std.proofs.Common.{◌≡◌, Option, Some, None, refl, subst, inl, inr}
 use Rattle.std.specs.Prelude.{IsSome}
 use Rattle.std.specs.BTreeMap.{IsOrdered}
 use Rattle.std.specs.Cmp.Lexicographic.{slice_cmp}

@@ -4,6 +4,8 @@
 
 mod claim;
 mod image;
+mod wiping;
 
 pub use claim::{Claim, find_claim};
 pub use image::make_image;
+pub use wiping::unsetup;

@@ -1,7 +1,6 @@
 -- A device that was found is started or refused, which is a step of the world.
-use Rattle.std.proofs.Common.{◌≡◌, ◌∙◌, ◌⊎◌, ℕ, ◌+◌, ◌≤◌, Bool, true, false, List, [], Option, Some, None, refl, sym, ap, subst, inl, inr, arith}
+use Rattle.std.proofs.Common.{◌≡◌, ◌∙◌, ◌⊎◌, ℕ, ◌+◌, ◌≤◌, Bool, true, false, [], Option, Some, None, refl, sym, ap, subst, inl, inr, arith}
 use Rattle.std.specs.Prelude.{IfSome, MatchBool, MatchOption, is_some, option_map}
-use Rattle.vx_base.specs.Blocks.{Contents}
 use Rattle.vx_base.specs.Named.{Word}
 use Rattle.vx_block.specs.Geometry.{is_geometry}
 use Rattle.vx_header.specs.Named.{Label, header_of, label_of}
@@ -23,7 +22,7 @@ use Rattle.vx_hold.specs.Moves.{Moves, Rests}
 use Rattle.vx_hold.specs.Stand.{State, Stand, StandWith}
 use Rattle.vx_hold.specs.declared.system.System.{System}
 use Rattle.vx_hold.proofs.Closed.{state}
-use Rattle.vx_calls.specs.Beginning.{is_named, IsTurnedDown, IsPutBack, IsRefusedBack, IsBegun}
+use Rattle.vx_calls.specs.Beginning.{IsTurnedDown, IsPutBack, IsRefusedBack, IsBegun}
 use Rattle.vx_calls.proofs.Begun.{named_there, new_there, begun_keeps, begun_room, begun_moves, next}
 use Rattle.vx_calls.proofs.PutBack.{back_keeps, refused_back, rests_back}
 use Rattle.vx_calls.proofs.Same.{same_room}

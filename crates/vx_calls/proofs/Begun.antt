@@ -1,14 +1,10 @@
 -- A device that was taken is started as a volume beside the others.
 use Rattle.std.proofs.Common.{◌≡◌, ◌∙◌, ◌⊎◌, ℕ, ◌+◌, ◌*◌, ◌≤◌, ◌||◌, Bool, true, false, cond, List, [], ◌∷◌, ◌++◌, Option, Some, None, refl, sym, ap, subst, inl, inr, arith}
-use Rattle.std.specs.BTreeMap.{is_at}
-use Rattle.std.specs.Cmp.Lexicographic.{slice_cmp}
 use Rattle.std.specs.List.{list_any}
-use Rattle.std.specs.Map.{lookup}
-use Rattle.std.specs.Ordering.{nat_cmp}
 use Rattle.std.specs.Prelude.{IfSome, is_some}
 use Rattle.std.specs.Str.{bytes_eq}
 use Rattle.vx_base.specs.Blocks.{Contents}
-use Rattle.vx_base.specs.Named.{Word, put, SameUnder}
+use Rattle.vx_base.specs.Named.{Word, put}
 use Rattle.vx_base.proofs.NamedLemmas.{bytes_eq_same}
 use Rattle.vx_piece.specs.Seen.{Seen}
 use Rattle.vx_shelf.specs.Shelf.{Held, IsTaken}
@@ -21,11 +17,11 @@ use Rattle.vx_world.specs.Tests.{IsStarted, has_volume}
 use Rattle.vx_world.specs.World.{World, Device, Volume, Group}
 use Rattle.vx_bare.specs.Stands.{IsAmongTold}
 use Rattle.vx_bare.specs.declared.started.Started.{Started}
-use Rattle.vx_hold.specs.Holders.{Holder, volume_at, holders, held_as, AreApart, AreHeld}
+use Rattle.vx_hold.specs.Holders.{Holder, volume_at, holders, held_as, AreHeld}
 use Rattle.vx_hold.specs.Kept.{Keeps, HasRoom, IsVolumeKept, IsGroupKept}
 use Rattle.vx_hold.specs.Looks.{LeavesRead}
-use Rattle.vx_hold.specs.Moves.{HasBlame, Moves}
-use Rattle.vx_hold.specs.Stand.{State, StandWith, IsAtVolume, IsAtGroup, IsVolumeOf, seen_at, device_seen}
+use Rattle.vx_hold.specs.Moves.{Moves}
+use Rattle.vx_hold.specs.Stand.{StandWith, IsAtVolume, IsAtGroup, seen_at, device_seen}
 use Rattle.vx_hold.specs.declared.system.System.{System}
 use Rattle.vx_hold.specs.declared.system.Imported.{Imported}
 use Rattle.vx_hold.proofs.Blamed.{AreLater, IsDeviceLater, later_each_device, silent}
@@ -33,7 +29,7 @@ use Rattle.vx_hold.proofs.Closed.{state}
 use Rattle.vx_hold.proofs.Looked.{not_held_by}
 use Rattle.vx_hold.proofs.Held.{take_one, held_at}
 use Rattle.vx_hold.proofs.Rooms.{more_room}
-use Rattle.vx_calls.specs.Beginning.{is_recorded, is_named, IsFresh, IsPutIn}
+use Rattle.vx_calls.specs.Beginning.{is_recorded, is_named, IsPutIn}
 use Rattle.vx_calls.proofs.Called.{nobody, nobody_failed}
 use Rattle.vx_calls.proofs.Entries.{IsPutAt, put_at, held_before, held_behind, holders_round, holders_but}
 

@@ -1,9 +1,8 @@
 -- A call moves the shelf and its system from a world to a world.
-use Rattle.std.proofs.Common.{◌≡◌, ◌∙◌, ◌⊎◌, ℕ, ◌+◌, ◌*◌, ◌^◌, ◌<◌, ◌≤◌, Bool, true, false, cond, List, [], ◌∷◌, ◌++◌, map, Option, Some, None, refl, sym, ap, subst, inl, inr, ltb, arith}
-use Rattle.std.specs.Prelude.{MatchBool, IfSome, length}
-use Rattle.std.specs.BTreeMap.{IsOrdered, is_at}
+use Rattle.std.proofs.Common.{◌≡◌, ◌∙◌, ◌⊎◌, ℕ, ◌+◌, ◌<◌, ◌≤◌, Bool, true, false, cond, [], ◌∷◌, Option, Some, None, refl, sym, ap, subst, inl, inr, ltb, arith}
+use Rattle.std.specs.Prelude.{MatchBool}
+use Rattle.std.specs.BTreeMap.{IsOrdered}
 use Rattle.std.specs.Cmp.Lexicographic.{slice_cmp}
-use Rattle.std.specs.Map.{lookup}
 use Rattle.std.specs.Ordering.{nat_cmp}
 use Rattle.std.specs.Str.{bytes_eq}
 use Rattle.std.proofs.lemmas.Bool.{ltb-true, ltb-false}
@@ -17,20 +16,18 @@ use Rattle.vx_world.specs.declared.answer.Answer.TheVariants.{Refused}
 use Rattle.vx_world.specs.declared.answer.Refusal.{Refusal}
 use Rattle.vx_world.specs.declared.answer.Refusal.TheVariants.{NotStarted, Range}
 use Rattle.vx_world.specs.Answers.{is_lost}
-use Rattle.vx_world.specs.Back.{IsCutOff}
 use Rattle.vx_world.specs.Failures.{Failures}
 use Rattle.vx_world.specs.World.{World}
 use Rattle.vx_world.specs.Calls.{volume_of, start_of, count_of, CallStep}
 use Rattle.vx_bare.specs.declared.started.Started.{Started}
-use Rattle.vx_hold.specs.Closing.{NoneHeld, AreBack}
-use Rattle.vx_hold.specs.Holders.{volume_at, volume_holder, holders, group_holders, held_as, AreHeld}
-use Rattle.vx_hold.specs.Kept.{Keeps, HasRoom, IsGroupKept}
-use Rattle.vx_hold.specs.Moves.{HasBlame, HaveFailed, Moves, Rests, faults_in, cut_in}
-use Rattle.vx_hold.specs.Stand.{State, StandsFor, Stand, StandWith, seen_at, device_seen}
+use Rattle.vx_hold.specs.Closing.{AreBack}
+use Rattle.vx_hold.specs.Holders.{volume_at, holders, held_as}
+use Rattle.vx_hold.specs.Kept.{Keeps, HasRoom}
+use Rattle.vx_hold.specs.Moves.{HasBlame, HaveFailed, Moves, Rests}
+use Rattle.vx_hold.specs.Stand.{Stand, StandWith, seen_at, device_seen}
 use Rattle.vx_hold.specs.declared.system.System.{System}
-use Rattle.vx_hold.specs.declared.system.Imported.{Imported}
 use Rattle.vx_hold.proofs.Closed.{state, Closes, closes}
-use Rattle.vx_hold.proofs.Blamed.{AreLater, IsDeviceLater, later_each_device, later_same, silent, none_told, same_blame, blame_later}
+use Rattle.vx_hold.proofs.Blamed.{AreLater, IsDeviceLater, later_each_device, later_same, silent, none_told, blame_later}
 use Rattle.vx_calls.specs.Serving.{IsServedAmong, ServesAmong}
 use Rattle.vx_calls.proofs.Later.{later_as, held_before_as, later_keeps, later_room}
 use Rattle.vx_calls.proofs.Same.{same_seen, same_keeps, same_room, same_stand}

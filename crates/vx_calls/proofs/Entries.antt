@@ -1,13 +1,14 @@
 -- The started volumes as a list: one of them, and those before and behind it.
-use Rattle.std.proofs.Common.{◌≡◌, ◌∙◌, Bool, true, false, cond, List, [], ◌∷◌, ◌++◌, map, Option, Some, None, refl, sym, ap, append_assoc}
-use Rattle.std.specs.BTreeMap.{is_at, insert_entry}
+use Rattle.std.proofs.Common.{◌≡◌, ◌∙◌, Bool, true, false, cond, List, [], ◌∷◌, ◌++◌, map, Some, None, refl, ap, append_assoc}
+use Rattle.std.specs.BTreeMap.{BTreeMap, get, is_at, insert_entry}
 use Rattle.std.specs.Cmp.Lexicographic.{slice_cmp}
 use Rattle.std.specs.Map.{lookup, set_value}
 use Rattle.std.specs.Ordering.{nat_cmp, is_eq, match_ordering}
 use Rattle.std.specs.declared.cmp.Ordering.{Ordering}
 use Rattle.std.specs.declared.cmp.Ordering.TheVariants.{Less, Equal, Greater}
 use Rattle.std.proofs.lemmas.List.{map-append}
-use Rattle.vx_base.specs.Named.{Word}
+use Rattle.std.proofs.lemmas.Map.Text.{is_eq-slice_cmp}
+use Rattle.vx_base.specs.Named.{Word, put, SameUnder}
 use Rattle.vx_piece.specs.Seen.{Seen}
 use Rattle.vx_bare.specs.declared.started.Started.{Started}
 use Rattle.vx_hold.specs.Holders.{Holder, volume_holder, group_holders, holders}
@@ -47,6 +48,10 @@ module _ {X : Type 0} (key : Word) (new : X) where
   pub put_at : (es : List (Word × X)) → lookup (is_at (slice_cmp nat_cmp key)) es ≡ None → IsPutAt es (insert_entry (slice_cmp nat_cmp) es key new) key new
   put_at [] none = record { before = []; behind = []; was = refl; is = refl }
   put_at (e ∷ es) none = put_by (slice_cmp nat_cmp key e.0) e es (put_at es) none
+
+-- what stands under each name once one is put
+pub puts_as : {X : Type 0} (old new : BTreeMap Word X) (key : Word) (x : X) → ((q : Word) → get (slice_cmp nat_cmp) new q ≡ cond (is_eq (slice_cmp nat_cmp key q)) (Some x) (get (slice_cmp nat_cmp) old q)) → SameUnder (put key (Some x) (get (slice_cmp nat_cmp) old)) (get (slice_cmp nat_cmp) new)
+puts_as old new key x puts q = puts q ∙ ap (λ b. cond b (Some x) (get (slice_cmp nat_cmp) old q)) (is_eq-slice_cmp key q)
 
 -- the holders round one volume
 module _ {P : Type 0} (see : P → Seen) (s : System P) (before behind : List (Word × Started P)) where

@@ -1,8 +1,8 @@
 -- A system in which one volume has lived on.
-use Rattle.std.proofs.Common.{◌≡◌, ◌∙◌, ℕ, ◌+◌, ◌*◌, ◌^◌, ◌≤◌, Bool, true, false, cond, List, [], ◌∷◌, ◌++◌, Option, Some, None, refl, sym, ap, subst, arith}
+use Rattle.std.proofs.Common.{◌≡◌, ◌∙◌, ℕ, ◌+◌, ◌*◌, ◌≤◌, Bool, true, false, cond, List, [], ◌∷◌, ◌++◌, Option, Some, refl, sym, ap, subst, arith}
 use Rattle.std.specs.BTreeMap.{is_at}
 use Rattle.std.specs.Cmp.Lexicographic.{slice_cmp}
-use Rattle.std.specs.Map.{lookup, set_value}
+use Rattle.std.specs.Map.{set_value}
 use Rattle.std.specs.Ordering.{nat_cmp}
 use Rattle.std.specs.Prelude.{IfSome}
 use Rattle.std.specs.Str.{bytes_eq}
@@ -12,7 +12,7 @@ use Rattle.vx_piece.specs.Seen.{Seen, Keeps as PieceKeeps}
 use Rattle.vx_shelf.specs.Shelf.{Held}
 use Rattle.vx_copies.specs.Lists.{Each}
 use Rattle.vx_bare.specs.declared.started.Started.{Started}
-use Rattle.vx_hold.specs.Holders.{Holder, volume_at, volume_holder, holders, held_as, AreApart, AreHeld}
+use Rattle.vx_hold.specs.Holders.{Holder, volume_at, holders, held_as, AreApart, AreHeld}
 use Rattle.vx_hold.specs.Kept.{Keeps, HasRoom, IsVolumeKept, IsGroupKept}
 use Rattle.vx_hold.specs.declared.system.System.{System}
 use Rattle.vx_hold.proofs.Held.{IsLater, later_held, later_apart, held_at}

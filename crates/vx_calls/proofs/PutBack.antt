@@ -1,5 +1,5 @@
 -- A device that was taken, read, and put back.
-use Rattle.std.proofs.Common.{◌≡◌, ℕ, ◌≤◌, Option, Some, None}
+use Rattle.std.proofs.Common.{ℕ, ◌≤◌, Option, Some, None}
 use Rattle.vx_base.specs.Named.{Word}
 use Rattle.vx_piece.specs.Seen.{Seen}
 use Rattle.vx_shelf.specs.Shelf.{Held, IsTaken, ComesToShelf}

@@ -1,5 +1,5 @@
 -- Two systems that hold the same.
-use Rattle.std.proofs.Common.{◌≡◌, ◌∙◌, ℕ, ◌+◌, ◌++◌, map, Option, Some, sym, ap, subst, arith}
+use Rattle.std.proofs.Common.{◌≡◌, ◌∙◌, ℕ, ◌+◌, ◌++◌, map, Option, sym, ap, subst, arith}
 use Rattle.std.specs.BTreeMap.{is_at}
 use Rattle.std.specs.Cmp.Lexicographic.{slice_cmp}
 use Rattle.std.specs.Map.{lookup}
@@ -8,7 +8,6 @@ use Rattle.std.specs.Prelude.{IfSome}
 use Rattle.vx_base.specs.Named.{Word}
 use Rattle.vx_piece.specs.Seen.{Seen}
 use Rattle.vx_shelf.specs.Shelf.{Held}
-use Rattle.vx_bare.specs.declared.started.Started.{Started}
 use Rattle.vx_world.specs.World.{World}
 use Rattle.vx_hold.specs.Holders.{volume_at, volume_holder, group_holders, holders, held_as, AreHeld}
 use Rattle.vx_hold.specs.Kept.{Keeps, HasRoom, IsGroupKept}

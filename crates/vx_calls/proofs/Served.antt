@@ -1,13 +1,11 @@
 -- A call that is served is a step of the world.
-use Rattle.std.proofs.Common.{◌≡◌, ◌∙◌, ℕ, ◌+◌, ◌<◌, ◌≤◌, Bool, true, false, cond, List, [], ◌∷◌, Option, Some, None, refl, sym, ap, subst, inl, inr, ltb, arith}
+use Rattle.std.proofs.Common.{◌≡◌, ◌∙◌, ℕ, ◌+◌, ◌<◌, ◌≤◌, Bool, true, false, cond, List, [], ◌∷◌, Option, Some, None, refl, sym, ap, subst, ltb}
 use Rattle.std.specs.Prelude.{IsTrue, MatchOption, MatchBool}
 use Rattle.std.specs.Str.{bytes_eq}
 use Rattle.std.proofs.lemmas.Bool.{le-ltb, lt-ltb}
 use Rattle.vx_base.specs.Counts.{Rose}
 use Rattle.vx_base.specs.Named.{Word, put, SameUnder}
-use Rattle.vx_base.proofs.NamedLemmas.{bytes_eq_self}
 use Rattle.vx_piece.specs.Seen.{Seen}
-use Rattle.vx_shelf.specs.Shelf.{Held}
 use Rattle.vx_life.specs.Entry.{Entry}
 use Rattle.vx_life.specs.Life.{Life}
 use Rattle.vx_world.specs.declared.command.Call.{Call}
@@ -19,12 +17,12 @@ use Rattle.vx_world.specs.Back.{IsCutOff}
 use Rattle.vx_world.specs.World.{World, Volume, IsRefused}
 use Rattle.vx_world.specs.Calls.{volume_of, start_of, count_of, Lives, Tells, world_with, WorldAfter, IsServed, CallStep}
 use Rattle.vx_bare.specs.declared.started.Started.{Started}
-use Rattle.vx_bare.specs.Stands.{StandsFor as LifeStands, HasShape, AnswerHasCause}
-use Rattle.vx_hold.specs.Holders.{volume_at, holders, held_as}
+use Rattle.vx_bare.specs.Stands.{StandsFor as LifeStands, AnswerHasCause}
+use Rattle.vx_hold.specs.Holders.{volume_at}
 use Rattle.vx_hold.specs.Moves.{HasBlame, faults_in, cut_in}
 use Rattle.vx_hold.specs.Stand.{StandWith, IsAtVolume, IsVolumeOf, IsAtGroup}
 use Rattle.vx_hold.specs.declared.system.System.{System}
-use Rattle.vx_hold.proofs.Blamed.{AreLater, IsDeviceLater, later_each_device, silent, fault_own, lost_cut}
+use Rattle.vx_hold.proofs.Blamed.{AreLater, silent, fault_own, lost_cut}
 use Rattle.vx_calls.specs.Serving.{IsServedBy}
 
 -- the tests of a call, in a world that has no such volume, or has this one

@@ -1,6 +1,6 @@
 -- A device that is started as a volume, or put back on the shelf.
 use Rattle.std.specs.Prelude.{◌≡◌, ◌⊎◌, ℕ, Bool, true, false, ◌||◌, is_some, slice_index, [], Option, Some, None}
-use Rattle.std.specs.BTreeMap.{get, insert_entry}
+use Rattle.std.specs.BTreeMap.{insert_entry}
 use Rattle.std.specs.Cmp.Lexicographic.{slice_cmp}
 use Rattle.std.specs.List.{list_any}
 use Rattle.std.specs.Ordering.{nat_cmp}

@@ -6,3 +6,6 @@ mod starting;
 
 pub use calling::call;
 pub use starting::bare;
+
+#[cfg(test)]
+mod tests;

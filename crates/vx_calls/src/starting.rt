@@ -157,7 +157,11 @@ fn start<S: Shelf>(
         }
         Ok(started) => match system.volumes.insert(vol, started) {
             Ok(_) => Ok(()),
-            Err(AllocFailed { value: (_, started) }) => {
+            Err(
+                AllocFailed {
+                    value: (_, started),
+                },
+            ) => {
                 shelf.give(&device, started.piece);
                 Err(OutOfMemory)
             }

@@ -1,13 +1,13 @@
-use Rattle.std.proofs.Common.{◌≡◌, ◌∙◌, ◌+◌, cond, Some, ap, rules, arith}
+use Rattle.std.proofs.Common.{◌≡◌, ◌∙◌, ◌+◌, Some, ap, subst, rules, arith}
 use Rattle.std.specs.BTreeMap.{get, is_at}
 use Rattle.std.specs.Map.{lookup, set_value}
 use Rattle.std.specs.Cmp.Lexicographic.{slice_cmp}
 use Rattle.std.specs.Ordering.{nat_cmp}
-use Rattle.std.specs.Str.{bytes_eq}
-use Rattle.std.proofs.lemmas.Map.Text.{is_eq-slice_cmp}
+use Rattle.vx_base.specs.Named.{put, SameUnder}
 use Rattle.std.proofs.lemmas.Map.Steps.{set_value_same}
 use Rattle.std.proofs.lemmas.Result.{on_err_weaker}
 use Rattle.vx_world.specs.Calls.{volume_of, start_of, count_of}
+use Rattle.vx_calls.proofs.Entries.{puts_as}
 use Rattle.vx_calls.proofs.Among.{past_among, served_among, both_ok}
 use Rattle.vx_calls.proofs.calling.serve_among.Goals as goal
 
@@ -25,8 +25,8 @@ returns-clause-serves g c =
       later = c.serve.new.self;
       served = record { lives = lives; cause = cause; kept = c.serve.ensures.kept; same = c.serve.ensures.same; most = c.serve.ensures.most };
       entries = (c.get_mut.follows.holds c.serve.new.self).0 ∙ ap (λ n. set_value (is_at (slice_cmp nat_cmp n)) c.args.volumes.now.entries c.serve.new.self) c.volume_of-name.ensures;
-      puts = λ q. ((c.get_mut.follows.holds c.serve.new.self).3 (search rules)).0 q
-          ∙ ap (λ b. cond b (Some c.serve.new.self) (get (slice_cmp nat_cmp) c.args.volumes.now q)) (is_eq-slice_cmp c.volume_of-name.result q ∙ ap (λ n. bytes_eq n q) c.volume_of-name.ensures);
+      puts = subst (λ n. SameUnder (put n (Some c.serve.new.self) (get (slice_cmp nat_cmp) c.args.volumes.now)) (get (slice_cmp nat_cmp) (c.get_mut.follows.lender c.serve.new.self))) c.volume_of-name.ensures
+          (puts_as c.args.volumes.now (c.get_mut.follows.lender c.serve.new.self) c.volume_of-name.result c.serve.new.self ((c.get_mut.follows.holds c.serve.new.self).3 (search rules)).0);
     }))
     c.serve.ensures.served c.serve.ensures.cause
 

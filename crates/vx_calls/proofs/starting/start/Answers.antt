@@ -1,7 +1,5 @@
-use Rattle.std.proofs.Common.{◌≡◌, ◌∙◌, cond, Some, refl, ap, rules}
-use Rattle.std.specs.Str.{bytes_eq}
-use Rattle.std.proofs.lemmas.Map.Text.{is_eq-slice_cmp}
-use Rattle.vx_hold.specs.Holders.{volume_at}
+use Rattle.std.proofs.Common.{◌∙◌, refl, ap}
+use Rattle.vx_calls.proofs.Entries.{puts_as}
 use Rattle.vx_calls.proofs.starting.start.Goals as goal
 
 pub returns-in-Ok-insert-clause-put_in : goal.returns-in-Ok-insert-clause-put_in
@@ -19,6 +17,6 @@ returns-in-Ok-insert-clause-put_in g c =
         most_is = e.few;
       };
       entries = c.in-Ok-insert.ensures.entries;
-      puts = λ q. c.in-Ok-insert.ensures.updates.0 q ∙ ap (λ b. cond b (Some c.in-Ok.started) (volume_at c.args.system.now q)) (is_eq-slice_cmp c.args.vol q);
+      puts = puts_as c.args.system.now.volumes c.insert.new.self c.args.vol c.in-Ok.started c.in-Ok-insert.ensures.updates.0;
       group = refl;
     }

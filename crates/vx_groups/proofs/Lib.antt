@@ -7,3 +7,4 @@ pub mod Edited
 pub mod Joined
 pub mod JudgedSteps
 pub mod Outside
+pub mod AddSteps

@@ -7,6 +7,7 @@ mod judging;
 mod leaving;
 mod printing;
 mod slots;
+mod stopping;
 #[cfg(test)]
 mod tests;
 

@@ -6,4 +6,6 @@ pub mod Joined
 pub mod Ready
 pub mod Ended
 pub mod Written
+pub mod Moved
+pub mod Finished
 pub mod Steps

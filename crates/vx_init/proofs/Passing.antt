@@ -24,6 +24,8 @@ use Rattle.vx_objects.specs.Parts.{as_disk, records_of, in_kinds}
 use Rattle.vx_objects.proofs.InKinds.{disks_below, are_sorted}
 use Rattle.vx_script_words.specs.declared.value.DiskAt.{DiskAt}
 use Rattle.vx_world.specs.declared.answer.Refusal.{Refusal}
+use Rattle.vx_world.specs.declared.answer.Refusal.TheVariants as refusal
+use Rattle.vx_parts.specs.declared.fault.Limit.TheVariants as limit
 use Rattle.vx_hold.specs.Kept.{AreSized, HaveSlots, AreRecorded}
 use Rattle.vx_hold.specs.declared.system.Imported.{Imported}
 use Rattle.vx_init.specs.Gathered.{IsHeader, IsDiskAt, AreDisksAt, IsFirstHeaded}
@@ -46,13 +48,13 @@ pub record Within {P : Type 0} (dg : Word) (ds : List (Disk P)) : Type 0 where
   pub short : are_short ds ≡ true
 
 pub within : {P : Type 0} (dg : Word) (ds : List (Disk P)) → limit_of dg ds ≡ None → Within dg ds
-within dg ds e = by (are_sized ds) (nat_lt 32 (length ds)) (is_short_name dg && are_short ds) refl refl refl e
+within dg ds e = by refusal.DeviceLimit (refusal.Limit limit.Disks) (refusal.Limit limit.Name) (are_sized ds) (nat_lt 32 (length ds)) (is_short_name dg && are_short ds) refl refl refl e
   where
-    by : (a b c : Bool) → are_sized ds ≡ a → nat_lt 32 (length ds) ≡ b → (is_short_name dg && are_short ds) ≡ c → cond (not a) (Some _) (cond b (Some _) (cond (not c) (Some _) None)) ≡ None → Within dg ds
-    by false b c x y z e = cc
-    by true true c x y z e = cc
-    by true false false x y z e = cc
-    by true false true x y z e = let parts = and_parts (is_short_name dg) (are_short ds) z in record { sized = x; few = grind (arith, nat_tests, y); dg_short = parts.0; short = parts.1 }
+    by : (r s t : Refusal) (a b c : Bool) → are_sized ds ≡ a → nat_lt 32 (length ds) ≡ b → (is_short_name dg && are_short ds) ≡ c → cond (not a) (Some r) (cond b (Some s) (cond (not c) (Some t) None)) ≡ None → Within dg ds
+    by r s t false b c x y z e = cc
+    by r s t true true c x y z e = cc
+    by r s t true false false x y z e = cc
+    by r s t true false true x y z e = let parts = and_parts (is_short_name dg) (are_short ds) z in record { sized = x; few = grind (arith, nat_tests, y); dg_short = parts.0; short = parts.1 }
 
 size_parts : (n : ℕ) → is_size n ≡ true → (2048 < n) × (n ≤ 2 ^ 40)
 size_parts n e = let parts = and_parts (nat_lt 2048 n) (nat_le n (2 ^ 40)) e in (ltb-true 2048 n parts.0, leb-true n (2 ^ 40) parts.1)

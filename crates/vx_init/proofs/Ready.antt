@@ -10,6 +10,9 @@ use Rattle.vx_script_words.specs.declared.value.DiskAt.{DiskAt}
 use Rattle.vx_world.specs.Back.{IsTextOf}
 use Rattle.vx_hold.specs.Kept.{AreSized, HaveSlots, AreRecorded}
 use Rattle.vx_hold.specs.declared.system.Imported.{Imported}
+use Rattle.vx_init.specs.declared.stop.Stop.{Stop}
+use Rattle.vx_init.specs.declared.stop.Stop.TheVariants as stop
+use Rattle.vx_init.specs.Ends.{UnlessLost}
 use Rattle.vx_init.specs.declared.taking.Taken.{Taken}
 use Rattle.vx_init.specs.declared.planning.Plan.{Plan}
 use Rattle.vx_init.specs.Gathered.{AreDisksAt, IsFirstHeaded}
@@ -17,6 +20,14 @@ use Rattle.vx_init.specs.Judged.{group_in, limit_of, group_records}
 use Rattle.vx_init.specs.Made.{IsPassed}
 use Rattle.vx_init.proofs.Gathering.{disks_long}
 use Rattle.vx_init.proofs.Passing.{nothing_refuses, no_group, Within, within, fresh_all, none_offer, sized_all, slots_all, records_made, named_so, recorded_all}
+
+pub unless_lost : {A B : Type 0} (s : Stop) → (A → B) → UnlessLost s A → UnlessLost s B
+unless_lost stop.OutOfMemory f h = f h
+unless_lost (stop.Refused r) f h = f h
+unless_lost (stop.Fault n) f h = f h
+unless_lost stop.ShelfFailed f h = f h
+unless_lost stop.GroupLost f h = f h
+unless_lost stop.Lost f h = tt
 
 pub record IsReady {P : Type 0} (see : P → Seen) (dg : Word) (t : Taken P) (group : Option (Imported P)) (plan : Plan) : Type 0 where
   pub no_group : group ≡ None

@@ -211,3 +211,17 @@ module _ {P : Type 0} (see : P → Seen) (dg : Word) (text : List ℕ) where
   cut_among (n ∷ ns) [] all long cut at = absurd cut
   cut_among (n ∷ ns) (e ∷ es) all long (inl cut) at = (n, see e.piece, at.0, cut)
   cut_among (n ∷ ns) (e ∷ es) all long (inr cut) at = cut_among ns es all (omega (arith, long)) cut at.1
+
+enters_told : (l : Label) (text : List ℕ) (c : Contents) (told' : Option Contents) → Enters l text (Some c) told' → (x : Contents) × (told' ≡ Some x)
+enters_told l text c None enters = absurd enters
+enters_told l text c (Some x) enters = (x, refl)
+
+-- what a device that was to join holds is told
+pub all_tell : {P : Type 0} (see : P → Seen) (dg : Word) (text : List ℕ) (ns : List Word) (ds es : List (Disk P)) (vs : List Device) → AreImages see ds vs → AllJoin see dg text ds es → AllOf (λ h. (c : Contents) × (h.seen.told ≡ Some c)) (disk_holders see ns es)
+all_tell see dg text [] ds es vs images joins = tt
+all_tell see dg text (n ∷ ns) [] [] vs images joins = tt
+all_tell see dg text (n ∷ ns) [] (e ∷ es) vs images joins = absurd joins
+all_tell see dg text (n ∷ ns) (d ∷ ds) [] vs images joins = absurd joins
+all_tell see dg text (n ∷ ns) (d ∷ ds) (e ∷ es) [] images joins = absurd images
+all_tell see dg text (n ∷ ns) (d ∷ ds) (e ∷ es) (v ∷ vs) images joins =
+    (enters_told (label_in dg (held see d)) text v.contents (see e.piece).told (subst (λ o. Enters (label_in dg (held see d)) text o (see e.piece).told) images.0.contents joins.0.told), all_tell see dg text ns ds es vs images.1 joins.1)

@@ -78,7 +78,9 @@ pub record IsStopped {P E : Type 0} (see : P → Seen) (dg : Word) (t : Taken P)
   pub read : AreOnlyRead free mid
   pub after : Option (Word → Option Seen)
   pub back : AreBack (taken_holders see t) mid after
-  pub cause : HasCause stop held free mid faults faults'
+  pub count : ℕ
+  pub cause : HasCause stop held free mid faults count
+  pub more : count ≤ faults'
   pub answers : Answers stop result
   pub stays : UnlessLost stop ((system' ≡ system) × (free' ≡ after))
   pub closed : WhereLost stop (IsClosed (holders see system) system system' after free')

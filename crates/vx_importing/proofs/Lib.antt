@@ -3,4 +3,6 @@ pub mod Kept
 pub mod Went
 pub mod Keeping
 pub mod Gathered
-pub mod Judged
+pub mod Verdicts
+pub mod Returning
+pub mod Counting

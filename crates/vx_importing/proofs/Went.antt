@@ -74,7 +74,7 @@ all_same held held' same (o ∷ os) taken = (taken_stays held held' o (same o.na
 less_up_to : (name other : Word) → slice_cmp nat_cmp name other ≡ Less → IsUpTo name other
 less_up_to name other less = λ greater. cc
 
-self_up_to : (name other : Word) → name ≡ other → IsUpTo name other
+pub self_up_to : (name other : Word) → name ≡ other → IsUpTo name other
 self_up_to name other same = λ greater.
     let one : is_eq (slice_cmp nat_cmp name other) ≡ bytes_eq name other = is_eq-slice_cmp name other in
     let two : bytes_eq name other ≡ true = ap (bytes_eq name) (sym same) ∙ bytes_eq_self name in

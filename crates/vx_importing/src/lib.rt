@@ -4,6 +4,7 @@
 mod checking;
 mod finds;
 mod gathering;
+mod giving;
 mod judging;
 mod naming;
 mod placing;
@@ -11,6 +12,7 @@ mod placing;
 pub use checking::{first_started, first_stray};
 pub use finds::{Finds, no_finds};
 pub use gathering::{Passed, gather};
+pub use giving::give_finds;
 pub use judging::{Judged, judge};
 pub use naming::missing_disk;
 pub use placing::{place_of, put_in};

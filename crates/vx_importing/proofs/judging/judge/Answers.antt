@@ -1,5 +1,5 @@
 use Rattle.vx_importing.specs.Judging.{labels_of, is_started}
-use Rattle.vx_importing.proofs.Judged.{text_judged}
+use Rattle.vx_importing.proofs.Verdicts.{text_judged}
 use Rattle.vx_importing.proofs.judging.judge.Goals as goal
 
 pub returns-in-Ok : goal.returns-in-Ok

@@ -1,4 +1,4 @@
-use Rattle.vx_importing.proofs.Judged.{commit_judged, commit_refused}
+use Rattle.vx_importing.proofs.Verdicts.{commit_judged, commit_refused}
 use Rattle.vx_importing.proofs.judging.judge_commit.Goals as goal
 
 pub returns-in-Ok : goal.returns-in-Ok

@@ -3,7 +3,7 @@ ghost use Rattle.std.specs.Prelude.{◌≡◌, ◌+◌, ◌≤◌, ℕ, Option, 
 ghost use Rattle.vx_base.specs.Named.{Word};
 ghost use Rattle.vx_header.specs.declared.header.Header.{Header};
 ghost use Rattle.vx_piece.specs.Seen.{Seen};
-ghost use Rattle.vx_shelf.specs.Shelf.{Held, IsTaken};
+ghost use Rattle.vx_shelf.specs.Shelf.{Held, IsWhole, IsOut, IsTaken, IsGiven, ComesToShelf};
 ghost use Rattle.vx_world.specs.World.{World};
 ghost use Rattle.vx_world.specs.Disks.{UnsetupStep};
 ghost use Rattle.vx_hold.specs.Kept.{Keeps, HasRoom};
@@ -39,12 +39,22 @@ pub fn unsetup<S: Shelf>(
 {
     match look_at(alloc, system, shelf, &device)? {
         Look::Answered(answer) => Ok(answer),
-        Look::Found(piece, None) => {
-            shelf.give(&device, piece);
-            Ok(Answer::Refused(Refusal::NotInitialised(device)))
-        }
+        Look::Found(piece, None) => Ok(put_back(shelf, device, piece)),
         Look::Found(piece, Some(_)) => Ok(wipe(alloc, system, shelf, device, piece)),
     }
+}
+
+/// Gives a device without a header back.
+fn put_back<S: Shelf>(shelf: &mut S, device: Name, piece: S::P) -> Answer
+    requires whole { IsWhole (S.P.seen piece) }
+    requires out { IsOut (S.held shelf.old device) (S.P.seen piece) }
+    ensures answer { result ≡ Answer.Refused (Refusal.NotInitialised device) }
+    ensures given { IsGiven device (S.held shelf.old) (S.held shelf.new) }
+    ensures back { ComesToShelf device (S.P.seen piece) (S.free shelf.old) (S.free shelf.new) }
+    ensures later { S.faults shelf.old ≤ S.faults shelf.new }
+{
+    shelf.give(&device, piece);
+    Answer::Refused(Refusal::NotInitialised(device))
 }
 
 /// Writes zeros over the header of the device, and gives it back.
@@ -65,9 +75,9 @@ fn wipe<S: Shelf>(
         (record { free = S.free shelf.new; faults = S.faults shelf.new; system = system.new }) }
     ensures later { S.faults shelf.old ≤ S.faults shelf.new }
 {
-    let mut piece = piece;
-    let written = piece.write(0, &[0; 512]);
-    shelf.give(&device, piece);
+    let mut disk = piece;
+    let written = disk.write(0, &[0; 512]);
+    shelf.give(&device, disk);
     match written {
         Ok(()) => done(alloc),
         Err(PieceFault::Failed) => fault(alloc, device),

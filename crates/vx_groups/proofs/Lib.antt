@@ -8,3 +8,5 @@ pub mod Joined
 pub mod JudgedSteps
 pub mod Outside
 pub mod AddSteps
+pub mod Refusing
+pub mod Stopped

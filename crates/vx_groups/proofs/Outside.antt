@@ -17,11 +17,12 @@ use Rattle.vx_hold.specs.Stand.{StandWith, seen_at}
 use Rattle.vx_hold.specs.declared.system.System.{System}
 use Rattle.vx_hold.proofs.Held.{give_one, take_one, same_held}
 use Rattle.vx_hold.proofs.Looked.{not_held_by}
+use Rattle.vx_hold.proofs.Blamed.{AreLater, later_each_device}
 use Rattle.vx_devices.specs.Claims.{IsOnlyRead, AreOnlyRead}
 use Rattle.vx_groups.specs.Out.{KeepsOut, StandsOut, seen_out}
 use Rattle.vx_groups.proofs.Quiet.{HaveGone}
 
-of_some : (before : Seen) (d : Option Device) → IsDeviceOf (Some before) d → (dev : Device) × (d ≡ Some dev) × IsImage before dev
+pub of_some : (before : Seen) (d : Option Device) → IsDeviceOf (Some before) d → (dev : Device) × (d ≡ Some dev) × IsImage before dev
 of_some before None of = absurd of
 of_some before (Some dev) of = (dev, refl, of)
 
@@ -103,6 +104,36 @@ module _ {P : Type 0} (see : P → Seen) (s : System P) (h : Holder) where
           subst (λ n. seen_out see new h s n ≡ Some h.seen) same (ap (λ b. seen_at (cond b (Some h.seen) (held_as (holders see s) h.name)) (Some new) h.name) (bytes_eq_self h.name)),
           leaves.2)
     | inr apart ↦ inl (ap (λ b. seen_at (cond b (Some h.seen) (held_as (holders see s) name)) (Some new) name) apart ∙ other name (held_as (holders see s) name) (leaves.4 name ∙ cond-false _ _ _ apart))
+  ]
+    where
+      other : (name : Word) (o : Option Seen) → new name ≡ old name → seen_at o (Some new) name ≡ seen_at o (Some old) name
+      other name None same = same
+      other name (Some seen) same = refl
+
+  -- no count fell as the device was taken
+  pub taken_later : (old new : Word → Option Seen) (held held' : Word → Option Held) → LeavesRead h.name h.seen (Some old) (Some new) → Keeps see held s → IsTaken h.name h.seen held held' → AreLater (λ name. seen_at (held_as (holders see s) name) (Some old) name) (seen_out see new h s)
+  taken_later old new held held' leaves keeps taken = later_each_device (λ name. seen_at (held_as (holders see s) name) (Some old) name) (seen_out see new h s)
+      (λ name. elim (taken_seen old new held held' leaves keeps taken name) [ inl same ↦ inl same | inr changed ↦ inr (changed.0, h.seen, changed.1, changed.2, changed.3) ])
+
+  one_read : (old new : Word → Option Seen) (name : Word) (o : Option Seen) → IsOnlyRead (old name) (new name) → (faults_in (seen_at o (Some old) name) ≤ faults_in (seen_at o (Some new) name)) × (IsTrue (cut_in (seen_at o (Some old) name)) → IsTrue (cut_in (seen_at o (Some new) name)))
+  one_read old new name None read = (read_faults (old name) (new name) read, read_cuts (old name) (new name) read)
+  one_read old new name (Some seen) read = (omega arith, λ cut. cut)
+
+  -- nor while others were looked at
+  pub read_later : (old new : Word → Option Seen) → AreOnlyRead (Some old) (Some new) → AreLater (seen_out see old h s) (seen_out see new h s)
+  read_later old new read = record {
+    faults = λ name. (one_read old new name (held_as (h ∷ holders see s) name) (read name)).0;
+    cuts = λ name. (one_read old new name (held_as (h ∷ holders see s) name) (read name)).1;
+  }
+
+  -- the device is seen as it was, once it is back
+  pub back_same : (old new : Word → Option Seen) (held held' : Word → Option Held) → ComesToShelf h.name h.seen (Some old) (Some new) → IsGiven h.name held held' → KeepsOut see held h s → (name : Word) → seen_at (held_as (holders see s) name) (Some new) name ≡ seen_out see old h s name
+  back_same old new held held' comes given keeps name = elim (name_cases h.name name) [
+      inl same ↦ subst (λ n. seen_at (held_as (holders see s) n) (Some new) n ≡ seen_out see old h s n) same
+          (ap (λ o. seen_at o (Some new) h.name) (not_held_by held' (holders see s) h.name (back_keeps held held' given keeps).devices.each (given h.name ∙ cond-true _ _ _ (bytes_eq_self h.name)))
+          ∙ (comes h.name ∙ cond-true _ _ _ (bytes_eq_self h.name))
+          ∙ sym (ap (λ b. seen_at (cond b (Some h.seen) (held_as (holders see s) h.name)) (Some old) h.name) (bytes_eq_self h.name)))
+    | inr apart ↦ other name (held_as (holders see s) name) (comes name ∙ cond-false _ _ _ apart) ∙ sym (ap (λ b. seen_at (cond b (Some h.seen) (held_as (holders see s) name)) (Some old) name) apart)
   ]
     where
       other : (name : Word) (o : Option Seen) → new name ≡ old name → seen_at o (Some new) name ≡ seen_at o (Some old) name

@@ -1,9 +1,8 @@
 -- A script has no more commands than bytes: each line adds one at most, and has one byte at least.
-use Rattle.std.proofs.Common.{◌≡◌, ℕ, ◌+◌, ◌≤◌, Bool, true, false, cond, eqb, List, [], ◌∷◌, ◌++◌, length, min, Option, Some, None, Result, Ok, Err, arith, refl, subst, sym, codes}
+use Rattle.std.proofs.Common.{◌≡◌, ℕ, ◌+◌, ◌≤◌, Bool, true, false, cond, eqb, List, [], ◌∷◌, ◌++◌, length, min, Option, Some, None, Result, Ok, Err, arith, subst, codes}
 use Rattle.std.specs.Prelude.{IfOk, nat_le, ◌&&◌}
 use Rattle.std.specs.Str.{bytes_eq}
 use Rattle.std.proofs.lemmas.List.{length-append}
-use Rattle.vx_script_words.specs.Number.{number_of, within}
 use Rattle.vx_script_words.specs.Row.{and_then, ends, nothing_left}
 use Rattle.vx_script_words.specs.Words.{from_word, first_word, past_word}
 use Rattle.vx_script_forms.specs.FormOf.{form_of}
@@ -12,10 +11,10 @@ use Rattle.vx_script_forms.specs.Values.{maybe_name}
 use Rattle.vx_script_forms.specs.declared.block.Line.{Line}
 use Rattle.vx_script_forms.specs.declared.form.Form.{Form}
 use Rattle.vx_script_forms.specs.declared.form.Form.TheVariants as form
-use Rattle.vx_script.specs.Choice.{Choice, choose}
-use Rattle.vx_script.specs.Lines.{bad_word, is_passed_over, lines_from, last_line, lines_of}
+use Rattle.vx_script.specs.Choice.{choose}
+use Rattle.vx_script.specs.Lines.{bad_word, is_passed_over, lines_from, lines_of}
 use Rattle.vx_script.specs.Script.{Place, commands_from, finished, script_of, stepped}
-use Rattle.vx_script.specs.Steps.{opened, opened_by, command_step, or_bad, closed_step, making_step, session_line, line_calls, line_sectors, added, ended, inside_step, open_step, step}
+use Rattle.vx_script.specs.Steps.{opened, opened_by, command_step, or_bad, closed_step, making_step, session_line, line_calls, line_sectors, added, inside_step, open_step, step}
 use Rattle.vx_script.specs.declared.command.Command.{Command}
 use Rattle.vx_script.specs.declared.reader.Open.{Open}
 use Rattle.vx_script.specs.declared.reader.Open.TheVariants.{Closed, Making, Inside}

@@ -59,8 +59,6 @@ use Rattle.vx_init.proofs.Joined.{AllJoin, holders_alone, new_system}
 use Rattle.vx_init.proofs.Ready.{IsReady, ready}
 use Rattle.vx_init.proofs.Ended.{state, Leads, ShowsAt, Stopping, ends_moves, stand_read, all_later, shows_at, rests_read}
 use Rattle.vx_init.proofs.Steps.{headed_is, limit_is, records_is, group_is, world_group, claimed, unclaimed, Ends, step_refused, step_claimed, step_broken, step_ends}
-use Rattle.vx_init.proofs.Written.{all_members, good_member, good_slots, all_dropped}
-use Rattle.vx_init.proofs.Moved.{Begun, Old, New, Told, here, later, failures, failed, risen, all_risen, one_cut, others_are, gone_are, stands_begun, begun}
 
 -- a stop before anything is written
 leads_by : (f : Failures) (dg : Word) (ps : List DiskAt) (w : World) (sp : Stop) → ((r : Refusal) → sp ≡ stop.Refused r → InitStep f dg ps w (answer.Refused r) w) → (sp ≡ stop.GroupLost → ⊥) → Leads f dg ps sp w w
@@ -72,7 +70,7 @@ leads_by f dg ps w stop.GroupLost refused going = absurd (going refl)
 leads_by f dg ps w stop.Lost refused going = λ next cut. inr (inr (inr (inr (record { told = refl; cut = cut }))))
 
 -- nobody is said to have failed
-quiet : Failures
+pub quiet : Failures
 quiet = record { devices = λ name. false; shelf = false }
 
 quiet_failed : (old new : Word → Option Seen) (n n' : ℕ) → HaveFailed quiet old new n n'
@@ -125,7 +123,7 @@ refused_same a b e = cc
 
 -- the tests of devices that were taken, told to the world
 module _ {P : Type 0} (see : P → Seen) (dg : Word) (ps : List DiskAt) (t : Taken P) (s : System P) (old m : Word → Option Seen) (w : World) (stand : StandWith see old s w) (apart : AreApart (taken_holders see t)) (disks : AreDisksAt see 0 ps t.devices.items t.disks.items) (headed : IsFirstHeaded see t.headed t.devices.items t.disks.items) (with : IsSeenWith (taken_holders see t) old m) where
-  freed_here : Freed see [] w ps t.disks.items
+  abbrev pub freed_here : Freed see [] w ps t.disks.items
   freed_here = freed see w ps t old m stand.devices_are disks apart with
 
   headed_so : first_headed ps freed_here.devices ≡ t.headed

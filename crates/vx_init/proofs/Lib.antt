@@ -8,4 +8,6 @@ pub mod Ended
 pub mod Written
 pub mod Moved
 pub mod Finished
+pub mod Concluded
+pub mod Answered
 pub mod Steps

@@ -41,6 +41,9 @@ use Rattle.vx_init.proofs.Steps.{records_is}
 use Rattle.vx_init.proofs.Ready.{IsReady}
 use Rattle.vx_init.proofs.Written.{Goes, IsHeldThen, held_then, apart_two, all_touched, all_tell, joins_go, risen_go, cut_among}
 
+abbrev nothing : Option Seen
+nothing = None
+
 -- one that was read, and then went on
 read_then : (o : Option Seen) (a b : Seen) → IsOnlyRead o (Some a) → Keeps a b → IsDeviceLater o (Some b)
 read_then None a b read kept = absurd read
@@ -85,13 +88,13 @@ module _ {P : Type 0} (see : P → Seen) (dg : Word) (ps : List DiskAt) (t : Tak
   abbrev pub After : List Holder
   After = disk_holders see t.devices.items es
 
-  apart_before : AreApart Before
+  abbrev pub apart_before : AreApart Before
   apart_before = apart_behind (holders see s) Before are.apart
 
   apart_after : AreApart After
   apart_after = later_apart Before After (joins_later see dg text t.devices.items t.disks.items es joins) apart_before
 
-  pub here : Freed see [] w ps t.disks.items
+  abbrev pub here : Freed see [] w ps t.disks.items
   here = freed see w ps t old m stand.devices_are disks apart_before with
 
   -- what is seen of the devices, were they all back
@@ -149,7 +152,7 @@ module _ {P : Type 0} (see : P → Seen) (dg : Word) (ps : List DiskAt) (t : Tak
   all_risen rose name among = by (held_as Before name) (held_as After name) refl refl (held_then (λ a b. Rose a.faults b.faults) Before After (risen_go see dg text 0 ps t.devices.items t.disks.items es disks rose) name)
     where
       by : (o p : Option Seen) → held_as Before name ≡ o → held_as After name ≡ p → IsHeldThen (λ a b. Rose a.faults b.faults) o p → failures.devices name ≡ true
-      by o p x y (inl none) = let e : is_some (None {T = Seen}) ≡ true = sym (among_is see 0 ps t.devices.items t.disks.items name disks ∙ ap is_some (x ∙ none.0)) ∙ among in cc
+      by o p x y (inl none) = let e : is_some nothing ≡ true = sym (among_is see 0 ps t.devices.items t.disks.items name disks ∙ ap is_some (x ∙ none.0)) ∙ among in cc
       by o p x y (inr (a, b, is, is', rise)) = risen name a b (x ∙ is) (y ∙ is') rise
 
   pub one_cut : length t.devices.items ≡ length t.disks.items → AnyOf IsCut (map (held see) es) → (name : Word) × IsTrue (cut_in (New name))
@@ -195,14 +198,14 @@ module _ {P : Type 0} (see : P → Seen) (dg : Word) (ps : List DiskAt) (t : Tak
   gone_are name e = by (held_as Before name) refl
     where
       by : (o : Option Seen) → held_as Before name ≡ o → m name ≡ None
-      by None is = let h : is_some (None {T = Seen}) ≡ true = sym (among name ∙ ap is_some is) ∙ e in cc
+      by None is = let h : is_some nothing ≡ true = sym (among name ∙ ap is_some is) ∙ e in cc
       by (Some x) is = held_gone Before name x m with.gone is
 
   begun_are : (name : Word) → IsDeviceOf (Told name) (Begun.devices name)
   begun_are name = by (is_among name (devices_of ps)) refl (held_as Before name) (held_as After name) refl refl (then name)
     where
       by : (b : Bool) → is_among name (devices_of ps) ≡ b → (o p : Option Seen) → held_as Before name ≡ o → held_as After name ≡ p → IsHeldThen Keeps o p → IsDeviceOf (Told name) (cond b (device_of (Told name)) (w.devices name))
-      by true e o p x y (inl none) = let h : is_some (None {T = Seen}) ≡ true = sym (among name ∙ ap is_some (x ∙ none.0)) ∙ e in cc
+      by true e o p x y (inl none) = let h : is_some nothing ≡ true = sym (among name ∙ ap is_some (x ∙ none.0)) ∙ e in cc
       by true e o p x y (inr (a, b, is, is', kept)) =
           held_by_one (λ h. (c : Contents) × (h.seen.told ≡ Some c)) After name b (y ∙ is') tells
           (λ h named seen_is tell. subst (λ q. IsDeviceOf q (device_of q)) (sym (ap (λ q. seen_at q (Some m) name) (y ∙ is'))) (told_device b tell.0 (ap (λ z. z.told) (sym seen_is) ∙ tell.1)))
@@ -216,7 +219,7 @@ module _ {P : Type 0} (see : P → Seen) (dg : Word) (ps : List DiskAt) (t : Tak
   begun_at h at = by (held_as Before h.name) (held_as After h.name) refl refl (then h.name)
     where
       by : (o p : Option Seen) → held_as Before h.name ≡ o → held_as After h.name ≡ p → IsHeldThen Keeps o p → Begun.devices h.name ≡ device_of (Some h.seen)
-      by o p x y (inl none) = let e : None {T = Seen} ≡ Some h.seen = sym (y ∙ none.1) ∙ at in cc
+      by o p x y (inl none) = let e : nothing ≡ Some h.seen = sym (y ∙ none.1) ∙ at in cc
       by o p x y (inr (a, b, is, is', kept)) = ap (λ q. cond q (device_of (Told h.name)) (w.devices h.name)) (among h.name ∙ ap is_some (x ∙ is)) ∙ ap (λ q. device_of (seen_at q (Some m) h.name)) at
 
   -- the making was begun

@@ -158,7 +158,7 @@ module _ {P : Type 0} (see : P → Seen) (dg : Word) (text : List ℕ) where
   good_slots (d ∷ ds) = ((λ good. ap (λ b. (b && d.slot == d.slot) || is_good_slot d.slot (map (held see) ds)) good ∙ ap (λ b. b || is_good_slot d.slot (map (held see) ds)) (eq-eqb d.slot d.slot refl)), more_good d ds ds (good_slots ds))
 
   not_good : (b c : Bool) → (b ≡ true → c ≡ true) → c ≡ false → b ≡ false
-  not_good true c f e = cc
+  not_good true c f e = let g : c ≡ true = f refl in cc
   not_good false c f e = refl
 
   rose_if : (a b : Bool) (x y : Seen) → a ≡ true → b ≡ false → Drops a b x y → Rose x.faults y.faults

@@ -6,3 +6,4 @@ pub mod Gathered
 pub mod Verdicts
 pub mod Returning
 pub mod Counting
+pub mod Linking

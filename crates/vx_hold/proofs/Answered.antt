@@ -1,12 +1,11 @@
 -- A command that ends at its device: each answer is a step of the world, and blames whom it should.
-use Rattle.std.proofs.Common.{◌≡◌, ◌∙◌, ℕ, ◌≤◌, false, List, [], ◌∷◌, Option, Some, None, IsSome, refl, sym, ap, subst, arith, inl, inr}
+use Rattle.std.proofs.Common.{◌≡◌, ◌∙◌, ℕ, ◌≤◌, false, [], Option, Some, None, IsSome, refl, sym, subst, arith, inl, inr}
 use Rattle.std.specs.Prelude.{IsTrue}
 use Rattle.std.specs.BTreeMap.{IsOrdered}
 use Rattle.std.specs.Cmp.Lexicographic.{slice_cmp}
 use Rattle.std.specs.Ordering.{nat_cmp}
 use Rattle.vx_base.specs.Counts.{Rose}
 use Rattle.vx_base.specs.Named.{Word}
-use Rattle.vx_base.proofs.CountLemmas.{rose_and_later}
 use Rattle.vx_piece.specs.Seen.{Seen, Keeps as PieceKeeps, IsRead}
 use Rattle.vx_shelf.specs.Shelf.{Held, ComesToShelf, IsNowhere, LeavesShelf, IsGiven}
 use Rattle.vx_world.specs.declared.answer.Answer.{Answer}

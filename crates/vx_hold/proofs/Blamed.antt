@@ -1,8 +1,7 @@
 -- What answers lay to devices and to the shelf.
-use Rattle.std.proofs.Common.{◌≡◌, ◌∙◌, ◌⊎◌, ℕ, ◌+◌, ◌≤◌, ◌||◌, Bool, true, false, cond, List, [], ◌∷◌, ◌++◌, Option, Some, None, refl, sym, ap, arith, subst, inl, inr}
+use Rattle.std.proofs.Common.{◌≡◌, ◌⊎◌, ℕ, ◌+◌, ◌≤◌, ◌||◌, Bool, true, false, cond, List, [], ◌∷◌, ◌++◌, Option, Some, refl, sym, ap, arith, subst, inl, inr}
 use Rattle.std.specs.Prelude.{IsTrue}
 use Rattle.std.specs.Str.{bytes_eq}
-use Rattle.std.proofs.lemmas.Bool.{cond-true}
 use Rattle.vx_base.specs.Counts.{Rose, RoseBy}
 use Rattle.vx_base.specs.Named.{Word}
 use Rattle.vx_base.proofs.CountLemmas.{none_rose, rose_then, rose_and_later, later_and_rose}
@@ -11,7 +10,7 @@ use Rattle.vx_piece.specs.Seen.{Seen, Keeps}
 use Rattle.vx_life.specs.declared.Part.{Part}
 use Rattle.vx_world.specs.declared.answer.Answer.{Answer}
 use Rattle.vx_world.specs.declared.answer.Answer.TheVariants.{Done, Shown, Refused, Fault, ShelfFailed, GroupLost, Lost}
-use Rattle.vx_world.specs.Answers.{all_faults_told, all_shelf_told, some_lost, faults_told, shelf_told, is_lost}
+use Rattle.vx_world.specs.Answers.{all_faults_told, all_shelf_told, some_lost, is_lost}
 use Rattle.vx_world.specs.Failures.{Failures}
 use Rattle.vx_hold.specs.Moves.{AreBlamed, HasBlame, HaveFailed, faults_in, cut_in}
 

@@ -1,5 +1,5 @@
 -- A system that gives all its devices back, and what it holds then.
-use Rattle.std.proofs.Common.{◌≡◌, ◌∙◌, ℕ, ◌+◌, ◌*◌, ◌^◌, ◌≤◌, List, [], ◌++◌, map, Option, Some, None, refl, sym, ap, subst}
+use Rattle.std.proofs.Common.{◌≡◌, ◌∙◌, ℕ, ◌+◌, ◌*◌, ◌^◌, ◌≤◌, [], ◌++◌, map, Option, Some, None, sym, ap, subst}
 use Rattle.std.specs.Prelude.{IfSome}
 use Rattle.std.specs.BTreeMap.{IsOrdered}
 use Rattle.std.specs.Cmp.Lexicographic.{slice_cmp}
@@ -11,7 +11,7 @@ use Rattle.vx_bare.specs.declared.started.Started.{Started}
 use Rattle.vx_world.specs.World.{World}
 use Rattle.vx_world.specs.Back.{IsCutOff}
 use Rattle.vx_hold.specs.Holders.{volume_holder, group_holders, holders, held_as, volume_at, AreHeld}
-use Rattle.vx_hold.specs.Kept.{IsVolumeKept, IsGroupKept, Keeps, HasRoom}
+use Rattle.vx_hold.specs.Kept.{IsGroupKept, Keeps, HasRoom}
 use Rattle.vx_hold.specs.Stand.{State, Stand, StandsFor, device_seen, seen_at}
 use Rattle.vx_hold.specs.Closing.{NoneHeld, AreBack}
 use Rattle.vx_hold.specs.declared.system.System.{System}

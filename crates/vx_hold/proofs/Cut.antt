@@ -1,5 +1,5 @@
 -- All devices are given back: what is left of the world that a system stood for.
-use Rattle.std.proofs.Common.{◌≡◌, ◌∙◌, ℕ, List, [], ◌∷◌, ◌++◌, map, Option, Some, None, IsSome, refl, sym, ap, subst, inl, inr}
+use Rattle.std.proofs.Common.{◌≡◌, ◌∙◌, ℕ, List, [], ◌∷◌, map, Option, Some, None, IsSome, refl, sym, ap, subst, inl, inr}
 use Rattle.std.specs.Prelude.{IfSome}
 use Rattle.std.specs.BTreeMap.{IsOrdered}
 use Rattle.std.specs.Cmp.Lexicographic.{slice_cmp}
@@ -15,11 +15,11 @@ use Rattle.vx_bare.specs.Stands.{IsAmongTold}
 use Rattle.vx_bare.specs.declared.started.Started.{Started}
 use Rattle.vx_world.specs.World.{World, Device, Volume, Member, Group, DeviceStands}
 use Rattle.vx_world.specs.Tests.{IsHeld, IsMemberDevice}
-use Rattle.vx_world.specs.Back.{IsGroupBack, IsOfferOf, IsBackOf, IsCutOff}
-use Rattle.vx_world.specs.Images.{device_told, device_of, world_of, IsTold, IsImage, IsDeviceOf}
+use Rattle.vx_world.specs.Back.{IsBackOf, IsCutOff}
+use Rattle.vx_world.specs.Images.{device_told, device_of, world_of, IsImage, IsDeviceOf}
 use Rattle.vx_hold.specs.Holders.{Holder, volume_at, volume_holder, disk_holders, group_holders, holders, held_as, AreApart}
 use Rattle.vx_hold.specs.Kept.{IsGroupKept, Keeps}
-use Rattle.vx_hold.specs.Stand.{IsVolumeOf, IsAtVolume, IsPublicOf, AreMembersOf, IsGroupOf, IsAtGroup, StandWith, seen_at}
+use Rattle.vx_hold.specs.Stand.{IsVolumeOf, IsAtVolume, IsPublicOf, AreMembersOf, IsAtGroup, StandWith, seen_at}
 use Rattle.vx_hold.specs.Closing.{AreBack}
 use Rattle.vx_hold.specs.declared.system.System.{System}
 use Rattle.vx_hold.specs.declared.system.Imported.{Imported}

@@ -1,40 +1,27 @@
 -- A device that is taken, read, and given back.
-use Rattle.std.proofs.Common.{◌≡◌, ◌∙◌, ◌⊎◌, ℕ, ◌≤◌, Bool, true, false, cond, List, [], ◌∷◌, ◌++◌, map, Option, Some, None, IsSome, refl, sym, ap, subst, arith, inl, inr}
-use Rattle.std.specs.Prelude.{IsTrue, IfSome}
+use Rattle.std.proofs.Common.{◌≡◌, ◌∙◌, ℕ, Bool, true, false, cond, List, [], ◌∷◌, map, Option, Some, None, IsSome, refl, sym, ap, subst, arith, inl, inr}
 use Rattle.std.specs.Str.{bytes_eq}
-use Rattle.std.specs.BTreeMap.{IsOrdered}
-use Rattle.std.specs.Cmp.Lexicographic.{slice_cmp}
-use Rattle.std.specs.Ordering.{nat_cmp}
 use Rattle.std.proofs.lemmas.Bool.{cond-true, cond-false}
-use Rattle.vx_base.specs.Counts.{Rose}
 use Rattle.vx_base.specs.Named.{Word, put, SameUnder}
 use Rattle.vx_base.proofs.NamedLemmas.{bytes_eq_self, bytes_eq_same}
 use Rattle.vx_piece.specs.Seen.{Seen, Keeps as PieceKeeps, IsRead}
-use Rattle.vx_shelf.specs.Shelf.{Held, IsTaken, IsOut, LeavesShelf, IsGiven, ComesToShelf, IsNowhere}
+use Rattle.vx_shelf.specs.Shelf.{Held, IsTaken, LeavesShelf, IsGiven, ComesToShelf}
 use Rattle.vx_shelf.specs.Shelf.{held_as as held_of}
 use Rattle.vx_copies.specs.Lists.{AllOf, AnyOf}
 use Rattle.vx_copies.specs.declared.disk.Disk.{Disk}
-use Rattle.vx_bare.specs.declared.started.Started.{Started}
-use Rattle.vx_world.specs.declared.answer.Answer.{Answer}
-use Rattle.vx_world.specs.declared.answer.Answer.TheVariants.{Refused, Fault, Lost}
-use Rattle.vx_world.specs.declared.answer.Refusal.TheVariants.{Held as HeldDevice, NoDisk}
-use Rattle.vx_world.specs.Failures.{Failures}
 use Rattle.vx_world.specs.World.{World, Device, Volume, Member, Group}
 use Rattle.vx_world.specs.Tests.{IsHeld, IsMemberDevice}
-use Rattle.vx_world.specs.Images.{IsImage, IsDeviceOf}
+use Rattle.vx_world.specs.Images.{IsDeviceOf}
 use Rattle.vx_hold.specs.Holders.{Holder, volume_at, volume_holder, disk_holders, group_holders, holders, held_as, IsTakenFrom}
 use Rattle.vx_hold.specs.Kept.{Keeps}
-use Rattle.vx_hold.specs.Stand.{State, Stand, StandsFor, StandWith, AreMembersOf, IsAtGroup, IsAtVolume, device_seen, seen_at}
-use Rattle.vx_hold.specs.Closing.{AreBack}
-use Rattle.vx_hold.specs.Moves.{Moves, Rests, HasBlame, HaveFailed, faults_in, cut_in}
-use Rattle.vx_hold.specs.Looks.{EndsAt, LeavesRead}
+use Rattle.vx_hold.specs.Stand.{StandWith, AreMembersOf, IsAtGroup, IsAtVolume, device_seen, seen_at}
+use Rattle.vx_hold.specs.Looks.{LeavesRead}
 use Rattle.vx_hold.specs.declared.system.System.{System}
 use Rattle.vx_hold.specs.declared.system.Imported.{Imported}
-use Rattle.vx_hold.proofs.Held.{none_of, apart_from}
 use Rattle.vx_hold.proofs.Listed.{all_front, all_back, all_unmapped, held_by_one, found_by_one}
 use Rattle.vx_hold.proofs.Cut.{at_world}
-use Rattle.vx_hold.proofs.Closed.{state, keeps_same, closes}
-use Rattle.vx_hold.proofs.Blamed.{AreLater, later_same, later_later, IsDeviceLater, later_each_device, silent, none_told, fault_own, fault_shelf, lost_cut, nobody, none_failed}
+use Rattle.vx_hold.proofs.Closed.{state}
+use Rattle.vx_hold.proofs.Blamed.{AreLater, IsDeviceLater, later_each_device}
 
 -- what the world holds is held
 member_out : {P : Type 0} (see : P → Seen) (held : Word → Option Held) (ns : List Word) (ds : List (Disk P)) (ms : List Member) (name : Word) → AreMembersOf see ns ds ms → AllOf (IsTakenFrom held) (disk_holders see ns ds) → AnyOf (λ m. m.device ≡ name) ms → IsSome (held name)

@@ -1,10 +1,7 @@
 -- The room that a system has for later commands.
-use Rattle.std.proofs.Common.{◌≡◌, ℕ, ◌+◌, ◌*◌, ◌^◌, ◌<◌, ◌≤◌, Option, Some, None, arith}
+use Rattle.std.proofs.Common.{ℕ, ◌+◌, ◌*◌, ◌^◌, ◌≤◌, Option, Some, None, arith}
 use Rattle.std.specs.Prelude.{IfSome}
-use Rattle.vx_base.specs.Named.{Word}
-use Rattle.vx_bare.specs.declared.started.Started.{Started}
 use Rattle.vx_hold.specs.Kept.{HasRoom}
-use Rattle.vx_hold.specs.Holders.{volume_at}
 use Rattle.vx_hold.specs.declared.system.System.{System}
 use Rattle.vx_hold.specs.declared.system.Imported.{Imported}
 

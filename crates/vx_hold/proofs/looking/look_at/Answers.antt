@@ -1,5 +1,4 @@
-use Rattle.std.proofs.Common.{◌≡◌, ◌+◌, ◌≤◌, [], Some, arith, rules}
-use Rattle.vx_world.specs.declared.answer.Answer.TheVariants.{Fault, Lost}
+use Rattle.std.proofs.Common.{arith, rules}
 use Rattle.vx_hold.proofs.Rooms.{room_next}
 use Rattle.vx_hold.proofs.Closed.{keeps_same, keeps_empty}
 use Rattle.vx_hold.proofs.Looked.{given_back}

@@ -73,16 +73,16 @@ module _ {P : Type 0} (see : P → Seen) (devices : Word → Option Seen) (s : S
   held_in_world ordered name seen is =
       held_by_one (λ h. IsHeld w h.name) (holders see s) name seen is
       (all_append (λ h. IsHeld w h.name) (map (volume_holder see) s.volumes.entries) (group_holders see s.group)
-          (entries_held s.volumes.entries (found_each s.volumes.entries ordered))
-          (group_held s.group w.group refl stand.group_is))
+      (entries_held s.volumes.entries (found_each s.volumes.entries ordered))
+      (group_held s.group w.group refl stand.group_is))
       (λ h same seen held. subst (IsHeld w) same held)
 
   here_held : (hs : List Holder) → AllOf (λ h. held_as hs h.name ≡ None → ⊥) hs
   here_held [] = tt
   here_held (h ∷ hs) = (
-      λ none. some_none h.seen (sym (cond-true _ _ _ (bytes_eq_self h.name)) ∙ none),
-      all_map (λ o. held_as hs o.name ≡ None → ⊥) (λ o. held_as (h ∷ hs) o.name ≡ None → ⊥) (λ o f none. by_test o (bytes_eq h.name o.name) f none) hs (here_held hs),
-    )
+    λ none. some_none h.seen (sym (cond-true _ _ _ (bytes_eq_self h.name)) ∙ none),
+    all_map (λ o. held_as hs o.name ≡ None → ⊥) (λ o. held_as (h ∷ hs) o.name ≡ None → ⊥) (λ o f none. by_test o (bytes_eq h.name o.name) f none) hs (here_held hs),
+  )
     where
       by_test : (o : Holder) (b : Bool) → (held_as hs o.name ≡ None → ⊥) → cond b (Some h.seen) (held_as hs o.name) ≡ None → ⊥
       by_test o true f none = some_none h.seen none
@@ -193,6 +193,7 @@ away_twice taken w (q ∷ ps) (d ∷ ds) p rest free is = inr (inr (free.0, (d, 
     or_true : (a b : Bool) → b ≡ true → (a || b) ≡ true
     or_true true b e = refl
     or_true false b e = e
+
     by_test : (b : Bool) → bytes_eq q.device p.device ≡ b → (b || is_among p.device (devices_of ps)) ≡ true → (is_among p.device (devices_of ps) ≡ true) ⊎ ((bytes_eq q.device p.device || is_among p.device taken) ≡ true)
     by_test true e a = inr (ap (λ x. x || is_among p.device taken) e)
     by_test false e a = inl a

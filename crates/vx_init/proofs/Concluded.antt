@@ -205,9 +205,18 @@ module _ {P : Type 0} (see : P → Seen) (dg : Word) (ps : List DiskAt) (t : Tak
     apart_here = apart_behind (holders see s) (taken_holders see t) are.apart
 
     too_long : (k : ℕ) → k ≡ length plan.text.items → 522240 < k → InitStep quiet dg ps w (answer.Refused (refusal.TooLong k)) w
-    too_long k size long = step_by quiet (answer.Refused (refusal.TooLong k)) w (inr (inr (k, (
-      plan.config, plan.text.items, is.records ∙ sym (records_is see dg ps t.devices.items t.disks.items (freed see w ps t old m stand.devices_are disks apart_here with).devices disks (freed see w ps t old m stand.devices_are disks apart_here with).images is.few), is.text, size, long
-    ), record { told = refl; same = refl })))
+    too_long k size long = step_by quiet (answer.Refused (refusal.TooLong k)) w (inr (inr (
+      k,
+      (
+        plan.config,
+        plan.text.items,
+        is.records ∙ sym (records_is see dg ps t.devices.items t.disks.items (freed see w ps t old m stand.devices_are disks apart_here with).devices disks (freed see w ps t old m stand.devices_are disks apart_here with).images is.few),
+        is.text,
+        size,
+        long,
+      ),
+      record { told = refl; same = refl },
+    )))
 
     pub unmade_moves : (f : GroupFault) → RefusedBy see f dg plan.text.items t.disks.items es → (x : Answer) → answer_of (stop_of f) ≡ Some x → UnlessLost (stop_of f) ((s' ≡ s) × (free ≡ Some a)) → WhereLost (stop_of f) (IsClosed (holders see s) s s' (Some a) free) → Moves see (λ g. InitStep g dg ps) x w (state (Some old) n s) (state free n'' s')
     unmade_moves fault.OutOfMemory refused x told stays closed = cc

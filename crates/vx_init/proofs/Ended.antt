@@ -140,9 +140,11 @@ ends_moves {P = P} see dg ps sp w w1 f st new n' n'' s s' free who a more stand 
     same : (sp : Stop) → Stopping dg ps sp w w1 f (device_seen see st) (device_seen see (state (Some new) n'' s)) st.faults n'' → answer_of sp ≡ Some a → (sp ≡ stop.Lost → ⊥) → (s' ≡ s) × (free ≡ Some new) → Moves see (λ x. InitStep x dg ps) a w st (state free n'' s')
     same sp is told going both =
         subst (λ x. Moves see (λ y. InitStep y dg ps) a w st (state x n'' s')) (sym both.1) (subst (λ x. Moves see (λ y. InitStep y dg ps) a w st (state (Some new) n'' x)) (sym both.0) (here see dg ps w w1 f st new st.faults n' n'' s refl more stand sp is a told going))
+
     cut : (free : Option (Word → Option Seen)) → Stopping dg ps stop.Lost w w1 f (device_seen see st) (device_seen see (state (Some new) n'' s)) st.faults n'' → answer_of stop.Lost ≡ Some a → IsClosed (holders see s) s s' (Some new) free → Moves see (λ x. InitStep x dg ps) a w st (state free n'' s')
     cut None is told closed = absurd closed.back
     cut (Some last) is told closed = subst (λ x. Moves see (λ y. InitStep y dg ps) x w st (state (Some last) n'' s')) (some_is a (answer.Lost []) (sym told)) (closed_moves see dg ps w w1 f st new st.faults n' n'' s refl more stand who keeps s' last closed.ordered closed.volumes closed.group closed.back is)
+
     by : (sp : Stop) → Stopping dg ps sp w w1 f (device_seen see st) (device_seen see (state (Some new) n'' s)) st.faults n'' → answer_of sp ≡ Some a → UnlessLost sp ((s' ≡ s) × (free ≡ Some new)) → WhereLost sp (IsClosed (holders see s) s s' (Some new) free) → Moves see (λ x. InitStep x dg ps) a w st (state free n'' s')
     by stop.OutOfMemory is told stays closed = cc
     by (stop.Refused r) is told stays closed = same (stop.Refused r) is told (λ e. cc) stays

@@ -143,7 +143,7 @@ module _ {P : Type 0} (see : P → Seen) (dg : Word) (ps : List DiskAt) (t : Tak
       let one = claim.1 in
       subst (λ x. InitStep f dg ps w (answer.Refused x) w) (sym claim.0)
       (step_claimed f dg ps freed_here.devices w (answer.Refused (refusal.Exists dg)) w freed_here.free t.headed (limit_of dg t.disks.items) headed_so limit_so (tests None none)
-          (claimed see dg ps t old m w disks with stand.devices_are one.0 one.1 one.2 one.3) (record { told = refl; same = refl }))
+      (claimed see dg ps t old m w disks with stand.devices_are one.0 one.1 one.2 one.3) (record { told = refl; same = refl }))
   judged_leads f (stop.Fault name) (inr (none, inl claim)) = leads_by f dg ps w (stop.Fault name) (λ r e. cc) (λ e. cc)
   judged_leads f stop.ShelfFailed (inr (none, inl claim)) = leads_by f dg ps w stop.ShelfFailed (λ r e. cc) (λ e. cc)
   judged_leads f stop.GroupLost (inr (none, inl claim)) = absurd claim

@@ -78,6 +78,7 @@ module _ (hs : List Holder) (name : Word) (before seen : Seen) (old mid new : Wo
       still : (o : Option Seen) → new other ≡ mid other → IsOnlyRead (old other) (seen_at o (Some mid) other) → IsOnlyRead (old other) (seen_at o (Some new) other)
       still None same is = subst (IsOnlyRead (old other)) (sym same) is
       still (Some s) same is = is
+
       by_test : (b : Bool) → bytes_eq name other ≡ b → IsOnlyRead (old other) (seen_at (cond b (Some seen) (held_as hs other)) (Some new) other)
       by_test true e = subst (λ n. IsOnlyRead (old n) (Some seen)) (bytes_eq_same name other e) (read_trans (old name) (Some before) (Some seen) was_read (kept, read))
       by_test false e = still (held_as hs other) (left other ∙ cond-false _ _ _ e) (with.read other)
@@ -157,6 +158,7 @@ none_gathered see t free ns ds none = record {
     read_same : (o : Option Seen) → IsOnlyRead o o
     read_same None = tt
     read_same (Some s) = (record { device = refl; start = refl; sectors = refl; stop = refl; faults = omega arith; cut = λ c. c }, record { told = refl; writes = refl })
+
     by : (free : Option (Word → Option Seen)) → SeenWith [] free free
     by None = tt
     by (Some devices) = record { read = λ name. read_same (devices name); gone = tt }

@@ -116,4 +116,3 @@ IsShown s name seen now = ⊥
 -- it is back as it is now, only read, and a count or the lost power shows why
 abbrev pub ComesRead : Stop → Word → Seen → Option (Word → Option Seen) → Option (Word → Option Seen) → Type 0
 ComesRead s name seen old new = (now : Seen) × Keeps seen now × IsRead seen now × ComesToShelf name now old new × IsShown s name seen now
-

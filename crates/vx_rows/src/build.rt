@@ -62,7 +62,12 @@ fn bad_of(image: &Image, faulty: Faulty<'_>) -> Option<Bad> {
             Some(whole(image.sectors, moving.on_read, call, moving.times))
         }
         Faulty::After(order, writes) => {
-            Some(whole(image.sectors, false, writes_to(image, order, writes), u64::MAX))
+            Some(whole(
+                image.sectors,
+                false,
+                writes_to(image, order, writes),
+                u64::MAX,
+            ))
         }
     }
 }

@@ -56,9 +56,7 @@ impl fmt::Display for Difference {
             Difference::Content { image, sector } => {
                 write!(f, "sector {sector} of {image} holds something else")
             }
-            Difference::Byte { image, place } => {
-                write!(f, "byte {place} of {image} is another")
-            }
+            Difference::Byte { image, place } => { write!(f, "byte {place} of {image} is another") }
         }
     }
 }

@@ -136,7 +136,10 @@ fn part(
 ) -> Result<Vec<(Name, MemPiece)>, AllocError> {
     let mut here = Vec::new(alloc);
     for device in devices {
-        if without.iter().any(|name| name.as_bytes() == device.0.as_bytes()) {
+        if without
+            .iter()
+            .any(|name| name.as_bytes() == device.0.as_bytes())
+        {
             away.push(device)?;
         } else {
             here.push(device)?;

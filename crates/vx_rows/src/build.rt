@@ -7,26 +7,17 @@ use vx_piece::{Bad, MemPiece, Piece};
 /// The most sectors of an image.
 const MOST: u64 = 65_536;
 
-/// What fails beside the bad sectors of the images.
-#[derive(Clone, Copy)]
-pub enum Faulty<'a> {
-    Nothing,
-    /// Calls of one kind on an image, from this call on.
-    From(Moving, u64),
-    /// Each image for good, after the writes to it that are among the first of this order.
-    After(&'a [Name], u64),
-}
-
-/// The images as devices, in their order, with what fails beside. An image of no sectors, or of too many, is left out.
+/// The images as devices, in their order, each with a further run of bad sectors. An image of no sectors, or of too
+/// many, is left out.
 pub fn devices(
     alloc: Global,
     images: &[Image],
-    faulty: Faulty<'_>,
+    further: &[Bad],
 ) -> Result<Vec<(Name, MemPiece)>, AllocError> {
     let mut devices = Vec::new(alloc);
     let mut number = 0u32;
-    for image in images {
-        if let Some(piece) = device(alloc, number, image, faulty)? {
+    for (image, bad) in images.iter().zip(further) {
+        if let Some(piece) = device(alloc, number, image, *bad)? {
             devices.push((image.name, piece))?;
         }
         number = number.saturating_add(1);
@@ -38,38 +29,55 @@ fn device(
     alloc: Global,
     number: u32,
     image: &Image,
-    faulty: Faulty<'_>,
+    bad: Bad,
 ) -> Result<Option<MemPiece>, AllocError> {
     if MOST < image.sectors {
         return Ok(None);
     }
     let bytes = vec![in alloc; 0u8; 512 * image.sectors as usize]?;
     let mut bads: Vec<Bad> = Vec::from_slice(alloc, image.bads.as_slice())?;
-    if let Some(bad) = bad_of(image, faulty) {
-        bads.push(bad)?;
-    }
+    bads.push(bad)?;
     Ok(MemPiece::new(number, bytes, bads))
 }
 
-/// The whole image, where it fails.
-fn bad_of(image: &Image, faulty: Faulty<'_>) -> Option<Bad> {
-    match faulty {
-        Faulty::Nothing => None,
-        Faulty::From(moving, call) => {
-            if moving.image.as_bytes() != image.name.as_bytes() {
-                return None;
-            }
-            Some(whole(image.sectors, moving.on_read, call, moving.times))
-        }
-        Faulty::After(order, writes) => {
-            Some(whole(
-                image.sectors,
-                false,
-                writes_to(image, order, writes),
-                u64::MAX,
-            ))
-        }
+/// For each image a run of bad sectors that never fails.
+pub fn no_bads(alloc: Global, images: &[Image]) -> Result<Vec<Bad>, AllocError> {
+    let mut bads = Vec::new(alloc);
+    for image in images {
+        bads.push(whole(image.sectors, false, 0, 0))?;
     }
+    Ok(bads)
+}
+
+/// The image that a fault moves on fails from a call on.
+pub fn bads_from(
+    alloc: Global,
+    images: &[Image],
+    moving: &Moving,
+    call: u64,
+) -> Result<Vec<Bad>, AllocError> {
+    let mut bads = Vec::new(alloc);
+    for image in images {
+        let same = moving.image.as_bytes() == image.name.as_bytes();
+        let times = if same { moving.times } else { 0 };
+        bads.push(whole(image.sectors, moving.on_read, call, times))?;
+    }
+    Ok(bads)
+}
+
+/// Each image fails for good after the writes to it that are among the first of an order.
+pub fn bads_after(
+    alloc: Global,
+    images: &[Image],
+    order: &[Name],
+    writes: u64,
+) -> Result<Vec<Bad>, AllocError> {
+    let mut bads = Vec::new(alloc);
+    for image in images {
+        let skip = writes_to(image, order, writes);
+        bads.push(whole(image.sectors, false, skip, u64::MAX))?;
+    }
+    Ok(bads)
 }
 
 /// How many of the first writes of an order go to the image.

@@ -3,14 +3,14 @@ ghost use Rattle.std.specs.Prelude.{◌≡◌, None};
 ghost use Rattle.vx_base.specs.Named.{Word};
 ghost use Rattle.vx_shelf.specs.OnShelf.{held_on};
 
-use crate::build::{Faulty, devices, healed};
+use crate::build::{bads_after, bads_from, devices, healed, no_bads};
 use crate::compare::compare;
 use crate::difference::Difference;
-use crate::row::{Byte, Content, Row, Run};
+use crate::row::{Byte, Content, Moving, Row, Run};
 use std::alloc::{AllocError, Global};
 use vx_flow::{MemSink, MemSource};
 use vx_names::Name;
-use vx_piece::{MemPiece, Piece};
+use vx_piece::{Bad, MemPiece, Piece};
 use vx_run::run;
 use vx_shelf::{MemShelf, Shelf};
 
@@ -26,11 +26,18 @@ pub fn try_row(alloc: Global, row: &Row) -> Result<Option<Difference>, AllocErro
     if let Some((first, last)) = row.cuts {
         return try_cuts(alloc, row, first, last);
     }
-    let Some(moving) = row.moving else {
-        return Ok(try_runs(alloc, row, Faulty::Nothing)?.err());
-    };
+    if let Some(moving) = row.moving {
+        return try_calls(alloc, row, &moving);
+    }
+    let bads = no_bads(alloc, row.images.as_slice())?;
+    Ok(try_runs(alloc, row, bads.as_slice())?.err())
+}
+
+/// Tries the row with the fault at each call, until it does not fire any more.
+fn try_calls(alloc: Global, row: &Row, moving: &Moving) -> Result<Option<Difference>, AllocError> {
     for call in 0..CALLS {
-        match try_runs(alloc, row, Faulty::From(moving, call))? {
+        let bads = bads_from(alloc, row.images.as_slice(), moving, call)?;
+        match try_runs(alloc, row, bads.as_slice())? {
             Err(difference) => return Ok(Some(difference)),
             Ok(false) => return Ok(None),
             Ok(true) => {}
@@ -48,7 +55,8 @@ fn try_cuts(
 ) -> Result<Option<Difference>, AllocError> {
     let order = row.order.as_slice();
     for writes in first..last.saturating_add(1) {
-        match try_runs(alloc, row, Faulty::After(order, writes))? {
+        let bads = bads_after(alloc, row.images.as_slice(), order, writes)?;
+        match try_runs(alloc, row, bads.as_slice())? {
             Err(difference) => return Ok(Some(difference)),
             Ok(fired) => {
                 if fired != (writes < order.len() as u64) {
@@ -64,9 +72,9 @@ fn try_cuts(
 fn try_runs(
     alloc: Global,
     row: &Row,
-    faulty: Faulty<'_>,
+    further: &[Bad],
 ) -> Result<Result<bool, Difference>, AllocError> {
-    let mut devices = devices(alloc, row.images.as_slice(), faulty)?;
+    let mut devices = devices(alloc, row.images.as_slice(), further)?;
     if devices.len() != row.images.len() {
         return Ok(Err(Difference::Images));
     }

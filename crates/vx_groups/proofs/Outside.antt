@@ -62,15 +62,17 @@ module _ {P : Type 0} (see : P → Seen) (s : System P) (h : Holder) where
 
   pub out_stands : (old new : Word → Option Seen) (w : World) → LeavesRead h.name h.seen (Some old) (Some new) → StandWith see old s w → (dev : Device) × StandsOut see new h s w dev
   out_stands old new w leaves stands =
-      let of = of_some leaves.0 (w.devices h.name) (subst (λ o. IsDeviceOf o (w.devices h.name)) leaves.1 (stands.devices_are h.name)) in
-      (of.0, record {
-        here = of.1;
-        image = record { sectors = of.2.sectors ∙ sym leaves.2.sectors; contents = leaves.3.told ∙ of.2.contents };
-        gone = leaves.4 h.name ∙ cond-true _ _ _ (bytes_eq_self h.name);
-        others = λ name apart. subst (λ o. IsDeviceOf o (w.devices name)) (sym (leaves.4 name ∙ cond-false _ _ _ apart)) (stands.devices_are name);
-        volumes_are = stands.volumes_are;
-        group_is = stands.group_is;
-      })
+      let of = of_some leaves.0 (w.devices h.name) (subst (λ o. IsDeviceOf o (w.devices h.name)) leaves.1 (stands.devices_are h.name)) in (
+        of.0,
+        record {
+          here = of.1;
+          image = record { sectors = of.2.sectors ∙ sym leaves.2.sectors; contents = leaves.3.told ∙ of.2.contents };
+          gone = leaves.4 h.name ∙ cond-true _ _ _ (bytes_eq_self h.name);
+          others = λ name apart. subst (λ o. IsDeviceOf o (w.devices name)) (sym (leaves.4 name ∙ cond-false _ _ _ apart)) (stands.devices_are name);
+          volumes_are = stands.volumes_are;
+          group_is = stands.group_is;
+        },
+      )
 
   pub read_stands : (old new : Word → Option Seen) (w : World) (dev : Device) → AreOnlyRead (Some old) (Some new) → StandsOut see old h s w dev → StandsOut see new h s w dev
   read_stands old new w dev read stands = record {
@@ -84,8 +86,8 @@ module _ {P : Type 0} (see : P → Seen) (s : System P) (h : Holder) where
 
   back_device : (old new : Word → Option Seen) (w : World) (dev : Device) → ComesToShelf h.name h.seen (Some old) (Some new) → StandsOut see old h s w dev → (name : Word) → IsDeviceOf (new name) (w.devices name)
   back_device old new w dev comes stands name = elim (name_cases h.name name) [
-      inl same ↦ subst (λ o. IsDeviceOf o (w.devices name)) (sym (comes name ∙ cond-true _ _ _ (subst (λ n. bytes_eq h.name n ≡ true) same (bytes_eq_self h.name))))
-          (subst (IsDeviceOf (Some h.seen)) (sym stands.here ∙ ap w.devices same) stands.image)
+    | inl same ↦ subst (λ o. IsDeviceOf o (w.devices name)) (sym (comes name ∙ cond-true _ _ _ (subst (λ n. bytes_eq h.name n ≡ true) same (bytes_eq_self h.name))))
+        (subst (IsDeviceOf (Some h.seen)) (sym stands.here ∙ ap w.devices same) stands.image)
     | inr apart ↦ subst (λ o. IsDeviceOf o (w.devices name)) (sym (comes name ∙ cond-false _ _ _ apart)) (stands.others name apart)
   ]
 
@@ -99,10 +101,12 @@ module _ {P : Type 0} (see : P → Seen) (s : System P) (h : Holder) where
   taken_seen : (old new : Word → Option Seen) (held held' : Word → Option Held) → LeavesRead h.name h.seen (Some old) (Some new) → Keeps see held s → IsTaken h.name h.seen held held' → (name : Word)
       → (seen_out see new h s name ≡ seen_at (held_as (holders see s) name) (Some old) name) ⊎ ((before : Seen) × (seen_at (held_as (holders see s) name) (Some old) name ≡ Some before) × (seen_out see new h s name ≡ Some h.seen) × PieceKeeps before h.seen)
   taken_seen old new held held' leaves keeps taken name = elim (name_cases h.name name) [
-      inl same ↦ inr (leaves.0,
-          subst (λ n. seen_at (held_as (holders see s) n) (Some old) n ≡ Some leaves.0) same (seen_of old held keeps taken.before ∙ leaves.1),
-          subst (λ n. seen_out see new h s n ≡ Some h.seen) same (ap (λ b. seen_at (cond b (Some h.seen) (held_as (holders see s) h.name)) (Some new) h.name) (bytes_eq_self h.name)),
-          leaves.2)
+    | inl same ↦ inr (
+      leaves.0,
+      subst (λ n. seen_at (held_as (holders see s) n) (Some old) n ≡ Some leaves.0) same (seen_of old held keeps taken.before ∙ leaves.1),
+      subst (λ n. seen_out see new h s n ≡ Some h.seen) same (ap (λ b. seen_at (cond b (Some h.seen) (held_as (holders see s) h.name)) (Some new) h.name) (bytes_eq_self h.name)),
+      leaves.2,
+    )
     | inr apart ↦ inl (ap (λ b. seen_at (cond b (Some h.seen) (held_as (holders see s) name)) (Some new) name) apart ∙ other name (held_as (holders see s) name) (leaves.4 name ∙ cond-false _ _ _ apart))
   ]
     where
@@ -129,10 +133,10 @@ module _ {P : Type 0} (see : P → Seen) (s : System P) (h : Holder) where
   -- the device is seen as it was, once it is back
   pub back_same : (old new : Word → Option Seen) (held held' : Word → Option Held) → ComesToShelf h.name h.seen (Some old) (Some new) → IsGiven h.name held held' → KeepsOut see held h s → (name : Word) → seen_at (held_as (holders see s) name) (Some new) name ≡ seen_out see old h s name
   back_same old new held held' comes given keeps name = elim (name_cases h.name name) [
-      inl same ↦ subst (λ n. seen_at (held_as (holders see s) n) (Some new) n ≡ seen_out see old h s n) same
-          (ap (λ o. seen_at o (Some new) h.name) (not_held_by held' (holders see s) h.name (back_keeps held held' given keeps).devices.each (given h.name ∙ cond-true _ _ _ (bytes_eq_self h.name)))
-          ∙ (comes h.name ∙ cond-true _ _ _ (bytes_eq_self h.name))
-          ∙ sym (ap (λ b. seen_at (cond b (Some h.seen) (held_as (holders see s) h.name)) (Some old) h.name) (bytes_eq_self h.name)))
+    | inl same ↦ subst (λ n. seen_at (held_as (holders see s) n) (Some new) n ≡ seen_out see old h s n) same
+        (ap (λ o. seen_at o (Some new) h.name) (not_held_by held' (holders see s) h.name (back_keeps held held' given keeps).devices.each (given h.name ∙ cond-true _ _ _ (bytes_eq_self h.name)))
+        ∙ (comes h.name ∙ cond-true _ _ _ (bytes_eq_self h.name))
+        ∙ sym (ap (λ b. seen_at (cond b (Some h.seen) (held_as (holders see s) h.name)) (Some old) h.name) (bytes_eq_self h.name)))
     | inr apart ↦ other name (held_as (holders see s) name) (comes name ∙ cond-false _ _ _ apart) ∙ sym (ap (λ b. seen_at (cond b (Some h.seen) (held_as (holders see s) name)) (Some old) name) apart)
   ]
     where

@@ -116,6 +116,6 @@ module _ {P : Type 0} (see : P → Seen) (s : System P) (seen : Seen) (dg : Word
       refused_step (Some i) None is at r answer told by = absurd at
       refused_step (Some i) (Some g) is at r answer told by =
           elim (subst (λ c. IsStopped dg pair headed seen.sectors c look (stop.Refused r)) (sym at.config_is) by) [
-              inl early ↦ let same : early.0 ≡ r = cc early.1 in early_step g is r answer told (subst (λ x. EarlyIn dg pair headed seen.sectors g.config (Err x)) same early.2)
+            | inl early ↦ let same : early.0 ≡ r = cc early.1 in early_step g is r answer told (subst (λ x. EarlyIn dg pair headed seen.sectors g.config (Err x)) same early.2)
             | inr late ↦ late_step g is r answer late.0 told late.1 late.2
           ]

@@ -1,14 +1,10 @@
 -- The answer of the command, from what its parts leave.
-use Rattle.std.proofs.Common.{◌≡◌, ◌∙◌, ◌⊎◌, ℕ, ◌+◌, ◌*◌, ◌^◌, ◌≤◌, List, [], ◌∷◌, ◌++◌, Bool, true, false, Option, Some, None, Result, Ok, Err, refl, sym, ap, subst, inl, inr, arith}
+use Rattle.std.proofs.Common.{◌≡◌, ◌⊎◌, ℕ, ◌+◌, ◌*◌, ◌^◌, ◌≤◌, List, [], ◌∷◌, ◌++◌, false, Option, Some, None, Result, Ok, Err, refl, sym, subst, inl, inr, arith}
 use Rattle.std.specs.Prelude.{IfSome, IfOk, OnErr}
-use Rattle.std.specs.BTreeMap.{IsOrdered}
-use Rattle.std.specs.Cmp.Lexicographic.{slice_cmp}
-use Rattle.std.specs.Ordering.{nat_cmp}
 use Rattle.vx_base.specs.Named.{Word}
 use Rattle.vx_piece.specs.Seen.{Seen}
 use Rattle.vx_shelf.specs.Shelf.{Held}
 use Rattle.vx_bare.specs.declared.started.Started.{Started}
-use Rattle.vx_copies.specs.declared.disk.Disk.{Disk}
 use Rattle.vx_copies.specs.Lists.{AllOf}
 use Rattle.vx_copies.specs.Image.{names_group}
 use Rattle.vx_header.specs.Named.{header_of}
@@ -21,7 +17,7 @@ use Rattle.vx_world.specs.Groups.{InitStep}
 use Rattle.vx_hold.specs.Holders.{Holder, holders, held_as, disk_holders, volume_at, AreHeld}
 use Rattle.vx_hold.specs.Kept.{Keeps, HasRoom}
 use Rattle.vx_hold.specs.Closing.{AreBack}
-use Rattle.vx_hold.specs.Stand.{State, StandWith, Stand, seen_at}
+use Rattle.vx_hold.specs.Stand.{State, Stand, seen_at}
 use Rattle.vx_hold.specs.Moves.{Moves, Rests}
 use Rattle.vx_hold.specs.declared.system.System.{System}
 use Rattle.vx_hold.proofs.Rooms.{more_room}
@@ -30,17 +26,16 @@ use Rattle.vx_init.specs.declared.stop.Stop.{Stop}
 use Rattle.vx_init.specs.declared.stop.Stop.TheVariants as stop
 use Rattle.vx_init.specs.declared.taking.Taken.{Taken}
 use Rattle.vx_init.specs.declared.planning.Plan.{Plan}
-use Rattle.vx_init.specs.Ends.{answer_of, Answers, UnlessLost, WhereLost, IsClosed}
+use Rattle.vx_init.specs.Ends.{Answers, UnlessLost, WhereLost, IsClosed}
 use Rattle.vx_init.specs.Stops.{HasCause}
-use Rattle.vx_init.specs.Gathered.{IsSeenWith, SeenWith, IsGathered, taken_holders, view_of, IsAwayStop}
-use Rattle.vx_init.specs.Judged.{NoneNames}
+use Rattle.vx_init.specs.Gathered.{IsSeenWith, IsGathered, taken_holders}
 use Rattle.vx_init.specs.Made.{stop_of, IsMadeOf, IsUnmadeOf, IsJudgedStop, IsPassed, IsStopped, IsTried}
 use Rattle.vx_init.proofs.Views.{read_trans, gone_still, all_back_read, all_back_cause}
 use Rattle.vx_init.proofs.Gathering.{apart_behind}
 use Rattle.vx_init.proofs.Away.{held_before}
 use Rattle.vx_init.proofs.Ready.{IsReady, ready}
 use Rattle.vx_init.proofs.Ended.{state, Leads}
-use Rattle.vx_init.proofs.Finished.{quiet, read_moves, read_rests, away_leads, judged_leads}
+use Rattle.vx_init.proofs.Finished.{quiet, read_moves, read_rests, judged_leads}
 use Rattle.vx_init.proofs.Concluded.{made_moves, unmade_moves, unmade_rests}
 
 -- what an answer, or want of memory, has to say
@@ -73,6 +68,7 @@ seen_on hs old first m with read = record { read = λ name. by name (held_as hs 
     by : (name : Word) (o : Option Seen) → held_as hs name ≡ o → IsOnlyRead (old name) (seen_at (held_as hs name) (Some first) name) → IsOnlyRead (old name) (seen_at (held_as hs name) (Some m) name)
     by name None e is = subst (λ q. IsOnlyRead (old name) (seen_at q (Some m) name)) (sym e) (read_trans (old name) (first name) (m name) (subst (λ q. IsOnlyRead (old name) (seen_at q (Some first) name)) e is) (read name))
     by name (Some x) e is = subst (λ q. IsOnlyRead (old name) (seen_at q (Some m) name)) (sym e) (subst (λ q. IsOnlyRead (old name) (seen_at q (Some first) name)) e is)
+
     gone : (os : List Holder) → AllOf (λ h. first h.name ≡ None) os → AllOf (λ h. m h.name ≡ None) os
     gone [] all = tt
     gone (o ∷ os) all = (gone_still (first o.name) (m o.name) (read o.name) all.0, gone os all.1)
@@ -108,16 +104,19 @@ module _ {P E : Type 0} (see : P → Seen) (dg : Word) (ps : List DiskAt) (t : T
       let passed_m : IsPassed dg t s.group (Some m) plan = record { passed = passed.passed; none = none_on dg first m read passed.none; planned = passed.planned } in
       subst (λ x. Says see dg ps x (state (Some old) n s) (state f2 n'' s')) (sym made.told)
       (λ w stand. subst (λ f. Moves see (λ g. InitStep g dg ps) (answer.Done [] []) w (state (Some old) n s) (state f n'' s')) (sym made.free_is)
-        (subst (λ y. Moves see (λ g. InitStep g dg ps) (answer.Done [] []) w (state (Some old) n s) (state (Some m) n'' y)) (sym made.system_is)
-          (made_moves see dg ps t s old m n n'' (omega (arith, more, most)) w stand who out keeps are gathered.disks_are gathered.headed_is with plan passed_m is made.base made.founded)))
+      (subst (λ y. Moves see (λ g. InitStep g dg ps) (answer.Done [] []) w (state (Some old) n s) (state (Some m) n'' y)) (sym made.system_is)
+      (made_moves see dg ps t s old m n n'' (omega (arith, more, most)) w stand who out keeps are gathered.disks_are gathered.headed_is with plan passed_m is made.base made.founded)))
   tried_by old first m f2 gathered read plan passed (inr unmade) = by unmade.after unmade.back unmade.stays unmade.closed r unmade.answers
     where
       with : IsSeenWith (taken_holders see t) old m
       with = seen_on (taken_holders see t) old first m gathered.seen_with read
+
       is : IsReady see dg t s.group plan
       is = ready see dg t s.group (Some first) plan ps gathered.disks_are gathered.headed_is passed
+
       passed_m : IsPassed dg t s.group (Some m) plan
       passed_m = record { passed = passed.passed; none = none_on dg first m read passed.none; planned = passed.planned }
+
       by : (after : Option (Word → Option Seen)) → AreBack (disk_holders see t.devices.items unmade.disks) (Some m) after → UnlessLost (stop_of unmade.fault) ((s' ≡ s) × (f2 ≡ after)) → WhereLost (stop_of unmade.fault) (IsClosed (holders see s) s s' after f2) → (x : Result Answer E) → Answers (stop_of unmade.fault) x → Says see dg ps x (state (Some old) n s) (state f2 n'' s')
       by None back stays closed x answers = absurd back
       by (Some a) back stays closed (Ok x) answers = λ w stand. unmade_moves see dg ps t s old m n n'' (omega (arith, more, most)) w stand who out keeps are gathered.disks_are gathered.headed_is with plan passed_m is s' n'' (omega arith) f2 a unmade.disks back unmade.fault unmade.refused x answers stays closed
@@ -142,8 +141,10 @@ room_end {P = P} hs s s' f1 f2 X sp stays closed n room = by sp stays closed
   where
     same : s' ≡ s → HasRoom (n + 1) s'
     same e = subst (λ x. HasRoom (n + 1) x) (sym e) (more_room n (n + 1) (omega arith) s room)
+
     none : (name : Word) (b : Started P) → s'.volumes.entries ≡ [] → volume_at s' name ≡ Some b → ⊥
     none name b e is = let z : found_in {X = Started P} [] name ≡ Some b = subst (λ es. found_in es name ≡ Some b) e is in cc
+
     by : (sp : Stop) → UnlessLost sp ((s' ≡ s) × X) → WhereLost sp (IsClosed hs s s' f1 f2) → HasRoom (n + 1) s'
     by stop.OutOfMemory stays closed = same stays.0
     by (stop.Refused r) stays closed = same stays.0

@@ -1,40 +1,38 @@
 -- The first device that is away, told to the world.
-use Rattle.std.proofs.Common.{◌≡◌, ◌∙◌, ◌⊎◌, ℕ, zero, suc, ◌+◌, ◌<◌, ◌≤◌, ◌||◌, Bool, true, false, cond, List, [], ◌∷◌, ◌++◌, map, length, take, drop, get_or, Option, Some, None, refl, sym, ap, subst, inl, inr, arith, append_assoc}
-use Rattle.std.proofs.lemmas.Bool.{cond-true, cond-false}
+use Rattle.std.proofs.Common.{◌≡◌, ◌∙◌, ◌⊎◌, ℕ, ◌+◌, ◌<◌, ◌||◌, Bool, true, false, cond, List, [], ◌∷◌, ◌++◌, map, length, take, drop, get_or, Option, Some, None, refl, sym, ap, subst, inl, inr, append_assoc}
+use Rattle.std.proofs.lemmas.Bool.{cond-true}
 use Rattle.std.proofs.lemmas.List.{take_more, take-append-drop}
-use Rattle.std.specs.Prelude.{IsTrue, IsSome, IfSome, is_some}
+use Rattle.std.specs.Prelude.{IsSome, is_some}
 use Rattle.std.specs.BTreeMap.{IsOrdered}
 use Rattle.std.specs.Cmp.Lexicographic.{slice_cmp}
 use Rattle.std.specs.Ordering.{nat_cmp}
 use Rattle.std.specs.Str.{bytes_eq}
-use Rattle.vx_base.specs.Named.{Word, put, SameUnder}
-use Rattle.vx_base.proofs.NamedLemmas.{bytes_eq_self, bytes_eq_same}
-use Rattle.vx_piece.specs.Seen.{Seen, Keeps, IsRead}
+use Rattle.vx_base.specs.Named.{Word}
+use Rattle.vx_base.proofs.NamedLemmas.{bytes_eq_self}
+use Rattle.vx_piece.specs.Seen.{Seen}
 use Rattle.vx_bare.specs.declared.started.Started.{Started}
 use Rattle.vx_copies.specs.Lists.{AllOf, AnyOf}
 use Rattle.vx_copies.specs.declared.disk.Disk.{Disk}
 use Rattle.vx_shelf.specs.Shelf.{Held}
 use Rattle.vx_script_words.specs.declared.value.DiskAt.{DiskAt}
-use Rattle.vx_devices.specs.Claims.{IsOnlyRead, AreOnlyRead}
+use Rattle.vx_devices.specs.Claims.{IsOnlyRead}
 use Rattle.vx_world.specs.World.{World, Device, Volume, Member, Group}
 use Rattle.vx_world.specs.declared.answer.Refusal.{Refusal}
 use Rattle.vx_world.specs.declared.answer.Refusal.TheVariants as refusal
 use Rattle.vx_world.specs.Images.{IsDeviceOf, IsImage}
-use Rattle.vx_world.specs.Tests.{IsFree, IsAway, IsHeld, IsMemberDevice}
+use Rattle.vx_world.specs.Tests.{IsAway, IsHeld, IsMemberDevice}
 use Rattle.vx_world.specs.Joining.{is_among, AreFree, FirstAway}
 use Rattle.vx_world.specs.Groups.{devices_of}
 use Rattle.vx_hold.specs.Holders.{Holder, holders, held_as, disk_holders, group_holders, volume_holder, volume_at, AreApart, IsTakenFrom, AreHeld}
 use Rattle.vx_hold.specs.Stand.{seen_at, Stand, StandWith, IsAtVolume, IsAtGroup, AreMembersOf}
 use Rattle.vx_hold.specs.declared.system.System.{System}
 use Rattle.vx_hold.specs.declared.system.Imported.{Imported}
-use Rattle.vx_hold.proofs.Held.{not_both, apart_turned, IsApart}
 use Rattle.vx_shelf.specs.Shelf.{held_as as held_of}
-use Rattle.vx_hold.proofs.Returned.{holder}
 use Rattle.vx_hold.proofs.Listed.{all_append, all_front, all_unmapped, held_each, held_by_one, found_in, found_each, found_by_one}
 use Rattle.vx_init.specs.declared.stop.Stop.{Stop}
 use Rattle.vx_init.specs.declared.stop.Stop.TheVariants as stop
 use Rattle.vx_init.specs.declared.taking.Taken.{Taken}
-use Rattle.vx_init.specs.Gathered.{IsHeader, IsDiskAt, AreDisksAt, view_of, IsSeenWith, SeenWith, taken_holders, IsGathered, IsAwayStop, IsAwayAt}
+use Rattle.vx_init.specs.Gathered.{AreDisksAt, view_of, IsSeenWith, taken_holders, IsGathered, IsAwayStop, IsAwayAt}
 use Rattle.vx_init.proofs.Views.{gone_before}
 use Rattle.vx_init.proofs.Gathering.{all_behind, apart_behind}
 
@@ -73,16 +71,16 @@ module _ {P : Type 0} (see : P → Seen) (devices : Word → Option Seen) (s : S
   held_in_world ordered name seen is =
       held_by_one (λ h. IsHeld w h.name) (holders see s) name seen is
       (all_append (λ h. IsHeld w h.name) (map (volume_holder see) s.volumes.entries) (group_holders see s.group)
-          (entries_held s.volumes.entries (found_each s.volumes.entries ordered))
-          (group_held s.group w.group refl stand.group_is))
+      (entries_held s.volumes.entries (found_each s.volumes.entries ordered))
+      (group_held s.group w.group refl stand.group_is))
       (λ h same seen held. subst (IsHeld w) same held)
 
   here_held : (hs : List Holder) → AllOf (λ h. held_as hs h.name ≡ None → ⊥) hs
   here_held [] = tt
   here_held (h ∷ hs) = (
-      λ none. some_none h.seen (sym (cond-true _ _ _ (bytes_eq_self h.name)) ∙ none),
-      all_map (λ o. held_as hs o.name ≡ None → ⊥) (λ o. held_as (h ∷ hs) o.name ≡ None → ⊥) (λ o f none. by_test o (bytes_eq h.name o.name) f none) hs (here_held hs),
-    )
+    λ none. some_none h.seen (sym (cond-true _ _ _ (bytes_eq_self h.name)) ∙ none),
+    all_map (λ o. held_as hs o.name ≡ None → ⊥) (λ o. held_as (h ∷ hs) o.name ≡ None → ⊥) (λ o f none. by_test o (bytes_eq h.name o.name) f none) hs (here_held hs),
+  )
     where
       by_test : (o : Holder) (b : Bool) → (held_as hs o.name ≡ None → ⊥) → cond b (Some h.seen) (held_as hs o.name) ≡ None → ⊥
       by_test o true f none = some_none h.seen none
@@ -193,6 +191,7 @@ away_twice taken w (q ∷ ps) (d ∷ ds) p rest free is = inr (inr (free.0, (d, 
     or_true : (a b : Bool) → b ≡ true → (a || b) ≡ true
     or_true true b e = refl
     or_true false b e = e
+
     by_test : (b : Bool) → bytes_eq q.device p.device ≡ b → (b || is_among p.device (devices_of ps)) ≡ true → (is_among p.device (devices_of ps) ≡ true) ⊎ ((bytes_eq q.device p.device || is_among p.device taken) ≡ true)
     by_test true e a = inr (ap (λ x. x || is_among p.device taken) e)
     by_test false e a = inl a

@@ -1,37 +1,36 @@
 -- A command that stops, as a step of the world.
-use Rattle.std.proofs.Common.{◌≡◌, ◌∙◌, ◌⊎◌, ℕ, ◌+◌, ◌≤◌, Bool, true, false, cond, List, [], ◌∷◌, ◌++◌, map, Option, Some, None, refl, sym, ap, subst, inl, inr, arith}
-use Rattle.std.specs.Prelude.{IsTrue, IfSome}
+use Rattle.std.proofs.Common.{◌≡◌, ◌∙◌, ◌⊎◌, ℕ, ◌≤◌, List, [], ◌∷◌, Option, Some, None, refl, sym, ap, subst, inl, inr, arith}
+use Rattle.std.specs.Prelude.{IsTrue}
 use Rattle.std.specs.BTreeMap.{IsOrdered}
 use Rattle.std.specs.Cmp.Lexicographic.{slice_cmp}
 use Rattle.std.specs.Ordering.{nat_cmp}
 use Rattle.vx_base.specs.Counts.{Rose}
 use Rattle.vx_base.specs.Named.{Word}
 use Rattle.vx_base.proofs.CountLemmas.{rose_and_later}
-use Rattle.vx_piece.specs.Seen.{Seen, Keeps as PieceKeeps}
+use Rattle.vx_piece.specs.Seen.{Seen}
 use Rattle.vx_shelf.specs.Shelf.{Held}
 use Rattle.vx_script_words.specs.declared.value.DiskAt.{DiskAt}
 use Rattle.vx_devices.specs.Claims.{IsOnlyRead}
 use Rattle.vx_world.specs.declared.answer.Answer.{Answer}
 use Rattle.vx_world.specs.declared.answer.Answer.TheVariants as answer
-use Rattle.vx_world.specs.declared.answer.Refusal.{Refusal}
 use Rattle.vx_world.specs.Failures.{Failures}
-use Rattle.vx_world.specs.World.{World, Device, IsRefused}
+use Rattle.vx_world.specs.World.{World, Device}
 use Rattle.vx_world.specs.Back.{IsCutOff}
 use Rattle.vx_world.specs.Images.{IsDeviceOf}
 use Rattle.vx_world.specs.Groups.{InitStep}
-use Rattle.vx_hold.specs.Holders.{Holder, holders, held_as, AreHeld}
+use Rattle.vx_hold.specs.Holders.{holders, held_as, AreHeld}
 use Rattle.vx_hold.specs.Kept.{Keeps}
-use Rattle.vx_hold.specs.Stand.{State, StandWith, Stand, seen_at, device_seen}
+use Rattle.vx_hold.specs.Stand.{State, StandWith, seen_at, device_seen}
 use Rattle.vx_hold.specs.Closing.{AreBack}
 use Rattle.vx_hold.specs.Moves.{faults_in, cut_in, HasBlame, HaveFailed, Moves, Rests}
 use Rattle.vx_hold.specs.declared.system.System.{System}
-use Rattle.vx_hold.proofs.Blamed.{AreLater, IsDeviceLater, later_each_device, later_later, later_same, silent, fault_own, fault_shelf, shelf_failed, lost_cut, none_told, failed_between, nobody, none_failed}
+use Rattle.vx_hold.proofs.Blamed.{AreLater, IsDeviceLater, later_each_device, later_later, later_same, silent, fault_own, fault_shelf, shelf_failed, lost_cut, none_told, failed_between}
 use Rattle.vx_hold.proofs.Returned.{group_alone}
 use Rattle.vx_hold.proofs.Cut.{cut_off}
 use Rattle.vx_init.specs.declared.stop.Stop.{Stop}
 use Rattle.vx_init.specs.declared.stop.Stop.TheVariants as stop
-use Rattle.vx_init.specs.Ends.{answer_of, Answers, UnlessLost, WhereLost, IsClosed}
-use Rattle.vx_init.specs.Stops.{Sight, HasRisen, Shows, sight}
+use Rattle.vx_init.specs.Ends.{answer_of, UnlessLost, WhereLost, IsClosed}
+use Rattle.vx_init.specs.Stops.{Shows, sight}
 use Rattle.vx_init.proofs.Away.{not_out}
 
 abbrev pub state : {P : Type 0} → Option (Word → Option Seen) → ℕ → System P → State P
@@ -140,9 +139,11 @@ ends_moves {P = P} see dg ps sp w w1 f st new n' n'' s s' free who a more stand 
     same : (sp : Stop) → Stopping dg ps sp w w1 f (device_seen see st) (device_seen see (state (Some new) n'' s)) st.faults n'' → answer_of sp ≡ Some a → (sp ≡ stop.Lost → ⊥) → (s' ≡ s) × (free ≡ Some new) → Moves see (λ x. InitStep x dg ps) a w st (state free n'' s')
     same sp is told going both =
         subst (λ x. Moves see (λ y. InitStep y dg ps) a w st (state x n'' s')) (sym both.1) (subst (λ x. Moves see (λ y. InitStep y dg ps) a w st (state (Some new) n'' x)) (sym both.0) (here see dg ps w w1 f st new st.faults n' n'' s refl more stand sp is a told going))
+
     cut : (free : Option (Word → Option Seen)) → Stopping dg ps stop.Lost w w1 f (device_seen see st) (device_seen see (state (Some new) n'' s)) st.faults n'' → answer_of stop.Lost ≡ Some a → IsClosed (holders see s) s s' (Some new) free → Moves see (λ x. InitStep x dg ps) a w st (state free n'' s')
     cut None is told closed = absurd closed.back
     cut (Some last) is told closed = subst (λ x. Moves see (λ y. InitStep y dg ps) x w st (state (Some last) n'' s')) (some_is a (answer.Lost []) (sym told)) (closed_moves see dg ps w w1 f st new st.faults n' n'' s refl more stand who keeps s' last closed.ordered closed.volumes closed.group closed.back is)
+
     by : (sp : Stop) → Stopping dg ps sp w w1 f (device_seen see st) (device_seen see (state (Some new) n'' s)) st.faults n'' → answer_of sp ≡ Some a → UnlessLost sp ((s' ≡ s) × (free ≡ Some new)) → WhereLost sp (IsClosed (holders see s) s s' (Some new) free) → Moves see (λ x. InitStep x dg ps) a w st (state free n'' s')
     by stop.OutOfMemory is told stays closed = cc
     by (stop.Refused r) is told stays closed = same (stop.Refused r) is told (λ e. cc) stays

@@ -1,24 +1,23 @@
 -- One more device is taken.
-use Rattle.std.proofs.Common.{◌≡◌, ◌∙◌, ◌⊎◌, ℕ, zero, suc, ◌+◌, ◌≤◌, Bool, true, false, cond, List, [], ◌∷◌, ◌++◌, length, Option, Some, None, refl, sym, ap, subst, inl, inr, arith, append_assoc}
+use Rattle.std.proofs.Common.{◌≡◌, ◌∙◌, ℕ, suc, ◌+◌, Bool, true, false, cond, List, [], ◌∷◌, ◌++◌, length, Option, Some, None, refl, sym, ap, subst, inl, inr, arith, append_assoc}
 use Rattle.std.proofs.lemmas.Bool.{cond-true, cond-false}
 use Rattle.std.proofs.lemmas.List.{append-nil}
-use Rattle.std.specs.Prelude.{IsTrue, IsSome, IfSome}
 use Rattle.std.specs.Str.{bytes_eq}
 use Rattle.vx_base.specs.Named.{Word, put, SameUnder}
 use Rattle.vx_base.proofs.NamedLemmas.{bytes_eq_self, bytes_eq_same}
 use Rattle.vx_piece.specs.Seen.{Seen, Keeps, IsRead}
 use Rattle.vx_copies.specs.Lists.{AllOf}
 use Rattle.vx_copies.specs.declared.disk.Disk.{Disk}
-use Rattle.vx_shelf.specs.Shelf.{Held, IsTaken}
+use Rattle.vx_shelf.specs.Shelf.{Held}
 use Rattle.vx_script_words.specs.declared.value.DiskAt.{DiskAt}
-use Rattle.vx_devices.specs.Claims.{IsOnlyRead, AreOnlyRead}
-use Rattle.vx_hold.specs.Holders.{Holder, held_as, disk_holders, AreApart, IsTakenFrom, AreHeld}
+use Rattle.vx_devices.specs.Claims.{IsOnlyRead}
+use Rattle.vx_hold.specs.Holders.{Holder, held_as, disk_holders, AreApart, AreHeld}
 use Rattle.vx_hold.specs.Looks.{LeavesRead}
 use Rattle.vx_hold.specs.Stand.{seen_at}
-use Rattle.vx_hold.proofs.Held.{held_at, apart_here, not_both, apart_turned, IsApart, take_one, all_put, same_held}
+use Rattle.vx_hold.proofs.Held.{held_at, apart_here, apart_turned, IsApart, take_one, all_put, same_held}
 use Rattle.vx_hold.proofs.Returned.{holder}
 use Rattle.vx_init.specs.declared.taking.Taken.{Taken}
-use Rattle.vx_init.specs.Gathered.{IsHeader, IsDiskAt, AreDisksAt, IsFirstHeaded, view_of, IsSeenWith, SeenWith, taken_holders, IsGathered, then_headed, IsPut, IsNext}
+use Rattle.vx_init.specs.Gathered.{IsHeader, IsDiskAt, AreDisksAt, IsFirstHeaded, view_of, IsSeenWith, SeenWith, taken_holders, IsGathered, then_headed, IsNext}
 use Rattle.vx_init.proofs.Views.{read_trans}
 
 pub disks_behind : {P : Type 0} (see : P → Seen) (ns : List Word) (ds : List (Disk P)) (n : Word) (d : Disk P) → length ns ≡ length ds → disk_holders see (ns ++ n ∷ []) (ds ++ d ∷ []) ≡ disk_holders see ns ds ++ holder n (see d.piece) ∷ []
@@ -78,6 +77,7 @@ module _ (hs : List Holder) (name : Word) (before seen : Seen) (old mid new : Wo
       still : (o : Option Seen) → new other ≡ mid other → IsOnlyRead (old other) (seen_at o (Some mid) other) → IsOnlyRead (old other) (seen_at o (Some new) other)
       still None same is = subst (IsOnlyRead (old other)) (sym same) is
       still (Some s) same is = is
+
       by_test : (b : Bool) → bytes_eq name other ≡ b → IsOnlyRead (old other) (seen_at (cond b (Some seen) (held_as hs other)) (Some new) other)
       by_test true e = subst (λ n. IsOnlyRead (old n) (Some seen)) (bytes_eq_same name other e) (read_trans (old name) (Some before) (Some seen) was_read (kept, read))
       by_test false e = still (held_as hs other) (left other ∙ cond-false _ _ _ e) (with.read other)
@@ -157,6 +157,7 @@ none_gathered see t free ns ds none = record {
     read_same : (o : Option Seen) → IsOnlyRead o o
     read_same None = tt
     read_same (Some s) = (record { device = refl; start = refl; sectors = refl; stop = refl; faults = omega arith; cut = λ c. c }, record { told = refl; writes = refl })
+
     by : (free : Option (Word → Option Seen)) → SeenWith [] free free
     by None = tt
     by (Some devices) = record { read = λ name. read_same (devices name); gone = tt }

@@ -1,9 +1,9 @@
 -- What devices that passed the tests may be made of.
-use Rattle.std.proofs.Common.{◌≡◌, ◌≢◌, ◌∙◌, ◌⊎◌, ℕ, zero, suc, ◌+◌, ◌-◌, ◌<◌, ◌≤◌, ◌^◌, ◌==◌, ◌&&◌, ◌||◌, min, Bool, true, false, cond, List, [], ◌∷◌, ◌++◌, map, length, take, Option, Some, None, refl, sym, ap, subst, inl, inr, arith, length-take}
+use Rattle.std.proofs.Common.{◌≡◌, ◌≢◌, ◌∙◌, ℕ, ◌+◌, ◌-◌, ◌<◌, ◌≤◌, ◌^◌, ◌==◌, ◌&&◌, ◌||◌, Bool, true, false, cond, List, [], ◌∷◌, ◌++◌, map, length, take, Option, Some, None, refl, sym, ap, subst, inl, inr, arith, length-take}
 use Rattle.std.proofs.lemmas.Bool.{and_parts, ltb-true, leb-true, eq-eqb}
 use Rattle.std.proofs.lemmas.Bool.Decides.{nat_tests}
 use Rattle.std.proofs.lemmas.List.{append-nil}
-use Rattle.std.specs.Prelude.{IsTrue, IfSome, nat_lt, nat_le, not, is_some}
+use Rattle.std.specs.Prelude.{nat_lt, nat_le, not, is_some}
 use Rattle.std.specs.List.{list_any, filter_map}
 use Rattle.vx_base.specs.Blocks.{Contents}
 use Rattle.vx_base.specs.Named.{Word}
@@ -28,7 +28,7 @@ use Rattle.vx_world.specs.declared.answer.Refusal.TheVariants as refusal
 use Rattle.vx_parts.specs.declared.fault.Limit.TheVariants as limit
 use Rattle.vx_hold.specs.Kept.{AreSized, HaveSlots, AreRecorded}
 use Rattle.vx_hold.specs.declared.system.Imported.{Imported}
-use Rattle.vx_init.specs.Gathered.{IsHeader, IsDiskAt, AreDisksAt, IsFirstHeaded}
+use Rattle.vx_init.specs.Gathered.{IsHeader, AreDisksAt, IsFirstHeaded}
 use Rattle.vx_init.specs.Judged.{is_size, are_sized, are_short, limit_of, group_in, first_refusal, disk_records, group_records}
 
 pub nothing_refuses : (headed group : Option Word) (limit : Option Refusal) → first_refusal headed group limit ≡ None → (headed ≡ None) × (group ≡ None) × (limit ≡ None)
@@ -70,17 +70,19 @@ module _ {P : Type 0} (see : P → Seen) (dg : Word) where
       let size = and_parts (is_size d.sectors) (are_sized ds) sized in
       let names = and_parts (is_short_name d.name) (are_short ds) short in
       let range = size_parts d.sectors size.0 in
-      let at = are.1 in
-      (record {
-        good = at.good_is;
-        slot = let e = at.slot_is in omega (arith, e, few);
-        half = let e = at.half_is in omega (arith, e);
-        private = let e = at.sectors_are in omega (arith, e, range.0);
-        group_short = named;
-        name_short = names.0;
-        public = range.0;
-        at_most = range.1;
-      }, fresh_all (slot + 1) ps ns ds are.2 (omega (arith, few)) size.1 names.1 named)
+      let at = are.1 in (
+        record {
+          good = at.good_is;
+          slot = let e = at.slot_is in omega (arith, e, few);
+          half = let e = at.half_is in omega (arith, e);
+          private = let e = at.sectors_are in omega (arith, e, range.0);
+          group_short = named;
+          name_short = names.0;
+          public = range.0;
+          at_most = range.1;
+        },
+        fresh_all (slot + 1) ps ns ds are.2 (omega (arith, few)) size.1 names.1 named,
+      )
 
   no_label : (l : Option Label) (contents : Contents) → is_some l ≡ false → offer_if (names_group dg l) (offer_of contents) ≡ None
   no_label None contents e = refl
@@ -174,9 +176,10 @@ unfolding parts_of
 slots_found [] [] long = tt
 slots_found [] (d ∷ ds) long = absurd (omega (arith, long))
 slots_found (n ∷ ns) [] long = tt
-slots_found (n ∷ ns) (d ∷ ds) long =
-    (ap (λ b. b || list_any (λ r. r.slot == d.slot) (parts_of ns ds)) (eq-eqb d.slot d.slot refl),
-    any_more (record { name = d.name; device = n; slot = d.slot; publen = d.sectors - 2048 }) (parts_of ns ds) ds (slots_found ns ds (omega (arith, long))))
+slots_found (n ∷ ns) (d ∷ ds) long = (
+  ap (λ b. b || list_any (λ r. r.slot == d.slot) (parts_of ns ds)) (eq-eqb d.slot d.slot refl),
+  any_more (record { name = d.name; device = n; slot = d.slot; publen = d.sectors - 2048 }) (parts_of ns ds) ds (slots_found ns ds (omega (arith, long))),
+)
 
 pub recorded_all : {P : Type 0} (dg : Word) (ns : List Word) (ds : List (Disk P)) (config : Config) → length ns ≡ length ds → objects_of config ≡ group_records dg ns ds → AreRecorded config ds
 recorded_all dg ns ds config long same = subst (λ xs. AllOf (λ d. list_any (λ r. r.slot == d.slot) xs ≡ true) ds) (sym (disks_so dg ns ds config same)) (slots_found ns ds long)
@@ -194,5 +197,5 @@ records_more dg ns ds i n d rest last long within one two so is =
     ap (λ os. os ++ last ∷ []) so
     ∙ ap (λ os. GroupRecord (record { name = dg; version = 1 }) ∷ (disk_records (take i ns) (take i ds) ++ os)) is
     ∙ sym (ap (λ os. GroupRecord (record { name = dg; version = 1 }) ∷ os) (
-        ap (λ xs. disk_records xs (take (i + 1) ds)) one ∙ ap (disk_records (take i ns ++ n ∷ [])) two
-        ∙ behind_records (take i ns) (take i ds) n d (let a = length-take i ns in let b = length-take i ds in omega (arith, a, b, long))))
+    ap (λ xs. disk_records xs (take (i + 1) ds)) one ∙ ap (disk_records (take i ns ++ n ∷ [])) two
+    ∙ behind_records (take i ns) (take i ds) n d (let a = length-take i ns in let b = length-take i ds in omega (arith, a, b, long))))

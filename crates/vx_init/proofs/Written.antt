@@ -1,33 +1,31 @@
 -- Devices that were to join a group, as they are seen in the world.
-use Rattle.std.proofs.Common.{◌≡◌, ◌∙◌, ◌⊎◌, ℕ, ◌+◌, ◌<◌, ◌≤◌, ◌==◌, ◌&&◌, ◌||◌, min, Bool, true, false, cond, List, [], ◌∷◌, ◌++◌, map, length, replicate, Option, Some, None, refl, sym, ap, subst, inl, inr, arith}
-use Rattle.std.specs.Prelude.{IsTrue, IfSome, is_some, MatchOption}
-use Rattle.std.specs.List.{list_any}
+use Rattle.std.proofs.Common.{◌≡◌, ◌∙◌, ◌⊎◌, ℕ, ◌+◌, ◌<◌, ◌≤◌, ◌==◌, ◌&&◌, ◌||◌, Bool, true, false, cond, List, [], ◌∷◌, ◌++◌, map, length, replicate, Option, Some, None, refl, sym, ap, subst, inl, inr, arith}
+use Rattle.std.specs.Prelude.{IsTrue, MatchOption}
 use Rattle.std.specs.Str.{bytes_eq}
-use Rattle.std.proofs.lemmas.Bool.{cond-true, cond-false, eq-eqb}
+use Rattle.std.proofs.lemmas.Bool.{cond-false, eq-eqb}
 use Rattle.vx_base.specs.Blocks.{Contents}
 use Rattle.vx_base.specs.Counts.{Rose}
 use Rattle.vx_base.specs.Named.{Word}
-use Rattle.vx_base.proofs.NamedLemmas.{bytes_eq_self, bytes_eq_same}
 use Rattle.vx_sector.specs.Fields.{zeros}
 use Rattle.vx_mask.specs.Mask.{has}
-use Rattle.vx_header.specs.Named.{Label, header_of}
+use Rattle.vx_header.specs.Named.{Label}
 use Rattle.vx_piece.specs.Seen.{Seen, Keeps}
 use Rattle.vx_copies.specs.Image.{Offer, offer_of}
 use Rattle.vx_copies.specs.Lists.{AllOf, AnyOf, Each}
-use Rattle.vx_copies.specs.Disks.{Held, held, Drops, RestStays, IsCut, is_good_slot}
+use Rattle.vx_copies.specs.Disks.{held, Drops, IsCut, is_good_slot}
 use Rattle.vx_copies.specs.Commit.{HasRisen}
 use Rattle.vx_copies.specs.declared.disk.Disk.{Disk}
 use Rattle.vx_confdb.specs.Create.{Joins, Enters, OffersText}
 use Rattle.vx_confdb.specs.Prepare.{label_in}
 use Rattle.vx_script_words.specs.declared.value.DiskAt.{DiskAt}
 use Rattle.vx_world.specs.Failures.{Failures}
-use Rattle.vx_world.specs.World.{World, Device, Member}
+use Rattle.vx_world.specs.World.{Device, Member}
 use Rattle.vx_world.specs.Back.{label_of}
 use Rattle.vx_world.specs.Images.{IsImage, device_told, device_of}
-use Rattle.vx_world.specs.Joining.{is_among, member_of, IsTouched, IsJoinedToggle, DropsFailed}
-use Rattle.vx_world.specs.Groups.{devices_of, new_members, is_slot_of, AreTouched}
+use Rattle.vx_world.specs.Joining.{member_of, IsTouched, IsJoinedToggle, DropsFailed}
+use Rattle.vx_world.specs.Groups.{new_members, is_slot_of, AreTouched}
 use Rattle.vx_hold.specs.Holders.{Holder, held_as, disk_holders, AreApart}
-use Rattle.vx_hold.specs.Stand.{IsPublicOf, IsMemberOf, AreMembersOf}
+use Rattle.vx_hold.specs.Stand.{IsPublicOf, AreMembersOf}
 use Rattle.vx_hold.proofs.Listed.{held_by_one, all_back}
 use Rattle.vx_hold.proofs.Held.{IsApart}
 use Rattle.vx_init.specs.Gathered.{IsDiskAt, AreDisksAt}
@@ -74,12 +72,20 @@ toggle_of text sectors c offers = by (offer_of c) refl offers
 
 touched_told : (label : Label) (text : List ℕ) (v : Device) (told' : Option Contents) (sectors' : ℕ) → sectors' ≡ v.sectors → Enters label text (Some v.contents) told' → (now : Device) × (device_told sectors' told' ≡ Some now) × IsTouched label text v now
 touched_told label text v None sectors' size enters = absurd enters
-touched_told label text v (Some c) sectors' size (how, rest) = ((let d : Device = record { sectors = sectors'; contents = c } in d), refl, record { sectors = size; behind = rest; front = elim how [
-  | inl same ↦ inl (ap (λ (f : Contents). f 0) same, inl (ap (λ (f : Contents). f 1) same))
-  | inr (inl still) ↦ inl (still.0, inr (still.1 ∙ zeros_are 512))
-  | inr (inr (header, inl blank)) ↦ inr (header, inl (blank ∙ zeros_are 512))
-  | inr (inr (header, inr offers)) ↦ inr (header, toggle_of text sectors' c offers)
-] })
+touched_told label text v (Some c) sectors' size (how, rest) = (
+  (let d : Device = record { sectors = sectors'; contents = c } in d),
+  refl,
+  record {
+    sectors = size;
+    behind = rest;
+    front = elim how [
+      | inl same ↦ inl (ap (λ (f : Contents). f 0) same, inl (ap (λ (f : Contents). f 1) same))
+      | inr (inl still) ↦ inl (still.0, inr (still.1 ∙ zeros_are 512))
+      | inr (inr (header, inl blank)) ↦ inr (header, inl (blank ∙ zeros_are 512))
+      | inr (inr (header, inr offers)) ↦ inr (header, toggle_of text sectors' c offers)
+    ];
+  },
+)
 
 public_told : (label : Label) (text : List ℕ) (old : Contents) (told' : Option Contents) → Enters label text (Some old) told' → IsPublicOf told' (λ k. old (2048 + k))
 public_told label text old None enters = absurd enters
@@ -121,14 +127,16 @@ module _ {P : Type 0} (see : P → Seen) (dg : Word) (text : List ℕ) where
   all_members slot (p ∷ ps) (n ∷ ns) (d ∷ ds) (e ∷ es) [] disks images joins few = absurd images
   all_members slot (p ∷ ps) (n ∷ ns) (d ∷ ds) (e ∷ es) (v ∷ vs) disks images joins few =
       let below : slot < 32 = omega (arith, few) in
-      let enters = one_enters slot p d e v disks.1 images.0 below joins.0 in
-      (record {
-        device_is = sym disks.0;
-        disk_is = sym (joins.0.name ∙ disks.1.name_is);
-        slot_is = (let s = disks.1.slot_is in let j = joins.0.slot in let r : slot ≡ e.slot = omega (arith, s, j, below) in r);
-        sectors_are = images.0.sectors ∙ sym disks.1.sectors_are ∙ sym joins.0.size;
-        public_is = public_told (label_of dg (member_of p slot v)) text v.contents (see e.piece).told enters;
-      }, all_members (slot + 1) ps ns ds es vs disks.2 images.1 joins.1 (omega (arith, few)))
+      let enters = one_enters slot p d e v disks.1 images.0 below joins.0 in (
+        record {
+          device_is = sym disks.0;
+          disk_is = sym (joins.0.name ∙ disks.1.name_is);
+          slot_is = (let s = disks.1.slot_is in let j = joins.0.slot in let r : slot ≡ e.slot = omega (arith, s, j, below) in r);
+          sectors_are = images.0.sectors ∙ sym disks.1.sectors_are ∙ sym joins.0.size;
+          public_is = public_told (label_of dg (member_of p slot v)) text v.contents (see e.piece).told enters;
+        },
+        all_members (slot + 1) ps ns ds es vs disks.2 images.1 joins.1 (omega (arith, few)),
+      )
 
   -- a good slot is a member's
   pub good_member : (slot : ℕ) (ns : List Word) (ds : List (Disk P)) (ms : List Member) → AreMembersOf see ns ds ms → is_good_slot slot (map (held see) ds) ≡ true → is_slot_of ms slot ≡ true
@@ -179,13 +187,14 @@ module _ {P : Type 0} (see : P → Seen) (dg : Word) (text : List ℕ) where
   all_dropped f good slot (p ∷ ps) (n ∷ ns) [] es all vs old new disks joins few is goods at at' risen = absurd disks
   all_dropped f good slot (p ∷ ps) (n ∷ ns) (d ∷ ds) [] all vs old new disks joins few is goods at at' risen = absurd joins
   all_dropped f good slot (p ∷ ps) (n ∷ ns) (d ∷ ds) (e ∷ es) all [] old new disks joins few is goods at at' risen = tt
-  all_dropped f good slot (p ∷ ps) (n ∷ ns) (d ∷ ds) (e ∷ es) all (v ∷ vs) old new disks joins few is goods at at' risen =
-      ((λ bad.
-          let s : e.slot ≡ slot = (let a = disks.1.slot_is in let j = joins.0.slot in omega (arith, a, j, few)) in
-          let not : is_good_slot e.slot (map (held see) all) ≡ false = sym (is e.slot) ∙ ap (has good) s ∙ bad in
-          let off = not_good e.good (is_good_slot e.slot (map (held see) all)) goods.0 not in
-          subst (λ m. f.devices m ≡ true) disks.0 (risen n (see d.piece) (see e.piece) at.0 at'.0 (rose_if d.good e.good (see d.piece) (see e.piece) disks.1.good_is off joins.0.good))),
-      all_dropped f good (slot + 1) ps ns ds es all vs old new disks.2 joins.1 (omega (arith, few)) is goods.1 at.1 at'.1 risen)
+  all_dropped f good slot (p ∷ ps) (n ∷ ns) (d ∷ ds) (e ∷ es) all (v ∷ vs) old new disks joins few is goods at at' risen = (
+    (λ bad.
+        let s : e.slot ≡ slot = (let a = disks.1.slot_is in let j = joins.0.slot in omega (arith, a, j, few)) in
+        let not : is_good_slot e.slot (map (held see) all) ≡ false = sym (is e.slot) ∙ ap (has good) s ∙ bad in
+        let off = not_good e.good (is_good_slot e.slot (map (held see) all)) goods.0 not in
+        subst (λ m. f.devices m ≡ true) disks.0 (risen n (see d.piece) (see e.piece) at.0 at'.0 (rose_if d.good e.good (see d.piece) (see e.piece) disks.1.good_is off joins.0.good))),
+    all_dropped f good (slot + 1) ps ns ds es all vs old new disks.2 joins.1 (omega (arith, few)) is goods.1 at.1 at'.1 risen,
+  )
 
   -- what is held goes on, and where each count rose it rose
   pub joins_go : (ns : List Word) (ds es : List (Disk P)) → AllJoin see dg text ds es → Each (Goes Keeps) (disk_holders see ns ds) (disk_holders see ns es)

@@ -76,11 +76,7 @@ fn is_short(name: &Name) -> bool
 }
 
 /// Looks whether a device that nobody holds names the group already.
-pub(crate) fn look_for_claim<S: Shelf>(
-    alloc: Global,
-    shelf: &mut S,
-    dg: &Name,
-) -> Result<(), Stop>
+pub(crate) fn look_for_claim<S: Shelf>(alloc: Global, shelf: &mut S, dg: &Name) -> Result<(), Stop>
     ensures held { SameUnder (S.held shelf.old) (S.held shelf.new) }
     ensures read { AreOnlyRead (S.free shelf.old) (S.free shelf.new) }
     ensures none { OnOk result (NoneNames dg.now (S.free shelf.old)) }

@@ -87,11 +87,7 @@ fn none_taken<P>(alloc: Global, count: usize) -> Result<Taken<P>, OutOfMemory>
 }
 
 /// Takes one more device. After an error it is back.
-fn take_next<S: Shelf>(
-    shelf: &mut S,
-    taken: &mut Taken<S::P>,
-    pair: &DiskAt,
-) -> Result<(), Stop>
+fn take_next<S: Shelf>(shelf: &mut S, taken: &mut Taken<S::P>, pair: &DiskAt) -> Result<(), Stop>
     requires room { (vec_len taken.old.devices < vec_capacity taken.old.devices) × (vec_len taken.old.disks < vec_capacity taken.old.disks) }
     ensures next { OnOk result (IsNext S.P.seen pair.now taken.old taken.new (S.held shelf.old) (S.held shelf.new) (S.free shelf.old) (S.free shelf.new)) }
     ensures lens { OnOk result ((vec_len taken.new.devices ≡ vec_len taken.old.devices + 1) × (vec_len taken.new.disks ≡ vec_len taken.old.disks + 1)) }

@@ -1,68 +1,126 @@
--- What the answer of one command lays to devices and to the shelf.
-use Rattle.std.proofs.Common.{◌≡◌, ℕ, ◌+◌, ◌≤◌, Bool, true, false, cond, List, [], ◌∷◌, Option, Some, refl, sym, ap, arith, subst}
-use Rattle.std.specs.Prelude.{IsTrue}
-use Rattle.std.specs.Str.{bytes_eq}
-use Rattle.std.proofs.lemmas.Bool.{cond-true}
-use Rattle.vx_base.specs.Counts.{Rose}
+-- What runs of commands, one after the other, lay to devices and to the shelf.
+use Rattle.std.proofs.Common.{◌≡◌, ◌⊎◌, ℕ, ◌+◌, ◌≤◌, Bool, true, false, List, [], ◌∷◌, ◌++◌, Option, refl, sym, ap, ◌∙◌, arith, subst, inl, inr, add_assoc, zero-add}
+use Rattle.std.specs.Prelude.{IsTrue, ◌||◌}
+use Rattle.vx_base.specs.Counts.{Rose, RoseBy}
 use Rattle.vx_base.specs.Named.{Word}
-use Rattle.vx_base.proofs.CountLemmas.{none_rose, rose_and_later}
-use Rattle.vx_base.proofs.NamedLemmas.{bytes_eq_self}
-use Rattle.vx_piece.specs.Seen.{Seen, Keeps}
+use Rattle.vx_base.proofs.CountLemmas.{rose_then, rose_and_later, none_rose}
+use Rattle.vx_piece.specs.Seen.{Seen}
 use Rattle.vx_world.specs.declared.answer.Answer.{Answer}
-use Rattle.vx_world.specs.declared.answer.Answer.TheVariants.{Done, Refused, Fault, Lost}
-use Rattle.vx_world.specs.Answers.{all_faults_told, some_lost}
-use Rattle.vx_bare.specs.Stands.{AnswerHasCause}
-use Rattle.vx_commands.specs.Blame.{AreBlamed, HasBlame, faults_in, cut_in}
+use Rattle.vx_world.specs.Answers.{faults_told, all_faults_told, shelf_told, all_shelf_told, is_lost, some_lost}
+use Rattle.vx_world.specs.Failures.{Failures, IsWithin}
+use Rattle.vx_hold.specs.Moves.{AreBlamed, HasBlame, HaveFailed, faults_in, cut_in}
 
--- nothing is laid to anyone where no fault is told
-none_blamed : (device device' shelf shelf' : ℕ) → device ≤ device' → shelf ≤ shelf' → AreBlamed 0 device device' shelf shelf'
-none_blamed device device' shelf shelf' d s = record { own = 0; shelfs = 0; all = refl; device_rose = none_rose device device' d; shelf_rose = none_rose shelf shelf' s }
+-- ---- failures
 
--- an answer that tells no fault and no loss
-pub silent : (answer : Answer) (old new : Word → Option Seen) (shelf shelf' : ℕ) → ((name : Word) → all_faults_told name (answer ∷ []) ≡ 0) → some_lost (answer ∷ []) ≡ false
-    → ((name : Word) → faults_in (old name) ≤ faults_in (new name)) → ((name : Word) → IsTrue (cut_in (old name)) → IsTrue (cut_in (new name))) → shelf ≤ shelf' → HasBlame (answer ∷ []) old new shelf shelf'
-silent answer old new shelf shelf' none here later cuts s = record {
-  counts = λ name. subst (λ n. AreBlamed n (faults_in (old name)) (faults_in (new name)) shelf shelf') (sym (none name)) (none_blamed _ _ _ _ (later name) s);
-  lost = λ h. cc;
-  cuts = cuts;
+pub nothing_failed : Failures
+nothing_failed = record { devices = λ name. false; shelf = false }
+
+-- what failed in the one or in the other
+pub either_failed : Failures → Failures → Failures
+either_failed f g = record { devices = λ name. f.devices name || g.devices name; shelf = f.shelf || g.shelf }
+
+true_first : (a b : Bool) → a ≡ true → (a || b) ≡ true
+true_first a b is = ap (λ x. x || b) is
+
+true_second : (a b : Bool) → b ≡ true → (a || b) ≡ true
+true_second true b is = refl
+true_second false b is = is
+
+one_true : (a b : Bool) → (a || b) ≡ true → (a ≡ true) ⊎ (b ≡ true)
+one_true true b is = inl refl
+one_true false b is = inr is
+
+pub within_first : (f g : Failures) → IsWithin f (either_failed f g)
+unfolding either_failed
+within_first f g = record { devices = λ name is. true_first (f.devices name) (g.devices name) is; shelfs = λ is. true_first f.shelf g.shelf is }
+
+pub within_second : (f g : Failures) → IsWithin g (either_failed f g)
+unfolding either_failed
+within_second f g = record { devices = λ name is. true_second (f.devices name) (g.devices name) is; shelfs = λ is. true_second f.shelf g.shelf is }
+
+pub none_failed : (old new : Word → Option Seen) (s t : ℕ) → HaveFailed nothing_failed old new s t
+unfolding nothing_failed
+none_failed old new s t = record { devices = λ name is. cc; shelfs = λ is. cc }
+
+-- counts that rose by some number have not fallen below one that rose before
+still_rose : (n x y z : ℕ) → Rose x y → RoseBy n y z → Rose x z
+still_rose n x y z rose more = omega arith
+
+rose_later : (n x y z : ℕ) → RoseBy n x y → Rose y z → Rose x z
+rose_later n x y z less rose = omega arith
+
+pub failed_then : (xs ys : List Answer) (f g : Failures) (old mid new : Word → Option Seen) (s t u : ℕ) → HasBlame xs old mid s t → HasBlame ys mid new t u → HaveFailed f old mid s t → HaveFailed g mid new t u → HaveFailed (either_failed f g) old new s u
+unfolding either_failed
+failed_then xs ys f g old mid new s t u h k first second = record {
+  devices = λ name is. elim (one_true (f.devices name) (g.devices name) is) [
+    | inl one ↦ still_rose (k.counts name).own _ _ _ (first.devices name one) (k.counts name).device_rose
+    | inr other ↦ rose_later (h.counts name).own _ _ _ (h.counts name).device_rose (second.devices name other)
+  ];
+  shelfs = λ is. elim (one_true f.shelf g.shelf is) [
+    | inl one ↦ still_rose ((k.counts []).shelfs + all_shelf_told ys) _ _ _ (first.shelfs one) (k.counts []).shelf_rose
+    | inr other ↦ rose_later ((h.counts []).shelfs + all_shelf_told xs) _ _ _ (h.counts []).shelf_rose (second.shelfs other)
+  ];
 }
 
-module _ (device : Word) (piece piece' : Seen) (rest : Word → Option Seen) (shelf shelf' : ℕ) (kept : Keeps piece piece') (later : shelf ≤ shelf') where
-  -- the devices round the started volume's one
-  abbrev pub with_device : Seen → Word → Option Seen
-  with_device p name = cond (bytes_eq device name) (Some p) (rest name)
+-- the shelf's count may go on to rise
+pub failed_later : (f : Failures) (old new : Word → Option Seen) (s t u : ℕ) → t ≤ u → HaveFailed f old new s t → HaveFailed f old new s u
+failed_later f old new s t u later h = record { devices = h.devices; shelfs = λ is. rose_and_later 1 s t u (h.shelfs is) later }
 
-  faults_later : (b : Bool) (name : Word) → faults_in (cond b (Some piece) (rest name)) ≤ faults_in (cond b (Some piece') (rest name))
-  faults_later true name = kept.faults
-  faults_later false name = omega arith
+-- what is seen counts, and not how it is said
+pub same_failed : (f : Failures) (old old' new new' : Word → Option Seen) (s t : ℕ) → ((name : Word) → old' name ≡ old name) → ((name : Word) → new' name ≡ new name) → HaveFailed f old new s t → HaveFailed f old' new' s t
+same_failed f old old' new new' s t before after h = record {
+  devices = λ name is. subst (λ o. Rose (faults_in o) (faults_in (new' name))) (sym (before name)) (subst (λ o. Rose (faults_in (old name)) (faults_in o)) (sym (after name)) (h.devices name is));
+  shelfs = h.shelfs;
+}
 
-  cuts_later : (b : Bool) (name : Word) → IsTrue (cut_in (cond b (Some piece) (rest name))) → IsTrue (cut_in (cond b (Some piece') (rest name)))
-  cuts_later true name h = kept.cut h
-  cuts_later false name h = h
+-- ---- blame
 
-  one_blamed : (b : Bool) (name : Word) → Rose piece.faults piece'.faults → AreBlamed (cond b 1 0 + 0) (faults_in (cond b (Some piece) (rest name))) (faults_in (cond b (Some piece') (rest name))) shelf shelf'
-  one_blamed true name rose = record { own = 1; shelfs = 0; all = refl; device_rose = rose; shelf_rose = none_rose shelf shelf' later }
-  one_blamed false name rose = none_blamed _ _ _ _ (omega arith) later
+faults_more : (name : Word) (xs ys : List Answer) → all_faults_told name (xs ++ ys) ≡ all_faults_told name xs + all_faults_told name ys
+faults_more name [] ys = sym (zero-add (all_faults_told name ys))
+faults_more name (a ∷ xs) ys = ap (λ n. faults_told name a + n) (faults_more name xs ys) ∙ sym (add_assoc (faults_told name a) (all_faults_told name xs) (all_faults_told name ys))
 
-  -- the answer of a call that was served
-  pub blamed : (answer : Answer) → AnswerHasCause device answer piece piece' → HasBlame (answer ∷ []) (with_device piece) (with_device piece') shelf shelf'
-  blamed (Done parts blocks) cause = silent (Done parts blocks) (with_device piece) (with_device piece') shelf shelf' (λ name. refl) refl (λ name. faults_later (bytes_eq device name) name) (λ name. cuts_later (bytes_eq device name) name) later
-  blamed (Refused refusal) cause = silent (Refused refusal) (with_device piece) (with_device piece') shelf shelf' (λ name. refl) refl (λ name. faults_later (bytes_eq device name) name) (λ name. cuts_later (bytes_eq device name) name) later
-  blamed (Fault named parts) cause = record {
-    counts = λ name. subst (λ d. AreBlamed (cond (bytes_eq d name) 1 0 + 0) (faults_in (with_device piece name)) (faults_in (with_device piece' name)) shelf shelf') (sym cause.0) (one_blamed (bytes_eq device name) name cause.1);
-    lost = λ h. cc;
-    cuts = λ name. cuts_later (bytes_eq device name) name;
-  }
-  blamed (Lost parts) cause = record {
-    counts = λ name. none_blamed _ _ _ _ (faults_later (bytes_eq device name) name) later;
-    lost = λ h. (device, subst (λ o. IsTrue (cut_in o)) (sym (cond-true _ _ _ (bytes_eq_self device))) cause);
-    cuts = λ name. cuts_later (bytes_eq device name) name;
-  }
+shelf_more : (xs ys : List Answer) → all_shelf_told (xs ++ ys) ≡ all_shelf_told xs + all_shelf_told ys
+shelf_more [] ys = sym (zero-add (all_shelf_told ys))
+shelf_more (a ∷ xs) ys = ap (λ n. shelf_told a + n) (shelf_more xs ys) ∙ sym (add_assoc (shelf_told a) (all_shelf_told xs) (all_shelf_told ys))
+
+either : (b x y z : Bool) → (IsTrue x → IsTrue y ⊎ IsTrue z) → IsTrue (b || x) → IsTrue (b || y) ⊎ IsTrue z
+either true x y z later h = inl refl
+either false x y z later h = later h
+
+lost_either : (xs ys : List Answer) → IsTrue (some_lost (xs ++ ys)) → IsTrue (some_lost xs) ⊎ IsTrue (some_lost ys)
+lost_either [] ys h = inr h
+lost_either (a ∷ xs) ys h = either (is_lost a) (some_lost (xs ++ ys)) (some_lost xs) (some_lost ys) (lost_either xs ys) h
+
+shelf_then : (a b x y all s t u : ℕ) → all ≡ x + y → RoseBy (a + x) s t → RoseBy (b + y) t u → RoseBy (a + b + all) s u
+shelf_then a b x y all s t u is first second = omega (arith, is, first, second)
+
+pub blame_then : (xs ys : List Answer) (old mid new : Word → Option Seen) (s t u : ℕ) → HasBlame xs old mid s t → HasBlame ys mid new t u → HasBlame (xs ++ ys) old new s u
+blame_then xs ys old mid new s t u h k = record {
+  counts = λ name.
+      let a = h.counts name in
+      let b = k.counts name in
+      record {
+        own = a.own + b.own;
+        shelfs = a.shelfs + b.shelfs;
+        all = omega (arith, faults_more name xs ys, a.all, b.all);
+        device_rose = rose_then a.own b.own _ _ _ a.device_rose b.device_rose;
+        shelf_rose = shelf_then a.shelfs b.shelfs (all_shelf_told xs) (all_shelf_told ys) (all_shelf_told (xs ++ ys)) s t u (shelf_more xs ys) a.shelf_rose b.shelf_rose;
+      };
+  lost = λ e. elim (lost_either xs ys e) [ inl x ↦ (let l = h.lost x in (l.0, k.cuts l.0 l.1)) | inr y ↦ k.lost y ];
+  cuts = λ name e. k.cuts name (h.cuts name e);
+}
+
+pub none_blame : (seen : Word → Option Seen) (shelf : ℕ) → HasBlame [] seen seen shelf shelf
+none_blame seen shelf = record {
+  counts = λ name. record { own = 0; shelfs = 0; all = refl; device_rose = none_rose _ _ (omega arith); shelf_rose = none_rose _ _ (omega arith) };
+  lost = λ e. cc;
+  cuts = λ name e. e;
+}
 
 -- what is seen counts, and not how it is said
 pub same_blame : (answers : List Answer) (old old' new new' : Word → Option Seen) (shelf shelf' : ℕ) → ((name : Word) → old' name ≡ old name) → ((name : Word) → new' name ≡ new name) → HasBlame answers old new shelf shelf' → HasBlame answers old' new' shelf shelf'
 same_blame answers old old' new new' shelf shelf' before after h = record {
-  counts = λ name. subst (λ o. AreBlamed (all_faults_told name answers) (faults_in o) (faults_in (new' name)) shelf shelf') (sym (before name)) (subst (λ o. AreBlamed (all_faults_told name answers) (faults_in (old name)) (faults_in o) shelf shelf') (sym (after name)) (h.counts name));
+  counts = λ name. subst (λ o. AreBlamed (all_faults_told name answers) (all_shelf_told answers) (faults_in o) (faults_in (new' name)) shelf shelf') (sym (before name)) (subst (λ o. AreBlamed (all_faults_told name answers) (all_shelf_told answers) (faults_in (old name)) (faults_in o) shelf shelf') (sym (after name)) (h.counts name));
   lost = λ e. let l = h.lost e in (l.0, subst (λ o. IsTrue (cut_in o)) (sym (after l.0)) l.1);
   cuts = λ name e. subst (λ o. IsTrue (cut_in o)) (sym (after name)) (h.cuts name (subst (λ o. IsTrue (cut_in o)) (before name) e));
 }
@@ -70,15 +128,7 @@ same_blame answers old old' new new' shelf shelf' before after h = record {
 -- the shelf's count may go on to rise
 pub blame_later : (answers : List Answer) (old new : Word → Option Seen) (s t u : ℕ) → t ≤ u → HasBlame answers old new s t → HasBlame answers old new s u
 blame_later answers old new s t u later h = record {
-  counts = λ name. let a = h.counts name in record { own = a.own; shelfs = a.shelfs; all = a.all; device_rose = a.device_rose; shelf_rose = rose_and_later a.shelfs s t u a.shelf_rose later };
+  counts = λ name. let a = h.counts name in record { own = a.own; shelfs = a.shelfs; all = a.all; device_rose = a.device_rose; shelf_rose = rose_and_later (a.shelfs + all_shelf_told answers) s t u a.shelf_rose later };
   lost = h.lost;
   cuts = h.cuts;
-}
-
--- nothing was laid to anyone where nothing was answered
-pub none_told : (old new : Word → Option Seen) (s t : ℕ) → ((name : Word) → new name ≡ old name) → s ≤ t → HasBlame [] old new s t
-none_told old new s t same later = record {
-  counts = λ name. none_blamed _ _ _ _ (omega (arith, ap faults_in (same name))) later;
-  lost = λ h. cc;
-  cuts = λ name h. subst (λ o. IsTrue (cut_in o)) (sym (same name)) h;
 }

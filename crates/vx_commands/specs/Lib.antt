@@ -1,5 +1,2 @@
-pub mod System
-pub mod Blame
-pub mod Moves
 pub mod Run
 pub mod Ends

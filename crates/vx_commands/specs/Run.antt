@@ -1,21 +1,24 @@
 -- A run of commands, and one that was cut short.
 use Rattle.std.specs.Prelude.{◌≡◌, ℕ, ◌≤◌, Bool, List, ◌++◌, length, take, Option, Some}
 use Rattle.vx_piece.specs.Seen.{Seen}
-use Rattle.vx_world.specs.declared.command.Command.{Command}
+use Rattle.vx_script.specs.declared.command.Command.{Command}
 use Rattle.vx_world.specs.declared.answer.Answer.{Answer}
+use Rattle.vx_world.specs.Failures.{Failures}
 use Rattle.vx_world.specs.World.{World}
 use Rattle.vx_world.specs.Transcript.{IsTranscript}
 use Rattle.vx_world.specs.Text.{text_of}
 use Rattle.vx_world.specs.Answers.{are_fine}
-use Rattle.vx_commands.specs.Blame.{HasBlame}
-use Rattle.vx_commands.specs.Moves.{State, StandsFor, device_seen}
+use Rattle.vx_hold.specs.Stand.{State, StandsFor, device_seen}
+use Rattle.vx_hold.specs.Moves.{HaveFailed, HasBlame}
 
--- There is a transcript of the commands from this world, the new state stands for its last world, its text was written
--- behind this text, and fine tells whether all its answers are.
+-- There is a transcript of the commands from this world, whose failures have their counts that rose. The new state stands
+-- for its last world, its text was written behind this text, and fine tells whether all its answers are.
 pub record HasRun {P : Type 0} (seen : P → Seen) (place : ℕ) (commands : List Command) (w : World) (text : List ℕ) (old new : State P) (taken : Option (List ℕ)) (fine : Bool) : Type 0 where
   pub answers : List Answer
+  pub failures : Failures
+  pub failed : HaveFailed failures (device_seen seen old) (device_seen seen new) old.faults new.faults
   pub last : World
-  pub transcript : IsTranscript place w commands answers last
+  pub transcript : IsTranscript failures place w commands answers last
   pub stands : StandsFor seen new last
   pub written : taken ≡ Some (text ++ text_of answers)
   pub fine_is : fine ≡ are_fine answers
@@ -36,8 +39,10 @@ pub record HasRunPartly {P : Type 0} (seen : P → Seen) (place : ℕ) (commands
   pub left : List Command
   pub split : commands ≡ begun ++ left
   pub answers : List Answer
+  pub failures : Failures
+  pub failed : HaveFailed failures (device_seen seen old) (device_seen seen new) old.faults new.faults
   pub last : World
-  pub transcript : IsTranscript place w begun answers last
+  pub transcript : IsTranscript failures place w begun answers last
   pub stands : StandsFor seen new last
   pub bytes : ℕ
   pub written : taken ≡ Some (text ++ take bytes (text_of answers))

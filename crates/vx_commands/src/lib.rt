@@ -2,10 +2,8 @@
 #![tactic(auto)]
 
 mod lines;
-mod system;
 
 pub use lines::{Stop, run_commands};
-pub use system::{bare, call, finish};
 
 #[cfg(test)]
 mod tests;

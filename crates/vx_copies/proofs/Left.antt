@@ -103,9 +103,10 @@ is_new group readable old n mask text olds bs lt below gives all any = elim (giv
 ]
 
 pub ok_is : {T : Type 0} (r : Result T Lost) (group : Word) (carriers old n : ℕ) (text : List ℕ) (olds bs : List Held) → OnOk r (old < n) → OnOk r ((group : Word) → AllOf (IsBelow group old) olds → AllOf (IsOlder group n) bs) → CommitEnds r carriers n text olds bs → AllOf (IsBelow group old) olds → GivesOldOrNew group (old + 1) n text olds bs → OnOk r (GivesNew group (old + 1) n text bs)
-ok_is (Ok u) group carriers old n text olds bs lt older ends below gives = λ readable any.
-    (is_new group readable old n ends.1.mask text olds bs lt below gives ends.1.each any,
-    has_mask n ends.1.mask bs _ ends.1.just (highest_least group readable n ends.1.mask text bs any ends.1.each) (all_under group readable n ends.1.mask text bs ends.1.each (older group below)))
+ok_is (Ok u) group carriers old n text olds bs lt older ends below gives = λ readable any. (
+  is_new group readable old n ends.1.mask text olds bs lt below gives ends.1.each any,
+  has_mask n ends.1.mask bs _ ends.1.just (highest_least group readable n ends.1.mask text bs any ends.1.each) (all_under group readable n ends.1.mask text bs ends.1.each (older group below)),
+)
 ok_is (Err e) group carriers old n text olds bs lt older ends below gives = tt
 
 -- one that is not good was not written in the last attempt

@@ -1,1 +1,4 @@
+pub mod Imaged
 pub mod Listing
+pub mod Used
+pub mod Wiped

@@ -3,5 +3,12 @@
 #![tactic(auto)]
 
 mod claim;
+mod image;
+mod wiping;
 
 pub use claim::{Claim, find_claim};
+pub use image::make_image;
+pub use wiping::unsetup;
+
+#[cfg(test)]
+mod tests;

@@ -1,8 +1,7 @@
 -- What answers lay to devices and to the shelf.
-use Rattle.std.proofs.Common.{◌≡◌, ◌∙◌, ◌⊎◌, ℕ, ◌+◌, ◌≤◌, ◌||◌, Bool, true, false, cond, List, [], ◌∷◌, ◌++◌, Option, Some, None, refl, sym, ap, arith, subst, inl, inr}
+use Rattle.std.proofs.Common.{◌≡◌, ◌⊎◌, ℕ, ◌+◌, ◌≤◌, ◌||◌, Bool, true, false, cond, List, [], ◌∷◌, ◌++◌, Option, Some, refl, sym, ap, arith, subst, inl, inr}
 use Rattle.std.specs.Prelude.{IsTrue}
 use Rattle.std.specs.Str.{bytes_eq}
-use Rattle.std.proofs.lemmas.Bool.{cond-true}
 use Rattle.vx_base.specs.Counts.{Rose, RoseBy}
 use Rattle.vx_base.specs.Named.{Word}
 use Rattle.vx_base.proofs.CountLemmas.{none_rose, rose_then, rose_and_later, later_and_rose}
@@ -11,7 +10,7 @@ use Rattle.vx_piece.specs.Seen.{Seen, Keeps}
 use Rattle.vx_life.specs.declared.Part.{Part}
 use Rattle.vx_world.specs.declared.answer.Answer.{Answer}
 use Rattle.vx_world.specs.declared.answer.Answer.TheVariants.{Done, Shown, Refused, Fault, ShelfFailed, GroupLost, Lost}
-use Rattle.vx_world.specs.Answers.{all_faults_told, all_shelf_told, some_lost, faults_told, shelf_told, is_lost}
+use Rattle.vx_world.specs.Answers.{all_faults_told, all_shelf_told, some_lost, is_lost}
 use Rattle.vx_world.specs.Failures.{Failures}
 use Rattle.vx_hold.specs.Moves.{AreBlamed, HasBlame, HaveFailed, faults_in, cut_in}
 
@@ -191,3 +190,13 @@ failed_between f older old new newer r s t u before less after more h = record {
   devices = λ name is. later_and_rose 1 (faults_in (older name)) (faults_in (old name)) (faults_in (newer name)) (before.faults name) (rose_and_later 1 (faults_in (old name)) (faults_in (new name)) (faults_in (newer name)) (h.devices name is) (after.faults name));
   shelfs = λ is. later_and_rose 1 r s u less (rose_and_later 1 s t u (h.shelfs is) more);
 }
+
+-- an answer that tells no fault and no loss adds nothing
+pub silent_too : (answer : Answer) (old new : Word → Option Seen) (shelf shelf' : ℕ) → IsSilent answer → HasBlame [] old new shelf shelf' → HasBlame (answer ∷ []) old new shelf shelf'
+silent_too (Done parts blocks) old new shelf shelf' is h = record { counts = h.counts; lost = λ e. cc; cuts = h.cuts }
+silent_too (Shown text) old new shelf shelf' is h = record { counts = h.counts; lost = λ e. cc; cuts = h.cuts }
+silent_too (Refused refusal) old new shelf shelf' is h = record { counts = h.counts; lost = λ e. cc; cuts = h.cuts }
+silent_too GroupLost old new shelf shelf' is h = record { counts = h.counts; lost = λ e. cc; cuts = h.cuts }
+silent_too (Fault device parts) old new shelf shelf' is h = absurd is
+silent_too ShelfFailed old new shelf shelf' is h = absurd is
+silent_too (Lost parts) old new shelf shelf' is h = absurd is

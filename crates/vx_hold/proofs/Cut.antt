@@ -1,5 +1,5 @@
 -- All devices are given back: what is left of the world that a system stood for.
-use Rattle.std.proofs.Common.{◌≡◌, ◌∙◌, ℕ, List, [], ◌∷◌, ◌++◌, map, Option, Some, None, IsSome, refl, sym, ap, subst, inl, inr}
+use Rattle.std.proofs.Common.{◌≡◌, ◌∙◌, ℕ, List, [], ◌∷◌, map, Option, Some, None, IsSome, refl, sym, ap, subst, inl, inr}
 use Rattle.std.specs.Prelude.{IfSome}
 use Rattle.std.specs.BTreeMap.{IsOrdered}
 use Rattle.std.specs.Cmp.Lexicographic.{slice_cmp}
@@ -15,11 +15,11 @@ use Rattle.vx_bare.specs.Stands.{IsAmongTold}
 use Rattle.vx_bare.specs.declared.started.Started.{Started}
 use Rattle.vx_world.specs.World.{World, Device, Volume, Member, Group, DeviceStands}
 use Rattle.vx_world.specs.Tests.{IsHeld, IsMemberDevice}
-use Rattle.vx_world.specs.Back.{IsGroupBack, IsOfferOf, IsBackOf, IsCutOff}
-use Rattle.vx_world.specs.Images.{device_told, device_of, world_of, IsTold, IsImage, IsDeviceOf}
+use Rattle.vx_world.specs.Back.{IsBackOf, IsCutOff}
+use Rattle.vx_world.specs.Images.{device_told, device_of, world_of, IsImage, IsDeviceOf}
 use Rattle.vx_hold.specs.Holders.{Holder, volume_at, volume_holder, disk_holders, group_holders, holders, held_as, AreApart}
 use Rattle.vx_hold.specs.Kept.{IsGroupKept, Keeps}
-use Rattle.vx_hold.specs.Stand.{IsVolumeOf, IsAtVolume, IsPublicOf, AreMembersOf, IsGroupOf, IsAtGroup, StandWith, seen_at}
+use Rattle.vx_hold.specs.Stand.{IsVolumeOf, IsAtVolume, IsPublicOf, AreMembersOf, IsAtGroup, StandWith, seen_at}
 use Rattle.vx_hold.specs.Closing.{AreBack}
 use Rattle.vx_hold.specs.declared.system.System.{System}
 use Rattle.vx_hold.specs.declared.system.Imported.{Imported}
@@ -50,11 +50,11 @@ is_device slot dev of = subst (IsDeviceOf slot) (sym (same_device slot dev of)) 
 pub are_there : (hs : List Holder) (devices devices' : Word → Option Seen) → AreBack hs (Some devices) (Some devices') → AreApart hs → AllOf Tells hs → AreThere (λ name. device_of (devices' name)) hs
 are_there hs devices devices' back apart tell =
     all_two (λ h. held_as hs h.name ≡ Some h.seen) Tells (IsThere (λ name. device_of (devices' name)))
-        (λ h at tells.
-            let i = told_image h.seen tells.0 tells.1 in
-            let here : devices' h.name ≡ Some h.seen = back h.name ∙ ap (λ o. seen_at o (Some devices) h.name) at in
-            (i.0, ap device_of here ∙ i.1, i.2))
-        hs (held_each hs apart) tell
+    (λ h at tells.
+    let i = told_image h.seen tells.0 tells.1 in
+    let here : devices' h.name ≡ Some h.seen = back h.name ∙ ap (λ o. seen_at o (Some devices) h.name) at in
+    (i.0, ap device_of here ∙ i.1, i.2))
+    hs (held_each hs apart) tell
 
 public_tells : (h : Holder) (public : Contents) → IsPublicOf h.seen.told public → Tells h
 public_tells h public of = by_told h.seen.told refl
@@ -101,15 +101,15 @@ back_of see (Some g) None devices kept of there = absurd of
 back_of see (Some g) (Some w) devices kept of there = group_back see g w devices kept of there
 
 -- the world's volume of a started one
-at_volume : {P : Type 0} (see : P → Seen) (b : Started P) (o : Option Volume) → IsAtVolume see (Some b) o → (v : Volume) × (o ≡ Some v) × IsVolumeOf see b v
+pub at_volume : {P : Type 0} (see : P → Seen) (b : Started P) (o : Option Volume) → IsAtVolume see (Some b) o → (v : Volume) × (o ≡ Some v) × IsVolumeOf see b v
 at_volume see b None at = absurd at
 at_volume see b (Some v) at = (v, refl, at)
 
-at_world : {P : Type 0} (see : P → Seen) (o : Option (Started P)) (v : Volume) → IsAtVolume see o (Some v) → (b : Started P) × (o ≡ Some b) × IsVolumeOf see b v
+pub at_world : {P : Type 0} (see : P → Seen) (o : Option (Started P)) (v : Volume) → IsAtVolume see o (Some v) → (b : Started P) × (o ≡ Some b) × IsVolumeOf see b v
 at_world see None v at = absurd at
 at_world see (Some b) v at = (b, refl, at)
 
-among_told : (n : ℕ) (told : Option Contents) (c : Candidates) → IsAmongTold n told c → (contents : Contents) × (told ≡ Some contents) × IsChosen n c contents
+pub among_told : (n : ℕ) (told : Option Contents) (c : Candidates) → IsAmongTold n told c → (contents : Contents) × (told ≡ Some contents) × IsChosen n c contents
 among_told n None c among = absurd among
 among_told n (Some contents) c among = (contents, refl, among)
 
@@ -148,6 +148,14 @@ module _ {P : Type 0} (see : P → Seen) (devices : Word → Option Seen) (s : S
       by_seen None e = e
       by_seen (Some seen) e = absurd (held_by_one (λ h. IsHeld w h.name) (holders see s) name seen e all_held (λ h named is held. away (subst (IsHeld w) named held)))
 
+  -- the world holds what is held
+  pub held_in_world : (held : Word → Option Held) (name : Word) → Keeps see held s → IsSome (held name) → IsHeld w name
+  held_in_world held name keeps there = by_seen (held_as (holders see s) name) refl
+    where
+      by_seen : (o : Option Seen) → held_as (holders see s) name ≡ o → IsHeld w name
+      by_seen (Some seen) e = held_by_one (λ h. IsHeld w h.name) (holders see s) name seen e all_held (λ h named is held. subst (IsHeld w) named held)
+      by_seen None e = let h = subst IsSome (keeps.devices.only name e) there in cc
+
   module _ (held : Word → Option Held) (keeps : Keeps see held s) (devices' : Word → Option Seen) (back : AreBack (holders see s) (Some devices) (Some devices')) where
     -- the world that is read from the devices
     abbrev pub cut_world : World
@@ -170,11 +178,14 @@ module _ {P : Type 0} (see : P → Seen) (devices : Word → Option Seen) (s : S
         found_by_one (λ e. IsThere (λ name. device_of (devices' name)) (volume_holder see e)) s.volumes.entries vol b.0 b.1
         (all_unmapped (IsThere (λ name. device_of (devices' name))) (volume_holder see) s.volumes.entries (all_front (IsThere (λ name. device_of (devices' name))) (map (volume_holder see) s.volumes.entries) (group_holders see s.group) there))
         (λ e named one at.
-            let image : IsImage (see b.0.piece) at.0 = subst (λ x. IsImage (see x.piece) at.0) one at.2 in
-            (at.0, ap (λ n. device_of (devices' n)) (b.2.shape.device_is ∙ ap (λ x. x.device) (sym one)) ∙ at.1, record {
-              sectors = image.sectors ∙ (keeps.volumes vol b.0 b.1).sized ∙ sym b.2.shape.length_is;
-              contents = subst (IsChosen v.length v.life.candidates) (same_contents (see b.0.piece).told chosen.0 at.0.contents chosen.1 image.contents) chosen.2;
-            }))
+        let image : IsImage (see b.0.piece) at.0 = subst (λ x. IsImage (see x.piece) at.0) one at.2 in (
+          at.0,
+          ap (λ n. device_of (devices' n)) (b.2.shape.device_is ∙ ap (λ x. x.device) (sym one)) ∙ at.1,
+          record {
+            sectors = image.sectors ∙ (keeps.volumes vol b.0 b.1).sized ∙ sym b.2.shape.length_is;
+            contents = subst (IsChosen v.length v.life.candidates) (same_contents (see b.0.piece).told chosen.0 at.0.contents chosen.1 image.contents) chosen.2;
+          },
+        ))
       where
         same_contents : (t : Option Contents) (a b : Contents) → t ≡ Some a → t ≡ Some b → a ≡ b
         same_contents t a b one two = cc

@@ -96,7 +96,7 @@ module _ (held held' : Word → Option Held) (xs : List Holder) (h : Holder) (ys
       by_test name false e none = are.only name (held_at xs h ys name are.apart ∙ cond-false _ _ _ e ∙ none)
 
   -- nobody else's device is that one
-  apart_from : held h.name ≡ None → (hs : List Holder) → AllOf (IsTakenFrom held) hs → AllOf (IsApart h) hs
+  pub apart_from : held h.name ≡ None → (hs : List Holder) → AllOf (IsTakenFrom held) hs → AllOf (IsApart h) hs
   apart_from none [] taken = tt
   apart_from none (o ∷ os) taken = (by_test (bytes_eq h.name o.name) refl, apart_from none os taken.1)
     where

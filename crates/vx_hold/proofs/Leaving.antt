@@ -1,8 +1,7 @@
 -- A group that leaves the world: its devices are back, and give its configuration.
-use Rattle.std.proofs.Common.{◌≡◌, ◌≢◌, ◌∙◌, ◌⊎◌, ℕ, ◌+◌, ◌-◌, ◌<◌, ◌==◌, ◌&&◌, ◌||◌, Bool, true, false, cond, List, [], ◌∷◌, map, Option, Some, None, refl, sym, ap, subst, inl, inr}
-use Rattle.std.specs.Prelude.{IsTrue}
+use Rattle.std.proofs.Common.{◌≡◌, ◌≢◌, ◌∙◌, ℕ, ◌+◌, ◌==◌, ◌&&◌, ◌||◌, Bool, true, false, cond, List, [], ◌∷◌, map, Option, Some, None, refl, sym, ap, subst, inl, inr}
 use Rattle.std.specs.Str.{bytes_eq}
-use Rattle.std.proofs.lemmas.Bool.{cond-true, cond-false, ne_eqb, and_parts}
+use Rattle.std.proofs.lemmas.Bool.{ne_eqb}
 use Rattle.vx_base.specs.Blocks.{Contents}
 use Rattle.vx_base.specs.Named.{Word}
 use Rattle.vx_base.proofs.NamedLemmas.{bytes_eq_self}
@@ -16,11 +15,11 @@ use Rattle.vx_copies.specs.Config.{configuration, GivesNew, HasGoodMask, IsReada
 use Rattle.vx_copies.specs.Config.{offers_of as held_offers}
 use Rattle.vx_copies.specs.declared.disk.Disk.{Disk}
 use Rattle.vx_confdb.specs.Groups.{members, IsMemberOf as IsHeadedMember}
-use Rattle.vx_confdb.specs.Prepare.{IsHeaded, Says, label_in}
+use Rattle.vx_confdb.specs.Prepare.{Says, label_in}
 use Rattle.vx_confdb.specs.Texts.{text_of}
 use Rattle.vx_world.specs.World.{Device, Member, Group}
 use Rattle.vx_world.specs.Images.{IsImage}
-use Rattle.vx_world.specs.Back.{label_of, IsDeviceOfMember, AreDevicesOf, offers_of, CanBeRead, IsGroupBack, IsOfferOf, IsTextOf}
+use Rattle.vx_world.specs.Back.{label_of, IsDeviceOfMember, AreDevicesOf, offers_of, IsGroupBack, IsOfferOf, IsTextOf}
 use Rattle.vx_hold.specs.Holders.{Holder, disk_holders}
 use Rattle.vx_hold.specs.Kept.{IsGroupKept, AreSized, HaveSlots}
 use Rattle.vx_hold.specs.Stand.{IsPublicOf, IsMemberOf, AreMembersOf, IsGroupOf}

@@ -5,3 +5,6 @@ pub mod Blamed
 pub mod Listed
 pub mod Leaving
 pub mod Cut
+pub mod Closed
+pub mod Looked
+pub mod Answered

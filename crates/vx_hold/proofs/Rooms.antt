@@ -1,10 +1,7 @@
 -- The room that a system has for later commands.
-use Rattle.std.proofs.Common.{◌≡◌, ℕ, ◌+◌, ◌*◌, ◌^◌, ◌<◌, ◌≤◌, Option, Some, None, arith}
+use Rattle.std.proofs.Common.{ℕ, ◌+◌, ◌*◌, ◌^◌, ◌≤◌, Option, Some, None, arith}
 use Rattle.std.specs.Prelude.{IfSome}
-use Rattle.vx_base.specs.Named.{Word}
-use Rattle.vx_bare.specs.declared.started.Started.{Started}
 use Rattle.vx_hold.specs.Kept.{HasRoom}
-use Rattle.vx_hold.specs.Holders.{volume_at}
 use Rattle.vx_hold.specs.declared.system.System.{System}
 use Rattle.vx_hold.specs.declared.system.Imported.{Imported}
 
@@ -19,3 +16,6 @@ module _ {P : Type 0} where
     numbers = λ name b is. let low = room.numbers name b is in let up : b.most ≤ 262144 * n = omega (arith, low, more) in up;
     sequence = low_on m n more s.group room.sequence;
   }
+
+  pub room_next : (s : System P) (n : ℕ) → HasRoom n s → HasRoom (n + 1) s
+  room_next s n room = more_room n (n + 1) (omega arith) s room

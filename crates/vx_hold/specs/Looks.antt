@@ -1,5 +1,5 @@
 -- A device that is taken from the shelf, and its header.
-use Rattle.std.specs.Prelude.{◌≡◌, ◌⊎◌, ◌≤◌, Option, Some, None, IfSome, option_map, Result, Ok, Err}
+use Rattle.std.specs.Prelude.{◌≡◌, ◌⊎◌, ◌≤◌, Option, Some, None, IfSome, option_map}
 use Rattle.vx_base.specs.Named.{Word, put, SameUnder}
 use Rattle.vx_header.specs.Named.{header_of, label_of}
 use Rattle.vx_header.specs.declared.header.Header.{Header}
@@ -7,7 +7,6 @@ use Rattle.vx_piece.specs.Seen.{Seen, Keeps as PieceKeeps, IsRead}
 use Rattle.vx_shelf.specs.Shelf.{Held, IsTaken}
 use Rattle.vx_world.specs.declared.answer.Answer.{Answer}
 use Rattle.vx_world.specs.declared.answer.Refusal.{Refusal}
-use Rattle.vx_world.specs.Failures.{Failures}
 use Rattle.vx_world.specs.World.{World, IsRefused}
 use Rattle.vx_world.specs.Tests.{IsAway, IsFault}
 use Rattle.vx_world.specs.Back.{IsLost}

@@ -1,5 +1,5 @@
 //! A device that is taken from the shelf, and its header.
-ghost use Rattle.std.specs.Prelude.{◌≡◌, ◌+◌, ℕ, IfOk, OnErr};
+ghost use Rattle.std.specs.Prelude.{◌≡◌, ◌+◌, ◌≤◌, ℕ, IfOk, OnErr};
 ghost use Rattle.vx_world.specs.World.{World};
 ghost use Rattle.vx_hold.specs.Kept.{Keeps, HasRoom};
 ghost use Rattle.vx_hold.specs.Stand.{Stand};
@@ -7,12 +7,16 @@ ghost use Rattle.vx_hold.specs.Moves.{Rests};
 ghost use Rattle.vx_hold.specs.Looks.{LookGives};
 
 use crate::System;
+use crate::answers::{fault, lost};
+use crate::closing::close;
 use std::alloc::Global;
 use vx_base::OutOfMemory;
 use vx_header::Header;
+use vx_import::find;
 use vx_names::Name;
-use vx_shelf::Shelf;
-use vx_world::Answer;
+use vx_piece::PieceFault;
+use vx_shelf::{Shelf, ShelfFault};
+use vx_world::{Answer, Refusal};
 
 /// What a look at a device gives.
 #[derive(Drop)]
@@ -26,20 +30,44 @@ pub enum Look<P> {
 /// Takes a device from the shelf and reads its header. Where the device is not free, or it or the shelf fails, the
 /// command ends with this answer; where the power is lost, all devices are given back.
 pub fn look_at<S: Shelf>(
-    _alloc: Global,
-    _system: &mut System<S::P>,
-    _shelf: &mut S,
-    _name: &Name,
+    alloc: Global,
+    system: &mut System<S::P>,
+    shelf: &mut S,
+    name: &Name,
 ) -> Result<Look<S::P>, OutOfMemory>
-    requires keeps { Keeps S.P.seen (S.held _shelf.old) _system.old }
-    ensures room { (n : ℕ) → HasRoom n _system.old → HasRoom (n + 1) _system.new }
-    ensures looks { IfOk result (λ look. LookGives S.P.seen _name.now look
-        (record { free = S.free _shelf.old; faults = S.faults _shelf.old; system = _system.old })
-        (record { free = S.free _shelf.new; faults = S.faults _shelf.new; system = _system.new })
-        (S.held _shelf.old) (S.held _shelf.new)) }
-    ensures rests { OnErr result (Keeps S.P.seen (S.held _shelf.new) _system.new × ((w : World) → Stand S.P.seen (S.free _shelf.old) _system.old w → Rests S.P.seen w
-        (record { free = S.free _shelf.old; faults = S.faults _shelf.old; system = _system.old })
-        (record { free = S.free _shelf.new; faults = S.faults _shelf.new; system = _system.new }))) }
+    requires keeps { Keeps S.P.seen (S.held shelf.old) system.old }
+    ensures room { (n : ℕ) → HasRoom n system.old → HasRoom (n + 1) system.new }
+    ensures looks { IfOk result (λ look. LookGives S.P.seen name.now look
+        (record { free = S.free shelf.old; faults = S.faults shelf.old; system = system.old })
+        (record { free = S.free shelf.new; faults = S.faults shelf.new; system = system.new })
+        (S.held shelf.old) (S.held shelf.new)) }
+    ensures rests { OnErr result (Keeps S.P.seen (S.held shelf.new) system.new × ((w : World) → Stand S.P.seen (S.free shelf.old) system.old w → Rests S.P.seen w
+        (record { free = S.free shelf.old; faults = S.faults shelf.old; system = system.old })
+        (record { free = S.free shelf.new; faults = S.faults shelf.new; system = system.new }))) }
+    ensures later { S.faults shelf.old ≤ S.faults shelf.new }
 {
-    Err(OutOfMemory)
+    // That its keys are in order, which the length of a map tells, is what `Held` rests on.
+    let _started = system.volumes.len();
+    match shelf.take(name) {
+        Ok(piece) => {
+            let mut piece = piece;
+            match find(&mut piece) {
+                Ok(header) => Ok(Look::Found(piece, header)),
+                Err(PieceFault::Failed) => {
+                    shelf.give(name, piece);
+                    Ok(Look::Answered(fault(alloc, *name)))
+                }
+                Err(PieceFault::PowerLost) => {
+                    shelf.give(name, piece);
+                    close(system, shelf);
+                    Ok(Look::Answered(lost(alloc)))
+                }
+            }
+        }
+        Err(ShelfFault::NoDisk) => Ok(Look::Answered(Answer::Refused(Refusal::NoDisk(*name)))),
+        Err(ShelfFault::Held) => Ok(Look::Answered(Answer::Refused(Refusal::Held(*name)))),
+        Err(ShelfFault::Failed) => Ok(Look::Answered(fault(alloc, *name))),
+        Err(ShelfFault::Exists) => unreachable!(),
+        Err(ShelfFault::OutOfMemory) => Err(OutOfMemory),
+    }
 }

@@ -2,6 +2,7 @@
 use Rattle.std.proofs.Common.{◌≡◌, ℕ, ◌+◌, ◌-◌, ◌*◌, ◌<◌, ◌≤◌, List, length, take, Option, Some, None, Result, Ok, Err, sym, ap, ◌∙◌, subst, arith}
 use Rattle.std.specs.Prelude.{MatchResult, IfSome, IfErr, OnOk, option_map}
 use Rattle.std.proofs.lemmas.List.{take_all}
+use Rattle.vx_sector.specs.Fields.{zeros}
 use Rattle.vx_base.specs.Blocks.{Contents, block_at, AreBlocks}
 use Rattle.vx_piece.specs.Seen.{Seen, IsInside}
 use Rattle.vx_header.specs.Said.{said_of, toggle_of}
@@ -26,12 +27,12 @@ pub sector_told : (told : Option Contents) (sector : List ℕ) (at : ℕ) → le
 sector_told None sector at size are Q is = are
 sector_told (Some c) sector at size are Q is = subst Q (sector_is sector c at size are) is
 
-pub bad_reading : (r : Result (Option Toggle) HeaderFault) (sector : List ℕ) (byte : ℕ) → r ≡ Err (BadHeader byte) → MatchResult r (λ read. toggle_of sector ≡ option_map said_of read) (λ fault. toggle_of sector ≡ None) → IfErr r (IsToggleFault sector) → IsReading (Damaged (512 + byte)) sector
-bad_reading r sector byte e said fault =
+pub bad_reading : (r : Result (Option Toggle) HeaderFault) (sector : List ℕ) (byte : ℕ) → r ≡ Err (BadHeader byte) → MatchResult r (λ read. toggle_of sector ≡ option_map said_of read) (λ fault. toggle_of sector ≡ None) → IfErr r (IsToggleFault sector) → (sector ≡ zeros 512 → r ≡ Ok None) → IsReading (Damaged (512 + byte)) sector
+bad_reading r sector byte e said fault none =
     let back : 512 + byte - 512 ≡ byte = omega arith in
     record {
       said = subst (λ x. MatchResult x (λ read. toggle_of sector ≡ option_map said_of read) (λ fault. toggle_of sector ≡ None)) e said;
-      form = (omega arith, subst (IsFirstBad IsToggle is_toggle_place toggle_end sector) (sym back) (subst (λ x. IfErr x (IsToggleFault sector)) e fault));
+      form = (omega arith, subst (IsFirstBad IsToggle is_toggle_place toggle_end sector) (sym back) (subst (λ x. IfErr x (IsToggleFault sector)) e fault), λ zero. let h : r ≡ Ok None = none zero in cc);
     }
 
 text_read : (half len : ℕ) (buffer : List ℕ) (c : Contents) → length buffer ≡ 512 * sectors_for len → AreBlocks buffer c (half_start half) → text_in half len c ≡ take len buffer

@@ -1,5 +1,5 @@
 -- What is read of the devices of a group.
-use Rattle.std.specs.Prelude.{◌≡◌, ℕ, ◌-◌, ◌≤◌, Bool, IsTrue, if◌then◌else◌, List, Option, Some, None, IfSome}
+use Rattle.std.specs.Prelude.{◌≡◌, ◌≢◌, ℕ, ◌-◌, ◌≤◌, Bool, IsTrue, if◌then◌else◌, List, Option, Some, None, IfSome}
 use Rattle.vx_base.specs.Named.{Word}
 use Rattle.vx_sector.specs.Fields.{zeros}
 use Rattle.vx_header.specs.Named.{Label, header_of, label_of}
@@ -24,11 +24,11 @@ half_in Blank = 0
 half_in (Says t) = t.half
 half_in (Damaged byte) = 0
 
--- zeros, or a toggle, or the byte behind 512 others at which the sector is none
+-- zeros, or a toggle, or neither, and the byte behind 512 others at which it is no toggle
 abbrev pub HasForm : Reading → List ℕ → Type 0
 HasForm Blank sector = sector ≡ zeros 512
 HasForm (Says t) sector = sector ≡ sector_of_toggle t
-HasForm (Damaged byte) sector = (512 ≤ byte) × IsFirstBad IsToggle is_toggle_place toggle_end sector (byte - 512)
+HasForm (Damaged byte) sector = (512 ≤ byte) × IsFirstBad IsToggle is_toggle_place toggle_end sector (byte - 512) × (sector ≢ zeros 512)
 
 -- what the sector of a toggle says
 pub record IsReading (reading : Reading) (sector : List ℕ) : Type 0 where

@@ -5,8 +5,9 @@ use Rattle.vx_base.specs.Named.{Word}
 use Rattle.vx_life.specs.Candidates.{known}
 use Rattle.vx_life.specs.Entry.{Entry, candidates_of, IsHistory}
 use Rattle.vx_life.specs.Life.{Life}
-use Rattle.vx_world.specs.declared.command.Command.{Command}
+use Rattle.vx_script.specs.declared.command.Command.{Command}
 use Rattle.vx_world.specs.declared.answer.Answer.{Answer}
+use Rattle.vx_world.specs.Failures.{Failures}
 use Rattle.vx_world.specs.World.{World, Volume}
 use Rattle.vx_world.specs.Transcript.{IsTranscript}
 
@@ -22,7 +23,7 @@ pub record HasHistory (first : Contents) (life : Life) : Type 0 where
   pub numbers : (region : ℕ) → CountsDown region (life.last region) life.entries
 
 -- before some command of the transcript a device of this name and size was there, and held these blocks
-pub record WasThere (place : ℕ) (old : World) (commands : List Command) (answers : List Answer) (name : Word) (sectors : ℕ) (blocks : Contents) : Type 0 where
+pub record WasThere (f : Failures) (place : ℕ) (old : World) (commands : List Command) (answers : List Answer) (name : Word) (sectors : ℕ) (blocks : Contents) : Type 0 where
   pub before : List Command
   pub others : List Command
   pub commands_are : commands ≡ before ++ others
@@ -30,7 +31,7 @@ pub record WasThere (place : ℕ) (old : World) (commands : List Command) (answe
   pub later : List Answer
   pub answers_are : answers ≡ told ++ later
   pub world : World
-  pub transcript : IsTranscript place old before told world
+  pub transcript : IsTranscript f place old before told world
   pub here : world.devices name ≡ Some (record { sectors = sectors; contents = blocks })
 
 -- each started volume has a history from blocks that its device held
@@ -42,4 +43,4 @@ abbrev pub NoneStarted : World → Type 0
 NoneStarted w = (vol : Word) → w.volumes vol ≡ None
 
 abbrev pub EachVolumeHasAHistory : Type 0
-EachVolumeHasAHistory = (place : ℕ) (old new : World) (commands : List Command) (answers : List Answer) → NoneStarted old → IsTranscript place old commands answers new → HaveHistories (WasThere place old commands answers) new
+EachVolumeHasAHistory = (f : Failures) (place : ℕ) (old new : World) (commands : List Command) (answers : List Answer) → NoneStarted old → IsTranscript f place old commands answers new → HaveHistories (WasThere f place old commands answers) new

@@ -1,5 +1,5 @@
 //! The view that `vxmake -d` reads back: records as text.
-ghost use Rattle.std.specs.Prelude.{◌≡◌, ◌⊎◌, if◌then◌else◌, IfErr, IfSome, IsTrue, OnOk, Err, None, Some};
+ghost use Rattle.std.specs.Prelude.{◌≡◌, ◌⊎◌, if◌then◌else◌, IfErr, IfSome, IsTrue, MatchOption, OnOk, Err, None, Some};
 ghost use Rattle.std.specs.List.{list_any};
 ghost use Rattle.std.specs.Option.{option_copied};
 ghost use Rattle.std.specs.Str.{bytes_eq};
@@ -27,7 +27,7 @@ pub fn print_m(
     ensures ok { OnOk result (IsPrinted (option_copied only.entry) (objects_of config.now) out.old.items out.new.items) }
     ensures no_object { IfSome (missing (option_copied only.entry) config.now) (λ vol. result ≡ Err (PrintFault.NoObject vol)) }
     ensures untouched { IfSome (missing (option_copied only.entry) config.now) (λ vol. out.new ≡ out.old) }
-    ensures only { IfErr result (λ fault. (fault ≡ PrintFault.OutOfMemory) ⊎ IfSome (missing (option_copied only.entry) config.now) (λ vol. fault ≡ PrintFault.NoObject vol)) }
+    ensures only { IfErr result (λ fault. (fault ≡ PrintFault.OutOfMemory) ⊎ MatchOption (missing (option_copied only.entry) config.now) ⊥ (λ vol. fault ≡ PrintFault.NoObject vol)) }
 {
     if let Some(vol) = missing(only, config) {
         return Err(PrintFault::NoObject(vol));

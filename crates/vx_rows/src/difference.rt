@@ -11,6 +11,8 @@ pub enum Difference {
     NoMemory,
     /// A fault that moves fires at each call.
     Endless,
+    /// The images are not written to in the order that the row says.
+    Order,
     /// A line of the answers, counted from 1, as it was written and as it is wanted.
     Answer {
         line: usize,
@@ -40,6 +42,7 @@ impl fmt::Display for Difference {
         match self {
             Difference::Images => write!(f, "these images stand on no shelf"),
             Difference::Endless => write!(f, "the fault fires at each call"),
+            Difference::Order => write!(f, "the writes are others, or in another order"),
             Difference::NoMemory => write!(f, "memory was wanting"),
             Difference::Answer {
                 line,
@@ -53,9 +56,7 @@ impl fmt::Display for Difference {
             Difference::Content { image, sector } => {
                 write!(f, "sector {sector} of {image} holds something else")
             }
-            Difference::Byte { image, place } => {
-                write!(f, "byte {place} of {image} is another")
-            }
+            Difference::Byte { image, place } => { write!(f, "byte {place} of {image} is another") }
         }
     }
 }

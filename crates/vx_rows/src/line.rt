@@ -24,6 +24,15 @@ pub enum Line<'a> {
         on_read: bool,
         times: u64,
     },
+    /// `order NAME ..`: the images in the order in which the first run writes to them.
+    Order(&'a str),
+    /// `cuts N M`: all images fail for good after N of these writes, after N + 1, and so on up to M.
+    Cuts {
+        first: u64,
+        last: u64,
+    },
+    /// `heal`: no sector is bad any more as this run begins.
+    Heal,
     /// `any`: any answers and any status of this run will do.
     Any,
     /// `or`: the answers behind it would do as well as those before.
@@ -84,6 +93,8 @@ pub fn read_line(text: &str) -> Option<Line<'_>> {
         "change" => read_change(rest),
         "byte" => read_end(rest),
         "moving" => read_moving(rest),
+        "order" => Some(Line::Order(rest)),
+        "cuts" => read_cuts(rest),
         _ => read_figure(text),
     }
 }
@@ -97,6 +108,7 @@ fn read_figure(text: &str) -> Option<Line<'_>> {
         "again" => return Some(Line::Again),
         "any" => return Some(Line::Any),
         "or" => return Some(Line::Or),
+        "heal" => return Some(Line::Heal),
         _ => {}
     }
     if let Some(number) = text.strip_prefix("source fails at ") {
@@ -160,6 +172,14 @@ fn read_moving(text: &str) -> Option<Line<'_>> {
         name,
         on_read: kind == "read",
         times: times.parse().ok()?,
+    })
+}
+
+fn read_cuts(text: &str) -> Option<Line<'_>> {
+    let (first, last) = read_number(text)?;
+    Some(Line::Cuts {
+        first,
+        last: last.parse().ok()?,
     })
 }
 

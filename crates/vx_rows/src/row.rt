@@ -13,6 +13,11 @@ pub struct Row {
     pub runs: Vec<Run>,
     /// A fault that is moved along: the row is tried with it at call 0, 1, 2 and so on, until it no longer fires.
     pub moving: Option<Moving>,
+    /// The images in the order in which the first run writes to them, one for each write.
+    pub order: Vec<Name>,
+    /// After how many of these writes all images fail for good: the row is tried with each number from the first to the
+    /// last. What is left of the images is what a power cut there leaves.
+    pub cuts: Option<(u64, u64)>,
 }
 
 /// Calls of one kind on an image that fail, so many times from some call on.
@@ -28,6 +33,8 @@ pub struct Moving {
 pub struct Run {
     /// Images that are not on the shelf of this run.
     pub without: Vec<Name>,
+    /// Whether no sector is bad any more as the run begins.
+    pub heals: bool,
     /// Bytes that are changed before the run.
     pub changes: Vec<Byte>,
     /// After how many bytes the source fails.
@@ -94,6 +101,7 @@ impl Run {
     fn new(alloc: Global) -> Result<Run, AllocError> {
         Ok(Run {
             without: Vec::new(alloc),
+            heals: false,
             changes: Vec::new(alloc),
             fails_at: None,
             room: ROOM,
@@ -121,6 +129,7 @@ impl Run {
             Line::Answer(text) => put_line(self.answers_mut(), text)?,
             Line::Or => self.others.push(Vec::new(alloc))?,
             Line::Any => self.any = true,
+            Line::Heal => self.heals = true,
             Line::Status(status) => self.status = status,
             other => return self.take_named(other),
         }
@@ -171,6 +180,8 @@ impl Row {
             images: Vec::new(alloc),
             runs,
             moving: None,
+            order: Vec::new(alloc),
+            cuts: None,
         })
     }
 
@@ -202,6 +213,8 @@ impl Row {
                 on_read,
                 times,
             } => return Ok(self.move_fault(name, on_read, times)),
+            Line::Order(names) => return self.set_order(names),
+            Line::Cuts { first, last } => self.cuts = Some((first, last)),
             Line::Again => self.runs.push(Run::new(alloc)?)?,
             other => return self.take_in_run(alloc, other),
         }
@@ -214,6 +227,16 @@ impl Row {
             None => Ok(false),
             Some(run) => run.take(alloc, line),
         }
+    }
+
+    fn set_order(&mut self, names: &str) -> Result<bool, AllocError> {
+        for word in names.split_whitespace() {
+            let Ok(name) = Name::read(word.as_bytes()) else {
+                return Ok(false);
+            };
+            self.order.push(name)?;
+        }
+        Ok(true)
     }
 
     fn move_fault(&mut self, name: &str, on_read: bool, times: u64) -> bool {

@@ -3,10 +3,10 @@ ghost use Rattle.std.specs.Prelude.{◌≡◌, None};
 ghost use Rattle.vx_base.specs.Named.{Word};
 ghost use Rattle.vx_shelf.specs.OnShelf.{held_on};
 
-use crate::build::devices;
+use crate::build::{Faulty, devices, healed};
 use crate::compare::compare;
 use crate::difference::Difference;
-use crate::row::{Byte, Content, Moving, Row, Run};
+use crate::row::{Byte, Content, Row, Run};
 use std::alloc::{AllocError, Global};
 use vx_flow::{MemSink, MemSource};
 use vx_names::Name;
@@ -23,11 +23,14 @@ const CALLS: u64 = 1000;
 /// Runs the scripts of the row, and tells the first thing that differs from what is wanted. A fault that moves is tried
 /// at each call, until it does not fire any more.
 pub fn try_row(alloc: Global, row: &Row) -> Result<Option<Difference>, AllocError> {
+    if let Some((first, last)) = row.cuts {
+        return try_cuts(alloc, row, first, last);
+    }
     let Some(moving) = row.moving else {
-        return Ok(try_runs(alloc, row, None)?.err());
+        return Ok(try_runs(alloc, row, Faulty::Nothing)?.err());
     };
     for call in 0..CALLS {
-        match try_runs(alloc, row, Some((moving, call)))? {
+        match try_runs(alloc, row, Faulty::From(moving, call))? {
             Err(difference) => return Ok(Some(difference)),
             Ok(false) => return Ok(None),
             Ok(true) => {}
@@ -36,17 +39,42 @@ pub fn try_row(alloc: Global, row: &Row) -> Result<Option<Difference>, AllocErro
     Ok(Some(Difference::Endless))
 }
 
-/// Runs the scripts of the row one after the other, and tells whether the fault fired.
+/// Tries the row with all images failing after each number of writes. The fault fires where a write is left.
+fn try_cuts(
+    alloc: Global,
+    row: &Row,
+    first: u64,
+    last: u64,
+) -> Result<Option<Difference>, AllocError> {
+    let order = row.order.as_slice();
+    for writes in first..last.saturating_add(1) {
+        match try_runs(alloc, row, Faulty::After(order, writes))? {
+            Err(difference) => return Ok(Some(difference)),
+            Ok(fired) => {
+                if fired != (writes < order.len() as u64) {
+                    return Ok(Some(Difference::Order));
+                }
+            }
+        }
+    }
+    Ok(None)
+}
+
+/// Runs the scripts of the row one after the other, and tells whether a fault fired.
 fn try_runs(
     alloc: Global,
     row: &Row,
-    fault: Option<(Moving, u64)>,
+    faulty: Faulty<'_>,
 ) -> Result<Result<bool, Difference>, AllocError> {
-    let mut devices = devices(alloc, row.images.as_slice(), fault)?;
+    let mut devices = devices(alloc, row.images.as_slice(), faulty)?;
     if devices.len() != row.images.len() {
         return Ok(Err(Difference::Images));
     }
+    let mut fired = false;
     for run in row.runs.as_slice() {
+        if run.heals {
+            devices = healed(alloc, devices)?;
+        }
         change_all(alloc, &mut devices, run.changes.as_slice())?;
         let mut away = Vec::new(alloc);
         let here = part(alloc, devices, &mut away, run.without.as_slice())?;
@@ -58,8 +86,14 @@ fn try_runs(
             return Ok(Err(difference));
         }
         devices = collect(alloc, shelf, away)?;
+        fired = fired || has_failed(devices.as_slice());
     }
-    Ok(Ok(devices.iter().any(|device| 0 < device.1.counts().faults)))
+    Ok(Ok(fired))
+}
+
+/// Whether a call of some device has failed.
+fn has_failed(devices: &[(Name, MemPiece)]) -> bool {
+    devices.iter().any(|device| 0 < device.1.counts().faults)
 }
 
 /// Changes bytes of devices.
@@ -102,7 +136,10 @@ fn part(
 ) -> Result<Vec<(Name, MemPiece)>, AllocError> {
     let mut here = Vec::new(alloc);
     for device in devices {
-        if without.iter().any(|name| name.as_bytes() == device.0.as_bytes()) {
+        if without
+            .iter()
+            .any(|name| name.as_bytes() == device.0.as_bytes())
+        {
             away.push(device)?;
         } else {
             here.push(device)?;

@@ -1,5 +1,1 @@
-pub mod Parted
-pub mod Numbers
-pub mod Fields
-pub mod Lines
-pub mod Scripts
+pub mod Counted

@@ -1,4 +1,2 @@
-pub mod Reader
-pub mod Reading
 pub mod Source
 pub mod Top

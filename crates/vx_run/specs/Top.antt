@@ -1,10 +1,11 @@
 -- What the top call does at each status.
-use Rattle.std.specs.Prelude.{◌≡◌, ◌⊎◌, ℕ, ◌+◌, ◌≤◌, Bool, false, List, [], ◌∷◌, ◌++◌, Option, Some, take, codes}
+use Rattle.std.specs.Prelude.{◌≡◌, ◌⊎◌, ℕ, ◌+◌, ◌≤◌, Bool, false, List, [], ◌∷◌, ◌++◌, Option, Some, Ok, Err, take, codes}
+use Rattle.std.specs.Fmt.{decimal}
 use Rattle.std.specs.Str.{bytes_eq}
 use Rattle.vx_base.specs.Counts.{Rose, later_count}
-use Rattle.vx_world.specs.declared.command.Command.{Command}
+use Rattle.vx_script.specs.Script.{Place, script_of}
+use Rattle.vx_script.specs.declared.command.Command.{Command}
 use Rattle.vx_commands.specs.Ends.{Shelved, CarriesOut, StopsShort}
-use Rattle.vx_run.specs.Reader.{IsSpelled}
 
 -- the words are `--images` and a folder
 abbrev pub is_form : List (List ℕ) → Bool
@@ -37,13 +38,21 @@ HasPassedFew before now = now ≤ before + longest
 abbrev pub TellsLine : List ℕ → Option (List ℕ) → Option (List ℕ) → ℕ → ℕ → Type 0
 TellsLine line old new before now = (text : List ℕ) → old ≡ Some text → (new ≡ Some (text ++ line)) ⊎ (Rose before now × (n : ℕ) × (new ≡ Some (text ++ take n line)))
 
+-- the line of a script's fault, which names its place
+abbrev pub place_line : Place → List ℕ
+place_line place = codes "script " ++ decimal place.line ++ codes " " ++ decimal place.column ++ codes "\n"
+
+-- the line of the place was written, or a front of it where the sink failed
+abbrev pub TellsPlace : Place → Option (List ℕ) → Option (List ℕ) → ℕ → ℕ → Type 0
+TellsPlace place old new before now = TellsLine (place_line place) old new before now
+
 -- the bytes spell commands, and these were carried out
 abbrev pub IsSpelledRun : List ℕ → Shelved → Option (List ℕ) → Shelved → Option (List ℕ) → Bool → Type 0
-IsSpelledRun bytes old taken new taken' fine = (commands : List Command) × IsSpelled bytes commands × CarriesOut commands old taken new taken' fine
+IsSpelledRun bytes old taken new taken' fine = (commands : List Command) × (script_of bytes ≡ Ok commands) × CarriesOut commands old taken new taken' fine
 
 -- the bytes spell commands, and a first part of these was begun
 abbrev pub IsSpelledStop : List ℕ → Shelved → Option (List ℕ) → Shelved → Option (List ℕ) → Type 0
-IsSpelledStop bytes old taken new taken' = (commands : List Command) × IsSpelled bytes commands × StopsShort commands old taken new taken'
+IsSpelledStop bytes old taken new taken' = (commands : List Command) × (script_of bytes ≡ Ok commands) × StopsShort commands old taken new taken'
 
 -- the source was read to its end, its bytes spell commands, and these were carried out
 abbrev pub IsCarriedThrough : Option (List ℕ) → Option (List ℕ) → Shelved → Option (List ℕ) → Shelved → Option (List ℕ) → Bool → Type 0
@@ -53,6 +62,10 @@ IsCarriedThrough left left' old taken new taken' fine = (bytes : List ℕ) → l
 abbrev pub IsCutOff : Option (List ℕ) → Option (List ℕ) → Shelved → Option (List ℕ) → Shelved → Option (List ℕ) → Type 0
 IsCutOff left left' old taken new taken' = (bytes : List ℕ) → left ≡ Some bytes → (left' ≡ Some []) × IsSpelledStop bytes old taken new taken'
 
--- the source was read to its end, and no commands spell its bytes
-abbrev pub IsNoScript : Option (List ℕ) → Option (List ℕ) → Type 0
-IsNoScript left left' = (bytes : List ℕ) → left ≡ Some bytes → (left' ≡ Some []) × ((commands : List Command) → IsSpelled bytes commands → ⊥)
+-- the source was read to its end, and its bytes are no script, for a fault at this place
+abbrev pub IsNoScript : Place → Option (List ℕ) → Option (List ℕ) → Type 0
+IsNoScript place left left' = (bytes : List ℕ) → left ≡ Some bytes → (left' ≡ Some []) × (script_of bytes ≡ Err place)
+
+-- the line names the place at which the bytes of the source are no script
+abbrev pub TellsFault : Option (List ℕ) → Option (List ℕ) → Option (List ℕ) → Option (List ℕ) → ℕ → ℕ → Type 0
+TellsFault left left' taken taken' before now = (place : Place) × TellsPlace place taken taken' before now × IsNoScript place left left'

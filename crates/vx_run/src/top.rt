@@ -1,16 +1,16 @@
-ghost use Rattle.std.specs.Prelude.{◌≡◌, ◌≢◌, ◌⊎◌, ◌↔◌, ◌+◌, ◌<◌, ◌≤◌, ℕ, List, true, false, map, length, codes};
+ghost use Rattle.std.specs.Prelude.{◌≡◌, ◌≢◌, ◌⊎◌, ◌↔◌, ◌+◌, ◌<◌, ◌≤◌, ℕ, List, true, false, Err, map, length, codes};
 ghost use Rattle.vx_base.specs.Counts.{Rose};
-ghost use Rattle.vx_commands.specs.System.{NoneHeld};
-ghost use Rattle.vx_run.specs.Top.{is_form, longest, HasPassedMore, HasPassedFew, TellsLine, IsSpelledRun, IsSpelledStop, IsCarriedThrough, IsCutOff, IsNoScript};
-ghost use Rattle.vx_run.specs.Reader.{IsSpelled};
-ghost use Rattle.vx_world.specs.declared.command.Command.{Command};
+ghost use Rattle.vx_script.specs.Script.{Place, script_of};
+ghost use Rattle.vx_hold.specs.Closing.{NoneHeld};
+ghost use Rattle.vx_run.specs.Top.{is_form, longest, HasPassedMore, HasPassedFew, TellsLine, TellsPlace, TellsFault, IsSpelledRun, IsSpelledStop, IsCarriedThrough, IsCutOff};
 
-use crate::reader::read_script;
+use crate::place::line_of_place;
 use crate::source::{Unread, read_all};
 use crate::words::folder_of;
 use std::alloc::Global;
 use vx_commands::{Stop, run_commands};
 use vx_flow::{Sink, Source};
+use vx_script::{ScriptFault, read};
 use vx_shelf::Shelf;
 
 /// Runs the script of the source on the shelf, and writes the line of each answer to the sink. It answers the status:
@@ -45,9 +45,10 @@ pub fn run<S: Shelf, A: Source, B: Sink>(
         (record { free = S.free shelf.old; faults = S.faults shelf.old }) (B.taken sink.old)
         (record { free = S.free shelf.new; faults = S.faults shelf.new }) (B.taken sink.new) }
 
-    // At 1 and 2 the line of the status was written, and at 3 and 7 nothing; no device was touched.
+    // At 1 and 2 the line of the status was written, at 2 with the place where the bytes are no script, and at 3 and 7
+    // nothing; no device was touched.
     ensures usage { result ≡ 1 → TellsLine (codes "usage: vxrun --images DIR [--generate N]\n") (B.taken sink.old) (B.taken sink.new) (B.faults sink.old) (B.faults sink.new) × (source.new ≡ source.old) }
-    ensures script { result ≡ 2 → TellsLine (codes "script\n") (B.taken sink.old) (B.taken sink.new) (B.faults sink.old) (B.faults sink.new) × IsNoScript (A.left source.old) (A.left source.new) }
+    ensures script { result ≡ 2 → TellsFault (A.left source.old) (A.left source.new) (B.taken sink.old) (B.taken sink.new) (B.faults sink.old) (B.faults sink.new) }
     ensures silent { (result ≡ 3) ⊎ (result ≡ 7) → sink.new ≡ sink.old }
     ensures untouched { (result ≡ 1) ⊎ ((result ≡ 2) ⊎ ((result ≡ 3) ⊎ (result ≡ 7))) → shelf.new ≡ shelf.old }
 
@@ -98,22 +99,34 @@ fn run_bytes<S: Shelf, B: Sink>(alloc: Global, shelf: &mut S, sink: &mut B, byte
     ensures no_memory { result ≡ 6 → ((shelf.new ≡ shelf.old) × (sink.new ≡ sink.old)) ⊎ IsSpelledStop bytes.now
         (record { free = S.free shelf.old; faults = S.faults shelf.old }) (B.taken sink.old)
         (record { free = S.free shelf.new; faults = S.faults shelf.new }) (B.taken sink.new) }
-    ensures script { result ≡ 2 → TellsLine (codes "script\n") (B.taken sink.old) (B.taken sink.new) (B.faults sink.old) (B.faults sink.new) × ((commands : List Command) → IsSpelled bytes.now commands → ⊥) × (shelf.new ≡ shelf.old) }
+    ensures script { result ≡ 2 → (place : Place) × TellsPlace place (B.taken sink.old) (B.taken sink.new) (B.faults sink.old) (B.faults sink.new) × (script_of bytes.now ≡ Err place) × (shelf.new ≡ shelf.old) }
     ensures known { (result ≡ 0) ⊎ ((result ≡ 2) ⊎ ((result ≡ 4) ⊎ ((result ≡ 5) ⊎ (result ≡ 6)))) }
     ensures sink { result ≡ 4 → Rose (B.faults sink.old) (B.faults sink.new) }
     ensures back { NoneHeld (S.held shelf.new) }
 {
-    match read_script(alloc, bytes) {
-        Err(_) => 6,
-        Ok(None) => {
-            tell(sink, b"script\n");
-            2
-        }
-        Ok(Some(script)) => match run_commands(alloc, shelf, sink, script.commands.as_slice()) {
+    match read(alloc, bytes) {
+        Err(ScriptFault::OutOfMemory) => 6,
+        Err(ScriptFault::Script(line, column)) => tell_place(alloc, sink, line, column),
+        Ok(script) => match run_commands(alloc, shelf, sink, script.commands.as_slice()) {
             Ok(true) => 0,
             Ok(false) => 5,
             Err(Stop::OutOfMemory) => 6,
             Err(Stop::SinkFailed) => 4,
         },
+    }
+}
+
+/// Writes the line of a place, and answers the status.
+fn tell_place<B: Sink>(alloc: Global, sink: &mut B, line: u64, column: u64) -> u8
+    ensures told { result ≡ 2 → TellsPlace (record { line = line; column = column }) (B.taken sink.old) (B.taken sink.new) (B.faults sink.old) (B.faults sink.new) }
+    ensures refused { result ≡ 6 → sink.new ≡ sink.old }
+    ensures known { (result ≡ 2) ⊎ (result ≡ 6) }
+{
+    match line_of_place(alloc, line, column) {
+        Ok(text) => {
+            tell(sink, text.as_slice());
+            2
+        }
+        Err(_) => 6,
     }
 }

@@ -144,7 +144,7 @@ slot_or_last None = 32
 slot_or_last (Some slot) = slot
 
 -- the lowest free slot; where all are taken, the first that no disk can have
-abbrev pub next_slot : Config → ℕ
+unfoldable pub next_slot : Config → ℕ
 next_slot config = slot_or_last (free_slot_from 32 0 config)
 
 -- the members that were good

@@ -218,13 +218,13 @@ IsComplete f dg unread o cs old answer new =
     (IsTextRead f dg o cs old answer new)
     (λ slot. (disk : Option Word) × IsDiskOf o.text slot disk × IsRefused (Missing disk) old answer new)
 
+abbrev pub has_sequence : ℕ → Option Offer → Bool
+has_sequence sequence None = false
+has_sequence sequence (Some o) = o.sequence == sequence
+
 -- the device whose offer is taken: the first with its sequence that can be read
 abbrev pub is_taken_of : Word → (Word → Bool) → ℕ → Candidate → Bool
-is_taken_of dg unread sequence c = not (unread c.name) && MatchSequence (offer_in dg c.device.contents)
-  where
-    MatchSequence : Option Offer → Bool
-    MatchSequence None = false
-    MatchSequence (Some o) = o.sequence == sequence
+is_taken_of dg unread sequence c = not (unread c.name) && has_sequence sequence (offer_in dg c.device.contents)
 
 -- a configuration is taken: its sequence is one that commits can go on from, and no device that it names good is damaged
 abbrev pub IsTaken : Failures → Word → (Word → Bool) → Offer → List Candidate → World → Answer → World → Type 0

@@ -1,6 +1,7 @@
-use Rattle.vx_laws.proofs.Kept.{transcript_kept, from_nothing}
+use Rattle.vx_laws.proofs.Lives.{from_nothing}
+use Rattle.vx_laws.proofs.Kept.{transcript_kept}
 use Rattle.vx_laws.specs.Histories.{WasThere}
 use Rattle.vx_laws.proofs.each_volume_has_a_history.Goals as goal
 
 pub returns : goal.returns
-returns c = λ place old new commands answers none transcript. transcript_kept (WasThere place old commands answers) place old new commands answers (λ name sectors blocks was. was) (from_nothing (WasThere place old commands answers) old none) transcript
+returns c = λ f place old new commands answers none transcript. transcript_kept (WasThere f place old commands answers) f place old new commands answers (λ name sectors blocks was. was) (from_nothing (WasThere f place old commands answers) old none) transcript

@@ -1,15 +1,45 @@
-use Rattle.std.proofs.Common.{[], ◌∷◌}
-use Rattle.std.proofs.lemmas.Result.{IfOk-weaker, on_err_weaker}
-use Rattle.vx_commands.proofs.Ran.{run_then, run_then_partly, partly_more, first_ok, first_err}
+use Rattle.std.proofs.Common.{◌≡◌, ◌+◌, [], ◌∷◌, ◌++◌, take, drop, length, List, ℕ, true, subst, sym, ap, ◌∙◌, rules}
+use Rattle.std.proofs.lemmas.List.{take_more, take_all, take-append-drop}
+use Rattle.vx_shelf.proofs.Places.{list_all-get_or}
+use Rattle.vx_script.specs.Kept.{is_command}
+use Rattle.vx_script.specs.declared.command.Command.{Command}
+use Rattle.vx_commands.specs.Run.{RunsPartly}
+use Rattle.vx_commands.proofs.Ran.{always_err, none_run, run_then, run_then_partly, partly_more}
 use Rattle.vx_commands.proofs.lines.all_lines.Goals as goal
 
-pub returns-in-Err-clause-partly : goal.returns-in-Err-clause-partly
-returns-in-Err-clause-partly g c = partly_more g.S.P.Piece.seen 0 (c.args.first.now ∷ []) c.args.rest.now _ _ _ _ (rw c.in-Err.is at c.bare_line-outcome.ensures.partly)
+pub loop-command-init : goal.loop-command-init
+loop-command-init g c = record {
+  keeps = c.requires.keeps;
+  room = c.requires.room;
+  run = none_run g.S.P.Piece.seen 0 _ (g.B.Sink.taken c.args.sink.now);
+  later = search rules;
+}
 
-pub returns-in-Ok-clause-run : goal.returns-in-Ok-clause-run
-returns-in-Ok-clause-run g c = first_ok c.in-Ok.fine c.call_lines-others.result c.with_first.result _ c.with_first.ensures.ok c.with_first.ensures.err
-    (IfOk-weaker c.call_lines-others.result _ _ (λ fine run. run_then g.S.P.Piece.seen 0 (c.args.first.now ∷ []) c.args.rest.now _ _ _ _ _ _ c.in-Ok.fine fine (rw c.in-Ok.is at c.bare_line-outcome.ensures.run) run) c.call_lines-others.ensures.run)
+pub one_line-requires-clause-kept : goal.one_line-requires-clause-kept
+one_line-requires-clause-kept g c κs within = subst (λ x. is_command x ≡ true) (sym c.command-item.is) (list_all-get_or is_command c.args.commands.now c.loop-command.command-index _ c.requires.kept c.loop-command-test.true)
 
-pub returns-in-Ok-clause-partly : goal.returns-in-Ok-clause-partly
-returns-in-Ok-clause-partly g c = first_err _ c.in-Ok.fine c.call_lines-others.result c.with_first.result c.with_first.ensures.ok c.with_first.ensures.err
-    (on_err_weaker c.call_lines-others.result (λ partly. run_then_partly g.S.P.Piece.seen 0 (c.args.first.now ∷ []) c.args.rest.now _ _ _ _ _ _ c.in-Ok.fine (rw c.in-Ok.is at c.bare_line-outcome.ensures.run) partly) c.call_lines-others.ensures.partly)
+pub returns-in_err-this-clause-partly : goal.returns-in_err-this-clause-partly
+returns-in_err-this-clause-partly g c =
+    let cs : List Command = c.args.commands.now in
+    let i : ℕ = c.loop-command.command-index in
+    let more : take (i + 1) cs ≡ take i cs ++ c.command-item.result ∷ [] = take_more cs i c.command-item.result c.loop-command-test.true ∙ ap (λ x. take i cs ++ x ∷ []) (sym c.command-item.is) in
+    let split : (take i cs ++ c.command-item.result ∷ []) ++ drop (i + 1) cs ≡ cs = ap (λ l. l ++ drop (i + 1) cs) (sym more) ∙ take-append-drop (i + 1) cs in
+    always_err c.from_residual.result
+    (subst (λ l. RunsPartly g.S.P.Piece.seen 0 l (record { free = g.S.Shelf.free c.args.shelf.now; faults = g.S.Shelf.faults c.args.shelf.now; system = c.args.system.now }) (g.B.Sink.taken c.args.sink.now) (record { free = g.S.Shelf.free c.one_line.new.shelf; faults = g.S.Shelf.faults c.one_line.new.shelf; system = c.one_line.new.system }) (g.B.Sink.taken c.one_line.new.sink)) split
+    (partly_more g.S.P.Piece.seen 0 (take i cs ++ c.command-item.result ∷ []) (drop (i + 1) cs) _ _ _ _
+    (run_then_partly g.S.P.Piece.seen 0 (take i cs) (c.command-item.result ∷ []) _ _ _ _ _ _ c.loop-command.fine c.loop-command.invariant.run (c.in_err-this.ensures.partly (0 + length (take i cs))))))
+
+pub loop-command-preserved : goal.loop-command-preserved
+loop-command-preserved g c =
+    let cs : List Command = c.args.commands.now in
+    let i : ℕ = c.loop-command.command-index in
+    let more : take (i + 1) cs ≡ take i cs ++ c.command-item.result ∷ [] = take_more cs i c.command-item.result c.loop-command-test.true ∙ ap (λ x. take i cs ++ x ∷ []) (sym c.command-item.is) in
+    record {
+      keeps = c.one_line.ensures.keeps;
+      room = c.one_line.ensures.room i c.loop-command.invariant.room;
+      run = rw (more, c.both-fine.ensures) (run_then g.S.P.Piece.seen 0 (take i cs) (c.command-item.result ∷ []) _ _ _ _ _ _ c.loop-command.fine c.in_ok-this.this c.loop-command.invariant.run (c.in_ok-this.ensures.run (0 + length (take i cs))));
+      later = search rules;
+    }
+
+pub returns-clause-run : goal.returns-clause-run
+returns-clause-run g c = rw (← take_all c.loop-command.command-index c.args.commands.now c.loop-command-test.false) c.loop-command.invariant.run

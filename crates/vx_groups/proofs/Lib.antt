@@ -1,0 +1,12 @@
+pub mod Quiet
+pub mod Shown
+pub mod Back
+pub mod Deported
+pub mod Lowest
+pub mod Edited
+pub mod Joined
+pub mod JudgedSteps
+pub mod Outside
+pub mod AddSteps
+pub mod Refusing
+pub mod Stopped

@@ -1,0 +1,5 @@
+pub mod Printing
+pub mod Leaving
+pub mod Joining
+pub mod Judged
+pub mod Out

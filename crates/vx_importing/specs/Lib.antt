@@ -1,0 +1,4 @@
+pub mod Places
+pub mod Finds
+pub mod Gathering
+pub mod Judging

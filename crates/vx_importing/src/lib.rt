@@ -1,0 +1,18 @@
+//! The import of a disk group: its devices are found on the shelf, and its configuration is read and committed again.
+#![tactic(auto)]
+
+mod checking;
+mod finds;
+mod gathering;
+mod giving;
+mod judging;
+mod naming;
+mod placing;
+
+pub use checking::{first_started, first_stray};
+pub use finds::{Finds, no_finds};
+pub use gathering::{Passed, gather};
+pub use giving::give_finds;
+pub use judging::{Judged, judge};
+pub use naming::missing_disk;
+pub use placing::{place_of, put_in};

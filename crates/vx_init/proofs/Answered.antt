@@ -1,14 +1,10 @@
 -- The answer of the command, from what its parts leave.
-use Rattle.std.proofs.Common.{◌≡◌, ◌∙◌, ◌⊎◌, ℕ, ◌+◌, ◌*◌, ◌^◌, ◌≤◌, List, [], ◌∷◌, ◌++◌, Bool, true, false, Option, Some, None, Result, Ok, Err, refl, sym, ap, subst, inl, inr, arith}
+use Rattle.std.proofs.Common.{◌≡◌, ◌⊎◌, ℕ, ◌+◌, ◌*◌, ◌^◌, ◌≤◌, List, [], ◌∷◌, ◌++◌, false, Option, Some, None, Result, Ok, Err, refl, sym, subst, inl, inr, arith}
 use Rattle.std.specs.Prelude.{IfSome, IfOk, OnErr}
-use Rattle.std.specs.BTreeMap.{IsOrdered}
-use Rattle.std.specs.Cmp.Lexicographic.{slice_cmp}
-use Rattle.std.specs.Ordering.{nat_cmp}
 use Rattle.vx_base.specs.Named.{Word}
 use Rattle.vx_piece.specs.Seen.{Seen}
 use Rattle.vx_shelf.specs.Shelf.{Held}
 use Rattle.vx_bare.specs.declared.started.Started.{Started}
-use Rattle.vx_copies.specs.declared.disk.Disk.{Disk}
 use Rattle.vx_copies.specs.Lists.{AllOf}
 use Rattle.vx_copies.specs.Image.{names_group}
 use Rattle.vx_header.specs.Named.{header_of}
@@ -21,7 +17,7 @@ use Rattle.vx_world.specs.Groups.{InitStep}
 use Rattle.vx_hold.specs.Holders.{Holder, holders, held_as, disk_holders, volume_at, AreHeld}
 use Rattle.vx_hold.specs.Kept.{Keeps, HasRoom}
 use Rattle.vx_hold.specs.Closing.{AreBack}
-use Rattle.vx_hold.specs.Stand.{State, StandWith, Stand, seen_at}
+use Rattle.vx_hold.specs.Stand.{State, Stand, seen_at}
 use Rattle.vx_hold.specs.Moves.{Moves, Rests}
 use Rattle.vx_hold.specs.declared.system.System.{System}
 use Rattle.vx_hold.proofs.Rooms.{more_room}
@@ -30,17 +26,16 @@ use Rattle.vx_init.specs.declared.stop.Stop.{Stop}
 use Rattle.vx_init.specs.declared.stop.Stop.TheVariants as stop
 use Rattle.vx_init.specs.declared.taking.Taken.{Taken}
 use Rattle.vx_init.specs.declared.planning.Plan.{Plan}
-use Rattle.vx_init.specs.Ends.{answer_of, Answers, UnlessLost, WhereLost, IsClosed}
+use Rattle.vx_init.specs.Ends.{Answers, UnlessLost, WhereLost, IsClosed}
 use Rattle.vx_init.specs.Stops.{HasCause}
-use Rattle.vx_init.specs.Gathered.{IsSeenWith, SeenWith, IsGathered, taken_holders, view_of, IsAwayStop}
-use Rattle.vx_init.specs.Judged.{NoneNames}
+use Rattle.vx_init.specs.Gathered.{IsSeenWith, IsGathered, taken_holders}
 use Rattle.vx_init.specs.Made.{stop_of, IsMadeOf, IsUnmadeOf, IsJudgedStop, IsPassed, IsStopped, IsTried}
 use Rattle.vx_init.proofs.Views.{read_trans, gone_still, all_back_read, all_back_cause}
 use Rattle.vx_init.proofs.Gathering.{apart_behind}
 use Rattle.vx_init.proofs.Away.{held_before}
 use Rattle.vx_init.proofs.Ready.{IsReady, ready}
 use Rattle.vx_init.proofs.Ended.{state, Leads}
-use Rattle.vx_init.proofs.Finished.{quiet, read_moves, read_rests, away_leads, judged_leads}
+use Rattle.vx_init.proofs.Finished.{quiet, read_moves, read_rests, judged_leads}
 use Rattle.vx_init.proofs.Concluded.{made_moves, unmade_moves, unmade_rests}
 
 -- what an answer, or want of memory, has to say

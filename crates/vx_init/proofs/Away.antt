@@ -1,40 +1,38 @@
 -- The first device that is away, told to the world.
-use Rattle.std.proofs.Common.{◌≡◌, ◌∙◌, ◌⊎◌, ℕ, zero, suc, ◌+◌, ◌<◌, ◌≤◌, ◌||◌, Bool, true, false, cond, List, [], ◌∷◌, ◌++◌, map, length, take, drop, get_or, Option, Some, None, refl, sym, ap, subst, inl, inr, arith, append_assoc}
-use Rattle.std.proofs.lemmas.Bool.{cond-true, cond-false}
+use Rattle.std.proofs.Common.{◌≡◌, ◌∙◌, ◌⊎◌, ℕ, ◌+◌, ◌<◌, ◌||◌, Bool, true, false, cond, List, [], ◌∷◌, ◌++◌, map, length, take, drop, get_or, Option, Some, None, refl, sym, ap, subst, inl, inr, append_assoc}
+use Rattle.std.proofs.lemmas.Bool.{cond-true}
 use Rattle.std.proofs.lemmas.List.{take_more, take-append-drop}
-use Rattle.std.specs.Prelude.{IsTrue, IsSome, IfSome, is_some}
+use Rattle.std.specs.Prelude.{IsSome, is_some}
 use Rattle.std.specs.BTreeMap.{IsOrdered}
 use Rattle.std.specs.Cmp.Lexicographic.{slice_cmp}
 use Rattle.std.specs.Ordering.{nat_cmp}
 use Rattle.std.specs.Str.{bytes_eq}
-use Rattle.vx_base.specs.Named.{Word, put, SameUnder}
-use Rattle.vx_base.proofs.NamedLemmas.{bytes_eq_self, bytes_eq_same}
-use Rattle.vx_piece.specs.Seen.{Seen, Keeps, IsRead}
+use Rattle.vx_base.specs.Named.{Word}
+use Rattle.vx_base.proofs.NamedLemmas.{bytes_eq_self}
+use Rattle.vx_piece.specs.Seen.{Seen}
 use Rattle.vx_bare.specs.declared.started.Started.{Started}
 use Rattle.vx_copies.specs.Lists.{AllOf, AnyOf}
 use Rattle.vx_copies.specs.declared.disk.Disk.{Disk}
 use Rattle.vx_shelf.specs.Shelf.{Held}
 use Rattle.vx_script_words.specs.declared.value.DiskAt.{DiskAt}
-use Rattle.vx_devices.specs.Claims.{IsOnlyRead, AreOnlyRead}
+use Rattle.vx_devices.specs.Claims.{IsOnlyRead}
 use Rattle.vx_world.specs.World.{World, Device, Volume, Member, Group}
 use Rattle.vx_world.specs.declared.answer.Refusal.{Refusal}
 use Rattle.vx_world.specs.declared.answer.Refusal.TheVariants as refusal
 use Rattle.vx_world.specs.Images.{IsDeviceOf, IsImage}
-use Rattle.vx_world.specs.Tests.{IsFree, IsAway, IsHeld, IsMemberDevice}
+use Rattle.vx_world.specs.Tests.{IsAway, IsHeld, IsMemberDevice}
 use Rattle.vx_world.specs.Joining.{is_among, AreFree, FirstAway}
 use Rattle.vx_world.specs.Groups.{devices_of}
 use Rattle.vx_hold.specs.Holders.{Holder, holders, held_as, disk_holders, group_holders, volume_holder, volume_at, AreApart, IsTakenFrom, AreHeld}
 use Rattle.vx_hold.specs.Stand.{seen_at, Stand, StandWith, IsAtVolume, IsAtGroup, AreMembersOf}
 use Rattle.vx_hold.specs.declared.system.System.{System}
 use Rattle.vx_hold.specs.declared.system.Imported.{Imported}
-use Rattle.vx_hold.proofs.Held.{not_both, apart_turned, IsApart}
 use Rattle.vx_shelf.specs.Shelf.{held_as as held_of}
-use Rattle.vx_hold.proofs.Returned.{holder}
 use Rattle.vx_hold.proofs.Listed.{all_append, all_front, all_unmapped, held_each, held_by_one, found_in, found_each, found_by_one}
 use Rattle.vx_init.specs.declared.stop.Stop.{Stop}
 use Rattle.vx_init.specs.declared.stop.Stop.TheVariants as stop
 use Rattle.vx_init.specs.declared.taking.Taken.{Taken}
-use Rattle.vx_init.specs.Gathered.{IsHeader, IsDiskAt, AreDisksAt, view_of, IsSeenWith, SeenWith, taken_holders, IsGathered, IsAwayStop, IsAwayAt}
+use Rattle.vx_init.specs.Gathered.{AreDisksAt, view_of, IsSeenWith, taken_holders, IsGathered, IsAwayStop, IsAwayAt}
 use Rattle.vx_init.proofs.Views.{gone_before}
 use Rattle.vx_init.proofs.Gathering.{all_behind, apart_behind}
 

@@ -1,38 +1,33 @@
 -- A group that was made, or begun, as a step of the world.
-use Rattle.std.proofs.Common.{◌≡◌, ◌∙◌, ◌⊎◌, ℕ, ◌+◌, ◌<◌, ◌≤◌, Bool, true, false, cond, List, [], ◌∷◌, ◌++◌, map, length, Option, Some, None, Result, Ok, Err, refl, sym, ap, subst, inl, inr, arith}
-use Rattle.std.specs.Prelude.{IsTrue, IfSome, IfOk, OnErr, is_some}
+use Rattle.std.proofs.Common.{◌≡◌, ◌∙◌, ℕ, ◌+◌, ◌<◌, ◌≤◌, Bool, true, false, cond, List, [], ◌∷◌, ◌++◌, map, length, Option, Some, None, refl, sym, ap, subst, inl, inr, arith}
+use Rattle.std.specs.Prelude.{IsTrue}
 use Rattle.std.specs.Str.{bytes_eq}
 use Rattle.vx_base.specs.Named.{Word}
 use Rattle.vx_piece.specs.Seen.{Seen}
 use Rattle.vx_shelf.specs.Shelf.{Held}
-use Rattle.vx_mask.specs.Mask.{has}
-use Rattle.vx_bare.specs.declared.started.Started.{Started}
-use Rattle.vx_copies.specs.Lists.{AllOf, AnyOf, Each}
-use Rattle.vx_copies.specs.Disks.{held, IsCut, is_good_slot}
+use Rattle.vx_copies.specs.Lists.{AnyOf, Each}
+use Rattle.vx_copies.specs.Disks.{held, IsCut}
 use Rattle.vx_copies.specs.Commit.{HasRisen}
 use Rattle.vx_copies.specs.declared.disk.Disk.{Disk}
 use Rattle.vx_confdb.specs.Create.{IsFounded, RefusedBy}
 use Rattle.vx_confdb.specs.declared.group.Group.{Group as Base}
 use Rattle.vx_confdb.specs.declared.fault.GroupFault.{GroupFault}
 use Rattle.vx_confdb.specs.declared.fault.GroupFault.TheVariants as fault
-use Rattle.vx_objects.specs.Config.{objects_of}
 use Rattle.vx_script_words.specs.declared.value.DiskAt.{DiskAt}
-use Rattle.vx_devices.specs.Claims.{IsOnlyRead, AreOnlyRead}
+use Rattle.vx_devices.specs.Claims.{IsOnlyRead}
 use Rattle.vx_world.specs.declared.answer.Answer.{Answer}
 use Rattle.vx_world.specs.declared.answer.Answer.TheVariants as answer
 use Rattle.vx_world.specs.declared.answer.Refusal.TheVariants as refusal
 use Rattle.vx_world.specs.Failures.{Failures}
-use Rattle.vx_world.specs.World.{World, Device, Group, Member}
+use Rattle.vx_world.specs.World.{World, Member}
 use Rattle.vx_world.specs.Images.{IsDeviceOf}
 use Rattle.vx_world.specs.Joining.{is_among}
-use Rattle.vx_world.specs.Groups.{devices_of, new_records, new_members, InitStep, IsMade, IsUnmade, IsBegun, IsInitTooLong, without}
+use Rattle.vx_world.specs.Groups.{devices_of, new_members, InitStep, IsMade, IsBegun, without}
 use Rattle.vx_hold.specs.Holders.{Holder, holders, held_as, disk_holders, volume_holder, AreApart, AreHeld}
 use Rattle.vx_hold.specs.Kept.{Keeps}
-use Rattle.vx_hold.specs.Closing.{AreBack}
-use Rattle.vx_hold.specs.Stand.{State, StandWith, Stand, seen_at, device_seen, AreMembersOf}
+use Rattle.vx_hold.specs.Stand.{StandWith, seen_at, device_seen, AreMembersOf}
 use Rattle.vx_hold.specs.Moves.{HaveFailed, Moves, Rests, cut_in}
 use Rattle.vx_hold.specs.declared.system.System.{System}
-use Rattle.vx_hold.specs.declared.system.Imported.{Imported}
 use Rattle.vx_hold.proofs.Held.{later_apart}
 use Rattle.vx_hold.proofs.Listed.{held_each}
 use Rattle.vx_hold.proofs.Blamed.{AreLater, later_later, later_same, silent, failed_between}
@@ -40,9 +35,9 @@ use Rattle.vx_init.specs.declared.stop.Stop.{Stop}
 use Rattle.vx_init.specs.declared.stop.Stop.TheVariants as stop
 use Rattle.vx_init.specs.declared.taking.Taken.{Taken}
 use Rattle.vx_init.specs.declared.planning.Plan.{Plan}
-use Rattle.vx_init.specs.Ends.{answer_of, Answers, UnlessLost, WhereLost, IsClosed}
+use Rattle.vx_init.specs.Ends.{answer_of, UnlessLost, WhereLost, IsClosed}
 use Rattle.vx_init.specs.Gathered.{AreDisksAt, IsFirstHeaded, IsSeenWith, taken_holders, view_of}
-use Rattle.vx_init.specs.Made.{stop_of, IsMadeOf, IsUnmadeOf, IsPassed}
+use Rattle.vx_init.specs.Made.{stop_of, IsPassed}
 use Rattle.vx_init.proofs.Gathering.{apart_behind}
 use Rattle.vx_init.proofs.Views.{back_only_read, read_refl}
 use Rattle.vx_init.proofs.Away.{Freed, freed, held_first}

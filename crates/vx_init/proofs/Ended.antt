@@ -1,37 +1,36 @@
 -- A command that stops, as a step of the world.
-use Rattle.std.proofs.Common.{◌≡◌, ◌∙◌, ◌⊎◌, ℕ, ◌+◌, ◌≤◌, Bool, true, false, cond, List, [], ◌∷◌, ◌++◌, map, Option, Some, None, refl, sym, ap, subst, inl, inr, arith}
-use Rattle.std.specs.Prelude.{IsTrue, IfSome}
+use Rattle.std.proofs.Common.{◌≡◌, ◌∙◌, ◌⊎◌, ℕ, ◌≤◌, List, [], ◌∷◌, Option, Some, None, refl, sym, ap, subst, inl, inr, arith}
+use Rattle.std.specs.Prelude.{IsTrue}
 use Rattle.std.specs.BTreeMap.{IsOrdered}
 use Rattle.std.specs.Cmp.Lexicographic.{slice_cmp}
 use Rattle.std.specs.Ordering.{nat_cmp}
 use Rattle.vx_base.specs.Counts.{Rose}
 use Rattle.vx_base.specs.Named.{Word}
 use Rattle.vx_base.proofs.CountLemmas.{rose_and_later}
-use Rattle.vx_piece.specs.Seen.{Seen, Keeps as PieceKeeps}
+use Rattle.vx_piece.specs.Seen.{Seen}
 use Rattle.vx_shelf.specs.Shelf.{Held}
 use Rattle.vx_script_words.specs.declared.value.DiskAt.{DiskAt}
 use Rattle.vx_devices.specs.Claims.{IsOnlyRead}
 use Rattle.vx_world.specs.declared.answer.Answer.{Answer}
 use Rattle.vx_world.specs.declared.answer.Answer.TheVariants as answer
-use Rattle.vx_world.specs.declared.answer.Refusal.{Refusal}
 use Rattle.vx_world.specs.Failures.{Failures}
-use Rattle.vx_world.specs.World.{World, Device, IsRefused}
+use Rattle.vx_world.specs.World.{World, Device}
 use Rattle.vx_world.specs.Back.{IsCutOff}
 use Rattle.vx_world.specs.Images.{IsDeviceOf}
 use Rattle.vx_world.specs.Groups.{InitStep}
-use Rattle.vx_hold.specs.Holders.{Holder, holders, held_as, AreHeld}
+use Rattle.vx_hold.specs.Holders.{holders, held_as, AreHeld}
 use Rattle.vx_hold.specs.Kept.{Keeps}
-use Rattle.vx_hold.specs.Stand.{State, StandWith, Stand, seen_at, device_seen}
+use Rattle.vx_hold.specs.Stand.{State, StandWith, seen_at, device_seen}
 use Rattle.vx_hold.specs.Closing.{AreBack}
 use Rattle.vx_hold.specs.Moves.{faults_in, cut_in, HasBlame, HaveFailed, Moves, Rests}
 use Rattle.vx_hold.specs.declared.system.System.{System}
-use Rattle.vx_hold.proofs.Blamed.{AreLater, IsDeviceLater, later_each_device, later_later, later_same, silent, fault_own, fault_shelf, shelf_failed, lost_cut, none_told, failed_between, nobody, none_failed}
+use Rattle.vx_hold.proofs.Blamed.{AreLater, IsDeviceLater, later_each_device, later_later, later_same, silent, fault_own, fault_shelf, shelf_failed, lost_cut, none_told, failed_between}
 use Rattle.vx_hold.proofs.Returned.{group_alone}
 use Rattle.vx_hold.proofs.Cut.{cut_off}
 use Rattle.vx_init.specs.declared.stop.Stop.{Stop}
 use Rattle.vx_init.specs.declared.stop.Stop.TheVariants as stop
-use Rattle.vx_init.specs.Ends.{answer_of, Answers, UnlessLost, WhereLost, IsClosed}
-use Rattle.vx_init.specs.Stops.{Sight, HasRisen, Shows, sight}
+use Rattle.vx_init.specs.Ends.{answer_of, UnlessLost, WhereLost, IsClosed}
+use Rattle.vx_init.specs.Stops.{Shows, sight}
 use Rattle.vx_init.proofs.Away.{not_out}
 
 abbrev pub state : {P : Type 0} → Option (Word → Option Seen) → ℕ → System P → State P

@@ -1,63 +1,44 @@
 -- The command as a step of the world, however it ends.
-use Rattle.std.proofs.Common.{◌≡◌, ◌∙◌, ◌⊎◌, ℕ, ◌+◌, ◌<◌, ◌≤◌, ◌^◌, ◌*◌, Bool, true, false, cond, List, [], ◌∷◌, ◌++◌, map, length, Option, Some, None, Result, Ok, Err, refl, sym, ap, subst, inl, inr, arith}
-use Rattle.std.specs.Prelude.{IsTrue, IfSome, IfOk, OnErr, is_some, is_none}
+use Rattle.std.proofs.Common.{◌≡◌, ◌∙◌, ℕ, ◌≤◌, true, false, List, [], ◌∷◌, map, length, Option, Some, None, refl, sym, ap, subst, inl, inr, arith}
+use Rattle.std.specs.Prelude.{IsTrue, is_none}
 use Rattle.vx_base.specs.Named.{Word}
 use Rattle.vx_piece.specs.Seen.{Seen}
 use Rattle.vx_shelf.specs.Shelf.{Held}
-use Rattle.vx_mask.specs.Mask.{has}
-use Rattle.vx_bare.specs.declared.started.Started.{Started}
-use Rattle.vx_copies.specs.Lists.{AllOf, AnyOf, Each}
-use Rattle.vx_copies.specs.Disks.{held, IsCut, is_good_slot}
-use Rattle.vx_copies.specs.Commit.{HasRisen}
-use Rattle.vx_copies.specs.declared.disk.Disk.{Disk}
-use Rattle.vx_confdb.specs.Create.{IsFounded, RefusedBy}
-use Rattle.vx_confdb.specs.declared.group.Group.{Group as Base}
-use Rattle.vx_confdb.specs.declared.fault.GroupFault.{GroupFault}
-use Rattle.vx_confdb.specs.declared.fault.GroupFault.TheVariants as fault
 use Rattle.vx_parts.specs.declared.object.Object.{Object}
 use Rattle.vx_parts.specs.declared.fault.ObjectFault.{ObjectFault}
 use Rattle.vx_parts.specs.declared.fault.ObjectFault.TheVariants as broken
 use Rattle.vx_rules.specs.Rules.{first_broken, is_valid}
-use Rattle.vx_objects.specs.declared.config.Config.{Config}
 use Rattle.vx_objects.specs.Config.{objects_of, IsRefusedOf}
 use Rattle.vx_objects.specs.Parts.{in_kinds}
 use Rattle.vx_script_words.specs.declared.value.DiskAt.{DiskAt}
-use Rattle.vx_devices.specs.Claims.{IsOnlyRead, AreOnlyRead}
+use Rattle.vx_devices.specs.Claims.{IsOnlyRead}
 use Rattle.vx_world.specs.declared.answer.Answer.{Answer}
 use Rattle.vx_world.specs.declared.answer.Answer.TheVariants as answer
 use Rattle.vx_world.specs.declared.answer.Refusal.{Refusal}
 use Rattle.vx_world.specs.declared.answer.Refusal.TheVariants as refusal
 use Rattle.vx_world.specs.Refusals.{refusal_by}
 use Rattle.vx_world.specs.Failures.{Failures}
-use Rattle.vx_world.specs.World.{World, Device, Group, IsRefused}
-use Rattle.vx_world.specs.Images.{IsDeviceOf}
-use Rattle.vx_world.specs.Joining.{is_among, FirstAway, AreFree, first_headed, limit_passed}
-use Rattle.vx_world.specs.Groups.{devices_of, new_records, new_members, InitStep, IsMade, IsUnmade, IsInitTooLong, without}
-use Rattle.vx_hold.specs.Holders.{Holder, holders, held_as, disk_holders, volume_holder, group_holders, AreApart, AreHeld}
+use Rattle.vx_world.specs.World.{World}
+use Rattle.vx_world.specs.Joining.{first_headed, limit_passed}
+use Rattle.vx_world.specs.Groups.{new_records, InitStep}
+use Rattle.vx_hold.specs.Holders.{holders, AreApart}
 use Rattle.vx_hold.specs.Kept.{Keeps}
-use Rattle.vx_hold.specs.Closing.{AreBack}
-use Rattle.vx_hold.specs.Stand.{State, StandWith, Stand, seen_at, device_seen}
+use Rattle.vx_hold.specs.Stand.{StandWith, device_seen}
 use Rattle.vx_hold.specs.Moves.{HaveFailed, Moves, Rests}
 use Rattle.vx_hold.specs.declared.system.System.{System}
-use Rattle.vx_hold.specs.declared.system.Imported.{Imported}
-use Rattle.vx_hold.proofs.Listed.{held_each}
-use Rattle.vx_hold.proofs.Blamed.{AreLater, later_later, later_same, silent, failed_between}
 use Rattle.vx_init.specs.declared.stop.Stop.{Stop}
 use Rattle.vx_init.specs.declared.stop.Stop.TheVariants as stop
 use Rattle.vx_init.specs.declared.taking.Taken.{Taken}
 use Rattle.vx_init.specs.declared.planning.Plan.{Plan}
-use Rattle.vx_init.specs.Ends.{answer_of, Answers, UnlessLost, WhereLost, IsClosed}
-use Rattle.vx_init.specs.Stops.{Shows, HasCause, sight}
-use Rattle.vx_init.specs.Gathered.{AreDisksAt, IsFirstHeaded, IsSeenWith, SeenWith, taken_holders, view_of, IsGathered, IsAwayStop}
-use Rattle.vx_init.specs.Judged.{first_refusal, group_in, limit_of, group_records, broken_stop, IsClaimStop, NoneNames, OneNames, IsUnplanned}
-use Rattle.vx_init.specs.Made.{stop_of, IsMadeOf, IsUnmadeOf, IsJudgedStop, IsPassed, IsStopped, IsTried}
-use Rattle.vx_init.proofs.Views.{all_back_read, all_back_cause, read_trans, gone_still}
-use Rattle.vx_init.proofs.Gathering.{apart_behind}
-use Rattle.vx_init.proofs.Away.{Freed, freed, held_before, held_first}
+use Rattle.vx_init.specs.Ends.{answer_of, UnlessLost, WhereLost, IsClosed}
+use Rattle.vx_init.specs.Stops.{Shows, sight}
+use Rattle.vx_init.specs.Gathered.{AreDisksAt, IsFirstHeaded, IsSeenWith, taken_holders, IsAwayStop}
+use Rattle.vx_init.specs.Judged.{first_refusal, group_in, limit_of, group_records, broken_stop}
+use Rattle.vx_init.specs.Made.{IsJudgedStop, IsPassed}
+use Rattle.vx_init.proofs.Away.{Freed, freed}
 use Rattle.vx_init.proofs.Passing.{kinds_same, Within, within, nothing_refuses}
-use Rattle.vx_init.proofs.Joined.{AllJoin, holders_alone, new_system}
-use Rattle.vx_init.proofs.Ready.{IsReady, ready}
-use Rattle.vx_init.proofs.Ended.{state, Leads, ShowsAt, Stopping, ends_moves, stand_read, all_later, shows_at, rests_read}
+use Rattle.vx_init.proofs.Ready.{IsReady}
+use Rattle.vx_init.proofs.Ended.{state, Leads, ends_moves, stand_read, all_later, shows_at, rests_read}
 use Rattle.vx_init.proofs.Steps.{headed_is, limit_is, records_is, group_is, world_group, claimed, unclaimed, Ends, step_refused, step_claimed, step_broken, step_ends}
 
 -- a stop before anything is written

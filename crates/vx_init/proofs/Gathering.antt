@@ -1,24 +1,23 @@
 -- One more device is taken.
-use Rattle.std.proofs.Common.{◌≡◌, ◌∙◌, ◌⊎◌, ℕ, zero, suc, ◌+◌, ◌≤◌, Bool, true, false, cond, List, [], ◌∷◌, ◌++◌, length, Option, Some, None, refl, sym, ap, subst, inl, inr, arith, append_assoc}
+use Rattle.std.proofs.Common.{◌≡◌, ◌∙◌, ℕ, suc, ◌+◌, Bool, true, false, cond, List, [], ◌∷◌, ◌++◌, length, Option, Some, None, refl, sym, ap, subst, inl, inr, arith, append_assoc}
 use Rattle.std.proofs.lemmas.Bool.{cond-true, cond-false}
 use Rattle.std.proofs.lemmas.List.{append-nil}
-use Rattle.std.specs.Prelude.{IsTrue, IsSome, IfSome}
 use Rattle.std.specs.Str.{bytes_eq}
 use Rattle.vx_base.specs.Named.{Word, put, SameUnder}
 use Rattle.vx_base.proofs.NamedLemmas.{bytes_eq_self, bytes_eq_same}
 use Rattle.vx_piece.specs.Seen.{Seen, Keeps, IsRead}
 use Rattle.vx_copies.specs.Lists.{AllOf}
 use Rattle.vx_copies.specs.declared.disk.Disk.{Disk}
-use Rattle.vx_shelf.specs.Shelf.{Held, IsTaken}
+use Rattle.vx_shelf.specs.Shelf.{Held}
 use Rattle.vx_script_words.specs.declared.value.DiskAt.{DiskAt}
-use Rattle.vx_devices.specs.Claims.{IsOnlyRead, AreOnlyRead}
-use Rattle.vx_hold.specs.Holders.{Holder, held_as, disk_holders, AreApart, IsTakenFrom, AreHeld}
+use Rattle.vx_devices.specs.Claims.{IsOnlyRead}
+use Rattle.vx_hold.specs.Holders.{Holder, held_as, disk_holders, AreApart, AreHeld}
 use Rattle.vx_hold.specs.Looks.{LeavesRead}
 use Rattle.vx_hold.specs.Stand.{seen_at}
-use Rattle.vx_hold.proofs.Held.{held_at, apart_here, not_both, apart_turned, IsApart, take_one, all_put, same_held}
+use Rattle.vx_hold.proofs.Held.{held_at, apart_here, apart_turned, IsApart, take_one, all_put, same_held}
 use Rattle.vx_hold.proofs.Returned.{holder}
 use Rattle.vx_init.specs.declared.taking.Taken.{Taken}
-use Rattle.vx_init.specs.Gathered.{IsHeader, IsDiskAt, AreDisksAt, IsFirstHeaded, view_of, IsSeenWith, SeenWith, taken_holders, IsGathered, then_headed, IsPut, IsNext}
+use Rattle.vx_init.specs.Gathered.{IsHeader, IsDiskAt, AreDisksAt, IsFirstHeaded, view_of, IsSeenWith, SeenWith, taken_holders, IsGathered, then_headed, IsNext}
 use Rattle.vx_init.proofs.Views.{read_trans}
 
 pub disks_behind : {P : Type 0} (see : P → Seen) (ns : List Word) (ds : List (Disk P)) (n : Word) (d : Disk P) → length ns ≡ length ds → disk_holders see (ns ++ n ∷ []) (ds ++ d ∷ []) ≡ disk_holders see ns ds ++ holder n (see d.piece) ∷ []

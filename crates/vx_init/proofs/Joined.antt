@@ -1,17 +1,16 @@
 -- Disks that joined a group, or were to.
-use Rattle.std.proofs.Common.{◌≡◌, ◌≢◌, ◌∙◌, ◌⊎◌, ℕ, suc, ◌+◌, ◌<◌, ◌≤◌, ◌==◌, Bool, true, false, List, [], ◌∷◌, ◌++◌, map, length, Option, Some, None, refl, sym, ap, subst, inl, inr, arith}
+use Rattle.std.proofs.Common.{◌≡◌, ◌≢◌, ◌∙◌, ℕ, suc, ◌==◌, true, List, [], ◌∷◌, ◌++◌, map, length, Option, Some, None, refl, sym, ap, subst}
 use Rattle.std.proofs.lemmas.List.{append-nil}
-use Rattle.std.specs.Prelude.{IsTrue, IfSome}
+use Rattle.std.specs.Prelude.{IfSome}
 use Rattle.std.specs.List.{list_any}
 use Rattle.vx_base.specs.Named.{Word}
-use Rattle.vx_piece.specs.Seen.{Seen, Keeps}
-use Rattle.vx_bare.specs.declared.started.Started.{Started}
-use Rattle.vx_copies.specs.Lists.{AllOf, Each, AnyOf}
-use Rattle.vx_copies.specs.Disks.{held, Drops}
+use Rattle.vx_piece.specs.Seen.{Seen}
+use Rattle.vx_copies.specs.Lists.{AllOf, Each}
+use Rattle.vx_copies.specs.Disks.{held}
 use Rattle.vx_copies.specs.declared.disk.Disk.{Disk}
 use Rattle.vx_copies.proofs.Going.{keeps_refl}
 use Rattle.vx_confdb.specs.Create.{Joins, IsFounded, RefusedBy}
-use Rattle.vx_confdb.specs.Groups.{members, CarriesText}
+use Rattle.vx_confdb.specs.Groups.{CarriesText}
 use Rattle.vx_confdb.specs.Texts.{text_of}
 use Rattle.vx_confdb.specs.declared.group.Group.{Group}
 use Rattle.vx_confdb.specs.declared.fault.GroupFault.{GroupFault}
@@ -19,8 +18,8 @@ use Rattle.vx_confdb.specs.declared.fault.GroupFault.TheVariants as fault
 use Rattle.vx_objects.specs.declared.config.Config.{Config}
 use Rattle.vx_shelf.specs.Shelf.{Held}
 use Rattle.vx_world.specs.Back.{IsTextOf}
-use Rattle.vx_hold.specs.Holders.{Holder, holders, disk_holders, group_holders, volume_holder, volume_at, AreHeld}
-use Rattle.vx_hold.specs.Kept.{Keeps as SystemKeeps, IsVolumeKept, IsGroupKept, AreSized, HaveSlots, AreRecorded}
+use Rattle.vx_hold.specs.Holders.{Holder, holders, disk_holders, group_holders, volume_holder, AreHeld}
+use Rattle.vx_hold.specs.Kept.{Keeps as SystemKeeps, IsGroupKept, AreSized, HaveSlots, AreRecorded}
 use Rattle.vx_hold.specs.declared.system.System.{System}
 use Rattle.vx_hold.specs.declared.system.Imported.{Imported}
 use Rattle.vx_hold.proofs.Held.{IsLater, later_held}

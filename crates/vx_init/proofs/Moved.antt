@@ -1,6 +1,6 @@
 -- The world, once devices were to join a group.
-use Rattle.std.proofs.Common.{◌≡◌, ◌∙◌, ◌⊎◌, ℕ, ◌+◌, ◌<◌, ◌≤◌, Bool, true, false, cond, List, [], ◌∷◌, ◌++◌, map, length, Option, Some, None, refl, sym, ap, subst, inl, inr, arith}
-use Rattle.std.specs.Prelude.{IsTrue, IfSome, is_some, nat_le}
+use Rattle.std.proofs.Common.{◌≡◌, ◌∙◌, ℕ, ◌≤◌, Bool, true, false, cond, List, [], ◌++◌, map, length, Option, Some, None, refl, sym, ap, subst, inl, inr, arith}
+use Rattle.std.specs.Prelude.{IsTrue, is_some, nat_le}
 use Rattle.std.proofs.lemmas.Bool.{leb-true}
 use Rattle.std.proofs.lemmas.Bool.Decides.{nat_tests}
 use Rattle.vx_base.specs.Blocks.{Contents}
@@ -13,17 +13,15 @@ use Rattle.vx_copies.specs.Disks.{held, IsCut}
 use Rattle.vx_copies.specs.Commit.{HasRisen}
 use Rattle.vx_copies.specs.declared.disk.Disk.{Disk}
 use Rattle.vx_copies.proofs.Going.{keeps_trans}
-use Rattle.vx_confdb.specs.Create.{Joins, Enters}
 use Rattle.vx_script_words.specs.declared.value.DiskAt.{DiskAt}
-use Rattle.vx_objects.specs.Config.{objects_of}
 use Rattle.vx_devices.specs.Claims.{IsOnlyRead}
 use Rattle.vx_world.specs.Failures.{Failures}
 use Rattle.vx_world.specs.World.{World, Device}
-use Rattle.vx_world.specs.Images.{IsDeviceOf, IsImage, device_of, device_told}
+use Rattle.vx_world.specs.Images.{IsDeviceOf, device_of, device_told}
 use Rattle.vx_world.specs.Joining.{is_among}
-use Rattle.vx_world.specs.Groups.{devices_of, new_records, IsBegun, AreTouched}
+use Rattle.vx_world.specs.Groups.{devices_of, IsBegun, AreTouched}
 use Rattle.vx_hold.specs.Holders.{Holder, holders, held_as, disk_holders, AreApart, AreHeld}
-use Rattle.vx_hold.specs.Stand.{StandWith, seen_at, device_seen}
+use Rattle.vx_hold.specs.Stand.{StandWith, seen_at}
 use Rattle.vx_hold.specs.Moves.{faults_in, cut_in, HaveFailed}
 use Rattle.vx_hold.specs.declared.system.System.{System}
 use Rattle.vx_hold.proofs.Held.{later_apart}
@@ -32,14 +30,13 @@ use Rattle.vx_hold.proofs.Blamed.{AreLater, IsDeviceLater, later_each_device}
 use Rattle.vx_init.specs.declared.taking.Taken.{Taken}
 use Rattle.vx_init.specs.declared.planning.Plan.{Plan}
 use Rattle.vx_init.specs.Gathered.{AreDisksAt, view_of, IsSeenWith, taken_holders}
-use Rattle.vx_init.proofs.Views.{held_gone, gone_still}
+use Rattle.vx_init.proofs.Views.{held_gone}
 use Rattle.vx_init.proofs.Gathering.{apart_behind}
-use Rattle.vx_init.proofs.Away.{AreImages, Freed, freed, among_is}
+use Rattle.vx_init.proofs.Away.{Freed, freed, among_is}
 use Rattle.vx_init.proofs.Joined.{AllJoin, joins_later, joins_long}
-use Rattle.vx_init.proofs.Ended.{state}
 use Rattle.vx_init.proofs.Steps.{records_is}
 use Rattle.vx_init.proofs.Ready.{IsReady}
-use Rattle.vx_init.proofs.Written.{Goes, IsHeldThen, held_then, apart_two, all_touched, all_tell, joins_go, risen_go, cut_among}
+use Rattle.vx_init.proofs.Written.{IsHeldThen, held_then, apart_two, all_touched, all_tell, joins_go, risen_go, cut_among}
 
 abbrev nothing : Option Seen
 nothing = None

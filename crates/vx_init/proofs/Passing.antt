@@ -1,9 +1,9 @@
 -- What devices that passed the tests may be made of.
-use Rattle.std.proofs.Common.{◌≡◌, ◌≢◌, ◌∙◌, ◌⊎◌, ℕ, zero, suc, ◌+◌, ◌-◌, ◌<◌, ◌≤◌, ◌^◌, ◌==◌, ◌&&◌, ◌||◌, min, Bool, true, false, cond, List, [], ◌∷◌, ◌++◌, map, length, take, Option, Some, None, refl, sym, ap, subst, inl, inr, arith, length-take}
+use Rattle.std.proofs.Common.{◌≡◌, ◌≢◌, ◌∙◌, ℕ, ◌+◌, ◌-◌, ◌<◌, ◌≤◌, ◌^◌, ◌==◌, ◌&&◌, ◌||◌, Bool, true, false, cond, List, [], ◌∷◌, ◌++◌, map, length, take, Option, Some, None, refl, sym, ap, subst, inl, inr, arith, length-take}
 use Rattle.std.proofs.lemmas.Bool.{and_parts, ltb-true, leb-true, eq-eqb}
 use Rattle.std.proofs.lemmas.Bool.Decides.{nat_tests}
 use Rattle.std.proofs.lemmas.List.{append-nil}
-use Rattle.std.specs.Prelude.{IsTrue, IfSome, nat_lt, nat_le, not, is_some}
+use Rattle.std.specs.Prelude.{nat_lt, nat_le, not, is_some}
 use Rattle.std.specs.List.{list_any, filter_map}
 use Rattle.vx_base.specs.Blocks.{Contents}
 use Rattle.vx_base.specs.Named.{Word}
@@ -28,7 +28,7 @@ use Rattle.vx_world.specs.declared.answer.Refusal.TheVariants as refusal
 use Rattle.vx_parts.specs.declared.fault.Limit.TheVariants as limit
 use Rattle.vx_hold.specs.Kept.{AreSized, HaveSlots, AreRecorded}
 use Rattle.vx_hold.specs.declared.system.Imported.{Imported}
-use Rattle.vx_init.specs.Gathered.{IsHeader, IsDiskAt, AreDisksAt, IsFirstHeaded}
+use Rattle.vx_init.specs.Gathered.{IsHeader, AreDisksAt, IsFirstHeaded}
 use Rattle.vx_init.specs.Judged.{is_size, are_sized, are_short, limit_of, group_in, first_refusal, disk_records, group_records}
 
 pub nothing_refuses : (headed group : Option Word) (limit : Option Refusal) → first_refusal headed group limit ≡ None → (headed ≡ None) × (group ≡ None) × (limit ≡ None)

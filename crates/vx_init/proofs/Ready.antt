@@ -1,5 +1,5 @@
 -- Devices that passed the tests are ready to be made a group.
-use Rattle.std.proofs.Common.{◌≡◌, ◌∙◌, ℕ, ◌+◌, ◌≤◌, List, [], ◌∷◌, map, length, Option, Some, None, refl, sym, ap, subst, arith}
+use Rattle.std.proofs.Common.{◌≡◌, ◌+◌, ◌≤◌, List, map, length, Option, None, arith}
 use Rattle.vx_base.specs.Named.{Word}
 use Rattle.vx_piece.specs.Seen.{Seen}
 use Rattle.vx_copies.specs.Lists.{AllOf}
@@ -19,7 +19,7 @@ use Rattle.vx_init.specs.Gathered.{AreDisksAt, IsFirstHeaded}
 use Rattle.vx_init.specs.Judged.{group_in, limit_of, group_records}
 use Rattle.vx_init.specs.Made.{IsPassed}
 use Rattle.vx_init.proofs.Gathering.{disks_long}
-use Rattle.vx_init.proofs.Passing.{nothing_refuses, no_group, Within, within, fresh_all, none_offer, sized_all, slots_all, records_made, named_so, recorded_all}
+use Rattle.vx_init.proofs.Passing.{nothing_refuses, no_group, within, fresh_all, none_offer, sized_all, slots_all, records_made, named_so, recorded_all}
 
 pub unless_lost : {A B : Type 0} (s : Stop) → (A → B) → UnlessLost s A → UnlessLost s B
 unless_lost stop.OutOfMemory f h = f h

@@ -1,17 +1,14 @@
 -- What the tests say of the world, and the step that they lead to.
-use Rattle.std.proofs.Common.{◌≡◌, ◌∙◌, ◌⊎◌, ℕ, zero, suc, ◌+◌, ◌-◌, ◌<◌, ◌≤◌, ◌^◌, ◌&&◌, ◌||◌, min, Bool, true, false, cond, List, [], ◌∷◌, ◌++◌, map, length, Option, Some, None, refl, sym, ap, subst, inl, inr, arith}
-use Rattle.std.specs.Prelude.{IsTrue, IfSome, nat_lt, nat_le, not, is_some, MatchOption}
-use Rattle.std.specs.List.{list_all, list_any}
-use Rattle.std.specs.Str.{bytes_eq}
+use Rattle.std.proofs.Common.{◌≡◌, ◌∙◌, ◌⊎◌, ℕ, suc, ◌+◌, ◌-◌, ◌<◌, ◌≤◌, ◌&&◌, Bool, true, false, cond, List, [], ◌∷◌, map, length, Option, Some, None, refl, sym, ap, subst, inl, inr, arith}
+use Rattle.std.specs.Prelude.{IfSome, nat_lt, not, is_some, MatchOption}
+use Rattle.std.specs.List.{list_all}
 use Rattle.vx_base.specs.Blocks.{Contents}
 use Rattle.vx_base.specs.Named.{Word}
 use Rattle.vx_header.specs.Named.{header_of}
 use Rattle.vx_header.specs.Sectors.{is_short_name}
 use Rattle.vx_piece.specs.Seen.{Seen}
 use Rattle.vx_copies.specs.Image.{names_group}
-use Rattle.vx_copies.specs.Lists.{AllOf}
 use Rattle.vx_copies.specs.declared.disk.Disk.{Disk}
-use Rattle.vx_parts.specs.declared.object.Object.{Object}
 use Rattle.vx_parts.specs.declared.object.Object.TheVariants.{GroupRecord, DiskRecord}
 use Rattle.vx_parts.specs.declared.fault.ObjectFault.{ObjectFault}
 use Rattle.vx_parts.specs.declared.fault.Limit.TheVariants as limit
@@ -24,7 +21,7 @@ use Rattle.vx_world.specs.Failures.{Failures}
 use Rattle.vx_world.specs.World.{World, Device, Group, IsRefused}
 use Rattle.vx_world.specs.Images.{IsDeviceOf, IsImage}
 use Rattle.vx_world.specs.Tests.{If}
-use Rattle.vx_world.specs.Joining.{is_among, AreFree, first_headed, limit_passed, is_disk_size, IsClaimed, disk_record}
+use Rattle.vx_world.specs.Joining.{AreFree, first_headed, limit_passed, is_disk_size, IsClaimed, disk_record}
 use Rattle.vx_world.specs.Groups.{devices_of, new_records, IsMade, IsUnmade, IsInitTooLong, InitStep}
 use Rattle.vx_world.specs.Groups.{disk_records as world_records}
 use Rattle.vx_world.specs.Refusals.{refusal_by}
@@ -33,8 +30,8 @@ use Rattle.vx_hold.specs.Holders.{held_as}
 use Rattle.vx_hold.specs.Stand.{IsAtGroup, seen_at}
 use Rattle.vx_hold.specs.declared.system.Imported.{Imported}
 use Rattle.vx_init.specs.declared.taking.Taken.{Taken}
-use Rattle.vx_init.specs.Gathered.{IsHeader, IsDiskAt, AreDisksAt, IsFirstHeaded, view_of, IsSeenWith, taken_holders}
-use Rattle.vx_init.specs.Judged.{is_size, are_sized, are_short, limit_of, group_in, first_refusal, disk_records, group_records, OneNames, NoneNames}
+use Rattle.vx_init.specs.Gathered.{IsHeader, IsDiskAt, AreDisksAt, IsFirstHeaded, IsSeenWith, taken_holders}
+use Rattle.vx_init.specs.Judged.{is_size, are_sized, are_short, limit_of, group_in, first_refusal, disk_records, group_records}
 use Rattle.vx_init.proofs.Away.{AreImages, among_is}
 use Rattle.vx_init.proofs.Views.{held_gone}
 

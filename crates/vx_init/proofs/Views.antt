@@ -1,8 +1,7 @@
 -- What is seen of devices, those that are held among them, as they are taken, read and given back.
-use Rattle.std.proofs.Common.{◌≡◌, ◌∙◌, ◌⊎◌, ℕ, ◌+◌, ◌≤◌, Bool, true, false, cond, List, [], ◌∷◌, ◌++◌, Option, Some, None, Result, Ok, Err, refl, sym, ap, subst, inl, inr, arith}
+use Rattle.std.proofs.Common.{◌≡◌, ◌∙◌, ℕ, ◌≤◌, Bool, true, false, cond, List, [], ◌∷◌, Option, Some, None, Result, Ok, Err, refl, sym, ap, subst, inl, inr, arith}
 use Rattle.std.proofs.lemmas.Bool.{cond-true, cond-false}
-use Rattle.std.proofs.lemmas.List.{append-nil}
-use Rattle.std.specs.Prelude.{IsTrue, IsSome, IfErr, OnErr}
+use Rattle.std.specs.Prelude.{IsTrue, IfErr, OnErr}
 use Rattle.std.specs.Str.{bytes_eq}
 use Rattle.vx_base.specs.Counts.{Rose}
 use Rattle.vx_base.specs.Named.{Word, put, SameUnder}
@@ -10,18 +9,16 @@ use Rattle.vx_base.proofs.NamedLemmas.{bytes_eq_self, bytes_eq_same}
 use Rattle.vx_piece.specs.Seen.{Seen, Keeps, IsRead}
 use Rattle.vx_copies.specs.Lists.{AllOf}
 use Rattle.vx_copies.proofs.Going.{keeps_trans, keeps_refl}
-use Rattle.vx_shelf.specs.Shelf.{Held, LeavesShelf, ComesToShelf}
-use Rattle.vx_shelf.specs.Shelf.{held_as as held_of}
+use Rattle.vx_shelf.specs.Shelf.{Held, LeavesShelf}
 use Rattle.vx_devices.specs.Claims.{IsOnlyRead, AreOnlyRead}
-use Rattle.vx_hold.specs.Holders.{Holder, held_as, AreApart, IsTakenFrom, AreHeld}
+use Rattle.vx_hold.specs.Holders.{Holder, held_as}
 use Rattle.vx_hold.specs.Closing.{AreBack}
 use Rattle.vx_hold.specs.Looks.{LeavesRead}
 use Rattle.vx_hold.specs.Moves.{faults_in, cut_in}
 use Rattle.vx_hold.specs.Stand.{seen_at}
-use Rattle.vx_hold.proofs.Held.{held_at, apart_here, not_both, apart_turned, IsApart}
 use Rattle.vx_init.specs.declared.stop.Stop.{Stop}
 use Rattle.vx_init.specs.declared.stop.Stop.TheVariants as stop
-use Rattle.vx_init.specs.Gathered.{view_of, IsSeenWith, SeenWith, ComesRead, IsShown}
+use Rattle.vx_init.specs.Gathered.{IsSeenWith, SeenWith, ComesRead, IsShown}
 use Rattle.vx_init.specs.Stops.{Shows, HasCause, HasRisen, sight}
 
 pub on_err : {T E : Type 0} (r : Result T E) (P : E → Type 0) (Q : Type 0) → ((e : E) → P e → Q) → IfErr r P → OnErr r Q

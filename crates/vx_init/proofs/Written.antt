@@ -1,33 +1,31 @@
 -- Devices that were to join a group, as they are seen in the world.
-use Rattle.std.proofs.Common.{◌≡◌, ◌∙◌, ◌⊎◌, ℕ, ◌+◌, ◌<◌, ◌≤◌, ◌==◌, ◌&&◌, ◌||◌, min, Bool, true, false, cond, List, [], ◌∷◌, ◌++◌, map, length, replicate, Option, Some, None, refl, sym, ap, subst, inl, inr, arith}
-use Rattle.std.specs.Prelude.{IsTrue, IfSome, is_some, MatchOption}
-use Rattle.std.specs.List.{list_any}
+use Rattle.std.proofs.Common.{◌≡◌, ◌∙◌, ◌⊎◌, ℕ, ◌+◌, ◌<◌, ◌≤◌, ◌==◌, ◌&&◌, ◌||◌, Bool, true, false, cond, List, [], ◌∷◌, ◌++◌, map, length, replicate, Option, Some, None, refl, sym, ap, subst, inl, inr, arith}
+use Rattle.std.specs.Prelude.{IsTrue, MatchOption}
 use Rattle.std.specs.Str.{bytes_eq}
-use Rattle.std.proofs.lemmas.Bool.{cond-true, cond-false, eq-eqb}
+use Rattle.std.proofs.lemmas.Bool.{cond-false, eq-eqb}
 use Rattle.vx_base.specs.Blocks.{Contents}
 use Rattle.vx_base.specs.Counts.{Rose}
 use Rattle.vx_base.specs.Named.{Word}
-use Rattle.vx_base.proofs.NamedLemmas.{bytes_eq_self, bytes_eq_same}
 use Rattle.vx_sector.specs.Fields.{zeros}
 use Rattle.vx_mask.specs.Mask.{has}
-use Rattle.vx_header.specs.Named.{Label, header_of}
+use Rattle.vx_header.specs.Named.{Label}
 use Rattle.vx_piece.specs.Seen.{Seen, Keeps}
 use Rattle.vx_copies.specs.Image.{Offer, offer_of}
 use Rattle.vx_copies.specs.Lists.{AllOf, AnyOf, Each}
-use Rattle.vx_copies.specs.Disks.{Held, held, Drops, RestStays, IsCut, is_good_slot}
+use Rattle.vx_copies.specs.Disks.{held, Drops, IsCut, is_good_slot}
 use Rattle.vx_copies.specs.Commit.{HasRisen}
 use Rattle.vx_copies.specs.declared.disk.Disk.{Disk}
 use Rattle.vx_confdb.specs.Create.{Joins, Enters, OffersText}
 use Rattle.vx_confdb.specs.Prepare.{label_in}
 use Rattle.vx_script_words.specs.declared.value.DiskAt.{DiskAt}
 use Rattle.vx_world.specs.Failures.{Failures}
-use Rattle.vx_world.specs.World.{World, Device, Member}
+use Rattle.vx_world.specs.World.{Device, Member}
 use Rattle.vx_world.specs.Back.{label_of}
 use Rattle.vx_world.specs.Images.{IsImage, device_told, device_of}
-use Rattle.vx_world.specs.Joining.{is_among, member_of, IsTouched, IsJoinedToggle, DropsFailed}
-use Rattle.vx_world.specs.Groups.{devices_of, new_members, is_slot_of, AreTouched}
+use Rattle.vx_world.specs.Joining.{member_of, IsTouched, IsJoinedToggle, DropsFailed}
+use Rattle.vx_world.specs.Groups.{new_members, is_slot_of, AreTouched}
 use Rattle.vx_hold.specs.Holders.{Holder, held_as, disk_holders, AreApart}
-use Rattle.vx_hold.specs.Stand.{IsPublicOf, IsMemberOf, AreMembersOf}
+use Rattle.vx_hold.specs.Stand.{IsPublicOf, AreMembersOf}
 use Rattle.vx_hold.proofs.Listed.{held_by_one, all_back}
 use Rattle.vx_hold.proofs.Held.{IsApart}
 use Rattle.vx_init.specs.Gathered.{IsDiskAt, AreDisksAt}

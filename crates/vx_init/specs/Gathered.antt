@@ -1,5 +1,5 @@
 -- Devices that were taken to become disks of a new group.
-use Rattle.std.specs.Prelude.{◌≡◌, ◌⊎◌, ℕ, ◌+◌, ◌≤◌, min, Bool, true, false, if◌then◌else◌, is_some, List, [], ◌∷◌, ◌++◌, length, Option, Some, None, IsSome, IfSome, IsTrue}
+use Rattle.std.specs.Prelude.{◌≡◌, ◌⊎◌, ℕ, ◌+◌, min, Bool, true, false, if◌then◌else◌, is_some, List, [], ◌∷◌, ◌++◌, length, Option, Some, None, IsSome, IfSome, IsTrue}
 use Rattle.vx_base.specs.Blocks.{Contents}
 use Rattle.vx_base.specs.Named.{Word}
 use Rattle.vx_header.specs.Named.{header_of}
@@ -14,9 +14,8 @@ use Rattle.vx_world.specs.declared.answer.Refusal.TheVariants as refusal
 use Rattle.vx_hold.specs.Looks.{LeavesRead}
 use Rattle.vx_world.specs.Joining.{FirstAway}
 use Rattle.vx_devices.specs.Claims.{IsOnlyRead}
-use Rattle.vx_hold.specs.Holders.{Holder, holders, held_as, disk_holders, AreHeld}
-use Rattle.vx_hold.specs.Stand.{State, seen_at}
-use Rattle.vx_hold.specs.declared.system.System.{System}
+use Rattle.vx_hold.specs.Holders.{Holder, held_as, disk_holders}
+use Rattle.vx_hold.specs.Stand.{seen_at}
 use Rattle.vx_init.specs.declared.stop.Stop.{Stop}
 use Rattle.vx_init.specs.declared.stop.Stop.TheVariants as stop
 use Rattle.vx_init.specs.declared.taking.Taken.{Taken}

@@ -1,5 +1,5 @@
 -- What the tests of the devices, the group's name and its disks say.
-use Rattle.std.specs.Prelude.{◌≡◌, ◌⊎◌, ℕ, ◌-◌, ◌^◌, ◌&&◌, Bool, true, false, not, nat_lt, nat_le, if◌then◌else◌, List, [], ◌∷◌, length, Option, Some, None, IfSome}
+use Rattle.std.specs.Prelude.{◌≡◌, ◌⊎◌, ℕ, ◌-◌, ◌^◌, ◌&&◌, Bool, not, nat_lt, nat_le, if◌then◌else◌, List, [], ◌∷◌, length, Option, Some, None, IfSome}
 use Rattle.std.specs.List.{list_all}
 use Rattle.vx_base.specs.Named.{Word}
 use Rattle.vx_header.specs.Sectors.{is_short_name}
@@ -10,8 +10,7 @@ use Rattle.vx_parts.specs.declared.object.Object.TheVariants.{GroupRecord, DiskR
 use Rattle.vx_parts.specs.declared.fault.ObjectFault.{ObjectFault}
 use Rattle.vx_parts.specs.declared.fault.ObjectFault.TheVariants as fault
 use Rattle.vx_parts.specs.declared.fault.Limit.TheVariants as limit
-use Rattle.vx_rules.specs.Rules.{first_broken}
-use Rattle.vx_objects.specs.Config.{objects_of, IsMadeOf, IsRefusedOf}
+use Rattle.vx_objects.specs.Config.{IsMadeOf, IsRefusedOf}
 use Rattle.vx_world.specs.Back.{IsTextOf}
 use Rattle.vx_world.specs.Refusals.{refusal_by}
 use Rattle.vx_world.specs.declared.answer.Refusal.{Refusal}

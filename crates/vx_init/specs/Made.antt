@@ -1,5 +1,5 @@
 -- How the making of a group ends.
-use Rattle.std.specs.Prelude.{◌≡◌, ◌⊎◌, ℕ, ◌≤◌, List, [], Option, Some, None, Result, Ok, Err}
+use Rattle.std.specs.Prelude.{◌≡◌, ◌⊎◌, ℕ, ◌≤◌, List, [], Option, Some, None, Result, Ok}
 use Rattle.vx_base.specs.Named.{Word}
 use Rattle.vx_piece.specs.Seen.{Seen}
 use Rattle.vx_shelf.specs.Shelf.{Held}
@@ -14,7 +14,7 @@ use Rattle.vx_world.specs.declared.answer.Refusal.{Refusal}
 use Rattle.vx_world.specs.declared.answer.Refusal.TheVariants as refusal
 use Rattle.vx_bare.specs.declared.started.Started.{Started}
 use Rattle.vx_devices.specs.Claims.{AreOnlyRead}
-use Rattle.vx_hold.specs.Holders.{holders, disk_holders, volume_at, AreHeld}
+use Rattle.vx_hold.specs.Holders.{holders, disk_holders, volume_at}
 use Rattle.vx_hold.specs.Closing.{AreBack}
 use Rattle.vx_hold.specs.Kept.{IsVolumeKept}
 use Rattle.vx_hold.specs.declared.system.System.{System}

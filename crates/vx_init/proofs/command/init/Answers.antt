@@ -1,11 +1,9 @@
-use Rattle.std.proofs.Common.{◌≡◌, ◌⊎◌, ◌++◌, ap, arith, inl, inr}
+use Rattle.std.proofs.Common.{◌≡◌, ap}
 use Rattle.vx_hold.specs.Holders.{holders}
-use Rattle.vx_hold.specs.Stand.{State}
-use Rattle.vx_init.specs.Made.{IsStopped, IsTried}
 use Rattle.vx_init.proofs.Ready.{unless_lost}
 use Rattle.vx_init.proofs.Ended.{state}
 use Rattle.vx_init.proofs.Finished.{away_leads}
-use Rattle.vx_init.proofs.Answered.{Says, says_ok, says_err, stop_says, stopped_says, tried_says, made_says, room_end, room_after}
+use Rattle.vx_init.proofs.Answered.{says_ok, says_err, stop_says, made_says, room_end, room_after}
 use Rattle.vx_init.proofs.command.init.Goals as goal
 
 pub returns-in-Ok-clause-room : goal.returns-in-Ok-clause-room

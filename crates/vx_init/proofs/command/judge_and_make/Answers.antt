@@ -1,5 +1,5 @@
-use Rattle.std.proofs.Common.{◌≡◌, ◌∙◌, ◌++◌, sym, refl, ap, inl, inr, subst, length, arith}
-use Rattle.vx_hold.specs.Holders.{holders, AreHeld}
+use Rattle.std.proofs.Common.{◌++◌, ap, inl, inr, arith}
+use Rattle.vx_hold.specs.Holders.{holders}
 use Rattle.vx_hold.proofs.Held.{same_held}
 use Rattle.vx_init.specs.Gathered.{taken_holders}
 use Rattle.vx_init.proofs.Gathering.{disks_long, all_behind, apart_behind}

@@ -1,9 +1,8 @@
-use Rattle.std.proofs.Common.{◌≡◌, ◌∙◌, sym, refl, ap, inl, inr, Ok}
+use Rattle.std.proofs.Common.{◌∙◌, sym, refl, ap, inl, inr, Ok}
 use Rattle.vx_hold.specs.Holders.{holders, disk_holders}
 use Rattle.vx_init.proofs.Gathering.{all_behind, apart_behind}
-use Rattle.vx_init.proofs.Joined.{refused_later, refused_long, refused_held, group_none, made_keeps}
+use Rattle.vx_init.proofs.Joined.{refused_long, refused_held, group_none, made_keeps}
 use Rattle.vx_init.specs.Made.{stop_of}
-use Rattle.vx_init.specs.Ends.{Answers, UnlessLost, WhereLost, IsClosed}
 use Rattle.vx_init.proofs.Ready.{unless_lost}
 use Rattle.vx_init.proofs.making.make.Goals as goal
 

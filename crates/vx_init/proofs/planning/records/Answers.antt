@@ -1,4 +1,4 @@
-use Rattle.std.proofs.Common.{◌≡◌, ◌∙◌, ◌++◌, ◌∷◌, [], List, rules, arith, ap, sym, take, get_or}
+use Rattle.std.proofs.Common.{◌∙◌, ◌++◌, ◌∷◌, [], rules, arith, ap, sym, take}
 use Rattle.std.proofs.lemmas.List.{take_more}
 use Rattle.vx_init.proofs.Passing.{records_more}
 use Rattle.vx_init.proofs.planning.records.Goals as goal

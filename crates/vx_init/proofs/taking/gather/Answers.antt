@@ -1,12 +1,9 @@
-use Rattle.std.proofs.Common.{◌≡◌, ◌++◌, ◌∷◌, ◌+◌, [], rules, arith, subst, sym, take, get_or, drop, length}
+use Rattle.std.proofs.Common.{rules, arith, take}
 use Rattle.std.proofs.lemmas.List.{take_more}
-use Rattle.std.proofs.lemmas.Result.{IfErr-weaker}
-use Rattle.vx_hold.specs.Holders.{holders, AreHeld}
-use Rattle.vx_hold.proofs.Held.{same_held}
-use Rattle.vx_init.specs.declared.taking.Taken.{Taken}
-use Rattle.vx_init.specs.Gathered.{IsGathered, taken_holders}
+use Rattle.vx_hold.specs.Holders.{holders}
+use Rattle.vx_init.specs.Gathered.{taken_holders}
 use Rattle.vx_init.proofs.Views.{all_back_read, all_back_cause}
-use Rattle.vx_init.proofs.Gathering.{disks_long, all_behind, apart_behind, held_next, gathered_next, none_gathered, held_still}
+use Rattle.vx_init.proofs.Gathering.{all_behind, apart_behind, held_next, gathered_next, held_still}
 use Rattle.vx_init.proofs.Away.{stop_away, held_before}
 use Rattle.vx_init.proofs.taking.gather.Goals as goal
 

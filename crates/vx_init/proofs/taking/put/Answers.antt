@@ -1,4 +1,4 @@
-use Rattle.std.proofs.Common.{rules, refl, arith, ◌≡◌, min, length}
+use Rattle.std.proofs.Common.{refl, arith}
 use Rattle.vx_init.proofs.taking.put.Goals as goal
 
 pub returns-clause-put : goal.returns-clause-put

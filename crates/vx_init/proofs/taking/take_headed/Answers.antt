@@ -1,5 +1,5 @@
 use Rattle.std.proofs.lemmas.Result.{IfErr-weaker}
-use Rattle.vx_init.proofs.Views.{on_err, comes_read, comes_cause}
+use Rattle.vx_init.proofs.Views.{comes_cause}
 use Rattle.vx_init.proofs.taking.take_headed.Goals as goal
 
 pub returns-in-Ok-clause-cause : goal.returns-in-Ok-clause-cause

@@ -100,8 +100,7 @@ module _ (group : Word) (w : World) (old new : Word → Option Seen) (world : (n
       let s = stays_some (old f.name) f.looked.seen stays in
       let d = told_of s.0 (w.devices f.name) (subst (λ o. IsDeviceOf o (w.devices f.name)) s.1 (world f.name)) in
       let told : f.looked.seen.told ≡ Some d.0.contents = s.3.told ∙ d.2.contents in
-      let sectors : d.0.sectors ≡ f.looked.seen.sectors = d.2.sectors ∙ sym s.2.sectors in
-      (
+      let sectors : d.0.sectors ≡ f.looked.seen.sectors = d.2.sectors ∙ sym s.2.sectors in (
         d.0.contents,
         told,
         d.1 ∙ ap (λ n. Some (let x : Device = record { sectors = n; contents = d.0.contents } in x)) sectors ∙ ap (λ c. Some (let x : Device = record { sectors = f.looked.seen.sectors; contents = c } in x)) (sym (ap contents_in told)),

@@ -19,10 +19,7 @@ pub fn give_finds<S: Shelf>(finds: Finds<S::P>, shelf: &mut S)
     ensures back { AreBack (holders_of (finds_in S.P.seen finds)) (S.free shelf.old) (S.free shelf.new) }
     ensures later { S.faults shelf.old ≤ S.faults shelf.new }
 {
-    let Finds {
-        devices,
-        found,
-    } = finds;
+    let Finds { devices, found } = finds;
     let mut devices = devices;
     let mut found = found;
     while let Some(one) = found.pop() {

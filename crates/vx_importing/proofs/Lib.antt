@@ -7,3 +7,5 @@ pub mod Verdicts
 pub mod Returning
 pub mod Counting
 pub mod Linking
+pub mod Concluding
+pub mod Committing

@@ -16,3 +16,6 @@ pub use giving::give_finds;
 pub use judging::{Judged, judge};
 pub use naming::missing_disk;
 pub use placing::{place_of, put_in};
+
+#[cfg(test)]
+mod tests;

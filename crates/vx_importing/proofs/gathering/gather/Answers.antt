@@ -6,7 +6,8 @@ use Rattle.vx_importing.specs.Finds.{finds_in, AllBefore, IsPassed, IfTold}
 use Rattle.vx_importing.specs.Gathering.{PassEnds}
 use Rattle.vx_importing.specs.declared.gathering.Passed.TheVariants.{Done}
 use Rattle.vx_importing.proofs.Counting.{are_counted}
-use Rattle.vx_importing.proofs.Linking.{offers_link}
+use Rattle.vx_importing.proofs.Concluding.{damaged_concludes}
+use Rattle.vx_importing.proofs.Committing.{text_link}
 use Rattle.vx_importing.proofs.Went.{goes_trans}
 use Rattle.vx_importing.proofs.Gathered.{rising_at, passed_next, goes_first, before_first, passed_first}
 use Rattle.vx_importing.proofs.gathering.gather.Goals as goal

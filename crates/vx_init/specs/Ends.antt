@@ -22,6 +22,7 @@ answer_of stop.ShelfFailed = Some answer.ShelfFailed
 answer_of stop.GroupLost = Some answer.GroupLost
 answer_of stop.Lost = Some (answer.Lost [])
 
+-- the answer is that of the stop; want of memory has none
 abbrev pub Answers : {E : Type 0} → Stop → Result Answer E → Type 0
 Answers s (Ok a) = answer_of s ≡ Some a
 Answers s (Err e) = answer_of s ≡ None
@@ -31,6 +32,7 @@ abbrev pub UnlessLost : Stop → Type 0 → Type 0
 UnlessLost stop.Lost T = Unit {0}
 UnlessLost s T = T
 
+-- where the power is gone
 abbrev pub WhereLost : Stop → Type 0 → Type 0
 WhereLost stop.Lost T = T
 WhereLost s T = Unit {0}

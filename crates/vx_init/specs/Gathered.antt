@@ -60,6 +60,7 @@ SeenWith hs None (Some new) = ⊥
 SeenWith hs (Some old) None = ⊥
 SeenWith hs (Some old) (Some new) = IsSeenWith hs old new
 
+-- what is held of the devices that were taken
 abbrev pub taken_holders : {P : Type 0} → (P → Seen) → Taken P → List Holder
 taken_holders see t = disk_holders see t.devices.items t.disks.items
 

@@ -27,9 +27,11 @@ use Rattle.vx_init.specs.declared.planning.Plan.{Plan}
 abbrev pub is_size : ℕ → Bool
 is_size sectors = nat_lt 2048 sectors && nat_le sectors (2 ^ 40)
 
+-- each device may be a disk
 abbrev pub are_sized : {P : Type 0} → List (Disk P) → Bool
 are_sized ds = list_all (λ d. is_size d.sectors) ds
 
+-- each disk's name has at most 24 characters
 abbrev pub are_short : {P : Type 0} → List (Disk P) → Bool
 are_short ds = list_all (λ d. is_short_name d.name) ds
 
@@ -79,6 +81,7 @@ disk_records [] ds = []
 disk_records (n ∷ ns) [] = []
 disk_records (n ∷ ns) (d ∷ ds) = DiskRecord (record { name = d.name; device = n; slot = d.slot; publen = d.sectors - 2048 }) ∷ disk_records ns ds
 
+-- the records of a group of these disks
 abbrev pub group_records : {P : Type 0} → Word → List Word → List (Disk P) → List Object
 group_records dg ns ds = GroupRecord (record { name = dg; version = 1 }) ∷ disk_records ns ds
 

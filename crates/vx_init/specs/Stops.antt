@@ -29,6 +29,7 @@ Shows stop.ShelfFailed s = Rose s.shelf s.shelf'
 Shows stop.GroupLost s = ⊥
 Shows stop.Lost s = (name : Word) × (s.held name ≡ None) × IsTrue (cut_in (s.new name))
 
+-- a sight of its parts
 abbrev pub sight : (Word → Option Held) → (Word → Option Seen) → (Word → Option Seen) → ℕ → ℕ → Sight
 sight held old new shelf shelf' = record { held = held; old = old; new = new; shelf = shelf; shelf' = shelf' }
 

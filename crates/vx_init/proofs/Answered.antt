@@ -119,8 +119,8 @@ module _ {P E : Type 0} (see : P → Seen) (dg : Word) (ps : List DiskAt) (t : T
 
       by : (after : Option (Word → Option Seen)) → AreBack (disk_holders see t.devices.items unmade.disks) (Some m) after → UnlessLost (stop_of unmade.fault) ((s' ≡ s) × (f2 ≡ after)) → WhereLost (stop_of unmade.fault) (IsClosed (holders see s) s s' after f2) → (x : Result Answer E) → Answers (stop_of unmade.fault) x → Says see dg ps x (state (Some old) n s) (state f2 n'' s')
       by None back stays closed x answers = absurd back
-      by (Some a) back stays closed (Ok x) answers = λ w stand. unmade_moves see dg ps t s old m n n'' (omega (arith, more, most)) w stand who out keeps are gathered.disks_are gathered.headed_is with plan passed_m is s' n'' (omega arith) f2 a unmade.disks back unmade.fault unmade.refused x answers stays closed
-      by (Some a) back stays closed (Err e) answers = λ w stand. unmade_rests see dg ps t s old m n n'' (omega (arith, more, most)) w stand who out keeps are gathered.disks_are gathered.headed_is with plan passed_m is s' n'' (omega arith) f2 a unmade.disks back unmade.fault unmade.refused answers stays
+      by (Some a) back stays closed (Ok x) answers = λ w stand. unmade_moves see dg ps t s old m n n'' (omega (arith, more, most)) w stand who out keeps are gathered.disks_are gathered.headed_is with plan passed_m is s' n'' (omega arith) f2 a unmade.disks back unmade.fault unmade.comes unmade.refused x answers stays closed
+      by (Some a) back stays closed (Err e) answers = λ w stand. unmade_rests see dg ps t s old m n n'' (omega (arith, more, most)) w stand who out keeps are gathered.disks_are gathered.headed_is with plan passed_m is s' n'' (omega arith) f2 a unmade.disks back unmade.fault unmade.comes unmade.refused answers stays
 
   pub tried_says : (f0 f1 f2 : Option (Word → Option Seen)) → IsGathered see ps t f0 f1 → IsTried see dg t r s s' f1 f2 → Says see dg ps r (state f0 n s) (state f2 n'' s')
   tried_says None f1 f2 gathered is = by r

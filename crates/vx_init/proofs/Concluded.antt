@@ -1,5 +1,5 @@
 -- A group that was made, or begun, as a step of the world.
-use Rattle.std.proofs.Common.{◌≡◌, ◌∙◌, ℕ, ◌+◌, ◌<◌, ◌≤◌, Bool, true, false, cond, List, [], ◌∷◌, ◌++◌, map, length, Option, Some, None, refl, sym, ap, subst, inl, inr, arith}
+use Rattle.std.proofs.Common.{◌≡◌, ◌∙◌, ℕ, ◌+◌, ◌≤◌, Bool, true, false, cond, List, [], ◌∷◌, ◌++◌, map, length, Option, Some, None, refl, sym, ap, subst, inl, inr, arith}
 use Rattle.std.specs.Prelude.{IsTrue}
 use Rattle.std.specs.Str.{bytes_eq}
 use Rattle.vx_base.specs.Named.{Word}
@@ -17,7 +17,6 @@ use Rattle.vx_script_words.specs.declared.value.DiskAt.{DiskAt}
 use Rattle.vx_devices.specs.Claims.{IsOnlyRead}
 use Rattle.vx_world.specs.declared.answer.Answer.{Answer}
 use Rattle.vx_world.specs.declared.answer.Answer.TheVariants as answer
-use Rattle.vx_world.specs.declared.answer.Refusal.TheVariants as refusal
 use Rattle.vx_world.specs.Failures.{Failures}
 use Rattle.vx_world.specs.World.{World, Member}
 use Rattle.vx_world.specs.Images.{IsDeviceOf}
@@ -37,7 +36,7 @@ use Rattle.vx_init.specs.declared.taking.Taken.{Taken}
 use Rattle.vx_init.specs.declared.planning.Plan.{Plan}
 use Rattle.vx_init.specs.Ends.{answer_of, UnlessLost, WhereLost, IsClosed}
 use Rattle.vx_init.specs.Gathered.{AreDisksAt, IsFirstHeaded, IsSeenWith, taken_holders, view_of}
-use Rattle.vx_init.specs.Made.{stop_of, IsPassed}
+use Rattle.vx_init.specs.Made.{stop_of, CanCome, IsPassed}
 use Rattle.vx_init.proofs.Gathering.{apart_behind}
 use Rattle.vx_init.proofs.Views.{back_only_read, read_refl}
 use Rattle.vx_init.proofs.Away.{Freed, freed, held_first}
@@ -47,7 +46,7 @@ use Rattle.vx_init.proofs.Ended.{state, Leads, ShowsAt, Stopping, ends_moves}
 use Rattle.vx_init.proofs.Steps.{records_is, Ends}
 use Rattle.vx_init.proofs.Written.{all_members, good_member, good_slots, all_dropped}
 use Rattle.vx_init.proofs.Moved.{Begun, Old, New, Told, here, later, failures, failed, risen, all_risen, one_cut, others_are, gone_are, stands_begun, begun}
-use Rattle.vx_init.proofs.Finished.{quiet, read_moves, read_rests, passed_step}
+use Rattle.vx_init.proofs.Finished.{read_rests, passed_step}
 
 held_some : (xs ys : List Holder) (name : Word) (x : Seen) → held_as xs name ≡ Some x → held_as (xs ++ ys) name ≡ Some x
 held_some [] ys name x is = cc
@@ -113,16 +112,16 @@ module _ {P : Type 0} (see : P → Seen) (dg : Word) (ps : List DiskAt) (t : Tak
       }
 
       lost_all : Each HasRisen (map (held see) t.disks.items) (map (held see) es) → Stopping dg ps stop.GroupLost w B F O (device_seen see (state (Some a) n' s)) n n'
-      lost_all rose = stopping stop.GroupLost (step_by F answer.GroupLost B (inr (inl (record {
+      lost_all rose = stopping stop.GroupLost (step_by F answer.GroupLost B (inr (record {
         world = B;
         begun = is_begun;
         ends = inl (refl, refl, all_risen see dg ps t s old m w stand out are disks with plan.text.items es joins is.few rose);
-      })))) tt
+      }))) tt
 
       lost_power : AnyOf IsCut (map (held see) es) → Stopping dg ps stop.Lost w B F O (device_seen see (state (Some a) n' s)) n n'
       lost_power cut =
           let one = one_cut see dg ps t s old m w stand out are disks with plan.text.items es joins is.few is.long cut in
-          stopping stop.Lost (λ next off. step_by F (answer.Lost []) next (inr (inl (record { world = B; begun = is_begun; ends = inr (refl, off) })))) (one.0, subst (λ o. IsTrue (cut_in o)) (sym (as_told one.0)) one.1)
+          stopping stop.Lost (λ next off. step_by F (answer.Lost []) next (inr (record { world = B; begun = is_begun; ends = inr (refl, off) }))) (one.0, subst (λ o. IsTrue (cut_in o)) (sym (as_told one.0)) one.1)
 
   -- the group is imported
   module _ (base : Base P) (founded : IsFounded see dg plan.text.items t.disks.items base) where
@@ -199,31 +198,16 @@ module _ {P : Type 0} (see : P → Seen) (dg : Word) (ps : List DiskAt) (t : Tak
     abbrev apart_here : AreApart (taken_holders see t)
     apart_here = apart_behind (holders see s) (taken_holders see t) are.apart
 
-    too_long : (k : ℕ) → k ≡ length plan.text.items → 522240 < k → InitStep quiet dg ps w (answer.Refused (refusal.TooLong k)) w
-    too_long k size long = step_by quiet (answer.Refused (refusal.TooLong k)) w (inr (inr (
-      k,
-      (
-        plan.config,
-        plan.text.items,
-        is.records ∙ sym (records_is see dg ps t.devices.items t.disks.items (freed see w ps t old m stand.devices_are disks apart_here with).devices disks (freed see w ps t old m stand.devices_are disks apart_here with).images is.few),
-        is.text,
-        size,
-        long,
-      ),
-      record { told = refl; same = refl },
-    )))
-
-    pub unmade_moves : (f : GroupFault) → RefusedBy see f dg plan.text.items t.disks.items es → (x : Answer) → answer_of (stop_of f) ≡ Some x → UnlessLost (stop_of f) ((s' ≡ s) × (free ≡ Some a)) → WhereLost (stop_of f) (IsClosed (holders see s) s s' (Some a) free) → Moves see (λ g. InitStep g dg ps) x w (state (Some old) n s) (state free n'' s')
-    unmade_moves fault.OutOfMemory refused x told stays closed = cc
-    unmade_moves (fault.TooLong k) refused x told stays closed =
-        read_moves see dg ps s s' old a n n' n'' w stand who keeps (read_back refused.2) more most free (stop.Refused (refusal.TooLong k)) x tt (too_long k refused.0 refused.1) told stays closed
-    unmade_moves fault.GroupLost refused x told stays closed =
+    pub unmade_moves : (f : GroupFault) → CanCome f → RefusedBy see f dg plan.text.items t.disks.items es → (x : Answer) → answer_of (stop_of f) ≡ Some x → UnlessLost (stop_of f) ((s' ≡ s) × (free ≡ Some a)) → WhereLost (stop_of f) (IsClosed (holders see s) s s' (Some a) free) → Moves see (λ g. InitStep g dg ps) x w (state (Some old) n s) (state free n'' s')
+    unmade_moves fault.OutOfMemory comes refused x told stays closed = cc
+    unmade_moves (fault.TooLong k) comes refused x told stays closed = absurd comes
+    unmade_moves fault.GroupLost comes refused x told stays closed =
         ends_moves see dg ps stop.GroupLost w (B es refused.0.joins) (F es refused.0.joins) (state (Some old) n s) a n' n'' s s' free who x most (begun_stands es refused.0.joins a back) keeps (lost_all es refused.0.joins a back refused.1) told stays closed
-    unmade_moves fault.PowerLost refused x told stays closed =
+    unmade_moves fault.PowerLost comes refused x told stays closed =
         ends_moves see dg ps stop.Lost w (B es refused.0.joins) (F es refused.0.joins) (state (Some old) n s) a n' n'' s s' free who x most (begun_stands es refused.0.joins a back) keeps (lost_power es refused.0.joins a back refused.1) told stays closed
 
-    pub unmade_rests : (f : GroupFault) → RefusedBy see f dg plan.text.items t.disks.items es → answer_of (stop_of f) ≡ None → UnlessLost (stop_of f) ((s' ≡ s) × (free ≡ Some a)) → Rests see w (state (Some old) n s) (state free n'' s')
-    unmade_rests fault.OutOfMemory refused told stays = read_rests see dg ps s s' old a n n' n'' w stand who keeps (read_back refused) more most free stop.OutOfMemory told stays
-    unmade_rests (fault.TooLong k) refused told stays = cc
-    unmade_rests fault.GroupLost refused told stays = cc
-    unmade_rests fault.PowerLost refused told stays = cc
+    pub unmade_rests : (f : GroupFault) → CanCome f → RefusedBy see f dg plan.text.items t.disks.items es → answer_of (stop_of f) ≡ None → UnlessLost (stop_of f) ((s' ≡ s) × (free ≡ Some a)) → Rests see w (state (Some old) n s) (state free n'' s')
+    unmade_rests fault.OutOfMemory comes refused told stays = read_rests see dg ps s s' old a n n' n'' w stand who keeps (read_back refused) more most free stop.OutOfMemory told stays
+    unmade_rests (fault.TooLong k) comes refused told stays = cc
+    unmade_rests fault.GroupLost comes refused told stays = cc
+    unmade_rests fault.PowerLost comes refused told stays = cc

@@ -1,5 +1,5 @@
 -- Disks that joined a group, or were to.
-use Rattle.std.proofs.Common.{◌≡◌, ◌≢◌, ◌∙◌, ℕ, suc, ◌==◌, true, List, [], ◌∷◌, ◌++◌, map, length, Option, Some, None, refl, sym, ap, subst}
+use Rattle.std.proofs.Common.{◌≡◌, ◌≢◌, ◌∙◌, ℕ, suc, ◌≤◌, ◌==◌, true, List, [], ◌∷◌, ◌++◌, map, length, Option, Some, None, refl, sym, ap, subst, arith}
 use Rattle.std.proofs.lemmas.List.{append-nil}
 use Rattle.std.specs.Prelude.{IfSome}
 use Rattle.std.specs.List.{list_any}
@@ -26,7 +26,7 @@ use Rattle.vx_hold.proofs.Held.{IsLater, later_held}
 use Rattle.vx_init.specs.declared.taking.Taken.{Taken}
 use Rattle.vx_init.specs.declared.planning.Plan.{Plan}
 use Rattle.vx_init.specs.Gathered.{taken_holders}
-use Rattle.vx_init.specs.Made.{VolumesKept}
+use Rattle.vx_init.specs.Made.{VolumesKept, CanCome}
 
 pub later_refl : (hs : List Holder) → Each IsLater hs hs
 later_refl [] = tt
@@ -88,6 +88,13 @@ module _ {P : Type 0} (see : P → Seen) (dg : Word) (text : List ℕ) where
   refused_long (fault.TooLong n) ds ds' is = ap length is.2
   refused_long fault.GroupLost ds ds' is = joins_long ds ds' is.0.joins
   refused_long fault.PowerLost ds ds' is = joins_long ds ds' is.0.joins
+
+  -- the text is short enough, so that the fault is another
+  pub can_come : (f : GroupFault) (ds ds' : List (Disk P)) → length text ≤ 522240 → RefusedBy see f dg text ds ds' → CanCome f
+  can_come fault.OutOfMemory ds ds' short is = tt
+  can_come (fault.TooLong n) ds ds' short is = let long = is.1 in omega (arith, long, short)
+  can_come fault.GroupLost ds ds' short is = tt
+  can_come fault.PowerLost ds ds' short is = tt
 
   -- the disks of a refused group are held as before
   pub refused_held : (f : GroupFault) (who : Word → Option Held) (hs : List Holder) (ns : List Word) (ds ds' : List (Disk P)) → RefusedBy see f dg text ds ds' → AreHeld who (hs ++ disk_holders see ns ds) → AreHeld who (hs ++ disk_holders see ns ds')

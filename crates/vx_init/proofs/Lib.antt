@@ -1,4 +1,5 @@
 pub mod Views
+pub mod Short
 pub mod Gathering
 pub mod Away
 pub mod Passing

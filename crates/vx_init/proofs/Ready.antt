@@ -19,6 +19,7 @@ use Rattle.vx_init.specs.Gathered.{AreDisksAt, IsFirstHeaded}
 use Rattle.vx_init.specs.Judged.{group_in, limit_of, group_records}
 use Rattle.vx_init.specs.Made.{IsPassed}
 use Rattle.vx_init.proofs.Gathering.{disks_long}
+use Rattle.vx_init.proofs.Short.{group_short}
 use Rattle.vx_init.proofs.Passing.{nothing_refuses, no_group, within, fresh_all, none_offer, sized_all, slots_all, records_made, named_so, recorded_all}
 
 pub unless_lost : {A B : Type 0} (s : Stop) → (A → B) → UnlessLost s A → UnlessLost s B
@@ -42,6 +43,7 @@ pub record IsReady {P : Type 0} (see : P → Seen) (dg : Word) (t : Taken P) (gr
   pub recorded : AreRecorded plan.config t.disks.items
   pub named : plan.config.group ≡ dg
   pub text : IsTextOf plan.config plan.text.items
+  pub short : length plan.text.items ≤ 522240
 
 pub ready : {P : Type 0} (see : P → Seen) (dg : Word) (t : Taken P) (group : Option (Imported P)) (free : Option (Word → Option Seen)) (plan : Plan) (ps : List DiskAt) → AreDisksAt see 0 ps t.devices.items t.disks.items → IsFirstHeaded see t.headed t.devices.items t.disks.items → IsPassed dg t group free plan → IsReady see dg t group plan
 ready see dg t group free plan ps disks headed passed =
@@ -63,4 +65,5 @@ ready see dg t group free plan ps disks headed passed =
       recorded = recorded_all dg t.devices.items t.disks.items plan.config long made;
       named = named_so dg t.devices.items t.disks.items plan.config made;
       text = passed.planned.text_is;
+      short = group_short dg t.devices.items t.disks.items (objects_of plan.config) plan.text.items limits.few made passed.planned.text_is;
     }

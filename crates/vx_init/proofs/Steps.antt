@@ -22,7 +22,7 @@ use Rattle.vx_world.specs.World.{World, Device, Group, IsRefused}
 use Rattle.vx_world.specs.Images.{IsDeviceOf, IsImage}
 use Rattle.vx_world.specs.Tests.{If}
 use Rattle.vx_world.specs.Joining.{AreFree, first_headed, limit_passed, is_disk_size, IsClaimed, disk_record}
-use Rattle.vx_world.specs.Groups.{devices_of, new_records, IsMade, IsUnmade, IsInitTooLong, InitStep}
+use Rattle.vx_world.specs.Groups.{devices_of, new_records, IsMade, IsUnmade, InitStep}
 use Rattle.vx_world.specs.Groups.{disk_records as world_records}
 use Rattle.vx_world.specs.Refusals.{refusal_by}
 use Rattle.vx_devices.specs.Claims.{IsOnlyRead, Names, NamesNot}
@@ -193,7 +193,7 @@ module _ (C : Type 0) (old : World) (answer : Answer) (new : World) where
 
 -- the end of the tests
 abbrev pub Ends : Failures → Word → List DiskAt → List Device → World → Answer → World → Type 0
-Ends f dg ps vs old answer new = IsMade f dg ps vs old answer new ⊎ (IsUnmade f dg ps vs old answer new ⊎ ((n : ℕ) × IsInitTooLong dg ps vs n × IsRefused (refusal.TooLong n) old answer new))
+Ends f dg ps vs old answer new = IsMade f dg ps vs old answer new ⊎ IsUnmade f dg ps vs old answer new
 
 module _ (f : Failures) (dg : Word) (ps : List DiskAt) (vs : List Device) (w : World) (answer : Answer) (new : World) (free : AreFree [] w ps vs) (headed : Option Word) (limit : Option Refusal) (headed_so : first_headed ps vs ≡ headed) (limit_so : limit_passed (length ps) (dg ∷ map (λ p. p.disk) ps) vs ≡ limit) where
   abbrev Last : Type 0

@@ -35,6 +35,11 @@ stop_of (fault.TooLong n) = stop.Refused (refusal.TooLong n)
 stop_of fault.GroupLost = stop.GroupLost
 stop_of fault.PowerLost = stop.Lost
 
+-- a new group's text is never too long
+abbrev pub CanCome : GroupFault → Type 0
+CanCome (fault.TooLong n) = ⊥
+CanCome f = Unit {0}
+
 -- the group is imported
 pub record IsMadeOf {P E : Type 0} (see : P → Seen) (dg : Word) (plan : Plan) (t : Taken P) (result : Result Answer E) (system system' : System P) (free free' : Option (Word → Option Seen)) : Type 0 where
   pub base : Group P
@@ -46,6 +51,7 @@ pub record IsMadeOf {P E : Type 0} (see : P → Seen) (dg : Word) (plan : Plan) 
 -- the group was not made, and its devices are back
 pub record IsUnmadeOf {P E : Type 0} (see : P → Seen) (dg : Word) (plan : Plan) (t : Taken P) (result : Result Answer E) (system system' : System P) (free free' : Option (Word → Option Seen)) : Type 0 where
   pub fault : GroupFault
+  pub comes : CanCome fault
   pub disks : List (Disk P)
   pub refused : RefusedBy see fault dg plan.text.items t.disks.items disks
   pub after : Option (Word → Option Seen)

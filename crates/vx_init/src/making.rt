@@ -7,7 +7,7 @@ ghost use Rattle.vx_hold.specs.Holders.{holders, AreHeld};
 ghost use Rattle.vx_hold.specs.Kept.{Keeps, AreSized, HaveSlots, AreRecorded};
 ghost use Rattle.vx_world.specs.Back.{IsTextOf};
 ghost use Rattle.vx_init.specs.Gathered.{taken_holders};
-ghost use Rattle.vx_init.specs.Made.{VolumesKept, IsMadeOf, IsUnmadeOf, stop_of};
+ghost use Rattle.vx_init.specs.Made.{VolumesKept, IsMadeOf, IsUnmadeOf, CanCome, stop_of};
 
 use crate::planning::Plan;
 use crate::stop::{Stop, end};
@@ -18,7 +18,7 @@ use vx_confdb::{GroupFault, Refused, create};
 use vx_hold::{Imported, System, done, give_disks};
 use vx_names::Name;
 use vx_shelf::Shelf;
-use vx_world::{Answer, Refusal};
+use vx_world::Answer;
 
 /// Makes the group. Where it is not made, all devices are back.
 pub(crate) fn make<S: Shelf>(
@@ -41,6 +41,7 @@ pub(crate) fn make<S: Shelf>(
     requires recorded { AreRecorded plan.config taken.disks.items }
     requires named { plan.config.group ≡ dg }
     requires text { IsTextOf plan.config plan.text.items }
+    requires short { length plan.text.items ≤ 522240 }
     ensures keeps { Keeps S.P.seen (S.held shelf.new) system.new }
     ensures makes { IsMadeOf S.P.seen dg plan taken result system.old system.new (S.free shelf.old) (S.free shelf.new) ⊎ IsUnmadeOf S.P.seen dg plan taken result system.old system.new (S.free shelf.old) (S.free shelf.new) }
     ensures later { S.faults shelf.old ≤ S.faults shelf.new }
@@ -67,12 +68,14 @@ pub(crate) fn make<S: Shelf>(
     }
 }
 
+/// Why a group is not made. Its text is not too long.
 fn stop_of(fault: GroupFault) -> Stop
+    requires comes { CanCome fault }
     ensures { result ≡ stop_of fault }
 {
     match fault {
         GroupFault::OutOfMemory => Stop::OutOfMemory,
-        GroupFault::TooLong(bytes) => Stop::Refused(Refusal::TooLong(bytes)),
+        GroupFault::TooLong(_) => unreachable!(),
         GroupFault::GroupLost => Stop::GroupLost,
         GroupFault::PowerLost => Stop::Lost,
     }

@@ -19,7 +19,7 @@ use Rattle.vx_world.specs.declared.command.Call.{Call}
 use Rattle.vx_world.specs.declared.answer.Answer.{Answer}
 use Rattle.vx_world.specs.declared.answer.Answer.TheVariants.{Done, Shown, Refused, Fault, ShelfFailed, GroupLost, Lost}
 use Rattle.vx_world.specs.declared.answer.Refusal.{Refusal}
-use Rattle.vx_world.specs.declared.answer.Refusal.TheVariants.{NotStarted, Range, TooLong}
+use Rattle.vx_world.specs.declared.answer.Refusal.TheVariants.{NotStarted, Range}
 use Rattle.vx_world.specs.Failures.{Failures}
 use Rattle.vx_world.specs.World.{World, Device, Volume, Group, IsRefused}
 use Rattle.vx_world.specs.Tests.{If, WithDevice, IsFault}
@@ -28,7 +28,7 @@ use Rattle.vx_world.specs.Bare.{BareStep, IsBare, bare_volume}
 use Rattle.vx_world.specs.Calls.{volume_of, start_of, count_of, CallStep, IsServed, WorldAfter, world_with}
 use Rattle.vx_world.specs.Disks.{MkImageStep, UnsetupStep, IsHalfWiped}
 use Rattle.vx_world.specs.Joining.{first_headed, limit_passed, disk_record}
-use Rattle.vx_world.specs.Groups.{FailsEarly, IsShelfFailed, new_records, IsMade, IsUnmade, IsInitTooLong, InitStep, is_meant, WithGroup, next_slot, IsAdded, IsUnadded, AddStep, DeportStep}
+use Rattle.vx_world.specs.Groups.{FailsEarly, IsShelfFailed, new_records, IsMade, IsUnmade, InitStep, is_meant, WithGroup, next_slot, IsAdded, IsUnadded, AddStep, DeportStep}
 use Rattle.vx_world.specs.Import.{Candidate, Imports, IsNotThere, IsTaken, IsComplete, IsTextRead, IsConfigured, IsCommitted, IsImported, IsUnimported, ImportStep, offers_of, first_that, is_damaged_one, is_taken_of, missing_from, import_records, is_recorded, good_ones}
 use Rattle.vx_world.specs.Printed.{PrintStep}
 use Rattle.vx_laws.specs.Histories.{HaveHistories}
@@ -126,10 +126,9 @@ module _ (Held : Holding) (old new : World) (answer : Answer) (all : HaveHistori
       at_device name (λ d found h. at_option (header_of (d.contents 0)) (refused _)
       (λ label k. by_either (λ wiped. subst (HaveHistories Held) (sym wiped.world) all) (half_wiped name d) k) h) step
 
-  made : (f : Failures) (dg : Word) (pairs : List DiskAt) (ds : List Device) → IsMade f dg pairs ds old answer new ⊎ (IsUnmade f dg pairs ds old answer new ⊎ ((n : ℕ) × IsInitTooLong dg pairs ds n × IsRefused (TooLong n) old answer new)) → HaveHistories Held new
+  made : (f : Failures) (dg : Word) (pairs : List DiskAt) (ds : List Device) → IsMade f dg pairs ds old answer new ⊎ IsUnmade f dg pairs ds old answer new → HaveHistories Held new
   made f dg pairs ds (inl h) = subst (HaveHistories Held) (sym h.world) all
-  made f dg pairs ds (inr (inl h)) = by_either (λ k. subst (HaveHistories Held) (sym k.1) (same_volumes Held old h.world h.begun.volumes all)) (λ k. cut_kept Held h.world new k.1) h.ends
-  made f dg pairs ds (inr (inr h)) = refused _ h.2
+  made f dg pairs ds (inr h) = by_either (λ k. subst (HaveHistories Held) (sym k.1) (same_volumes Held old h.world h.begun.volumes all)) (λ k. cut_kept Held h.world new k.1) h.ends
 
   pub init_kept : (f : Failures) (dg : Word) (pairs : List DiskAt) → InitStep f dg pairs old answer new → HaveHistories Held new
   init_kept f dg pairs (inl h) = refused h.0 h.2

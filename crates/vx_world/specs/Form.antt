@@ -27,8 +27,8 @@ abbrev pub is_built_form : Form → Bool
 is_built_form (form.MkImage device length) = true
 is_built_form (form.Bare vol device) = true
 is_built_form (form.DgInit dg disks) = true
-is_built_form (form.DgAddDisk dg disk) = false
-is_built_form (form.DgImport dg) = false
+is_built_form (form.DgAddDisk dg disk) = true
+is_built_form (form.DgImport dg) = true
 is_built_form (form.DgDeport dg) = true
 is_built_form (form.DiskUnsetup device) = true
 is_built_form (form.PrintM vol) = true

@@ -96,10 +96,6 @@ pub record IsUnmade (f : Failures) (dg : Word) (pairs : List DiskAt) (ds : List 
   pub ends : ((answer ≡ GroupLost) × (new ≡ world) × ((name : Word) → is_among name (devices_of pairs) ≡ true → f.devices name ≡ true))
       ⊎ ((answer ≡ Lost []) × IsCutOff world new)
 
--- the text of the new configuration is too long by so many bytes
-abbrev pub IsInitTooLong : Word → List DiskAt → List Device → ℕ → Type 0
-IsInitTooLong dg pairs ds n = (config : Config) × (text : List ℕ) × (objects_of config ≡ new_records dg pairs ds) × IsTextOf config text × (n ≡ length text) × (522240 < n)
-
 -- the imported group, if there is one, is in use
 abbrev pub WithoutGroup : World → Answer → World → Type 0 → Type 0
 WithoutGroup old answer new More = MatchOption old.group More (λ g. IsRefused (InUse g.config.group) old answer new)
@@ -116,7 +112,7 @@ InitStep f dg pairs old answer new =
     (If (IsClaimed dg (devices_of pairs) old)
     (IsRefused (Exists dg) old answer new)
     (MatchOption (first_broken (new_records dg pairs ds))
-    (IsMade f dg pairs ds old answer new ⊎ (IsUnmade f dg pairs ds old answer new ⊎ ((n : ℕ) × IsInitTooLong dg pairs ds n × IsRefused (TooLong n) old answer new)))
+    (IsMade f dg pairs ds old answer new ⊎ IsUnmade f dg pairs ds old answer new)
     (λ fault. IsRefused (refusal_by fault) old answer new)))
     (λ r. IsRefused r old answer new)))
     (λ name. IsRefused (InUse name) old answer new)))

@@ -27,7 +27,7 @@ use Rattle.vx_rules.specs.Rules.{first_broken}
 use Rattle.vx_objects.specs.declared.config.Config.{Config}
 use Rattle.vx_objects.specs.Config.{objects_of, IsMadeOf}
 use Rattle.vx_objects.specs.Parts.{in_kinds}
-use Rattle.vx_objects.specs.Printed.{IsReadOf, IsUnreadOf}
+use Rattle.vx_objects.specs.Printed.{cut, Say, IsReadOf}
 use Rattle.vx_world.specs.declared.answer.Answer.{Answer}
 use Rattle.vx_world.specs.declared.answer.Answer.TheVariants.{Done, GroupLost, Lost}
 use Rattle.vx_world.specs.declared.answer.Refusal.{Refusal}
@@ -35,7 +35,8 @@ use Rattle.vx_world.specs.declared.answer.Refusal.TheVariants.{InUse, Exists, No
 use Rattle.vx_world.specs.Failures.{Failures, HasFailed}
 use Rattle.vx_world.specs.World.{World, Device, Member, Group, IsRefused}
 use Rattle.vx_world.specs.Tests.{IsFree, IsMemberDevice}
-use Rattle.vx_world.specs.Back.{IsTextOf, IsGroupBack, IsCutOff, IsLost}
+use Rattle.vx_world.specs.Back.{IsTextOf, AreDevicesOf, IsCutOff, IsLost}
+use Rattle.vx_world.specs.Back.{offers_of as member_offers}
 use Rattle.vx_world.specs.Joining.{DropsFailed, EachFailed}
 use Rattle.vx_world.specs.Groups.{without, IsShelfFailed}
 use Rattle.vx_world.specs.Refusals.{refusal_by}
@@ -161,14 +162,22 @@ pub record IsImported (f : Failures) (o : Offer) (cs : List Candidate) (config :
   pub others : DropsFailed f (members_of o.good cs) good
   pub world : new ≡ record (without (map (λ c. c.name) (good_ones o.good cs)) old) { group = Some (record { config = config; good = good; members = members_of o.good cs }) }
 
--- the offer has the text that was there, or that of the configuration
-abbrev pub IsTextThen : List ℕ → Config → Offer → Type 0
-IsTextThen text config o = (o.text ≡ text) ⊎ IsTextOf config o.text
+-- the devices of the candidates whose slot is good
+abbrev pub devices_of : ℕ → List Candidate → List Device
+devices_of good cs = map (λ c. c.device) (good_ones good cs)
 
--- The group is not imported: whichever of its devices can be read, they give the configuration that was there, or the
--- one that was to be committed.
+-- there is a configuration, with the text of this one
+abbrev pub IsNewThen : Config → Option Offer → Type 0
+IsNewThen config o = MatchOption o ⊥ (λ x. IsTextOf config x.text)
+
+-- The group is not imported: its devices are there, and whichever of them can be read, they give what they gave before, or
+-- the configuration that was to be committed.
 pub record IsStopped (o : Offer) (cs : List Candidate) (config : Config) (old new : World) : Type 0 where
-  pub back : IsGroupBack (IsTextThen o.text config) (record { config = config; good = o.good; members = members_of o.good cs }) new.devices
+  pub back : List Device
+  pub here : AreDevicesOf config.group o.good new.devices (members_of o.good cs) back
+  pub gives : (readable : ℕ → Bool)
+      → (highest (member_offers config.group readable (members_of o.good cs) back) ≡ highest (member_offers config.group readable (members_of o.good cs) (devices_of o.good cs)))
+      ⊎ IsNewThen config (highest (member_offers config.group readable (members_of o.good cs) back))
   pub others : (name : Word) → (AnyOf (λ c. c.name ≡ name) (good_ones o.good cs) → ⊥) → new.devices name ≡ old.devices name
   pub volumes : new.volumes ≡ old.volumes
   pub no_group : new.group ≡ None
@@ -203,12 +212,16 @@ IsConfigured f dg o cs config old answer new =
     (λ c. IsRefused (NoObject c.label.disk) old answer new))
     (IsRefused (NoObject dg) old answer new)
 
+-- the fault of the first rule that is broken by what the records say, as fields hold it
+abbrev pub IsBrokenBy : List Content → ObjectFault → Type 0
+IsBrokenBy rs fault = (said : List Object) × Say rs said × (first_broken (in_kinds (map cut said)) ≡ Some fault)
+
 -- its text is that of records, and these are a configuration
 abbrev pub IsTextRead : Failures → Word → Offer → List Candidate → World → Answer → World → Type 0
 IsTextRead f dg o cs old answer new =
     ((line : ℕ) × IsBadLine o.text line × IsRefused (BadRecord line) old answer new)
     ⊎ ((rs : List Content) × Spells o.text rs × (
-    ((fault : ObjectFault) × IsUnreadOf rs fault × IsRefused (refusal_by fault) old answer new)
+    ((fault : ObjectFault) × IsBrokenBy rs fault × IsRefused (refusal_by fault) old answer new)
     ⊎ ((config : Config) × IsReadOf rs config × IsConfigured f dg o cs config old answer new)))
 
 -- no good slot is without a device that can be read

@@ -42,6 +42,9 @@ make-requires-clause-named g c κs within = (ready g.S.P.Piece.seen c.args.dg c.
 pub make-requires-clause-text : goal.make-requires-clause-text
 make-requires-clause-text g c κs within = (ready g.S.P.Piece.seen c.args.dg c.args.taken c.args.system.now.group (g.S.Shelf.free c.args.shelf.now) c.in-Ok.plan c.requires.disks.0 c.requires.disks.1 c.requires.headed c.in-Ok.ensures.passed).text
 
+pub make-requires-clause-short : goal.make-requires-clause-short
+make-requires-clause-short g c κs within = (ready g.S.P.Piece.seen c.args.dg c.args.taken c.args.system.now.group (g.S.Shelf.free c.args.shelf.now) c.in-Ok.plan c.requires.disks.0 c.requires.disks.1 c.requires.headed c.in-Ok.ensures.passed).short
+
 pub give_disks-requires-clause-long : goal.give_disks-requires-clause-long
 give_disks-requires-clause-long g c κs within = disks_long g.S.P.Piece.seen 0 c.requires.disks.0 c.args.taken.devices.items c.args.taken.disks.items c.requires.disks.1
 

@@ -1,7 +1,7 @@
 use Rattle.std.proofs.Common.{◌∙◌, sym, refl, ap, inl, inr, Ok}
 use Rattle.vx_hold.specs.Holders.{holders, disk_holders}
 use Rattle.vx_init.proofs.Gathering.{all_behind, apart_behind}
-use Rattle.vx_init.proofs.Joined.{refused_long, refused_held, group_none, made_keeps}
+use Rattle.vx_init.proofs.Joined.{refused_long, refused_held, group_none, made_keeps, can_come}
 use Rattle.vx_init.specs.Made.{stop_of}
 use Rattle.vx_init.proofs.Ready.{unless_lost}
 use Rattle.vx_init.proofs.making.make.Goals as goal
@@ -19,6 +19,9 @@ give_disks-requires-clause-apart g c κs within =
     let are = refused_held g.S.P.Piece.seen c.args.dg c.args.plan.text.items c.in-Err.field-0.fault (g.S.Shelf.held c.args.shelf.now) (holders g.S.P.Piece.seen c.args.system.now) c.args.taken.devices.items c.args.taken.disks.items c.in-Err.field-0.disks.items (rw c.deref.ensures.value at c.in-Err.ensures.gives) c.requires.held in
     apart_behind (holders g.S.P.Piece.seen c.args.system.now) (disk_holders g.S.P.Piece.seen c.args.taken.devices.items c.in-Err.field-0.disks.items) are.apart
 
+pub stop_of-requires : goal.stop_of-requires
+stop_of-requires g c = record { comes = can_come g.S.P.Piece.seen c.args.dg c.args.plan.text.items c.in-Err.field-0.fault c.args.taken.disks.items c.in-Err.field-0.disks.items c.requires.short (rw c.deref.ensures.value at c.in-Err.ensures.gives) }
+
 pub end-requires-clause-keeps : goal.end-requires-clause-keeps
 end-requires-clause-keeps g c κs within =
     let are = refused_held g.S.P.Piece.seen c.args.dg c.args.plan.text.items c.in-Err.field-0.fault (g.S.Shelf.held c.args.shelf.now) (holders g.S.P.Piece.seen c.args.system.now) c.args.taken.devices.items c.args.taken.disks.items c.in-Err.field-0.disks.items (rw c.deref.ensures.value at c.in-Err.ensures.gives) c.requires.held in
@@ -34,6 +37,7 @@ returns-in-Ok-clause-makes g c = inl (record { base = c.in-Ok.base; founded = (r
 pub returns-in-Err-clause-makes : goal.returns-in-Err-clause-makes
 returns-in-Err-clause-makes g c = inr (record {
   fault = c.in-Err.field-0.fault;
+  comes = can_come g.S.P.Piece.seen c.args.dg c.args.plan.text.items c.in-Err.field-0.fault c.args.taken.disks.items c.in-Err.field-0.disks.items c.requires.short (rw c.deref.ensures.value at c.in-Err.ensures.gives);
   disks = c.in-Err.field-0.disks.items;
   refused = rw c.deref.ensures.value at c.in-Err.ensures.gives;
   after = g.S.Shelf.free c.give_disks.new.shelf;

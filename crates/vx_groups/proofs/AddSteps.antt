@@ -1,5 +1,5 @@
 -- Each test of `vxdg adddisk` as a step of the world.
-use Rattle.std.proofs.Common.{◌≡◌, ◌⊎◌, inl, inr, ℕ, ◌+◌, Bool, true, false, cond, Option, Some, None, List, [], ◌∷◌, refl, sym, ap, ◌∙◌, subst}
+use Rattle.std.proofs.Common.{◌≡◌, inl, inr, ◌+◌, Bool, true, false, cond, Option, Some, None, [], ◌∷◌, refl, sym, subst}
 use Rattle.std.specs.Prelude.{MatchOption, MatchBool, is_some}
 use Rattle.std.specs.Str.{bytes_eq}
 use Rattle.vx_base.specs.Named.{Word}

@@ -1,25 +1,25 @@
 -- A group's devices as they are back in the world.
-use Rattle.std.proofs.Common.{◌≡◌, ◌≢◌, ◌⊎◌, inl, inr, ℕ, ◌+◌, ◌-◌, ◌<◌, Bool, true, false, cond, ◌==◌, ◌&&◌, ◌||◌, Option, Some, None, List, [], ◌∷◌, ◌++◌, map, refl, sym, ap, ◌∙◌, subst}
-use Rattle.std.specs.Prelude.{IsTrue, MatchOption}
+use Rattle.std.proofs.Common.{◌≡◌, ◌≢◌, inl, inr, ℕ, ◌+◌, Bool, true, false, cond, ◌==◌, ◌&&◌, ◌||◌, Option, Some, None, List, [], ◌∷◌, ◌++◌, map, refl, sym, ap, ◌∙◌, subst}
+use Rattle.std.specs.Prelude.{MatchOption}
 use Rattle.std.specs.Str.{bytes_eq}
 use Rattle.std.proofs.lemmas.Bool.{cond-true, cond-false, eq-eqb, eqb-true}
 use Rattle.vx_base.specs.Blocks.{Contents}
 use Rattle.vx_base.specs.Named.{Word}
-use Rattle.vx_base.proofs.NamedLemmas.{bytes_eq_self, bytes_eq_same, name_cases}
+use Rattle.vx_base.proofs.NamedLemmas.{bytes_eq_self, name_cases}
 use Rattle.vx_mask.specs.Mask.{has}
 use Rattle.vx_header.specs.Named.{Label, header_of}
 use Rattle.vx_piece.specs.Seen.{Seen}
 use Rattle.vx_copies.specs.Lists.{AllOf, AnyOf}
-use Rattle.vx_copies.specs.Image.{Offer, offer_in, offer_told, names_group}
+use Rattle.vx_copies.specs.Image.{offer_in, offer_told, names_group}
 use Rattle.vx_copies.specs.Config.{IsReadableGood}
 use Rattle.vx_copies.specs.Config.{offers_of as copies_of}
 use Rattle.vx_copies.specs.Disks.{Held, held, is_good_slot, IsMember}
 use Rattle.vx_copies.specs.declared.disk.Disk.{Disk}
 use Rattle.vx_confdb.specs.Groups.{IsMemberOf as IsGoodMemberOf}
 use Rattle.vx_confdb.specs.Prepare.{label_in, Says, IsHeaded}
-use Rattle.vx_world.specs.World.{World, Device, Member, Group}
+use Rattle.vx_world.specs.World.{Device, Member}
 use Rattle.vx_world.specs.Images.{IsDeviceOf}
-use Rattle.vx_world.specs.Back.{label_of, IsDeviceOfMember, AreDevicesOf, offers_of, CanBeRead}
+use Rattle.vx_world.specs.Back.{label_of, IsDeviceOfMember, AreDevicesOf, offers_of}
 use Rattle.vx_hold.specs.Holders.{Holder, disk_holders, held_as, AreApart}
 use Rattle.vx_hold.specs.Kept.{AreSized, HaveSlots}
 use Rattle.vx_hold.specs.Stand.{IsPublicOf, IsMemberOf, AreMembersOf, seen_at}

@@ -1,5 +1,5 @@
 -- A group leaves the world as its devices are given back.
-use Rattle.std.proofs.Common.{◌≡◌, ◌⊎◌, inl, inr, ℕ, ◌+◌, ◌≤◌, Bool, true, false, Option, Some, None, List, [], ◌∷◌, ◌++◌, length, map, refl, sym, ap, ◌∙◌, subst, arith}
+use Rattle.std.proofs.Common.{◌≡◌, ℕ, ◌+◌, ◌≤◌, true, false, Option, Some, None, List, [], ◌∷◌, ◌++◌, map, refl, sym, ap, ◌∙◌, subst, arith}
 use Rattle.std.specs.Prelude.{MatchOption, MatchBool, IfSome}
 use Rattle.std.proofs.lemmas.List.{append-nil}
 use Rattle.std.specs.Str.{bytes_eq}
@@ -7,33 +7,33 @@ use Rattle.vx_base.specs.Named.{Word}
 use Rattle.vx_mask.specs.Mask.{has}
 use Rattle.vx_piece.specs.Seen.{Seen}
 use Rattle.vx_shelf.specs.Shelf.{Held as Taken}
-use Rattle.vx_copies.specs.Lists.{AllOf, AnyOf}
+use Rattle.vx_copies.specs.Lists.{AllOf}
 use Rattle.vx_copies.specs.Image.{Offer, highest}
 use Rattle.vx_copies.specs.Config.{configuration, HasGoodMask}
-use Rattle.vx_copies.specs.Disks.{Held, held, is_good_slot, good_mask, IsNew}
+use Rattle.vx_copies.specs.Disks.{Held, held, is_good_slot, IsNew}
 use Rattle.vx_copies.specs.declared.disk.Disk.{Disk}
-use Rattle.vx_confdb.specs.Groups.{members, CarriesText}
+use Rattle.vx_confdb.specs.Groups.{members}
 use Rattle.vx_confdb.specs.Prepare.{IsHeaded}
 use Rattle.vx_confdb.specs.Texts.{text_of}
 use Rattle.vx_world.specs.declared.answer.Answer.{Answer}
 use Rattle.vx_world.specs.declared.answer.Answer.TheVariants.{Done, Refused}
 use Rattle.vx_world.specs.declared.answer.Refusal.TheVariants.{NoGroup}
-use Rattle.vx_world.specs.World.{World, Device, Member, Group, IsRefused}
+use Rattle.vx_world.specs.World.{World, Device, Group, IsRefused}
 use Rattle.vx_world.specs.Images.{IsDeviceOf}
 use Rattle.vx_world.specs.Tests.{IsMemberDevice}
-use Rattle.vx_world.specs.Back.{IsTextOf, offers_of, CanBeRead, IsGroupBack, IsOfferOf}
+use Rattle.vx_world.specs.Back.{IsTextOf, offers_of, IsGroupBack, IsOfferOf}
 use Rattle.vx_world.specs.Groups.{is_meant, IsDeported, DeportStep}
-use Rattle.vx_hold.specs.Holders.{Holder, volume_holder, volume_at, disk_holders, group_holders, holders, held_as, AreApart, IsTakenFrom, AreHeld}
+use Rattle.vx_hold.specs.Holders.{Holder, volume_holder, disk_holders, group_holders, holders, held_as, AreApart, IsTakenFrom, AreHeld}
 use Rattle.vx_hold.specs.Closing.{AreBack}
 use Rattle.vx_hold.specs.Kept.{IsGroupKept, Keeps, HasRoom}
-use Rattle.vx_hold.specs.Stand.{State, Stand, StandWith, StandsFor, IsAtGroup, IsGroupOf, IsAtVolume, seen_at, device_seen}
+use Rattle.vx_hold.specs.Stand.{State, Stand, StandWith, StandsFor, IsAtGroup, IsGroupOf, seen_at}
 use Rattle.vx_hold.specs.Moves.{Moves}
 use Rattle.vx_hold.specs.declared.system.Imported.{Imported}
 use Rattle.vx_hold.specs.declared.system.System.{System}
 use Rattle.vx_hold.proofs.Rooms.{more_room}
 use Rattle.vx_groups.specs.Leaving.{is_here}
 use Rattle.vx_groups.proofs.Back.{IsSaid, device_as, device_back, stands_back, held_said, all_found, first_seen, held_both, members_said, not_held, devices_back, devices_here, offers_back, good_slots, headed_good, readable_good}
-use Rattle.vx_groups.proofs.Quiet.{IsQuiet, quiet_done, quiet_refused, none_failed, none_have, gone_same, quiet_blame, unmoved}
+use Rattle.vx_groups.proofs.Quiet.{quiet_done, quiet_refused, none_failed, none_have, gone_same, quiet_blame, unmoved}
 
 -- where the old is one and it has these, so does the new
 all_good : {P : Type 0} (see : P → Seen) (good : ℕ) (all : List Held) (ds : List (Disk P)) → ((slot : ℕ) → has good slot ≡ is_good_slot slot all) → AllOf (λ d. is_good_slot d.slot all ≡ d.good) ds → AllOf (λ d. has good d.slot ≡ d.good) ds
@@ -56,7 +56,7 @@ module _ {P : Type 0} (see : P → Seen) (i : Imported P) (g : Group) (kept : Is
   same_name : i.base.name ≡ g.config.group
   same_name = kept.named ∙ sym (ap (λ c. c.group) of.config_is)
 
-  slots_good : AllOf (λ d. has g.good d.slot ≡ d.good) i.base.disks.items
+  pub slots_good : AllOf (λ d. has g.good d.slot ≡ d.good) i.base.disks.items
   slots_good = all_good see g.good (members see i.base) i.base.disks.items of.good_is (good_slots see i.base.disks.items kept.slots)
 
   of_offer : (o : Option Offer) → IsNew kept.first i.base.sequence (text_of i.base.text) o → HasGoodMask (members see i.base) o → (x : Offer) × (o ≡ Some x) × IsOfferOf g x
@@ -143,7 +143,7 @@ module _ {P : Type 0} (see : P → Seen) (s : System P) (i : Imported P) (was : 
     group = tt;
   }
 
-  left_seen : (old new : Word → Option Seen) → ((name : Word) → new name ≡ seen_at (held_as (group_holders see (Some i)) name) (Some old) name) → (name : Word)
+  pub left_seen : (old new : Word → Option Seen) → ((name : Word) → new name ≡ seen_at (held_as (group_holders see (Some i)) name) (Some old) name) → (name : Word)
       → seen_at (held_as (holders see (left_by s)) name) (Some new) name ≡ seen_at (held_as (holders see s) name) (Some old) name
   left_seen old new back name =
       ap (λ hs. seen_at (held_as hs name) (Some new) name) (append-nil (volume_holders see s))

@@ -1,11 +1,10 @@
 -- A configuration with one more disk.
-use Rattle.std.proofs.Common.{◌≡◌, ◌⊎◌, inl, inr, ℕ, Bool, true, false, cond, Option, Some, None, Result, Ok, Err, List, [], ◌∷◌, ◌++◌, map, refl, sym, ap, ◌∙◌, subst}
+use Rattle.std.proofs.Common.{◌≡◌, inl, inr, Option, None, Result, Ok, Err, List, [], ◌∷◌, ◌++◌, refl, sym, ap, ◌∙◌, subst}
 use Rattle.std.specs.Prelude.{IfOk}
-use Rattle.std.specs.List.{filter_map, list_any}
-use Rattle.vx_base.specs.Named.{Word}
+use Rattle.std.specs.List.{filter_map}
 use Rattle.vx_parts.specs.declared.disk.Disk.{Disk}
 use Rattle.vx_parts.specs.declared.object.Object.{Object}
-use Rattle.vx_parts.specs.declared.object.Object.TheVariants.{GroupRecord, DiskRecord}
+use Rattle.vx_parts.specs.declared.object.Object.TheVariants.{DiskRecord}
 use Rattle.vx_parts.specs.declared.fault.ObjectFault.{ObjectFault}
 use Rattle.vx_parts.specs.declared.fault.ObjectFault.TheVariants as kind
 use Rattle.vx_rules.specs.Faults.{first_some}
@@ -14,8 +13,7 @@ use Rattle.vx_objects.specs.declared.config.Config.{Config}
 use Rattle.vx_objects.specs.declared.edit.Edit.TheVariants.{AddDisk}
 use Rattle.vx_objects.specs.Parts.{in_kinds}
 use Rattle.vx_objects.specs.Config.{objects_of, IsMadeOf, IsRefusedOf}
-use Rattle.vx_objects.specs.Applied.{IsEdited}
-use Rattle.vx_objects.specs.Edits.{change, added, edited, edited_by, target_fault, refusal_of}
+use Rattle.vx_objects.specs.Edits.{change, added, edited, target_fault, refusal_of}
 use Rattle.vx_objects.proofs.Numbers.{valid_none}
 use Rattle.vx_world.specs.declared.answer.Refusal.{Refusal}
 use Rattle.vx_world.specs.Refusals.{refusal_by}

@@ -1,17 +1,17 @@
 -- The disks of a group after a commit that one more disk joined, and the members that they are.
-use Rattle.std.proofs.Common.{◌≡◌, ◌≢◌, ◌⊎◌, inl, inr, ℕ, ◌+◌, ◌-◌, ◌<◌, ◌≤◌, Bool, true, false, cond, ◌==◌, ◌&&◌, ◌||◌, Option, Some, None, List, [], ◌∷◌, ◌++◌, length, map, take, drop, refl, sym, ap, ◌∙◌, subst, arith}
-use Rattle.std.specs.Prelude.{IsTrue, nat_le}
+use Rattle.std.proofs.Common.{◌≡◌, ◌⊎◌, inl, inr, ℕ, ◌+◌, Bool, true, false, cond, ◌==◌, ◌&&◌, ◌||◌, Option, Some, None, List, [], ◌∷◌, ◌++◌, length, map, take, drop, refl, sym, ap, ◌∙◌, subst, arith}
+use Rattle.std.specs.Prelude.{nat_le}
 use Rattle.std.specs.List.{filter}
-use Rattle.std.proofs.lemmas.Bool.{cond-true, cond-false, eq-eqb, eqb-true, leb-true, le-leb, and_parts, and_from}
-use Rattle.std.proofs.lemmas.List.{map-append, take-map, drop-map, take-append-drop}
+use Rattle.std.proofs.lemmas.Bool.{eq-eqb, eqb-true, leb-true, le-leb, and_parts, and_from}
+use Rattle.std.proofs.lemmas.List.{take-map, drop-map, take-append-drop}
 use Rattle.vx_base.specs.Blocks.{Contents}
 use Rattle.vx_base.specs.Counts.{Rose, later_count}
 use Rattle.vx_base.specs.Named.{Word}
 use Rattle.vx_mask.specs.Mask.{has}
 use Rattle.vx_header.specs.Named.{Label}
 use Rattle.vx_piece.specs.Seen.{Seen}
-use Rattle.vx_copies.specs.Lists.{Each, AllOf, AnyOf}
-use Rattle.vx_copies.specs.Disks.{Held, held, is_good_slot, Drops, Goes, Offers, RestStays}
+use Rattle.vx_copies.specs.Lists.{Each, AllOf}
+use Rattle.vx_copies.specs.Disks.{Held, held, is_good_slot, Drops, Goes, Offers}
 use Rattle.vx_copies.specs.declared.disk.Disk.{Disk}
 use Rattle.vx_confdb.specs.declared.group.Group.{Group as Base}
 use Rattle.vx_confdb.specs.Groups.{members}
@@ -20,9 +20,9 @@ use Rattle.vx_confdb.specs.Prepare.{label_in}
 use Rattle.vx_confdb.specs.Add.{IsTaken}
 use Rattle.vx_script_words.specs.declared.value.DiskAt.{DiskAt}
 use Rattle.vx_world.specs.Failures.{Failures}
-use Rattle.vx_world.specs.World.{Device, Member, Group}
-use Rattle.vx_world.specs.Joining.{member_of, DropsFailed, EachFailed}
-use Rattle.vx_hold.specs.Holders.{Holder, disk_holders}
+use Rattle.vx_world.specs.World.{Device, Member}
+use Rattle.vx_world.specs.Joining.{member_of, DropsFailed}
+use Rattle.vx_hold.specs.Holders.{disk_holders}
 use Rattle.vx_hold.specs.Moves.{faults_in, HaveFailed}
 use Rattle.vx_hold.specs.Stand.{IsPublicOf, IsMemberOf, AreMembersOf}
 
@@ -103,7 +103,7 @@ failed_one old new shelf shelf' name before now was is rose =
     subst (λ (o : Option Seen). rose_test (faults_in o) (faults_in (new name)) ≡ true) (sym was)
     (subst (λ (o : Option Seen). rose_test before.faults (faults_in o) ≡ true) (sym is) (le-leb (later_count before.faults 1) now.faults rose))
 
-dropped_one : (before now : Bool) (a b : Seen) → Drops before now a b → before ≡ true → now ≡ false → Rose a.faults b.faults
+pub dropped_one : (before now : Bool) (a b : Seen) → Drops before now a b → before ≡ true → now ≡ false → Rose a.faults b.faults
 dropped_one before true a b drops was is = absurd (cc)
 dropped_one true false a b drops was is = drops
 dropped_one false false a b drops was is = absurd (cc)

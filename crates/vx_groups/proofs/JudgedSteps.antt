@@ -1,10 +1,9 @@
 -- The tests of a disk that is to join, one after the other.
-use Rattle.std.proofs.Common.{◌≡◌, ◌⊎◌, inl, inr, ℕ, Bool, true, false, Option, Some, None, Result, Ok, Err, refl, sym, ap, ◌∙◌, subst}
+use Rattle.std.proofs.Common.{◌≡◌, inl, inr, ℕ, Bool, Result, Ok, Err, refl, sym, subst}
 use Rattle.std.specs.Prelude.{IfOk, IfErr}
 use Rattle.vx_base.specs.Named.{Word}
 use Rattle.vx_objects.specs.declared.config.Config.{Config}
 use Rattle.vx_script_words.specs.declared.value.DiskAt.{DiskAt}
-use Rattle.vx_world.specs.declared.answer.Refusal.{Refusal}
 use Rattle.vx_devices.specs.declared.claim.Claim.{Claim}
 use Rattle.vx_devices.specs.declared.claim.Claim.TheVariants as claim
 use Rattle.vx_groups.specs.declared.judging.Stop.{Stop}

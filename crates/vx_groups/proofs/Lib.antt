@@ -10,3 +10,13 @@ pub mod Outside
 pub mod AddSteps
 pub mod Refusing
 pub mod Stopped
+pub mod Roomy
+pub mod Taken
+pub mod Short
+pub mod Ready
+pub mod Raised
+pub mod Still
+pub mod Added
+pub mod Left
+pub mod Unadded
+pub mod Found

@@ -1,6 +1,6 @@
 -- The lowest free slot is the one that a search from the lowest on finds first.
-use Rattle.std.proofs.Common.{◌≡◌, ℕ, zero, suc, ◌+◌, ◌<◌, ◌≤◌, Bool, true, false, cond, Option, Some, None, List, [], ◌∷◌, length, refl, sym, ap, ◌∙◌, subst, arith}
-use Rattle.std.proofs.lemmas.Bool.{cond-true, cond-false}
+use Rattle.std.proofs.Common.{◌≡◌, ℕ, zero, suc, ◌+◌, ◌<◌, ◌≤◌, Bool, true, false, cond, Option, Some, None, refl, ap, ◌∙◌, subst, arith}
+use Rattle.std.proofs.lemmas.Bool.{cond-true}
 use Rattle.vx_objects.specs.declared.config.Config.{Config}
 use Rattle.vx_world.specs.Groups.{free_slot_from, slot_or_last, next_slot}
 use Rattle.vx_groups.specs.Joining.{has_slot}

@@ -1,15 +1,15 @@
 -- A device that is taken, while others are looked at, and given back.
-use Rattle.std.proofs.Common.{◌≡◌, ◌⊎◌, inl, inr, ℕ, ◌≤◌, Bool, true, false, cond, Option, Some, None, List, [], ◌∷◌, ◌++◌, refl, sym, ap, ◌∙◌, subst, arith}
+use Rattle.std.proofs.Common.{◌≡◌, ◌⊎◌, inl, inr, ◌≤◌, true, cond, Option, Some, None, [], ◌∷◌, refl, sym, ap, ◌∙◌, subst, arith}
 use Rattle.std.specs.Prelude.{IsTrue}
 use Rattle.std.specs.Str.{bytes_eq}
 use Rattle.std.proofs.lemmas.Bool.{cond-true, cond-false}
 use Rattle.vx_base.specs.Named.{Word, SameUnder}
-use Rattle.vx_base.proofs.NamedLemmas.{bytes_eq_self, bytes_eq_same, name_cases}
+use Rattle.vx_base.proofs.NamedLemmas.{bytes_eq_self, name_cases}
 use Rattle.vx_piece.specs.Seen.{Seen, Keeps as PieceKeeps}
 use Rattle.vx_shelf.specs.Shelf.{Held, IsTaken, IsGiven, ComesToShelf}
 use Rattle.vx_world.specs.World.{World, Device}
 use Rattle.vx_world.specs.Images.{IsDeviceOf, IsImage}
-use Rattle.vx_hold.specs.Holders.{Holder, holders, held_as, AreHeld}
+use Rattle.vx_hold.specs.Holders.{Holder, holders, held_as}
 use Rattle.vx_hold.specs.Kept.{Keeps}
 use Rattle.vx_hold.specs.Looks.{LeavesRead}
 use Rattle.vx_hold.specs.Moves.{faults_in, cut_in}
@@ -20,7 +20,6 @@ use Rattle.vx_hold.proofs.Looked.{not_held_by}
 use Rattle.vx_hold.proofs.Blamed.{AreLater, later_each_device}
 use Rattle.vx_devices.specs.Claims.{IsOnlyRead, AreOnlyRead}
 use Rattle.vx_groups.specs.Out.{KeepsOut, StandsOut, seen_out}
-use Rattle.vx_groups.proofs.Quiet.{HaveGone}
 
 pub of_some : (before : Seen) (d : Option Device) → IsDeviceOf (Some before) d → (dev : Device) × (d ≡ Some dev) × IsImage before dev
 of_some before None of = absurd of

@@ -1,5 +1,5 @@
 -- Commands that change nothing, or after which no fault is told.
-use Rattle.std.proofs.Common.{◌≡◌, ℕ, ◌+◌, ◌≤◌, Bool, true, false, Option, Some, None, List, [], ◌∷◌, refl, sym, ap, ◌∙◌, subst, arith}
+use Rattle.std.proofs.Common.{◌≡◌, ℕ, ◌≤◌, Bool, true, false, Option, List, [], ◌∷◌, refl, sym, ap, subst, arith}
 use Rattle.std.specs.Prelude.{IsTrue, ◌||◌}
 use Rattle.vx_base.specs.Named.{Word}
 use Rattle.vx_piece.specs.Seen.{Seen}
@@ -10,7 +10,7 @@ use Rattle.vx_world.specs.Answers.{faults_told, shelf_told, is_lost}
 use Rattle.vx_world.specs.Failures.{Failures}
 use Rattle.vx_world.specs.World.{World}
 use Rattle.vx_hold.specs.Stand.{State, StandsFor, device_seen}
-use Rattle.vx_hold.specs.Moves.{faults_in, cut_in, AreBlamed, HasBlame, HaveFailed, Moves, Rests}
+use Rattle.vx_hold.specs.Moves.{faults_in, cut_in, HasBlame, HaveFailed, Moves, Rests}
 
 -- an answer that tells no fault
 pub record IsQuiet (answer : Answer) : Type 0 where

@@ -1,17 +1,13 @@
 -- The test that stops a disk is a step of the world.
-use Rattle.std.proofs.Common.{◌≡◌, ◌⊎◌, inl, inr, ℕ, ◌+◌, ◌-◌, Bool, true, false, cond, ◌||◌, Option, Some, None, List, [], ◌∷◌, Result, Ok, Err, refl, sym, ap, ◌∙◌, subst}
+use Rattle.std.proofs.Common.{◌≡◌, ◌⊎◌, inl, inr, ℕ, ◌+◌, Bool, true, false, ◌||◌, Option, Some, None, List, [], ◌∷◌, Ok, Err, refl, sym, ap, ◌∙◌, subst}
 use Rattle.std.specs.Prelude.{MatchBool, IfSome, is_some}
 use Rattle.std.specs.Str.{bytes_eq}
-use Rattle.vx_base.specs.Blocks.{Contents}
 use Rattle.vx_base.specs.Named.{Word}
 use Rattle.vx_base.proofs.NamedLemmas.{name_cases}
 use Rattle.vx_header.specs.Named.{header_of}
 use Rattle.vx_piece.specs.Seen.{Seen}
 use Rattle.vx_shelf.specs.Shelf.{Held}
 use Rattle.vx_copies.specs.Image.{names_group}
-use Rattle.vx_parts.specs.declared.disk.Disk.{Disk}
-use Rattle.vx_parts.specs.declared.fault.ObjectFault.{ObjectFault}
-use Rattle.vx_objects.specs.declared.config.Config.{Config}
 use Rattle.vx_objects.specs.declared.edit.Edit.TheVariants.{AddDisk}
 use Rattle.vx_objects.specs.Config.{objects_of}
 use Rattle.vx_objects.specs.Edits.{refusal_of}
@@ -19,30 +15,28 @@ use Rattle.vx_script_words.specs.declared.value.DiskAt.{DiskAt}
 use Rattle.vx_world.specs.declared.answer.Answer.{Answer}
 use Rattle.vx_world.specs.declared.answer.Answer.TheVariants.{Refused}
 use Rattle.vx_world.specs.declared.answer.Refusal.{Refusal}
-use Rattle.vx_world.specs.declared.answer.Refusal.TheVariants.{InUse, Exists, NoGroup}
+use Rattle.vx_world.specs.declared.answer.Refusal.TheVariants.{InUse, NoGroup}
 use Rattle.vx_world.specs.Failures.{Failures}
 use Rattle.vx_world.specs.World.{World, Device, Group}
 use Rattle.vx_world.specs.Images.{IsDeviceOf, IsImage}
 use Rattle.vx_world.specs.Joining.{limit_passed, IsClaimed, disk_record}
 use Rattle.vx_world.specs.Groups.{next_slot, AddStep}
-use Rattle.vx_world.specs.Refusals.{refusal_by}
-use Rattle.vx_hold.specs.Holders.{Holder}
-use Rattle.vx_hold.specs.Stand.{IsAtGroup, IsGroupOf}
+use Rattle.vx_hold.specs.Stand.{IsAtGroup}
 use Rattle.vx_hold.specs.declared.system.Imported.{Imported}
 use Rattle.vx_hold.specs.declared.system.System.{System}
 use Rattle.vx_devices.specs.Claims.{Names, NamesNot}
 use Rattle.vx_devices.specs.declared.claim.Claim.TheVariants as claim
 use Rattle.vx_groups.specs.declared.judging.Stop.TheVariants as stop
-use Rattle.vx_groups.specs.Joining.{sized, IsWithin, EarlyIn}
+use Rattle.vx_groups.specs.Joining.{sized, EarlyIn}
 use Rattle.vx_groups.specs.Judged.{Look, Looks, record_for, IsLateStop, IsStopped, StoppedOf}
 use Rattle.vx_groups.specs.Out.{StandsOut}
 use Rattle.vx_groups.proofs.Outside.{of_some}
-use Rattle.vx_groups.proofs.AddSteps.{no_group, other_group, headed_step, limit_step, claimed_step, edit_step, limit_in, refusal_in}
+use Rattle.vx_groups.proofs.AddSteps.{no_group, other_group, headed_step, limit_step, claimed_step, edit_step}
 
-limit_same : (k sectors : ℕ) (names : List Word) (d : Device) → d.sectors ≡ sectors → limit_passed k names (d ∷ []) ≡ limit_passed k names (sized sectors ∷ [])
+pub limit_same : (k sectors : ℕ) (names : List Word) (d : Device) → d.sectors ≡ sectors → limit_passed k names (d ∷ []) ≡ limit_passed k names (sized sectors ∷ [])
 limit_same k sectors names d is = ap (λ n. limit_passed k names (sized n ∷ [])) is
 
-record_same : (pair : DiskAt) (slot next sectors : ℕ) (d : Device) → next ≡ slot → d.sectors ≡ sectors → disk_record pair next d ≡ record_for pair slot sectors
+pub record_same : (pair : DiskAt) (slot next sectors : ℕ) (d : Device) → next ≡ slot → d.sectors ≡ sectors → disk_record pair next d ≡ record_for pair slot sectors
 record_same pair slot next sectors d at is = ap (λ n. disk_record pair n d) at ∙ ap (λ n. record_for pair slot n) is
 
 told_names : (group : Word) (seen : Seen) (d : Device) → seen.told ≡ Some d.contents → Names group seen → names_group group (header_of (d.contents 0)) ≡ true

@@ -1,6 +1,6 @@
 -- The answer of a view is a step of the world that the system stands for.
-use Rattle.std.proofs.Common.{◌≡◌, ◌⊎◌, inl, inr, ℕ, Bool, true, false, Option, Some, None, Result, Ok, Err, List, [], refl, sym, ap, ◌∙◌, subst}
-use Rattle.std.specs.Prelude.{MatchOption, MatchBool, OnOk, IfOk}
+use Rattle.std.proofs.Common.{◌≡◌, ◌⊎◌, inl, inr, Bool, true, false, Option, Some, None, Result, Ok, Err, [], refl, sym, ap, subst}
+use Rattle.std.specs.Prelude.{MatchOption, MatchBool, IfOk}
 use Rattle.vx_base.specs.Named.{Word}
 use Rattle.vx_piece.specs.Seen.{Seen}
 use Rattle.vx_objects.specs.declared.config.Config.{Config}
@@ -9,16 +9,16 @@ use Rattle.vx_print.specs.Shown.{IsPrinted, missing}
 use Rattle.vx_print.specs.declared.fault.PrintFault.{PrintFault}
 use Rattle.vx_print.specs.declared.fault.PrintFault.TheVariants as kind
 use Rattle.vx_world.specs.declared.answer.Answer.{Answer}
-use Rattle.vx_world.specs.declared.answer.Answer.TheVariants.{Shown, Refused}
+use Rattle.vx_world.specs.declared.answer.Answer.TheVariants.{Refused}
 use Rattle.vx_world.specs.declared.answer.Refusal.TheVariants.{NoObject, NoGroup}
 use Rattle.vx_world.specs.World.{World, Group, IsRefused}
-use Rattle.vx_world.specs.Groups.{WithGroup, is_meant}
+use Rattle.vx_world.specs.Groups.{is_meant}
 use Rattle.vx_world.specs.Printed.{IsShown, PrintStep}
 use Rattle.vx_hold.specs.declared.system.Imported.{Imported}
 use Rattle.vx_hold.specs.declared.system.System.{System}
-use Rattle.vx_hold.specs.Stand.{State, Stand, StandsFor, IsAtGroup, IsGroupOf}
+use Rattle.vx_hold.specs.Stand.{State, Stand, StandsFor, IsAtGroup}
 use Rattle.vx_hold.specs.Moves.{Moves}
-use Rattle.vx_groups.specs.Printing.{is_named, Shows, ShowsOf, ShowsIn, ShownBy, UnshownBy}
+use Rattle.vx_groups.specs.Printing.{is_named, Shows, ShowsOf, ShownBy, UnshownBy}
 use Rattle.vx_groups.proofs.Quiet.{IsQuiet, quiet_refused, quiet_shown, unmoved}
 
 -- the same group is meant

@@ -1,6 +1,6 @@
 -- A disk that does not join is given back: the step, and what is laid to devices and to the shelf.
-use Rattle.std.proofs.Common.{◌≡◌, ◌⊎◌, inl, inr, ℕ, ◌≤◌, Bool, true, false, Option, Some, None, List, [], ◌∷◌, Result, Ok, Err, refl, sym, ap, ◌∙◌, subst, arith}
-use Rattle.std.specs.Prelude.{IsTrue, IfOk, OnErr, is_some}
+use Rattle.std.proofs.Common.{◌≡◌, inl, inr, ℕ, ◌≤◌, Bool, Option, Some, None, [], ◌∷◌, refl, sym, ap, ◌∙◌, subst, arith}
+use Rattle.std.specs.Prelude.{IsTrue, is_some}
 use Rattle.vx_base.specs.Counts.{Rose}
 use Rattle.vx_base.specs.Named.{Word, SameUnder}
 use Rattle.vx_header.specs.Named.{header_of}
@@ -12,8 +12,7 @@ use Rattle.vx_world.specs.declared.answer.Answer.TheVariants.{Refused, Fault, Sh
 use Rattle.vx_world.specs.declared.answer.Refusal.{Refusal}
 use Rattle.vx_world.specs.World.{World, Device}
 use Rattle.vx_world.specs.Groups.{AddStep}
-use Rattle.vx_hold.specs.Holders.{Holder, holders, held_as}
-use Rattle.vx_hold.specs.Kept.{Keeps}
+use Rattle.vx_hold.specs.Holders.{Holder, holders}
 use Rattle.vx_hold.specs.Moves.{faults_in, cut_in, HasBlame}
 use Rattle.vx_hold.specs.Stand.{State, StandWith, seen_at, device_seen}
 use Rattle.vx_hold.specs.declared.system.System.{System}
@@ -23,10 +22,10 @@ use Rattle.vx_hold.proofs.Blamed.{AreLater, later_same, later_later, none_told, 
 use Rattle.vx_devices.specs.Claims.{AreOnlyRead, HasRisen, IsCut}
 use Rattle.vx_groups.specs.declared.judging.Stop.{Stop}
 use Rattle.vx_groups.specs.declared.judging.Stop.TheVariants as stop
-use Rattle.vx_groups.specs.Judged.{Look, IsStopped, StoppedOf}
+use Rattle.vx_groups.specs.Judged.{StoppedOf}
 use Rattle.vx_groups.specs.Out.{KeepsOut, StandsOut, StandOut, seen_out, seen_before, MovesOut, RestsOut, StopGives}
 use Rattle.vx_groups.proofs.Quiet.{none_failed, none_have}
-use Rattle.vx_groups.proofs.Outside.{same_out, back_keeps, read_stands, back_stands, read_later, back_same}
+use Rattle.vx_groups.proofs.Outside.{same_out, read_stands, back_stands, read_later, back_same}
 use Rattle.vx_groups.proofs.Refusing.{refused_step}
 
 abbrev pub state : {P : Type 0} → Option (Word → Option Seen) → ℕ → System P → State P

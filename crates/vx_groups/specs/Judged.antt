@@ -1,5 +1,5 @@
 -- What the tests of a disk that is to join find, in their order.
-use Rattle.std.specs.Prelude.{◌≡◌, ◌⊎◌, ℕ, ◌-◌, Bool, true, false, Option, Some, None, List, [], ◌∷◌, Result, Ok, Err}
+use Rattle.std.specs.Prelude.{◌≡◌, ◌⊎◌, ℕ, ◌-◌, Bool, Option, Some, None, Ok, Err}
 use Rattle.vx_base.specs.Named.{Word}
 use Rattle.vx_piece.specs.Seen.{Seen}
 use Rattle.vx_shelf.specs.Shelf.{Held}
@@ -16,7 +16,7 @@ use Rattle.vx_hold.specs.declared.system.Imported.{Imported}
 use Rattle.vx_groups.specs.declared.judging.Stop.{Stop}
 use Rattle.vx_groups.specs.declared.judging.Stop.TheVariants as stop
 use Rattle.vx_groups.specs.declared.judging.Plan.{Plan}
-use Rattle.vx_groups.specs.Joining.{EarlyIn, IsJoinedBy, IsUnedited}
+use Rattle.vx_groups.specs.Joining.{EarlyIn, IsWithin, IsJoinedBy, IsUnedited}
 
 -- a look at the devices that nobody holds: what was held, and the devices and the count of the shelf before and after
 pub record Look : Type 0 where
@@ -85,3 +85,8 @@ JudgedOf dg pair headed sectors (Some g) l p = IsJudged dg pair headed sectors g
 abbrev pub StoppedOf : {P : Type 0} → Word → DiskAt → Bool → ℕ → Option (Imported P) → Look → Stop → Type 0
 StoppedOf dg pair headed sectors None l s = s ≡ stop.Refused (NoGroup (Some dg))
 StoppedOf dg pair headed sectors (Some g) l s = IsStopped dg pair headed sectors g.config l s
+
+-- the plan of a disk that passed the limits of the imported group
+abbrev pub PlannedIn : {P : Type 0} → DiskAt → ℕ → Option (Imported P) → Plan → Type 0
+PlannedIn pair sectors None p = ⊥
+PlannedIn pair sectors (Some g) p = IsWithin pair.disk sectors p.slot g.config × IsPlanned pair p.slot sectors g.config p

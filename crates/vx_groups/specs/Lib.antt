@@ -3,3 +3,4 @@ pub mod Leaving
 pub mod Joining
 pub mod Judged
 pub mod Out
+pub mod Growing

@@ -1,8 +1,11 @@
 //! Commands on the imported disk group: its records, a disk that joins it, and its end.
 #![tactic(auto)]
 
+mod adding;
 mod early;
 mod editing;
+mod growing;
+mod joining;
 mod judging;
 mod leaving;
 mod printing;
@@ -11,5 +14,6 @@ mod stopping;
 #[cfg(test)]
 mod tests;
 
+pub use adding::add;
 pub use leaving::deport;
 pub use printing::print;

@@ -1,8 +1,9 @@
-use crate::{deport, print};
+use crate::{add, deport, print};
 use vx_hold::System;
 use vx_names::Name;
 use vx_piece::MemPiece;
-use vx_shelf::MemShelf;
+use vx_script_words::DiskAt;
+use vx_shelf::{MemShelf, Shelf};
 use vx_world::{Answer, Refusal};
 
 /// Without an imported group none is deported.
@@ -28,4 +29,28 @@ fn no_group_is_shown(rt: HostRuntime) {
         panic!(rt; "no memory");
     };
     assert!(rt; matches!(&answer, Answer::Refused(Refusal::NoGroup(None))));
+}
+
+/// Without an imported group no disk joins, and the device lies on the shelf again.
+#[test]
+fn no_disk_joins_without_a_group(rt: HostRuntime) {
+    let (Ok(dg), Ok(disk), Ok(device)) = (
+        Name::read(b"dg"),
+        Name::read(b"disk02"),
+        Name::read(b"i1"),
+    ) else {
+        panic!(rt; "no names");
+    };
+    let mut shelf = MemShelf::new(Vec::new(rt.alloc()));
+    assert!(rt; shelf.make(rt.alloc(), &device, 4096).is_ok());
+    let mut system = System::new(rt.alloc());
+    let added = add(
+        rt.alloc(),
+        &mut system,
+        &mut shelf,
+        dg,
+        &DiskAt { disk, device },
+    );
+    assert!(rt; matches!(added, Ok(Answer::Refused(Refusal::NoGroup(Some(_))))));
+    assert!(rt; shelf.device(&device).is_some());
 }

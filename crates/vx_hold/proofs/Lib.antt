@@ -4,6 +4,7 @@ pub mod Returned
 pub mod Blamed
 pub mod Listed
 pub mod Leaving
+pub mod Departed
 pub mod Cut
 pub mod Closed
 pub mod Looked

@@ -1,5 +1,5 @@
-use Rattle.std.proofs.Common.{◌+◌, [], sym, subst, refl, arith}
-use Rattle.vx_world.specs.declared.answer.Answer.TheVariants.{Done, Refused}
+use Rattle.std.proofs.Common.{◌+◌, sym, subst, refl, arith}
+use Rattle.vx_world.specs.declared.answer.Answer.TheVariants.{Refused}
 use Rattle.vx_world.specs.declared.answer.Refusal.TheVariants.{NoGroup}
 use Rattle.std.specs.Prelude.{Some}
 use Rattle.vx_world.specs.Groups.{DeportStep}

@@ -1,30 +1,27 @@
 -- What is answered of the devices that were found is what the definition of an import says.
-use Rattle.std.proofs.Common.{◌≡◌, ◌∙◌, ◌⊎◌, ◌&&◌, ◌==◌, ℕ, zero, suc, ◌+◌, ◌<◌, ◌≤◌, ◌^◌, Bool, true, false, cond, not, nat_lt, List, [], ◌∷◌, map, take, length, Option, Some, None, refl, sym, ap, subst, arith, inl, inr}
-use Rattle.std.specs.Prelude.{IfSome, IsTrue, MatchOption, MatchBool, Result, Ok, Err}
-use Rattle.std.specs.Str.{bytes_eq}
+use Rattle.std.proofs.Common.{◌≡◌, ◌∙◌, ◌&&◌, ◌==◌, ℕ, zero, suc, ◌<◌, ◌≤◌, ◌^◌, Bool, true, false, cond, not, nat_lt, List, [], ◌∷◌, take, length, Option, Some, None, refl, sym, ap, subst, arith, inl, inr}
+use Rattle.std.specs.Prelude.{IfSome, IsTrue, MatchOption, MatchBool}
 use Rattle.std.proofs.lemmas.Bool.{cond-true, cond-false, eq-eqb, ne_eqb, lt-ltb, le-ltb}
 use Rattle.std.proofs.lemmas.Slice.Eq.{bytes_eq-Decides}
 use Rattle.vx_base.specs.Blocks.{Contents}
 use Rattle.vx_base.specs.Named.{Word}
 use Rattle.vx_mask.specs.Mask.{has}
 use Rattle.vx_header.specs.Named.{Label, header_of}
-use Rattle.vx_header.specs.Said.{Said, said_of, toggle_of}
-use Rattle.vx_copies.specs.Lists.{AllOf, AnyOf}
+use Rattle.vx_header.specs.Said.{Said, toggle_of}
+use Rattle.vx_copies.specs.Lists.{AllOf}
 use Rattle.vx_copies.specs.Image.{Offer, offer_by, offer_of, offer_in, offer_if, names_group, toggle_at, highest}
-use Rattle.vx_import.specs.Looks.{Looked, HasReading, IsReading, said_in, toggle_read}
-use Rattle.vx_import.specs.Choice.{At, IfToggle, Tells, offers_read, given}
-use Rattle.vx_import.specs.Naming.{is_readable_slot, IsWhole, IsHurt, DamageIs}
-use Rattle.vx_import.specs.Answers.{IsOf, IsChosen, IsGiven, IsLacking, IsEmpty, IsNoGroup, IsDamagedAlone, IsTooHigh, IsDamagedNamed, IsDamaged}
+use Rattle.vx_import.specs.Looks.{HasReading, IsReading, said_in, toggle_read}
+use Rattle.vx_import.specs.Choice.{At, IfToggle, Tells}
+use Rattle.vx_import.specs.Naming.{is_readable_slot, IsWhole}
+use Rattle.vx_import.specs.Answers.{IsOf, IsChosen, IsLacking, IsEmpty, IsNoGroup, IsDamaged}
 use Rattle.vx_import.specs.declared.naming.Damage.{Damage}
 use Rattle.vx_world.specs.declared.answer.Answer.{Answer}
-use Rattle.vx_world.specs.declared.answer.Answer.TheVariants.{Refused}
 use Rattle.vx_world.specs.declared.answer.Refusal.TheVariants.{NoGroup, Damaged, Missing}
 use Rattle.vx_world.specs.World.{World, IsRefused}
 use Rattle.vx_world.specs.Failures.{Failures}
-use Rattle.vx_world.specs.Import.{Candidate, offers_of, first_that, is_damaged_one, is_taken_of, has_sequence, missing_from, IsDamage, IsDiskOf, IsTextRead, IsComplete, IsTaken, IsNotThere, Imports}
-use Rattle.vx_importing.specs.Finds.{Find}
-use Rattle.vx_importing.proofs.Counting.{candidate_of, candidates_of, contents_in}
-use Rattle.vx_importing.proofs.Linking.{looks_of, IsLinked, offers_link, test_of, whole_link, IsHurtFirst, hurt_link, none_missing, one_missing}
+use Rattle.vx_world.specs.Import.{Candidate, offers_of, first_that, is_damaged_one, is_taken_of, has_sequence, IsDamage, IsDiskOf, IsTextRead, IsComplete, IsTaken, IsNotThere, Imports}
+use Rattle.vx_importing.specs.Finds.{Find, looks_of, contents_in, candidate_of, candidates_of}
+use Rattle.vx_importing.proofs.Linking.{IsLinked, offers_link, test_of, whole_link, IsHurtFirst, hurt_link, none_missing, one_missing}
 
 in_group : (group : Word) (c : Contents) (label : Label) (s : Option Said) → header_of (c 0) ≡ Some label → label.group ≡ group → toggle_of (c 1) ≡ s → offer_in group c ≡ offer_by s c
 unfolding offer_in offer_of toggle_at

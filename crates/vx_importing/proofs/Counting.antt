@@ -1,6 +1,6 @@
 -- The devices that were found are those that count.
-use Rattle.std.proofs.Common.{◌≡◌, ◌≢◌, ◌∙◌, ◌⊎◌, ◌&&◌, ◌||◌, ℕ, ◌<◌, ◌≤◌, Bool, true, false, not, List, [], ◌∷◌, length, map, Option, Some, None, refl, sym, ap, subst, arith, inl, inr, ◌++◌, append_assoc}
-use Rattle.std.specs.Prelude.{IfSome, IsTrue, IsSome}
+use Rattle.std.proofs.Common.{◌≡◌, ◌∙◌, ◌&&◌, ◌||◌, ℕ, ◌<◌, Bool, true, false, not, List, [], ◌∷◌, map, Option, Some, None, refl, sym, ap, subst, inl, inr, ◌++◌, append_assoc}
+use Rattle.std.specs.Prelude.{IfSome, IsSome}
 use Rattle.std.specs.List.{list_any}
 use Rattle.std.specs.Str.{bytes_eq}
 use Rattle.vx_base.specs.Blocks.{Contents}
@@ -16,28 +16,13 @@ use Rattle.vx_world.specs.World.{World, Device}
 use Rattle.vx_world.specs.Failures.{Failures, HasFailed}
 use Rattle.vx_world.specs.Images.{IsDeviceOf, IsImage}
 use Rattle.vx_world.specs.Import.{Candidate, IsCandidate, AreRising, AreCounted, IsUpTo}
-use Rattle.vx_hold.specs.Holders.{Holder, held_as, AreApart}
+use Rattle.vx_hold.specs.Holders.{held_as, AreApart}
 use Rattle.vx_hold.specs.Stand.{seen_at}
 use Rattle.vx_hold.specs.Moves.{faults_in}
 use Rattle.vx_hold.proofs.Listed.{held_each}
 use Rattle.vx_importing.specs.Places.{ArePlaced}
-use Rattle.vx_importing.specs.Finds.{Find, holder_of, holders_of, Stays, seen_with, AllStay, IsFind, IsNaming, HasSlot, IsPassed}
+use Rattle.vx_importing.specs.Finds.{Find, holders_of, contents_in, candidate_of, candidates_of, Stays, seen_with, AllStay, IsOfGroup, IsNaming, IsPassed}
 use Rattle.vx_importing.proofs.Went.{self_up_to}
-
-abbrev pub contents_in : Option Contents → Contents
-contents_in None = λ k. []
-contents_in (Some contents) = contents
-
--- a device that was found, as one that counts
-abbrev pub candidate_of : Find → Candidate
-candidate_of f = record {
-  name = f.name;
-  device = (let d : Device = record { sectors = f.looked.seen.sectors; contents = contents_in f.looked.seen.told } in d);
-  label = f.looked.label;
-}
-
-abbrev pub candidates_of : List Find → List Candidate
-candidates_of fs = map candidate_of fs
 
 -- the name is that of one of them
 abbrev pub is_found : Word → List Find → Bool
@@ -95,7 +80,7 @@ stays_some (Some s) now is = (s, refl, is.0, is.1)
 
 module _ (group : Word) (w : World) (old new : Word → Option Seen) (world : (name : Word) → IsDeviceOf (old name) (w.devices name)) where
   -- what the world has of a device that was found
-  pub found_device : (f : Find) → IsFind group f → Stays (old f.name) (Some f.looked.seen) → (contents : Contents) × (f.looked.seen.told ≡ Some contents) × (w.devices f.name ≡ Some (let d : Device = record { sectors = f.looked.seen.sectors; contents = contents_in f.looked.seen.told } in d))
+  pub found_device : (f : Find) → IsOfGroup group f → Stays (old f.name) (Some f.looked.seen) → (contents : Contents) × (f.looked.seen.told ≡ Some contents) × (w.devices f.name ≡ Some (let d : Device = record { sectors = f.looked.seen.sectors; contents = contents_in f.looked.seen.told } in d))
   found_device f is stays =
       let s = stays_some (old f.name) f.looked.seen stays in
       let d = told_of s.0 (w.devices f.name) (subst (λ o. IsDeviceOf o (w.devices f.name)) s.1 (world f.name)) in
@@ -106,7 +91,7 @@ module _ (group : Word) (w : World) (old new : Word → Option Seen) (world : (n
         d.1 ∙ ap (λ n. Some (let x : Device = record { sectors = n; contents = d.0.contents } in x)) sectors ∙ ap (λ c. Some (let x : Device = record { sectors = f.looked.seen.sectors; contents = c } in x)) (sym (ap contents_in told)),
       )
 
-  one_candidate : (absent : Word → Bool) (f : Find) → IsFind group f → Stays (old f.name) (Some f.looked.seen) → absent f.name ≡ false → IsCandidate group absent w (candidate_of f)
+  one_candidate : (absent : Word → Bool) (f : Find) → IsOfGroup group f → Stays (old f.name) (Some f.looked.seen) → absent f.name ≡ false → IsCandidate group absent w (candidate_of f)
   one_candidate absent f is stays present =
       let d = found_device f is stays in record {
         free = d.2;
@@ -118,7 +103,7 @@ module _ (group : Word) (w : World) (old new : Word → Option Seen) (world : (n
 
   -- each that was found has stayed
   abbrev pub IsThere : Find → Type 0
-  IsThere f = IsFind group f × Stays (old f.name) (Some f.looked.seen)
+  IsThere f = IsOfGroup group f × Stays (old f.name) (Some f.looked.seen)
 
   all_candidates : (absent : Word → Bool) (fs : List Find) → AllOf IsThere fs → AllOf (λ f. absent f.name ≡ false) fs → AllOf (IsCandidate group absent w) (candidates_of fs)
   all_candidates absent [] there present = tt
@@ -173,11 +158,11 @@ listed_one Q name (n ∷ names) all is = by (bytes_eq n name) refl (listed_one Q
     by true e rest is = subst Q (bytes_eq_same n name e) all.0
     by false e rest is = rest is
 
-module _ (group : Word) (w : World) (old new : Word → Option Seen) (held : Word → Option Held) (names : List Word) (fs : List Find) (faults faults' : ℕ) (f : Failures) (world : (name : Word) → IsDeviceOf (old name) (w.devices name)) (stay : AllStay [] fs old new) (each : AllOf (IsFind group) fs) (apart : AreApart (holders_of fs)) (placed : ArePlaced (map (λ g. g.looked.label.slot) fs)) (lists : Lists names old held)
-    (passed : AllOf (λ name. IsPassed group name [] fs faults faults' old new) names) (failed : (name : Word) → Rose (faults_in (old name)) (faults_in (seen_with fs new name)) → f.devices name ≡ true) (shelf : Rose faults faults' → f.shelf ≡ true) where
+module _ (group : Word) (w : World) (old new : Word → Option Seen) (held : Word → Option Held) (names : List Word) (fs : List Find) (faults faults' : ℕ) (f : Failures) (world : (name : Word) → IsDeviceOf (old name) (w.devices name)) (stay : AllStay [] fs old new) (each : AllOf (IsOfGroup group) fs) (apart : AreApart (holders_of fs)) (placed : ArePlaced (map (λ g. g.looked.label.slot) fs)) (lists : Lists names old held)
+    (passed : AllOf (λ name. IsPassed group name held [] fs faults faults' old new) names) (failed : (name : Word) → held name ≡ None → Rose (faults_in (old name)) (faults_in (seen_with fs new name)) → f.devices name ≡ true) (shelf : Rose faults faults' → f.shelf ≡ true) where
   pub all_there : AllOf (IsThere group w old new world) fs
   all_there =
-      each_both (IsFind group) (λ g. seen_with fs new g.name ≡ Some g.looked.seen) (IsThere group w old new world) (λ g is at. (is, subst (Stays (old g.name)) at (stay g.name))) fs each (held_found fs new (held_each (holders_of fs) apart))
+      each_both (IsOfGroup group) (λ g. seen_with fs new g.name ≡ Some g.looked.seen) (IsThere group w old new world) (λ g is at. (is, subst (Stays (old g.name)) at (stay g.name))) fs each (held_found fs new (held_each (holders_of fs) apart))
 
   same_label : (g : Find) (c : Candidate) → IsThere group w old new world g → IsCandidate group (absent_by f fs) w c → g.name ≡ c.name → g.looked.label.slot ≡ c.label.slot
   same_label g c there is named =
@@ -199,8 +184,8 @@ module _ (group : Word) (w : World) (old new : Word → Option Seen) (held : Wor
       let s = seen_of (old c.name) c.device (subst (IsDeviceOf (old c.name)) is.free (world c.name)) in
       let listed : is_listed c.name names ≡ true = (lists c.name).1 (inl (subst IsSome (sym s.1) refl)) in
       let naming : IsNaming group c.label s.0 = record { contents = c.device.contents; told = s.2.contents; header = is.header; group_is = is.group_is; size = is.size ∙ s.2.sectors } in
-      elim (listed_one (λ name. IsPassed group name [] fs faults faults' old new) c.name names passed listed s.0 c.label s.1 naming) [
-        | inl rose ↦ by_name (or_left (failed c.name (subst (λ o. Rose (faults_in o) (faults_in (seen_with fs new c.name))) (sym s.1) rose)))
+      elim (listed_one (λ name. IsPassed group name held [] fs faults faults' old new) c.name names passed listed s.0 c.label s.1 naming) [
+        | inl rose ↦ by_name (or_left (failed c.name rose.0 (subst (λ o. Rose (faults_in o) (faults_in (seen_with fs new c.name))) (sym s.1) rose.1)))
         | inr (inl rose) ↦ by_name (or_true (f.devices c.name) f.shelf (shelf rose))
         | inr (inr has) ↦ any_candidate (λ g. (g.looked.label.slot ≡ c.label.slot) × IsUpTo g.name c.name) (λ d. (d.label.slot ≡ c.label.slot) × IsUpTo d.name c.name) (λ g h. h) fs has
       ]

@@ -1,34 +1,27 @@
 -- What the devices that were found give is what those that count give.
-use Rattle.std.proofs.Common.{◌≡◌, ◌≢◌, ◌∙◌, ◌⊎◌, ◌&&◌, ◌||◌, ◌==◌, ℕ, zero, suc, ◌+◌, ◌-◌, ◌<◌, ◌≤◌, Bool, true, false, cond, not, is_some, is_none, List, [], ◌∷◌, map, take, replicate, Option, Some, None, refl, sym, ap, subst, arith, inl, inr}
-use Rattle.std.specs.Prelude.{IfSome, IsTrue, if◌then◌else◌}
+use Rattle.std.proofs.Common.{◌≡◌, ◌≢◌, ◌∙◌, ◌&&◌, ◌||◌, ◌==◌, ℕ, zero, suc, ◌+◌, ◌-◌, ◌<◌, ◌≤◌, Bool, true, false, cond, not, is_some, is_none, List, [], ◌∷◌, take, replicate, Option, Some, None, refl, sym, ap, subst, arith, inl, inr}
+use Rattle.std.specs.Prelude.{IfSome, IsTrue}
 use Rattle.std.specs.List.{list_any}
 use Rattle.std.specs.Str.{bytes_eq}
 use Rattle.std.proofs.lemmas.Slice.Eq.{bytes_eq-Decides}
 use Rattle.std.proofs.lemmas.Bool.{cond-true, cond-false, cases_eq}
 use Rattle.vx_base.specs.Blocks.{Contents}
 use Rattle.vx_base.specs.Named.{Word}
-use Rattle.vx_base.proofs.NamedLemmas.{bytes_eq_self}
 use Rattle.vx_mask.specs.Mask.{has}
 use Rattle.vx_sector.specs.Fields.{zeros}
-use Rattle.vx_header.specs.Named.{Label, header_of}
-use Rattle.vx_header.specs.Said.{Said, said_of, toggle_of}
+use Rattle.vx_header.specs.Said.{toggle_of}
 use Rattle.vx_header.specs.Spelled.{IsToggle}
 use Rattle.vx_header.specs.Places.{IsFirstBad, is_toggle_place, toggle_end}
-use Rattle.vx_piece.specs.Seen.{Seen}
-use Rattle.vx_copies.specs.Lists.{AllOf, AnyOf}
-use Rattle.vx_copies.specs.Image.{Offer, offer_in, offer_told}
-use Rattle.vx_import.specs.Looks.{Looked, HasReading, IsReading, HasForm}
+use Rattle.vx_copies.specs.Lists.{AllOf}
+use Rattle.vx_copies.specs.Image.{offer_in, offer_told}
+use Rattle.vx_import.specs.Looks.{Looked, HasReading, IsReading}
 use Rattle.vx_import.specs.Choice.{At, offers_read}
-use Rattle.vx_import.specs.Naming.{is_readable_slot, AllThere, IsGone, is_meant, damage_in, damage_read, IsWhole, IsHurt, DamageIs}
+use Rattle.vx_import.specs.Naming.{is_readable_slot, AllThere, IsGone, is_meant, damage_in, damage_read, IsWhole, IsHurt}
 use Rattle.vx_import.specs.declared.found.Reading.{Reading}
 use Rattle.vx_import.specs.declared.found.Reading.TheVariants as reading
 use Rattle.vx_import.specs.declared.naming.Damage.{Damage}
 use Rattle.vx_world.specs.Import.{Candidate, offers_of, is_damaged, is_damaged_one, first_that, IsDamagedAt, missing_from}
-use Rattle.vx_importing.specs.Finds.{Find}
-use Rattle.vx_importing.proofs.Counting.{candidate_of, candidates_of, contents_in}
-
-abbrev pub looks_of : List Find → List Looked
-looks_of fs = map (λ f. f.looked) fs
+use Rattle.vx_importing.specs.Finds.{Find, looks_of, contents_in, candidate_of, candidates_of}
 
 -- A device that was found is told, and is said to be unread where a read of it has failed.
 pub record IsLinked (unread : Word → Bool) (f : Find) : Type 0 where

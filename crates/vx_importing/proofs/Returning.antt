@@ -1,5 +1,5 @@
 -- The devices that were found are given back, one after the other.
-use Rattle.std.proofs.Common.{◌≡◌, ◌∙◌, ◌<◌, List, [], ◌∷◌, ◌++◌, length, map, Option, Some, None, refl, sym, ap, subst, append_assoc, arith}
+use Rattle.std.proofs.Common.{◌≡◌, ◌∙◌, List, [], ◌∷◌, ◌++◌, length, Option, refl, sym, ap, subst, append_assoc, arith}
 use Rattle.std.proofs.lemmas.List.{append-nil, length-append}
 use Rattle.vx_base.specs.Named.{Word}
 use Rattle.vx_piece.specs.Seen.{Seen}
@@ -9,10 +9,10 @@ use Rattle.vx_import.specs.declared.found.Found.{Found}
 use Rattle.vx_hold.specs.Holders.{Holder, AreApart, IsTakenFrom, AreHeld}
 use Rattle.vx_hold.specs.Closing.{AreBack}
 use Rattle.vx_hold.proofs.Held.{all_here, apart_others, give_one, give_each, back_one}
-use Rattle.vx_importing.specs.Finds.{zipped, find_of, holder_of, holders_of}
+use Rattle.vx_importing.specs.Finds.{zipped, find_of, holders_of}
 use Rattle.vx_importing.proofs.Went.{holders_put}
 
-zipped_behind : {P : Type 0} (see : P → Seen) (ns : List Word) (fs : List (Found P)) (n : Word) (f : Found P) → length ns ≡ length fs → zipped see (ns ++ n ∷ []) (fs ++ f ∷ []) ≡ zipped see ns fs ++ find_of see n f ∷ []
+pub zipped_behind : {P : Type 0} (see : P → Seen) (ns : List Word) (fs : List (Found P)) (n : Word) (f : Found P) → length ns ≡ length fs → zipped see (ns ++ n ∷ []) (fs ++ f ∷ []) ≡ zipped see ns fs ++ find_of see n f ∷ []
 zipped_behind see [] [] n f long = refl
 zipped_behind see [] (e ∷ fs) n f long = absurd (omega (arith, long))
 zipped_behind see (m ∷ ns) [] n f long = absurd (omega (arith, long))

@@ -1,6 +1,6 @@
 -- The judging of a text, step by step.
 use Rattle.std.proofs.Common.{◌≡◌, ◌∙◌, ℕ, Bool, true, List, map, Option, Some, None, Result, Ok, Err, refl, sym, ap, subst, inl, inr}
-use Rattle.std.specs.Prelude.{IfOk, IsTrue, is_none, ◌⊎◌}
+use Rattle.std.specs.Prelude.{IfOk, is_none, ◌⊎◌}
 use Rattle.vx_base.specs.Named.{Word}
 use Rattle.vx_header.specs.Named.{Label}
 use Rattle.vx_record.specs.Content.{Content}
@@ -73,4 +73,10 @@ commit_refused r config f all lent synced lent_synced a b c d broken is = if_ok 
     ]
 
 pub unread_judged : {E : Type 0} (dg : Word) (r : Result Judged E) (records : List Content) (good : ℕ) (labels : List Label) (started : Word → Bool) (f : ObjectFault) → IsUnreadOf records f → IfOk r (RefusedBy f) → IfOk r (RecordsJudged dg records good labels started)
-unread_judged dg r records good labels started f unread is = if_ok (RefusedBy f) (RecordsJudged dg records good labels started) (λ j of. inl (f, unread, (refused_is f j of).0)) r is
+unread_judged dg r records good labels started f unread is = if_ok (RefusedBy f) (RecordsJudged dg records good labels started) by r is
+  where
+    by : (j : Judged) → RefusedBy f j → RecordsJudged dg records good labels started j
+    by j of = elim unread [
+      | inl full ↦ absurd ((refused_is f j of).1 full)
+      | inr found ↦ inl (f, found, (refused_is f j of).0)
+    ]

@@ -25,7 +25,7 @@ use Rattle.vx_shelf.specs.declared.shelf.ShelfFault.TheVariants.{Held as ShelfHe
 use Rattle.vx_world.specs.Import.{IsUpTo}
 use Rattle.vx_hold.specs.Moves.{faults_in, cut_in}
 use Rattle.vx_importing.proofs.Kept.{all_on_put, any_on_put, any_at_put}
-use Rattle.vx_importing.specs.Finds.{Find, holder_of, holders_of, Stays, seen_with, IfTold, AllStay, Goes, IsNaming, HasSlot, IsPassed, AllBefore, SomeCut}
+use Rattle.vx_importing.specs.Finds.{Find, holder_of, holders_of, Stays, seen_with, IfTold, AllStay, AreGone, Goes, IsNaming, HasSlot, IsPassed, AllBefore, SomeCut}
 use Rattle.vx_importing.specs.Gathering.{IsPut, IsSlotUsed, WhyBack, IsFound, LookBy, PassEnds}
 use Rattle.vx_importing.specs.declared.gathering.Passed.{Passed}
 use Rattle.vx_importing.specs.declared.gathering.Passed.TheVariants.{Done, Cut, OutOfMemory}
@@ -93,17 +93,17 @@ has_slot slot name (f ∷ fs) before (inl is) = inl (is, less_up_to f.name name 
 has_slot slot name (f ∷ fs) before (inr used) = inr (has_slot slot name fs before.1 used)
 
 -- where the shelf has no device of the name nothing is to be found
-pub absent_passed : (group name : Word) (fs : List Find) (faults faults' : ℕ) (free free' : Option (Word → Option Seen)) → free' ≡ free → AllBefore fs name → IfSome free (λ d. d name ≡ None) → IfTold (IsPassed group name fs fs faults faults') free free'
-absent_passed group name fs faults faults' free free' same before gone = subst (IfTold (IsPassed group name fs fs faults faults') free) (sym same) (by free gone)
+pub absent_passed : (group name : Word) (held : Word → Option Held) (fs : List Find) (faults faults' : ℕ) (free free' : Option (Word → Option Seen)) → free' ≡ free → AllBefore fs name → IfSome free (λ d. d name ≡ None) → IfTold (IsPassed group name held fs fs faults faults') free free'
+absent_passed group name held fs faults faults' free free' same before gone = subst (IfTold (IsPassed group name held fs fs faults faults') free) (sym same) (by free gone)
   where
-    by : (free : Option (Word → Option Seen)) → IfSome free (λ d. d name ≡ None) → IfTold (IsPassed group name fs fs faults faults') free free
+    by : (free : Option (Word → Option Seen)) → IfSome free (λ d. d name ≡ None) → IfTold (IsPassed group name held fs fs faults faults') free free
     by None gone = tt
     by (Some d) gone = λ seen label is naming. let e : seen_with fs d name ≡ None = ap (λ h. seen_at h (Some d) name) (none_before name fs before) ∙ gone in cc
 
-pub failed_passed : (group name : Word) (fs : List Find) (faults faults' : ℕ) (free free' : Option (Word → Option Seen)) → free' ≡ free → Rose faults faults' → IfTold (IsPassed group name fs fs faults faults') free free'
-failed_passed group name fs faults faults' free free' same rose = subst (IfTold (IsPassed group name fs fs faults faults') free) (sym same) (by free)
+pub failed_passed : (group name : Word) (held : Word → Option Held) (fs : List Find) (faults faults' : ℕ) (free free' : Option (Word → Option Seen)) → free' ≡ free → Rose faults faults' → IfTold (IsPassed group name held fs fs faults faults') free free'
+failed_passed group name held fs faults faults' free free' same rose = subst (IfTold (IsPassed group name held fs fs faults faults') free) (sym same) (by free)
   where
-    by : (free : Option (Word → Option Seen)) → IfTold (IsPassed group name fs fs faults faults') free free
+    by : (free : Option (Word → Option Seen)) → IfTold (IsPassed group name held fs fs faults faults') free free
     by None = tt
     by (Some d) = λ seen label is naming. inr (inl rose)
 
@@ -119,7 +119,7 @@ told_same : (fs : List Find) (free : Option (Word → Option Seen)) → IfTold (
 told_same fs None = tt
 told_same fs (Some d) = λ name. stays_refl (seen_with fs d name)
 
-module _ (fs : List Find) (held held' : Word → Option Held) (free free' : Option (Word → Option Seen)) (faults faults' : ℕ) (each : AllOf (IsTakenFrom held) (holders_of fs)) (apart : AreApart (holders_of fs)) (later : faults ≤ faults') where
+module _ (fs : List Find) (held held' : Word → Option Held) (free free' : Option (Word → Option Seen)) (faults faults' : ℕ) (each : AllOf (IsTakenFrom held) (holders_of fs)) (apart : AreApart (holders_of fs)) (gone : AreGone free fs) (later : faults ≤ faults') where
   -- nothing was taken
   pub goes_same : SameUnder held held' → free' ≡ free → Goes fs fs held held' free free' faults faults'
   goes_same same stays = record {
@@ -127,6 +127,8 @@ module _ (fs : List Find) (held held' : Word → Option Held) (free free' : Opti
     each = all_same held held' same (holders_of fs) each;
     apart = apart;
     stay = subst (IfTold (AllStay fs fs) free) (sym stays) (told_same fs free);
+    gone = subst (λ f. AreGone f fs) (sym stays) gone;
+    before = λ other none. sym (same other) ∙ none;
     later = later;
   }
 
@@ -164,6 +166,31 @@ module _ (fs : List Find) (held held' : Word → Option Held) (free free' : Opti
         by_held other None = subst (Stays (d other)) (sym (b other)) (by_test other (bytes_eq name other) refl)
         by_held other (Some s) = stays_refl (Some s)
 
+    -- what the shelf told of no device it tells of none now
+    still_gone : (d m : Word → Option Seen) → SameUnder (put name None d) m → (other : Word) → d other ≡ None → m other ≡ None
+    still_gone d m left other none = left other ∙ by (bytes_eq name other)
+      where
+        by : (b : Bool) → cond b None (d other) ≡ None
+        by true = refl
+        by false = none
+
+    all_gone : (d m : Word → Option Seen) → SameUnder (put name None d) m → (gs : List Find) → AllOf (λ f. d f.name ≡ None) gs → AllOf (λ f. m f.name ≡ None) gs
+    all_gone d m left [] all = tt
+    all_gone d m left (g ∷ gs) all = (still_gone d m left g.name all.0, all_gone d m left gs all.1)
+
+    all_told : (m d : Word → Option Seen) → SameUnder (put name (Some after) m) d → (gs : List Find) → AllOf (IsApart one) (holders_of gs) → AllOf (λ f. m f.name ≡ None) gs → AllOf (λ f. d f.name ≡ None) gs
+    all_told m d back [] away all = tt
+    all_told m d back (g ∷ gs) away all = (back g.name ∙ cond-false _ _ _ away.0 ∙ all.0, all_told m d back gs away.1 all.1)
+
+    back_gone : (free free' mid : Option (Word → Option Seen)) → LeavesShelf name seen free mid → ComesToShelf name after mid free' → AreGone free fs → AreGone free' fs
+    back_gone None None None l b g = tt
+    back_gone None None (Some m) l b g = absurd l
+    back_gone None (Some d') None l b g = absurd b
+    back_gone None (Some d') (Some m) l b g = absurd l
+    back_gone (Some d) free' None l b g = absurd l
+    back_gone (Some d) None (Some m) l b g = absurd b
+    back_gone (Some d) (Some d') (Some m) l b g = all_told m d' b fs others_apart (all_gone d m l.1 fs g)
+
     -- it was taken and given back
     pub goes_back : IsGiven name mid held' → ComesToShelf name after mid_free free' → Goes fs fs held held' free free' faults faults'
     goes_back given back = record {
@@ -171,6 +198,8 @@ module _ (fs : List Find) (held held' : Word → Option Held) (free free' : Opti
       each = all_same held held' (back_same given) (holders_of fs) each;
       apart = apart;
       stay = back_told free free' mid_free leaves back;
+      gone = back_gone free free' mid_free leaves back gone;
+      before = λ other none. sym (back_same given other) ∙ none;
       later = later;
     }
 
@@ -229,6 +258,19 @@ module _ (fs : List Find) (held held' : Word → Option Held) (free free' : Opti
           by_test other true e = subst (λ o. Stays o (Some after)) (sym (here other (bytes_eq_same name other e))) (kept, same)
           by_test other false e = by_held other (held_as (holders_of fs) other) (l.1 other ∙ cond-false _ _ _ e)
 
+      kept_gone : (free mid : Option (Word → Option Seen)) → LeavesShelf name seen free mid → AreGone free fs → AreGone mid fs'
+      kept_gone None None l g = tt
+      kept_gone None (Some m) l g = absurd l
+      kept_gone (Some d) None l g = absurd l
+      kept_gone (Some d) (Some m) l g = all_on_put (λ f. m f.name ≡ None) find fs fs' p (ap m name_is ∙ l.1 name ∙ cond-true _ _ _ (bytes_eq_self name)) (all_gone d m l.1 fs g)
+
+      kept_before : (other : Word) → mid other ≡ None → held other ≡ None
+      kept_before other none = by (bytes_eq name other) (sym (taken.after other) ∙ none)
+        where
+          by : (b : Bool) → cond b (Some (held_of seen)) (held other) ≡ None → held other ≡ None
+          by true e = cc
+          by false e = e
+
       -- it was taken and is kept
       pub goes_kept : Goes fs fs' held held' free free' faults faults'
       goes_kept = record {
@@ -236,6 +278,8 @@ module _ (fs : List Find) (held held' : Word → Option Held) (free free' : Opti
         each = subst (λ h. AllOf (IsTakenFrom h) (holders_of fs')) (sym held_is) kept_each;
         apart = subst AreApart (sym new_split) new_apart;
         stay = subst (IfTold (AllStay fs fs') free) (sym free_is) (kept_told free mid_free leaves);
+        gone = subst (λ f. AreGone f fs') (sym free_is) (kept_gone free mid_free leaves gone);
+        before = λ other none. kept_before other (sym (ap (λ h. h other) held_is) ∙ none);
         later = later;
       }
 
@@ -243,7 +287,7 @@ module _ (fs : List Find) (held held' : Word → Option Held) (free free' : Opti
     pub told_before : (d : Word → Option Seen) → d name ≡ Some seen → seen_with fs d name ≡ Some seen
     told_before d e = ap (λ h. seen_at h (Some d) name) not_found ∙ e
 
-    back_passed : (group : Word) (free free' mid : Option (Word → Option Seen)) → LeavesShelf name seen free mid → ComesToShelf name after mid free' → AllBefore fs name → WhyBack Done group seen after fs → IfTold (IsPassed group name fs fs faults faults') free free'
+    back_passed : (group : Word) (free free' mid : Option (Word → Option Seen)) → LeavesShelf name seen free mid → ComesToShelf name after mid free' → AllBefore fs name → WhyBack Done group seen after fs → IfTold (IsPassed group name held fs fs faults faults') free free'
     back_passed group None None None l b before why = tt
     back_passed group None None (Some m) l b before why = absurd l
     back_passed group None (Some d') None l b before why = absurd b
@@ -254,11 +298,11 @@ module _ (fs : List Find) (held held' : Word → Option Held) (free free' : Opti
         let e : seen ≡ seen0 = cc (told_before d l.0, is) in
         let now : seen_with fs d' name ≡ Some after = ap (λ h. seen_at h (Some d') name) not_found ∙ b name ∙ cond-true _ _ _ (bytes_eq_self name) in
         elim (why label (subst (IsNaming group label) (sym e) naming)) [
-          | inl rose ↦ inl (subst (λ o. Rose seen0.faults (faults_in o)) (sym now) (subst (λ (s : Seen). Rose s.faults after.faults) e rose))
+          | inl rose ↦ inl (taken.before, subst (λ o. Rose seen0.faults (faults_in o)) (sym now) (subst (λ (s : Seen). Rose s.faults after.faults) e rose))
           | inr used ↦ inr (inr (has_slot label.slot name fs before used))
         ]
 
-    back_cut : (free free' mid : Option (Word → Option Seen)) → LeavesShelf name seen free mid → ComesToShelf name after mid free' → after.cut ≡ true → IfTold (SomeCut fs) free free'
+    back_cut : (free free' mid : Option (Word → Option Seen)) → LeavesShelf name seen free mid → ComesToShelf name after mid free' → after.cut ≡ true → IfTold (SomeCut held fs) free free'
     back_cut None None None l b cut = tt
     back_cut None None (Some m) l b cut = absurd l
     back_cut None (Some d') None l b cut = absurd b
@@ -267,12 +311,12 @@ module _ (fs : List Find) (held held' : Word → Option Held) (free free' : Opti
     back_cut (Some d) None (Some m) l b cut = absurd b
     back_cut (Some d) (Some d') (Some m) l b cut =
         let now : seen_with fs d' name ≡ Some after = ap (λ h. seen_at h (Some d') name) not_found ∙ b name ∙ cond-true _ _ _ (bytes_eq_self name) in
-        (name, ap cut_in now ∙ cut)
+        (name, taken.before, ap cut_in now ∙ cut)
 
-    kept_passed : (group : Word) (fs' : List Find) (free free' mid : Option (Word → Option Seen)) → LeavesShelf name seen free mid → free' ≡ mid → IsFound group name seen after fs fs' → IfTold (IsPassed group name fs fs' faults faults') free free'
-    kept_passed group fs' free free' mid l e found = subst (IfTold (IsPassed group name fs fs' faults faults') free) (sym e) (by free mid l)
+    kept_passed : (group : Word) (fs' : List Find) (free free' mid : Option (Word → Option Seen)) → LeavesShelf name seen free mid → free' ≡ mid → IsFound group name seen after fs fs' → IfTold (IsPassed group name held fs fs' faults faults') free free'
+    kept_passed group fs' free free' mid l e found = subst (IfTold (IsPassed group name held fs fs' faults faults') free) (sym e) (by free mid l)
       where
-        by : (free mid : Option (Word → Option Seen)) → LeavesShelf name seen free mid → IfTold (IsPassed group name fs fs' faults faults') free mid
+        by : (free mid : Option (Word → Option Seen)) → LeavesShelf name seen free mid → IfTold (IsPassed group name held fs fs' faults faults') free mid
         by None None l = tt
         by None (Some m) l = absurd l
         by (Some d) None l = absurd l
@@ -295,9 +339,9 @@ module _ (fs : List Find) (held held' : Word → Option Held) (free free' : Opti
     look_more result group fs' (inl (r, why)) slot other has = subst (HasSlot slot other) (sym r.same) has
     look_more result group fs' (inr (done, held_is, free_is, found)) slot other has = any_on_put (λ f. (f.looked.label.slot ≡ slot) × IsUpTo f.name other) found.kept.find fs fs' found.kept.put has
 
-    pub look_passed : (result : Passed) (group : Word) (fs' : List Find) → AllBefore fs name → LookBy result group name seen after fs fs' mid held' mid_free free' → PassEnds result group name fs fs' faults faults' free free'
-    look_passed Done group fs' before (inl (r, why)) = subst (λ xs. IfTold (IsPassed group name fs xs faults faults') free free') (sym r.same) (back_passed group free free' mid_free leaves r.back before why)
-    look_passed Cut group fs' before (inl (r, why)) = subst (λ xs. IfTold (SomeCut xs) free free') (sym r.same) (back_cut free free' mid_free leaves r.back why)
+    pub look_passed : (result : Passed) (group : Word) (fs' : List Find) → AllBefore fs name → LookBy result group name seen after fs fs' mid held' mid_free free' → PassEnds result group name held fs fs' faults faults' free free'
+    look_passed Done group fs' before (inl (r, why)) = subst (λ xs. IfTold (IsPassed group name held fs xs faults faults') free free') (sym r.same) (back_passed group free free' mid_free leaves r.back before why)
+    look_passed Cut group fs' before (inl (r, why)) = subst (λ xs. IfTold (SomeCut held xs) free free') (sym r.same) (back_cut free free' mid_free leaves r.back why)
     look_passed OutOfMemory group fs' before is = tt
     look_passed Done group fs' before (inr (done, held_is, free_is, found)) = kept_passed group fs' free free' mid_free leaves free_is found
     look_passed Cut group fs' before (inr (done, held_is, free_is, found)) = cc
@@ -316,5 +360,7 @@ goes_trans fs gs hs x y z a b c k m n p q = record {
   each = q.each;
   apart = q.apart;
   stay = told_trans fs gs hs a b c p.stay q.stay;
+  gone = q.gone;
+  before = λ name none. p.before name (q.before name none);
   later = let s = p.later in let t = q.later in omega (arith, s, t);
 }

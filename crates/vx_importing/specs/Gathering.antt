@@ -68,12 +68,12 @@ pub record LookEnds (result : Passed) (group name : Word) (seen : Seen) (fs fs' 
   pub same : IsRead seen after
   pub ends : LookBy result group name seen after fs fs' held held' free free'
 
-abbrev pub PassEnds : Passed → Word → Word → List Find → List Find → ℕ → ℕ → Option (Word → Option Seen) → Option (Word → Option Seen) → Type 0
-PassEnds Done group name fs fs' faults faults' free free' = IfTold (IsPassed group name fs fs' faults faults') free free'
-PassEnds Cut group name fs fs' faults faults' free free' = IfTold (SomeCut fs') free free'
-PassEnds OutOfMemory group name fs fs' faults faults' free free' = Unit {0}
+abbrev pub PassEnds : Passed → Word → Word → (Word → Option Held) → List Find → List Find → ℕ → ℕ → Option (Word → Option Seen) → Option (Word → Option Seen) → Type 0
+PassEnds Done group name held fs fs' faults faults' free free' = IfTold (IsPassed group name held fs fs' faults faults') free free'
+PassEnds Cut group name held fs fs' faults faults' free free' = IfTold (SomeCut held fs') free free'
+PassEnds OutOfMemory group name held fs fs' faults faults' free free' = Unit {0}
 
-abbrev pub GatherEnds : Passed → Word → List Word → List Find → ℕ → ℕ → Option (Word → Option Seen) → Option (Word → Option Seen) → Type 0
-GatherEnds Done group names fs faults faults' free free' = IfTold (λ old new. AllOf (λ name. IsPassed group name [] fs faults faults' old new) names) free free'
-GatherEnds Cut group names fs faults faults' free free' = IfTold (SomeCut fs) free free'
-GatherEnds OutOfMemory group names fs faults faults' free free' = Unit {0}
+abbrev pub GatherEnds : Passed → Word → List Word → (Word → Option Held) → List Find → ℕ → ℕ → Option (Word → Option Seen) → Option (Word → Option Seen) → Type 0
+GatherEnds Done group names held fs faults faults' free free' = IfTold (λ old new. AllOf (λ name. IsPassed group name held [] fs faults faults' old new) names) free free'
+GatherEnds Cut group names held fs faults faults' free free' = IfTold (SomeCut held fs) free free'
+GatherEnds OutOfMemory group names held fs faults faults' free free' = Unit {0}

@@ -19,12 +19,12 @@ use Rattle.vx_parts.specs.declared.fault.ObjectFault.TheVariants as object_fault
 use Rattle.vx_rules.specs.Rules.{first_broken}
 use Rattle.vx_objects.specs.declared.config.Config.{Config}
 use Rattle.vx_objects.specs.Config.{objects_of}
-use Rattle.vx_objects.specs.Printed.{IsReadOf, IsUnreadOf}
+use Rattle.vx_objects.specs.Printed.{IsReadOf}
 use Rattle.vx_import.specs.declared.found.Found.{Found}
 use Rattle.vx_bare.specs.declared.started.Started.{Started}
 use Rattle.vx_world.specs.declared.answer.Refusal.TheVariants as refusal
 use Rattle.vx_world.specs.Back.{IsTextOf}
-use Rattle.vx_world.specs.Import.{import_records}
+use Rattle.vx_world.specs.Import.{IsBrokenBy, import_records}
 use Rattle.vx_world.specs.Refusals.{refusal_by}
 use Rattle.vx_importing.specs.declared.judging.Judged.{Judged}
 use Rattle.vx_importing.specs.declared.judging.Judged.TheVariants.{Refused, Ready}
@@ -86,7 +86,7 @@ ConfigJudged dg config good labels started j =
 
 abbrev pub RecordsJudged : Word → List Content → ℕ → List Label → (Word → Bool) → Judged → Type 0
 RecordsJudged dg records good labels started j =
-    ((fault : ObjectFault) × IsUnreadOf records fault × (j ≡ Refused (refusal_by fault)))
+    ((fault : ObjectFault) × IsBrokenBy records fault × (j ≡ Refused (refusal_by fault)))
     ⊎ ((config : Config) × IsReadOf records config × ConfigJudged dg config good labels started j)
 
 abbrev pub TextJudged : Word → List ℕ → ℕ → List Label → (Word → Bool) → Judged → Type 0

@@ -10,7 +10,7 @@ ghost use Rattle.vx_shelf.specs.Shelf.{IsWhole, IsOut};
 ghost use Rattle.vx_shelf.specs.Listed.{IsRising};
 ghost use Rattle.vx_copies.specs.Lists.{AllOf};
 ghost use Rattle.vx_hold.specs.Holders.{IsTakenFrom, AreApart};
-ghost use Rattle.vx_importing.specs.Finds.{finds_in, holders_of, AreRoomy, AreFinds, Goes, AllBefore, HasSlot};
+ghost use Rattle.vx_importing.specs.Finds.{finds_in, holders_of, AreRoomy, AreFinds, AreGone, Goes, AllBefore, HasSlot};
 ghost use Rattle.vx_importing.specs.Gathering.{GatherEnds, PassEnds, LookEnds, KeepEnds};
 
 use crate::finds::Finds;
@@ -40,7 +40,7 @@ pub fn gather<S: Shelf>(shelf: &mut S, names: &[Name], dg: &Name, finds: &mut Fi
     requires finds { AreFinds S.P.seen dg.now finds.old }
     ensures goes { Goes [] (finds_in S.P.seen finds.new) (S.held shelf.old) (S.held shelf.new) (S.free shelf.old) (S.free shelf.new) (S.faults shelf.old) (S.faults shelf.new) }
     ensures finds { AreFinds S.P.seen dg.now finds.new }
-    ensures ends { GatherEnds result dg.now names.now (finds_in S.P.seen finds.new) (S.faults shelf.old) (S.faults shelf.new) (S.free shelf.old) (S.free shelf.new) }
+    ensures ends { GatherEnds result dg.now names.now (S.held shelf.old) (finds_in S.P.seen finds.new) (S.faults shelf.old) (S.faults shelf.new) (S.free shelf.old) (S.free shelf.new) }
 {
     let mut i = 0;
     'names: while i < names.len() {
@@ -60,12 +60,13 @@ fn pass<S: Shelf>(shelf: &mut S, name: &Name, dg: &Name, finds: &mut Finds<S::P>
     requires each { AllOf (IsTakenFrom (S.held shelf.old)) (holders_of (finds_in S.P.seen finds.old)) }
     requires apart { AreApart (holders_of (finds_in S.P.seen finds.old)) }
     requires finds { AreFinds S.P.seen dg.now finds.old }
+    requires gone { AreGone (S.free shelf.old) (finds_in S.P.seen finds.old) }
     requires before { AllBefore (finds_in S.P.seen finds.old) name.now }
     ensures goes { Goes (finds_in S.P.seen finds.old) (finds_in S.P.seen finds.new) (S.held shelf.old) (S.held shelf.new) (S.free shelf.old) (S.free shelf.new) (S.faults shelf.old) (S.faults shelf.new) }
     ensures finds { AreFinds S.P.seen dg.now finds.new }
     ensures before { (next : Word) → AllBefore (finds_in S.P.seen finds.old) next → slice_cmp nat_cmp name.now next ≡ Ordering.Less → AllBefore (finds_in S.P.seen finds.new) next }
     ensures more { (slot : ℕ) (other : Word) → HasSlot slot other (finds_in S.P.seen finds.old) → HasSlot slot other (finds_in S.P.seen finds.new) }
-    ensures ends { PassEnds result dg.now name.now (finds_in S.P.seen finds.old) (finds_in S.P.seen finds.new) (S.faults shelf.old) (S.faults shelf.new) (S.free shelf.old) (S.free shelf.new) }
+    ensures ends { PassEnds result dg.now name.now (S.held shelf.old) (finds_in S.P.seen finds.old) (finds_in S.P.seen finds.new) (S.faults shelf.old) (S.faults shelf.new) (S.free shelf.old) (S.free shelf.new) }
 {
     match shelf.take(name) {
         Ok(piece) => look(shelf, name, dg, finds, piece),

@@ -29,7 +29,8 @@ pub fn give_finds<S: Shelf>(finds: Finds<S::P>, shelf: &mut S)
     }
 }
 
-fn give_found<S: Shelf>(device: &Name, found: Found<S::P>, shelf: &mut S)
+/// Gives one of them back.
+pub(crate) fn give_found<S: Shelf>(device: &Name, found: Found<S::P>, shelf: &mut S)
     requires whole { IsWhole (S.P.seen found.piece) }
     requires out { IsOut (S.held shelf.old device.now) (S.P.seen found.piece) }
     ensures given { IsGiven device.now (S.held shelf.old) (S.held shelf.new) }

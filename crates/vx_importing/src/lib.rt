@@ -2,20 +2,27 @@
 #![tactic(auto)]
 
 mod checking;
+mod committing;
 mod finds;
 mod gathering;
 mod giving;
+mod importing;
 mod judging;
 mod naming;
 mod placing;
+mod searching;
+mod sorting;
 
 pub use checking::{first_started, first_stray};
 pub use finds::{Finds, no_finds};
 pub use gathering::{Passed, gather};
 pub use giving::give_finds;
+pub use importing::import;
 pub use judging::{Judged, judge};
 pub use naming::missing_disk;
 pub use placing::{place_of, put_in};
+pub use searching::Search;
+pub use sorting::Chosen;
 
 #[cfg(test)]
 mod tests;

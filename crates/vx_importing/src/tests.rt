@@ -1,12 +1,14 @@
 //! The devices of a group are found, and a text is judged, where memory is left.
-use crate::{Judged, first_started, first_stray, judge, missing_disk, no_finds, place_of};
+use crate::{Judged, first_started, first_stray, import, judge, missing_disk, no_finds, place_of};
 use std::collections::BTreeMap;
 use std::test::Fail;
 use vx_bare::Started;
+use vx_hold::System;
 use vx_import::Found;
 use vx_names::Name;
 use vx_piece::MemPiece;
-use vx_world::Refusal;
+use vx_shelf::{MemShelf, Shelf};
+use vx_world::{Answer, Refusal};
 
 fn bad_line(judged: &Judged) -> Option<u64> {
     match judged {
@@ -65,5 +67,21 @@ fn none_is_the_first(rt: HostRuntime) -> Result<(), Fail> {
     let volumes: BTreeMap<Name, Started<MemPiece>> = BTreeMap::new(alloc);
     assert!(rt; first_stray(&found, 1, &[]).is_none());
     assert!(rt; first_started(&[], &volumes).is_none());
+    Ok(())
+}
+
+/// A device of zeros is of no group, and lies on the shelf again.
+#[test]
+fn no_group_is_imported(rt: HostRuntime) -> Result<(), Fail> {
+    let alloc = rt.alloc();
+    let (Ok(dg), Ok(device)) = (Name::read(b"dg"), Name::read(b"i0")) else {
+        return Err(Fail::from("no names"));
+    };
+    let mut shelf = MemShelf::new(Vec::new(alloc));
+    assert!(rt; shelf.make(alloc, &device, 4096).is_ok());
+    let mut system = System::new(alloc);
+    let answer = import(alloc, &mut system, &mut shelf, dg);
+    assert!(rt; matches!(answer, Ok(Answer::Refused(Refusal::NoGroup(Some(_))))));
+    assert!(rt; shelf.device(&device).is_some());
     Ok(())
 }

@@ -10,7 +10,7 @@ invariant-names g l = record {
   goes : Goes [] (finds_in g.S.P.Piece.seen l.finds) (g.S.Shelf.held l.fn.shelf) (g.S.Shelf.held l.shelf) (g.S.Shelf.free l.fn.shelf) (g.S.Shelf.free l.shelf) (g.S.Shelf.faults l.fn.shelf) (g.S.Shelf.faults l.shelf);
   finds : AreFinds g.S.P.Piece.seen l.dg l.finds;
   before : (j : ℕ) (d : Word) → l.i ≤ j → j < length l.names → AllBefore (finds_in g.S.P.Piece.seen l.finds) (get_or l.names j d);
-  passed : IfTold (λ old new. AllOf (λ name. IsPassed l.dg name [] (finds_in g.S.P.Piece.seen l.finds) (g.S.Shelf.faults l.fn.shelf) (g.S.Shelf.faults l.shelf) old new) (take l.i l.names)) (g.S.Shelf.free l.fn.shelf) (g.S.Shelf.free l.shelf);
+  passed : IfTold (λ old new. AllOf (λ name. IsPassed l.dg name (g.S.Shelf.held l.fn.shelf) [] (finds_in g.S.P.Piece.seen l.finds) (g.S.Shelf.faults l.fn.shelf) (g.S.Shelf.faults l.shelf) old new) (take l.i l.names)) (g.S.Shelf.free l.fn.shelf) (g.S.Shelf.free l.shelf);
 }
 
 abbrev pub decreases-names : goal.decreases-names

@@ -1,30 +1,24 @@
 -- What is judged of a text is what the definition of an import says of it.
-use Rattle.std.proofs.Common.{◌≡◌, ◌∙◌, ◌⊎◌, ◌&&◌, ◌==◌, ◌-◌, ℕ, ◌<◌, ◌≤◌, Bool, true, false, cond, not, is_some, List, [], ◌∷◌, map, length, Option, Some, None, refl, sym, ap, subst, arith, inl, inr}
-use Rattle.std.specs.Prelude.{MatchOption, MatchBool, if◌then◌else◌}
-use Rattle.std.specs.List.{list_any, filter}
+use Rattle.std.proofs.Common.{◌≡◌, ◌∙◌, ◌⊎◌, ◌&&◌, ℕ, Bool, true, false, cond, not, is_some, List, [], ◌∷◌, map, length, Option, Some, None, refl, sym, ap, subst, inl, inr}
+use Rattle.std.specs.Prelude.{MatchOption, MatchBool}
 use Rattle.std.specs.Str.{bytes_eq}
 use Rattle.std.proofs.lemmas.Bool.{cond-true, cond-false}
 use Rattle.vx_base.specs.Named.{Word}
 use Rattle.vx_mask.specs.Mask.{has}
 use Rattle.vx_header.specs.Named.{Label}
-use Rattle.vx_record.specs.Content.{Content}
-use Rattle.vx_parts.specs.declared.disk.Disk.{Disk}
 use Rattle.vx_parts.specs.declared.vol.Vol.{Vol}
 use Rattle.vx_parts.specs.declared.fault.ObjectFault.{ObjectFault}
-use Rattle.vx_rules.specs.Rules.{first_broken}
 use Rattle.vx_objects.specs.declared.config.Config.{Config}
 use Rattle.vx_objects.specs.Config.{objects_of}
 use Rattle.vx_copies.specs.Image.{Offer}
 use Rattle.vx_world.specs.declared.answer.Answer.{Answer}
-use Rattle.vx_world.specs.declared.answer.Answer.TheVariants.{Refused}
 use Rattle.vx_world.specs.declared.answer.Refusal.{Refusal}
 use Rattle.vx_world.specs.declared.answer.Refusal.TheVariants as refusal
-use Rattle.vx_world.specs.World.{World, Volume, IsRefused}
+use Rattle.vx_world.specs.World.{World, IsRefused}
 use Rattle.vx_world.specs.Failures.{Failures}
 use Rattle.vx_world.specs.Refusals.{refusal_by}
-use Rattle.vx_world.specs.Back.{IsTextOf}
 use Rattle.vx_world.specs.Import.{Candidate, first_that, is_recorded, good_ones, import_records, IsImportTooLong, IsImported, IsUnimported, IsCommitted, IsConfigured, IsTextRead}
-use Rattle.vx_importing.specs.Judging.{is_disk_of, stray_in, started_in, IsReady, SizeJudged, CommitJudged, ConfigJudged, RecordsJudged, TextJudged}
+use Rattle.vx_importing.specs.Judging.{stray_in, started_in, IsReady, SizeJudged, CommitJudged, ConfigJudged, TextJudged}
 use Rattle.vx_importing.specs.declared.judging.Judged.{Judged}
 use Rattle.vx_importing.specs.declared.judging.Judged.TheVariants as judged
 

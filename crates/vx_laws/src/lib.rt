@@ -2,10 +2,34 @@
 #![tactic(auto)]
 
 ghost use Rattle.vx_laws.specs.Histories.{EachVolumeHasAHistory};
+ghost use Rattle.vx_laws.specs.Returning.{EachGroupReturns, EachMadeGroupIsWhole, EachJoinedGroupIsWhole, EachWholeGroupComesBack};
 
 /// In the last world of each transcript from devices alone, the entries of each started volume, in the order of their
 /// numbers, are a legal history from the blocks that its device held in the world before some command: each number of a
 /// region is there once, from 1 up, and each value that was read is what the entries before it allow.
 pub fn each_volume_has_a_history()
     ensures { EachVolumeHasAHistory }
+{}
+
+/// Where a group of disks is left on its devices, as by `vxdg deport` or at the end of a run, and nothing fails, an import
+/// gives it back: the records of its configuration, the same good slots, and its good members on their devices. Otherwise
+/// the shelf could not tell its devices, or the power is lost.
+pub fn each_group_returns()
+    ensures { EachGroupReturns }
+{}
+
+/// A group that is made of some disks, nothing failing, is whole: all its disks are good, the configuration records each,
+/// their slots leave room for the next, and no free device bears its name.
+pub fn each_made_group_is_whole()
+    ensures { EachMadeGroupIsWhole }
+{}
+
+/// A whole group that a disk joins, nothing failing, is whole.
+pub fn each_joined_group_is_whole()
+    ensures { EachJoinedGroupIsWhole }
+{}
+
+/// A whole group that is let go and imported, nothing failing, comes back as in `each_group_returns`, and is whole again.
+pub fn each_whole_group_comes_back()
+    ensures { EachWholeGroupComesBack }
 {}

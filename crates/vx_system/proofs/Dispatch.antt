@@ -64,36 +64,36 @@ not_built f place c w e = subst (λ b. MatchBool b (FormStep f place c.group c.f
 -- a form that is none of those that are built
 pub is_other : (x : Form)
     → ((a : Word) (b : ℕ) → x ≡ form.MkImage a b → ⊥) → ((a b : Word) → x ≡ form.Bare a b → ⊥) → ((a : Word) (b : List DiskAt) → x ≡ form.DgInit a b → ⊥)
-    → ((a : Word) → x ≡ form.DgDeport a → ⊥)
+    → ((a : Word) (b : DiskAt) → x ≡ form.DgAddDisk a b → ⊥) → ((a : Word) → x ≡ form.DgImport a → ⊥) → ((a : Word) → x ≡ form.DgDeport a → ⊥)
     → ((a : Word) → x ≡ form.DiskUnsetup a → ⊥) → ((a : Option Word) → x ≡ form.PrintM a → ⊥) → ((a : Said) → x ≡ form.Calling a → ⊥)
     → is_built_form x ≡ false
-is_other (form.MkImage a b) n1 n2 n3 n6 n7 n8 n9 = absurd (n1 a b refl)
-is_other (form.Bare a b) n1 n2 n3 n6 n7 n8 n9 = absurd (n2 a b refl)
-is_other (form.DgInit a b) n1 n2 n3 n6 n7 n8 n9 = absurd (n3 a b refl)
-is_other (form.DgAddDisk a b) n1 n2 n3 n6 n7 n8 n9 = refl
-is_other (form.DgImport a) n1 n2 n3 n6 n7 n8 n9 = refl
-is_other (form.DgDeport a) n1 n2 n3 n6 n7 n8 n9 = absurd (n6 a refl)
-is_other (form.DiskUnsetup a) n1 n2 n3 n6 n7 n8 n9 = absurd (n7 a refl)
-is_other (form.PrintM a) n1 n2 n3 n6 n7 n8 n9 = absurd (n8 a refl)
-is_other (form.Calling a) n1 n2 n3 n6 n7 n8 n9 = absurd (n9 a refl)
-is_other (form.VxMake a) n1 n2 n3 n6 n7 n8 n9 = refl
-is_other (form.PrintHt a) n1 n2 n3 n6 n7 n8 n9 = refl
-is_other (form.AssistMake a b d e) n1 n2 n3 n6 n7 n8 n9 = refl
-is_other (form.Mirror a b) n1 n2 n3 n6 n7 n8 n9 = refl
-is_other (form.RemoveVolume a) n1 n2 n3 n6 n7 n8 n9 = refl
-is_other (form.Start a) n1 n2 n3 n6 n7 n8 n9 = refl
-is_other (form.Stop a) n1 n2 n3 n6 n7 n8 n9 = refl
-is_other (form.Rdpol a b) n1 n2 n3 n6 n7 n8 n9 = refl
-is_other (form.PlexDis a b) n1 n2 n3 n6 n7 n8 n9 = refl
-is_other (form.Prepare a b d) n1 n2 n3 n6 n7 n8 n9 = refl
-is_other (form.Unprepare a) n1 n2 n3 n6 n7 n8 n9 = refl
-is_other (form.AddMir a b) n1 n2 n3 n6 n7 n8 n9 = refl
-is_other (form.Dis a) n1 n2 n3 n6 n7 n8 n9 = refl
-is_other (form.Split a) n1 n2 n3 n6 n7 n8 n9 = refl
-is_other (form.PrintSnaps a) n1 n2 n3 n6 n7 n8 n9 = refl
-is_other (form.Recover a) n1 n2 n3 n6 n7 n8 n9 = refl
-is_other (form.Acting a) n1 n2 n3 n6 n7 n8 n9 = refl
-is_other (form.Sessions a) n1 n2 n3 n6 n7 n8 n9 = refl
+is_other (form.MkImage a b) n1 n2 n3 n4 n5 n6 n7 n8 n9 = absurd (n1 a b refl)
+is_other (form.Bare a b) n1 n2 n3 n4 n5 n6 n7 n8 n9 = absurd (n2 a b refl)
+is_other (form.DgInit a b) n1 n2 n3 n4 n5 n6 n7 n8 n9 = absurd (n3 a b refl)
+is_other (form.DgAddDisk a b) n1 n2 n3 n4 n5 n6 n7 n8 n9 = absurd (n4 a b refl)
+is_other (form.DgImport a) n1 n2 n3 n4 n5 n6 n7 n8 n9 = absurd (n5 a refl)
+is_other (form.DgDeport a) n1 n2 n3 n4 n5 n6 n7 n8 n9 = absurd (n6 a refl)
+is_other (form.DiskUnsetup a) n1 n2 n3 n4 n5 n6 n7 n8 n9 = absurd (n7 a refl)
+is_other (form.PrintM a) n1 n2 n3 n4 n5 n6 n7 n8 n9 = absurd (n8 a refl)
+is_other (form.Calling a) n1 n2 n3 n4 n5 n6 n7 n8 n9 = absurd (n9 a refl)
+is_other (form.VxMake a) n1 n2 n3 n4 n5 n6 n7 n8 n9 = refl
+is_other (form.PrintHt a) n1 n2 n3 n4 n5 n6 n7 n8 n9 = refl
+is_other (form.AssistMake a b d e) n1 n2 n3 n4 n5 n6 n7 n8 n9 = refl
+is_other (form.Mirror a b) n1 n2 n3 n4 n5 n6 n7 n8 n9 = refl
+is_other (form.RemoveVolume a) n1 n2 n3 n4 n5 n6 n7 n8 n9 = refl
+is_other (form.Start a) n1 n2 n3 n4 n5 n6 n7 n8 n9 = refl
+is_other (form.Stop a) n1 n2 n3 n4 n5 n6 n7 n8 n9 = refl
+is_other (form.Rdpol a b) n1 n2 n3 n4 n5 n6 n7 n8 n9 = refl
+is_other (form.PlexDis a b) n1 n2 n3 n4 n5 n6 n7 n8 n9 = refl
+is_other (form.Prepare a b d) n1 n2 n3 n4 n5 n6 n7 n8 n9 = refl
+is_other (form.Unprepare a) n1 n2 n3 n4 n5 n6 n7 n8 n9 = refl
+is_other (form.AddMir a b) n1 n2 n3 n4 n5 n6 n7 n8 n9 = refl
+is_other (form.Dis a) n1 n2 n3 n4 n5 n6 n7 n8 n9 = refl
+is_other (form.Split a) n1 n2 n3 n4 n5 n6 n7 n8 n9 = refl
+is_other (form.PrintSnaps a) n1 n2 n3 n4 n5 n6 n7 n8 n9 = refl
+is_other (form.Recover a) n1 n2 n3 n4 n5 n6 n7 n8 n9 = refl
+is_other (form.Acting a) n1 n2 n3 n4 n5 n6 n7 n8 n9 = refl
+is_other (form.Sessions a) n1 n2 n3 n4 n5 n6 n7 n8 n9 = refl
 
 -- a command is not built where its form is not, or where it has the word `cut=N`
 pub form_unbuilt : (c : Command) → is_built_form c.form ≡ false → is_built c ≡ false

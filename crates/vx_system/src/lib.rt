@@ -14,8 +14,9 @@ use std::alloc::Global;
 use vx_base::OutOfMemory;
 use vx_calls::{bare, call};
 use vx_devices::{make_image, unsetup};
-use vx_groups::{deport, print};
+use vx_groups::{add, deport, print};
 use vx_hold::System;
+use vx_importing::import;
 use vx_init::init;
 use vx_names::Name;
 use vx_script::{Command, Form};
@@ -53,6 +54,8 @@ pub fn execute<S: Shelf>(
         Form::MkImage { device, length } => make_image(alloc, system, shelf, *device, *length),
         Form::Bare { vol, device } => bare(alloc, system, shelf, *vol, *device),
         Form::DgInit { dg, disks } => init(alloc, system, shelf, *dg, disks.as_slice()),
+        Form::DgAddDisk { dg, disk } => add(alloc, system, shelf, *dg, disk.get()),
+        Form::DgImport { dg } => import(alloc, system, shelf, *dg),
         Form::DgDeport { dg } => deport(alloc, system, shelf, *dg),
         Form::DiskUnsetup { device } => unsetup(alloc, system, shelf, *device),
         Form::PrintM { vol } => print(alloc, system, shelf, group_of(command), *vol),

@@ -3,7 +3,8 @@ use Rattle.vx_script_forms.specs.declared.form.Form.TheVariants as form
 use Rattle.vx_world.specs.Bare.{BareStep}
 use Rattle.vx_world.specs.Calls.{CallStep}
 use Rattle.vx_world.specs.Disks.{UnsetupStep}
-use Rattle.vx_world.specs.Groups.{InitStep}
+use Rattle.vx_world.specs.Groups.{InitStep, AddStep}
+use Rattle.vx_world.specs.Import.{ImportStep}
 use Rattle.vx_hold.proofs.Rooms.{more_room}
 use Rattle.vx_system.proofs.Dispatch.{all_moved, all_placed, refused, is_other, form_unbuilt, cut_unbuilt, uncut, call_unbuilt, call_built, call_step}
 use Rattle.vx_system.proofs.execute.Goals as goal
@@ -24,7 +25,7 @@ pub returns-in_default : goal.returns-in_default
 returns-in_default g c = record {
   keeps = c.requires.keeps;
   room = λ n room. more_room n (n + 1) (omega arith) c.args.system.now room;
-  step = refused g.S.P.Piece.seen _ c.args.command.now (form_unbuilt c.args.command.now (is_other c.args.command.now.form c.in_default.not-MkImage c.in_default.not-Bare c.in_default.not-DgInit c.in_default.not-DgDeport c.in_default.not-DiskUnsetup c.in_default.not-PrintM c.in_default.not-Calling));
+  step = refused g.S.P.Piece.seen _ c.args.command.now (form_unbuilt c.args.command.now (is_other c.args.command.now.form c.in_default.not-MkImage c.in_default.not-Bare c.in_default.not-DgInit c.in_default.not-DgAddDisk c.in_default.not-DgImport c.in_default.not-DgDeport c.in_default.not-DiskUnsetup c.in_default.not-PrintM c.in_default.not-Calling));
   rests = tt;
   later = omega arith;
 }
@@ -34,6 +35,12 @@ returns-in-Bare-clause-step g c = all_moved g.S.P.Piece.seen _ _ c.args.command.
 
 pub returns-in-DgInit-clause-step : goal.returns-in-DgInit-clause-step
 returns-in-DgInit-clause-step g c = all_moved g.S.P.Piece.seen _ _ c.args.command.now (form.DgInit c.in-DgInit.dg c.in-DgInit.disks) (λ f. InitStep f c.in-DgInit.dg c.as_slice.result.now) _ c.in-DgInit.is (uncut c.args.command.now.cut (sym c.is_some.ensures ∙ c.if-is_some.false)) refl (λ f place w answer next step. subst (λ disks. InitStep f c.in-DgInit.dg disks w answer next) c.as_slice.ensures step) c.init.ensures.step
+
+pub returns-in-DgAddDisk-clause-step : goal.returns-in-DgAddDisk-clause-step
+returns-in-DgAddDisk-clause-step g c = all_moved g.S.P.Piece.seen _ _ c.args.command.now (form.DgAddDisk c.in-DgAddDisk.dg c.in-DgAddDisk.disk) (λ f. AddStep f c.in-DgAddDisk.dg c.get.result.now) _ c.in-DgAddDisk.is (uncut c.args.command.now.cut (sym c.is_some.ensures ∙ c.if-is_some.false)) refl (λ f place w answer next step. subst (λ disk. AddStep f c.in-DgAddDisk.dg disk w answer next) c.get.ensures step) c.add.ensures.step
+
+pub returns-in-DgImport-clause-step : goal.returns-in-DgImport-clause-step
+returns-in-DgImport-clause-step g c = all_moved g.S.P.Piece.seen _ _ c.args.command.now (form.DgImport c.in-DgImport.dg) (λ f. ImportStep f c.in-DgImport.dg) _ c.in-DgImport.is (uncut c.args.command.now.cut (sym c.is_some.ensures ∙ c.if-is_some.false)) refl (λ f place w answer next step. step) c.import.ensures.step
 
 pub returns-in-DiskUnsetup-clause-step : goal.returns-in-DiskUnsetup-clause-step
 returns-in-DiskUnsetup-clause-step g c = all_moved g.S.P.Piece.seen _ _ c.args.command.now (form.DiskUnsetup c.in-DiskUnsetup.device) (λ f. UnsetupStep c.in-DiskUnsetup.device) _ c.in-DiskUnsetup.is (uncut c.args.command.now.cut (sym c.is_some.ensures ∙ c.if-is_some.false)) refl (λ f place w answer next step. step) c.unsetup.ensures.step

@@ -1,0 +1,5 @@
+use Rattle.vx_laws.proofs.LetGo.{each_whole_group_comes_back}
+use Rattle.vx_laws.proofs.each_whole_group_comes_back.Goals as goal
+
+pub returns : goal.returns
+returns c = each_whole_group_comes_back

@@ -47,6 +47,12 @@ pub enum Line<'a> {
         place: u64,
         byte: u8,
     },
+    /// `writes NAME BYTE TEXT`: the text and a newline are written into an image, from this place on, before this run.
+    Writes {
+        name: &'a str,
+        place: u64,
+        text: &'a str,
+    },
     /// `source fails at N`: the source fails once N bytes have passed.
     SourceFails(u64),
     /// `room N`: the sink takes N bytes.
@@ -91,6 +97,7 @@ pub fn read_line(text: &str) -> Option<Line<'_>> {
         "holds" => read_holds(rest),
         "without" => Some(Line::Without(rest)),
         "change" => read_change(rest),
+        "writes" => read_writes(rest),
         "byte" => read_end(rest),
         "moving" => read_moving(rest),
         "order" => Some(Line::Order(rest)),
@@ -160,6 +167,12 @@ fn read_holds(text: &str) -> Option<Line<'_>> {
 fn read_change(text: &str) -> Option<Line<'_>> {
     let (name, place, byte) = read_byte(text)?;
     Some(Line::Change { name, place, byte })
+}
+
+fn read_writes(text: &str) -> Option<Line<'_>> {
+    let (name, rest) = text.split_once(' ')?;
+    let (place, text) = read_number(rest)?;
+    Some(Line::Writes { name, place, text })
 }
 
 fn read_moving(text: &str) -> Option<Line<'_>> {

@@ -131,6 +131,7 @@ impl Run {
             Line::Any => self.any = true,
             Line::Heal => self.heals = true,
             Line::Status(status) => self.status = status,
+            Line::Writes { name, place, text } => return self.take_text(name, place, text),
             other => return self.take_named(other),
         }
         Ok(true)
@@ -142,6 +143,24 @@ impl Run {
             None => &mut self.answers,
             Some(last) => last,
         }
+    }
+
+    /// Takes a line of text that is written into an image.
+    fn take_text(&mut self, name: &str, place: u64, text: &str) -> Result<bool, AllocError> {
+        let Ok(image) = Name::read(name.as_bytes()) else {
+            return Ok(false);
+        };
+        let mut place = place;
+        for byte in text.bytes() {
+            self.changes.push(Byte { image, place, byte })?;
+            place = place.saturating_add(1);
+        }
+        self.changes.push(Byte {
+            image,
+            place,
+            byte: b'\n',
+        })?;
+        Ok(true)
     }
 
     /// Takes a line that names an image.

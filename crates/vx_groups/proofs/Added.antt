@@ -21,6 +21,7 @@ use Rattle.vx_world.specs.World.{World, Device, Group}
 use Rattle.vx_world.specs.Back.{IsTextOf}
 use Rattle.vx_world.specs.Joining.{disk_record, member_of, DropsFailed}
 use Rattle.vx_world.specs.Groups.{next_slot, was_good, IsAdded, IsAddTooLong}
+use Rattle.vx_hold.specs.Moves.{MovesFrom}
 use Rattle.vx_hold.specs.Holders.{Holder, disk_holders, holders, AreHeld}
 use Rattle.vx_hold.specs.Kept.{IsGroupKept, Keeps, HasRoom}
 use Rattle.vx_hold.specs.Stand.{IsAtGroup, IsGroupOf}
@@ -34,7 +35,7 @@ use Rattle.vx_groups.specs.declared.judging.Plan.{Plan}
 use Rattle.vx_groups.specs.Joining.{has_slot, IsWithin}
 use Rattle.vx_groups.specs.Judged.{record_for, IsPlanned}
 use Rattle.vx_groups.specs.Growing.{disk_for, IsRaised}
-use Rattle.vx_groups.specs.Out.{KeepsOut, StandsOut, StandOut, seen_out, seen_before, MovesOut, JoinStep}
+use Rattle.vx_groups.specs.Out.{KeepsOut, StandsOut, StandOut, seen_out, seen_before, JoinStep}
 use Rattle.vx_groups.proofs.Joined.{IsGrown, grown, failures_of, have_failed, failed_one, dropped_one, all_named, fronts_failed, drops_more}
 use Rattle.vx_groups.proofs.Roomy.{group_same, disks_more, unrecorded}
 use Rattle.vx_groups.proofs.Refusing.{record_same}
@@ -189,7 +190,7 @@ module _ {P : Type 0} (see : P → Seen) (s : System P) (i : Imported P) (was : 
         world = refl;
       }
 
-      added_moves : MovesOut see (λ f. JoinStep f pair d g) (Done [] []) w before n (state (Some old) n joined_system)
+      added_moves : MovesFrom see (λ f. JoinStep f pair d g) (Done [] []) w before n (state (Some old) n joined_system)
       added_moves = record {
         failures = failed;
         failed = have_failed before now n n;
@@ -201,6 +202,6 @@ module _ {P : Type 0} (see : P → Seen) (s : System P) (i : Imported P) (was : 
       }
 
     -- the disk has joined
-    pub joined_moves : (free : Option (Word → Option Seen)) (n : ℕ) (w : World) (d : Device) (g : Group) → w.group ≡ Some g → StandOut see free the_holder s w d → MovesOut see (λ f. JoinStep f pair d g) (Done [] []) w (seen_before see free the_holder s) n (state free n joined_system)
+    pub joined_moves : (free : Option (Word → Option Seen)) (n : ℕ) (w : World) (d : Device) (g : Group) → w.group ≡ Some g → StandOut see free the_holder s w d → MovesFrom see (λ f. JoinStep f pair d g) (Done [] []) w (seen_before see free the_holder s) n (state free n joined_system)
     joined_moves None n w d g is stands = absurd stands
     joined_moves (Some old) n w d g is stands = added_moves old n w d g is stands

@@ -19,7 +19,7 @@ use Rattle.vx_devices.specs.Claims.{AreOnlyRead}
 use Rattle.vx_hold.specs.Holders.{Holder}
 use Rattle.vx_hold.specs.Kept.{Keeps}
 use Rattle.vx_hold.specs.Looks.{EndsAt, LeavesRead}
-use Rattle.vx_hold.specs.Moves.{Moves, Rests}
+use Rattle.vx_hold.specs.Moves.{Moves, Rests, MovesFrom, RestsFrom}
 use Rattle.vx_hold.specs.Stand.{State, Stand, IsAtGroup, IsGroupOf, device_seen}
 use Rattle.vx_hold.specs.declared.system.Imported.{Imported}
 use Rattle.vx_hold.specs.declared.system.System.{System}
@@ -27,7 +27,7 @@ use Rattle.vx_hold.proofs.Blamed.{later_same, later_blame, failed_between}
 use Rattle.vx_groups.specs.declared.judging.Stop.{Stop}
 use Rattle.vx_groups.specs.declared.judging.Plan.{Plan}
 use Rattle.vx_groups.specs.Judged.{IsJudged, JudgedOf, StoppedOf}
-use Rattle.vx_groups.specs.Out.{KeepsOut, StandsOut, StandOut, seen_out, seen_before, MovesOut, RestsOut, JoinStep, StopGives}
+use Rattle.vx_groups.specs.Out.{KeepsOut, StandsOut, StandOut, seen_out, seen_before, JoinStep, StopGives}
 use Rattle.vx_groups.proofs.AddSteps.{join_step}
 use Rattle.vx_groups.proofs.Outside.{read_stands, read_later, out_stands, taken_later}
 use Rattle.vx_groups.proofs.Refusing.{limit_same, record_same, unclaimed}
@@ -48,11 +48,11 @@ module _ {P : Type 0} (see : P → Seen) (s : System P) (seen : Seen) (dg : Word
         (ap (λ x. refusal_of (AddDisk x ∷ []) (objects_of g.config)) (record_same pair plan.slot (next_slot g.config) seen.sectors d tests.0.2.next stands.image.sectors) ∙ tests.1.1.1.1) step
 
     module _ (old1 old2 : Word → Option Seen) (read : AreOnlyRead (Some old1) (Some old2)) (w : World) (d : Device) (stands : StandsOut see old1 h s w d) (head : is_some (header_of (d.contents 0)) ≡ headed)
-        (moves : (g : Group) → w.group ≡ Some g → MovesOut see (λ f. JoinStep f pair d g) answer w (seen_out see old2 h s) f2 new) where
+        (moves : (g : Group) → w.group ≡ Some g → MovesFrom see (λ f. JoinStep f pair d g) answer w (seen_out see old2 h s) f2 new) where
       abbrev now : Word → Option Seen
       now = device_seen see new
 
-      joined_in : (i : Option (Imported P)) (o : Option Group) → w.group ≡ o → JudgedOf dg pair headed seen.sectors i (record { held = who; old = Some old1; new = Some old2; shelf = f1; shelf' = f2 }) plan → IsAtGroup see i o → MovesOut see (λ f. AddStep f dg pair) answer w (seen_out see old1 h s) f1 new
+      joined_in : (i : Option (Imported P)) (o : Option Group) → w.group ≡ o → JudgedOf dg pair headed seen.sectors i (record { held = who; old = Some old1; new = Some old2; shelf = f1; shelf' = f2 }) plan → IsAtGroup see i o → MovesFrom see (λ f. AddStep f dg pair) answer w (seen_out see old1 h s) f1 new
       joined_in None o is judged at = absurd judged
       joined_in (Some i) None is judged at = absurd at
       joined_in (Some i) (Some g) is judged at =
@@ -67,8 +67,8 @@ module _ {P : Type 0} (see : P → Seen) (s : System P) (seen : Seen) (dg : Word
           }
 
     pub join_moves : (free1 free2 : Option (Word → Option Seen)) → AreOnlyRead free1 free2 → JudgedOf dg pair headed seen.sectors s.group (record { held = who; old = free1; new = free2; shelf = f1; shelf' = f2 }) plan
-        → ((w : World) (d : Device) (g : Group) → w.group ≡ Some g → StandOut see free2 h s w d → MovesOut see (λ f. JoinStep f pair d g) answer w (seen_before see free2 h s) f2 new)
-        → (w : World) (d : Device) → StandOut see free1 h s w d → is_some (header_of (d.contents 0)) ≡ headed → MovesOut see (λ f. AddStep f dg pair) answer w (seen_before see free1 h s) f1 new
+        → ((w : World) (d : Device) (g : Group) → w.group ≡ Some g → StandOut see free2 h s w d → MovesFrom see (λ f. JoinStep f pair d g) answer w (seen_before see free2 h s) f2 new)
+        → (w : World) (d : Device) → StandOut see free1 h s w d → is_some (header_of (d.contents 0)) ≡ headed → MovesFrom see (λ f. AddStep f dg pair) answer w (seen_before see free1 h s) f1 new
     join_moves None free2 read judged moves w d stands head = absurd stands
     join_moves (Some old1) None read judged moves w d stands head = absurd read
     join_moves (Some old1) (Some old2) read judged moves w d stands head =
@@ -77,13 +77,13 @@ module _ {P : Type 0} (see : P → Seen) (s : System P) (seen : Seen) (dg : Word
   -- the same of a result
   pub join_result : {E : Type 0} (r : Result Answer E) (who : Word → Option Held) (free1 free2 : Option (Word → Option Seen)) (f1 f2 : ℕ) (headed : Bool) (plan : Plan) (new : State P) → f1 ≤ f2 → AreOnlyRead free1 free2
       → JudgedOf dg pair headed seen.sectors s.group (record { held = who; old = free1; new = free2; shelf = f1; shelf' = f2 }) plan
-      → IfOk r (λ answer. (w : World) (d : Device) (g : Group) → w.group ≡ Some g → StandOut see free2 h s w d → MovesOut see (λ f. JoinStep f pair d g) answer w (seen_before see free2 h s) f2 new)
-      → IfOk r (λ answer. (w : World) (d : Device) → StandOut see free1 h s w d → is_some (header_of (d.contents 0)) ≡ headed → MovesOut see (λ f. AddStep f dg pair) answer w (seen_before see free1 h s) f1 new)
+      → IfOk r (λ answer. (w : World) (d : Device) (g : Group) → w.group ≡ Some g → StandOut see free2 h s w d → MovesFrom see (λ f. JoinStep f pair d g) answer w (seen_before see free2 h s) f2 new)
+      → IfOk r (λ answer. (w : World) (d : Device) → StandOut see free1 h s w d → is_some (header_of (d.contents 0)) ≡ headed → MovesFrom see (λ f. AddStep f dg pair) answer w (seen_before see free1 h s) f1 new)
   join_result (Ok answer) who free1 free2 f1 f2 headed plan new less read judged moves = join_moves who f1 f2 less headed plan answer new free1 free2 read judged moves
   join_result (Err e) who free1 free2 f1 f2 headed plan new less read judged moves = tt
 
-  rests_in : (free1 free2 : Option (Word → Option Seen)) (f1 f2 : ℕ) (new : State P) → f1 ≤ f2 → AreOnlyRead free1 free2 → ((w : World) (d : Device) → StandOut see free2 h s w d → RestsOut see w (seen_before see free2 h s) f2 new)
-      → (w : World) (d : Device) → StandOut see free1 h s w d → RestsOut see w (seen_before see free1 h s) f1 new
+  rests_in : (free1 free2 : Option (Word → Option Seen)) (f1 f2 : ℕ) (new : State P) → f1 ≤ f2 → AreOnlyRead free1 free2 → ((w : World) (d : Device) → StandOut see free2 h s w d → RestsFrom see w (seen_before see free2 h s) f2 new)
+      → (w : World) (d : Device) → StandOut see free1 h s w d → RestsFrom see w (seen_before see free1 h s) f1 new
   rests_in None free2 f1 f2 new less read rests w d stands = absurd stands
   rests_in (Some old1) None f1 f2 new less read rests w d stands = absurd read
   rests_in (Some old1) (Some old2) f1 f2 new less read rests w d stands =
@@ -91,8 +91,8 @@ module _ {P : Type 0} (see : P → Seen) (s : System P) (seen : Seen) (dg : Word
       record { stands = r.stands; blame = later_blame [] (seen_out see old1 h s) (seen_out see old2 h s) (device_seen see new) f1 f2 new.faults (read_later see s h old1 old2 read) less r.blame }
 
   pub join_rests : {E : Type 0} (r : Result Answer E) (free1 free2 : Option (Word → Option Seen)) (f1 f2 : ℕ) (new : State P) → f1 ≤ f2 → AreOnlyRead free1 free2
-      → OnErr r ((w : World) (d : Device) → StandOut see free2 h s w d → RestsOut see w (seen_before see free2 h s) f2 new)
-      → OnErr r ((w : World) (d : Device) → StandOut see free1 h s w d → RestsOut see w (seen_before see free1 h s) f1 new)
+      → OnErr r ((w : World) (d : Device) → StandOut see free2 h s w d → RestsFrom see w (seen_before see free2 h s) f2 new)
+      → OnErr r ((w : World) (d : Device) → StandOut see free1 h s w d → RestsFrom see w (seen_before see free1 h s) f1 new)
   join_rests (Ok answer) free1 free2 f1 f2 new less read rests = tt
   join_rests (Err e) free1 free2 f1 f2 new less read rests = rests_in free1 free2 f1 f2 new less read rests
 
@@ -100,23 +100,23 @@ module _ {P : Type 0} (see : P → Seen) (s : System P) (seen : Seen) (dg : Word
   module _ {E : Type 0} (r : Result Answer E) (held0 held2 held3 : Word → Option Held) (keeps : KeepsOut see held0 h s) (same : SameUnder held0 held2) (given : IsGiven pair.device held2 held3) (free1 free2 free3 : Option (Word → Option Seen)) (f1 f2 f3 : ℕ)
       (read : AreOnlyRead free1 free2) (comes : ComesToShelf pair.device seen free2 free3) (l12 : f1 ≤ f2) (l23 : f2 ≤ f3) where
     pub stop_result : (stop : Stop) (new : State P) (headed : Bool) → StoppedOf dg pair headed seen.sectors s.group (record { held = held0; old = free1; new = free2; shelf = f1; shelf' = f2 }) stop → IfOk r (λ answer. StopGives see stop answer (state free3 f3 s) new)
-        → IfOk r (λ answer. (w : World) (d : Device) → StandOut see free1 h s w d → is_some (header_of (d.contents 0)) ≡ headed → MovesOut see (λ f. AddStep f dg pair) answer w (seen_before see free1 h s) f1 new)
+        → IfOk r (λ answer. (w : World) (d : Device) → StandOut see free1 h s w d → is_some (header_of (d.contents 0)) ≡ headed → MovesFrom see (λ f. AddStep f dg pair) answer w (seen_before see free1 h s) f1 new)
     stop_result stop new headed by gives = by_result r gives
       where
         by_result : (r : Result Answer E) → IfOk r (λ answer. StopGives see stop answer (state free3 f3 s) new)
-            → IfOk r (λ answer. (w : World) (d : Device) → StandOut see free1 h s w d → is_some (header_of (d.contents 0)) ≡ headed → MovesOut see (λ f. AddStep f dg pair) answer w (seen_before see free1 h s) f1 new)
+            → IfOk r (λ answer. (w : World) (d : Device) → StandOut see free1 h s w d → is_some (header_of (d.contents 0)) ≡ headed → MovesFrom see (λ f. AddStep f dg pair) answer w (seen_before see free1 h s) f1 new)
         by_result (Ok answer) gives = stop_moves see s seen dg pair held0 held2 held3 keeps same given free1 free2 free3 f1 f2 f3 read comes l12 l23 stop answer new headed by gives
         by_result (Err e) gives = tt
 
-    pub stop_wants : (free4 : Option (Word → Option Seen)) (f4 : ℕ) (s' : System P) → OnErr r ((free4 ≡ free3) × (f4 ≡ f3) × (s' ≡ s)) → OnErr r ((w : World) (d : Device) → StandOut see free1 h s w d → RestsOut see w (seen_before see free1 h s) f1 (state free4 f4 s'))
+    pub stop_wants : (free4 : Option (Word → Option Seen)) (f4 : ℕ) (s' : System P) → OnErr r ((free4 ≡ free3) × (f4 ≡ f3) × (s' ≡ s)) → OnErr r ((w : World) (d : Device) → StandOut see free1 h s w d → RestsFrom see w (seen_before see free1 h s) f1 (state free4 f4 s'))
     stop_wants free4 f4 s' wants = by_result r wants
       where
         at_end : (free4 ≡ free3) × (f4 ≡ f3) × (s' ≡ s) → state free3 f3 s ≡ state free4 f4 s'
         at_end is = λ t. record { free = sym is.0 t; faults = sym is.1 t; system = sym is.2 t }
 
-        by_result : (r : Result Answer E) → OnErr r ((free4 ≡ free3) × (f4 ≡ f3) × (s' ≡ s)) → OnErr r ((w : World) (d : Device) → StandOut see free1 h s w d → RestsOut see w (seen_before see free1 h s) f1 (state free4 f4 s'))
+        by_result : (r : Result Answer E) → OnErr r ((free4 ≡ free3) × (f4 ≡ f3) × (s' ≡ s)) → OnErr r ((w : World) (d : Device) → StandOut see free1 h s w d → RestsFrom see w (seen_before see free1 h s) f1 (state free4 f4 s'))
         by_result (Ok answer) wants = tt
-        by_result (Err e) wants = λ w d stands. subst (RestsOut see w (seen_before see free1 h s) f1) (at_end wants) (stop_rests see s seen dg pair held0 held2 held3 keeps same given free1 free2 free3 f1 f2 f3 read comes l12 l23 w d stands)
+        by_result (Err e) wants = λ w d stands. subst (RestsFrom see w (seen_before see free1 h s) f1) (at_end wants) (stop_rests see s seen dg pair held0 held2 held3 keeps same given free1 free2 free3 f1 f2 f3 read comes l12 l23 w d stands)
 
   -- it was found
   header_some : (told : Option Contents) (contents : Contents) (header : Option Header) → told ≡ Some contents → IfSome told (λ c. option_map label_of header ≡ header_of (c 0)) → is_some (header_of (contents 0)) ≡ is_some header
@@ -130,7 +130,7 @@ module _ {P : Type 0} (see : P → Seen) (s : System P) (seen : Seen) (dg : Word
 
   module _ (header : Option Header) (held0 held1 : Word → Option Held) (keeps : Keeps see held0 s) (taken : IsTaken pair.device seen held0 held1) (read : IfSome seen.told (λ c. option_map label_of header ≡ header_of (c 0))) (f0 f1 : ℕ) (l01 : f0 ≤ f1) (new : State P) where
     pub found_moves : (free0 free1 : Option (Word → Option Seen)) → LeavesRead pair.device seen free0 free1 → (answer : Answer) (headed : Bool) → headed ≡ is_some header
-        → ((w : World) (d : Device) → StandOut see free1 h s w d → is_some (header_of (d.contents 0)) ≡ headed → MovesOut see (λ f. AddStep f dg pair) answer w (seen_before see free1 h s) f1 new)
+        → ((w : World) (d : Device) → StandOut see free1 h s w d → is_some (header_of (d.contents 0)) ≡ headed → MovesFrom see (λ f. AddStep f dg pair) answer w (seen_before see free1 h s) f1 new)
         → (w : World) → Stand see free0 s w → Moves see (λ f. AddStep f dg pair) answer w (state free0 f0 s) new
     found_moves None free1 leaves answer headed head moves w stands = absurd stands
     found_moves (Some old0) None leaves answer headed head moves w stands = absurd leaves
@@ -149,7 +149,7 @@ module _ {P : Type 0} (see : P → Seen) (s : System P) (seen : Seen) (dg : Word
           blame = later_blame (answer ∷ []) before (seen_out see old1 h s) now f0 f1 new.faults later l01 m.blame;
         }
 
-    found_rests : (free0 free1 : Option (Word → Option Seen)) → LeavesRead pair.device seen free0 free1 → ((w : World) (d : Device) → StandOut see free1 h s w d → RestsOut see w (seen_before see free1 h s) f1 new) → (w : World) → Stand see free0 s w → Rests see w (state free0 f0 s) new
+    found_rests : (free0 free1 : Option (Word → Option Seen)) → LeavesRead pair.device seen free0 free1 → ((w : World) (d : Device) → StandOut see free1 h s w d → RestsFrom see w (seen_before see free1 h s) f1 new) → (w : World) → Stand see free0 s w → Rests see w (state free0 f0 s) new
     found_rests None free1 leaves rests w stands = absurd stands
     found_rests (Some old0) None leaves rests w stands = absurd leaves
     found_rests (Some old0) (Some old1) leaves rests w stands =
@@ -158,13 +158,13 @@ module _ {P : Type 0} (see : P → Seen) (s : System P) (seen : Seen) (dg : Word
         record { stands = r.stands; blame = later_blame [] (device_seen see (state (Some old0) f0 s)) (seen_out see old1 h s) (device_seen see new) f0 f1 new.faults (taken_later see s h old0 old1 held0 held1 leaves keeps taken) l01 r.blame }
 
     pub found_result : {E : Type 0} (r : Result Answer E) (free0 free1 : Option (Word → Option Seen)) → LeavesRead pair.device seen free0 free1 → (headed : Bool) → headed ≡ is_some header
-        → IfOk r (λ answer. (w : World) (d : Device) → StandOut see free1 h s w d → is_some (header_of (d.contents 0)) ≡ headed → MovesOut see (λ f. AddStep f dg pair) answer w (seen_before see free1 h s) f1 new)
+        → IfOk r (λ answer. (w : World) (d : Device) → StandOut see free1 h s w d → is_some (header_of (d.contents 0)) ≡ headed → MovesFrom see (λ f. AddStep f dg pair) answer w (seen_before see free1 h s) f1 new)
         → IfOk r (λ answer. (w : World) → Stand see free0 s w → Moves see (λ f. AddStep f dg pair) answer w (state free0 f0 s) new)
     found_result (Ok answer) free0 free1 leaves headed head moves = found_moves free0 free1 leaves answer headed head moves
     found_result (Err e) free0 free1 leaves headed head moves = tt
 
     pub found_wants : {E : Type 0} (r : Result Answer E) (free0 free1 : Option (Word → Option Seen)) → LeavesRead pair.device seen free0 free1
-        → OnErr r ((w : World) (d : Device) → StandOut see free1 h s w d → RestsOut see w (seen_before see free1 h s) f1 new)
+        → OnErr r ((w : World) (d : Device) → StandOut see free1 h s w d → RestsFrom see w (seen_before see free1 h s) f1 new)
         → OnErr r ((w : World) → Stand see free0 s w → Rests see w (state free0 f0 s) new)
     found_wants (Ok answer) free0 free1 leaves rests = tt
     found_wants (Err e) free0 free1 leaves rests = found_rests free0 free1 leaves rests

@@ -17,6 +17,7 @@ use Rattle.vx_world.specs.declared.answer.Refusal.TheVariants.{TooLong}
 use Rattle.vx_world.specs.World.{World, Device, Group}
 use Rattle.vx_world.specs.Back.{IsTextOf}
 use Rattle.vx_world.specs.Groups.{IsAddTooLong}
+use Rattle.vx_hold.specs.Moves.{MovesFrom, RestsFrom}
 use Rattle.vx_hold.specs.Holders.{Holder, disk_holders, holders, held_as, AreHeld}
 use Rattle.vx_hold.specs.Kept.{IsGroupKept, AreSized, HaveSlots, AreRecorded, Keeps, HasRoom}
 use Rattle.vx_hold.specs.Stand.{StandWith, IsAtGroup, IsGroupOf, AreMembersOf, seen_at, device_seen}
@@ -25,7 +26,7 @@ use Rattle.vx_hold.specs.declared.system.System.{System}
 use Rattle.vx_hold.proofs.Closed.{state}
 use Rattle.vx_hold.proofs.Blamed.{AreLater, later_same, silent, none_told}
 use Rattle.vx_groups.specs.Growing.{IsStill}
-use Rattle.vx_groups.specs.Out.{KeepsOut, StandsOut, StandOut, seen_out, seen_before, MovesOut, RestsOut, JoinStep}
+use Rattle.vx_groups.specs.Out.{KeepsOut, StandsOut, StandOut, seen_out, seen_before, JoinStep}
 use Rattle.vx_groups.proofs.Quiet.{none_failed, none_have}
 use Rattle.vx_groups.proofs.Outside.{back_keeps, back_stands, back_same}
 use Rattle.vx_groups.proofs.Deported.{volume_holders, holders_are}
@@ -119,7 +120,7 @@ module _ {P : Type 0} (see : P → Seen) (s : System P) (i k : Imported P) (was 
       still_later : AreLater (seen_out see old h s) now
       still_later = later_same (seen_out see old h s) now still_seen
 
-      long_moves : (w : World) (d : Device) (g : Group) → StandsOut see old h s w d → (bytes : ℕ) → IsAddTooLong pair d g bytes → MovesOut see (λ f. JoinStep f pair d g) (Refused (TooLong bytes)) w (seen_out see old h s) n (state (Some new) n' put_back)
+      long_moves : (w : World) (d : Device) (g : Group) → StandsOut see old h s w d → (bytes : ℕ) → IsAddTooLong pair d g bytes → MovesFrom see (λ f. JoinStep f pair d g) (Refused (TooLong bytes)) w (seen_out see old h s) n (state (Some new) n' put_back)
       long_moves w d g stands bytes long = record {
         failures = none_failed;
         failed = none_have (seen_out see old h s) now n n';
@@ -129,18 +130,18 @@ module _ {P : Type 0} (see : P → Seen) (s : System P) (i k : Imported P) (was 
         blame = silent (seen_out see old h s) now n n' still_later more (Refused (TooLong bytes)) tt;
       }
 
-      memory_rests : (w : World) (d : Device) → StandsOut see old h s w d → RestsOut see w (seen_out see old h s) n (state (Some new) n' put_back)
+      memory_rests : (w : World) (d : Device) → StandsOut see old h s w d → RestsFrom see w (seen_out see old h s) n (state (Some new) n' put_back)
       memory_rests w d stands = record { stands = still_stands new w (back_stands see s h old new w d comes stands); blame = none_told (seen_out see old h s) now n n' still_later more }
 
     -- the text is too long
     pub too_long_moves : (free free' : Option (Word → Option Seen)) (n n' : ℕ) → n ≤ n' → ComesToShelf pair.device (see piece) free free' → (w : World) (d : Device) (g : Group) → StandOut see free h s w d → (bytes : ℕ) → IsAddTooLong pair d g bytes
-        → MovesOut see (λ f. JoinStep f pair d g) (Refused (TooLong bytes)) w (seen_before see free h s) n (state free' n' put_back)
+        → MovesFrom see (λ f. JoinStep f pair d g) (Refused (TooLong bytes)) w (seen_before see free h s) n (state free' n' put_back)
     too_long_moves None free' n n' more comes w d g stands bytes long = absurd stands
     too_long_moves (Some old) None n n' more comes w d g stands bytes long = absurd comes
     too_long_moves (Some old) (Some new) n n' more comes w d g stands bytes long = long_moves old new n n' more comes w d g stands bytes long
 
     -- memory is wanting
-    pub out_of_memory : (free free' : Option (Word → Option Seen)) (n n' : ℕ) → n ≤ n' → ComesToShelf pair.device (see piece) free free' → (w : World) (d : Device) → StandOut see free h s w d → RestsOut see w (seen_before see free h s) n (state free' n' put_back)
+    pub out_of_memory : (free free' : Option (Word → Option Seen)) (n n' : ℕ) → n ≤ n' → ComesToShelf pair.device (see piece) free free' → (w : World) (d : Device) → StandOut see free h s w d → RestsFrom see w (seen_before see free h s) n (state free' n' put_back)
     out_of_memory None free' n n' more comes w d stands = absurd stands
     out_of_memory (Some old) None n n' more comes w d stands = absurd comes
     out_of_memory (Some old) (Some new) n n' more comes w d stands = memory_rests old new n n' more comes w d stands

@@ -25,7 +25,7 @@ use Rattle.vx_world.specs.Groups.{next_slot, IsLeft}
 use Rattle.vx_hold.specs.Closing.{AreBack}
 use Rattle.vx_hold.specs.Holders.{Holder, disk_holders, group_holders, holders, AreApart, IsTakenFrom, AreHeld}
 use Rattle.vx_hold.specs.Kept.{Keeps}
-use Rattle.vx_hold.specs.Moves.{cut_in}
+use Rattle.vx_hold.specs.Moves.{cut_in, MovesFrom}
 use Rattle.vx_hold.specs.Stand.{StandWith, IsGroupOf, device_seen}
 use Rattle.vx_hold.specs.declared.system.Imported.{Imported}
 use Rattle.vx_hold.specs.declared.system.System.{System}
@@ -35,7 +35,7 @@ use Rattle.vx_hold.proofs.Blamed.{AreLater, later_later, later_same, silent, los
 use Rattle.vx_groups.specs.declared.judging.Plan.{Plan}
 use Rattle.vx_groups.specs.Joining.{has_slot, IsWithin}
 use Rattle.vx_groups.specs.Judged.{IsPlanned}
-use Rattle.vx_groups.specs.Out.{KeepsOut, StandsOut, StandOut, seen_out, seen_before, MovesOut, JoinStep}
+use Rattle.vx_groups.specs.Out.{KeepsOut, StandsOut, StandOut, seen_out, seen_before, JoinStep}
 use Rattle.vx_groups.proofs.Quiet.{none_failed, none_have}
 use Rattle.vx_groups.proofs.Joined.{IsGrown, grown, failures_of, have_failed, failed_one}
 use Rattle.vx_groups.proofs.Deported.{volume_holders, all_behind, apart_behind, left_by, left_seen}
@@ -149,7 +149,7 @@ module _ {P : Type 0} (see : P → Seen) (s : System P) (i j : Imported P) (was 
         (seen_before_each see s i j was long pair.device disk first last plan.text.items devices grew old keeps.devices.apart) now_each rose
 
     -- no disk that was good can be written
-    group_lost : Each HasRisen (members see i.base) (take (length i.base.disks.items) (members see j.base)) → MovesOut see (λ f. JoinStep f pair d g) GroupLost w before n (state (Some new) n' (left_by s))
+    group_lost : Each HasRisen (members see i.base) (take (length i.base.disks.items) (members see j.base)) → MovesFrom see (λ f. JoinStep f pair d g) GroupLost w before n (state (Some new) n' (left_by s))
     group_lost rose = record {
       failures = failed;
       failed = have_failed before now n n';
@@ -161,7 +161,7 @@ module _ {P : Type 0} (see : P → Seen) (s : System P) (i j : Imported P) (was 
 
     -- the power is gone
     power_lost : (free : Option (Word → Option Seen)) (n'' : ℕ) (s' : System P) → n' ≤ n'' → IsOrdered (slice_cmp nat_cmp) s.volumes → AreBack (holders see (left_by s)) (Some new) free → s'.volumes.entries ≡ [] → s'.group ≡ None → AnyOf IsCut (members see j.base)
-        → MovesOut see (λ f. JoinStep f pair d g) (Lost []) w before n (state free n'' s')
+        → MovesFrom see (λ f. JoinStep f pair d g) (Lost []) w before n (state free n'' s')
     power_lost free n'' s' later ordered closed empty none cut =
         let ends : Closes see world_then (state (Some new) n' (left_by s)) (state free n'' s') = closes see who' (Some new) free n' n'' (left_by s) s' world_then stands_then (lost_keeps who' left) ordered closed empty none in
         let one = cut_among see now j.devices.items j.base.disks.items lost_long now_each cut in
@@ -178,14 +178,14 @@ module _ {P : Type 0} (see : P → Seen) (s : System P) (i j : Imported P) (was 
   -- the same of shelves that may tell nothing
   module _ (who' : Word → Option Taken) (left : (others : List Holder) → AreHeld who (others ++ group_holders see (Some j)) → AreHeld who' others) where
     pub group_lost_moves : (free free' : Option (Word → Option Seen)) (n n' : ℕ) → n ≤ n' → AreBack (group_holders see (Some j)) free free' → Each HasRisen (members see i.base) (take (length i.base.disks.items) (members see j.base))
-        → (w : World) (d : Device) (g : Group) → w.group ≡ Some g → StandOut see free h s w d → MovesOut see (λ f. JoinStep f pair d g) GroupLost w (seen_before see free h s) n (state free' n' (left_by s))
+        → (w : World) (d : Device) (g : Group) → w.group ≡ Some g → StandOut see free h s w d → MovesFrom see (λ f. JoinStep f pair d g) GroupLost w (seen_before see free h s) n (state free' n' (left_by s))
     group_lost_moves None free' n n' more back rose w d g is stands = absurd stands
     group_lost_moves (Some old) None n n' more back rose w d g is stands = absurd back
     group_lost_moves (Some old) (Some new) n n' more back rose w d g is stands = group_lost who' left old new n n' more back w d g is stands rose
 
     pub power_lost_moves : (free free' free'' : Option (Word → Option Seen)) (n n' n'' : ℕ) (s' : System P) → n ≤ n' → n' ≤ n'' → AreBack (group_holders see (Some j)) free free' → AreBack (holders see (left_by s)) free' free''
         → IsOrdered (slice_cmp nat_cmp) s.volumes → s'.volumes.entries ≡ [] → s'.group ≡ None → AnyOf IsCut (members see j.base)
-        → (w : World) (d : Device) (g : Group) → w.group ≡ Some g → StandOut see free h s w d → MovesOut see (λ f. JoinStep f pair d g) (Lost []) w (seen_before see free h s) n (state free'' n'' s')
+        → (w : World) (d : Device) (g : Group) → w.group ≡ Some g → StandOut see free h s w d → MovesFrom see (λ f. JoinStep f pair d g) (Lost []) w (seen_before see free h s) n (state free'' n'' s')
     power_lost_moves None free' free'' n n' n'' s' more later back closed ordered empty none cut w d g is stands = absurd stands
     power_lost_moves (Some old) None free'' n n' n'' s' more later back closed ordered empty none cut w d g is stands = absurd back
     power_lost_moves (Some old) (Some new) free'' n n' n'' s' more later back closed ordered empty none cut w d g is stands =

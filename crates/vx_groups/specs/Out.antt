@@ -49,21 +49,6 @@ StandOut see (Some devices) h s w device = StandsOut see devices h s w device
 abbrev pub seen_before : {P : Type 0} → (P → Seen) → Option (Word → Option Seen) → Holder → System P → Word → Option Seen
 seen_before see free h s name = seen_at (held_as (h ∷ holders see s) name) free name
 
--- From this world there is a step with this answer to a world that the new state stands for, and what the answer lays
--- to devices and to the shelf is so, by what was seen before.
-pub record MovesOut {P : Type 0} (see : P → Seen) (steps : Failures → World → Answer → World → Type 0) (answer : Answer) (w : World) (before : Word → Option Seen) (faults : ℕ) (new : State P) : Type 0 where
-  pub failures : Failures
-  pub failed : HaveFailed failures before (device_seen see new) faults new.faults
-  pub next : World
-  pub step : steps failures w answer next
-  pub stands : StandsFor see new next
-  pub blame : HasBlame (answer ∷ []) before (device_seen see new) faults new.faults
-
--- the command did nothing, for want of memory
-pub record RestsOut {P : Type 0} (see : P → Seen) (w : World) (before : Word → Option Seen) (faults : ℕ) (new : State P) : Type 0 where
-  pub stands : StandsFor see new w
-  pub blame : HasBlame [] before (device_seen see new) faults new.faults
-
 -- the disk passed all tests: it joins or is refused for its text, or the group is lost
 abbrev pub JoinStep : Failures → DiskAt → Device → Group → World → Answer → World → Type 0
 JoinStep f pair d g old answer new =

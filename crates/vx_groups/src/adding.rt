@@ -5,8 +5,8 @@ ghost use Rattle.vx_world.specs.World.{World, Device};
 ghost use Rattle.vx_world.specs.Groups.{AddStep};
 ghost use Rattle.vx_hold.specs.Kept.{Keeps, HasRoom};
 ghost use Rattle.vx_hold.specs.Stand.{Stand};
-ghost use Rattle.vx_hold.specs.Moves.{Moves, Rests};
-ghost use Rattle.vx_groups.specs.Out.{KeepsOut, StandOut, seen_before, MovesOut, RestsOut};
+ghost use Rattle.vx_hold.specs.Moves.{Moves, Rests, MovesFrom, RestsFrom};
+ghost use Rattle.vx_groups.specs.Out.{KeepsOut, StandOut, seen_before};
 
 use crate::joining::join;
 use crate::judging::judge;
@@ -67,11 +67,11 @@ fn add_found<S: Shelf>(
     ensures room { (n : ℕ) → HasRoom n system.old → HasRoom (n + 1) system.new }
     ensures step { IfOk result (λ answer. (w : World) (d : Device) → StandOut S.P.seen (S.free shelf.old) (record { name = disk.now.device; seen = S.P.seen piece }) system.old w d →
         is_some (header_of (d.contents 0)) ≡ headed →
-        MovesOut S.P.seen (λ f. AddStep f dg.now disk.now) answer w
+        MovesFrom S.P.seen (λ f. AddStep f dg.now disk.now) answer w
         (seen_before S.P.seen (S.free shelf.old) (record { name = disk.now.device; seen = S.P.seen piece }) system.old) (S.faults shelf.old)
         (record { free = S.free shelf.new; faults = S.faults shelf.new; system = system.new })) }
     ensures rests { OnErr result ((w : World) (d : Device) → StandOut S.P.seen (S.free shelf.old) (record { name = disk.now.device; seen = S.P.seen piece }) system.old w d →
-        RestsOut S.P.seen w
+        RestsFrom S.P.seen w
         (seen_before S.P.seen (S.free shelf.old) (record { name = disk.now.device; seen = S.P.seen piece }) system.old) (S.faults shelf.old)
         (record { free = S.free shelf.new; faults = S.faults shelf.new; system = system.new })) }
     ensures later { S.faults shelf.old ≤ S.faults shelf.new }

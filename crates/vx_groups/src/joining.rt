@@ -3,9 +3,10 @@ ghost use Rattle.std.specs.Prelude.{◌≡◌, ◌+◌, ◌<◌, ◌≤◌, ◌^
 ghost use Rattle.vx_header.specs.Named.{header_of};
 ghost use Rattle.vx_shelf.specs.Shelf.{IsWhole, IsOut, IsGiven, ComesToShelf};
 ghost use Rattle.vx_world.specs.World.{World, Device, Group};
+ghost use Rattle.vx_hold.specs.Moves.{MovesFrom, RestsFrom};
 ghost use Rattle.vx_hold.specs.Kept.{Keeps, HasRoom};
 ghost use Rattle.vx_groups.specs.Judged.{PlannedIn};
-ghost use Rattle.vx_groups.specs.Out.{KeepsOut, StandOut, seen_before, MovesOut, RestsOut, JoinStep};
+ghost use Rattle.vx_groups.specs.Out.{KeepsOut, StandOut, seen_before, JoinStep};
 
 use crate::growing::{Grown, grow};
 use crate::judging::Plan;
@@ -33,11 +34,11 @@ pub(crate) fn join<S: Shelf>(
     ensures keeps { Keeps S.P.seen (S.held shelf.new) system.new }
     ensures room { (n : ℕ) → HasRoom n system.old → HasRoom (n + 1) system.new }
     ensures step { IfOk result (λ answer. (w : World) (d : Device) (g : Group) → w.group ≡ Some g → StandOut S.P.seen (S.free shelf.old) (record { name = disk.now.device; seen = S.P.seen piece }) system.old w d →
-        MovesOut S.P.seen (λ f. JoinStep f disk.now d g) answer w
+        MovesFrom S.P.seen (λ f. JoinStep f disk.now d g) answer w
         (seen_before S.P.seen (S.free shelf.old) (record { name = disk.now.device; seen = S.P.seen piece }) system.old) (S.faults shelf.old)
         (record { free = S.free shelf.new; faults = S.faults shelf.new; system = system.new })) }
     ensures rests { OnErr result ((w : World) (d : Device) → StandOut S.P.seen (S.free shelf.old) (record { name = disk.now.device; seen = S.P.seen piece }) system.old w d →
-        RestsOut S.P.seen w
+        RestsFrom S.P.seen w
         (seen_before S.P.seen (S.free shelf.old) (record { name = disk.now.device; seen = S.P.seen piece }) system.old) (S.faults shelf.old)
         (record { free = S.free shelf.new; faults = S.faults shelf.new; system = system.new })) }
     ensures later { S.faults shelf.old ≤ S.faults shelf.new }

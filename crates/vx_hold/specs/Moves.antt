@@ -41,16 +41,24 @@ pub record HaveFailed (f : Failures) (old new : Word → Option Seen) (shelf she
   pub shelfs : f.shelf ≡ true → Rose shelf shelf'
 
 -- From this world there is a step with this answer to a world that the new state stands for, and what the answer lays
--- to devices and to the shelf is so.
-pub record Moves {P : Type 0} (see : P → Seen) (steps : Failures → World → Answer → World → Type 0) (answer : Answer) (w : World) (old new : State P) : Type 0 where
+-- to devices and to the shelf is so, by what was seen before.
+pub record MovesFrom {P : Type 0} (see : P → Seen) (steps : Failures → World → Answer → World → Type 0) (answer : Answer) (w : World) (before : Word → Option Seen) (faults : ℕ) (new : State P) : Type 0 where
   pub failures : Failures
-  pub failed : HaveFailed failures (device_seen see old) (device_seen see new) old.faults new.faults
+  pub failed : HaveFailed failures before (device_seen see new) faults new.faults
   pub next : World
   pub step : steps failures w answer next
   pub stands : StandsFor see new next
-  pub blame : HasBlame (answer ∷ []) (device_seen see old) (device_seen see new) old.faults new.faults
+  pub blame : HasBlame (answer ∷ []) before (device_seen see new) faults new.faults
 
--- The command did nothing, for want of memory: what the old state stood for the new one stands for.
-pub record Rests {P : Type 0} (see : P → Seen) (w : World) (old new : State P) : Type 0 where
+-- the same from an old state
+abbrev pub Moves : {P : Type 0} → (P → Seen) → (Failures → World → Answer → World → Type 0) → Answer → World → State P → State P → Type 0
+Moves see steps answer w old new = MovesFrom see steps answer w (device_seen see old) old.faults new
+
+-- The command did nothing, for want of memory: the new state stands for the world.
+pub record RestsFrom {P : Type 0} (see : P → Seen) (w : World) (before : Word → Option Seen) (faults : ℕ) (new : State P) : Type 0 where
   pub stands : StandsFor see new w
-  pub blame : HasBlame [] (device_seen see old) (device_seen see new) old.faults new.faults
+  pub blame : HasBlame [] before (device_seen see new) faults new.faults
+
+-- the same from an old state
+abbrev pub Rests : {P : Type 0} → (P → Seen) → World → State P → State P → Type 0
+Rests see w old new = RestsFrom see w (device_seen see old) old.faults new

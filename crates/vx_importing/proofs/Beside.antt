@@ -10,6 +10,7 @@ use Rattle.vx_piece.specs.Seen.{Seen}
 use Rattle.vx_shelf.specs.Shelf.{Held}
 use Rattle.vx_world.specs.Images.{IsDeviceOf}
 use Rattle.vx_world.specs.World.{World}
+use Rattle.vx_hold.specs.Moves.{RestsFrom}
 use Rattle.vx_hold.specs.Closing.{AreBack}
 use Rattle.vx_hold.specs.Holders.{Holder, holders, held_as, IsTakenFrom, AreApart, AreHeld}
 use Rattle.vx_hold.specs.Kept.{IsGroupKept, Keeps}
@@ -22,7 +23,7 @@ use Rattle.vx_copies.specs.Lists.{AllOf}
 use Rattle.vx_hold.proofs.Blamed.{later_same, none_told}
 use Rattle.vx_importing.specs.Finds.{Find, holders_of}
 use Rattle.vx_importing.specs.Importing.{CutsFinds}
-use Rattle.vx_importing.specs.Committing.{KeepsFinds, StandsFinds, StandFinds, seen_finds, RestsFinds}
+use Rattle.vx_importing.specs.Committing.{KeepsFinds, StandsFinds, StandFinds, seen_finds}
 
 abbrev pub state : {P : Type 0} → Option (Word → Option Seen) → ℕ → System P → State P
 state free faults s = record { free = free; faults = faults; system = s }
@@ -89,7 +90,7 @@ module _ {P : Type 0} (see : P → Seen) (s : System P) (fs : List Find) where
       }
 
   -- nothing was done, and all that was found is back
-  pub back_rests : (old new : Option (Word → Option Seen)) (faults faults' : ℕ) (w : World) → faults ≤ faults' → AreBack (holders_of fs) old new → StandFinds see old fs s w → RestsFinds see w (seen_finds see old fs s) faults (state new faults' s)
+  pub back_rests : (old new : Option (Word → Option Seen)) (faults faults' : ℕ) (w : World) → faults ≤ faults' → AreBack (holders_of fs) old new → StandFinds see old fs s w → RestsFrom see w (seen_finds see old fs s) faults (state new faults' s)
   back_rests None new faults faults' w more back stands = absurd stands
   back_rests (Some old) None faults faults' w more back stands = absurd back
   back_rests (Some old) (Some new) faults faults' w more back stands = record {

@@ -29,7 +29,7 @@ use Rattle.vx_world.specs.Import.{Candidate, good_ones, members_of, IsImported, 
 use Rattle.vx_hold.specs.Holders.{Holder, holders, held_as, disk_holders, volume_holder, AreApart}
 use Rattle.vx_hold.specs.Stand.{StandWith, IsAtGroup, seen_at, device_seen, AreMembersOf}
 use Rattle.vx_hold.specs.Closing.{AreBack}
-use Rattle.vx_hold.specs.Moves.{HaveFailed, cut_in}
+use Rattle.vx_hold.specs.Moves.{HaveFailed, cut_in, MovesFrom, RestsFrom}
 use Rattle.vx_hold.specs.declared.system.System.{System}
 use Rattle.vx_hold.specs.declared.system.Imported.{Imported}
 use Rattle.vx_hold.proofs.Held.{IsLater}
@@ -40,7 +40,7 @@ use Rattle.vx_hold.proofs.Blamed.{AreLater, later_later, later_same, silent, los
 use Rattle.vx_importing.specs.Finds.{Find, holders_of, seen_with, candidates_of, IsOfGroup}
 use Rattle.vx_importing.specs.Sorting.{good_finds, other_finds, names_of, disk_in, disks_in, chosen_seen, chosen_holders}
 use Rattle.vx_importing.specs.Ending.{group_of, EndsBy, IsTakenIn, IsTurnedAway, IsClosed}
-use Rattle.vx_importing.specs.Committing.{KeepsFinds, StandsFinds, StandFinds, seen_finds, MovesFinds, RestsFinds, offer_of, CommitStep}
+use Rattle.vx_importing.specs.Committing.{KeepsFinds, StandsFinds, StandFinds, seen_finds, offer_of, CommitStep}
 use Rattle.vx_importing.specs.declared.sorting.Chosen.{Chosen}
 use Rattle.vx_importing.proofs.Beside.{state, seen_behind, seen_over, apart_behind}
 use Rattle.vx_importing.proofs.Sorted.{apart_filtered}
@@ -165,7 +165,7 @@ module _ {P : Type 0} (see : P → Seen) (dg : Word) (given : Given) (fs : List 
       standing : StandWith see d2 s W
       standing = stands_back see given.good fs s who keeps.devices d0 d1 w stands back After goes tell d2 given_back
 
-      pub lost_moves : (n n' : ℕ) → n ≤ n' → Each HasRisen (chosen_seen see c) (members see base) → MovesFinds see Steps answer.GroupLost w Before n (state (Some d2) n' s)
+      pub lost_moves : (n n' : ℕ) → n ≤ n' → Each HasRisen (chosen_seen see c) (members see base) → MovesFrom see Steps answer.GroupLost w Before n (state (Some d2) n' s)
       lost_moves n n' more rose = record {
         failures = F;
         failed = have_failed (device_seen see (state (Some d2) n' s)) n n' (seen_now n');
@@ -183,7 +183,7 @@ module _ {P : Type 0} (see : P → Seen) (dg : Word) (given : Given) (fs : List 
         blame = silent Before (device_seen see (state (Some d2) n' s)) n n' (later_later Before N (device_seen see (state (Some d2) n' s)) went (later_same N (device_seen see (state (Some d2) n' s)) (seen_now n'))) more answer.GroupLost tt;
       }
 
-      pub cut_moves : (n n' : ℕ) → n ≤ n' → AnyOf IsCut (members see base) → (s' : System P) (free' : Option (Word → Option Seen)) → IsClosed see s s' (Some d2) free' → MovesFinds see Steps (answer.Lost []) w Before n (state free' n' s')
+      pub cut_moves : (n n' : ℕ) → n ≤ n' → AnyOf IsCut (members see base) → (s' : System P) (free' : Option (Word → Option Seen)) → IsClosed see s s' (Some d2) free' → MovesFrom see Steps (answer.Lost []) w Before n (state free' n' s')
       cut_moves n n' more cut s' free' closed =
           let ends = closes see closed.who (Some d2) free' n' n' s s' W standing closed.kept closed.ordered closed.back closed.volumes closed.group in
           let one = cut_among see (given.sequence + 1) base.sequence text c.devices.items es After (long ∙ sym (go_long see (given.sequence + 1) base.sequence text c.disks.items es committed.goes)) cut held_after in
@@ -231,7 +231,7 @@ module _ {P : Type 0} (see : P → Seen) (dg : Word) (given : Given) (fs : List 
         world = refl;
       }
 
-      pub done_moves : (n n' : ℕ) → n ≤ n' → MovesFinds see Steps (answer.Done [] []) w Before n (state (Some d1) n' new_system)
+      pub done_moves : (n n' : ℕ) → n ≤ n' → MovesFrom see Steps (answer.Done [] []) w Before n (state (Some d1) n' new_system)
       done_moves n n' more = record {
         failures = F;
         failed = have_failed (device_seen see (state (Some d1) n' new_system)) n n' (seen_new n');
@@ -242,7 +242,7 @@ module _ {P : Type 0} (see : P → Seen) (dg : Word) (given : Given) (fs : List 
       }
 
   -- nothing was written, and the disks are back
-  pub unwritten_rests : (d2 : Word → Option Seen) (n n' : ℕ) → n ≤ n' → AreBack (chosen_holders see c) (Some d1) (Some d2) → RestsFinds see w Before n (state (Some d2) n' s)
+  pub unwritten_rests : (d2 : Word → Option Seen) (n n' : ℕ) → n ≤ n' → AreBack (chosen_holders see c) (Some d1) (Some d2) → RestsFrom see w Before n (state (Some d2) n' s)
   unwritten_rests d2 n n' more given_back =
       let first : (name : Word) → d2 name ≡ seen_with fs d0 name =
       λ name. given_back name ∙ ap (λ hs. seen_at (held_as hs name) (Some d1) name) chosen_is ∙ still see given.good fs s who keeps.devices d0 d1 w stands back (holders_of goods) (later_refl (holders_of goods)) refl name in
@@ -262,10 +262,10 @@ module _ {P : Type 0} (E : Type 0) (see : P → Seen) (dg : Word) (given : Given
     (each : AllOf (IsOfGroup dg) fs) (names : c.devices.items ≡ names_of (good_finds given.good fs)) (disks : chosen_seen see c ≡ disks_in (good_finds given.good fs)) (long : length c.devices.items ≡ length c.disks.items) (named : config.group ≡ dg) (printed : IsTextOf config text)
     (s' : System P) (n n' : ℕ) (more : n ≤ n') where
   abbrev pub MovesTo : Option (Word → Option Seen) → Option (Word → Option Seen) → World → Answer → Type 0
-  MovesTo free free' w a = MovesFinds see (λ f. CommitStep f (offer_of given) (candidates_of fs) config) a w (seen_finds see free fs s) n (state free' n' s')
+  MovesTo free free' w a = MovesFrom see (λ f. CommitStep f (offer_of given) (candidates_of fs) config) a w (seen_finds see free fs s) n (state free' n' s')
 
   abbrev pub RestsTo : Option (Word → Option Seen) → Option (Word → Option Seen) → World → Type 0
-  RestsTo free free' w = RestsFinds see w (seen_finds see free fs s) n (state free' n' s')
+  RestsTo free free' w = RestsFrom see w (seen_finds see free fs s) n (state free' n' s')
 
   module _ (d0 d1 : Word → Option Seen) (back : AreBack (holders_of (other_finds given.good fs)) (Some d0) (Some d1)) (w : World) (stands : StandsFinds see d0 fs s w) (free' : Option (Word → Option Seen)) where
     taken_moves : (a : Answer) → IsTakenIn see dg given c config text (let r : Result Answer E = Ok a in r) s s' (Some d1) free' → MovesTo (Some d0) free' w a
@@ -273,8 +273,8 @@ module _ {P : Type 0} (E : Type 0) (see : P → Seen) (dg : Word) (given : Given
         let here = is.told in
         let told : answer.Done [] [] ≡ a = cc in
         subst (MovesTo (Some d0) free' w) told
-        (subst (λ x. MovesFinds see (λ f. CommitStep f (offer_of given) (candidates_of fs) config) (answer.Done [] []) w (seen_finds see (Some d0) fs s) n (state x n' s')) (sym is.free_is)
-        (subst (λ x. MovesFinds see (λ f. CommitStep f (offer_of given) (candidates_of fs) config) (answer.Done [] []) w (seen_finds see (Some d0) fs s) n (state (Some d1) n' x)) (sym is.system_is)
+        (subst (λ x. MovesFrom see (λ f. CommitStep f (offer_of given) (candidates_of fs) config) (answer.Done [] []) w (seen_finds see (Some d0) fs s) n (state x n' s')) (sym is.free_is)
+        (subst (λ x. MovesFrom see (λ f. CommitStep f (offer_of given) (candidates_of fs) config) (answer.Done [] []) w (seen_finds see (Some d0) fs s) n (state (Some d1) n' x)) (sym is.system_is)
         (done_moves see dg given fs c config text s who keeps each names disks long named printed d0 d1 back w stands is.base is.gives.0 is.gives.1 n n' more)))
 
     away_moves : (f : GroupFault) (base : Base P) (a : Answer) (d2 : Word → Option Seen) → CommitGives see (Err f) text (group_of dg given c) base → AreBack (disk_holders see c.devices.items base.disks.items) (Some d1) (Some d2) → EndsBy see f (let r : Result Answer E = Ok a in r) s s' (Some d2) free' → MovesTo (Some d0) free' w a
@@ -283,8 +283,8 @@ module _ {P : Type 0} (E : Type 0) (see : P → Seen) (dg : Word) (given : Given
     away_moves fault.GroupLost base a d2 (inl gives) given_back ends = let e = gives.0 in cc
     away_moves fault.GroupLost base a d2 (inr gives) given_back ends =
         subst (MovesTo (Some d0) free' w) (sym ends.0)
-        (subst (λ x. MovesFinds see (λ f. CommitStep f (offer_of given) (candidates_of fs) config) answer.GroupLost w (seen_finds see (Some d0) fs s) n (state x n' s')) (sym ends.2)
-        (subst (λ x. MovesFinds see (λ f. CommitStep f (offer_of given) (candidates_of fs) config) answer.GroupLost w (seen_finds see (Some d0) fs s) n (state (Some d2) n' x)) (sym ends.1)
+        (subst (λ x. MovesFrom see (λ f. CommitStep f (offer_of given) (candidates_of fs) config) answer.GroupLost w (seen_finds see (Some d0) fs s) n (state x n' s')) (sym ends.2)
+        (subst (λ x. MovesFrom see (λ f. CommitStep f (offer_of given) (candidates_of fs) config) answer.GroupLost w (seen_finds see (Some d0) fs s) n (state (Some d2) n' x)) (sym ends.1)
         (lost_moves see dg given fs c config text s who keeps each names disks long named printed d0 d1 back w stands base gives.0 d2 given_back n n' more gives.2)))
     away_moves fault.PowerLost base a d2 (inl gives) given_back ends = let e = gives.0 in cc
     away_moves fault.PowerLost base a d2 (inr gives) given_back ends =
@@ -293,7 +293,7 @@ module _ {P : Type 0} (E : Type 0) (see : P → Seen) (dg : Word) (given : Given
 
     rests_as : (d2 : Word → Option Seen) → (s' ≡ s) × (free' ≡ Some d2) → AreBack (chosen_holders see c) (Some d1) (Some d2) → RestsTo (Some d0) free' w
     rests_as d2 same given_back =
-        subst (λ x. RestsFinds see w (seen_finds see (Some d0) fs s) n (state x n' s')) (sym same.1) (subst (λ x. RestsFinds see w (seen_finds see (Some d0) fs s) n (state (Some d2) n' x)) (sym same.0)
+        subst (λ x. RestsFrom see w (seen_finds see (Some d0) fs s) n (state x n' s')) (sym same.1) (subst (λ x. RestsFrom see w (seen_finds see (Some d0) fs s) n (state (Some d2) n' x)) (sym same.0)
         (unwritten_rests see dg given fs c config text s who keeps each names disks long named printed d0 d1 back w stands d2 n n' more given_back))
 
     away_rests : (f : GroupFault) (base : Base P) (e : E) (d2 : Word → Option Seen) → CommitGives see (Err f) text (group_of dg given c) base → AreBack (disk_holders see c.devices.items base.disks.items) (Some d1) (Some d2) → EndsBy see f (let r : Result Answer E = Err e in r) s s' (Some d2) free' → RestsTo (Some d0) free' w

@@ -29,14 +29,14 @@ use Rattle.vx_world.specs.Import.{Imports, IsImport, ImportStep}
 use Rattle.vx_world.specs.World.{World, Volume, Group, IsRefused}
 use Rattle.vx_hold.specs.Closing.{AreBack}
 use Rattle.vx_hold.specs.Holders.{volume_at, holders}
-use Rattle.vx_hold.specs.Moves.{Moves, Rests, faults_in, cut_in}
+use Rattle.vx_hold.specs.Moves.{Moves, Rests, faults_in, cut_in, MovesFrom}
 use Rattle.vx_hold.specs.Stand.{State, StandWith, IsAtVolume, device_seen}
 use Rattle.vx_hold.specs.declared.system.System.{System}
 use Rattle.vx_hold.proofs.Blamed.{AreLater, later_same, later_later, later_blame, none_told, silent, lost_cut}
 use Rattle.vx_hold.proofs.Looked.{not_held_by}
 use Rattle.vx_importing.specs.Places.{ArePlaced}
 use Rattle.vx_importing.specs.Finds.{Find, holders_of, looks_of, candidates_of, IsOfGroup, SomeCut}
-use Rattle.vx_importing.specs.Committing.{KeepsFinds, MovesFinds, offer_of, IsReadied, CommitStep}
+use Rattle.vx_importing.specs.Committing.{KeepsFinds, offer_of, IsReadied, CommitStep}
 use Rattle.vx_importing.specs.Importing.{Past, IsSince, AllPassed, start, CutsFinds, RefusalIs}
 use Rattle.vx_importing.specs.Judging.{stray_in, is_started, started_in, SizeJudged, CommitJudged, ConfigJudged, TextJudged}
 use Rattle.vx_importing.specs.declared.judging.Judged.{Judged}
@@ -196,7 +196,7 @@ module _ {P : Type 0} (see : P → Seen) (dg : Word) (p : Past) (s : System P) (
         (text_link f dg (offer_of given) (candidates_of fs) w (Refused r) w (is_started s.volumes) starts (judged.Refused r) text (record { told = refl; same = refl })))
 
     -- it is committed
-    module _ (answer : Answer) (new : State P) (after : Config) (moves : MovesFinds see (λ f. CommitStep f (offer_of given) (candidates_of fs) after) answer w mid shelf new) (more : shelf ≤ new.faults) where
+    module _ (answer : Answer) (new : State P) (after : Config) (moves : MovesFrom see (λ f. CommitStep f (offer_of given) (candidates_of fs) after) answer w mid shelf new) (more : shelf ≤ new.faults) where
       commit_on : (name : Word) (n : ℕ) → Rose n (faults_in (mid name)) → Rose n (faults_in (device_seen see new name))
       commit_on name n rose = let c = moves.blame.counts name in rose_on n c.own (faults_in (mid name)) (faults_in (device_seen see new name)) rose c.device_rose
 

@@ -20,14 +20,14 @@ use Rattle.vx_world.specs.Failures.{Failures}
 use Rattle.vx_world.specs.Import.{Imports, ImportStep}
 use Rattle.vx_world.specs.World.{World}
 use Rattle.vx_hold.specs.Closing.{AreBack}
-use Rattle.vx_hold.specs.Moves.{Moves}
+use Rattle.vx_hold.specs.Moves.{Moves, MovesFrom, RestsFrom}
 use Rattle.vx_hold.specs.Stand.{State, StandWith, device_seen}
 use Rattle.vx_hold.specs.declared.system.System.{System}
 use Rattle.vx_hold.proofs.Blamed.{later_blame}
 use Rattle.vx_importing.specs.Places.{ArePlaced}
 use Rattle.vx_importing.specs.Finds.{Find, finds_in, holders_of, looks_of, candidates_of, Stays, IsFind, IsOfGroup, AreLooked}
 use Rattle.vx_importing.specs.declared.finds.Finds.{Finds}
-use Rattle.vx_importing.specs.Committing.{KeepsFinds, StandFinds, seen_finds, MovesFinds, RestsFinds, offer_of, IsReadied, CommitStep}
+use Rattle.vx_importing.specs.Committing.{KeepsFinds, StandFinds, seen_finds, offer_of, IsReadied, CommitStep}
 use Rattle.vx_importing.specs.Importing.{Past, IsSince, AllPassed, start, ImportsSince, RestsSince, CutsFinds, IsInspected, RefusalIs}
 use Rattle.vx_importing.specs.Judging.{labels_of, is_started, TextJudged}
 use Rattle.vx_importing.specs.declared.judging.Judged.{Judged}
@@ -47,7 +47,7 @@ module _ {P : Type 0} (see : P → Seen) (dg : Word) (s : System P) (fs : List F
   rests_since (Some now) (Some back) shelf' are more = λ p since w stand. rested see dg p s fs now shelf held since.0 keeps w stand back shelf' are more
 
   -- the commit did nothing for want of memory
-  pub commit_rests : (free : Option (Word → Option Seen)) (new : State P) → ((w : World) → StandFinds see free fs s w → RestsFinds see w (seen_finds see free fs s) shelf new) → RestsSince see dg fs free shelf s new
+  pub commit_rests : (free : Option (Word → Option Seen)) (new : State P) → ((w : World) → StandFinds see free fs s w → RestsFrom see w (seen_finds see free fs s) shelf new) → RestsSince see dg fs free shelf s new
   commit_rests None new rests = λ p since w stand. absurd since
   commit_rests (Some now) new rests = λ p since w stand.
       let r = rests w (stands_now see dg p s fs now shelf held since.0 keeps w stand) in record {
@@ -77,7 +77,7 @@ module _ {P : Type 0} (see : P → Seen) (dg : Word) (s : System P) (fs : List F
       judged_since (Some now) (Some back) shelf' are more r text = λ p since w stand. judged_refused see dg p s fs now shelf held since.0 keeps w stand since.1 each placed given is back shelf' are more r text
 
       -- the text is committed
-      pub committed_since : (free : Option (Word → Option Seen)) (answer : Answer) (new : State P) (after : Config) → ((w : World) → StandFinds see free fs s w → MovesFinds see (λ f. CommitStep f (offer_of given) (candidates_of fs) after) answer w (seen_finds see free fs s) shelf new) → shelf ≤ new.faults → (t : Vec ℕ Global) → TextJudged dg (text_of given.text) given.good (labels_in (candidates_of fs)) (is_started s.volumes) (judged.Ready after t) → ImportsSince see dg fs free shelf s answer new
+      pub committed_since : (free : Option (Word → Option Seen)) (answer : Answer) (new : State P) (after : Config) → ((w : World) → StandFinds see free fs s w → MovesFrom see (λ f. CommitStep f (offer_of given) (candidates_of fs) after) answer w (seen_finds see free fs s) shelf new) → shelf ≤ new.faults → (t : Vec ℕ Global) → TextJudged dg (text_of given.text) given.good (labels_in (candidates_of fs)) (is_started s.volumes) (judged.Ready after t) → ImportsSince see dg fs free shelf s answer new
       committed_since None answer new after moves more t text = λ p since w stand. absurd since
       committed_since (Some now) answer new after moves more t text = λ p since w stand. committed see dg p s fs now shelf held since.0 keeps w stand since.1 each placed given is answer new after (moves w (stands_now see dg p s fs now shelf held since.0 keeps w stand)) more t text
 

@@ -49,21 +49,6 @@ StandFinds see (Some devices) fs s w = StandsFinds see devices fs s w
 abbrev pub seen_finds : {P : Type 0} → (P → Seen) → Option (Word → Option Seen) → List Find → System P → Word → Option Seen
 seen_finds see free fs s name = seen_at (held_as (holders see s ++ holders_of fs) name) free name
 
--- From this world there is a step with this answer to a world that the new state stands for, and what the answer lays
--- to devices and to the shelf is so, by what was seen before.
-pub record MovesFinds {P : Type 0} (see : P → Seen) (steps : Failures → World → Answer → World → Type 0) (answer : Answer) (w : World) (before : Word → Option Seen) (faults : ℕ) (new : State P) : Type 0 where
-  pub failures : Failures
-  pub failed : HaveFailed failures before (device_seen see new) faults new.faults
-  pub next : World
-  pub step : steps failures w answer next
-  pub stands : StandsFor see new next
-  pub blame : HasBlame (answer ∷ []) before (device_seen see new) faults new.faults
-
--- nothing was done, for want of memory
-pub record RestsFinds {P : Type 0} (see : P → Seen) (w : World) (before : Word → Option Seen) (faults : ℕ) (new : State P) : Type 0 where
-  pub stands : StandsFor see new w
-  pub blame : HasBlame [] before (device_seen see new) faults new.faults
-
 -- the offer that was taken
 abbrev pub offer_of : Given → Offer
 offer_of g = record { sequence = g.sequence; good = g.good; text = text_of g.text }

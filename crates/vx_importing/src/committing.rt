@@ -6,13 +6,14 @@ ghost use Rattle.vx_world.specs.Back.{IsTextOf};
 ghost use Rattle.vx_import.specs.Looks.{looked};
 ghost use Rattle.vx_import.specs.Answers.{IsGiven};
 ghost use Rattle.vx_bare.specs.declared.started.Started.{Started};
+ghost use Rattle.vx_hold.specs.Moves.{MovesFrom, RestsFrom};
 ghost use Rattle.vx_hold.specs.Holders.{holders, volume_at, AreHeld};
 ghost use Rattle.vx_hold.specs.Kept.{Keeps, IsVolumeKept, HasRoom};
 ghost use Rattle.vx_importing.specs.Finds.{finds_in, candidates_of, AreLooked};
 ghost use Rattle.vx_importing.specs.Judging.{labels_of};
 ghost use Rattle.vx_importing.specs.Sorting.{chosen_holders};
 ghost use Rattle.vx_importing.specs.Ending.{AreCommittable, IsShort, EndsBy, IsTakenIn, IsTurnedAway};
-ghost use Rattle.vx_importing.specs.Committing.{KeepsFinds, StandFinds, seen_finds, MovesFinds, RestsFinds, offer_of, IsReadied, CommitStep};
+ghost use Rattle.vx_importing.specs.Committing.{KeepsFinds, StandFinds, seen_finds, offer_of, IsReadied, CommitStep};
 
 use crate::finds::Finds;
 use crate::giving::give_finds;
@@ -46,11 +47,11 @@ pub(crate) fn commit_given<S: Shelf>(
     ensures keeps { Keeps S.P.seen (S.held shelf.new) system.new }
     ensures room { (n : ℕ) → HasRoom n system.old → HasRoom (n + 1) system.new }
     ensures step { IfOk result (λ answer. (w : World) → StandFinds S.P.seen (S.free shelf.old) (finds_in S.P.seen finds) system.old w →
-        MovesFinds S.P.seen (λ f. CommitStep f (offer_of given) (candidates_of (finds_in S.P.seen finds)) config) answer w
+        MovesFrom S.P.seen (λ f. CommitStep f (offer_of given) (candidates_of (finds_in S.P.seen finds)) config) answer w
         (seen_finds S.P.seen (S.free shelf.old) (finds_in S.P.seen finds) system.old) (S.faults shelf.old)
         (record { free = S.free shelf.new; faults = S.faults shelf.new; system = system.new })) }
     ensures rests { OnErr result ((w : World) → StandFinds S.P.seen (S.free shelf.old) (finds_in S.P.seen finds) system.old w →
-        RestsFinds S.P.seen w
+        RestsFrom S.P.seen w
         (seen_finds S.P.seen (S.free shelf.old) (finds_in S.P.seen finds) system.old) (S.faults shelf.old)
         (record { free = S.free shelf.new; faults = S.faults shelf.new; system = system.new })) }
     ensures later { S.faults shelf.old ≤ S.faults shelf.new }

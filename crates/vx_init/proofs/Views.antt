@@ -10,7 +10,7 @@ use Rattle.vx_piece.specs.Seen.{Seen, Keeps, IsRead}
 use Rattle.vx_copies.specs.Lists.{AllOf}
 use Rattle.vx_copies.proofs.Going.{keeps_trans, keeps_refl}
 use Rattle.vx_shelf.specs.Shelf.{Held, LeavesShelf}
-use Rattle.vx_devices.specs.Claims.{IsOnlyRead, AreOnlyRead}
+use Rattle.vx_devices.specs.Claims.{IsOnlyRead, AreOnlyRead, HasRisen}
 use Rattle.vx_hold.specs.Holders.{Holder, held_as}
 use Rattle.vx_hold.specs.Closing.{AreBack}
 use Rattle.vx_hold.specs.Looks.{LeavesRead}
@@ -19,7 +19,7 @@ use Rattle.vx_hold.specs.Stand.{seen_at}
 use Rattle.vx_init.specs.declared.stop.Stop.{Stop}
 use Rattle.vx_init.specs.declared.stop.Stop.TheVariants as stop
 use Rattle.vx_init.specs.Gathered.{IsSeenWith, SeenWith, ComesRead, IsShown}
-use Rattle.vx_init.specs.Stops.{Shows, HasCause, HasRisen, sight}
+use Rattle.vx_init.specs.Stops.{Shows, HasCause, sight}
 
 pub on_err : {T E : Type 0} (r : Result T E) (P : E → Type 0) (Q : Type 0) → ((e : E) → P e → Q) → IfErr r P → OnErr r Q
 on_err (Ok x) P Q f h = tt

@@ -1,12 +1,13 @@
 use Rattle.std.proofs.Common.{◌≡◌, ◌+◌, Some, sym, ◌∙◌, subst}
 use Rattle.vx_world.specs.declared.answer.Answer.TheVariants.{Refused, GroupLost}
 use Rattle.vx_world.specs.declared.answer.Refusal.TheVariants.{TooLong}
+use Rattle.vx_hold.specs.Moves.{MovesFrom, RestsFrom}
 use Rattle.vx_hold.specs.Closing.{AreBack}
 use Rattle.vx_hold.specs.Holders.{holders, AreHeld}
 use Rattle.vx_hold.specs.Kept.{Keeps, HasRoom}
 use Rattle.vx_hold.proofs.Closed.{state}
 use Rattle.vx_groups.specs.Judged.{PlannedIn}
-use Rattle.vx_groups.specs.Out.{seen_before, MovesOut, RestsOut, JoinStep}
+use Rattle.vx_groups.specs.Out.{seen_before, JoinStep}
 use Rattle.vx_groups.proofs.Deported.{left_room}
 use Rattle.vx_groups.proofs.Still.{back_kept, still_room, too_long_moves, out_of_memory}
 use Rattle.vx_groups.proofs.Added.{too_long_in, joined_keeps, joined_room, joined_moves}
@@ -113,7 +114,7 @@ returns-in-Joined-clause-step g c =
     let who = g.S.Shelf.held c.args.shelf.now in
     let planned : PlannedIn c.args.disk.now (see c.args.piece).sectors (Some i) c.args.plan = subst (λ o. PlannedIn c.args.disk.now (see c.args.piece).sectors o c.args.plan) was c.requires.plan in
     λ w d group is stands.
-    subst (λ x. MovesOut see (λ f. JoinStep f c.args.disk.now d group) x w (seen_before see (g.S.Shelf.free c.args.shelf.now) (record { name = c.args.disk.now.device; seen = see c.args.piece }) s) (g.S.Shelf.faults c.args.shelf.now) (state (g.S.Shelf.free c.args.shelf.now) (g.S.Shelf.faults c.args.shelf.now) (record { volumes = s.volumes; group = Some c.in-Joined.group }))) (sym c.done.ensures)
+    subst (λ x. MovesFrom see (λ f. JoinStep f c.args.disk.now d group) x w (seen_before see (g.S.Shelf.free c.args.shelf.now) (record { name = c.args.disk.now.device; seen = see c.args.piece }) s) (g.S.Shelf.faults c.args.shelf.now) (state (g.S.Shelf.free c.args.shelf.now) (g.S.Shelf.faults c.args.shelf.now) (record { volumes = s.volumes; group = Some c.in-Joined.group }))) (sym c.done.ensures)
     (joined_moves see s i was c.args.disk.now c.args.piece c.args.plan who c.requires.keeps planned.0 planned.1 c.in-Joined.group c.in-Joined.ensures.0 c.in-Joined.ensures.1 (g.S.Shelf.free c.args.shelf.now) (g.S.Shelf.faults c.args.shelf.now) w d group is stands)
 
 pub returns-in-TooLong-clause-keeps : goal.returns-in-TooLong-clause-keeps
@@ -145,7 +146,7 @@ returns-in-TooLong-clause-step g c =
     let who = g.S.Shelf.held c.args.shelf.now in
     let planned : PlannedIn c.args.disk.now (see c.args.piece).sectors (Some i) c.args.plan = subst (λ o. PlannedIn c.args.disk.now (see c.args.piece).sectors o c.args.plan) was c.requires.plan in
     λ w d group is stands.
-    subst (λ x. MovesOut see (λ f. JoinStep f c.args.disk.now d group) (Refused (TooLong c.in-TooLong.bytes)) w (seen_before see (g.S.Shelf.free c.args.shelf.now) (record { name = c.args.disk.now.device; seen = see c.args.piece }) s) (g.S.Shelf.faults c.args.shelf.now) (state (g.S.Shelf.free c.put_back.new.shelf) (g.S.Shelf.faults c.put_back.new.shelf) x)) (sym c.put_back.ensures.system)
+    subst (λ x. MovesFrom see (λ f. JoinStep f c.args.disk.now d group) (Refused (TooLong c.in-TooLong.bytes)) w (seen_before see (g.S.Shelf.free c.args.shelf.now) (record { name = c.args.disk.now.device; seen = see c.args.piece }) s) (g.S.Shelf.faults c.args.shelf.now) (state (g.S.Shelf.free c.put_back.new.shelf) (g.S.Shelf.faults c.put_back.new.shelf) x)) (sym c.put_back.ensures.system)
     (too_long_moves see s i c.in-TooLong.group was c.in-TooLong.ensures.3 c.args.disk.now c.args.piece who (g.S.Shelf.held c.put_back.new.shelf) c.requires.keeps c.put_back.ensures.given (g.S.Shelf.free c.args.shelf.now) (g.S.Shelf.free c.put_back.new.shelf) (g.S.Shelf.faults c.args.shelf.now) (g.S.Shelf.faults c.put_back.new.shelf) c.put_back.ensures.later (rw c.in-TooLong.ensures.2 at c.put_back.ensures.back) w d group stands c.in-TooLong.bytes
     (too_long_in see s i was c.args.disk.now c.args.piece c.args.plan who c.requires.keeps planned.0 planned.1 (g.S.Shelf.free c.args.shelf.now) w d group is stands c.in-TooLong.bytes c.in-TooLong.ensures.0 c.in-TooLong.ensures.1))
 
@@ -178,7 +179,7 @@ returns-in-OutOfMemory-clause-rests g c =
     let who = g.S.Shelf.held c.args.shelf.now in
     let planned : PlannedIn c.args.disk.now (see c.args.piece).sectors (Some i) c.args.plan = subst (λ o. PlannedIn c.args.disk.now (see c.args.piece).sectors o c.args.plan) was c.requires.plan in
     λ w d stands.
-    subst (λ x. RestsOut see w (seen_before see (g.S.Shelf.free c.args.shelf.now) (record { name = c.args.disk.now.device; seen = see c.args.piece }) s) (g.S.Shelf.faults c.args.shelf.now) (state (g.S.Shelf.free c.put_back-in-OutOfMemory.new.shelf) (g.S.Shelf.faults c.put_back-in-OutOfMemory.new.shelf) x)) (sym c.put_back-in-OutOfMemory.ensures.system)
+    subst (λ x. RestsFrom see w (seen_before see (g.S.Shelf.free c.args.shelf.now) (record { name = c.args.disk.now.device; seen = see c.args.piece }) s) (g.S.Shelf.faults c.args.shelf.now) (state (g.S.Shelf.free c.put_back-in-OutOfMemory.new.shelf) (g.S.Shelf.faults c.put_back-in-OutOfMemory.new.shelf) x)) (sym c.put_back-in-OutOfMemory.ensures.system)
     (out_of_memory see s i c.in-OutOfMemory.group was c.in-OutOfMemory.ensures.1 c.args.disk.now c.args.piece who (g.S.Shelf.held c.put_back-in-OutOfMemory.new.shelf) c.requires.keeps c.put_back-in-OutOfMemory.ensures.given (g.S.Shelf.free c.args.shelf.now) (g.S.Shelf.free c.put_back-in-OutOfMemory.new.shelf) (g.S.Shelf.faults c.args.shelf.now) (g.S.Shelf.faults c.put_back-in-OutOfMemory.new.shelf) c.put_back-in-OutOfMemory.ensures.later (rw c.in-OutOfMemory.ensures.0 at c.put_back-in-OutOfMemory.ensures.back) w d stands)
 
 pub returns-in-GroupLost-clause-keeps : goal.returns-in-GroupLost-clause-keeps
@@ -210,7 +211,7 @@ returns-in-GroupLost-clause-step g c =
     let who = g.S.Shelf.held c.args.shelf.now in
     let planned : PlannedIn c.args.disk.now (see c.args.piece).sectors (Some i) c.args.plan = subst (λ o. PlannedIn c.args.disk.now (see c.args.piece).sectors o c.args.plan) was c.requires.plan in
     λ w d group is stands.
-    subst (λ o. MovesOut see (λ f. JoinStep f c.args.disk.now d group) GroupLost w (seen_before see (g.S.Shelf.free c.args.shelf.now) (record { name = c.args.disk.now.device; seen = see c.args.piece }) s) (g.S.Shelf.faults c.args.shelf.now) (state (g.S.Shelf.free c.give_group.new.shelf) (g.S.Shelf.faults c.give_group.new.shelf) (record { volumes = s.volumes; group = o }))) (sym c.take.ensures.after)
+    subst (λ o. MovesFrom see (λ f. JoinStep f c.args.disk.now d group) GroupLost w (seen_before see (g.S.Shelf.free c.args.shelf.now) (record { name = c.args.disk.now.device; seen = see c.args.piece }) s) (g.S.Shelf.faults c.args.shelf.now) (state (g.S.Shelf.free c.give_group.new.shelf) (g.S.Shelf.faults c.give_group.new.shelf) (record { volumes = s.volumes; group = o }))) (sym c.take.ensures.after)
     (group_lost_moves see s i c.in-GroupLost.group was c.args.disk.now c.args.piece c.args.plan who c.requires.keeps planned.0 planned.1 c.in-GroupLost.ensures.devices c.in-GroupLost.ensures.taken.0 (g.S.Shelf.held c.give_group.new.shelf) c.give_group.ensures.left (g.S.Shelf.free c.args.shelf.now) (g.S.Shelf.free c.give_group.new.shelf) (g.S.Shelf.faults c.args.shelf.now) (g.S.Shelf.faults c.give_group.new.shelf) c.give_group.ensures.later c.give_group.ensures.back c.in-GroupLost.ensures.taken.2 w d group is stands)
 
 pub returns-in-PowerLost-clause-step : goal.returns-in-PowerLost-clause-step
@@ -222,6 +223,6 @@ returns-in-PowerLost-clause-step g c =
     let who = g.S.Shelf.held c.args.shelf.now in
     let planned : PlannedIn c.args.disk.now (see c.args.piece).sectors (Some i) c.args.plan = subst (λ o. PlannedIn c.args.disk.now (see c.args.piece).sectors o c.args.plan) was c.requires.plan in
     λ w d group is stands.
-    subst (λ x. MovesOut see (λ f. JoinStep f c.args.disk.now d group) x w (seen_before see (g.S.Shelf.free c.args.shelf.now) (record { name = c.args.disk.now.device; seen = see c.args.piece }) s) (g.S.Shelf.faults c.args.shelf.now) (state (g.S.Shelf.free c.close.new.shelf) (g.S.Shelf.faults c.close.new.shelf) c.close.new.system)) (sym c.lost.ensures)
+    subst (λ x. MovesFrom see (λ f. JoinStep f c.args.disk.now d group) x w (seen_before see (g.S.Shelf.free c.args.shelf.now) (record { name = c.args.disk.now.device; seen = see c.args.piece }) s) (g.S.Shelf.faults c.args.shelf.now) (state (g.S.Shelf.free c.close.new.shelf) (g.S.Shelf.faults c.close.new.shelf) c.close.new.system)) (sym c.lost.ensures)
     (power_lost_moves see s i c.in-PowerLost.group was c.args.disk.now c.args.piece c.args.plan who c.requires.keeps planned.0 planned.1 c.in-PowerLost.ensures.devices c.in-PowerLost.ensures.taken.0 (g.S.Shelf.held c.give_group-in-PowerLost.new.shelf) c.give_group-in-PowerLost.ensures.left (g.S.Shelf.free c.args.shelf.now) (g.S.Shelf.free c.give_group-in-PowerLost.new.shelf) (g.S.Shelf.free c.close.new.shelf) (g.S.Shelf.faults c.args.shelf.now) (g.S.Shelf.faults c.give_group-in-PowerLost.new.shelf) (g.S.Shelf.faults c.close.new.shelf) c.close.new.system c.give_group-in-PowerLost.ensures.later c.close.ensures.later
     c.give_group-in-PowerLost.ensures.back (subst (λ o. AreBack (holders see (record { volumes = s.volumes; group = o })) (g.S.Shelf.free c.give_group-in-PowerLost.new.shelf) (g.S.Shelf.free c.close.new.shelf)) c.take.ensures.after c.close.ensures.back) c.close.ensures.ordered c.close.ensures.volumes c.close.ensures.group c.in-PowerLost.ensures.taken.2 w d group is stands)

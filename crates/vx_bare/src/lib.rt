@@ -7,6 +7,3 @@ mod range;
 mod started;
 
 pub use started::Started;
-
-#[cfg(test)]
-mod tests;

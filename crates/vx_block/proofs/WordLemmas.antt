@@ -1,11 +1,11 @@
 -- A word's digits, two by two, and what was printed read back.
-use Rattle.std.proofs.Common.{◌≡◌, ℕ, ◌+◌, ◌*◌, ◌/◌, ◌%◌, ◌<◌, true, false, cond, List, [], ◌∷◌, ◌++◌, length, take, drop, set, get_or, replicate, arith, refl, sym, ◌∙◌, ap, IsTrue, inl, inr, suc}
-use Rattle.std.specs.List.{list_all, flat_map}
+use Rattle.std.proofs.Common.{◌≡◌, ℕ, Bool, ◌+◌, ◌*◌, ◌/◌, ◌%◌, ◌<◌, true, false, cond, List, [], ◌∷◌, ◌++◌, length, take, drop, set, get_or, replicate, arith, refl, sym, ◌∙◌, ap, IsTrue, inl, inr, suc}
+use Rattle.std.specs.List.{list_all, flat_map, fold}
 use Rattle.std.proofs.lemmas.List.{drop_more, take_more_set, append_assoc}
 use Rattle.std.proofs.lemmas.List.Folds.{list_all_at}
 use Rattle.std.proofs.lemmas.Bool.{true_from_ne_false, both_ways, and_from, and_parts, eqb-true, cases_Bool, cond-true, cond-false, ne_eqb, eq-eqb, and_left, or_left, or_right}
 use Rattle.std.proofs.lemmas.Bool.Decides.{nat_tests}
-use Rattle.std.specs.Prelude.{◌==◌}
+use Rattle.std.specs.Prelude.{◌==◌, ◌&&◌}
 use Rattle.vx_block.specs.Word.{hex, hex_digit, block_word}
 use Rattle.vx_block.specs.Reading.{is_hex_digit, digit_value, byte_value, bytes_of, is_short_word, is_block_word, spelled_block, AreBytes}
 
@@ -108,3 +108,13 @@ read_again word block out len h e is = is ∙ ap spelled_block e ∙ (word_again
 -- no word that was printed is refused
 pub is_word_again : (word block : List ℕ) → length block ≡ 512 → AreBytes block → word ≡ block_word block → is_block_word word ≡ false → ⊥
 is_word_again word block len h e refused = both_ways (is_block_word word) refused (ap is_block_word e ∙ (word_again block len h).0)
+
+all_from : (byte : ℕ) (same : Bool) (bytes : List ℕ) → fold (λ s x. s && (x == byte)) same bytes ≡ (same && list_all (λ x. x == byte) bytes)
+all_from byte true [] = refl
+all_from byte false [] = refl
+all_from byte true (x ∷ xs) = all_from byte (x == byte) xs
+all_from byte false (x ∷ xs) = all_from byte false xs
+
+-- a fold that has no early end answers the same
+pub all_folded : (byte : ℕ) (bytes : List ℕ) → fold (λ same x. same && (x == byte)) true bytes ≡ list_all (λ x. x == byte) bytes
+all_folded byte bytes = all_from byte true bytes

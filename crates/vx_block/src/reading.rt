@@ -92,26 +92,3 @@ fn read_bytes(digits: &[u8], out: &mut [u8])
         out[i] = byte_value(digits[2 * i], digits[2 * i + 1]);
     }
 }
-
-#[cfg(test)]
-mod tests {
-    use super::*;
-    use crate::put_block;
-    use std::test::Fail;
-
-    #[test]
-    fn a_block_of_equal_bytes_is_a_short_word(rt: HostRuntime) -> Result<(), Fail> {
-        let mut word = Vec::new(rt.alloc());
-        put_block(&[0xab; 512], &mut word)?;
-        assert_eq!(rt; word.as_slice(), b"=ab".as_slice());
-        Ok(())
-    }
-
-    #[test]
-    fn a_short_word_fills_the_block(rt: HostRuntime) {
-        let mut block = [0; 512];
-        assert_eq!(rt; read_block(b"=5a", &mut block), Ok(()));
-        assert_eq!(rt; block[511], 0x5a);
-        assert_eq!(rt; read_block(b"=5A", &mut block), Err(BlockFault::NotABlock));
-    }
-}

@@ -1,5 +1,5 @@
-ghost use Rattle.std.specs.Prelude.{◌≡◌, ◌++◌, ◌<◌, ◌==◌, length, OnOk};
-ghost use Rattle.std.specs.List.{flat_map, list_all};
+ghost use Rattle.std.specs.Prelude.{◌≡◌, ◌++◌, ◌<◌, ◌==◌, ◌&&◌, true, length, OnOk};
+ghost use Rattle.std.specs.List.{flat_map, list_all, fold};
 ghost use Rattle.vx_block.specs.Word.{block_word, hex, hex_digit};
 
 use vx_base::OutOfMemory;
@@ -21,7 +21,14 @@ pub fn put_block(block: &[u8], out: &mut Vec<u8>) -> Result<(), OutOfMemory>
 fn is_all(bytes: &[u8], byte: u8) -> bool
     ensures { result ≡ list_all (λ x. x == byte) bytes.now }
 {
-    bytes.iter().all(|b| *b == byte)
+    are_all(bytes, byte)
+}
+
+/// Goes over all bytes, also where an early one differs, so that many are compared at a time.
+fn are_all(bytes: &[u8], byte: u8) -> bool
+    ensures { result ≡ fold (λ same x. same && (x == byte)) true bytes.now }
+{
+    bytes.iter().fold(true, |same, b| same & (*b == byte))
 }
 
 fn put_hexes(bytes: &[u8], out: &mut Vec<u8>) -> Result<(), OutOfMemory>

@@ -6,6 +6,3 @@ mod starting;
 
 pub use calling::call;
 pub use starting::bare;
-
-#[cfg(test)]
-mod tests;

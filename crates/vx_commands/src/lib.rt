@@ -4,6 +4,3 @@
 mod lines;
 
 pub use lines::{Stop, run_commands};
-
-#[cfg(test)]
-mod tests;

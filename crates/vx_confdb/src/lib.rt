@@ -14,6 +14,3 @@ pub use founding::{Refused, create};
 pub use group::Group;
 pub use text::{Text, sectors_for};
 pub use vx_copies::Disk;
-
-#[cfg(test)]
-mod tests;

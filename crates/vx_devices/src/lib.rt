@@ -9,6 +9,3 @@ mod wiping;
 pub use claim::{Claim, find_claim};
 pub use image::make_image;
 pub use wiping::unsetup;
-
-#[cfg(test)]
-mod tests;

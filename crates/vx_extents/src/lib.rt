@@ -11,8 +11,6 @@ mod piece;
 mod pieces;
 mod scans;
 mod sizes;
-#[cfg(test)]
-mod tests;
 
 pub use overlap::overlap_fault;
 pub use pieces::Pieces;

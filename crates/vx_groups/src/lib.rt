@@ -11,8 +11,6 @@ mod leaving;
 mod printing;
 mod slots;
 mod stopping;
-#[cfg(test)]
-mod tests;
 
 pub use adding::add;
 pub use leaving::deport;

@@ -119,33 +119,3 @@ fn place_of(byte: u64) -> u64
         _ => byte,
     }
 }
-
-#[cfg(test)]
-mod tests {
-    use super::*;
-
-    #[test]
-    fn a_header_is_read_back(rt: HostRuntime) {
-        let group = Name::read(b"dg").unwrap();
-        let disk = Name::read(b"disk01").unwrap();
-        let header = Header {
-            group,
-            disk,
-            slot: 3,
-            sectors: 4096,
-        };
-        let mut sector = [0; 512];
-        header.put(&mut sector);
-        assert_eq!(rt; sector[..12], b"vxprv001dg\0\0"[..]);
-        assert_eq!(rt;
-            sector[80..96],
-            [0, 0, 0, 0, 0, 0, 16, 0, 0, 0, 0, 0, 0, 0, 8, 0][..]
-        );
-        match Header::read(&sector) {
-            Ok(read) => assert_eq!(rt; read.disk.as_bytes(), b"disk01".as_slice()),
-            Err(_) => assert!(rt; false),
-        }
-        sector[72] = 32;
-        assert!(rt; matches!(Header::read(&sector), Err(HeaderFault::BadHeader(72))));
-    }
-}

@@ -105,24 +105,3 @@ fn place_of(byte: u64) -> u64
         _ => byte,
     }
 }
-
-#[cfg(test)]
-mod tests {
-    use super::*;
-
-    #[test]
-    fn a_toggle_with_half_9_is_bad_at_byte_16(rt: HostRuntime) {
-        let toggle = Toggle {
-            sequence: 1,
-            half: 0,
-            length: 300,
-            good: 1,
-        };
-        let mut sector = [0; 512];
-        assert_eq!(rt; Toggle::read(&sector), Ok(None));
-        toggle.put(&mut sector);
-        assert_eq!(rt; Toggle::read(&sector), Ok(Some(toggle)));
-        sector[16] = 9;
-        assert_eq!(rt; Toggle::read(&sector), Err(HeaderFault::BadHeader(16)));
-    }
-}

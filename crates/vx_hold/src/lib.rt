@@ -10,6 +10,3 @@ pub use answers::{done, fault, lost};
 pub use closing::{close, give_disks, give_group};
 pub use looking::{Look, look_at};
 pub use system::{Imported, System};
-
-#[cfg(test)]
-mod tests;

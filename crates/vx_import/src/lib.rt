@@ -17,6 +17,3 @@ pub use judging::{Given, ImportFault};
 pub use naming::Damage;
 pub use reading::{find, read_text, read_toggle};
 pub use taking::try_best;
-
-#[cfg(test)]
-mod tests;

@@ -23,6 +23,3 @@ pub use naming::missing_disk;
 pub use placing::{place_of, put_in};
 pub use searching::Search;
 pub use sorting::Chosen;
-
-#[cfg(test)]
-mod tests;

@@ -12,6 +12,3 @@ pub use command::init;
 pub use planning::Plan;
 pub use stop::Stop;
 pub use taking::Taken;
-
-#[cfg(test)]
-mod tests;

@@ -8,8 +8,6 @@ mod place;
 mod run;
 mod search;
 mod strip;
-#[cfg(test)]
-mod tests;
 
 pub use column::Column;
 pub use columns::Columns;

@@ -113,26 +113,3 @@ impl DcoShape {
         first_difference(sector, &spelled).is_none()
     }
 }
-
-#[cfg(test)]
-mod tests {
-    use super::*;
-
-    #[test]
-    fn ten_gibibytes_have_163_840_regions(rt: HostRuntime) {
-        let shape = Geometry::new(20_971_520, 128).and_then(|geometry| DcoShape::of(&geometry, 32));
-        match shape {
-            Some(shape) => {
-                assert_eq!(rt; shape.regions, 163_840);
-                assert_eq!(rt; shape.map_bytes, 24_576);
-                assert_eq!(rt; shape.plex_bytes, 860_160);
-                assert_eq!(rt; shape.sector_of(0, 0), 145);
-                let mut sector = [7; 512];
-                shape.put_header(&mut sector);
-                assert_eq!(rt; sector[8..16], [0, 0, 0, 0, 1, 64, 0, 0][..]);
-                assert!(rt; shape.is_header(&sector));
-            }
-            None => assert!(rt; false),
-        }
-    }
-}

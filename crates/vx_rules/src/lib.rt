@@ -9,8 +9,6 @@ mod references;
 mod relations;
 mod rule;
 mod space;
-#[cfg(test)]
-mod tests;
 mod uses;
 mod whole;
 

@@ -9,6 +9,3 @@ mod words;
 pub use source::{Unread, read_all};
 pub use top::run;
 pub use words::folder;
-
-#[cfg(test)]
-mod tests;

@@ -49,21 +49,3 @@ pub fn first_difference(one: &[u8], other: &[u8]) -> Option<usize>
     }
     None
 }
-
-#[cfg(test)]
-mod tests {
-    use super::*;
-    use crate::{put, put_u32, put_u64, put_zeros};
-
-    #[test]
-    fn fields_stand_where_they_were_put(rt: HostRuntime) {
-        let mut bytes = [1; 16];
-        put(b"ab", 0, &mut bytes);
-        put_zeros(2, 2, &mut bytes);
-        put_u32(258, 4, &mut bytes);
-        put_u64(259, 8, &mut bytes);
-        assert_eq!(rt; bytes, [97, 98, 0, 0, 0, 0, 1, 2, 0, 0, 0, 0, 0, 0, 1, 3]);
-        assert_eq!(rt; u32_at(&bytes, 4), 258);
-        assert_eq!(rt; u64_at(&bytes, 8), 259);
-    }
-}

@@ -6,9 +6,6 @@ ghost use Rattle.std.specs.List.{flat_map};
 ghost use Rattle.std.specs.Fmt.{decimal};
 ghost use Rattle.vx_world.specs.Text.{part_word, block_words, refusal_words, limit_word, name_or_none, line_of};
 
-#[cfg(test)]
-mod tests;
-
 use itoa::Buffer;
 use vx_base::OutOfMemory;
 use vx_block::put_block;

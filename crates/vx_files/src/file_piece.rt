@@ -3,11 +3,13 @@ ghost use Rattle.vx_base.specs.Counts.{later_count};
 
 use std::alloc::Global;
 use std::fs::{File, OpenFile, OpenOptions};
-use std::io;
+use std::{fs, io};
 use std::os::unix::fs::FileExt;
 use std::rt::Files;
 use vx_base::{BLOCK, OutOfMemory};
 use vx_piece::{Piece, PieceFault};
+
+use crate::limit::check_length;
 
 /// A run of sectors of a device that is a file. It opens the file at each call, and tells nothing of what it holds.
 #[derive(Drop)]
@@ -152,7 +154,7 @@ fn read_at<R: Files>(rt: &R, path: &str, first: u64, into: &mut [u8]) -> io::Res
 where
     R::File: FileExt,
 {
-    File::open(rt, path)?.read_exact_at(into, first)
+    open_to_read(rt, path)?.read_exact_at(into, first)
 }
 
 /// Writes the file's bytes from there on, and answers once they are on the medium.
@@ -160,7 +162,26 @@ fn write_at<R: Files>(rt: &R, path: &str, first: u64, from: &[u8]) -> io::Result
 where
     R::File: FileExt,
 {
-    let file = OpenOptions::new().write(true).open(rt, path)?;
+    check_length(first.saturating_add(from.len() as u64))?;
+    let file = open(rt, path)?;
     file.write_all_at(from, first)?;
     file.sync_data()
+}
+
+/// Opens the file to read and to write. So opened, a pipe that stands in its place lets nobody wait.
+fn open<R: Files>(rt: &R, path: &str) -> io::Result<R::File> {
+    OpenOptions::new().read(true).write(true).open(rt, path)
+}
+
+/// The same; a file that may only be read is opened to be read.
+fn open_to_read<R: Files>(rt: &R, path: &str) -> io::Result<R::File> {
+    match open(rt, path) {
+        Ok(file) => Ok(file),
+        Err(e) => {
+            if !fs::metadata(rt, path)?.is_file() {
+                return Err(e);
+            }
+            File::open(rt, path)
+        }
+    }
 }

@@ -18,7 +18,7 @@ keeps_then a b c h k = record {
 
 -- a call after calls that were all Ok
 pub cause_after : {T : Type 0} (a b c : Seen) (result : Result T PieceFault) → Keeps a b → b.faults ≡ a.faults → HasCause b c result → HasCause a c result
-cause_after a b c result h still cause = record { failed = λ e. omega (arith, cause.failed e, h.faults); cut = cause.cut; quiet = by result cause.quiet }
+cause_after {T = T} a b c result h still cause = record { failed = λ e. omega (arith, cause.failed e, h.faults); cut = cause.cut; quiet = by result cause.quiet }
   where
     by : (r : Result T PieceFault) → OnOk r (c.faults ≡ b.faults) → OnOk r (c.faults ≡ a.faults)
     by (Ok u) quiet = quiet ∙ still

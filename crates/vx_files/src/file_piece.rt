@@ -3,11 +3,13 @@ ghost use Rattle.vx_base.specs.Counts.{later_count};
 
 use std::alloc::Global;
 use std::fs::{File, OpenFile, OpenOptions};
-use std::io;
+use std::{fs, io};
 use std::os::unix::fs::FileExt;
 use std::rt::Files;
 use vx_base::{BLOCK, OutOfMemory};
 use vx_piece::{Piece, PieceFault};
+
+use crate::limit::check_length;
 
 /// A run of sectors of a device that is a file. It opens the file at each call, and tells nothing of what it holds.
 #[derive(Drop)]
@@ -19,6 +21,7 @@ pub struct FilePiece<R> {
     sectors: u64,
     faults: u64,
     writes: u64,
+    reads: u64,
     stop: Option<u64>,
     pub ghost on_device: { 512 * (start + sectors) < 2 ^ 64 },
 }
@@ -26,10 +29,10 @@ pub struct FilePiece<R> {
 impl<R> FilePiece<R> {
     ghost use Rattle.vx_files.specs.FilePiece.{file_seen, new_file};
 
-    /// The whole device: so many sectors of the file.
-    pub fn new(rt: R, path: String, device: u32, sectors: u64) -> FilePiece<R>
+    /// The whole device: so many sectors of the file, whose calls have failed so often.
+    pub fn new(rt: R, path: String, device: u32, sectors: u64, faults: u64) -> FilePiece<R>
         requires { 512 * sectors < 2 ^ 64 }
-        ensures { file_seen result ≡ new_file device sectors }
+        ensures { file_seen result ≡ new_file device sectors faults }
     {
         FilePiece {
             rt,
@@ -37,10 +40,18 @@ impl<R> FilePiece<R> {
             device,
             start: 0,
             sectors,
-            faults: 0,
+            faults,
             writes: 0,
+            reads: 0,
             stop: None,
         }
+    }
+
+    /// How often its calls have failed.
+    pub fn faults(&self) -> u64
+        ensures { result ≡ (file_seen self.now).faults }
+    {
+        self.faults
     }
 }
 
@@ -51,6 +62,8 @@ where
     ghost use Rattle.vx_files.specs.FilePiece.{file_seen};
 
     ghost seen = { file_seen };
+
+    ghost ends = { λ _. tt };
 
     fn device(&self) -> u32 {
         self.device
@@ -65,6 +78,8 @@ where
     }
 
     fn read(&mut self, at: u64, into: &mut [u8]) -> Result<(), PieceFault> {
+        let count = (into.len() / BLOCK) as u64;
+        self.reads = self.reads.saturating_add(count);
         let first = BLOCK as u64 * (self.start + at);
         if read_at(&self.rt, self.path.as_str(), first, into).is_err() {
             return Err(failed(&mut self.faults));
@@ -101,6 +116,7 @@ where
             sectors: self.sectors - at,
             faults: 0,
             writes: 0,
+            reads: 0,
             stop: self.stop,
         };
         self.sectors = at;
@@ -115,6 +131,7 @@ where
         self.sectors += next.sectors;
         self.faults = self.faults.saturating_add(next.faults);
         self.writes = self.writes.saturating_add(next.writes);
+        self.reads = self.reads.saturating_add(next.reads);
         Ok(self)
     }
 
@@ -137,7 +154,7 @@ fn read_at<R: Files>(rt: &R, path: &str, first: u64, into: &mut [u8]) -> io::Res
 where
     R::File: FileExt,
 {
-    File::open(rt, path)?.read_exact_at(into, first)
+    open_to_read(rt, path)?.read_exact_at(into, first)
 }
 
 /// Writes the file's bytes from there on, and answers once they are on the medium.
@@ -145,7 +162,26 @@ fn write_at<R: Files>(rt: &R, path: &str, first: u64, from: &[u8]) -> io::Result
 where
     R::File: FileExt,
 {
-    let file = OpenOptions::new().write(true).open(rt, path)?;
+    check_length(first.saturating_add(from.len() as u64))?;
+    let file = open(rt, path)?;
     file.write_all_at(from, first)?;
     file.sync_data()
+}
+
+/// Opens the file to read and to write. So opened, a pipe that stands in its place lets nobody wait.
+fn open<R: Files>(rt: &R, path: &str) -> io::Result<R::File> {
+    OpenOptions::new().read(true).write(true).open(rt, path)
+}
+
+/// The same; a file that may only be read is opened to be read.
+fn open_to_read<R: Files>(rt: &R, path: &str) -> io::Result<R::File> {
+    match open(rt, path) {
+        Ok(file) => Ok(file),
+        Err(e) => {
+            if !fs::metadata(rt, path)?.is_file() {
+                return Err(e);
+            }
+            File::open(rt, path)
+        }
+    }
 }

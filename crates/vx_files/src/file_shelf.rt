@@ -3,9 +3,9 @@ ghost use Rattle.vx_base.specs.Named.{Word};
 ghost use Rattle.vx_base.specs.Counts.{Rose};
 
 use crate::FilePiece;
-use crate::folder::{create, list, look};
+use crate::folder::Folder;
 use crate::known::{Known, hold, is_held, release};
-use std::alloc::{AllocError, Global};
+use std::alloc::Global;
 use std::collections::BTreeMap;
 use std::io::ErrorKind;
 use std::os::unix::fs::FileExt;
@@ -14,26 +14,27 @@ use vx_base::{BLOCK, OutOfMemory};
 use vx_names::Name;
 use vx_shelf::{Shelf, ShelfFault, in_order};
 
-/// The files of a folder as devices: each whose name is one and which has at least one whole sector. Bytes behind the
-/// last whole sector are not touched. Where a file cannot be looked at, neither it nor the names are told. A device that
+/// The files of a folder as devices: each whose name is one and which has at least one whole sector. Of several names of
+/// one file the first is the device. Bytes behind the last whole sector are not touched. Where a file cannot be looked at, neither it nor the names are told. A device that
 /// could not be made whole is removed again; where that fails too, its file is left as it is.
 #[derive(Drop)]
 pub struct FileShelf<R> {
     rt: R,
-    folder: String,
+    folder: Folder,
     known: BTreeMap<Name, Known>,
     faults: u64,
 }
 
 impl<R: AllocGlobal + Drop> FileShelf<R> {
-    ghost use Rattle.vx_files.specs.FileShelf.{held_by_files, shelf_faults};
+    ghost use Rattle.vx_files.specs.FileShelf.{held_by_files, counted_by_files, shelf_faults};
 
     /// A shelf over the folder, of which nothing is held.
     pub fn new(rt: R, folder: &str) -> Result<FileShelf<R>, OutOfMemory>
         ensures held { IfOk result (λ shelf. (name : Word) → held_by_files shelf name ≡ None) }
+        ensures counted { IfOk result (λ shelf. (name : Word) → counted_by_files shelf name ≡ 0) }
         ensures faults { IfOk result (λ shelf. shelf_faults shelf ≡ 0) }
     {
-        let folder = String::from_str(rt.alloc(), folder)?;
+        let folder = Folder::new(rt.alloc(), folder)?;
         let known = BTreeMap::new(rt.alloc());
         Ok(FileShelf {
             rt,
@@ -48,7 +49,7 @@ impl<R: Files + AllocGlobal + Clone + Drop + Send> Shelf for FileShelf<R>
 where
     R::File: FileExt,
 {
-    ghost use Rattle.vx_files.specs.FileShelf.{held_by_files, shelf_faults};
+    ghost use Rattle.vx_files.specs.FileShelf.{held_by_files, counted_by_files, shelf_faults};
 
     type P = FilePiece<R>;
 
@@ -58,8 +59,12 @@ where
 
     ghost faults = { shelf_faults };
 
+    ghost counted = { counted_by_files };
+
+    ghost counts_are = { λ _. tt };
+
     fn names(&mut self, alloc: Global) -> Result<Vec<Name>, ShelfFault> {
-        let Ok(names) = list(&self.rt, alloc, self.folder.as_str()) else {
+        let Ok(names) = self.folder.names(&self.rt, alloc) else {
             return Err(failed(&mut self.faults));
         };
         match in_order(alloc, names) {
@@ -72,11 +77,11 @@ where
         if is_held(&self.known, name) {
             return Err(ShelfFault::Exists);
         }
-        let Ok(path) = path_of(alloc, self.folder.as_str(), name) else {
+        let Ok(path) = self.folder.path_of(alloc, name) else {
             return Err(ShelfFault::OutOfMemory);
         };
         let bytes = BLOCK as u64 * sectors;
-        match create(&self.rt, self.folder.as_str(), path.as_str(), bytes) {
+        match self.folder.create(&self.rt, path.as_str(), bytes) {
             Ok(()) => Ok(()),
             Err(e) if e.kind() == ErrorKind::AlreadyExists => Err(ShelfFault::Exists),
             Err(_) => Err(failed(&mut self.faults)),
@@ -90,32 +95,22 @@ where
         let Ok(rt) = self.rt.clone() else {
             return Err(ShelfFault::OutOfMemory);
         };
-        let Ok(path) = path_of(rt.alloc(), self.folder.as_str(), name) else {
+        let Ok(path) = self.folder.path_of(rt.alloc(), name) else {
             return Err(ShelfFault::OutOfMemory);
         };
-        match look(&rt, path.as_str()) {
+        match self.folder.sectors(&rt, path.as_str(), name) {
             Ok(0) => Err(ShelfFault::NoDisk),
             Ok(sectors) => match hold(&mut self.known, name, sectors) {
-                Ok(device) => Ok(FilePiece::new(rt, path, device, sectors)),
+                Ok(one) => Ok(FilePiece::new(rt, path, one.device, sectors, one.faults)),
                 Err(_) => Err(ShelfFault::OutOfMemory),
             },
             Err(_) => Err(failed(&mut self.faults)),
         }
     }
 
-    fn give(&mut self, name: &Name, _piece: FilePiece<R>) {
-        release(&mut self.known, name);
+    fn give(&mut self, name: &Name, piece: FilePiece<R>) {
+        release(&mut self.known, name, piece.faults());
     }
-}
-
-/// The path of the file of that name.
-fn path_of(alloc: Global, folder: &str, name: &Name) -> Result<String, AllocError> {
-    let mut path = String::from_str(alloc, folder)?;
-    path.push('/')?;
-    for byte in name.as_bytes() {
-        path.push(*byte as char)?;
-    }
-    Ok(path)
 }
 
 /// Counts a failure.

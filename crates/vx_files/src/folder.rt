@@ -1,73 +1,201 @@
 ghost use Rattle.std.specs.Prelude.{◌*◌, ◌<◌, ◌^◌, IfOk};
 
-use std::alloc::Global;
-use std::fs::{DirEntry, File, OpenFile};
+use std::alloc::{AllocError, Global};
+use std::collections::{BTreeMap, BTreeSet};
+use std::fs::{DirEntry, File, Metadata, OpenFile};
 use std::io::ErrorKind;
+use std::os::unix::fs::MetadataExt;
 use std::path::AsPath;
 use std::rt::Files;
 use std::{fs, io};
 use vx_base::BLOCK;
 use vx_names::Name;
 
-/// The names of the files that are devices, as the folder lists them. Files whose names are not text are passed over.
-pub fn list<R: Files + AllocGlobal + Clone + Drop>(
-    rt: &R,
-    alloc: Global,
-    folder: &str,
-) -> io::Result<Vec<Name>> {
-    let mut names = Vec::new(alloc);
-    for entry in fs::read_dir(rt, folder)? {
-        match entry {
-            Ok(entry) => put_device(rt, &entry, &mut names)?,
-            Err(e) if e.kind() == ErrorKind::InvalidFilename => {}
-            Err(e) => return Err(e),
-        }
-    }
-    Ok(names)
+use crate::limit::check_length;
+
+/// A folder whose files are devices. Where several names lead to one file, the first by its bytes is the device, and the
+/// others are none. The empty path is that of no folder.
+#[derive(Drop)]
+pub struct Folder {
+    path: String,
+    /// The names that are no devices since an earlier one leads to their file; None before the files were listed.
+    twins: Option<BTreeSet<Name>>,
 }
 
-/// Appends the name of the file, where it is a device.
+/// The files of a folder that are devices, by their names, each with what the system knows it by.
+type Images = BTreeMap<Name, (u64, u64)>;
+
+impl Folder {
+    pub fn new(alloc: Global, path: &str) -> Result<Folder, AllocError> {
+        Ok(Folder {
+            path: String::from_str(alloc, path)?,
+            twins: None,
+        })
+    }
+
+    /// The path of the file of that name. In no folder it is the empty path, at which there is no file.
+    pub fn path_of(&self, alloc: Global, name: &Name) -> Result<String, AllocError> {
+        if self.path.is_empty() {
+            return Ok(String::new(alloc));
+        }
+        let mut path = self.path.clone()?;
+        path.push('/')?;
+        for byte in name.as_bytes() {
+            path.push(*byte as char)?;
+        }
+        Ok(path)
+    }
+
+    /// The names of the devices. It fails where a file cannot be looked at.
+    pub fn names<R: Files + AllocGlobal + Clone + Drop>(
+        &mut self,
+        rt: &R,
+        alloc: Global,
+    ) -> io::Result<Vec<Name>> {
+        let mut images = BTreeMap::new(alloc);
+        let failed = self.list(rt, alloc, &mut images)?;
+        let mut names = Vec::new(alloc);
+        self.twins = Some(apart(alloc, &images, &mut names)?);
+        match failed {
+            None => Ok(names),
+            Some(e) => Err(e),
+        }
+    }
+
+    /// The whole sectors of the device of that name, whose file is at the path; 0 where the name is that of no device.
+    pub fn sectors<R: Files + AllocGlobal + Clone + Drop>(
+        &mut self,
+        rt: &R,
+        path: &str,
+        name: &Name,
+    ) -> io::Result<u64>
+        ensures { IfOk result (λ sectors. 512 * sectors < 2 ^ 64) }
+    {
+        let sectors = match look(rt, path)? {
+            Some(file) => sectors_in(&file),
+            None => 0,
+        };
+        if sectors > 0 && self.is_twin(rt, name)? {
+            return Ok(0);
+        }
+        Ok(sectors)
+    }
+
+    /// Whether an earlier name leads to the file of this name. Files that cannot be looked at are passed over.
+    fn is_twin<R: Files + AllocGlobal + Clone + Drop>(
+        &mut self,
+        rt: &R,
+        name: &Name,
+    ) -> io::Result<bool> {
+        if let Some(twins) = &self.twins {
+            return Ok(twins.contains(name));
+        }
+        let alloc = rt.alloc();
+        let mut images = BTreeMap::new(alloc);
+        let _ = self.list(rt, alloc, &mut images)?;
+        let twins = apart(alloc, &images, &mut Vec::new(alloc))?;
+        let is_twin = twins.contains(name);
+        self.twins = Some(twins);
+        Ok(is_twin)
+    }
+
+    /// Puts the files that are devices into the map, and answers why one could not be looked at. Files whose names are not
+    /// text are passed over.
+    fn list<R: Files + AllocGlobal + Clone + Drop>(
+        &self,
+        rt: &R,
+        alloc: Global,
+        images: &mut Images,
+    ) -> io::Result<Option<io::Error>> {
+        if self.path.is_empty() {
+            return Err(io::Error::from(ErrorKind::NotFound));
+        }
+        let mut failed = None;
+        for entry in fs::read_dir(rt, self.path.as_str())? {
+            match entry {
+                Ok(entry) => {
+                    if let Err(e) = put_device(rt, &entry, images) {
+                        failed = Some(e);
+                    }
+                }
+                Err(e) if e.kind() == ErrorKind::InvalidFilename => {}
+                Err(e) => return Err(e),
+            }
+        }
+        Ok(failed)
+    }
+
+    /// Makes the file with so many zero bytes, and answers once it and its name are on the medium. Where that fails the
+    /// file is removed again, if it can be.
+    pub fn create<R: Files>(&self, rt: &R, path: &str, bytes: u64) -> io::Result<()> {
+        let file = File::create_new(rt, path)?;
+        match self.fill(rt, &file, bytes) {
+            Ok(()) => Ok(()),
+            Err(e) => {
+                let _ = fs::remove_file(rt, path);
+                Err(e)
+            }
+        }
+    }
+
+    fn fill<R: Files>(&self, rt: &R, file: &R::File, bytes: u64) -> io::Result<()> {
+        check_length(bytes)?;
+        file.set_len(bytes)?;
+        file.sync_all()?;
+        File::open(rt, self.path.as_str())?.sync_all()
+    }
+}
+
+/// Puts the file into the map, where it is a device.
 fn put_device<R: Files + AllocGlobal>(
     rt: &R,
     entry: &DirEntry<R, Global>,
-    names: &mut Vec<Name>,
+    images: &mut Images,
 ) -> io::Result<()> {
     let Ok(name) = Name::read(entry.file_name().as_bytes()) else {
         return Ok(());
     };
-    if look(rt, entry.path())? > 0 {
-        names.push(name)?;
+    if let Some(file) = look(rt, entry.path())? {
+        if sectors_in(&file) > 0 {
+            images.insert(name, (file.dev(), file.ino()))?;
+        }
     }
     Ok(())
 }
 
-/// The whole sectors of the file; what is no file, or not there, has none.
-pub fn look<R: Files, P: AsPath>(rt: &R, path: P) -> io::Result<u64>
-    ensures { IfOk result (λ sectors. 512 * sectors < 2 ^ 64) }
-{
+/// Appends the first name of each file to `names`, in the order of their bytes, and answers the others.
+fn apart(alloc: Global, images: &Images, names: &mut Vec<Name>) -> io::Result<BTreeSet<Name>> {
+    let mut files = BTreeSet::new(alloc);
+    let mut twins = BTreeSet::new(alloc);
+    for (name, file) in images {
+        if files.insert(*file)? {
+            names.push(*name)?;
+        } else {
+            twins.insert(*name)?;
+        }
+    }
+    Ok(twins)
+}
+
+/// What the system tells of the file; None of what is no file, and where the path leads nowhere.
+fn look<R: Files, P: AsPath>(rt: &R, path: P) -> io::Result<Option<Metadata>> {
     match fs::metadata(rt, path) {
-        Ok(file) if file.is_file() => Ok(file.len() / BLOCK as u64),
-        Ok(_) => Ok(0),
-        Err(e) if e.kind() == ErrorKind::NotFound => Ok(0),
+        Ok(file) if file.is_file() => Ok(Some(file)),
+        Ok(_) => Ok(None),
+        Err(e) if leads_nowhere(e.kind()) => Ok(None),
         Err(e) => Err(e),
     }
 }
 
-/// Makes the file with so many zero bytes, and answers once it and its name are on the medium. Where that fails the
-/// file is removed again, if it can be.
-pub fn create<R: Files>(rt: &R, folder: &str, path: &str, bytes: u64) -> io::Result<()> {
-    let file = File::create_new(rt, path)?;
-    match fill::<R>(rt, &file, folder, bytes) {
-        Ok(()) => Ok(()),
-        Err(e) => {
-            let _ = fs::remove_file(rt, path);
-            Err(e)
-        }
-    }
+fn leads_nowhere(kind: ErrorKind) -> bool {
+    matches!(
+        kind,
+        ErrorKind::NotFound | ErrorKind::NotADirectory | ErrorKind::FilesystemLoop
+    )
 }
 
-fn fill<R: Files>(rt: &R, file: &R::File, folder: &str, bytes: u64) -> io::Result<()> {
-    file.set_len(bytes)?;
-    file.sync_all()?;
-    File::open(rt, folder)?.sync_all()
+fn sectors_in(file: &Metadata) -> u64
+    ensures { 512 * result < 2 ^ 64 }
+{
+    file.len() / BLOCK as u64
 }

@@ -1,11 +1,13 @@
-//! Rows of calls of a shelf over a folder of files, each with its answer. The folder has the devices `i0`, of two
+//! Rows of calls of a shelf over a folder of files, each with its answer. The folder `images` has the devices `i0`, of two
 //! sectors, and `odd`, of one sector and a rest; `short` has no whole sector, `folder` is no file, and `-dash` has no
-//! name of a device. The stored output was worked out by hand. The folder is made first, and removed at the end.
+//! name of a device. In the folder `links` the names `a`, `b` and `c` lead to one file, and `lost`, `loop` and `below`
+//! nowhere. The stored output was worked out by hand. The folders are made first, and removed at the end.
 #![tactic(auto)]
 
 use std::alloc::AllocError;
+use std::os::unix::fs::symlink;
 use std::{fs, io, str};
-use vx_files::FileShelf;
+use vx_files::{FilePiece, FileShelf};
 use vx_names::Name;
 use vx_piece::Piece;
 use vx_shelf::{Shelf, ShelfFault};
@@ -13,13 +15,19 @@ use vx_shelf::{Shelf, ShelfFault};
 fn main(rt: HostRuntime) -> io::Result<()> {
     // What a run that was cut off has left.
     let _ = fs::remove_dir_all(&rt, "images");
+    let _ = fs::remove_dir_all(&rt, "links");
     fill(&rt)?;
     rows(&rt)?;
-    missing(&rt)?;
-    fs::remove_dir_all(&rt, "images")
+    counts(&rt)?;
+    link(&rt)?;
+    links(&rt)?;
+    missing(&rt, "absent")?;
+    missing(&rt, "")?;
+    fs::remove_dir_all(&rt, "images")?;
+    fs::remove_dir_all(&rt, "links")
 }
 
-/// The folder that the rows speak of.
+/// The folder that the first rows speak of.
 fn fill(rt: &HostRuntime) -> io::Result<()> {
     fs::create_dir(rt, "images")?;
     fs::create_dir(rt, "images/folder")?;
@@ -52,11 +60,70 @@ fn rows(rt: &HostRuntime) -> io::Result<()> {
     names(rt, &mut shelf)
 }
 
-/// A folder that is not there.
-fn missing(rt: &HostRuntime) -> io::Result<()> {
-    let mut shelf = shelf_over(rt, "absent")?;
+/// A device that is gone and comes again: its calls fail in between, and its count goes on.
+fn counts(rt: &HostRuntime) -> io::Result<()> {
+    let mut shelf = shelf_over(rt, "images")?;
+    let Ok(name) = Name::read(b"i0") else {
+        return println!(rt; "no name");
+    };
+    fs::rename(rt, "images/i0", "images/away")?;
+    take(rt, &mut shelf, "i0")?;
+    fs::rename(rt, "images/away", "images/i0")?;
+    for _ in 0..2 {
+        let Ok(mut piece) = shelf.take(&name) else {
+            return println!(rt; "not taken");
+        };
+        call(rt, &mut piece)?;
+        fs::rename(rt, "images/i0", "images/away")?;
+        fs::create_dir(rt, "images/i0")?;
+        call(rt, &mut piece)?;
+        fs::remove_dir(rt, "images/i0")?;
+        fs::rename(rt, "images/away", "images/i0")?;
+        shelf.give(&name, piece);
+    }
+    Ok(())
+}
+
+/// A write and a read of the first sector.
+fn call(rt: &HostRuntime, piece: &mut FilePiece<HostRuntime>) -> io::Result<()> {
+    let mut sector = [0; 512];
+    let wrote = piece.write(0, &sector).is_ok();
+    let read = piece.read(0, &mut sector).is_ok();
+    let faults = piece.faults();
+    println!(rt; "wrote {wrote}, read {read}, faults {faults}")
+}
+
+/// The folder of links.
+fn link(rt: &HostRuntime) -> io::Result<()> {
+    fs::create_dir(rt, "links")?;
+    fs::write(rt, "links/b", [0u8; 1024])?;
+    symlink(rt, "b", "links/a")?;
+    fs::hard_link(rt, "links/b", "links/c")?;
+    symlink(rt, "absent", "links/lost")?;
+    symlink(rt, "loop", "links/loop")?;
+    symlink(rt, "b/below", "links/below")
+}
+
+/// Of the names of one file the first is the device, whether the names were asked for or not.
+fn links(rt: &HostRuntime) -> io::Result<()> {
+    let mut shelf = shelf_over(rt, "links")?;
+    take(rt, &mut shelf, "c")?;
     names(rt, &mut shelf)?;
-    make(rt, &mut shelf, "made")
+    take(rt, &mut shelf, "b")?;
+    take(rt, &mut shelf, "a")?;
+    take(rt, &mut shelf, "lost")?;
+    take(rt, &mut shelf, "loop")?;
+    take(rt, &mut shelf, "below")?;
+    make(rt, &mut shelf, "b")?;
+    make(rt, &mut shelf, "lost")
+}
+
+/// A folder that is not there, as the one of the empty path.
+fn missing(rt: &HostRuntime, folder: &str) -> io::Result<()> {
+    let mut shelf = shelf_over(rt, folder)?;
+    names(rt, &mut shelf)?;
+    make(rt, &mut shelf, "made")?;
+    take(rt, &mut shelf, "made")
 }
 
 fn names(rt: &HostRuntime, shelf: &mut FileShelf<HostRuntime>) -> io::Result<()> {

@@ -13,6 +13,3 @@ pub use mem_sink::MemSink;
 pub use mem_source::MemSource;
 pub use reader_source::ReaderSource;
 pub use writer_sink::WriterSink;
-
-#[cfg(test)]
-mod tests;

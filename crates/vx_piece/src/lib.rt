@@ -8,6 +8,3 @@ mod piece;
 pub use bad::Bad;
 pub use mem_piece::{Counts, MemPiece};
 pub use piece::{Piece, PieceFault};
-
-#[cfg(test)]
-mod tests;

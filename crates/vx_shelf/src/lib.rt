@@ -8,6 +8,3 @@ mod shelf;
 pub use mem_shelf::MemShelf;
 pub use names::in_order;
 pub use shelf::{Shelf, ShelfFault};
-
-#[cfg(test)]
-mod tests;

@@ -21,7 +21,7 @@ pub returns-in-Err-clause-kept : goal.returns-in-Err-clause-kept
 returns-in-Err-clause-kept g c = keeps_then _ _ _ c.loop-index.invariant.kept c.fill_part-outcome.ensures.kept
 
 pub returns-in-Err-clause-cause : goal.returns-in-Err-clause-cause
-returns-in-Err-clause-cause g c = subst (λ r. HasCause (g.P.Piece.seen c.args.piece.now) (g.P.Piece.seen c.fill_part-outcome.new.piece) r) c.in-Err.is (cause_after _ _ _ c.fill_part-outcome.result.1 c.loop-index.invariant.kept c.fill_part-outcome.ensures.cause)
+returns-in-Err-clause-cause g c = subst (λ r. HasCause (g.P.Piece.seen c.args.piece.now) (g.P.Piece.seen c.fill_part-outcome.new.piece) r) c.in-Err.is (cause_after _ _ _ c.fill_part-outcome.result.1 c.loop-index.invariant.kept c.loop-index.invariant.still c.fill_part-outcome.ensures.cause)
 
 pub returns-in-Err-clause-below : goal.returns-in-Err-clause-below
 returns-in-Err-clause-below g c = λ r.
@@ -46,6 +46,7 @@ loop-index-preserved g c =
     let region : c.fill_part-outcome.result.0.region ≡ c.args.start / c.args.geometry.now.region + length c.loop-index.parts.items = c.fill_part-outcome.ensures.drawn.region_is ∙ c.region_of-region.ensures.value ∙ place.region ∙ ap (λ i. c.args.start / c.args.geometry.now.region + i) (sym index) in
     record {
       kept = keeps_then _ _ _ c.loop-index.invariant.kept c.fill_part-outcome.ensures.kept;
+      still = (rw c.in_default.is at c.fill_part-outcome.ensures.cause).quiet ∙ c.loop-index.invariant.still;
       sized = c.fill_part-outcome.ensures.kept.sectors ∙ c.loop-index.invariant.sized;
       numbers = search rules;
       below = λ r.

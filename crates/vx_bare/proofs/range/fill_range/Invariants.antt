@@ -8,6 +8,7 @@ use Rattle.vx_bare.proofs.range.fill_range.Given as goal
 abbrev pub invariant-loop-index : goal.invariant-loop-index
 invariant-loop-index g l = record {
   kept : Keeps (g.P.Piece.seen l.fn.piece) (g.P.Piece.seen l.piece);
+  still : (g.P.Piece.seen l.piece).faults ≡ (g.P.Piece.seen l.fn.piece).faults;
   sized : IsSized (g.P.Piece.seen l.piece) l.geometry.length;
   numbers : vec_len l.numbers ≡ vec_len l.fn.numbers;
   below : AreBelow (l.most + l.index) l.numbers.items;

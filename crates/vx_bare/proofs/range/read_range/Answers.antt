@@ -14,7 +14,7 @@ pub returns-in-Err-clause-kept : goal.returns-in-Err-clause-kept
 returns-in-Err-clause-kept g c = keeps_then _ _ _ c.loop-index.invariant.kept c.read_part-outcome.ensures.kept
 
 pub returns-in-Err-clause-cause : goal.returns-in-Err-clause-cause
-returns-in-Err-clause-cause g c = subst (λ r. HasCause (g.P.Piece.seen c.args.piece.now) (g.P.Piece.seen c.read_part-outcome.new.piece) r) c.in-Err.is (cause_after _ _ _ c.read_part-outcome.result.1 c.loop-index.invariant.kept c.read_part-outcome.ensures.cause)
+returns-in-Err-clause-cause g c = subst (λ r. HasCause (g.P.Piece.seen c.args.piece.now) (g.P.Piece.seen c.read_part-outcome.new.piece) r) c.in-Err.is (cause_after _ _ _ c.read_part-outcome.result.1 c.loop-index.invariant.kept c.loop-index.invariant.still c.read_part-outcome.ensures.cause)
 
 pub returns-in-Err-clause-below : goal.returns-in-Err-clause-below
 returns-in-Err-clause-below g c = λ r.
@@ -42,6 +42,7 @@ loop-index-preserved g c =
     record {
       kept = keeps_then _ _ _ c.loop-index.invariant.kept c.read_part-outcome.ensures.kept;
       same = read_then _ _ _ c.loop-index.invariant.same c.read_part-outcome.ensures.same;
+      still = (rw c.in_default.is at c.read_part-outcome.ensures.cause).quiet ∙ c.loop-index.invariant.still;
       sized = c.read_part-outcome.ensures.kept.sectors ∙ c.loop-index.invariant.sized;
       numbers = search rules;
       below = λ r.
@@ -62,7 +63,7 @@ loop-index-preserved g c =
     }
 
 pub returns-clause-cause : goal.returns-clause-cause
-returns-clause-cause g c = record { failed = λ e. cc; cut = λ e. cc }
+returns-clause-cause g c = record { failed = λ e. cc; cut = λ e. cc; quiet = c.loop-index.invariant.still }
 
 pub returns-clause-holds : goal.returns-clause-holds
 returns-clause-holds g c =

@@ -12,6 +12,7 @@ abbrev pub invariant-loop-index : goal.invariant-loop-index
 invariant-loop-index g l = record {
   kept : Keeps (g.P.Piece.seen l.fn.piece) (g.P.Piece.seen l.piece);
   same : IsRead (g.P.Piece.seen l.fn.piece) (g.P.Piece.seen l.piece);
+  still : (g.P.Piece.seen l.piece).faults ≡ (g.P.Piece.seen l.fn.piece).faults;
   sized : IsSized (g.P.Piece.seen l.piece) l.geometry.length;
   numbers : vec_len l.numbers ≡ vec_len l.fn.numbers;
   below : AreBelow (l.most + l.index) l.numbers.items;

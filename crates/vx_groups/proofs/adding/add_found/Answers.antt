@@ -1,4 +1,4 @@
-use Rattle.std.proofs.Common.{◌+◌}
+use Rattle.std.proofs.Common.{◌+◌, arith}
 use Rattle.vx_hold.specs.Holders.{Holder}
 use Rattle.vx_hold.proofs.Rooms.{room_next}
 use Rattle.vx_groups.proofs.Stopped.{state}
@@ -32,11 +32,11 @@ returns-in-Err-clause-room g c = λ n room. c.stopped.ensures.room (n + 1) (room
 pub returns-in-Err-clause-step : goal.returns-in-Err-clause-step
 returns-in-Err-clause-step g c =
     stop_result g.S.P.Piece.seen c.args.system.now (g.S.P.Piece.seen c.args.piece) c.args.dg.now c.args.disk.now c.stopped.result (g.S.Shelf.held c.args.shelf.now) (g.S.Shelf.held c.judge.new.shelf) (g.S.Shelf.held c.give.new.self) c.requires.keeps c.in-Err.ensures.held c.give.ensures.given
-    (g.S.Shelf.free c.args.shelf.now) (g.S.Shelf.free c.judge.new.shelf) (g.S.Shelf.free c.give.new.self) (g.S.Shelf.faults c.args.shelf.now) (g.S.Shelf.faults c.judge.new.shelf) (g.S.Shelf.faults c.give.new.self) c.in-Err.ensures.read c.give.ensures.back c.in-Err.ensures.later c.give.ensures.later
+    (g.S.Shelf.free c.args.shelf.now) (g.S.Shelf.free c.judge.new.shelf) (g.S.Shelf.free c.give.new.self) (g.S.Shelf.faults c.args.shelf.now) (g.S.Shelf.faults c.judge.new.shelf) (g.S.Shelf.faults c.give.new.self) c.in-Err.ensures.read c.give.ensures.back c.in-Err.ensures.later (omega (arith, c.give.ensures.quiet))
     c.in-Err.stop (state (g.S.Shelf.free c.stopped.new.shelf) (g.S.Shelf.faults c.stopped.new.shelf) c.stopped.new.system) c.args.headed (rw c.sectors.ensures at c.in-Err.ensures.stopped) c.stopped.ensures.gives
 
 pub returns-in-Err-clause-rests : goal.returns-in-Err-clause-rests
 returns-in-Err-clause-rests g c =
     stop_wants g.S.P.Piece.seen c.args.system.now (g.S.P.Piece.seen c.args.piece) c.args.dg.now c.args.disk.now c.stopped.result (g.S.Shelf.held c.args.shelf.now) (g.S.Shelf.held c.judge.new.shelf) (g.S.Shelf.held c.give.new.self) c.requires.keeps c.in-Err.ensures.held c.give.ensures.given
-    (g.S.Shelf.free c.args.shelf.now) (g.S.Shelf.free c.judge.new.shelf) (g.S.Shelf.free c.give.new.self) (g.S.Shelf.faults c.args.shelf.now) (g.S.Shelf.faults c.judge.new.shelf) (g.S.Shelf.faults c.give.new.self) c.in-Err.ensures.read c.give.ensures.back c.in-Err.ensures.later c.give.ensures.later
+    (g.S.Shelf.free c.args.shelf.now) (g.S.Shelf.free c.judge.new.shelf) (g.S.Shelf.free c.give.new.self) (g.S.Shelf.faults c.args.shelf.now) (g.S.Shelf.faults c.judge.new.shelf) (g.S.Shelf.faults c.give.new.self) c.in-Err.ensures.read c.give.ensures.back c.in-Err.ensures.later (omega (arith, c.give.ensures.quiet))
     (g.S.Shelf.free c.stopped.new.shelf) (g.S.Shelf.faults c.stopped.new.shelf) c.stopped.new.system c.stopped.ensures.wants

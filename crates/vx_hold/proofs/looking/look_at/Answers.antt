@@ -28,7 +28,7 @@ returns-in-Err-Failed-find-clause-looks g c = (
   keeps_same g.S.P.Piece.seen (g.S.Shelf.held c.args.shelf.now) (g.S.Shelf.held c.give.new.self) c.args.system.now
       (given_back c.args.name.now (g.S.P.Piece.seen c.in-Ok.piece) (g.S.Shelf.held c.args.shelf.now) (g.S.Shelf.held c.take.new.self) (g.S.Shelf.held c.give.new.self) c.in-Ok.ensures.taken c.give.ensures.given) c.requires.keeps,
   λ w stand. rw c.fault.ensures
-      (fault_moves g.S.P.Piece.seen c.args.name.now (g.S.Shelf.held c.args.shelf.now) c.args.system.now c.requires.keeps (g.S.Shelf.faults c.args.shelf.now) (g.S.Shelf.faults c.give.new.self) (omega (arith, c.in-Ok.ensures.later, c.give.ensures.later)) w c.in-Ok.ensures.taken.before
+      (fault_moves g.S.P.Piece.seen c.args.name.now (g.S.Shelf.held c.args.shelf.now) c.args.system.now c.requires.keeps (g.S.Shelf.faults c.args.shelf.now) (g.S.Shelf.faults c.give.new.self) (omega (arith, c.in-Ok.ensures.later, c.give.ensures.quiet)) w c.in-Ok.ensures.taken.before
       (g.S.P.Piece.seen c.in-Ok.piece) (g.S.P.Piece.seen c.find.new.piece) c.find.ensures.kept c.find.ensures.same
       (g.S.Shelf.free c.args.shelf.now) (g.S.Shelf.free c.take.new.self) (g.S.Shelf.free c.give.new.self) c.in-Ok.ensures.left c.give.ensures.back (c.in-Err-Failed-find.ensures.cause.failed (search rules)) stand),
 )
@@ -39,7 +39,7 @@ returns-in-Err-PowerLost-clause-looks g c =
     let held = keeps_same g.S.P.Piece.seen (g.S.Shelf.held c.args.shelf.now) (g.S.Shelf.held c.give-in-Err-PowerLost.new.self) c.args.system.now none c.requires.keeps in (
       keeps_empty g.S.P.Piece.seen c.close.new.system c.close.ensures.volumes c.close.ensures.group (g.S.Shelf.held c.close.new.shelf) c.close.ensures.none,
       λ w stand. rw c.lost.ensures
-          (lost_moves g.S.P.Piece.seen c.args.name.now (g.S.Shelf.held c.args.shelf.now) c.args.system.now c.requires.keeps (g.S.Shelf.faults c.args.shelf.now) (g.S.Shelf.faults c.give-in-Err-PowerLost.new.self) (omega (arith, c.in-Ok.ensures.later, c.give-in-Err-PowerLost.ensures.later)) w c.in-Ok.ensures.taken.before
+          (lost_moves g.S.P.Piece.seen c.args.name.now (g.S.Shelf.held c.args.shelf.now) c.args.system.now c.requires.keeps (g.S.Shelf.faults c.args.shelf.now) (g.S.Shelf.faults c.give-in-Err-PowerLost.new.self) (omega (arith, c.in-Ok.ensures.later, c.give-in-Err-PowerLost.ensures.quiet)) w c.in-Ok.ensures.taken.before
           (g.S.P.Piece.seen c.in-Ok.piece) (g.S.P.Piece.seen c.find.new.piece) c.find.ensures.kept c.find.ensures.same
           (g.S.Shelf.free c.args.shelf.now) (g.S.Shelf.free c.take.new.self) (g.S.Shelf.free c.give-in-Err-PowerLost.new.self) (g.S.Shelf.free c.close.new.shelf) (g.S.Shelf.faults c.close.new.shelf) c.close.new.system (g.S.Shelf.held c.give-in-Err-PowerLost.new.self)
           c.in-Ok.ensures.left c.give-in-Err-PowerLost.ensures.back held (c.in-Err-PowerLost.ensures.cause.cut (search rules)) c.close.ensures.later c.close.ensures.ordered c.close.ensures.back c.close.ensures.volumes c.close.ensures.group stand),

@@ -1,20 +1,17 @@
 -- What a plex of so many sectors holds.
-use Rattle.std.specs.Prelude.{ℕ, ◌+◌, ◌*◌, ◌/◌, Bool, true, false, ◌&&◌, nat_le}
+use Rattle.std.specs.Prelude.{ℕ, ◌/◌, Bool, true, false, ◌&&◌, nat_le}
 use Rattle.vx_block.specs.Geometry.{is_geometry}
 use Rattle.vx_block.specs.Regions.{region_count}
+use Rattle.vx_mapfmt.specs.Sizes.{map_bytes_of, plex_bytes_of}
 use Rattle.vx_parts.specs.declared.plex.PlexKind.{PlexKind}
 use Rattle.vx_parts.specs.declared.plex.PlexKind.TheVariants.{Data, Log}
 use Rattle.vx_parts.specs.declared.plex.PlexLayout.{PlexLayout}
 use Rattle.vx_parts.specs.declared.plex.PlexLayout.TheVariants.{Concat, Stripe}
 use Rattle.vx_parts.specs.declared.vol.Vol.{Vol}
 
--- the bytes of one change map: a sector and a bit for each region, in whole 8,192 bytes
-abbrev pub map_bytes : ℕ → ℕ
-map_bytes regions = (512 + (regions + 7) / 8 + 8191) / 8192 * 8192
-
--- the sectors of a log plex: three slots and 32 maps
+-- the sectors of a log plex, which holds 32 change maps
 abbrev pub log_length : ℕ → ℕ → ℕ
-log_length length region = 35 * (map_bytes (region_count length region) / 512)
+log_length length region = plex_bytes_of 32 (map_bytes_of (region_count length region)) / 512
 
 -- a volume of so many sectors fits
 abbrev pub holds : PlexKind → ℕ → Vol → Bool

@@ -1,7 +1,8 @@
-ghost use Rattle.std.specs.Prelude.{◌≡◌, ◌<◌};
-ghost use Rattle.vx_extents.specs.Sizes.{map_bytes, log_length, holds, layout_fits_kind};
+ghost use Rattle.std.specs.Prelude.{◌≡◌};
+ghost use Rattle.vx_extents.specs.Sizes.{log_length, holds, layout_fits_kind};
 
 use vx_block::Geometry;
+use vx_mapfmt::DcoShape;
 use vx_parts::{PlexKind, PlexLayout, Vol};
 
 /// A plex of that kind and so many sectors is long enough for the volume.
@@ -17,20 +18,11 @@ pub fn holds(kind: PlexKind, size: u128, vol: &Vol) -> bool
     }
 }
 
-/// The sectors of a log plex: three slots and 32 maps.
+/// The sectors of a log plex, which holds 32 change maps.
 fn log_length(geometry: &Geometry) -> u64
     ensures { result ≡ log_length geometry.now.length geometry.now.region }
 {
-    35 * (map_bytes(geometry.regions()) / 512)
-}
-
-/// The bytes of one change map: a sector and a bit for each region, in whole 8,192 bytes.
-fn map_bytes(regions: u64) -> u64
-    requires { regions < 1099511627776 }
-    ensures bytes { result ≡ map_bytes regions }
-    ensures bound { result < 1099511627776 }
-{
-    (512 + (regions + 7) / 8 + 8191) / 8192 * 8192
+    DcoShape::of(geometry, 32).unwrap().plex_bytes / 512
 }
 
 /// A log plex has one column.

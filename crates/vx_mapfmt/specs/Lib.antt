@@ -1,2 +1,3 @@
+pub mod Bits
 pub mod Header
 pub mod Sizes

@@ -38,6 +38,7 @@ fn served(rt: &HostRuntime) -> Result<u8, AllocError> {
 fn words(rt: &HostRuntime) -> Result<Vec<String>, AllocError> {
     match env::args(rt) {
         Ok(words) => words.skip(1).collect(rt.alloc()),
+        Err(e) if e.kind() == io::ErrorKind::OutOfMemory => Err(AllocError),
         Err(_) => Ok(Vec::new(rt.alloc())),
     }
 }

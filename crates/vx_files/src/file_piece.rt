@@ -3,13 +3,11 @@ ghost use Rattle.vx_base.specs.Counts.{later_count};
 
 use std::alloc::Global;
 use std::fs::{File, OpenFile, OpenOptions};
-use std::{fs, io};
 use std::os::unix::fs::FileExt;
 use std::rt::Files;
+use std::{fs, io};
 use vx_base::{BLOCK, OutOfMemory};
 use vx_piece::{Piece, PieceFault};
-
-use crate::limit::check_length;
 
 /// A run of sectors of a device that is a file. It opens the file at each call, and tells nothing of what it holds.
 #[derive(Drop)]
@@ -162,7 +160,6 @@ fn write_at<R: Files>(rt: &R, path: &str, first: u64, from: &[u8]) -> io::Result
 where
     R::File: FileExt,
 {
-    check_length(first.saturating_add(from.len() as u64))?;
     let file = open(rt, path)?;
     file.write_all_at(from, first)?;
     file.sync_data()

@@ -11,8 +11,6 @@ use std::{fs, io};
 use vx_base::BLOCK;
 use vx_names::Name;
 
-use crate::limit::check_length;
-
 /// A folder whose files are devices. Where several names lead to one file, the first by its bytes is the device, and the
 /// others are none. The empty path is that of no folder.
 #[derive(Drop)]
@@ -139,7 +137,6 @@ impl Folder {
     }
 
     fn fill<R: Files>(&self, rt: &R, file: &R::File, bytes: u64) -> io::Result<()> {
-        check_length(bytes)?;
         file.set_len(bytes)?;
         file.sync_all()?;
         File::open(rt, self.path.as_str())?.sync_all()

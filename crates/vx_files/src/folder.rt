@@ -50,13 +50,9 @@ impl Folder {
         rt: &R,
         alloc: Global,
     ) -> io::Result<Vec<Name>> {
-        let mut images = BTreeMap::new(alloc);
-        let failed = self.list(rt, alloc, &mut images)?;
-        let mut names = Vec::new(alloc);
-        self.twins = Some(apart(alloc, &images, &mut names)?);
-        match failed {
-            None => Ok(names),
-            Some(e) => Err(e),
+        match self.find(rt, alloc)? {
+            (names, None) => Ok(names),
+            (_, Some(e)) => Err(e),
         }
     }
 
@@ -85,16 +81,26 @@ impl Folder {
         rt: &R,
         name: &Name,
     ) -> io::Result<bool> {
-        if let Some(twins) = &self.twins {
-            return Ok(twins.contains(name));
+        if self.twins.is_none() {
+            let _ = self.find(rt, rt.alloc())?;
         }
-        let alloc = rt.alloc();
+        match &self.twins {
+            Some(twins) => Ok(twins.contains(name)),
+            None => Ok(false),
+        }
+    }
+
+    /// Lists the files and keeps which names are no devices. It answers the others, and why a file could not be looked at.
+    fn find<R: Files + AllocGlobal + Clone + Drop>(
+        &mut self,
+        rt: &R,
+        alloc: Global,
+    ) -> io::Result<(Vec<Name>, Option<io::Error>)> {
         let mut images = BTreeMap::new(alloc);
-        let _ = self.list(rt, alloc, &mut images)?;
-        let twins = apart(alloc, &images, &mut Vec::new(alloc))?;
-        let is_twin = twins.contains(name);
-        self.twins = Some(twins);
-        Ok(is_twin)
+        let failed = self.list(rt, &mut images)?;
+        let mut names = Vec::new(alloc);
+        self.twins = Some(apart(alloc, &images, &mut names)?);
+        Ok((names, failed))
     }
 
     /// Puts the files that are devices into the map, and answers why one could not be looked at. Files whose names are not
@@ -102,7 +108,6 @@ impl Folder {
     fn list<R: Files + AllocGlobal + Clone + Drop>(
         &self,
         rt: &R,
-        alloc: Global,
         images: &mut Images,
     ) -> io::Result<Option<io::Error>> {
         if self.path.is_empty() {

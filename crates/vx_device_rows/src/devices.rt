@@ -1,4 +1,5 @@
 //! Rows of calls of a device in memory.
+ghost use Rattle.vx_piece.specs.Seen.{Keeps};
 
 use std::alloc::{AllocError, Global};
 use std::io;
@@ -44,6 +45,9 @@ fn fails_once(rt: &HostRuntime) -> io::Result<()> {
 /// Each part of a device has the part of a Bad that lies in it, and the joined device has both counts.
 fn cut_in_two_and_joined(rt: &HostRuntime) -> io::Result<()> {
     let piece = device(rt.alloc(), 3, 0, 3)?;
+    if piece.sectors() < 2 {
+        return println!(rt; "no device of 3 sectors");
+    }
     let Ok((mut front, mut back)) = piece.split(rt.alloc(), 1) else {
         return println!(rt; "no memory");
     };
@@ -68,9 +72,12 @@ fn armed(rt: &HostRuntime) -> io::Result<()> {
     write(rt, &mut piece, 0, &[0x41; 512])
 }
 
-fn write(rt: &HostRuntime, piece: &mut MemPiece, at: u64, from: &[u8]) -> io::Result<()> {
+fn write<P: Piece>(rt: &HostRuntime, piece: &mut P, at: u64, from: &[u8]) -> io::Result<()>
+    ensures { Keeps (P.seen piece.old) (P.seen piece.new) }
+{
     let sectors = from.len() / 512;
-    if from.len() % 512 != 0 || sectors == 0 || piece.sectors() < at + sectors as u64 {
+    let behind = piece.sectors().saturating_sub(at);
+    if from.len() % 512 != 0 || sectors == 0 || behind < sectors as u64 {
         return println!(rt; "write {at}: not inside");
     }
     match piece.write(at, from) {
@@ -80,7 +87,9 @@ fn write(rt: &HostRuntime, piece: &mut MemPiece, at: u64, from: &[u8]) -> io::Re
 }
 
 /// Reads one sector.
-fn read(rt: &HostRuntime, piece: &mut MemPiece, at: u64) -> io::Result<()> {
+fn read<P: Piece>(rt: &HostRuntime, piece: &mut P, at: u64) -> io::Result<()>
+    ensures { Keeps (P.seen piece.old) (P.seen piece.new) }
+{
     let mut into = [0xff; 512];
     if piece.sectors() <= at {
         return println!(rt; "read {at}: not inside");

@@ -33,19 +33,20 @@ pub fn rows(rt: &HostRuntime) -> io::Result<()> {
     make(rt, &mut shelf, &i0)?;
     make(rt, &mut shelf, &i0)?;
     names(rt, &mut shelf)?;
-    held(rt, &mut shelf, &i1)?;
-    held(rt, &mut shelf, &i1)?;
-    held(rt, &mut shelf, &i0)
+    read(rt, &mut shelf, &i1)?;
+    read(rt, &mut shelf, &i1)?;
+    take(rt, &mut shelf, &i1)?;
+    take(rt, &mut shelf, &i1)?;
+    make(rt, &mut shelf, &i1)?;
+    names(rt, &mut shelf)?;
+    println!(rt; "i1 is held: {}", shelf.device(&i1).is_none())
 }
 
-/// Takes the device, looks at it, and gives it back.
-fn held(rt: &HostRuntime, shelf: &mut MemShelf, name: &Name) -> io::Result<()> {
+/// Takes the device, reads its first sector, and gives it back.
+fn read(rt: &HostRuntime, shelf: &mut MemShelf, name: &Name) -> io::Result<()> {
     let Ok(mut piece) = shelf.take(name) else {
         return println!(rt; "not taken");
     };
-    take(rt, shelf, name)?;
-    make(rt, shelf, name)?;
-    names(rt, shelf)?;
     let mut into = [0; 512];
     let read = piece.read(0, &mut into).is_ok();
     let faults = piece.counts().faults;

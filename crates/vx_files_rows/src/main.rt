@@ -4,10 +4,13 @@
 //! nowhere. The stored output was worked out by hand. The folders are made first, and removed at the end.
 #![tactic(auto)]
 
+ghost use Rattle.std.specs.Prelude.{◌<◌};
+ghost use Rattle.vx_piece.specs.Seen.{Keeps};
+
 use std::alloc::AllocError;
 use std::os::unix::fs::symlink;
 use std::{fs, io, str};
-use vx_files::{FilePiece, FileShelf};
+use vx_files::FileShelf;
 use vx_names::Name;
 use vx_piece::Piece;
 use vx_shelf::{Shelf, ShelfFault};
@@ -74,9 +77,11 @@ fn counts(rt: &HostRuntime) -> io::Result<()> {
             return println!(rt; "not taken");
         };
         call(rt, &mut piece)?;
+        println!(rt; ", faults {}", piece.faults())?;
         fs::rename(rt, "images/i0", "images/away")?;
         fs::create_dir(rt, "images/i0")?;
         call(rt, &mut piece)?;
+        println!(rt; ", faults {}", piece.faults())?;
         fs::remove_dir(rt, "images/i0")?;
         fs::rename(rt, "images/away", "images/i0")?;
         shelf.give(&name, piece);
@@ -85,12 +90,14 @@ fn counts(rt: &HostRuntime) -> io::Result<()> {
 }
 
 /// A write and a read of the first sector.
-fn call(rt: &HostRuntime, piece: &mut FilePiece<HostRuntime>) -> io::Result<()> {
+fn call<P: Piece>(rt: &HostRuntime, piece: &mut P) -> io::Result<()>
+    requires { 0 < (P.seen piece.old).sectors }
+    ensures { Keeps (P.seen piece.old) (P.seen piece.new) }
+{
     let mut sector = [0; 512];
     let wrote = piece.write(0, &sector).is_ok();
     let read = piece.read(0, &mut sector).is_ok();
-    let faults = piece.faults();
-    println!(rt; "wrote {wrote}, read {read}, faults {faults}")
+    print!(rt; "wrote {wrote}, read {read}")
 }
 
 /// The folder of links.

@@ -243,3 +243,44 @@ form_again g (form.Calling (call.Data vol start blocks)) h = refl
 form_again g (form.Sessions block) h =
     let e = each (items_of kind.Sessions) (values_of g (form.Sessions block)) h in
     ap (option_and_then (λ n. Some (form.Sessions (record { sessions = n; lines = [] })))) (small_is 1 16 block.sessions (lit< tt) e.1.1.0)
+
+-- the second value is the group
+pub group_again : (g : Option (List ℕ)) (f : Form) → maybe_name (values_of g f) 1 ≡ Some g
+group_again g (form.MkImage device size) = maybe_back g
+group_again g (form.Bare vol device) = maybe_back g
+group_again g (form.DgInit dg disks) = maybe_back g
+group_again g (form.DgAddDisk dg disk) = maybe_back g
+group_again g (form.DgImport dg) = maybe_back g
+group_again g (form.DgDeport dg) = maybe_back g
+group_again g (form.DiskUnsetup device) = maybe_back g
+group_again g (form.VxMake text) = maybe_back g
+group_again g (form.PrintM vol) = maybe_back g
+group_again g (form.PrintHt vol) = maybe_back g
+group_again g (form.AssistMake vol size a disks) = maybe_back g
+group_again g (form.Mirror vol disks) = maybe_back g
+group_again g (form.RemoveVolume vol) = maybe_back g
+group_again g (form.Start vol) = maybe_back g
+group_again g (form.Stop vol) = maybe_back g
+group_again g (form.Rdpol vol policy.Round) = maybe_back g
+group_again g (form.Rdpol vol policy.Select) = maybe_back g
+group_again g (form.Rdpol vol (policy.Prefer plex)) = maybe_back g
+group_again g (form.PlexDis plex false) = maybe_back g
+group_again g (form.PlexDis plex true) = maybe_back g
+group_again g (form.Prepare vol ndcomirs region) = maybe_back g
+group_again g (form.Unprepare vol) = maybe_back g
+group_again g (form.AddMir vol disks) = maybe_back g
+group_again g (form.Dis snap) = maybe_back g
+group_again g (form.Split snap) = maybe_back g
+group_again g (form.PrintSnaps vol) = maybe_back g
+group_again g (form.Recover vol) = maybe_back g
+group_again g (form.Acting (act.SnapMake vol snap plex)) = maybe_back g
+group_again g (form.Acting (act.Reattach snap vol)) = maybe_back g
+group_again g (form.Acting (act.Restore vol snap)) = maybe_back g
+group_again g (form.Acting (act.Snapback snap false)) = maybe_back g
+group_again g (form.Acting (act.Snapback snap true)) = maybe_back g
+group_again g (form.Acting (act.PlexDet plex)) = maybe_back g
+group_again g (form.Acting (act.PlexAtt vol plex)) = maybe_back g
+group_again g (form.Calling (call.Read vol start count)) = maybe_back g
+group_again g (form.Calling (call.Fill vol start count byte)) = maybe_back g
+group_again g (form.Calling (call.Data vol start blocks)) = maybe_back g
+group_again g (form.Sessions block) = maybe_back g

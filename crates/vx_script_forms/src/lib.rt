@@ -24,6 +24,6 @@ pub use head::{ACTS, CALLS, COMMANDS, Head, head_key, kinds_of};
 pub use items::items_of;
 pub use kind::Kind;
 pub use say::form_of;
-pub use unsay::{act_kind, call_kind, kind_of, values_of};
+pub use unsay::{act_kind, act_values, call_kind, call_values, kind_of, values_of};
 pub use values::group_of;
 pub use vx_script_words::{Blocks, Bytes, DiskAt, Disks, Names};

@@ -1,5 +1,5 @@
 -- Kinds that begin with another word than a line leave all of it: so only those that begin with its word count.
-use Rattle.std.proofs.Common.{◌≡◌, ◌∙◌, sym, ap, ap₂, subst, refl, ℕ, ◌+◌, ◌≤◌, ◌<◌, Bool, true, false, min, not, Option, Some, None, Result, Ok, Err, List, [], ◌∷◌, ◌++◌, length, take, drop, get_or, drop-cons, add-one, arith, inl, inr}
+use Rattle.std.proofs.Common.{◌≡◌, ◌∙◌, sym, ap, ap₂, subst, refl, ℕ, ◌+◌, ◌≤◌, ◌<◌, Bool, true, false, min, not, Some, None, Result, Ok, Err, List, [], ◌∷◌, ◌++◌, length, take, drop, get_or, drop-cons, add-one, arith, inl, inr}
 use Rattle.std.specs.Prelude.{◌&&◌}
 use Rattle.std.specs.List.{list_all, flat_map}
 use Rattle.std.specs.Str.{bytes_eq}
@@ -20,7 +20,6 @@ use Rattle.vx_script_words.specs.declared.class.Item.{Item}
 use Rattle.vx_script_words.specs.declared.class.Item.TheVariants.{One}
 use Rattle.vx_script_words.specs.declared.class.Sort.{Sort}
 use Rattle.vx_script_words.specs.declared.class.Sort.TheVariants as sort
-use Rattle.vx_script_words.specs.declared.value.Value.{Value}
 use Rattle.vx_script_words.proofs.Lines.{items_err}
 
 abbrev is_word : Sort → Bool

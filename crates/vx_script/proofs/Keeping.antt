@@ -178,8 +178,8 @@ line_behind_is sessions session text line h e = elim (chosen (eqb session 0) _ _
       let other = eqb-false session 0 c.0 in
       let some : 1 ≤ session = omega arith in
       chosen_then false calls text (λ c. called session (form_of c.kind c.values)) line (is_line sessions line ≡ true) c.1 (λ c k f.
-          let g = grouped_there c k in
-          called_is sessions session g.0 (form_of c.kind c.values) line (and_from _ _ (le-leb 1 session some) (le-leb session sessions h)) (λ x name e is. said_there c k x name e (g.1 ∙ is)) f)
+      let g = grouped_there c k in
+      called_is sessions session g.0 (form_of c.kind c.values) line (and_from _ _ (le-leb 1 session some) (le-leb session sessions h)) (λ x name e is. said_there c k x name e (g.1 ∙ is)) f)
 ]
 
 session_line_is : (sessions : ℕ) (text : List ℕ) (line : Line) → session_line sessions text ≡ Ok line → is_line sessions line ≡ true

@@ -17,12 +17,7 @@ pub struct Chosen {
 }
 
 /// The first of the kinds whose parts the line fits. Those that begin with another word than the line are not tried.
-pub fn choose(
-    alloc: Global,
-    may_be_cut: bool,
-    heads: &[Head],
-    text: &[u8],
-) -> Result<Chosen, Stop>
+pub fn choose(alloc: Global, may_be_cut: bool, heads: &[Head], text: &[u8]) -> Result<Chosen, Stop>
     requires { IsTrue (are_apart heads.now) }
     ensures { MatchResult result (λ chosen. choose may_be_cut (flat_map kinds_of heads.now) text.now ≡ Ok (record { kind = chosen.kind; values = chosen.values.items; cut = chosen.cut })) (λ stop. Fails stop (choose may_be_cut (flat_map kinds_of heads.now) text.now)) }
 {
@@ -36,12 +31,7 @@ pub fn choose(
     Err(Stop::Left(from.len()))
 }
 
-fn among(
-    alloc: Global,
-    may_be_cut: bool,
-    kinds: &[Kind],
-    text: &[u8],
-) -> Result<Chosen, Stop>
+fn among(alloc: Global, may_be_cut: bool, kinds: &[Kind], text: &[u8]) -> Result<Chosen, Stop>
     ensures { MatchResult result (λ chosen. choose may_be_cut kinds.now text.now ≡ Ok (record { kind = chosen.kind; values = chosen.values.items; cut = chosen.cut })) (λ stop. Fails stop (choose may_be_cut kinds.now text.now)) }
 {
     let mut values = Vec::new(alloc);

@@ -1,10 +1,8 @@
 -- Values of parts are what the parts say, one after the other.
-use Rattle.std.proofs.Common.{◌≡◌, ◌∙◌, sym, ap, ap₂, refl, ℕ, Bool, true, false, Option, Some, None, List, [], ◌∷◌}
-use Rattle.std.specs.Prelude.{◌&&◌}
+use Rattle.std.proofs.Common.{◌≡◌, ap₂, refl, ℕ, Bool, true, false, Option, Some, None, List, [], ◌∷◌}
 use Rattle.std.proofs.lemmas.Bool.{and_parts}
 use Rattle.vx_script_forms.specs.ValuesOf.{maybe_value, count_value}
 use Rattle.vx_script_words.specs.Fits.{is_of, maybe_of, of_item, are_of}
-use Rattle.vx_script_words.specs.declared.class.Class.{Class}
 use Rattle.vx_script_words.specs.declared.class.Item.{Item}
 use Rattle.vx_script_words.specs.declared.class.Item.TheVariants.{One, Maybe, Group, NoGroup, Names, Pairs, Blocks}
 use Rattle.vx_script_words.specs.declared.class.Sort.{Sort}

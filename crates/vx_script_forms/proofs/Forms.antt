@@ -1,6 +1,6 @@
 -- What is said by the values of a form is the form, both ways.
 use Rattle.std.proofs.Common.{◌≡◌, ◌∙◌, sym, ap, subst, refl, ℕ, ◌^◌, ◌<◌, ◌≤◌, Bool, true, false, Option, Some, None, option_and_then, List, [], ◌∷◌, arith, lt-ltb, leb-true}
-use Rattle.std.specs.Prelude.{◌&&◌, nat_le}
+use Rattle.std.specs.Prelude.{nat_le}
 use Rattle.std.proofs.Math.Dec.{lit<}
 use Rattle.std.proofs.lemmas.Bool.{and_parts, both_ways, cond-true}
 use Rattle.vx_script_forms.specs.FormOf.{form_of}

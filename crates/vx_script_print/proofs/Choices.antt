@@ -1,11 +1,11 @@
 -- Which form a printed line has: no kind that is tried before fits the fixed words of its own.
-use Rattle.std.proofs.Common.{◌≡◌, ◌∙◌, sym, ap, subst, refl, ℕ, zero, suc, ◌⊎◌, inl, inr, Bool, true, false, cond, min, not, List, [], ◌∷◌, ◌++◌, length, Option, Some, None, Result, Ok, Err}
+use Rattle.std.proofs.Common.{◌≡◌, ◌∙◌, sym, ap, subst, refl, ℕ, zero, suc, inl, inr, Bool, true, false, cond, min, List, [], ◌∷◌, ◌++◌, length, Option, Some, None, Result, Ok, Err}
 use Rattle.std.specs.Prelude.{codes, is_none, is_some, slice_get, ◌&&◌, ◌||◌}
 use Rattle.std.specs.List.{list_all}
 use Rattle.std.specs.Str.{bytes_eq}
-use Rattle.std.proofs.lemmas.Bool.{and_parts, and_from, cond-true, cond-false, or_cases, cases_Bool, both_ways}
+use Rattle.std.proofs.lemmas.Bool.{and_parts, cond-true, cond-false, or_cases, cases_Bool, both_ways}
 use Rattle.std.proofs.lemmas.List.{append-nil, append_assoc}
-use Rattle.vx_script.specs.Choice.{Choice, choice, choose, or_others}
+use Rattle.vx_script.specs.Choice.{choice, choose, or_others}
 use Rattle.vx_script.proofs.Placed.{In}
 use Rattle.vx_script_forms.specs.Table.{items_of, commands, calls, acts}
 use Rattle.vx_script_forms.specs.ValuesOf.{act_kind, call_kind}
@@ -16,7 +16,7 @@ use Rattle.vx_script_forms.specs.declared.call.Call.TheVariants as call
 use Rattle.vx_script_forms.specs.declared.kind.Kind.{Kind}
 use Rattle.vx_script_forms.specs.declared.kind.Kind.TheVariants as kind
 use Rattle.vx_names.specs.Form.{is_name}
-use Rattle.vx_script_print.specs.Text.{class_word, words_of, row_words, cut_words}
+use Rattle.vx_script_print.specs.Text.{class_word, row_words, cut_words}
 use Rattle.vx_script_words.specs.Class.{class_value}
 use Rattle.vx_script_words.specs.Fits.{is_of, of_item, are_of}
 use Rattle.vx_script_words.specs.Hex.{block_of}

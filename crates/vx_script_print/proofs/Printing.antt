@@ -1,8 +1,7 @@
 -- Words that are printed one behind the other.
-use Rattle.std.proofs.Common.{◌≡◌, ◌∙◌, sym, ap, ap₂, refl, ℕ, zero, suc, ◌+◌, ◌-◌, ◌*◌, ◌/◌, ◌<◌, ◌≤◌, min, inl, inr, List, [], ◌∷◌, ◌++◌, map, length, take, drop, get_or, arith, append_assoc, append-nil, add-one, drop-cons}
+use Rattle.std.proofs.Common.{◌≡◌, ◌∙◌, sym, ap, ap₂, refl, ℕ, zero, suc, ◌+◌, ◌-◌, ◌*◌, ◌<◌, ◌≤◌, min, inl, inr, List, [], ◌∷◌, ◌++◌, length, drop, get_or, arith, append_assoc, append-nil, add-one, drop-cons}
 use Rattle.std.proofs.lemmas.Bool.{cases_lt}
-use Rattle.std.proofs.lemmas.List.{drop-drop, length-drop}
-use Rattle.vx_block.specs.Word.{block_word}
+use Rattle.std.proofs.lemmas.List.{drop-drop}
 use Rattle.vx_script_print.specs.Text.{cut_blocks, words_of, row_words}
 use Rattle.vx_script_words.specs.Blocks.{block_at}
 use Rattle.vx_script_words.specs.Spelling.{spelled, begun}

@@ -1,5 +1,5 @@
 -- The parts of a form read the words that are printed of their values, and leave those behind them.
-use Rattle.std.proofs.Common.{◌≡◌, ◌∙◌, sym, ap, ap₂, subst, refl, ℕ, zero, suc, ◌*◌, ◌/◌, ◌-◌, ◌%◌, ◌<◌, ◌≤◌, inl, inr, ◌⊎◌, Bool, true, false, cond, List, [], ◌∷◌, ◌++◌, map, length, take, drop, arith, Option, Some, None, Result, Ok, Err, leb-true, le-leb, ltb-true, eqb-true, eq-eqb}
+use Rattle.std.proofs.Common.{◌≡◌, ◌∙◌, sym, ap, subst, refl, ℕ, zero, suc, ◌*◌, ◌/◌, ◌-◌, ◌%◌, ◌<◌, ◌≤◌, inl, inr, ◌⊎◌, Bool, true, false, cond, List, [], ◌∷◌, ◌++◌, map, length, take, drop, arith, Option, Some, None, Ok, Err, leb-true, le-leb, ltb-true, eqb-true, eq-eqb}
 use Rattle.std.specs.Prelude.{codes, is_some, ◌&&◌, ◌||◌, ◌==◌, not, decimal, nat_lt, nat_le, ◌^◌}
 use Rattle.std.specs.List.{list_all}
 use Rattle.std.specs.Str.{bytes_eq}
@@ -15,8 +15,8 @@ use Rattle.vx_script_words.specs.Class.{class_value, value_behind, as_name}
 use Rattle.vx_script_words.specs.Fits.{is_byte, is_pair, are_blocks, is_between, pair_word, is_of, maybe_of, of_item, are_of}
 use Rattle.vx_script_words.specs.Hex.{block_of}
 use Rattle.vx_script_words.specs.Key.{text_of}
-use Rattle.vx_script_words.specs.Parts.{behind, cut_of, name_of, pair_of, number_behind, both}
-use Rattle.vx_script_words.specs.Row.{So, Going, one, taken, with_value, or_else, further, gather, pushed, joined, Found, said, at_least_one, any_name, group, item, items, row, Read, and_then, line_end, cut_end, uncut, nothing_left}
+use Rattle.vx_script_words.specs.Parts.{behind, cut_of, name_of, pair_of, number_behind}
+use Rattle.vx_script_words.specs.Row.{So, Going, one, taken, with_value, or_else, further, gather, pushed, joined, said, at_least_one, any_name, group, item, items, row, Read, and_then, line_end, cut_end, uncut, nothing_left}
 use Rattle.vx_script_words.specs.Spelling.{Spells}
 use Rattle.vx_script_words.specs.Words.{from_word, first_word, past_word}
 use Rattle.vx_script_words.specs.declared.class.Class.{Class}
@@ -28,7 +28,7 @@ use Rattle.vx_script_words.specs.declared.key.Key.{Key}
 use Rattle.vx_script_words.specs.declared.value.DiskAt.{DiskAt}
 use Rattle.vx_script_words.specs.declared.value.Value.{Value}
 use Rattle.vx_script_words.specs.declared.value.Value.TheVariants as value
-use Rattle.vx_script_words.proofs.Plain.{is_dark, is_dark_word, name_parts, name_word}
+use Rattle.vx_script_words.proofs.Plain.{is_dark_word, name_word}
 use Rattle.vx_script_words.proofs.Spelled.{few_words}
 use Rattle.vx_script_print.proofs.Names.{behind_front, name_said, pair_said, pair_is_word, front_apart, nothing_of, name_has_no_front, apart, all_taken}
 use Rattle.vx_script_print.proofs.Blocks.{block_said, block_is_word}

@@ -1,10 +1,9 @@
 -- The printed line of a form is read as the form.
-use Rattle.std.proofs.Common.{◌≡◌, ◌∙◌, sym, ap, subst, refl, ℕ, ◌≤◌, inl, inr, Bool, true, false, not, List, [], ◌∷◌, ◌++◌, length, arith, Option, Some, None, Result, Ok}
-use Rattle.std.specs.Prelude.{◌&&◌, codes}
+use Rattle.std.proofs.Common.{◌≡◌, ◌∙◌, sym, ap, subst, refl, ℕ, ◌≤◌, inl, inr, Bool, true, false, not, List, [], ◌∷◌, ◌++◌, arith, Option, Some, None, Ok}
+use Rattle.std.specs.Prelude.{◌&&◌}
 use Rattle.std.specs.List.{list_all}
-use Rattle.std.proofs.lemmas.Bool.{and_parts, and_from, not-true, cond-false, ne_eqb}
+use Rattle.std.proofs.lemmas.Bool.{and_parts, not-true, cond-false, ne_eqb}
 use Rattle.std.proofs.lemmas.List.{append-nil}
-use Rattle.vx_script.specs.Choice.{choose}
 use Rattle.vx_script.specs.Kept.{is_said, maybe_cut}
 use Rattle.vx_script.specs.Lines.{begins_comment, is_passed_over}
 use Rattle.vx_script.specs.Steps.{step, command_step, opened, opened_by, line_behind, called, administered}
@@ -16,7 +15,6 @@ use Rattle.vx_script_forms.specs.Table.{items_of, commands, calls, acts}
 use Rattle.vx_script_forms.specs.Values.{maybe_name}
 use Rattle.vx_script_forms.specs.ValuesOf.{kind_of, values_of, opening}
 use Rattle.vx_script_forms.specs.declared.act.Act.{Act}
-use Rattle.vx_script_forms.specs.declared.block.Line.{Line}
 use Rattle.vx_script_forms.specs.declared.block.Line.TheVariants.{Session, Administer}
 use Rattle.vx_script_forms.specs.declared.act.Admin.{Admin}
 use Rattle.vx_script_forms.specs.declared.call.Call.{Call}
@@ -36,7 +34,7 @@ use Rattle.vx_script_words.proofs.Plain.{is_dark_word}
 use Rattle.vx_script_print.proofs.ValueWords.{is_fixed, fixed_text}
 use Rattle.vx_script_print.proofs.Rows.{line_dark}
 use Rattle.vx_script_print.proofs.Choices.{in_commands, in_calls, in_acts, plain_commands, plain_calls, plain_acts, is_chosen, kind_clear}
-use Rattle.vx_script_print.proofs.Lines.{is_one_line, begun_one_line, begun_spells, not_passed}
+use Rattle.vx_script_print.proofs.Lines.{begun_spells, not_passed}
 
 -- the first word is fixed, and begins no comment
 abbrev begins_plain : List Item → Bool

@@ -1,17 +1,17 @@
 -- The word that is printed for a value says the value, and has no blank.
-use Rattle.std.proofs.Common.{◌≡◌, ◌∙◌, sym, ap, refl, ℕ, ◌-◌, ◌%◌, ◌^◌, ◌<◌, ◌≤◌, inl, inr, Bool, true, false, List, [], ◌∷◌, ◌++◌, arith, Option, Some, None, leb-true, ltb-true}
-use Rattle.std.specs.Prelude.{◌&&◌, ◌||◌, nat_le, nat_lt, not, codes, decimal}
+use Rattle.std.proofs.Common.{◌≡◌, ◌∙◌, sym, ap, refl, ℕ, ◌-◌, ◌%◌, ◌^◌, ◌<◌, ◌≤◌, Bool, true, false, List, [], ◌∷◌, ◌++◌, arith, Some, leb-true, ltb-true}
+use Rattle.std.specs.Prelude.{◌&&◌, ◌||◌, nat_le, not, codes}
 use Rattle.std.specs.List.{list_all}
 use Rattle.std.proofs.lemmas.List.{append-nil}
 use Rattle.std.proofs.lemmas.List.Folds.{list_all-append}
-use Rattle.std.proofs.lemmas.Bool.{and_parts, and_from, or_cases, ne_eqb, or_from, not_from_false}
+use Rattle.std.proofs.lemmas.Bool.{and_parts, and_from, ne_eqb, or_from, not_from_false}
 use Rattle.vx_block.specs.Word.{hex}
 use Rattle.vx_names.specs.Form.{is_name}
 use Rattle.vx_script_print.specs.Text.{value_text, class_word, plex_text}
 use Rattle.vx_script_words.specs.Class.{class_value, sort_value, as_name, as_number, as_pair}
-use Rattle.vx_script_words.specs.Fits.{is_between, maybe_name, is_of}
+use Rattle.vx_script_words.specs.Fits.{maybe_name, is_of}
 use Rattle.vx_script_words.specs.Key.{text_of}
-use Rattle.vx_script_words.specs.Words.{is_blank, is_not_blank}
+use Rattle.vx_script_words.specs.Words.{is_not_blank}
 use Rattle.vx_script_words.specs.declared.class.Class.{Class}
 use Rattle.vx_script_words.specs.declared.class.Sort.{Sort}
 use Rattle.vx_script_words.specs.declared.class.Sort.TheVariants as sort

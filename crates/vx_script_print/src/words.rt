@@ -27,12 +27,7 @@ pub fn put_row(
     Ok(())
 }
 
-fn put_part(
-    alloc: Global,
-    item: Item,
-    value: &Value,
-    out: &mut Vec<u8>,
-) -> Result<(), OutOfMemory>
+fn put_part(alloc: Global, item: Item, value: &Value, out: &mut Vec<u8>) -> Result<(), OutOfMemory>
     ensures { OnOk result (out.new.items ≡ out.old.items ++ spelled (words_of item value.now)) }
 {
     match (item, value) {
@@ -59,12 +54,7 @@ fn put_word(
     put_value(alloc, class.sort, value, out)
 }
 
-fn put_value(
-    alloc: Global,
-    sort: Sort,
-    value: &Value,
-    out: &mut Vec<u8>,
-) -> Result<(), OutOfMemory>
+fn put_value(alloc: Global, sort: Sort, value: &Value, out: &mut Vec<u8>) -> Result<(), OutOfMemory>
     ensures { OnOk result (out.new.items ≡ out.old.items ++ value_text sort value.now) }
 {
     match value {

@@ -1,15 +1,15 @@
 -- What a line says under the parts of a form are values of these parts.
-use Rattle.std.proofs.Common.{◌≡◌, ◌∙◌, sym, ap, subst, refl, ℕ, zero, suc, ◌+◌, ◌*◌, ◌%◌, ◌^◌, ◌≤◌, ◌<◌, ◌⊎◌, inl, inr, Bool, true, false, Option, Some, None, Result, Ok, Err, List, [], ◌∷◌, ◌++◌, length, arith, append_assoc, append-nil, codes, lt-ltb, le-leb, eq-eqb}
+use Rattle.std.proofs.Common.{◌≡◌, ◌∙◌, sym, ap, subst, refl, ℕ, zero, suc, ◌+◌, ◌*◌, ◌%◌, ◌^◌, ◌≤◌, ◌<◌, inl, inr, Bool, true, false, Option, Some, None, Result, Ok, Err, List, [], ◌∷◌, ◌++◌, length, arith, append_assoc, append-nil, codes, lt-ltb, le-leb, eq-eqb}
 use Rattle.std.specs.List.{list_all}
 use Rattle.std.specs.Str.{bytes_eq}
-use Rattle.std.proofs.lemmas.Bool.{and_parts, and_from}
+use Rattle.std.proofs.lemmas.Bool.{and_from}
 use Rattle.std.proofs.lemmas.List.{length-append}
 use Rattle.vx_names.specs.Form.{is_name}
 use Rattle.vx_script_words.specs.Class.{class_value}
 use Rattle.vx_script_words.specs.Fits.{is_byte, are_blocks, is_pair, is_of, maybe_of, of_item, are_of}
 use Rattle.vx_script_words.specs.Hex.{block_of}
 use Rattle.vx_script_words.specs.Parts.{behind, cut_of, name_of, pair_of}
-use Rattle.vx_script_words.specs.Row.{So, Going, and_then, with_value, taken, one, or_else, maybe, further, gather, pushed, joined, Found, said, at_least_one, any_name, item, items, fits, Read, nothing_left, cut_end, uncut, line_end, row}
+use Rattle.vx_script_words.specs.Row.{So, Going, and_then, with_value, taken, one, or_else, maybe, further, gather, pushed, joined, at_least_one, any_name, item, items, fits, Read, nothing_left, cut_end, uncut, line_end, row}
 use Rattle.vx_script_words.specs.Words.{from_word, first_word, past_word}
 use Rattle.vx_script_words.specs.declared.class.Class.{Class}
 use Rattle.vx_script_words.specs.declared.class.Item.{Item}
@@ -20,7 +20,7 @@ use Rattle.vx_script_words.specs.declared.value.DiskAt.{DiskAt}
 use Rattle.vx_script_words.specs.declared.value.Value.{Value}
 use Rattle.vx_script_words.specs.declared.value.Value.TheVariants as value
 use Rattle.vx_script_words.proofs.Lines.{items_err}
-use Rattle.vx_script_words.proofs.Sorts.{AreBytes, all_joined, all_pushed, block_ok, class_ok, chosen, cut_ok, name_ok, pair_ok}
+use Rattle.vx_script_words.proofs.Sorts.{all_joined, all_pushed, block_ok, class_ok, chosen, cut_ok, name_ok, pair_ok}
 
 -- ---- what is read
 

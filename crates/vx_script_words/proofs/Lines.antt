@@ -1,5 +1,5 @@
 -- Words that say something one after the other, and the parts of a form one after the other.
-use Rattle.std.proofs.Common.{◌≡◌, ◌∙◌, sym, ap, subst, refl, ℕ, suc, ◌+◌, ◌-◌, ◌<◌, ◌≤◌, Option, Some, None, List, [], ◌∷◌, Ok, Err, arith, length, drop, get_or, drop-cons}
+use Rattle.std.proofs.Common.{◌≡◌, ◌∙◌, sym, ap, refl, ℕ, suc, ◌+◌, ◌-◌, ◌<◌, ◌≤◌, Option, Some, None, List, [], ◌∷◌, Ok, Err, arith, length, drop, get_or, drop-cons}
 use Rattle.vx_script_words.specs.Row.{gather, further, Found, item, items, Going}
 use Rattle.vx_script_words.specs.Words.{from_word, first_word, past_word}
 use Rattle.vx_script_words.specs.declared.class.Item.{Item}

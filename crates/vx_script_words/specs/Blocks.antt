@@ -1,6 +1,5 @@
 -- Blocks as they are kept, and their bytes.
-use Rattle.std.specs.Prelude.{ℕ, ◌+◌, ◌*◌, ◌==◌, Bool, true, List, length, take, drop, replicate}
-use Rattle.std.specs.List.{list_all, flat_map}
+use Rattle.std.specs.Prelude.{ℕ, ◌*◌, ◌==◌, Bool, List, length, take, drop, replicate}
 use Rattle.vx_script_words.specs.declared.block.BlockOf.{BlockOf}
 use Rattle.vx_script_words.specs.declared.block.BlockOf.TheVariants.{Equal, Whole}
 

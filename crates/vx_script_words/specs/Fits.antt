@@ -1,5 +1,5 @@
 -- The values that the parts of a form may have.
-use Rattle.std.specs.Prelude.{ℕ, ◌^◌, ◌%◌, ◌==◌, ◌&&◌, ◌||◌, ◌++◌, nat_le, nat_lt, is_none, Bool, true, false, Option, Some, None, List, [], ◌∷◌, length, codes}
+use Rattle.std.specs.Prelude.{ℕ, ◌^◌, ◌%◌, ◌==◌, ◌&&◌, ◌++◌, nat_le, nat_lt, is_none, Bool, true, false, Option, Some, None, List, [], ◌∷◌, length, codes}
 use Rattle.std.specs.List.{list_all}
 use Rattle.vx_names.specs.Form.{is_name}
 use Rattle.vx_script_words.specs.Parts.{cut_of}

@@ -7,9 +7,7 @@ ghost use Rattle.vx_script_words.specs.Row.{one, maybe, group, item, items, ends
 use crate::lists::{more_blocks, more_pairs, some_names};
 use crate::parts::pair_of;
 use crate::words::{first_word, from_word, past_word};
-use crate::{
-    Blocks, Class, Disks, Item, Key, Sort, Stop, Value, block_of, class_value, cut_of,
-};
+use crate::{Blocks, Class, Disks, Item, Key, Sort, Stop, Value, block_of, class_value, cut_of};
 use std::alloc::Global;
 use vx_base::OutOfMemory;
 

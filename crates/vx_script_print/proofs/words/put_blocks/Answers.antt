@@ -1,4 +1,4 @@
-use Rattle.std.proofs.Common.{◌≡◌, ◌∙◌, ◌++◌, ◌+◌, ◌-◌, ◌*◌, ◌/◌, ◌∷◌, [], ap, sym, subst, refl, rules, arith, List, ℕ, drop, map, length, append-nil}
+use Rattle.std.proofs.Common.{◌≡◌, ◌∙◌, ◌++◌, ◌+◌, ◌-◌, ◌*◌, ◌/◌, ◌∷◌, [], ap, sym, subst, arith, List, ℕ, drop, map, length, append-nil}
 use Rattle.std.proofs.lemmas.Grind.{common_steps}
 use Rattle.vx_block.specs.Word.{block_word}
 use Rattle.vx_script_print.specs.Text.{cut_blocks}

@@ -1,4 +1,4 @@
-use Rattle.std.proofs.Common.{◌≡◌, ◌∙◌, ◌++◌, ◌+◌, ap, sym, subst, refl, rules, arith, List, ℕ, drop, get_or}
+use Rattle.std.proofs.Common.{◌+◌, ap, subst, arith, List, ℕ, drop, get_or}
 use Rattle.vx_script_print.specs.Text.{words_of, row_words}
 use Rattle.vx_script_words.specs.Spelling.{spelled}
 use Rattle.vx_script_words.specs.declared.class.Item.{Item}

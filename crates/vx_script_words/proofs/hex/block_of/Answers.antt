@@ -1,5 +1,4 @@
-use Rattle.std.proofs.Common.{◌≡◌, ◌∙◌, ap, sym, rules, Some}
-use Rattle.std.proofs.lemmas.Bool.{cond-false, cond-true, false_from_ne_true}
+use Rattle.std.proofs.lemmas.Bool.{cond-false, false_from_ne_true}
 use Rattle.vx_block.specs.Reading.{is_block_word}
 use Rattle.vx_script_words.specs.Hex.{block_of}
 use Rattle.vx_script_words.proofs.hex.block_of.Goals as goal

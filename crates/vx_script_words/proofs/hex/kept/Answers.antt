@@ -1,4 +1,4 @@
-use Rattle.std.proofs.Common.{◌≡◌, ◌∙◌, ap, sym, rules, arith, length, replicate, get_or}
+use Rattle.std.proofs.Common.{◌≡◌, ◌∙◌, ap, sym, rules, length, replicate, get_or}
 use Rattle.std.specs.List.{list_all}
 use Rattle.std.specs.Prelude.{◌==◌, true}
 use Rattle.vx_script_words.proofs.BlockLists.{all_same}

@@ -1,4 +1,4 @@
-use Rattle.std.proofs.Common.{rules, arith, ap, ap₂, ◌≡◌, ◌∙◌, ◌+◌, ◌-◌, Some}
+use Rattle.std.proofs.Common.{rules, arith, ap₂, ◌≡◌, ◌∙◌, ◌+◌, ◌-◌, Some}
 use Rattle.vx_script_words.specs.Blocks.{block_bytes}
 use Rattle.vx_script_words.specs.Hex.{block_of}
 use Rattle.vx_script_words.specs.Row.{gather, joined}

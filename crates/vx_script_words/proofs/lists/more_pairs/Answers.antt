@@ -1,4 +1,4 @@
-use Rattle.std.proofs.Common.{rules, arith, ap, ap₂, ◌≡◌, ◌∙◌, ◌+◌, ◌-◌, length}
+use Rattle.std.proofs.Common.{rules, arith, ap₂, ◌≡◌, ◌∙◌, ◌+◌, ◌-◌, length}
 use Rattle.vx_script_words.specs.Parts.{pair_of}
 use Rattle.vx_script_words.specs.Row.{gather, pushed}
 use Rattle.vx_script_words.specs.Words.{from_word, past_word}

@@ -1,4 +1,4 @@
-use Rattle.std.proofs.Common.{◌≡◌, ◌-◌, length, []}
+use Rattle.std.proofs.Common.{◌≡◌, ◌-◌, length}
 use Rattle.vx_script_words.specs.Parts.{pair_of}
 use Rattle.vx_script_words.specs.Row.{gather, pushed}
 use Rattle.vx_script_words.proofs.lists.more_pairs.Given as goal

@@ -1,10 +1,9 @@
-use Rattle.std.proofs.Common.{◌≡◌, ◌∙◌, ◌++◌, ◌∷◌, List, [], ap, sym, subst, rules, arith, length}
+use Rattle.std.proofs.Common.{◌≡◌, ◌∙◌, ◌++◌, ◌∷◌, [], ap, sym, subst, rules, arith}
 use Rattle.std.specs.Bool.{IsTrue}
 use Rattle.std.proofs.lemmas.List.{append-nil, append_assoc}
 use Rattle.vx_names.specs.Form.{is_name}
 use Rattle.vx_script_words.specs.Packed.{names_in}
-use Rattle.vx_script_words.specs.Words.{past}
-use Rattle.vx_script_words.proofs.Packing.{first_name, no_names, no_bytes}
+use Rattle.vx_script_words.proofs.Packing.{first_name, no_bytes}
 use Rattle.vx_script_words.proofs.names.names_of.Goals as goal
 
 pub returns-in_default : goal.returns-in_default

@@ -1,5 +1,4 @@
-use Rattle.std.proofs.Common.{◌≡◌, ◌∙◌, ap, sym, subst, rules, arith, length, get_or, ◌<◌, ◌*◌, List}
-use Rattle.std.specs.Prelude.{true}
+use Rattle.std.proofs.Common.{◌∙◌, ap, sym, arith, length, get_or}
 use Rattle.vx_script_words.specs.Blocks.{block_bytes, block_at, is_whole}
 use Rattle.vx_script_words.proofs.BlockLists.{block_there, whole_there, inside}
 use Rattle.vx_script_words.proofs.blocks.Blocks.copy_block.Goals as goal

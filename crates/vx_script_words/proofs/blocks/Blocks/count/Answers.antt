@@ -1,4 +1,4 @@
-use Rattle.std.proofs.Common.{◌≡◌, ap, sym, rules, arith, length, ◌*◌}
+use Rattle.std.proofs.Common.{◌≡◌, ap, arith, length}
 use Rattle.vx_script_words.proofs.BlockLists.{whole_length}
 use Rattle.vx_script_words.proofs.blocks.Blocks.count.Goals as goal
 

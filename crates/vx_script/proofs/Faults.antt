@@ -17,7 +17,7 @@ use Rattle.vx_script_forms.specs.declared.form.Form.{Form}
 use Rattle.vx_script_forms.specs.declared.form.Form.TheVariants as form
 use Rattle.vx_script_forms.specs.declared.kind.Kind.{Kind}
 use Rattle.vx_script_forms.specs.declared.kind.Kind.TheVariants as kind
-use Rattle.vx_script_forms.proofs.Ranged.{form_ok}
+use Rattle.vx_script_forms.proofs.Forms.{form_ok}
 use Rattle.vx_script_words.specs.Row.{row, Read, and_then}
 use Rattle.vx_script_words.specs.Words.{from_word}
 use Rattle.vx_script_words.specs.declared.value.Value.{Value}
@@ -46,13 +46,8 @@ itself : (test : Form → Bool) (g f : Form) → test g ≡ true → Some g ≡ 
 itself test g f h e = let same : g ≡ f = cc in subst (λ (x : Form). test x ≡ true) same h
 
 broken_off_acts : (v : Value) (f : Form) → broken_off v ≡ Some f → is_acting f ≡ true
-broken_off_acts value.Nothing f e = absurd cc
-broken_off_acts value.Word f e = absurd cc
-broken_off_acts (value.Named x) f e = absurd cc
-broken_off_acts (value.Number n) f e = absurd cc
-broken_off_acts (value.Pair pair) f e = absurd cc
 broken_off_acts (value.BreakOff vol snap plex) f e = itself is_acting _ f refl e
-broken_off_acts (value.Block bytes) f e = absurd cc
+broken_off_acts v f e = absurd cc
 
 snap_make_acts : (o : Option Value) (f : Form) → at broken_off o ≡ Some f → is_acting f ≡ true
 snap_make_acts None f e = absurd cc
@@ -130,15 +125,13 @@ refused may_be_cut kinds text f left taken e = by_choice (choose may_be_cut kind
 opened_there : (done : List Command) (c : Choice) (left : ℕ) → IsChoice c → opened_by done (maybe_name c.values 1) (form_of c.kind c.values) c.cut ≡ Err left → ⊥
 opened_there done c left h e =
     let k = form_ok c.kind c.values h.0 in
-    let n = k.holds.1 in
-    let there = sym (ap₂ (λ (g : Option (Option (List ℕ))) (f : Option Form). opened_by done g f c.cut) n.is k.is) ∙ e in
+    let there = sym (ap₂ (λ (g : Option (Option (List ℕ))) (f : Option Form). opened_by done g f c.cut) k.group_is k.is) ∙ e in
     cc
 
 administered_there : (c : Choice) (left : ℕ) → In c.kind acts → IsChoice c → administered (maybe_name c.values 1) (form_of c.kind c.values) ≡ Err left → ⊥
 administered_there c left i h e =
     let k = form_ok c.kind c.values h.0 in
-    let n = k.holds.1 in
-    by_form k.value n.value (each_in (Makes is_acting) c.kind acts acts_act i c.values k.value k.is) (sym (ap₂ administered n.is k.is) ∙ e)
+    by_form k.form k.group (each_in (Makes is_acting) c.kind acts acts_act i c.values k.form k.is) (sym (ap₂ administered k.group_is k.is) ∙ e)
   where
     by_form : (f : Form) (group : Option (List ℕ)) → is_acting f ≡ true → administered (Some group) (Some f) ≡ Err left → ⊥
     by_form (form.Acting act) group a e = cc
@@ -147,7 +140,7 @@ administered_there c left i h e =
 called_there : (session : ℕ) (c : Choice) (left : ℕ) → In c.kind calls → IsChoice c → called session (form_of c.kind c.values) ≡ Err left → ⊥
 called_there session c left i h e =
     let k = form_ok c.kind c.values h.0 in
-    by_form k.value (each_in (Makes is_calling) c.kind calls calls_call i c.values k.value k.is) (sym (ap (called session) k.is) ∙ e)
+    by_form k.form (each_in (Makes is_calling) c.kind calls calls_call i c.values k.form k.is) (sym (ap (called session) k.is) ∙ e)
   where
     by_form : (f : Form) → is_calling f ≡ true → called session (Some f) ≡ Err left → ⊥
     by_form (form.Calling call) a e = cc

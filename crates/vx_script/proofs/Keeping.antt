@@ -1,13 +1,13 @@
 -- What a line does to a script keeps the ranges and the limits.
-use Rattle.std.proofs.Common.{◌≡◌, ◌∙◌, sym, ap, subst, refl, ℕ, ◌+◌, ◌≤◌, Bool, true, false, eqb, leb, inl, inr, leb-true, le-leb, lt-ltb, not, Option, Some, None, is_none, Result, Ok, Err, List, [], ◌∷◌, ◌++◌, map, sum, length, codes, arith}
+use Rattle.std.proofs.Common.{◌≡◌, ◌∙◌, sym, ap, ap₂, subst, refl, ℕ, ◌+◌, ◌≤◌, Bool, true, false, eqb, leb, inl, inr, leb-true, le-leb, lt-ltb, not, Option, Some, None, is_none, Result, Ok, Err, List, [], ◌∷◌, ◌++◌, map, sum, length, codes, arith}
 use Rattle.std.specs.Prelude.{◌&&◌}
 use Rattle.std.specs.List.{list_all}
 use Rattle.std.specs.Str.{bytes_eq}
-use Rattle.std.proofs.lemmas.Bool.{and_from, and_parts, or_right, eqb-false}
+use Rattle.std.proofs.lemmas.Bool.{and_from, and_parts, eqb-false, true≢false}
 use Rattle.std.proofs.lemmas.List.Sums.{sum-map, sum_by_push}
 use Rattle.std.proofs.lemmas.Option.{same_Some}
 use Rattle.vx_script.specs.Choice.{Choice, choice, choose, or_others}
-use Rattle.vx_script.specs.Kept.{is_line, is_block, is_made, is_record_line, is_body, maybe_cut, is_command, is_kept}
+use Rattle.vx_script.specs.Kept.{is_said, is_line, is_block, is_made, is_record_line, is_body, maybe_cut, is_command, is_kept}
 use Rattle.vx_script.specs.Lines.{bad_word, is_passed_over, lines_of}
 use Rattle.vx_script.specs.Script.{commands_from, finished, script_of, stepped}
 use Rattle.vx_script.specs.Steps.{opened, opened_by, command_step, or_bad, closed_step, making_step, administered, called, line_behind, line_of_session, session_line, line_calls, line_sectors, added, ended, inside_step, open_step, step}
@@ -17,15 +17,17 @@ use Rattle.vx_script.specs.declared.reader.Open.TheVariants.{Closed, Making, Ins
 use Rattle.vx_script.specs.declared.reader.Reader.{Reader}
 use Rattle.vx_script.proofs.Made.{made_more}
 use Rattle.vx_script_forms.specs.FormOf.{form_of}
-use Rattle.vx_script_forms.specs.Ranges.{is_between, is_form, may_have_group}
-use Rattle.vx_script_forms.specs.Ranges.{maybe_name as is_maybe_name}
 use Rattle.vx_script_forms.specs.Table.{items_of, commands, calls, acts}
 use Rattle.vx_script_forms.specs.Values.{maybe_name}
 use Rattle.vx_script_forms.specs.declared.block.Line.{Line}
 use Rattle.vx_script_forms.specs.declared.form.Form.{Form}
 use Rattle.vx_script_forms.specs.declared.form.Form.TheVariants as form
 use Rattle.vx_script_forms.specs.declared.kind.Kind.{Kind}
-use Rattle.vx_script_forms.proofs.Ranged.{form_ok, group_fits}
+use Rattle.vx_script_forms.proofs.Forms.{form_ok}
+use Rattle.vx_script_words.specs.Fits.{is_between, are_of}
+use Rattle.vx_script_words.specs.declared.value.Value.{Value}
+use Rattle.vx_script_forms.specs.declared.call.Call.{Call}
+use Rattle.vx_script_forms.specs.declared.call.Call.TheVariants as call
 use Rattle.vx_script_words.specs.Number.{number_of, within}
 use Rattle.vx_script_words.specs.Row.{row, Read, and_then}
 use Rattle.vx_script_words.specs.Words.{from_word, first_word, past_word}
@@ -53,14 +55,14 @@ cut_is (Some n) h = lt-ltb n _ h
 
 -- a record text that is begun
 pub record KeepsText (group : Option (List ℕ)) (cut : Option ℕ) (text : List ℕ) : Type 0 where
-  pub named : is_maybe_name group ≡ true
+  pub said : is_said group (form.VxMake []) ≡ true
   pub short : maybe_cut cut ≡ true
   pub made : is_made text ≡ true
 
 -- a block that is begun, and what is counted of it
 pub record KeepsBlock (cut : Option ℕ) (sessions : ℕ) (lines : List Line) (calls sectors : ℕ) : Type 0 where
   pub short : maybe_cut cut ≡ true
-  pub some : is_between 1 16 sessions ≡ true
+  pub said : is_said None (form.Sessions (record { sessions = sessions; lines = [] })) ≡ true
   pub each : list_all (is_line sessions) lines ≡ true
   pub counted : sum (map line_calls lines) ≡ calls
   pub measured : sum (map line_sectors lines) ≡ sectors
@@ -81,23 +83,34 @@ pub record Keeps (reader : Reader) : Type 0 where
 closed_more : (done : List Command) (c : Command) → list_all is_command done ≡ true → is_command c ≡ true → Keeps (record { done = done ++ c ∷ []; begun = Closed })
 closed_more done c h k = record { done = all_pushed is_command done c h k; begun = tt }
 
-command_is : (group : Option (List ℕ)) (f : Form) (cut : Option ℕ) → is_form f ≡ true → is_body f ≡ true → maybe_cut cut ≡ true → group_fits f group ≡ true → is_command (record { group = group; form = f; cut = cut }) ≡ true
-command_is group f cut a b c d = and_from _ _ (and_from _ _ (and_from _ _ a b) c) d
+command_is : (group : Option (List ℕ)) (f : Form) (cut : Option ℕ) → is_said group f ≡ true → is_body f ≡ true → maybe_cut cut ≡ true → is_command (record { group = group; form = f; cut = cut }) ≡ true
+command_is group f cut a b c = and_from _ _ (and_from _ _ a b) c
 
-named : (group : Option (List ℕ)) (f : Form) → group_fits f group ≡ true → is_maybe_name group ≡ true
-named None f h = refl
-named (Some name) f h = (and_parts (may_have_group f) _ h).1
+-- a block has no group, and a call neither
+block_alone : (group : Option (List ℕ)) (sessions : ℕ) (lines : List Line) → is_said group (form.Sessions (record { sessions = sessions; lines = lines })) ≡ true → is_said None (form.Sessions (record { sessions = sessions; lines = [] })) ≡ true
+block_alone None sessions lines h = h
+block_alone (Some name) sessions lines h = absurd (true≢false (sym h))
 
-opened_keeps : (done : List Command) (group : Option (List ℕ)) (f : Form) (cut : Option ℕ) → list_all is_command done ≡ true → is_form f ≡ true → group_fits f group ≡ true → maybe_cut cut ≡ true → Keeps (opened done group f cut)
+call_alone : (group : Option (List ℕ)) (call : Call) → is_said group (form.Calling call) ≡ true → is_said None (form.Calling call) ≡ true
+call_alone None call h = h
+call_alone (Some name) (call.Read vol start count) h = absurd (true≢false (sym h))
+call_alone (Some name) (call.Fill vol start count byte) h = absurd (true≢false (sym h))
+call_alone (Some name) (call.Data vol start blocks) h = absurd (true≢false (sym h))
+
+opened_keeps : (done : List Command) (group : Option (List ℕ)) (f : Form) (cut : Option ℕ) → list_all is_command done ≡ true → is_said group f ≡ true → maybe_cut cut ≡ true → Keeps (opened done group f cut)
 unfolding lines_of
-opened_keeps done group (form.VxMake text) cut h a d c = record { done = h; begun = record { named = named group (form.VxMake text) d; short = c; made = refl } }
-opened_keeps done group (form.Sessions block) cut h a d c = record { done = h; begun = record { short = c; some = a; each = refl; counted = refl; measured = refl; few = omega arith; small = omega arith } }
-opened_keeps done group f cut h a d c = closed_more done (record { group = group; form = f; cut = cut }) h (command_is group f cut a refl c d)
+opened_keeps done group (form.VxMake text) cut h a c = record { done = h; begun = record { said = a; short = c; made = refl } }
+opened_keeps done group (form.Sessions block) cut h a c = record { done = h; begun = record { short = c; said = block_alone group block.sessions block.lines a; each = refl; counted = refl; measured = refl; few = omega arith; small = omega arith } }
+opened_keeps done group f cut h a c = closed_more done (record { group = group; form = f; cut = cut }) h (command_is group f cut a refl c)
 
-opened_is : (done : List Command) (group : Option (Option (List ℕ))) (f : Option Form) (cut : Option ℕ) (next : Reader) → list_all is_command done ≡ true → maybe_cut cut ≡ true → ((g : Form) → f ≡ Some g → is_form g ≡ true) → ((g : Form) (name : Option (List ℕ)) → f ≡ Some g → group ≡ Some name → group_fits g name ≡ true) → opened_by done group f cut ≡ Ok next → Keeps next
-opened_is done None f cut next h c a d e = absurd cc
-opened_is done (Some group) None cut next h c a d e = absurd cc
-opened_is done (Some group) (Some f) cut next h c a d e = subst Keeps (same_ok _ _ e) (opened_keeps done group f cut h (a f refl) (d f group refl refl) c)
+-- what the values say is in its ranges
+abbrev Says : Option (Option (List ℕ)) → Option Form → Type 0
+Says group f = (g : Form) (name : Option (List ℕ)) → f ≡ Some g → group ≡ Some name → is_said name g ≡ true
+
+opened_is : (done : List Command) (group : Option (Option (List ℕ))) (f : Option Form) (cut : Option ℕ) (next : Reader) → list_all is_command done ≡ true → maybe_cut cut ≡ true → Says group f → opened_by done group f cut ≡ Ok next → Keeps next
+opened_is done None f cut next h c a e = absurd cc
+opened_is done (Some group) None cut next h c a e = absurd cc
+opened_is done (Some group) (Some f) cut next h c a e = subst Keeps (same_ok _ _ e) (opened_keeps done group f cut h (a f group refl refl) c)
 
 -- what a choice comes to, where it is there
 chosen_then : {A : Type 0} (may_be_cut : Bool) (kinds : List Kind) (text : List ℕ) (f : Choice → Result A ℕ) (x : A) (P : Type 0) → and_then (choose may_be_cut kinds text) f ≡ Ok x → ((c : Choice) → IsChoice c → f c ≡ Ok x → P) → P
@@ -107,22 +120,20 @@ chosen_then may_be_cut kinds text f x P e k = by_choice (choose may_be_cut kinds
     by_choice (Ok c) is e = k c (is c refl) e
     by_choice (Err left) is e = absurd cc
 
--- a form that is there is in its ranges, and so is its group
-form_there : (c : Choice) → IsChoice c → (f : Form) → form_of c.kind c.values ≡ Some f → is_form f ≡ true
-form_there c h f e =
+said_there : (c : Choice) → IsChoice c → Says (maybe_name c.values 1) (form_of c.kind c.values)
+said_there c h f group e g =
     let k = form_ok c.kind c.values h.0 in
-    subst (λ (g : Form). is_form g ≡ true) (same_Some _ _ (sym k.is ∙ e)) k.holds.0
+    let whole : is_said k.group k.form ≡ true = ap₂ (λ (kind : Kind) (vs : List Value). are_of (items_of kind) vs) k.kind k.values ∙ h.0 in
+    subst (λ (x : Form). is_said group x ≡ true) (same_Some _ _ (sym k.is ∙ e)) (subst (λ (x : Option (List ℕ)). is_said x k.form ≡ true) (same_Some _ _ (sym k.group_is ∙ g)) whole)
 
-group_there : (c : Choice) → IsChoice c → (f : Form) (group : Option (List ℕ)) → form_of c.kind c.values ≡ Some f → maybe_name c.values 1 ≡ Some group → group_fits f group ≡ true
-group_there c h f group e g =
-    let k = form_ok c.kind c.values h.0 in
-    let n = k.holds.1 in
-    subst (λ (x : Form). group_fits x group ≡ true) (same_Some _ _ (sym k.is ∙ e)) (subst (λ (x : Option (List ℕ)). group_fits k.value x ≡ true) (same_Some _ _ (sym n.is ∙ g)) n.holds)
+-- there is a group, or none
+grouped_there : (c : Choice) → IsChoice c → (group : Option (List ℕ)) × (maybe_name c.values 1 ≡ Some group)
+grouped_there c h = let k = form_ok c.kind c.values h.0 in (k.group, k.group_is)
 
 command_keeps : (done : List Command) (line : List ℕ) (next : Reader) → list_all is_command done ≡ true → command_step done line ≡ Ok next → Keeps next
 unfolding command_step
 command_keeps done line next h e =
-    chosen_then true commands line (λ c. opened_by done (maybe_name c.values 1) (form_of c.kind c.values) c.cut) next (Keeps next) e (λ c k f. opened_is done (maybe_name c.values 1) (form_of c.kind c.values) c.cut next h (cut_is c.cut k.1) (form_there c k) (λ g name. group_there c k g name) f)
+    chosen_then true commands line (λ c. opened_by done (maybe_name c.values 1) (form_of c.kind c.values) c.cut) next (Keeps next) e (λ c k f. opened_is done (maybe_name c.values 1) (form_of c.kind c.values) c.cut next h (cut_is c.cut k.1) (said_there c k) f)
 
 clean : (o : Option ℕ) (reader next : Reader) → or_bad o reader ≡ Ok next → (o ≡ None) × (reader ≡ next)
 clean None reader next e = (refl, same_ok _ _ e)
@@ -138,36 +149,37 @@ closed_keeps done line next h e = elim (chosen (is_passed_over line) _ _ _ e) [
 
 making_keeps : (done : List Command) (group : Option (List ℕ)) (cut : Option ℕ) (text line : List ℕ) (next : Reader) → list_all is_command done ≡ true → KeepsText group cut text → making_step done group cut text line ≡ Ok next → Keeps next
 making_keeps done group cut text line next h k e = elim (chosen (bytes_eq line (codes "end")) _ _ _ e) [
-  | inl c ↦ subst Keeps (same_ok _ _ c.1) (closed_more done (record { group = group; form = form.VxMake text; cut = cut }) h (command_is group (form.VxMake text) cut refl k.made k.short (or_right (is_none group) _ k.named)))
+  | inl c ↦ subst Keeps (same_ok _ _ c.1) (closed_more done (record { group = group; form = form.VxMake text; cut = cut }) h (command_is group (form.VxMake text) cut k.said k.made k.short))
   | inr c ↦
       let d = clean (bad_word line) _ next c.1 in
       let fits : is_record_line line ≡ true = and_from _ _ (ap is_none d.0) (ap not c.0) in
-      subst Keeps d.1 (record { done = h; begun = record { named = k.named; short = k.short; made = made_more text line k.made fits } })
+      subst Keeps d.1 (record { done = h; begun = record { said = k.said; short = k.short; made = made_more text line k.made fits } })
 ]
 
 -- ---- a line of a block
 
-administered_is : (sessions : ℕ) (group : Option (Option (List ℕ))) (f : Option Form) (line : Line) → ((g : Form) → f ≡ Some g → is_form g ≡ true) → ((g : Form) (name : Option (List ℕ)) → f ≡ Some g → group ≡ Some name → group_fits g name ≡ true) → administered group f ≡ Ok line → is_line sessions line ≡ true
-administered_is sessions None f line a d e = absurd cc
-administered_is sessions (Some group) None line a d e = absurd cc
-administered_is sessions (Some group) (Some (form.Acting act)) line a d e =
-    subst (λ (x : Line). is_line sessions x ≡ true) (same_ok _ _ e) (and_from _ _ (named group (form.Acting act) (d (form.Acting act) group refl refl)) (a (form.Acting act) refl))
-administered_is sessions (Some group) (Some f) line a d e = absurd cc
+administered_is : (sessions : ℕ) (group : Option (Option (List ℕ))) (f : Option Form) (line : Line) → Says group f → administered group f ≡ Ok line → is_line sessions line ≡ true
+administered_is sessions None f line a e = absurd cc
+administered_is sessions (Some group) None line a e = absurd cc
+administered_is sessions (Some group) (Some (form.Acting act)) line a e = subst (λ (x : Line). is_line sessions x ≡ true) (same_ok _ _ e) (a (form.Acting act) group refl refl)
+administered_is sessions (Some group) (Some f) line a e = absurd cc
 
-called_is : (sessions session : ℕ) (f : Option Form) (line : Line) → is_between 1 sessions session ≡ true → ((g : Form) → f ≡ Some g → is_form g ≡ true) → called session f ≡ Ok line → is_line sessions line ≡ true
-called_is sessions session None line h a e = absurd cc
-called_is sessions session (Some (form.Calling call)) line h a e =
-    subst (λ (x : Line). is_line sessions x ≡ true) (same_ok _ _ e) (and_from _ _ h (a (form.Calling call) refl))
-called_is sessions session (Some f) line h a e = absurd cc
+called_is : (sessions session : ℕ) (group : Option (List ℕ)) (f : Option Form) (line : Line) → is_between 1 sessions session ≡ true → Says (Some group) f → called session f ≡ Ok line → is_line sessions line ≡ true
+called_is sessions session group None line h a e = absurd cc
+called_is sessions session group (Some (form.Calling call)) line h a e =
+    subst (λ (x : Line). is_line sessions x ≡ true) (same_ok _ _ e) (and_from _ _ h (call_alone group call (a (form.Calling call) group refl refl)))
+called_is sessions session group (Some f) line h a e = absurd cc
 
 line_behind_is : (sessions session : ℕ) (text : List ℕ) (line : Line) → session ≤ sessions → line_behind session text ≡ Ok line → is_line sessions line ≡ true
 unfolding line_behind
 line_behind_is sessions session text line h e = elim (chosen (eqb session 0) _ _ _ e) [
-  | inl c ↦ chosen_then false acts text (λ c. administered (maybe_name c.values 1) (form_of c.kind c.values)) line (is_line sessions line ≡ true) c.1 (λ c k f. administered_is sessions (maybe_name c.values 1) (form_of c.kind c.values) line (form_there c k) (λ g name. group_there c k g name) f)
+  | inl c ↦ chosen_then false acts text (λ c. administered (maybe_name c.values 1) (form_of c.kind c.values)) line (is_line sessions line ≡ true) c.1 (λ c k f. administered_is sessions (maybe_name c.values 1) (form_of c.kind c.values) line (said_there c k) f)
   | inr c ↦
       let other = eqb-false session 0 c.0 in
       let some : 1 ≤ session = omega arith in
-      chosen_then false calls text (λ c. called session (form_of c.kind c.values)) line (is_line sessions line ≡ true) c.1 (λ c k f. called_is sessions session (form_of c.kind c.values) line (and_from _ _ (le-leb 1 session some) (le-leb session sessions h)) (form_there c k) f)
+      chosen_then false calls text (λ c. called session (form_of c.kind c.values)) line (is_line sessions line ≡ true) c.1 (λ c k f.
+      let g = grouped_there c k in
+      called_is sessions session g.0 (form_of c.kind c.values) line (and_from _ _ (le-leb 1 session some) (le-leb session sessions h)) (λ x name e is. said_there c k x name e (g.1 ∙ is)) f)
 ]
 
 session_line_is : (sessions : ℕ) (text : List ℕ) (line : Line) → session_line sessions text ≡ Ok line → is_line sessions line ≡ true
@@ -189,7 +201,7 @@ added_keeps done cut sessions lines calls sectors whole line next h k l e = elim
         done = h;
         begun = record {
           short = k.short;
-          some = k.some;
+          said = k.said;
           each = all_pushed (is_line sessions) lines line k.each l;
           counted = sum_more line_calls lines line ∙ ap (λ (n : ℕ). n + line_calls line) k.counted;
           measured = sum_more line_sectors lines line ∙ ap (λ (n : ℕ). n + line_sectors line) k.measured;
@@ -209,7 +221,7 @@ block_is cut sessions lines calls sectors k =
 ended_keeps : (done : List Command) (cut : Option ℕ) (sessions : ℕ) (lines : List Line) (calls sectors : ℕ) (rest : List ℕ) (next : Reader) → list_all is_command done ≡ true → KeepsBlock cut sessions lines calls sectors → ended done cut sessions lines rest ≡ Ok next → Keeps next
 ended_keeps done cut sessions lines calls sectors rest next h k e =
     let block = form.Sessions (record { sessions = sessions; lines = lines }) in
-    subst Keeps (ends_same _ next (from_word rest) e) (closed_more done (record { group = None; form = block; cut = cut }) h (command_is None block cut k.some (block_is cut sessions lines calls sectors k) k.short refl))
+    subst Keeps (ends_same _ next (from_word rest) e) (closed_more done (record { group = None; form = block; cut = cut }) h (command_is None block cut k.said (block_is cut sessions lines calls sectors k) k.short))
 
 inside_keeps : (done : List Command) (cut : Option ℕ) (sessions : ℕ) (lines : List Line) (calls sectors : ℕ) (line : List ℕ) (next : Reader) → list_all is_command done ≡ true → KeepsBlock cut sessions lines calls sectors → inside_step done cut sessions lines calls sectors line ≡ Ok next → Keeps next
 inside_keeps done cut sessions lines calls sectors line next h k e = elim (chosen (is_passed_over line) _ _ _ e) [

@@ -1,5 +1,6 @@
 pub mod Carry
 pub mod Faults
+pub mod Heads
 pub mod Keeping
 pub mod Made
 pub mod Placed

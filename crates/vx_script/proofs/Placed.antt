@@ -15,7 +15,8 @@ use Rattle.vx_script_words.specs.Words.{from_word, first_word}
 use Rattle.vx_script_words.proofs.Lined.{At, Ends, row_walks}
 use Rattle.vx_script_words.proofs.Opens.{are_sound, walk_opens}
 use Rattle.vx_script_words.proofs.Sorts.{all_joined}
-use Rattle.vx_script_words.proofs.Spelled.{is_word, later_less, less_behind, spelled, spelled_words, words_of}
+use Rattle.vx_script_words.specs.Spelling.{spelled}
+use Rattle.vx_script_words.proofs.Spelled.{is_word, later_less, less_behind, spelled_words, words_of}
 use Rattle.vx_script_words.proofs.Walk.{Walked, Words, walk, walk_blocks}
 
 abbrev pub is_sound : Kind → Bool

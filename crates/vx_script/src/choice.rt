@@ -1,10 +1,12 @@
-ghost use Rattle.std.specs.Prelude.{◌≡◌, MatchResult, Ok, Err, Bool};
-ghost use Rattle.vx_script.specs.Choice.{choose};
+ghost use Rattle.std.specs.Prelude.{◌≡◌, MatchResult, IsTrue, Ok};
+ghost use Rattle.std.specs.List.{flat_map};
+ghost use Rattle.vx_script.specs.Choice.{choose, are_apart};
+ghost use Rattle.vx_script_forms.specs.Table.{kinds_of};
 ghost use Rattle.vx_script_words.specs.Gives.{Fails};
 
 use std::alloc::Global;
-use vx_script_forms::{Kind, items_of};
-use vx_script_words::{Stop, Value, from_word, row};
+use vx_script_forms::{Head, Kind, head_key, items_of, kinds_of};
+use vx_script_words::{Stop, Value, first_word, from_word, key_text, row};
 
 /// A line's form and what its words say.
 #[derive(Drop)]
@@ -14,18 +16,34 @@ pub struct Chosen {
     pub cut: Option<u64>,
 }
 
-/// The first of the kinds whose parts the line fits.
-pub fn choose(alloc: Global, may_be_cut: bool, kinds: &[Kind], text: &[u8]) -> Result<Chosen, Stop>
+/// The first of the kinds whose parts the line fits. Those that begin with another word than the line are not tried.
+pub fn choose(alloc: Global, may_be_cut: bool, heads: &[Head], text: &[u8]) -> Result<Chosen, Stop>
+    requires { IsTrue (are_apart heads.now) }
+    ensures { MatchResult result (λ chosen. choose may_be_cut (flat_map kinds_of heads.now) text.now ≡ Ok (record { kind = chosen.kind; values = chosen.values.items; cut = chosen.cut })) (λ stop. Fails stop (choose may_be_cut (flat_map kinds_of heads.now) text.now)) }
+{
+    let from = from_word(text);
+    let word = first_word(from);
+    for head in heads {
+        if word == key_text(head_key(*head)) {
+            return among(alloc, may_be_cut, kinds_of(*head), text);
+        }
+    }
+    Err(Stop::Left(from.len()))
+}
+
+fn among(alloc: Global, may_be_cut: bool, kinds: &[Kind], text: &[u8]) -> Result<Chosen, Stop>
     ensures { MatchResult result (λ chosen. choose may_be_cut kinds.now text.now ≡ Ok (record { kind = chosen.kind; values = chosen.values.items; cut = chosen.cut })) (λ stop. Fails stop (choose may_be_cut kinds.now text.now)) }
 {
+    let mut values = Vec::new(alloc);
     let mut least = from_word(text).len();
     for kind in kinds {
-        match row(alloc, may_be_cut, items_of(*kind), text) {
-            Ok(read) => {
+        values.clear();
+        match row(alloc, may_be_cut, items_of(*kind), &mut values, text) {
+            Ok(cut) => {
                 return Ok(Chosen {
                     kind: *kind,
-                    values: read.values,
-                    cut: read.cut,
+                    values,
+                    cut,
                 });
             }
             Err(Stop::OutOfMemory) => return Err(Stop::OutOfMemory),

@@ -13,6 +13,6 @@ pub use command::{Command, Commands};
 pub use fault::ScriptFault;
 pub use script::{Script, read};
 pub use vx_script_forms::{
-    Act, Admin, Block, Boxed, Bytes, Call, DiskAt, Disks, Form, Line, Lines, MakeAttrs, Names,
-    WordLayout, WordPolicy,
+    Act, Admin, Block, Blocks, Boxed, Bytes, Call, DiskAt, Disks, Form, Line, Lines, MakeAttrs,
+    Names, WordLayout, WordPolicy,
 };

@@ -14,6 +14,7 @@ use vx_base::OutOfMemory;
 use vx_names::Name;
 use vx_script_forms::{
     ACTS, Admin, Block, Boxed, Bytes, CALLS, COMMANDS, Call, Form, Line, Lines, form_of, group_of,
+    maybe_boxed,
 };
 use vx_script_words::{Stop, first_word, from_word, number_within, past_word};
 
@@ -99,15 +100,6 @@ fn opened(
             Ok(Reader { done, begun })
         }
         form => with_command(done, Command { group, form, cut }),
-    }
-}
-
-fn maybe_boxed(alloc: Global, group: Option<Name>) -> Result<Option<Boxed<Name>>, OutOfMemory>
-    ensures { IfOk result (λ boxed. boxed ≡ group) }
-{
-    match group {
-        None => Ok(None),
-        Some(name) => Ok(Some(Boxed::new(alloc, name)?)),
     }
 }
 
@@ -233,7 +225,10 @@ fn act_line(alloc: Global, text: &[u8]) -> Result<Line, Stop>
         return Err(Stop::Left(0));
     };
     match form {
-        Form::Acting(act) => Ok(Line::Administer(Admin { group, act })),
+        Form::Acting(act) => {
+            let group = maybe_boxed(alloc, group)?;
+            Ok(Line::Administer(Admin { group, act }))
+        }
         _ => Err(Stop::Left(0)),
     }
 }
@@ -256,7 +251,7 @@ fn call_sectors(call: &Call) -> u64
     match call {
         Call::Read { count, .. } => *count,
         Call::Fill { count, .. } => *count,
-        Call::Data { blocks, .. } => blocks.as_slice().len() as u64 / 512,
+        Call::Data { blocks, .. } => blocks.count() as u64,
     }
 }
 

@@ -1,2 +1,2 @@
-pub mod Places
-pub mod Ranged
+pub mod Decoded
+pub mod Forms

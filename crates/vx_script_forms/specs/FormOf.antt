@@ -123,13 +123,8 @@ abbrev pub rdpol_prefer_form : List Value → Option Form
 rdpol_prefer_form values = option_and_then (λ vol. option_and_then (λ plex. Some (form.Rdpol vol (policy.Prefer plex))) (name values 5)) (name values 4)
 
 abbrev pub broken_off : Value → Option Form
-broken_off value.Nothing = None
-broken_off value.Word = None
-broken_off (value.Named name) = None
-broken_off (value.Number n) = None
-broken_off (value.Pair pair) = None
 broken_off (value.BreakOff vol snap plex) = Some (form.Acting (act.SnapMake vol snap plex))
-broken_off (value.Block bytes) = None
+broken_off v = None
 
 abbrev pub snap_make_form : List Value → Option Form
 snap_make_form values = at broken_off (slice_get values 3)
@@ -137,11 +132,7 @@ snap_make_form values = at broken_off (slice_get values 3)
 abbrev pub concat_of : Value → Option (Option WordLayout)
 concat_of value.Nothing = Some None
 concat_of value.Word = Some (Some layout.Concat)
-concat_of (value.Named name) = None
-concat_of (value.Number n) = None
-concat_of (value.Pair pair) = None
-concat_of (value.BreakOff vol snap plex) = None
-concat_of (value.Block bytes) = None
+concat_of v = None
 
 -- the mirrors, the region and the logs from a place on
 abbrev pub with_mirrors : Option WordLayout → Option ℕ → Option ℕ → List Value → ℕ → Option MakeAttrs

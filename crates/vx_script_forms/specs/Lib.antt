@@ -1,4 +1,4 @@
 pub mod FormOf
-pub mod Ranges
 pub mod Table
 pub mod Values
+pub mod ValuesOf

@@ -1,9 +1,15 @@
 -- The forms of command lines, word by word.
 use Rattle.std.specs.Prelude.{List, [], ◌∷◌}
+use Rattle.std.specs.List.{flat_map}
+use Rattle.vx_script_forms.specs.declared.head.Head.{Head}
+use Rattle.vx_script_forms.specs.declared.head.Head.TheVariants as head
+use Rattle.vx_script_forms.specs.declared.head.TheConstants as heads
 use Rattle.vx_script_forms.specs.declared.kind.Kind.{Kind}
 use Rattle.vx_script_forms.specs.declared.kind.Kind.TheVariants as kind
 use Rattle.vx_script_forms.specs.declared.table.TheConstants as table
 use Rattle.vx_script_words.specs.declared.class.Item.{Item}
+use Rattle.vx_script_words.specs.declared.key.Key.{Key}
+use Rattle.vx_script_words.specs.declared.key.Key.TheVariants as key
 
 abbrev pub items_of : Kind → List Item
 items_of kind.MkImage = table.MK_IMAGE
@@ -46,12 +52,52 @@ items_of kind.Fill = table.FILL
 items_of kind.Data = table.DATA
 items_of kind.Sessions = table.SESSIONS
 
+-- the word that the lines of a head begin with
+abbrev pub head_key : Head → Key
+head_key head.Read = key.Read
+head_key head.Write = key.Write
+head_key head.Sessions = key.Sessions
+head_key head.MkImage = key.MkImage
+head_key head.Bare = key.Bare
+head_key head.Dg = key.VxDg
+head_key head.DiskUnsetup = key.VxDiskUnsetup
+head_key head.Make = key.VxMake
+head_key head.Print = key.VxPrint
+head_key head.Assist = key.VxAssist
+head_key head.Vol = key.VxVol
+head_key head.Plex = key.VxPlex
+head_key head.Snap = key.VxSnap
+head_key head.Recover = key.VxRecover
+head_key head.SnapAct = key.VxSnap
+head_key head.AssistAct = key.VxAssist
+head_key head.PlexAct = key.VxPlex
+
+-- the forms of such lines
+abbrev pub kinds_of : Head → List Kind
+kinds_of head.Read = kind.Read ∷ []
+kinds_of head.Write = kind.Fill ∷ kind.Data ∷ []
+kinds_of head.Sessions = kind.Sessions ∷ []
+kinds_of head.MkImage = kind.MkImage ∷ []
+kinds_of head.Bare = kind.Bare ∷ []
+kinds_of head.Dg = kind.DgInit ∷ kind.DgAddDisk ∷ kind.DgImport ∷ kind.DgDeport ∷ []
+kinds_of head.DiskUnsetup = kind.DiskUnsetup ∷ []
+kinds_of head.Make = kind.VxMake ∷ []
+kinds_of head.Print = kind.PrintM ∷ kind.PrintHt ∷ []
+kinds_of head.Assist = kind.MakeConcat ∷ kind.MakeStripe ∷ kind.Mirror ∷ kind.RemoveVolume ∷ kind.Snapback ∷ kind.SnapbackFromReplica ∷ []
+kinds_of head.Vol = kind.Start ∷ kind.Stop ∷ kind.RdpolRound ∷ kind.RdpolSelect ∷ kind.RdpolPrefer ∷ []
+kinds_of head.Plex = kind.PlexDis ∷ kind.PlexDisRm ∷ kind.PlexDet ∷ kind.PlexAtt ∷ []
+kinds_of head.Snap = kind.Prepare ∷ kind.Unprepare ∷ kind.AddMir ∷ kind.Dis ∷ kind.Split ∷ kind.PrintSnaps ∷ kind.SnapMake ∷ kind.Reattach ∷ kind.Restore ∷ []
+kinds_of head.Recover = kind.Recover ∷ []
+kinds_of head.SnapAct = kind.SnapMake ∷ kind.Reattach ∷ kind.Restore ∷ []
+kinds_of head.AssistAct = kind.Snapback ∷ kind.SnapbackFromReplica ∷ []
+kinds_of head.PlexAct = kind.PlexDet ∷ kind.PlexAtt ∷ []
+
 -- the forms of commands, of calls, and of acts
 abbrev pub commands : List Kind
-commands = kind.MkImage ∷ kind.Bare ∷ kind.DgInit ∷ kind.DgAddDisk ∷ kind.DgImport ∷ kind.DgDeport ∷ kind.DiskUnsetup ∷ kind.VxMake ∷ kind.PrintM ∷ kind.PrintHt ∷ kind.MakeConcat ∷ kind.MakeStripe ∷ kind.Mirror ∷ kind.RemoveVolume ∷ kind.Start ∷ kind.Stop ∷ kind.RdpolRound ∷ kind.RdpolSelect ∷ kind.RdpolPrefer ∷ kind.PlexDis ∷ kind.PlexDisRm ∷ kind.Prepare ∷ kind.Unprepare ∷ kind.AddMir ∷ kind.Dis ∷ kind.Split ∷ kind.PrintSnaps ∷ kind.Recover ∷ kind.SnapMake ∷ kind.Reattach ∷ kind.Restore ∷ kind.Snapback ∷ kind.SnapbackFromReplica ∷ kind.PlexDet ∷ kind.PlexAtt ∷ kind.Read ∷ kind.Fill ∷ kind.Data ∷ kind.Sessions ∷ []
+commands = flat_map kinds_of heads.COMMANDS
 
 abbrev pub calls : List Kind
-calls = kind.Read ∷ kind.Fill ∷ kind.Data ∷ []
+calls = flat_map kinds_of heads.CALLS
 
 abbrev pub acts : List Kind
-acts = kind.SnapMake ∷ kind.Reattach ∷ kind.Restore ∷ kind.Snapback ∷ kind.SnapbackFromReplica ∷ kind.PlexDet ∷ kind.PlexAtt ∷ []
+acts = flat_map kinds_of heads.ACTS

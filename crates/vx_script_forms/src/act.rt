@@ -1,22 +1,23 @@
 use crate::Boxed;
 use vx_names::Name;
 
-/// A command that may also stand in a block, in the administering session.
-#[derive(Clone, Copy)]
+/// A command that may also stand in a block, in the administering session. Second names are boxed, so that a block's line
+/// is no larger than a call.
+#[derive(Drop)]
 pub enum Act {
     /// Without a plex `nmirror=1` is meant.
     SnapMake {
-        vol: Name,
-        snap: Name,
-        plex: Option<Name>,
+        vol: Boxed<Name>,
+        snap: Boxed<Name>,
+        plex: Option<Boxed<Name>>,
     },
     Reattach {
         snap: Name,
-        vol: Name,
+        vol: Boxed<Name>,
     },
     Restore {
         vol: Name,
-        snap: Name,
+        snap: Boxed<Name>,
     },
     Snapback {
         snap: Name,
@@ -27,13 +28,13 @@ pub enum Act {
     },
     PlexAtt {
         vol: Name,
-        plex: Name,
+        plex: Boxed<Name>,
     },
 }
 
 /// An act and the word after its `-g`.
 #[derive(Drop)]
 pub struct Admin {
-    pub group: Option<Name>,
-    pub act: Boxed<Act>,
+    pub group: Option<Boxed<Name>>,
+    pub act: Act,
 }

@@ -1,5 +1,5 @@
 use vx_names::Name;
-use vx_script_words::Bytes;
+use vx_script_words::Blocks;
 
 /// A read or a write of a volume's blocks.
 #[derive(Drop)]
@@ -20,6 +20,6 @@ pub enum Call {
     Data {
         vol: Name,
         start: u64,
-        blocks: Bytes,
+        blocks: Blocks,
     },
 }

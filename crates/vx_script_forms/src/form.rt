@@ -1,6 +1,6 @@
-use crate::{Act, Block, Boxed, Call, Disks, Names};
+use crate::{Act, Block, Boxed, Call};
 use vx_names::Name;
-use vx_script_words::{Bytes, DiskAt};
+use vx_script_words::{Bytes, DiskAt, Disks, Names};
 
 #[derive(Clone, Copy, Debug, PartialEq, Eq)]
 pub enum WordLayout {
@@ -116,7 +116,7 @@ pub enum Form {
     Recover {
         vol: Option<Name>,
     },
-    Acting(Boxed<Act>),
+    Acting(Act),
     Calling(Call),
     Sessions(Block),
 }

@@ -4,7 +4,10 @@ ghost use Rattle.vx_script_forms.specs.FormOf.{mk_image_form, bare_form, dg_init
 use crate::values::{
     blocks, byte, disks, maybe_name, maybe_number, maybe_small, name, names, number, pair, small,
 };
-use crate::{Act, Block, Boxed, Bytes, Call, Form, Kind, Lines, MakeAttrs, WordLayout, WordPolicy};
+use crate::{
+    Act, Block, Boxed, Bytes, Call, Form, Kind, Lines, MakeAttrs, WordLayout, WordPolicy,
+    maybe_boxed,
+};
 use std::alloc::Global;
 use vx_base::OutOfMemory;
 use vx_script_words::Value;
@@ -38,9 +41,9 @@ pub fn form_of(alloc: Global, kind: Kind, values: &[Value]) -> Result<Option<For
         Kind::Recover => Ok(recover_form(values)),
         Kind::Reattach => reattach_form(alloc, values),
         Kind::Restore => restore_form(alloc, values),
-        Kind::Snapback => snapback_form(alloc, values),
-        Kind::SnapbackFromReplica => snapback_from_replica_form(alloc, values),
-        Kind::PlexDet => plex_det_form(alloc, values),
+        Kind::Snapback => Ok(snapback_form(values)),
+        Kind::SnapbackFromReplica => Ok(snapback_from_replica_form(values)),
+        Kind::PlexDet => Ok(plex_det_form(values)),
         Kind::PlexAtt => plex_att_form(alloc, values),
         Kind::Read => Ok(read_form(values)),
         Kind::Fill => Ok(fill_form(values)),
@@ -248,8 +251,8 @@ fn reattach_form(alloc: Global, values: &[Value]) -> Result<Option<Form>, OutOfM
     let Some(vol) = name(values, 4) else {
         return Ok(None);
     };
-    let act = Boxed::new(alloc, Act::Reattach { snap, vol })?;
-    Ok(Some(Form::Acting(act)))
+    let vol = Boxed::new(alloc, vol)?;
+    Ok(Some(Form::Acting(Act::Reattach { snap, vol })))
 }
 
 fn restore_form(alloc: Global, values: &[Value]) -> Result<Option<Form>, OutOfMemory>
@@ -261,50 +264,31 @@ fn restore_form(alloc: Global, values: &[Value]) -> Result<Option<Form>, OutOfMe
     let Some(snap) = name(values, 4) else {
         return Ok(None);
     };
-    let act = Boxed::new(alloc, Act::Restore { vol, snap })?;
-    Ok(Some(Form::Acting(act)))
+    let snap = Boxed::new(alloc, snap)?;
+    Ok(Some(Form::Acting(Act::Restore { vol, snap })))
 }
 
-fn snapback_form(alloc: Global, values: &[Value]) -> Result<Option<Form>, OutOfMemory>
-    ensures { IfOk result (λ found. found ≡ snapback_form values.now) }
+fn snapback_form(values: &[Value]) -> Option<Form>
+    ensures { result ≡ snapback_form values.now }
 {
-    let Some(snap) = name(values, 3) else {
-        return Ok(None);
-    };
-    let act = Boxed::new(
-        alloc,
-        Act::Snapback {
-            snap,
-            from_replica: false,
-        },
-    )?;
-    Ok(Some(Form::Acting(act)))
+    let snap = name(values, 3)?;
+    let from_replica = false;
+    Some(Form::Acting(Act::Snapback { snap, from_replica }))
 }
 
-fn snapback_from_replica_form(alloc: Global, values: &[Value]) -> Result<Option<Form>, OutOfMemory>
-    ensures { IfOk result (λ found. found ≡ snapback_from_replica_form values.now) }
+fn snapback_from_replica_form(values: &[Value]) -> Option<Form>
+    ensures { result ≡ snapback_from_replica_form values.now }
 {
-    let Some(snap) = name(values, 5) else {
-        return Ok(None);
-    };
-    let act = Boxed::new(
-        alloc,
-        Act::Snapback {
-            snap,
-            from_replica: true,
-        },
-    )?;
-    Ok(Some(Form::Acting(act)))
+    let snap = name(values, 5)?;
+    let from_replica = true;
+    Some(Form::Acting(Act::Snapback { snap, from_replica }))
 }
 
-fn plex_det_form(alloc: Global, values: &[Value]) -> Result<Option<Form>, OutOfMemory>
-    ensures { IfOk result (λ found. found ≡ plex_det_form values.now) }
+fn plex_det_form(values: &[Value]) -> Option<Form>
+    ensures { result ≡ plex_det_form values.now }
 {
-    let Some(plex) = name(values, 3) else {
-        return Ok(None);
-    };
-    let act = Boxed::new(alloc, Act::PlexDet { plex })?;
-    Ok(Some(Form::Acting(act)))
+    let plex = name(values, 3)?;
+    Some(Form::Acting(Act::PlexDet { plex }))
 }
 
 fn plex_att_form(alloc: Global, values: &[Value]) -> Result<Option<Form>, OutOfMemory>
@@ -316,8 +300,8 @@ fn plex_att_form(alloc: Global, values: &[Value]) -> Result<Option<Form>, OutOfM
     let Some(plex) = name(values, 4) else {
         return Ok(None);
     };
-    let act = Boxed::new(alloc, Act::PlexAtt { vol, plex })?;
-    Ok(Some(Form::Acting(act)))
+    let plex = Boxed::new(alloc, plex)?;
+    Ok(Some(Form::Acting(Act::PlexAtt { vol, plex })))
 }
 
 fn read_form(values: &[Value]) -> Option<Form>
@@ -413,12 +397,10 @@ fn broken_off(alloc: Global, value: &Value) -> Result<Option<Form>, OutOfMemory>
 {
     match value {
         Value::BreakOff { vol, snap, plex } => {
-            let act = Act::SnapMake {
-                vol: *vol,
-                snap: *snap,
-                plex: *plex,
-            };
-            Ok(Some(Form::Acting(Boxed::new(alloc, act)?)))
+            let vol = Boxed::new(alloc, *vol)?;
+            let snap = Boxed::new(alloc, *snap)?;
+            let plex = maybe_boxed(alloc, *plex)?;
+            Ok(Some(Form::Acting(Act::SnapMake { vol, snap, plex })))
         }
         _ => Ok(None),
     }

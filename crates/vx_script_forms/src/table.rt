@@ -53,29 +53,11 @@ const REGION_SIZE: Item = maybe!(RegionSize, Sort::Length);
 
 const NDCOMIRROR: Item = maybe!(Ndcomirror, Sort::Number { low: 0, high: 2 });
 
-const NAMES: Item = Item::Any(Class {
-    front: Key::Nothing,
-    sort: Sort::Named,
-});
-
-const PAIRS: Item = Item::Any(Class {
-    front: Key::Nothing,
-    sort: Sort::Pair,
-});
-
-const BLOCKS: Item = Item::UpTo {
-    limit: 63,
-    class: Class {
-        front: Key::Nothing,
-        sort: Sort::Block,
-    },
-};
-
 pub const MK_IMAGE: [Item; 4] = [word!(MkImage), Item::NoGroup, NAME, LENGTH];
 
 pub const BARE: [Item; 4] = [word!(Bare), Item::NoGroup, NAME, NAME];
 
-pub const DG_INIT: [Item; 6] = [word!(VxDg), Item::NoGroup, word!(Init), NAME, PAIR, PAIRS];
+pub const DG_INIT: [Item; 5] = [word!(VxDg), Item::NoGroup, word!(Init), NAME, Item::Pairs];
 
 pub const DG_ADD_DISK: [Item; 6] = [
     word!(VxDg),
@@ -118,7 +100,7 @@ pub const MAKE_CONCAT: [Item; 10] = [
     NMIRROR,
     REGION_SIZE,
     NDCOMIRROR,
-    NAMES,
+    Item::Names,
 ];
 
 pub const MAKE_STRIPE: [Item; 12] = [
@@ -133,10 +115,16 @@ pub const MAKE_STRIPE: [Item; 12] = [
     NMIRROR,
     REGION_SIZE,
     NDCOMIRROR,
-    NAMES,
+    Item::Names,
 ];
 
-pub const MIRROR: [Item; 5] = [word!(VxAssist), Item::Group, word!(Mirror), NAME, NAMES];
+pub const MIRROR: [Item; 5] = [
+    word!(VxAssist),
+    Item::Group,
+    word!(Mirror),
+    NAME,
+    Item::Names,
+];
 
 pub const REMOVE_VOLUME: [Item; 5] = [
     word!(VxAssist),
@@ -185,7 +173,7 @@ pub const PREPARE: [Item; 6] = [
 
 pub const UNPREPARE: [Item; 4] = [word!(VxSnap), Item::Group, word!(Unprepare), NAME];
 
-pub const ADD_MIR: [Item; 5] = [word!(VxSnap), Item::Group, word!(AddMir), NAME, NAMES];
+pub const ADD_MIR: [Item; 5] = [word!(VxSnap), Item::Group, word!(AddMir), NAME, Item::Names];
 
 pub const DIS: [Item; 4] = [word!(VxSnap), Item::Group, word!(Dis), NAME];
 
@@ -250,14 +238,13 @@ pub const FILL: [Item; 7] = [
     one!(Nothing, Sort::Byte),
 ];
 
-pub const DATA: [Item; 7] = [
+pub const DATA: [Item; 6] = [
     word!(Write),
     Item::NoGroup,
     NAME,
     NUMBER,
     word!(Data),
-    one!(Nothing, Sort::Block),
-    BLOCKS,
+    Item::Blocks,
 ];
 
 pub const SESSIONS: [Item; 3] = [

@@ -1,11 +1,10 @@
 ghost use Rattle.std.specs.Prelude.{◌≡◌, IfOk, Some, None};
-ghost use Rattle.vx_script_forms.specs.Values.{named, numbered, paired, blocked, maybe_named, maybe_numbered, name, number, pair, maybe_name, maybe_number, below, maybe_below, small, byte, maybe_small, names, disks, blocks};
+ghost use Rattle.vx_script_forms.specs.Values.{named, numbered, paired, maybe_named, maybe_numbered, name, number, pair, maybe_name, maybe_number, small, byte, maybe_small, names, disks, blocks};
 
-use crate::{Bytes, Disks, Names};
 use std::alloc::Global;
 use vx_base::OutOfMemory;
 use vx_names::Name;
-use vx_script_words::{DiskAt, Value};
+use vx_script_words::{Blocks, DiskAt, Disks, Names, Value};
 
 fn named(value: &Value) -> Option<Name>
     ensures { result ≡ named value.now }
@@ -121,40 +120,28 @@ pub fn maybe_small(values: &[Value], at: usize) -> Option<Option<u32>>
 pub fn names(alloc: Global, values: &[Value], at: usize) -> Result<Option<Names>, OutOfMemory>
     ensures { IfOk result (λ found. found ≡ names values.now at) }
 {
-    let mut items = Vec::new(alloc);
-    for k in at..values.len() {
-        let Some(name) = named(&values[k]) else {
-            return Ok(None);
-        };
-        items.push(name)?;
+    match values.get(at) {
+        Some(Value::Names(names)) => Ok(Some(names.copy(alloc)?)),
+        _ => Ok(None),
     }
-    Ok(Some(Names::from_vec(items)))
 }
 
 pub fn disks(alloc: Global, values: &[Value], at: usize) -> Result<Option<Disks>, OutOfMemory>
     ensures { IfOk result (λ found. found ≡ disks values.now at) }
 {
-    let mut items = Vec::new(alloc);
-    for k in at..values.len() {
-        let Some(disk) = paired(&values[k]) else {
-            return Ok(None);
-        };
-        items.push(disk)?;
+    match values.get(at) {
+        Some(Value::Pairs(disks)) => Ok(Some(disks.copy(alloc)?)),
+        _ => Ok(None),
     }
-    Ok(Some(Disks::from_vec(items)))
 }
 
-pub fn blocks(alloc: Global, values: &[Value], at: usize) -> Result<Option<Bytes>, OutOfMemory>
+pub fn blocks(alloc: Global, values: &[Value], at: usize) -> Result<Option<Blocks>, OutOfMemory>
     ensures { IfOk result (λ found. found ≡ blocks values.now at) }
 {
-    let mut bytes = Vec::new(alloc);
-    for k in at..values.len() {
-        let Value::Block(block) = &values[k] else {
-            return Ok(None);
-        };
-        bytes.extend_from_slice(block.as_slice())?;
+    match values.get(at) {
+        Some(Value::Blocks(blocks)) => Ok(Some(blocks.copy(alloc)?)),
+        _ => Ok(None),
     }
-    Ok(Some(Bytes::from_vec(bytes)))
 }
 
 /// The word after `-g`, whose place is the second.

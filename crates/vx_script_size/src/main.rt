@@ -44,6 +44,14 @@ fn asked(row: &str) -> Option<(Kind, usize)> {
     match kind {
         "calls" => Some((Kind::Calls, bytes)),
         "blocks" => Some((Kind::Blocks, bytes)),
+        "reads" => Some((Kind::Reads, bytes)),
+        "shortest" => Some((Kind::Shortest, bytes)),
+        "equal" => Some((Kind::Equal, bytes)),
+        "digits" => Some((Kind::Digits, bytes)),
+        "pairs" => Some((Kind::Pairs, bytes)),
+        "names" => Some((Kind::Names, bytes)),
+        "records" => Some((Kind::Records, bytes)),
+        "acts" => Some((Kind::Acts, bytes)),
         _ => None,
     }
 }

@@ -1,9 +1,12 @@
+pub mod BlockLists
 pub mod Fitting
 pub mod Lined
 pub mod Lines
 pub mod Numbers
 pub mod Opens
+pub mod Packing
 pub mod Places
+pub mod Plain
 pub mod Sorts
 pub mod Spelled
 pub mod Walk

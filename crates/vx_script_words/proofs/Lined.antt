@@ -3,19 +3,21 @@ use Rattle.std.proofs.Common.{◌≡◌, ◌∙◌, sym, ap, subst, refl, ℕ, z
 use Rattle.std.specs.Str.{bytes_eq}
 use Rattle.std.proofs.lemmas.Bool.{and_parts, true≢false}
 use Rattle.vx_script_words.specs.Class.{class_value}
-use Rattle.vx_script_words.specs.Parts.{cut_of}
-use Rattle.vx_script_words.specs.Row.{So, Going, and_then, with_value, taken, one, or_else, maybe, going_on, some, any_name, group, item, items, Read, ends, nothing_left, cut_end, uncut, line_end, row}
+use Rattle.vx_script_words.specs.Parts.{cut_of, name_of, pair_of}
+use Rattle.vx_script_words.specs.Hex.{block_of}
+use Rattle.vx_script_words.specs.Row.{So, Going, and_then, with_value, taken, one, or_else, maybe, further, gather, pushed, Found, at_least_one, any_name, group, item, items, Read, ends, nothing_left, cut_end, uncut, line_end, row}
+use Rattle.vx_script_words.specs.Row.{joined as bytes_joined}
 use Rattle.vx_script_words.specs.Spelling.{Behind, Spells}
 use Rattle.vx_script_words.specs.Words.{from_word, first_word, past_word}
 use Rattle.vx_script_words.specs.declared.class.Class.{Class}
 use Rattle.vx_script_words.specs.declared.class.Item.{Item}
-use Rattle.vx_script_words.specs.declared.class.Item.TheVariants.{One, Maybe, Any, UpTo, Group, NoGroup}
+use Rattle.vx_script_words.specs.declared.class.Item.TheVariants.{One, Maybe, Group, NoGroup, Names, Pairs, Blocks}
 use Rattle.vx_script_words.specs.declared.value.Value.{Value}
 use Rattle.vx_script_words.specs.declared.value.Value.TheVariants as value
 use Rattle.vx_script_words.proofs.Lines.{items_err}
 use Rattle.vx_script_words.proofs.Opens.{is_sound_class, are_sound}
 use Rattle.vx_script_words.proofs.Spelled.{behind_both, few_words, from_again}
-use Rattle.vx_script_words.proofs.Walk.{Words, Walked, one_word, after, some_words, group_words, item_words, no_words, end_words, on, walk, enough}
+use Rattle.vx_script_words.proofs.Walk.{Words, Walked, accepts, is_named, is_paired, is_blocked, one_word, after, some_words, group_words, item_words, no_words, end_words, on, walk, enough}
 
 -- so much is left of a text from these words on
 pub record At (text : List ℕ) (ws : Words) (left : ℕ) (bad : Words) : Type 0 where
@@ -86,30 +88,48 @@ past_first text w ws h = record { front = w ∷ []; parts = refl; behind = (h.0,
 
 -- ---- parts
 
-one_step : (class : Class) (values : List Value) (text : List ℕ) (ws : Words) → class_value class [] ≡ None → Spells text ws → Step text ws (one class values text) (one_word class ws)
+one_step : (class : Class) (values : List Value) (text : List ℕ) (ws : Words) → class_value class [] ≡ None → Spells text ws → Step text ws (one class values text) (one_word (accepts class) ws)
 one_step class values text [] none h =
     let refused : class_value class (first_word (from_word text)) ≡ None = ap (λ (x : List ℕ). class_value class (first_word x)) h ∙ none in
     subst (λ (o : Option Value). Step text [] (taken o values (from_word text)) (Err [])) (sym refused) (stops text [] h)
 one_step class values text (w ∷ ws) none h =
-    subst (λ (o : Option Value). Step text (w ∷ ws) (taken o values (from_word text)) (one_word class (w ∷ ws))) (sym (ap (class_value class) h.1)) (by_value (class_value class w))
+    subst (λ (o : Option Value). Step text (w ∷ ws) (taken o values (from_word text)) (one_word (accepts class) (w ∷ ws))) (sym (ap (class_value class) h.1)) (by_value (class_value class w))
   where
     by_value : (o : Option Value) → Step text (w ∷ ws) (taken o values (from_word text)) (cond (is_some o) (Ok ws) (Err (w ∷ ws)))
     by_value None = stops text (w ∷ ws) h
     by_value (Some v) = past_first text w ws h
 
-some_step : (n : ℕ) (class : Class) (old : So) (ws : Words) → class_value class [] ≡ None → Spells old.rest ws → Reaches old.rest ws (some n class old).rest (some_words n class ws)
-unfolding some
-some_step zero class old ws none h = stays old.rest ws h
-some_step (suc n) class old ws none h = by_one (one class old.values old.rest) (one_word class ws) (one_step class old.values old.rest ws none h) (λ t vs k. some_step n class t vs none k)
+-- words that say something, one after the other
+gather_step : {X A : Type 0} (say : List ℕ → Option X) (put : A → X → A) (n : ℕ) (so : A) (text : List ℕ) (ws : Words) → say [] ≡ None → Spells text ws → Reaches text ws (gather say put n so text).rest (some_words n (λ w. is_some (say w)) ws)
+unfolding gather
+gather_step say put zero so text ws none h = stays text ws h
+gather_step say put (suc n) so text [] none h =
+    let refused : say (first_word (from_word text)) ≡ None = ap (λ (x : List ℕ). say (first_word x)) h ∙ none in
+    subst (λ o. Reaches text [] (further o (record { list = so; rest = text }) (λ x. gather say put n (put so x) (past_word (from_word text)))).rest []) (sym refused) (stays text [] h)
+gather_step {X = X} say put (suc n) so text (w ∷ ws) none h =
+    subst (λ o. Reaches text (w ∷ ws) (further o (record { list = so; rest = text }) (λ x. gather say put n (put so x) (past_word (from_word text)))).rest (some_words (suc n) (λ v. is_some (say v)) (w ∷ ws))) (sym (ap say h.1)) (by_value (say w) (λ x. gather_step say put n (put so x) (past_word (from_word text)) ws none h.2))
   where
-    by_one : (r : Going) (k : Walked) → Step old.rest ws r k → ((t : So) (vs : Words) → Spells t.rest vs → Reaches t.rest vs (some n class t).rest (some_words n class vs)) → Reaches old.rest ws (going_on r (some n class) old).rest (after k (some_words n class) ws)
-    by_one (Ok t) (Ok vs) s ih = joined old.rest t.rest (some n class t).rest ws vs (some_words n class vs) s (ih t vs s.spells)
-    by_one (Ok t) (Err bad) s ih = absurd s
-    by_one (Err left) (Ok vs) s ih = absurd s
-    by_one (Err left) (Err bad) s ih = stays old.rest ws h
+    by_value : (o : Option X) → ((x : X) → Reaches (past_word (from_word text)) ws (gather say put n (put so x) (past_word (from_word text))).rest (some_words n (λ v. is_some (say v)) ws))
+        → Reaches text (w ∷ ws) (further o (record { list = so; rest = text }) (λ x. gather say put n (put so x) (past_word (from_word text)))).rest (after (cond (is_some o) (Ok ws) (Err (w ∷ ws))) (some_words n (λ v. is_some (say v))) (w ∷ ws))
+    by_value None more = stays text (w ∷ ws) h
+    by_value (Some x) more = joined text (past_word (from_word text)) _ (w ∷ ws) ws _ (past_first text w ws h) (more x)
 
-maybe_step : (class : Class) (values : List Value) (text : List ℕ) (ws : Words) → class_value class [] ≡ None → Spells text ws → Step text ws (maybe class values text) (Ok (some_words 1 class ws))
-maybe_step class values text ws none h = by_one (one class values text) (one_word class ws) (one_step class values text ws none h)
+-- a list that has a word at least
+list_step : {X A : Type 0} (say : List ℕ → Option X) (more : List ℕ → X → Found A) (g : Words → Words) (values : List Value) (make : A → Value) (text : List ℕ) (ws : Words) → say [] ≡ None → Spells text ws
+    → ((x : X) (vs : Words) → Spells (past_word (from_word text)) vs → Reaches (past_word (from_word text)) vs (more (past_word (from_word text)) x).rest (g vs))
+    → Step text ws (at_least_one (say (first_word (from_word text))) (from_word text) (more (past_word (from_word text))) values make) (on (one_word (λ w. is_some (say w)) ws) (λ vs. Ok (g vs)))
+list_step say more g values make text [] none h goes =
+    let refused : say (first_word (from_word text)) ≡ None = ap (λ (x : List ℕ). say (first_word x)) h ∙ none in
+    subst (λ o. Step text [] (at_least_one o (from_word text) (more (past_word (from_word text))) values make) (Err [])) (sym refused) (stops text [] h)
+list_step {X = X} say more g values make text (w ∷ ws) none h goes =
+    subst (λ o. Step text (w ∷ ws) (at_least_one o (from_word text) (more (past_word (from_word text))) values make) (on (one_word (λ v. is_some (say v)) (w ∷ ws)) (λ vs. Ok (g vs)))) (sym (ap say h.1)) (by_value (say w))
+  where
+    by_value : (o : Option X) → Step text (w ∷ ws) (at_least_one o (from_word text) (more (past_word (from_word text))) values make) (on (cond (is_some o) (Ok ws) (Err (w ∷ ws))) (λ vs. Ok (g vs)))
+    by_value None = stops text (w ∷ ws) h
+    by_value (Some x) = joined text (past_word (from_word text)) _ (w ∷ ws) ws _ (past_first text w ws h) (goes x ws h.2)
+
+maybe_step : (class : Class) (values : List Value) (text : List ℕ) (ws : Words) → class_value class [] ≡ None → Spells text ws → Step text ws (maybe class values text) (Ok (some_words 1 (accepts class) ws))
+maybe_step class values text ws none h = by_one (one class values text) (one_word (accepts class) ws) (one_step class values text ws none h)
   where
     by_one : (r : Going) (k : Walked) → Step text ws r k → Step text ws (or_else r (with_value values value.Nothing text)) (Ok (after k (λ (x : Words). x) ws))
     by_one (Ok t) (Ok vs) s = s
@@ -121,6 +141,10 @@ no_name : class_value any_name [] ≡ None
 unfolding class_value
 no_name = refl
 
+no_block : block_of [] ≡ None
+unfolding block_of
+no_block = refl
+
 group_step : (values : List Value) (text : List ℕ) (ws : Words) → Spells text ws → Step text ws (group values text) (group_words ws)
 group_step values text [] h =
     let none : bytes_eq (first_word (from_word text)) (codes "-g") ≡ false = ap (λ (x : List ℕ). bytes_eq (first_word x) (codes "-g")) h in
@@ -128,8 +152,8 @@ group_step values text [] h =
 group_step values text (w ∷ ws) h =
     subst (λ (q : Bool). Step text (w ∷ ws) (cond q (one any_name values (past_word (from_word text))) (Ok (with_value values value.Nothing text))) (group_words (w ∷ ws))) (sym (ap (λ (x : List ℕ). bytes_eq x (codes "-g")) h.1)) (by_test (bytes_eq w (codes "-g")))
   where
-    by_test : (q : Bool) → Step text (w ∷ ws) (cond q (one any_name values (past_word (from_word text))) (Ok (with_value values value.Nothing text))) (cond q (one_word any_name ws) (Ok (w ∷ ws)))
-    by_test true = step_behind text (past_word (from_word text)) (w ∷ ws) ws (one any_name values (past_word (from_word text))) (one_word any_name ws) (past_first text w ws h) (one_step any_name values (past_word (from_word text)) ws no_name h.2)
+    by_test : (q : Bool) → Step text (w ∷ ws) (cond q (one any_name values (past_word (from_word text))) (Ok (with_value values value.Nothing text))) (cond q (one_word (accepts any_name) ws) (Ok (w ∷ ws)))
+    by_test true = step_behind text (past_word (from_word text)) (w ∷ ws) ws (one any_name values (past_word (from_word text))) (one_word (accepts any_name) ws) (past_first text w ws h) (one_step any_name values (past_word (from_word text)) ws no_name h.2)
     by_test false = stays text (w ∷ ws) h
 
 some_off : (o : Option Value) → is_none o ≡ true → o ≡ None
@@ -142,13 +166,18 @@ quiet class h = some_off (class_value class []) (and_parts (is_none (class_value
 item_step : (i : Item) (is : List Item) (values : List Value) (text : List ℕ) (ws : Words) → are_sound (i ∷ is) ≡ true → Spells text ws → Step text ws (item i values text) (item_words i ws)
 item_step (One class) is values text ws g h = one_step class values text ws (quiet class (and_parts (is_sound_class class) _ g).0) h
 item_step (Maybe class) is values text ws g h = maybe_step class values text ws (quiet class (and_parts (is_sound_class class) _ g).0) h
-item_step (Any class) is values text ws g h =
-    subst (λ (x : Words). Reaches text ws (some (length text) class (record { values = values; rest = text })).rest x)
-    (enough (length text) (length ws) class ws (few_words text ws h) (omega arith))
-    (some_step (length text) class (record { values = values; rest = text }) ws (quiet class (and_parts (is_sound_class class) _ g).0) h)
-item_step (UpTo limit class) is values text ws g h = some_step limit class (record { values = values; rest = text }) ws (quiet class (and_parts (is_sound_class class) _ g).0) h
 item_step Group is values text ws g h = group_step values text ws h
 item_step NoGroup is values text ws g h = stays text ws h
+item_step Names is values text ws g h =
+    subst (λ (x : Words). Reaches text ws (gather name_of pushed (length text) [] text).rest x)
+    (enough (length text) (length ws) is_named ws (few_words text ws h) (omega arith))
+    (gather_step name_of pushed (length text) [] text ws refl h)
+item_step Pairs is values text ws g h = list_step pair_of (λ rest pair. gather pair_of pushed (length rest) (pair ∷ []) rest) (λ vs. some_words (length vs) is_paired vs) values value.Pairs text ws refl h (λ pair vs k.
+    let rest : List ℕ = past_word (from_word text) in
+    subst (λ (x : Words). Reaches rest vs (gather pair_of pushed (length rest) (pair ∷ []) rest).rest x)
+    (enough (length rest) (length vs) is_paired vs (few_words rest vs k) (omega arith))
+    (gather_step pair_of pushed (length rest) (pair ∷ []) rest vs refl k))
+item_step Blocks is values text ws g h = list_step block_of (λ rest block. gather block_of bytes_joined 63 block rest) (some_words 63 is_blocked) values value.Blocks text ws no_block h (λ block vs k. gather_step block_of bytes_joined 63 block (past_word (from_word text)) vs no_block k)
 
 -- ---- ends
 
@@ -178,12 +207,14 @@ end_step true s (w ∷ ws) h =
 rest_sound : (i : Item) (is : List Item) → are_sound (i ∷ is) ≡ true → are_sound is ≡ true
 rest_sound (One class) is h = (and_parts (is_sound_class class) _ h).1
 rest_sound (Maybe class) is h = (and_parts (is_sound_class class) _ h).1
-rest_sound (Any class) [] h = refl
-rest_sound (Any class) (i ∷ is) h = absurd (true≢false (sym (and_parts (is_sound_class class) false h).1))
-rest_sound (UpTo limit class) [] h = refl
-rest_sound (UpTo limit class) (i ∷ is) h = absurd (true≢false (sym (and_parts (is_sound_class class) false h).1))
 rest_sound Group is h = h
 rest_sound NoGroup is h = h
+rest_sound Names [] h = refl
+rest_sound Names (i ∷ is) h = absurd (true≢false (sym h))
+rest_sound Pairs [] h = refl
+rest_sound Pairs (i ∷ is) h = absurd (true≢false (sym h))
+rest_sound Blocks [] h = refl
+rest_sound Blocks (i ∷ is) h = absurd (true≢false (sym h))
 
 walk_step : (may_be_cut : Bool) (is : List Item) (s : So) (ws : Words) → are_sound is ≡ true → Spells s.rest ws → Ends s.rest ws (and_then (items is (Ok s)) (line_end may_be_cut)) (walk may_be_cut is ws)
 walk_step may_be_cut [] s ws g h = end_step may_be_cut s ws h

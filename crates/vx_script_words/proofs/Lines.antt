@@ -1,32 +1,36 @@
--- Words of a class one after the other, and the parts of a form one after the other.
-use Rattle.std.proofs.Common.{◌≡◌, ◌∙◌, sym, ap, subst, refl, ℕ, suc, ◌+◌, ◌-◌, ◌<◌, List, [], ◌∷◌, Ok, Err, arith, length, drop, get_or, drop-cons}
-use Rattle.vx_script_words.specs.Row.{one, some, going_on, item, items, So, Going}
-use Rattle.vx_script_words.specs.declared.class.Class.{Class}
+-- Words that say something one after the other, and the parts of a form one after the other.
+use Rattle.std.proofs.Common.{◌≡◌, ◌∙◌, sym, ap, refl, ℕ, suc, ◌+◌, ◌-◌, ◌<◌, ◌≤◌, Option, Some, None, List, [], ◌∷◌, Ok, Err, arith, length, drop, get_or, drop-cons}
+use Rattle.vx_script_words.specs.Row.{gather, further, Found, item, items, Going}
+use Rattle.vx_script_words.specs.Words.{from_word, first_word, past_word}
 use Rattle.vx_script_words.specs.declared.class.Item.{Item}
 use Rattle.vx_script_words.specs.Gives.{Fails}
 use Rattle.vx_script_words.specs.declared.stop.Stop.{Stop}
 use Rattle.vx_script_words.specs.declared.stop.Stop.TheVariants.{OutOfMemory, Left}
 use Rattle.vx_script_words.specs.declared.value.Value.{Value}
 
-step : (k : ℕ) (class : Class) (s : So) → some (suc k) class s ≡ going_on (one class s.values s.rest) (some k class) s
-unfolding some
-step k class s = refl
+module _ {X A : Type 0} (say : List ℕ → Option X) (put : A → X → A) where
+  step : (k : ℕ) (so : A) (text : List ℕ) → gather say put (suc k) so text ≡ further (say (first_word (from_word text))) (record { list = so; rest = text }) (λ x. gather say put k (put so x) (past_word (from_word text)))
+  unfolding gather
+  step k so text = refl
 
-steps : (limit n : ℕ) (class : Class) (s : So) → n < limit → some (limit - n) class s ≡ going_on (one class s.values s.rest) (some (limit - (n + 1)) class) s
-steps limit n class s h =
-    let e : limit - n ≡ suc (limit - (n + 1)) = omega arith in
-    ap (λ k. some k class s) e ∙ step (limit - (n + 1)) class s
+  steps : (limit n : ℕ) (so : A) (text : List ℕ) → n < limit → gather say put (limit - n) so text ≡ further (say (first_word (from_word text))) (record { list = so; rest = text }) (λ x. gather say put (limit - (n + 1)) (put so x) (past_word (from_word text)))
+  steps limit n so text h =
+      let e : limit - n ≡ suc (limit - (n + 1)) = omega arith in
+      ap (λ k. gather say put k so text) e ∙ step (limit - (n + 1)) so text
 
-pub some_stop : (limit n left : ℕ) (class : Class) (old new : List Value) (rest : List ℕ) (whole : So) → n < limit → one class old rest ≡ Err left → new ≡ old → some (limit - n) class (record { values = old; rest = rest }) ≡ whole → whole ≡ record { values = new; rest = rest }
-some_stop limit n left class old new rest whole h e kept so =
-    let s : So = record { values = old; rest = rest } in
-    let stops : whole ≡ s = sym so ∙ steps limit n class s h ∙ ap (λ r. going_on r (some (limit - (n + 1)) class) s) e in
-    let P : List Value → Type 0 = λ v. whole ≡ record { values = v; rest = rest } in
-    subst P (sym kept) stops
+  pub gather_stop : (limit n : ℕ) (so : A) (text : List ℕ) (whole : Found A) → n < limit → say (first_word (from_word text)) ≡ None → gather say put (limit - n) so text ≡ whole → whole ≡ record { list = so; rest = text }
+  gather_stop limit n so text whole h none all =
+      sym all ∙ steps limit n so text h ∙ ap (λ o. further o (record { list = so; rest = text }) (λ x. gather say put (limit - (n + 1)) (put so x) (past_word (from_word text)))) none
 
-pub some_more : (limit n : ℕ) (class : Class) (s next whole : So) → n < limit → one class s.values s.rest ≡ Ok next → some (limit - n) class s ≡ whole → some (limit - (n + 1)) class next ≡ whole
-some_more limit n class s next whole h e so =
-    sym (steps limit n class s h ∙ ap (λ r. going_on r (some (limit - (n + 1)) class) s) e) ∙ so
+  pub gather_more : (limit n : ℕ) (so : A) (text : List ℕ) (x : X) (whole : Found A) → n < limit → say (first_word (from_word text)) ≡ Some x → gather say put (limit - n) so text ≡ whole → gather say put (limit - (n + 1)) (put so x) (past_word (from_word text)) ≡ whole
+  gather_more limit n so text x whole h some all =
+      sym (steps limit n so text h ∙ ap (λ o. further o (record { list = so; rest = text }) (λ y. gather say put (limit - (n + 1)) (put so y) (past_word (from_word text)))) some) ∙ all
+
+  pub gather_end : (limit n : ℕ) (so : A) (text : List ℕ) (whole : Found A) → limit ≤ n → gather say put (limit - n) so text ≡ whole → whole ≡ record { list = so; rest = text }
+  unfolding gather
+  gather_end limit n so text whole h all =
+      let e : limit - n ≡ 0 = omega arith in
+      sym all ∙ ap (λ k. gather say put k so text) e
 
 pub items_err : (is : List Item) (left : ℕ) → items is (Err left) ≡ Err left
 items_err [] left = refl

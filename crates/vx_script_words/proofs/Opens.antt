@@ -6,16 +6,17 @@ use Rattle.std.specs.Str.{bytes_eq}
 use Rattle.std.proofs.lemmas.Bool.{and_from, and_parts, cond-true, cond-false, true≢false}
 use Rattle.std.proofs.lemmas.List.{append-nil, length-append}
 use Rattle.vx_script_words.specs.Class.{class_value}
+use Rattle.vx_script_words.specs.Hex.{block_of}
 use Rattle.vx_script_words.specs.Key.{text_of}
 use Rattle.vx_script_words.specs.Parts.{cut_of}
 use Rattle.vx_script_words.specs.Row.{any_name}
 use Rattle.vx_script_words.specs.declared.class.Class.{Class}
 use Rattle.vx_script_words.specs.declared.class.Item.{Item}
-use Rattle.vx_script_words.specs.declared.class.Item.TheVariants.{One, Maybe, Any, UpTo, Group, NoGroup}
+use Rattle.vx_script_words.specs.declared.class.Item.TheVariants.{One, Maybe, Group, NoGroup, Names, Pairs, Blocks}
 use Rattle.vx_script_words.specs.declared.class.Sort.{Sort}
 use Rattle.vx_script_words.specs.declared.class.Sort.TheVariants as sort
 use Rattle.vx_script_words.proofs.Spelled.{is_word}
-use Rattle.vx_script_words.proofs.Walk.{Words, Walked, accepts, one_word, after, some_words, no_words, end_words, on, walk, enough}
+use Rattle.vx_script_words.proofs.Walk.{Words, Walked, Test, accepts, is_named, is_paired, is_blocked, both_on, one_word, after, some_words, no_words, end_words, on, walk, enough}
 
 -- a word of the sort, and one of the class
 abbrev pub sample : Sort → List ℕ
@@ -24,7 +25,6 @@ sample sort.Named = codes "x"
 sample (sort.Number low high) = (48 + low) ∷ []
 sample sort.Length = codes "1"
 sample sort.Byte = codes "00"
-sample sort.Block = codes "=00"
 sample sort.Pair = codes "x=x"
 sample sort.BreakOff = codes "x/newvol=x/nmirror=1"
 
@@ -36,10 +36,11 @@ abbrev pub examples : List Item → Words
 examples [] = []
 examples (One class ∷ is) = example class ∷ examples is
 examples (Maybe class ∷ is) = example class ∷ examples is
-examples (Any class ∷ is) = examples is
-examples (UpTo limit class ∷ is) = examples is
 examples (Group ∷ is) = codes "-g" ∷ codes "x" ∷ examples is
 examples (NoGroup ∷ is) = examples is
+examples (Names ∷ is) = examples is
+examples (Pairs ∷ is) = codes "x=x" ∷ examples is
+examples (Blocks ∷ is) = codes "=00" ∷ examples is
 
 abbrev pub is_last : List Item → Bool
 is_last [] = true
@@ -54,14 +55,15 @@ abbrev pub are_sound : List Item → Bool
 are_sound [] = true
 are_sound (One class ∷ is) = is_sound_class class && are_sound is
 are_sound (Maybe class ∷ is) = is_sound_class class && are_sound is
-are_sound (Any class ∷ is) = is_sound_class class && is_last is
-are_sound (UpTo limit class ∷ is) = is_sound_class class && is_last is
 are_sound (Group ∷ is) = are_sound is
 are_sound (NoGroup ∷ is) = are_sound is
+are_sound (Names ∷ is) = is_last is
+are_sound (Pairs ∷ is) = is_last is
+are_sound (Blocks ∷ is) = is_last is
 
 -- ---- the examples fit
 
-pub record Fits (f : Words → Walked) (ws : Words) : Type 0 where
+pub record HasLeft (f : Words → Walked) (ws : Words) : Type 0 where
   pub left : Words
   pub is : f ws ≡ Ok left
 
@@ -74,42 +76,43 @@ name_accepted : accepts any_name (codes "x") ≡ true
 unfolding class_value
 name_accepted = refl
 
-one_taken : (class : Class) (w : List ℕ) (ws : Words) → accepts class w ≡ true → one_word class (w ∷ ws) ≡ Ok ws
-one_taken class w ws t = cond-true _ _ _ t
+pair_accepted : is_paired (codes "x=x") ≡ true
+pair_accepted = refl
 
-no_more : (n : ℕ) (class : Class) → some_words n class [] ≡ []
-no_more zero class = refl
-no_more (suc n) class = refl
+block_accepted : is_blocked (codes "=00") ≡ true
+unfolding block_of
+block_accepted = refl
+
+one_taken : (p : Test) (w : List ℕ) (ws : Words) → p w ≡ true → one_word p (w ∷ ws) ≡ Ok ws
+one_taken p w ws t = cond-true _ _ _ t
 
 last_is : (is : List Item) → is_last is ≡ true → is ≡ []
 last_is [] h = refl
 last_is (i ∷ is) h = absurd cc
 
-end_fits : (may_be_cut : Bool) → Fits (end_words may_be_cut) []
+end_fits : (may_be_cut : Bool) → HasLeft (end_words may_be_cut) []
 end_fits false = record { left = []; is = refl }
 end_fits true = record { left = []; is = refl }
 
-pub all_fit : (may_be_cut : Bool) (is : List Item) → are_sound is ≡ true → Fits (walk may_be_cut is) (examples is)
+pub all_fit : (may_be_cut : Bool) (is : List Item) → are_sound is ≡ true → HasLeft (walk may_be_cut is) (examples is)
 all_fit may_be_cut [] h = end_fits may_be_cut
 all_fit may_be_cut (One class ∷ is) h =
     let p = and_parts (is_sound_class class) (are_sound is) h in
     let rest = all_fit may_be_cut is p.1 in
-    record { left = rest.left; is = ap (λ (r : Walked). on r (walk may_be_cut is)) (one_taken class (example class) (examples is) (sound_example class p.0).0) ∙ rest.is }
+    record { left = rest.left; is = ap (λ (r : Walked). on r (walk may_be_cut is)) (one_taken (accepts class) (example class) (examples is) (sound_example class p.0).0) ∙ rest.is }
 all_fit may_be_cut (Maybe class ∷ is) h =
     let p = and_parts (is_sound_class class) (are_sound is) h in
     let rest = all_fit may_be_cut is p.1 in
-    record { left = rest.left; is = ap (λ (r : Walked). walk may_be_cut is (after r (λ (x : Words). x) (example class ∷ examples is))) (one_taken class (example class) (examples is) (sound_example class p.0).0) ∙ rest.is }
-all_fit may_be_cut (Any class ∷ is) h =
-    let last = last_is is (and_parts (is_sound_class class) (is_last is) h).1 in
-    subst (λ (x : List Item). Fits (walk may_be_cut (Any class ∷ x)) (examples (Any class ∷ x))) (sym last) (record { left = (end_fits may_be_cut).left; is = (end_fits may_be_cut).is })
-all_fit may_be_cut (UpTo limit class ∷ is) h =
-    let last = last_is is (and_parts (is_sound_class class) (is_last is) h).1 in
-    let none : Fits (walk may_be_cut (UpTo limit class ∷ [])) [] = record { left = (end_fits may_be_cut).left; is = ap (end_words may_be_cut) (no_more limit class) ∙ (end_fits may_be_cut).is } in
-    subst (λ (x : List Item). Fits (walk may_be_cut (UpTo limit class ∷ x)) (examples (UpTo limit class ∷ x))) (sym last) none
+    record { left = rest.left; is = ap (λ (r : Walked). walk may_be_cut is (after r (λ (x : Words). x) (example class ∷ examples is))) (one_taken (accepts class) (example class) (examples is) (sound_example class p.0).0) ∙ rest.is }
 all_fit may_be_cut (Group ∷ is) h =
     let rest = all_fit may_be_cut is h in
-    record { left = rest.left; is = ap (λ (r : Walked). on r (walk may_be_cut is)) (one_taken any_name (codes "x") (examples is) name_accepted) ∙ rest.is }
+    record { left = rest.left; is = ap (λ (r : Walked). on r (walk may_be_cut is)) (one_taken (accepts any_name) (codes "x") (examples is) name_accepted) ∙ rest.is }
 all_fit may_be_cut (NoGroup ∷ is) h = all_fit may_be_cut is h
+all_fit may_be_cut (Names ∷ is) h = subst (λ (x : List Item). HasLeft (walk may_be_cut (Names ∷ x)) (examples (Names ∷ x))) (sym (last_is is h)) (record { left = (end_fits may_be_cut).left; is = (end_fits may_be_cut).is })
+all_fit may_be_cut (Pairs ∷ is) h = subst (λ (x : List Item). HasLeft (walk may_be_cut (Pairs ∷ x)) (examples (Pairs ∷ x))) (sym (last_is is h)) (record { left = (end_fits may_be_cut).left; is = (end_fits may_be_cut).is })
+all_fit may_be_cut (Blocks ∷ is) h =
+    let one = ap (λ (r : Walked). on (on r (λ vs. Ok (some_words 63 is_blocked vs))) (walk may_be_cut [])) (one_taken is_blocked (codes "=00") [] block_accepted) in
+    subst (λ (x : List Item). HasLeft (walk may_be_cut (Blocks ∷ x)) (examples (Blocks ∷ x))) (sym (last_is is h)) (record { left = (end_fits may_be_cut).left; is = one ∙ (end_fits may_be_cut).is })
 
 pub examples_real : (is : List Item) → are_sound is ≡ true → list_all is_word (examples is) ≡ true
 examples_real [] h = refl
@@ -119,14 +122,11 @@ examples_real (One class ∷ is) h =
 examples_real (Maybe class ∷ is) h =
     let p = and_parts (is_sound_class class) (are_sound is) h in
     and_from _ _ (sound_example class p.0).1 (examples_real is p.1)
-examples_real (Any class ∷ is) h =
-    let last = last_is is (and_parts (is_sound_class class) (is_last is) h).1 in
-    ap (λ (x : List Item). list_all is_word (examples x)) last
-examples_real (UpTo limit class ∷ is) h =
-    let last = last_is is (and_parts (is_sound_class class) (is_last is) h).1 in
-    ap (λ (x : List Item). list_all is_word (examples x)) last
 examples_real (Group ∷ is) h = examples_real is h
 examples_real (NoGroup ∷ is) h = examples_real is h
+examples_real (Names ∷ is) h = ap (λ (x : List Item). list_all is_word (examples x)) (last_is is h)
+examples_real (Pairs ∷ is) h = ap (λ (x : List Item). list_all is_word (examples x)) (last_is is h)
+examples_real (Blocks ∷ is) h = ap (λ (x : List Item). list_all is_word (examples x)) (last_is is h)
 
 -- ---- what begins a line that fits
 
@@ -163,44 +163,44 @@ end_closes true (w ∷ ws) bad e = by_cut (is_some (cut_of w)) refl e
     by_cut false t e = record { front = []; parts = same_err _ _ e; left = []; fits = refl }
 
 -- a word that was refused is refused again
-refused_again : (n : ℕ) (class : Class) (w : List ℕ) (front : Words) → accepts class w ≡ false → some_words (suc n) class (w ∷ front) ≡ w ∷ front
-refused_again n class w front f = ap (λ (r : Walked). after r (some_words n class) (w ∷ front)) (cond-false _ _ _ f)
+refused_again : (n : ℕ) (p : Test) (w : List ℕ) (front : Words) → p w ≡ false → some_words (suc n) p (w ∷ front) ≡ w ∷ front
+refused_again n p w front f = ap (λ (r : Walked). after r (some_words n p) (w ∷ front)) (cond-false _ _ _ f)
 
-accepted_again : (n : ℕ) (class : Class) (w : List ℕ) (front : Words) → accepts class w ≡ true → some_words (suc n) class (w ∷ front) ≡ some_words n class front
-accepted_again n class w front t = ap (λ (r : Walked). after r (some_words n class) (w ∷ front)) (cond-true _ _ _ t)
+accepted_again : (n : ℕ) (p : Test) (w : List ℕ) (front : Words) → p w ≡ true → some_words (suc n) p (w ∷ front) ≡ some_words n p front
+accepted_again n p w front t = ap (λ (r : Walked). after r (some_words n p) (w ∷ front)) (cond-true _ _ _ t)
 
-some_close : (n : ℕ) (class : Class) (may_be_cut : Bool) (ws bad : Words) → end_words may_be_cut (some_words n class ws) ≡ Err bad → Closes (λ x. end_words may_be_cut (some_words n class x)) ws bad
-some_close zero class may_be_cut ws bad e =
+some_close : (n : ℕ) (p : Test) (may_be_cut : Bool) (ws bad : Words) → end_words may_be_cut (some_words n p ws) ≡ Err bad → Closes (λ x. end_words may_be_cut (some_words n p x)) ws bad
+some_close zero p may_be_cut ws bad e =
     let c = end_closes may_be_cut ws bad e in
     record { front = c.front; parts = c.parts; left = c.left; fits = c.fits }
-some_close (suc n) class may_be_cut [] bad e =
+some_close (suc n) p may_be_cut [] bad e =
     let c = end_closes may_be_cut [] bad e in
     record { front = []; parts = nothing c.front bad c.parts; left = (end_fits may_be_cut).left; fits = (end_fits may_be_cut).is }
   where
     nothing : (front bad : Words) → [] ≡ front ++ bad → [] ≡ bad
     nothing [] bad e = e
     nothing (x ∷ xs) bad e = absurd cc
-some_close (suc n) class may_be_cut (w ∷ ws) bad e = by_test (accepts class w) refl e (some_close n class may_be_cut ws bad)
+some_close (suc n) p may_be_cut (w ∷ ws) bad e = by_test (p w) refl e (some_close n p may_be_cut ws bad)
   where
-    by_end : accepts class w ≡ false → (c : Closes (end_words may_be_cut) (w ∷ ws) bad) → (front : Words) → c.front ≡ front → Closes (λ x. end_words may_be_cut (some_words (suc n) class x)) (w ∷ ws) bad
+    by_end : p w ≡ false → (c : Closes (end_words may_be_cut) (w ∷ ws) bad) → (front : Words) → c.front ≡ front → Closes (λ x. end_words may_be_cut (some_words (suc n) p x)) (w ∷ ws) bad
     by_end f c [] same = record { front = []; parts = c.parts ∙ ap (λ (x : Words). x ++ bad) same; left = (end_fits may_be_cut).left; fits = (end_fits may_be_cut).is }
     by_end f c (x ∷ xs) same =
         let whole : w ∷ ws ≡ x ∷ (xs ++ bad) = c.parts ∙ ap (λ (y : Words). y ++ bad) same in
         let first : w ≡ x = cc in
-        let again = refused_again n class x xs (ap (accepts class) (sym first) ∙ f) in
+        let again = refused_again n p x xs (ap p (sym first) ∙ f) in
         record { front = x ∷ xs; parts = whole; left = c.left; fits = ap (end_words may_be_cut) again ∙ ap (end_words may_be_cut) (sym same) ∙ c.fits }
 
-    by_test : (q : Bool) → accepts class w ≡ q → end_words may_be_cut (after (cond q (Ok ws) (Err (w ∷ ws))) (some_words n class) (w ∷ ws)) ≡ Err bad → (end_words may_be_cut (some_words n class ws) ≡ Err bad → Closes (λ x. end_words may_be_cut (some_words n class x)) ws bad) → Closes (λ x. end_words may_be_cut (some_words (suc n) class x)) (w ∷ ws) bad
+    by_test : (q : Bool) → p w ≡ q → end_words may_be_cut (after (cond q (Ok ws) (Err (w ∷ ws))) (some_words n p) (w ∷ ws)) ≡ Err bad → (end_words may_be_cut (some_words n p ws) ≡ Err bad → Closes (λ x. end_words may_be_cut (some_words n p x)) ws bad) → Closes (λ x. end_words may_be_cut (some_words (suc n) p x)) (w ∷ ws) bad
     by_test true t e ih =
         let c = ih e in
-        record { front = w ∷ c.front; parts = ap (λ (x : Words). w ∷ x) c.parts; left = c.left; fits = ap (end_words may_be_cut) (accepted_again n class w c.front t) ∙ c.fits }
+        record { front = w ∷ c.front; parts = ap (λ (x : Words). w ∷ x) c.parts; left = c.left; fits = ap (end_words may_be_cut) (accepted_again n p w c.front t) ∙ c.fits }
     by_test false f e ih = let c = end_closes may_be_cut (w ∷ ws) bad e in by_end f c c.front refl
 
-any_close : (class : Class) (may_be_cut : Bool) (ws bad : Words) → end_words may_be_cut (some_words (length ws) class ws) ≡ Err bad → Closes (λ x. end_words may_be_cut (some_words (length x) class x)) ws bad
-any_close class may_be_cut ws bad e =
-    let c = some_close (length ws) class may_be_cut ws bad e in
+any_close : (p : Test) (may_be_cut : Bool) (ws bad : Words) → end_words may_be_cut (some_words (length ws) p ws) ≡ Err bad → Closes (λ x. end_words may_be_cut (some_words (length x) p x)) ws bad
+any_close p may_be_cut ws bad e =
+    let c = some_close (length ws) p may_be_cut ws bad e in
     let few : length c.front ≤ length ws = omega (arith, ap (λ (x : Words). length x) c.parts, length-append c.front bad) in
-    record { front = c.front; parts = c.parts; left = c.left; fits = ap (end_words may_be_cut) (enough (length c.front) (length ws) class c.front (omega arith) few) ∙ c.fits }
+    record { front = c.front; parts = c.parts; left = c.left; fits = ap (end_words may_be_cut) (enough (length c.front) (length ws) p c.front (omega arith) few) ∙ c.fits }
 
 closed : (f : Words → Walked) (ws bad : Words) → Closes f ws bad → Opens f ws bad
 closed f ws bad c = record { front = c.front; more = []; parts = c.parts; real = refl; left = c.left; fits = ap f (append-nil c.front) ∙ c.fits }
@@ -226,16 +226,29 @@ left_out may_be_cut i is ws bad h o again = by_front o.front refl
         let parts : ws ≡ x ∷ (xs ++ bad) = o.parts ∙ ap (λ (y : Words). y ++ bad) same in
         record { front = x ∷ xs; more = o.more; parts = parts; real = o.real; left = o.left; fits = again x (xs ++ o.more) (xs ++ bad) parts ∙ ap (λ (y : Words). walk may_be_cut is (y ++ o.more)) (sym same) ∙ o.fits }
 
+-- a word that has to be there, and what follows it
+first_opens : (p : Test) (f : Words → Walked) → ((ws bad : Words) → ws ≡ bad → Opens (λ x. on (one_word p x) f) ws bad) → ((ws bad : Words) → f ws ≡ Err bad → Opens f ws bad) → (ws bad : Words) → on (one_word p ws) f ≡ Err bad → Opens (λ x. on (one_word p x) f) ws bad
+first_opens p f start ih [] bad e = start [] bad (same_err _ _ e)
+first_opens p f start ih (w ∷ ws) bad e = by_test (p w) refl e
+  where
+    by_test : (q : Bool) → p w ≡ q → on (cond q (Ok ws) (Err (w ∷ ws))) f ≡ Err bad → Opens (λ x. on (one_word p x) f) (w ∷ ws) bad
+    by_test true t e =
+        let o = ih ws bad e in
+        record { front = w ∷ o.front; more = o.more; parts = ap (λ (x : Words). w ∷ x) o.parts; real = o.real; left = o.left; fits = ap (λ (r : Walked). on r f) (one_taken p w (o.front ++ o.more) t) ∙ o.fits }
+    by_test false t e = start (w ∷ ws) bad (same_err _ _ e)
+
+-- a list of one word or more at the end of a form
+list_opens : (p : Test) (g : Words → Words) (i : Item) (may_be_cut : Bool) → are_sound (i ∷ []) ≡ true → ((ws : Words) → walk may_be_cut (i ∷ []) ws ≡ on (one_word p ws) (λ vs. end_words may_be_cut (g vs)))
+    → ((ws bad : Words) → end_words may_be_cut (g ws) ≡ Err bad → Closes (λ x. end_words may_be_cut (g x)) ws bad) → (ws bad : Words) → walk may_be_cut (i ∷ []) ws ≡ Err bad → Opens (walk may_be_cut (i ∷ [])) ws bad
+list_opens p g i may_be_cut h same close ws bad e =
+    let f : Words → Walked = λ vs. end_words may_be_cut (g vs) in
+    let start : (vs x : Words) → vs ≡ x → Opens (λ y. on (one_word p y) f) vs x = λ vs x k. (let o = from_start may_be_cut (i ∷ []) vs x h k in record { front = o.front; more = o.more; parts = o.parts; real = o.real; left = o.left; fits = sym (same (o.front ++ o.more)) ∙ o.fits }) in
+    let o = first_opens p f start (λ vs x k. closed f vs x (close vs x k)) ws bad (sym (same ws) ∙ e) in
+    record { front = o.front; more = o.more; parts = o.parts; real = o.real; left = o.left; fits = same (o.front ++ o.more) ∙ o.fits }
+
 module _ (may_be_cut : Bool) (is : List Item) where
   one_opens : (class : Class) → are_sound (One class ∷ is) ≡ true → ((ws bad : Words) → walk may_be_cut is ws ≡ Err bad → Opens (walk may_be_cut is) ws bad) → (ws bad : Words) → walk may_be_cut (One class ∷ is) ws ≡ Err bad → Opens (walk may_be_cut (One class ∷ is)) ws bad
-  one_opens class h ih [] bad e = from_start may_be_cut (One class ∷ is) [] bad h (same_err _ _ e)
-  one_opens class h ih (w ∷ ws) bad e = by_test (accepts class w) refl e
-    where
-      by_test : (q : Bool) → accepts class w ≡ q → on (cond q (Ok ws) (Err (w ∷ ws))) (walk may_be_cut is) ≡ Err bad → Opens (walk may_be_cut (One class ∷ is)) (w ∷ ws) bad
-      by_test true t e =
-          let o = ih ws bad e in
-          record { front = w ∷ o.front; more = o.more; parts = ap (λ (x : Words). w ∷ x) o.parts; real = o.real; left = o.left; fits = ap (λ (r : Walked). on r (walk may_be_cut is)) (one_taken class w (o.front ++ o.more) t) ∙ o.fits }
-      by_test false f e = from_start may_be_cut (One class ∷ is) (w ∷ ws) bad h (same_err _ _ e)
+  one_opens class h ih ws bad e = first_opens (accepts class) (walk may_be_cut is) (λ vs x same. from_start may_be_cut (One class ∷ is) vs x h same) ih ws bad e
 
   maybe_opens : (class : Class) → are_sound (Maybe class ∷ is) ≡ true → ((ws bad : Words) → walk may_be_cut is ws ≡ Err bad → Opens (walk may_be_cut is) ws bad) → (ws bad : Words) → walk may_be_cut (Maybe class ∷ is) ws ≡ Err bad → Opens (walk may_be_cut (Maybe class ∷ is)) ws bad
   maybe_opens class h ih [] bad e = let o = ih [] bad e in from_start may_be_cut (Maybe class ∷ is) [] bad h (nothing_before o.front bad o.parts)
@@ -244,34 +257,34 @@ module _ (may_be_cut : Bool) (is : List Item) where
       by_test : (q : Bool) → accepts class w ≡ q → walk may_be_cut is (after (cond q (Ok ws) (Err (w ∷ ws))) (λ (x : Words). x) (w ∷ ws)) ≡ Err bad → Opens (walk may_be_cut (Maybe class ∷ is)) (w ∷ ws) bad
       by_test true t e =
           let o = ih ws bad e in
-          record { front = w ∷ o.front; more = o.more; parts = ap (λ (x : Words). w ∷ x) o.parts; real = o.real; left = o.left; fits = ap (walk may_be_cut is) (accepted_again 0 class w (o.front ++ o.more) t) ∙ o.fits }
+          record { front = w ∷ o.front; more = o.more; parts = ap (λ (x : Words). w ∷ x) o.parts; real = o.real; left = o.left; fits = ap (walk may_be_cut is) (accepted_again 0 (accepts class) w (o.front ++ o.more) t) ∙ o.fits }
       by_test false f e =
-          left_out may_be_cut (Maybe class) is (w ∷ ws) bad h (ih (w ∷ ws) bad e) (λ x xs vs same. let first : w ≡ x = cc in ap (walk may_be_cut is) (refused_again 0 class x xs (ap (accepts class) (sym first) ∙ f)))
+          left_out may_be_cut (Maybe class) is (w ∷ ws) bad h (ih (w ∷ ws) bad e) (λ x xs vs same. let first : w ≡ x = cc in ap (walk may_be_cut is) (refused_again 0 (accepts class) x xs (ap (accepts class) (sym first) ∙ f)))
 
   group_opens : are_sound (Group ∷ is) ≡ true → ((ws bad : Words) → walk may_be_cut is ws ≡ Err bad → Opens (walk may_be_cut is) ws bad) → (ws bad : Words) → walk may_be_cut (Group ∷ is) ws ≡ Err bad → Opens (walk may_be_cut (Group ∷ is)) ws bad
   group_opens h ih [] bad e = let o = ih [] bad e in from_start may_be_cut (Group ∷ is) [] bad h (nothing_before o.front bad o.parts)
   group_opens h ih (w ∷ ws) bad e = by_option (bytes_eq w (codes "-g")) refl e
     where
-      behind : bytes_eq w (codes "-g") ≡ true → (vs : Words) → walk may_be_cut (Group ∷ is) (w ∷ vs) ≡ on (one_word any_name vs) (walk may_be_cut is)
+      behind : bytes_eq w (codes "-g") ≡ true → (vs : Words) → walk may_be_cut (Group ∷ is) (w ∷ vs) ≡ on (one_word (accepts any_name) vs) (walk may_be_cut is)
       behind t vs = ap (λ (r : Walked). on r (walk may_be_cut is)) (cond-true _ _ _ t)
 
       -- the option is there, and no name behind it
       no_name : bytes_eq w (codes "-g") ≡ true → ws ≡ bad → Opens (walk may_be_cut (Group ∷ is)) (w ∷ ws) bad
       no_name t same =
           let all = all_fit may_be_cut is h in
-          record { front = w ∷ []; more = codes "x" ∷ examples is; parts = ap (λ (x : Words). w ∷ x) same; real = examples_real is h; left = all.left; fits = behind t (codes "x" ∷ examples is) ∙ ap (λ (r : Walked). on r (walk may_be_cut is)) (one_taken any_name (codes "x") (examples is) name_accepted) ∙ all.is }
+          record { front = w ∷ []; more = codes "x" ∷ examples is; parts = ap (λ (x : Words). w ∷ x) same; real = examples_real is h; left = all.left; fits = behind t (codes "x" ∷ examples is) ∙ ap (λ (r : Walked). on r (walk may_be_cut is)) (one_taken (accepts any_name) (codes "x") (examples is) name_accepted) ∙ all.is }
 
-      by_name : bytes_eq w (codes "-g") ≡ true → (vs : Words) → ws ≡ vs → on (one_word any_name vs) (walk may_be_cut is) ≡ Err bad → Opens (walk may_be_cut (Group ∷ is)) (w ∷ ws) bad
+      by_name : bytes_eq w (codes "-g") ≡ true → (vs : Words) → ws ≡ vs → on (one_word (accepts any_name) vs) (walk may_be_cut is) ≡ Err bad → Opens (walk may_be_cut (Group ∷ is)) (w ∷ ws) bad
       by_name t [] same e = no_name t (same ∙ same_err _ _ e)
       by_name t (v ∷ vs) same e = by_test (accepts any_name v) refl e
         where
           by_test : (q : Bool) → accepts any_name v ≡ q → on (cond q (Ok vs) (Err (v ∷ vs))) (walk may_be_cut is) ≡ Err bad → Opens (walk may_be_cut (Group ∷ is)) (w ∷ ws) bad
           by_test true a e =
               let o = ih vs bad e in
-              record { front = w ∷ v ∷ o.front; more = o.more; parts = ap (λ (x : Words). w ∷ x) same ∙ ap (λ (x : Words). w ∷ v ∷ x) o.parts; real = o.real; left = o.left; fits = behind t (v ∷ (o.front ++ o.more)) ∙ ap (λ (r : Walked). on r (walk may_be_cut is)) (one_taken any_name v (o.front ++ o.more) a) ∙ o.fits }
+              record { front = w ∷ v ∷ o.front; more = o.more; parts = ap (λ (x : Words). w ∷ x) same ∙ ap (λ (x : Words). w ∷ v ∷ x) o.parts; real = o.real; left = o.left; fits = behind t (v ∷ (o.front ++ o.more)) ∙ ap (λ (r : Walked). on r (walk may_be_cut is)) (one_taken (accepts any_name) v (o.front ++ o.more) a) ∙ o.fits }
           by_test false f e = no_name t (same ∙ same_err _ _ e)
 
-      by_option : (q : Bool) → bytes_eq w (codes "-g") ≡ q → on (cond q (one_word any_name ws) (Ok (w ∷ ws))) (walk may_be_cut is) ≡ Err bad → Opens (walk may_be_cut (Group ∷ is)) (w ∷ ws) bad
+      by_option : (q : Bool) → bytes_eq w (codes "-g") ≡ q → on (cond q (one_word (accepts any_name) ws) (Ok (w ∷ ws))) (walk may_be_cut is) ≡ Err bad → Opens (walk may_be_cut (Group ∷ is)) (w ∷ ws) bad
       by_option true t e = by_name t ws refl e
       by_option false f e =
           left_out may_be_cut Group is (w ∷ ws) bad h (ih (w ∷ ws) bad e) (λ x xs vs same. let first : w ≡ x = cc in ap (λ (r : Walked). on r (walk may_be_cut is)) (cond-false _ _ _ (ap (λ (y : List ℕ). bytes_eq y (codes "-g")) (sym first) ∙ f)))
@@ -280,11 +293,13 @@ pub walk_opens : (may_be_cut : Bool) (is : List Item) → are_sound is ≡ true 
 walk_opens may_be_cut [] h ws bad e = closed (end_words may_be_cut) ws bad (end_closes may_be_cut ws bad e)
 walk_opens may_be_cut (One class ∷ is) h ws bad e = one_opens may_be_cut is class h (walk_opens may_be_cut is (and_parts (is_sound_class class) (are_sound is) h).1) ws bad e
 walk_opens may_be_cut (Maybe class ∷ is) h ws bad e = maybe_opens may_be_cut is class h (walk_opens may_be_cut is (and_parts (is_sound_class class) (are_sound is) h).1) ws bad e
-walk_opens may_be_cut (Any class ∷ []) h ws bad e = closed (λ x. end_words may_be_cut (some_words (length x) class x)) ws bad (any_close class may_be_cut ws bad e)
-walk_opens may_be_cut (Any class ∷ (i ∷ is)) h ws bad e = absurd (true≢false (sym (and_parts (is_sound_class class) false h).1))
-walk_opens may_be_cut (UpTo limit class ∷ []) h ws bad e = closed (λ x. end_words may_be_cut (some_words limit class x)) ws bad (some_close limit class may_be_cut ws bad e)
-walk_opens may_be_cut (UpTo limit class ∷ (i ∷ is)) h ws bad e = absurd (true≢false (sym (and_parts (is_sound_class class) false h).1))
 walk_opens may_be_cut (Group ∷ is) h ws bad e = group_opens may_be_cut is h (walk_opens may_be_cut is h) ws bad e
 walk_opens may_be_cut (NoGroup ∷ is) h ws bad e =
     let o = walk_opens may_be_cut is h ws bad e in
     record { front = o.front; more = o.more; parts = o.parts; real = o.real; left = o.left; fits = o.fits }
+walk_opens may_be_cut (Names ∷ []) h ws bad e = closed (λ x. end_words may_be_cut (some_words (length x) is_named x)) ws bad (any_close is_named may_be_cut ws bad e)
+walk_opens may_be_cut (Names ∷ (i ∷ is)) h ws bad e = absurd (true≢false (sym h))
+walk_opens may_be_cut (Pairs ∷ []) h ws bad e = list_opens is_paired (λ vs. some_words (length vs) is_paired vs) Pairs may_be_cut h (λ vs. both_on (one_word is_paired vs) _ (walk may_be_cut [])) (any_close is_paired may_be_cut) ws bad e
+walk_opens may_be_cut (Pairs ∷ (i ∷ is)) h ws bad e = absurd (true≢false (sym h))
+walk_opens may_be_cut (Blocks ∷ []) h ws bad e = list_opens is_blocked (some_words 63 is_blocked) Blocks may_be_cut h (λ vs. both_on (one_word is_blocked vs) _ (walk may_be_cut [])) (some_close 63 is_blocked may_be_cut) ws bad e
+walk_opens may_be_cut (Blocks ∷ (i ∷ is)) h ws bad e = absurd (true≢false (sym h))

@@ -1,6 +1,6 @@
 -- What a word says is in the range of its sort.
-use Rattle.std.proofs.Common.{◌≡◌, ◌∙◌, sym, ap, subst, refl, ℕ, zero, suc, ◌-◌, ◌*◌, ◌^◌, ◌<◌, ◌≤◌, ◌⊎◌, inl, inr, Bool, true, false, cond, not, is_some, Option, Some, None, List, [], ◌∷◌, ◌++◌, length, take, drop, replicate, get_or, arith, eqb, leb, leb-true, eqb-true, lt-ltb, codes, append_assoc, slice_index}
-use Rattle.std.specs.Prelude.{◌&&◌, nat_lt}
+use Rattle.std.proofs.Common.{◌≡◌, ◌∙◌, sym, ap, subst, refl, ℕ, zero, suc, ◌-◌, ◌*◌, ◌^◌, ◌<◌, ◌≤◌, ◌⊎◌, inl, inr, Bool, true, false, cond, not, is_some, Option, Some, None, List, [], ◌∷◌, ◌++◌, length, take, drop, replicate, get_or, arith, eqb, leb, leb-true, eqb-true, lt-ltb, le-leb, codes, append_assoc, slice_index}
+use Rattle.std.specs.Prelude.{◌&&◌, is_none}
 use Rattle.std.specs.List.{list_all, position_or_len}
 use Rattle.std.specs.Str.{bytes_eq}
 use Rattle.std.proofs.lemmas.Bool.{and_parts, and_from, true≢false, cases_lt, cases_Bool, or_cases, both_ways, cond-true, cond-false}
@@ -12,7 +12,8 @@ use Rattle.vx_block.specs.Reading.{byte_value, bytes_of, digit_value, is_block_w
 use Rattle.vx_names.specs.Form.{is_name}
 use Rattle.vx_names.specs.Length.{numeral_front, unit_sectors}
 use Rattle.vx_names.specs.Number.{digits_value, is_numeral}
-use Rattle.vx_script_words.specs.Class.{as_name, as_number, as_pair, as_block, as_word, sort_value, value_behind, class_value}
+use Rattle.vx_script_words.specs.Class.{as_name, as_number, as_pair, as_word, sort_value, value_behind, class_value}
+use Rattle.vx_script_words.specs.Fits.{is_between, is_byte, is_of, is_pair, maybe_name}
 use Rattle.vx_script_words.specs.Hex.{byte_of, block_of}
 use Rattle.vx_script_words.specs.Number.{number_of, within, length_of}
 use Rattle.vx_script_words.specs.Parts.{behind, name_of, name_behind, number_behind, cut_of, both, pair_of, three, just, plex_of, break_off_of}
@@ -23,31 +24,6 @@ use Rattle.vx_script_words.specs.declared.class.Sort.TheVariants as sort
 use Rattle.vx_script_words.specs.declared.value.DiskAt.{DiskAt}
 use Rattle.vx_script_words.specs.declared.value.Value.{Value}
 use Rattle.vx_script_words.specs.declared.value.Value.TheVariants as value
-
-abbrev pub is_byte : ℕ → Bool
-is_byte b = nat_lt b 256
-
--- there is no name, or it is one
-abbrev pub MaybeName : Option (List ℕ) → Type 0
-MaybeName None = Unit {0}
-MaybeName (Some name) = is_name name ≡ true
-
--- names that are not together a word `cut=N`
-pub record IsPair (pair : DiskAt) : Type 0 where
-  pub disk : is_name pair.disk ≡ true
-  pub device : is_name pair.device ≡ true
-  pub uncut : cut_of (pair.disk ++ codes "=" ++ pair.device) ≡ None
-
--- a value of the sort
-abbrev pub IsOf : Sort → Value → Type 0
-IsOf sort.Word v = v ≡ value.Word
-IsOf sort.Named v = (name : List ℕ) × (v ≡ value.Named name) × (is_name name ≡ true)
-IsOf (sort.Number low high) v = (n : ℕ) × (v ≡ value.Number n) × (low ≤ n) × (n ≤ high)
-IsOf sort.Length v = (n : ℕ) × (v ≡ value.Number n) × (1 ≤ n) × (n ≤ 2 ^ 40)
-IsOf sort.Byte v = (n : ℕ) × (v ≡ value.Number n) × (n < 256)
-IsOf sort.Block v = (bytes : List ℕ) × (v ≡ value.Block bytes) × (length bytes ≡ 512) × (list_all is_byte bytes ≡ true)
-IsOf sort.Pair v = (pair : DiskAt) × (v ≡ value.Pair pair) × IsPair pair
-IsOf sort.BreakOff v = (vol snap : List ℕ) × (plex : Option (List ℕ)) × (v ≡ value.BreakOff vol snap plex) × (is_name vol ≡ true) × (is_name snap ≡ true) × MaybeName plex
 
 -- ---- tests
 
@@ -86,10 +62,6 @@ numbered_is (Some n) v e = (n, refl, cc)
 paired_is : (o : Option DiskAt) (v : Value) → as_pair o ≡ Some v → (pair : DiskAt) × (o ≡ Some pair) × (v ≡ value.Pair pair)
 paired_is None v e = absurd cc
 paired_is (Some pair) v e = (pair, refl, cc)
-
-blocked_is : (o : Option (List ℕ)) (v : Value) → as_block o ≡ Some v → (bytes : List ℕ) × (o ≡ Some bytes) × (v ≡ value.Block bytes)
-blocked_is None v e = absurd cc
-blocked_is (Some bytes) v e = (bytes, refl, cc)
 
 word_is : (word : List ℕ) (v : Value) → as_word word ≡ Some v → v ≡ value.Word
 word_is [] v e = cc
@@ -156,7 +128,7 @@ all_replicated : (n b : ℕ) → b < 256 → list_all is_byte (replicate n b) �
 all_replicated zero b h = refl
 all_replicated (suc n) b h = and_from _ _ (lt-ltb b 256 h) (all_replicated n b h)
 
-abbrev AreBytes : List ℕ → Type 0
+abbrev pub AreBytes : List ℕ → Type 0
 AreBytes bytes = (length bytes ≡ 512) × (list_all is_byte bytes ≡ true)
 
 short_ok : (word : List ℕ) → is_short_word word ≡ true → AreBytes (replicate 512 (byte_value (slice_index word 1) (slice_index word 2)))
@@ -223,7 +195,7 @@ both_is (Some disk) (Some device) pair e =
     let same = same_Some _ _ e in
     (ap (λ (p : DiskAt). Some p.disk) same, ap (λ (p : DiskAt). Some p.device) same)
 
-pub pair_ok : (word : List ℕ) (pair : DiskAt) → pair_of word ≡ Some pair → IsPair pair
+pub pair_ok : (word : List ℕ) (pair : DiskAt) → pair_of word ≡ Some pair → is_pair pair ≡ true
 pair_ok word pair e =
     let c = held_not (is_some (cut_of word)) (both (name_of (up_to 61 word)) (name_of (past 61 word))) pair e in
     let b = both_is _ _ pair c.1 in
@@ -233,25 +205,25 @@ pair_ok word pair e =
     parted 61 word (subst (λ (w : List ℕ). is_name w ≡ true) (sym device.1) device.0)
     ∙ ap (λ (w : List ℕ). w ++ 61 ∷ past 61 word) disk.1 ∙ ap (λ (w : List ℕ). pair.disk ++ 61 ∷ w) device.1
     ∙ sym (append_assoc pair.disk (codes "=") pair.device) in
-    record { disk = disk.0; device = device.0; uncut = ap cut_of (sym whole) ∙ not_some (cut_of word) c.0 }
+    and_from _ _ (and_from _ _ disk.0 device.0) (ap is_none (ap cut_of (sym whole) ∙ not_some (cut_of word) c.0))
 
 abbrev IsBreakOff : Value → Type 0
-IsBreakOff v = IsOf sort.BreakOff v
+IsBreakOff v = is_of sort.BreakOff v ≡ true
 
 three_ok : (vol snap : Option (List ℕ)) (plex : Option (Option (List ℕ))) (v : Value) → three vol snap plex ≡ Some v
-    → ((name : List ℕ) → vol ≡ Some name → is_name name ≡ true) → ((name : List ℕ) → snap ≡ Some name → is_name name ≡ true) → ((name : Option (List ℕ)) → plex ≡ Some name → MaybeName name) → IsBreakOff v
+    → ((name : List ℕ) → vol ≡ Some name → is_name name ≡ true) → ((name : List ℕ) → snap ≡ Some name → is_name name ≡ true) → ((name : Option (List ℕ)) → plex ≡ Some name → maybe_name name ≡ true) → IsBreakOff v
 three_ok None snap plex v e a b c = absurd cc
 three_ok (Some vol) None plex v e a b c = absurd cc
 three_ok (Some vol) (Some snap) None v e a b c = absurd cc
-three_ok (Some vol) (Some snap) (Some plex) v e a b c = (vol, snap, plex, cc, a vol refl, b snap refl, c plex refl)
+three_ok (Some vol) (Some snap) (Some plex) v e a b c = subst IsBreakOff (same_Some _ _ e) (and_from _ _ (and_from _ _ (a vol refl) (b snap refl)) (c plex refl))
 
-just_ok : (o : Option (List ℕ)) (plex : Option (List ℕ)) → just o ≡ Some plex → ((name : List ℕ) → o ≡ Some name → is_name name ≡ true) → MaybeName plex
+just_ok : (o : Option (List ℕ)) (plex : Option (List ℕ)) → just o ≡ Some plex → ((name : List ℕ) → o ≡ Some name → is_name name ≡ true) → maybe_name plex ≡ true
 just_ok None plex e h = absurd cc
-just_ok (Some name) plex e h = subst MaybeName (same_Some _ _ e) (h name refl)
+just_ok (Some name) plex e h = subst (λ (x : Option (List ℕ)). maybe_name x ≡ true) (same_Some _ _ e) (h name refl)
 
-plex_ok : (word : List ℕ) (plex : Option (List ℕ)) → plex_of word ≡ Some plex → MaybeName plex
+plex_ok : (word : List ℕ) (plex : Option (List ℕ)) → plex_of word ≡ Some plex → maybe_name plex ≡ true
 plex_ok word plex e = elim (chosen (bytes_eq word (codes "nmirror=1")) _ _ _ e) [
-  | inl c ↦ subst MaybeName (same_Some _ _ c.1) tt
+  | inl c ↦ subst (λ (x : Option (List ℕ)). maybe_name x ≡ true) (same_Some _ _ c.1) refl
   | inr c ↦ just_ok _ plex c.1 (name_behind_ok (behind (codes "plex=") word))
 ]
 
@@ -260,35 +232,34 @@ break_off_ok word v e = three_ok _ _ _ v e (λ name h. (name_ok (up_to 47 word) 
 
 -- ---- sorts and classes
 
-pub sort_ok : (s : Sort) (word : List ℕ) (v : Value) → sort_value s word ≡ Some v → IsOf s v
-sort_ok sort.Word word v e = word_is word v e
+between : (low high n : ℕ) → low ≤ n → n ≤ high → is_between low high n ≡ true
+between low high n l h = and_from _ _ (le-leb low n l) (le-leb n high h)
+
+pub sort_ok : (s : Sort) (word : List ℕ) (v : Value) → sort_value s word ≡ Some v → is_of s v ≡ true
+sort_ok sort.Word word v e = ap (is_of sort.Word) (word_is word v e)
 sort_ok sort.Named word v e =
     let n = named_is (name_of word) v e in
-    (n.0, n.2, (name_ok word n.0 n.1).0)
+    ap (is_of sort.Named) n.2 ∙ (name_ok word n.0 n.1).0
 sort_ok (sort.Number low high) word v e =
     let n = numbered_is (within low high (number_of word)) v e in
     let w = within_ok low high n.0 (number_of word) n.1 in
-    (n.0, n.2, w.0, w.1)
+    ap (is_of (sort.Number low high)) n.2 ∙ between low high n.0 w.0 w.1
 sort_ok sort.Length word v e =
     let n = numbered_is (length_of word) v e in
     let w = length_ok word n.0 n.1 in
-    (n.0, n.2, w.0, w.1)
+    ap (is_of sort.Length) n.2 ∙ between 1 (2 ^ 40) n.0 w.0 w.1
 sort_ok sort.Byte word v e =
     let n = numbered_is (byte_of word) v e in
-    (n.0, n.2, byte_ok word n.0 n.1)
-sort_ok sort.Block word v e =
-    let n = blocked_is (block_of word) v e in
-    let w = block_ok word n.0 n.1 in
-    (n.0, n.2, w.0, w.1)
+    ap (is_of sort.Byte) n.2 ∙ lt-ltb n.0 256 (byte_ok word n.0 n.1)
 sort_ok sort.Pair word v e =
     let n = paired_is (pair_of word) v e in
-    (n.0, n.2, pair_ok word n.0 n.1)
+    ap (is_of sort.Pair) n.2 ∙ pair_ok word n.0 n.1
 sort_ok sort.BreakOff word v e = break_off_ok word v e
 
-behind_ok : (s : Sort) (o : Option (List ℕ)) (v : Value) → value_behind s o ≡ Some v → IsOf s v
+behind_ok : (s : Sort) (o : Option (List ℕ)) (v : Value) → value_behind s o ≡ Some v → is_of s v ≡ true
 behind_ok s None v e = absurd cc
 behind_ok s (Some word) v e = sort_ok s word v e
 
-pub class_ok : (class : Class) (word : List ℕ) (v : Value) → class_value class word ≡ Some v → IsOf class.sort v
+pub class_ok : (class : Class) (word : List ℕ) (v : Value) → class_value class word ≡ Some v → is_of class.sort v ≡ true
 unfolding class_value
 class_ok class word v e = behind_ok class.sort _ v e

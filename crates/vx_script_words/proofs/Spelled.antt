@@ -2,7 +2,7 @@
 use Rattle.std.proofs.Common.{◌≡◌, ◌∙◌, sym, ap, subst, refl, ℕ, zero, suc, ◌≤◌, ◌<◌, ◌⊎◌, inl, inr, Bool, true, false, not, List, [], ◌∷◌, ◌++◌, length, take, drop, arith, length-drop, one-add}
 use Rattle.std.specs.List.{list_all, position_or_len}
 use Rattle.std.proofs.lemmas.Bool.{and_from, and_parts, cases_Bool, cond-true, cond-false}
-use Rattle.vx_script_words.specs.Spelling.{Behind, Spells}
+use Rattle.vx_script_words.specs.Spelling.{Behind, Spells, begun, spelled}
 use Rattle.vx_script_words.specs.Words.{is_blank, is_not_blank, from_word, first_word, past_word}
 
 -- some bytes, and no blank
@@ -109,10 +109,6 @@ few_words text (w ∷ ws) h = elim (from_cases text) [
 
 -- ---- the text of words
 
-abbrev pub spelled : List (List ℕ) → List ℕ
-spelled [] = []
-spelled (w ∷ ws) = 32 ∷ (w ++ spelled ws)
-
 spelled_begins : (ws : List (List ℕ)) → begins_blank (spelled ws) ≡ true
 spelled_begins [] = refl
 spelled_begins (w ∷ ws) = refl
@@ -158,6 +154,15 @@ spelled_words (w ∷ ws) h =
       ap first_word start ∙ ends.0,
       subst (λ (x : List ℕ). Spells x ws) (sym (ap past_word start ∙ ends.1)) (spelled_words ws p.1),
     )
+
+-- a line that begins with its first word
+pub begun_words : (ws : List (List ℕ)) → list_all is_word ws ≡ true → Spells (begun ws) ws
+begun_words [] h = refl
+begun_words (w ∷ ws) h =
+    let p = and_parts (is_word w) (list_all is_word ws) h in
+    let here : from_word (w ++ spelled ws) ≡ from_word (spelled (w ∷ ws)) = sym (blank_first 32 (w ++ spelled ws) refl) in
+    let rest = spelled_words (w ∷ ws) h in
+    (subst (λ (x : List ℕ). 0 < length x) (sym here) rest.0, ap first_word here ∙ rest.1, subst (λ (x : List ℕ). Spells (past_word x) ws) (sym here) rest.2)
 
 -- ---- one after the other
 

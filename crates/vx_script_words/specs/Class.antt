@@ -1,6 +1,6 @@
 -- What a word says, where it is of a class.
 use Rattle.std.specs.Prelude.{ℕ, Option, Some, None, List, [], ◌∷◌}
-use Rattle.vx_script_words.specs.Hex.{byte_of, block_of}
+use Rattle.vx_script_words.specs.Hex.{byte_of}
 use Rattle.vx_script_words.specs.Key.{text_of}
 use Rattle.vx_script_words.specs.Number.{number_of, within, length_of}
 use Rattle.vx_script_words.specs.Parts.{behind, name_of, pair_of, break_off_of}
@@ -23,10 +23,6 @@ abbrev pub as_pair : Option DiskAt → Option Value
 as_pair None = None
 as_pair (Some pair) = Some (value.Pair pair)
 
-abbrev pub as_block : Option (List ℕ) → Option Value
-as_block None = None
-as_block (Some block) = Some (value.Block block)
-
 abbrev pub as_word : List ℕ → Option Value
 as_word [] = Some value.Word
 as_word (b ∷ bs) = None
@@ -37,7 +33,6 @@ sort_value sort.Named word = as_name (name_of word)
 sort_value (sort.Number low high) word = as_number (within low high (number_of word))
 sort_value sort.Length word = as_number (length_of word)
 sort_value sort.Byte word = as_number (byte_of word)
-sort_value sort.Block word = as_block (block_of word)
 sort_value sort.Pair word = as_pair (pair_of word)
 sort_value sort.BreakOff word = break_off_of word
 

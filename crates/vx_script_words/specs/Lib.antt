@@ -1,8 +1,11 @@
+pub mod Blocks
 pub mod Class
+pub mod Fits
 pub mod Gives
 pub mod Hex
 pub mod Key
 pub mod Number
+pub mod Packed
 pub mod Parts
 pub mod Row
 pub mod Spelling

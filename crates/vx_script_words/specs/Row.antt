@@ -2,12 +2,13 @@
 use Rattle.std.specs.Prelude.{ℕ, zero, suc, Bool, true, false, if◌then◌else◌, Option, Some, None, Result, Ok, Err, List, [], ◌∷◌, ◌++◌, length, codes}
 use Rattle.std.specs.Str.{bytes_eq}
 use Rattle.vx_script_words.specs.Class.{class_value}
-use Rattle.vx_script_words.specs.Parts.{cut_of}
+use Rattle.vx_script_words.specs.Hex.{block_of}
+use Rattle.vx_script_words.specs.Parts.{cut_of, name_of, pair_of}
 use Rattle.vx_script_words.specs.Words.{from_word, first_word, past_word}
 use Rattle.vx_script_words.specs.declared.class.Class.{Class}
 use Rattle.vx_script_words.specs.declared.class.Sort.TheVariants as sort
 use Rattle.vx_script_words.specs.declared.class.Item.{Item}
-use Rattle.vx_script_words.specs.declared.class.Item.TheVariants.{One, Maybe, Any, UpTo, Group, NoGroup}
+use Rattle.vx_script_words.specs.declared.class.Item.TheVariants.{One, Maybe, Group, NoGroup, Names, Pairs, Blocks}
 use Rattle.vx_script_words.specs.declared.key.Key.TheVariants as key
 use Rattle.vx_script_words.specs.declared.value.Value.{Value}
 use Rattle.vx_script_words.specs.declared.value.Value.TheVariants as value
@@ -43,14 +44,33 @@ or_else (Err left) other = Ok other
 abbrev pub maybe : Class → List Value → List ℕ → Going
 maybe class values text = or_else (one class values text) (with_value values value.Nothing text)
 
-abbrev pub going_on : Going → (So → So) → So → So
-going_on (Ok s) more old = more s
-going_on (Err left) more old = old
+-- things that words say, and the rest of the line
+pub record Found (A : Type 0) : Type 0 where
+  pub list : A
+  pub rest : List ℕ
 
--- words of the class as long as there are some, but no more than the limit
-unfoldable pub some : ℕ → Class → So → So
-some zero class old = old
-some (suc n) class old = going_on (one class old.values old.rest) (some n class) old
+abbrev pub further : {X A : Type 0} → Option X → Found A → (X → Found A) → Found A
+further None so more = so
+further (Some x) so more = more x
+
+-- what words say, put behind what there is, as long as they say something, but no more of them than the limit
+unfoldable pub gather : {X A : Type 0} → (List ℕ → Option X) → (A → X → A) → ℕ → A → List ℕ → Found A
+gather say put zero so text = record { list = so; rest = text }
+gather say put (suc n) so text = further (say (first_word (from_word text))) (record { list = so; rest = text }) (λ x. gather say put n (put so x) (past_word (from_word text)))
+
+abbrev pub pushed : {X : Type 0} → List X → X → List X
+pushed xs x = xs ++ x ∷ []
+
+abbrev pub joined : List ℕ → List ℕ → List ℕ
+joined bytes more = bytes ++ more
+
+abbrev pub said : {A : Type 0} → List Value → (A → Value) → Found A → So
+said values make found = with_value values (make found.list) found.rest
+
+-- a list whose first word has to say something
+abbrev pub at_least_one : {X A : Type 0} → Option X → List ℕ → (X → Found A) → List Value → (A → Value) → Going
+at_least_one None text more values make = Err (length text)
+at_least_one (Some x) text more values make = Ok (said values make (more x))
 
 abbrev pub any_name : Class
 any_name = record { front = key.Nothing; sort = sort.Named }
@@ -62,10 +82,11 @@ group values text = if bytes_eq (first_word (from_word text)) (codes "-g") then 
 abbrev pub item : Item → List Value → List ℕ → Going
 item (One class) values text = one class values text
 item (Maybe class) values text = maybe class values text
-item (Any class) values text = Ok (some (length text) class (record { values = values; rest = text }))
-item (UpTo limit class) values text = Ok (some limit class (record { values = values; rest = text }))
 item Group values text = group values text
 item NoGroup values text = Ok (with_value values value.Nothing text)
+item Names values text = Ok (said values value.Names (gather name_of pushed (length text) [] text))
+item Pairs values text = at_least_one (pair_of (first_word (from_word text))) (from_word text) (λ pair. gather pair_of pushed (length (past_word (from_word text))) (pair ∷ []) (past_word (from_word text))) values value.Pairs
+item Blocks values text = at_least_one (block_of (first_word (from_word text))) (from_word text) (λ block. gather block_of joined 63 block (past_word (from_word text))) values value.Blocks
 
 -- the parts of a form, one after the other
 abbrev pub items : List Item → Going → Going

@@ -13,8 +13,6 @@ pub enum Sort {
     Length,
     /// Two lower-case hexadecimal digits.
     Byte,
-    /// A block word.
-    Block,
     /// A disk and its device, `DM=DEV`.
     Pair,
     /// The volume, the snapshot and its plex, `VOL/newvol=SNAP/plex=PLEX` or `VOL/newvol=SNAP/nmirror=1`.
@@ -35,12 +33,14 @@ pub enum Item {
     One(Class),
     /// One word that may be left out.
     Maybe(Class),
-    /// Any number of words.
-    Any(Class),
-    /// At most `limit` words.
-    UpTo { limit: u64, class: Class },
     /// `-g` and a name, which may be left out.
     Group,
     /// A place where `-g` and a name cannot stand.
     NoGroup,
+    /// Any number of names.
+    Names,
+    /// One or more disks with their devices.
+    Pairs,
+    /// 1 to 64 block words.
+    Blocks,
 }

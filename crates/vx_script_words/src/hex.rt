@@ -1,8 +1,10 @@
-ghost use Rattle.std.specs.Prelude.{◌≡◌, ◌<◌, IfOk, IsTrue};
+ghost use Rattle.std.specs.List.{list_all};
+ghost use Rattle.std.specs.Prelude.{◌≡◌, ◌==◌, ◌<◌, IfOk, IfSome, IsTrue, MatchOption, Some, None, true};
 ghost use Rattle.vx_block.specs.Reading.{digit_value, is_hex_digit};
 ghost use Rattle.vx_script_words.specs.Hex.{byte_of, block_of};
+ghost use Rattle.vx_script_words.specs.Blocks.{block_bytes, is_whole};
 
-use crate::Bytes;
+use crate::BlockOf;
 use std::alloc::Global;
 use vx_base::OutOfMemory;
 use vx_block::{BLOCK, read_block};
@@ -37,14 +39,32 @@ fn digit_value(digit: u8) -> u8
     }
 }
 
-/// The bytes of a block, from its word.
+/// The block that a word spells.
 #[tactic(auto, unfolding(crate::specs::Hex::block_of))]
-pub fn block_of(alloc: Global, word: &[u8]) -> Result<Option<Bytes>, OutOfMemory>
-    ensures { IfOk result (λ found. found ≡ block_of word.now) }
+pub fn block_of(alloc: Global, word: &[u8]) -> Result<Option<BlockOf>, OutOfMemory>
+    ensures found { IfOk result (λ found. MatchOption found (block_of word.now ≡ None) (λ block. block_of word.now ≡ Some (block_bytes block))) }
+    ensures whole { IfOk result (λ found. IfSome found (λ block. is_whole block ≡ true)) }
 {
-    let mut bytes = vec![in alloc; 0; BLOCK]?;
-    match read_block(word, bytes.as_mut_slice()) {
-        Ok(()) => Ok(Some(Bytes::from_vec(bytes))),
+    let mut bytes = [0; BLOCK];
+    match read_block(word, &mut bytes) {
+        Ok(()) => Ok(Some(kept(alloc, bytes)?)),
         Err(_) => Ok(None),
     }
+}
+
+fn kept(alloc: Global, bytes: [u8; BLOCK]) -> Result<BlockOf, OutOfMemory>
+    ensures bytes { IfOk result (λ block. block_bytes block ≡ bytes) }
+    ensures whole { IfOk result (λ block. is_whole block ≡ true) }
+{
+    let first = bytes[0];
+    if are_equal(&bytes, first) {
+        return Ok(BlockOf::Equal(first));
+    }
+    Ok(BlockOf::Whole(Box::new(alloc, bytes)?))
+}
+
+fn are_equal(bytes: &[u8], byte: u8) -> bool
+    ensures { result ≡ list_all (λ x. x == byte) bytes.now }
+{
+    bytes.iter().all(|b| *b == byte)
 }

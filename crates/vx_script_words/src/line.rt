@@ -1,31 +1,32 @@
-ghost use Rattle.std.specs.Prelude.{◌≡◌, MatchResult, MatchOption, IfOk, Ok, Err, Some, None, IfNone, Bool, List, [], length};
+ghost use Rattle.std.specs.Prelude.{◌≡◌, MatchResult, MatchOption, Ok, Err, IfOk, IfNone, List, [], length};
 ghost use Rattle.vx_script_words.specs.Words.{from_word};
 ghost use Rattle.vx_script_words.specs.declared.value.Value.{Value};
 ghost use Rattle.vx_script_words.specs.Gives.{Fails};
-ghost use Rattle.vx_script_words.specs.Row.{one, maybe, some, group, item, items, ends, row, may_cut, line_end, any_name, Read, So};
+ghost use Rattle.vx_script_words.specs.Row.{one, maybe, group, item, items, ends, row, may_cut, line_end, any_name, Read};
 
+use crate::lists::{more_blocks, more_pairs, some_names};
+use crate::parts::pair_of;
 use crate::words::{first_word, from_word, past_word};
-use crate::{Class, Item, Key, Sort, Stop, Value, class_value, cut_of};
+use crate::{Blocks, Class, Disks, Item, Key, Sort, Stop, Value, block_of, class_value, cut_of};
 use std::alloc::Global;
 use vx_base::OutOfMemory;
 
-/// What the words of a line say: a value for each part of its form, or for each word where a part has several.
-#[derive(Drop)]
-pub struct Reading {
-    pub values: Vec<Value>,
-    /// The N of `cut=N`.
-    pub cut: Option<u64>,
-}
-
-/// The line's words under the parts of a form. A word `cut=N` may end the line where `may_be_cut` says so.
+/// The line's words under the parts of a form: a value for each part is put behind those that there are, and the N of
+/// `cut=N` is given, which may end the line where `may_be_cut` says so. Before the first word is found nothing is
+/// allocated.
 #[tactic(auto, unfolding(crate::specs::Row::row))]
-pub fn row(alloc: Global, may_be_cut: bool, form: &[Item], text: &[u8]) -> Result<Reading, Stop>
-    ensures { MatchResult result (λ read. row may_be_cut form.now text.now ≡ Ok (record { values = read.values.items; cut = read.cut })) (λ stop. Fails stop (row may_be_cut form.now text.now)) }
+pub fn row(
+    alloc: Global,
+    may_be_cut: bool,
+    form: &[Item],
+    values: &mut Vec<Value>,
+    text: &[u8],
+) -> Result<Option<u64>, Stop>
+    requires { values.old.items ≡ [] }
+    ensures { MatchResult result (λ cut. row may_be_cut form.now text.now ≡ Ok (record { values = values.new.items; cut = cut })) (λ stop. Fails stop (row may_be_cut form.now text.now)) }
 {
-    let mut values = Vec::with_capacity(alloc, form.len())?;
-    let rest = items(alloc, form, &mut values, text)?;
-    let cut = line_end(may_be_cut, rest)?;
-    Ok(Reading { values, cut })
+    let rest = items(alloc, form, values, text)?;
+    line_end(may_be_cut, rest)
 }
 
 fn line_end(may_be_cut: bool, text: &[u8]) -> Result<Option<u64>, Stop>
@@ -86,12 +87,13 @@ fn item<'a>(
     ensures { MatchResult result (λ rest. item part values.old.items text.now ≡ Ok (record { values = values.new.items; rest = rest.now })) (λ stop. Fails stop (item part values.old.items text.now)) }
 {
     match part {
-        Item::One(class) => one(alloc, class, values, text),
-        Item::Maybe(class) => maybe(alloc, class, values, text),
-        Item::Any(class) => Ok(some(alloc, text.len() as u64, class, values, text)?),
-        Item::UpTo { limit, class } => Ok(some(alloc, limit, class, values, text)?),
-        Item::Group => group(alloc, values, text),
+        Item::One(class) => one(class, values, text),
+        Item::Maybe(class) => maybe(class, values, text),
+        Item::Group => group(values, text),
         Item::NoGroup => nothing(values, text),
+        Item::Names => names(alloc, values, text),
+        Item::Pairs => pairs(alloc, values, text),
+        Item::Blocks => blocks(alloc, values, text),
     }
 }
 
@@ -102,7 +104,7 @@ fn nothing<'a>(values: &mut Vec<Value>, text: &'a [u8]) -> Result<&'a [u8], Stop
     Ok(text)
 }
 
-fn group<'a>(alloc: Global, values: &mut Vec<Value>, text: &'a [u8]) -> Result<&'a [u8], Stop>
+fn group<'a>(values: &mut Vec<Value>, text: &'a [u8]) -> Result<&'a [u8], Stop>
     ensures { MatchResult result (λ rest. group values.old.items text.now ≡ Ok (record { values = values.new.items; rest = rest.now })) (λ stop. Fails stop (group values.old.items text.now)) }
 {
     let from = from_word(text);
@@ -113,61 +115,29 @@ fn group<'a>(alloc: Global, values: &mut Vec<Value>, text: &'a [u8]) -> Result<&
         front: Key::Nothing,
         sort: Sort::Named,
     };
-    one(alloc, class, values, past_word(from))
+    one(class, values, past_word(from))
 }
 
-fn one<'a>(
-    alloc: Global,
-    class: Class,
-    values: &mut Vec<Value>,
-    text: &'a [u8],
-) -> Result<&'a [u8], Stop>
+fn one<'a>(class: Class, values: &mut Vec<Value>, text: &'a [u8]) -> Result<&'a [u8], Stop>
     ensures { MatchResult result (λ rest. one class values.old.items text.now ≡ Ok (record { values = values.new.items; rest = rest.now })) (λ stop. Fails stop (one class values.old.items text.now)) }
 {
-    match taken(alloc, class, values, text)? {
+    match taken(class, values, text)? {
         Some(rest) => Ok(rest),
         None => Err(Stop::Left(from_word(text).len())),
     }
 }
 
-fn maybe<'a>(
-    alloc: Global,
-    class: Class,
-    values: &mut Vec<Value>,
-    text: &'a [u8],
-) -> Result<&'a [u8], Stop>
+fn maybe<'a>(class: Class, values: &mut Vec<Value>, text: &'a [u8]) -> Result<&'a [u8], Stop>
     ensures { MatchResult result (λ rest. maybe class values.old.items text.now ≡ Ok (record { values = values.new.items; rest = rest.now })) (λ stop. Fails stop (maybe class values.old.items text.now)) }
 {
-    match taken(alloc, class, values, text)? {
+    match taken(class, values, text)? {
         Some(rest) => Ok(rest),
         None => nothing(values, text),
     }
 }
 
-/// Words of the class as long as there are some, but no more than the limit.
-#[tactic(auto, unfolding(crate::specs::Row::some))]
-fn some<'a>(
-    alloc: Global,
-    limit: u64,
-    class: Class,
-    values: &mut Vec<Value>,
-    text: &'a [u8],
-) -> Result<&'a [u8], OutOfMemory>
-    ensures { IfOk result (λ rest. some limit class (record { values = values.old.items; rest = text.now }) ≡ record { values = values.new.items; rest = rest.now }) }
-{
-    let mut rest = text;
-    for n in 0..limit {
-        match taken(alloc, class, values, rest)? {
-            Some(next) => rest = next,
-            None => return Ok(rest),
-        }
-    }
-    Ok(rest)
-}
-
 /// One word of the class, whose value is put behind the others, and what follows it.
 fn taken<'a>(
-    alloc: Global,
     class: Class,
     values: &mut Vec<Value>,
     text: &'a [u8],
@@ -176,9 +146,43 @@ fn taken<'a>(
     ensures kept { IfOk result (λ found. IfNone found (values.new.items ≡ values.old.items)) }
 {
     let text = from_word(text);
-    let Some(value) = class_value(alloc, class, first_word(text))? else {
+    let Some(value) = class_value(class, first_word(text)) else {
         return Ok(None);
     };
     values.push(value)?;
     Ok(Some(past_word(text)))
+}
+
+fn names<'a>(alloc: Global, values: &mut Vec<Value>, text: &'a [u8]) -> Result<&'a [u8], Stop>
+    ensures { MatchResult result (λ rest. item Item.Names values.old.items text.now ≡ Ok (record { values = values.new.items; rest = rest.now })) (λ stop. Fails stop (item Item.Names values.old.items text.now)) }
+{
+    let (names, rest) = some_names(alloc, text)?;
+    values.push(Value::Names(names))?;
+    Ok(rest)
+}
+
+fn pairs<'a>(alloc: Global, values: &mut Vec<Value>, text: &'a [u8]) -> Result<&'a [u8], Stop>
+    ensures { MatchResult result (λ rest. item Item.Pairs values.old.items text.now ≡ Ok (record { values = values.new.items; rest = rest.now })) (λ stop. Fails stop (item Item.Pairs values.old.items text.now)) }
+{
+    let text = from_word(text);
+    let Some(first) = pair_of(first_word(text)) else {
+        return Err(Stop::Left(text.len()));
+    };
+    let disks = Disks::new(alloc).with(first)?;
+    let (disks, rest) = more_pairs(disks, past_word(text))?;
+    values.push(Value::Pairs(disks))?;
+    Ok(rest)
+}
+
+fn blocks<'a>(alloc: Global, values: &mut Vec<Value>, text: &'a [u8]) -> Result<&'a [u8], Stop>
+    ensures { MatchResult result (λ rest. item Item.Blocks values.old.items text.now ≡ Ok (record { values = values.new.items; rest = rest.now })) (λ stop. Fails stop (item Item.Blocks values.old.items text.now)) }
+{
+    let text = from_word(text);
+    let Some(first) = block_of(alloc, first_word(text))? else {
+        return Err(Stop::Left(text.len()));
+    };
+    let blocks = Blocks::new(alloc).with(first)?;
+    let (blocks, rest) = more_blocks(alloc, blocks, past_word(text))?;
+    values.push(Value::Blocks(blocks))?;
+    Ok(rest)
 }

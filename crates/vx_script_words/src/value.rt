@@ -1,50 +1,5 @@
-use std::marker::Model;
-use vx_base::OutOfMemory;
+use crate::{Blocks, Disks, Names};
 use vx_names::Name;
-
-/// Bytes that contracts see as a plain list.
-#[derive(Drop)]
-pub struct Bytes {
-    items: Vec<u8>,
-}
-
-impl Model for Bytes {
-    ghost use Rattle.std.specs.Prelude.{List, ℕ};
-
-    ghost Value = { List ℕ };
-
-    ghost view = { λ b. b.items.items };
-}
-
-impl Bytes {
-    ghost use Rattle.std.specs.Prelude.{◌≡◌, ◌++◌, OnOk};
-
-    /// Appends bytes.
-    pub fn extend(&mut self, bytes: &[u8]) -> Result<(), OutOfMemory>
-        ensures { OnOk result (self.new ≡ self.old ++ bytes.now) }
-    {
-        self.items.extend_from_slice(bytes)?;
-        Ok(())
-    }
-
-    pub fn from_vec(items: Vec<u8>) -> Bytes
-        ensures { result ≡ items.items }
-    {
-        Bytes { items }
-    }
-
-    pub fn into_vec(self) -> Vec<u8>
-        ensures { result.items ≡ self }
-    {
-        self.items
-    }
-
-    pub fn as_slice(&self) -> &[u8]
-        ensures { result.now ≡ self.now }
-    {
-        self.items.as_slice()
-    }
-}
 
 /// A disk name and the device that it stands for.
 #[derive(Clone, Copy)]
@@ -53,10 +8,10 @@ pub struct DiskAt {
     pub device: Name,
 }
 
-/// What a word says.
+/// What the words of a part say.
 #[derive(Drop)]
 pub enum Value {
-    /// The word is not there.
+    /// There is no word.
     Nothing,
     /// The word is there, and says no more.
     Word,
@@ -69,6 +24,7 @@ pub enum Value {
         snap: Name,
         plex: Option<Name>,
     },
-    /// The bytes of a block.
-    Block(Bytes),
+    Names(Names),
+    Pairs(Disks),
+    Blocks(Blocks),
 }

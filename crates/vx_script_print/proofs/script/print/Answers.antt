@@ -1,4 +1,4 @@
-use Rattle.vx_script_laws.proofs.Whole.{script_read}
+use Rattle.vx_script_print.proofs.Whole.{script_read}
 use Rattle.vx_script_print.proofs.script.print.Goals as goal
 
 pub returns-clause-read_back : goal.returns-clause-read_back

@@ -1,5 +1,5 @@
 use Rattle.std.proofs.Common.{◌≡◌, ◌++◌, take}
-use Rattle.vx_script_text.specs.Text.{script_text}
+use Rattle.vx_script_print.specs.Text.{script_text}
 use Rattle.vx_script_print.proofs.script.put_commands.Given as goal
 
 abbrev pub invariant-loop-command : goal.invariant-loop-command

@@ -1,0 +1,286 @@
+-- What is said by the values of a form is the form, both ways.
+use Rattle.std.proofs.Common.{◌≡◌, ◌∙◌, sym, ap, subst, refl, ℕ, ◌^◌, ◌<◌, ◌≤◌, Bool, true, false, Option, Some, None, option_and_then, List, [], ◌∷◌, arith, lt-ltb, leb-true}
+use Rattle.std.specs.Prelude.{nat_le}
+use Rattle.std.proofs.Math.Dec.{lit<}
+use Rattle.std.proofs.lemmas.Bool.{and_parts, both_ways, cond-true}
+use Rattle.vx_script_forms.specs.FormOf.{form_of}
+use Rattle.vx_script_forms.specs.Table.{items_of}
+use Rattle.vx_script_forms.specs.Values.{maybe_named, maybe_numbered, maybe_name, below, maybe_below}
+use Rattle.vx_script_forms.specs.ValuesOf.{maybe_value, count_value, layout_values, make_kind, kind_of, values_of, opening}
+use Rattle.vx_script_forms.specs.declared.act.Act.TheVariants as act
+use Rattle.vx_script_forms.specs.declared.call.Call.TheVariants as call
+use Rattle.vx_script_forms.specs.declared.form.Form.{Form}
+use Rattle.vx_script_forms.specs.declared.form.Form.TheVariants as form
+use Rattle.vx_script_forms.specs.declared.form.MakeAttrs.{MakeAttrs}
+use Rattle.vx_script_forms.specs.declared.form.WordLayout.{WordLayout}
+use Rattle.vx_script_forms.specs.declared.form.WordLayout.TheVariants as layout
+use Rattle.vx_script_forms.specs.declared.form.WordPolicy.TheVariants as policy
+use Rattle.vx_script_forms.specs.declared.kind.Kind.{Kind}
+use Rattle.vx_script_forms.specs.declared.kind.Kind.TheVariants as kind
+use Rattle.vx_script_words.specs.Fits.{is_between, is_byte, maybe_of, of_item, are_of}
+use Rattle.vx_script_words.specs.declared.class.Item.{Item}
+use Rattle.vx_script_words.specs.declared.class.Sort.TheVariants as sort
+use Rattle.vx_script_words.specs.declared.value.Value.{Value}
+use Rattle.vx_script_words.specs.declared.value.Value.TheVariants as value
+use Rattle.vx_script_forms.proofs.Decoded.{Saids, said_values, word_value, decoded}
+
+-- ---- what may be left out
+
+pub maybe_back : (o : Option (List ℕ)) → maybe_named (maybe_value o) ≡ Some o
+maybe_back None = refl
+maybe_back (Some name) = refl
+
+pub count_back : (o : Option ℕ) → maybe_numbered (count_value o) ≡ Some o
+count_back None = refl
+count_back (Some n) = refl
+
+-- the count is below, where there is one
+abbrev MaybeBelow : ℕ → Option ℕ → Type 0
+MaybeBelow limit None = Unit {0}
+MaybeBelow limit (Some n) = n < limit
+
+small_back : (o : Option ℕ) → MaybeBelow (2 ^ 32) o → maybe_below (2 ^ 32) (maybe_numbered (count_value o)) ≡ Some o
+small_back None h = refl
+small_back (Some n) h = cond-true _ _ _ (lt-ltb n (2 ^ 32) h)
+
+-- the attributes from the mirrors on
+mirrors_back : (words : Option WordLayout) (ncol unit nmirror region logs : Option ℕ) → MaybeBelow (2 ^ 32) nmirror → MaybeBelow (2 ^ 32) logs
+    → option_and_then (λ n. option_and_then (λ r. option_and_then (λ l. Some (let a : MakeAttrs = record { layout = words; ncol = ncol; unit = unit; nmirror = n; region = r; ndcomirror = l } in a)) (maybe_below (2 ^ 32) (maybe_numbered (count_value logs)))) (maybe_numbered (count_value region))) (maybe_below (2 ^ 32) (maybe_numbered (count_value nmirror)))
+    ≡ Some (record { layout = words; ncol = ncol; unit = unit; nmirror = nmirror; region = region; ndcomirror = logs })
+mirrors_back words ncol unit nmirror region logs a b = rw (small_back nmirror a, count_back region, small_back logs b) refl
+
+-- a line of `vxassist make`, without `layout=stripe` and with it
+module _ (g : Option (List ℕ)) (vol : List ℕ) (size : ℕ) (nmirror region logs : Option ℕ) (disks : List (List ℕ)) (few : MaybeBelow (2 ^ 32) nmirror) (some_logs : MaybeBelow (2 ^ 32) logs) where
+  abbrev made : Option WordLayout → Option ℕ → Option ℕ → Form
+  made words ncol unit = form.AssistMake vol size (record { layout = words; ncol = ncol; unit = unit; nmirror = nmirror; region = region; ndcomirror = logs }) disks
+
+  abbrev line : Option WordLayout → Option ℕ → Option ℕ → List Value
+  line words ncol unit = value.Word ∷ maybe_value g ∷ value.Word ∷ value.Named vol ∷ value.Number size ∷ layout_values words ncol unit (count_value nmirror ∷ count_value region ∷ count_value logs ∷ value.Names disks ∷ [])
+
+  plain_back : form_of kind.MakeConcat (line None None None) ≡ Some (made None None None)
+  plain_back = ap (option_and_then (λ a. Some (form.AssistMake vol size a disks))) (mirrors_back None None None nmirror region logs few some_logs)
+
+  concat_back : form_of kind.MakeConcat (line (Some layout.Concat) None None) ≡ Some (made (Some layout.Concat) None None)
+  concat_back = ap (option_and_then (λ a. Some (form.AssistMake vol size a disks))) (mirrors_back (Some layout.Concat) None None nmirror region logs few some_logs)
+
+  stripe_back : (ncol unit : Option ℕ) → MaybeBelow (2 ^ 32) ncol → form_of kind.MakeStripe (line (Some layout.Stripe) ncol unit) ≡ Some (made (Some layout.Stripe) ncol unit)
+  stripe_back ncol unit narrow = rw (small_back ncol narrow, count_back unit, small_back nmirror few, count_back region, small_back logs some_logs) refl
+
+-- ---- what the tests of the values say
+
+-- each value is of its part
+abbrev Each : List Item → List Value → Type 0
+Each [] vs = Unit {0}
+Each (i ∷ is) [] = Unit {0}
+Each (i ∷ is) (v ∷ vs) = (of_item i v ≡ true) × Each is vs
+
+each : (is : List Item) (vs : List Value) → are_of is vs ≡ true → Each is vs
+each [] vs h = tt
+each (i ∷ is) [] h = tt
+each (i ∷ is) (v ∷ vs) h = let parts = and_parts (of_item i v) (are_of is vs) h in (parts.0, each is vs parts.1)
+
+below_top : (low high n : ℕ) → high < 2 ^ 32 → is_between low high n ≡ true → n < 2 ^ 32
+below_top low high n top h =
+    let at : n ≤ high = leb-true n high (and_parts (nat_le low n) (nat_le n high) h).1 in
+    omega (arith, at, top)
+
+-- ---- from the values to the form
+
+-- the values say a form of this kind, and a group; and they are those of both
+pub record SaysForm (k : Kind) (vs : List Value) : Type 0 where
+  pub form : Form
+  pub is : form_of k vs ≡ Some form
+  pub kind : kind_of form ≡ k
+  pub group : Option (List ℕ)
+  pub group_is : maybe_name vs 1 ≡ Some group
+  pub values : values_of group form ≡ vs
+
+found : {k : Kind} {vs : List Value} (f : Form) (g : Option (List ℕ)) → form_of k vs ≡ Some f → kind_of f ≡ k → maybe_name vs 1 ≡ Some g → values_of g f ≡ vs → SaysForm k vs
+found f g is kind group values = record { form = f; is = is; kind = kind; group = g; group_is = group; values = values }
+
+small_is : (low high n : ℕ) → high < 2 ^ 32 → is_between low high n ≡ true → below (2 ^ 32) (Some n) ≡ Some n
+small_is low high n top h = cond-true _ _ _ (lt-ltb n (2 ^ 32) (below_top low high n top h))
+
+byte_is : (b : ℕ) → is_byte b ≡ true → below (2 ^ 8) (Some b) ≡ Some b
+byte_is b h = cond-true _ _ _ h
+
+-- a count that may be left out is below the top of its range
+few_of : (low high : ℕ) (o : Option ℕ) → high < 2 ^ 32 → maybe_of (sort.Number low high) (count_value o) ≡ true → MaybeBelow (2 ^ 32) o
+few_of low high None top h = tt
+few_of low high (Some n) top h = below_top low high n top h
+
+module _ (g : Option (List ℕ)) (vol : List ℕ) (size : ℕ) (nmirror region logs : Option ℕ) (disks : List (List ℕ)) (few : MaybeBelow (2 ^ 32) nmirror) (some_logs : MaybeBelow (2 ^ 32) logs) where
+  concat_says : (b : Bool) → SaysForm kind.MakeConcat (value.Word ∷ maybe_value g ∷ value.Word ∷ value.Named vol ∷ value.Number size ∷ word_value b ∷ count_value nmirror ∷ count_value region ∷ count_value logs ∷ value.Names disks ∷ [])
+  concat_says false = found (made g vol size nmirror region logs disks few some_logs None None None) g (plain_back g vol size nmirror region logs disks few some_logs) refl (maybe_back g) refl
+  concat_says true = found (made g vol size nmirror region logs disks few some_logs (Some layout.Concat) None None) g (concat_back g vol size nmirror region logs disks few some_logs) refl (maybe_back g) refl
+
+  stripe_says : (ncol unit : Option ℕ) → MaybeBelow (2 ^ 32) ncol → SaysForm kind.MakeStripe (value.Word ∷ maybe_value g ∷ value.Word ∷ value.Named vol ∷ value.Number size ∷ value.Word ∷ count_value ncol ∷ count_value unit ∷ count_value nmirror ∷ count_value region ∷ count_value logs ∷ value.Names disks ∷ [])
+  stripe_says ncol unit narrow = found (made g vol size nmirror region logs disks few some_logs (Some layout.Stripe) ncol unit) g (stripe_back g vol size nmirror region logs disks few some_logs ncol unit narrow) refl (maybe_back g) refl
+
+says : (k : Kind) (x : Saids (items_of k)) → are_of (items_of k) (said_values (items_of k) x) ≡ true → SaysForm k (said_values (items_of k) x)
+says kind.MkImage x h = found (form.MkImage x.1.1.0 x.1.1.1.0) None refl refl refl refl
+says kind.Bare x h = found (form.Bare x.1.1.0 x.1.1.1.0) None refl refl refl refl
+says kind.DgInit x h = found (form.DgInit x.1.1.1.0 x.1.1.1.1.0) None refl refl refl refl
+says kind.DgAddDisk x h = found (form.DgAddDisk x.1.1.1.0 x.1.1.1.1.1.0) None refl refl refl refl
+says kind.DgImport x h = found (form.DgImport x.1.1.1.0) None refl refl refl refl
+says kind.DgDeport x h = found (form.DgDeport x.1.1.1.0) None refl refl refl refl
+says kind.DiskUnsetup x h = found (form.DiskUnsetup x.1.1.0) None refl refl refl refl
+says kind.VxMake x h = found (form.VxMake []) x.1.0 refl refl (maybe_back x.1.0) refl
+says kind.Mirror x h = found (form.Mirror x.1.1.1.0 x.1.1.1.1.0) x.1.0 refl refl (maybe_back x.1.0) refl
+says kind.RemoveVolume x h = found (form.RemoveVolume x.1.1.1.1.0) x.1.0 refl refl (maybe_back x.1.0) refl
+says kind.Start x h = found (form.Start x.1.1.1.0) x.1.0 refl refl (maybe_back x.1.0) refl
+says kind.Stop x h = found (form.Stop x.1.1.1.0) x.1.0 refl refl (maybe_back x.1.0) refl
+says kind.RdpolRound x h = found (form.Rdpol x.1.1.1.1.0 policy.Round) x.1.0 refl refl (maybe_back x.1.0) refl
+says kind.RdpolSelect x h = found (form.Rdpol x.1.1.1.1.0 policy.Select) x.1.0 refl refl (maybe_back x.1.0) refl
+says kind.RdpolPrefer x h = found (form.Rdpol x.1.1.1.1.0 (policy.Prefer x.1.1.1.1.1.0)) x.1.0 refl refl (maybe_back x.1.0) refl
+says kind.PlexDis x h = found (form.PlexDis x.1.1.1.0 false) x.1.0 refl refl (maybe_back x.1.0) refl
+says kind.PlexDisRm x h = found (form.PlexDis x.1.1.1.1.1.0 true) x.1.0 refl refl (maybe_back x.1.0) refl
+says kind.Unprepare x h = found (form.Unprepare x.1.1.1.0) x.1.0 refl refl (maybe_back x.1.0) refl
+says kind.AddMir x h = found (form.AddMir x.1.1.1.0 x.1.1.1.1.0) x.1.0 refl refl (maybe_back x.1.0) refl
+says kind.Dis x h = found (form.Dis x.1.1.1.0) x.1.0 refl refl (maybe_back x.1.0) refl
+says kind.Split x h = found (form.Split x.1.1.1.0) x.1.0 refl refl (maybe_back x.1.0) refl
+says kind.SnapMake x h = found (form.Acting (act.SnapMake x.1.1.1.0.vol x.1.1.1.0.snap x.1.1.1.0.plex)) x.1.0 refl refl (maybe_back x.1.0) refl
+says kind.Reattach x h = found (form.Acting (act.Reattach x.1.1.1.0 x.1.1.1.1.0)) x.1.0 refl refl (maybe_back x.1.0) refl
+says kind.Restore x h = found (form.Acting (act.Restore x.1.1.1.0 x.1.1.1.1.0)) x.1.0 refl refl (maybe_back x.1.0) refl
+says kind.Snapback x h = found (form.Acting (act.Snapback x.1.1.1.0 false)) x.1.0 refl refl (maybe_back x.1.0) refl
+says kind.SnapbackFromReplica x h = found (form.Acting (act.Snapback x.1.1.1.1.1.0 true)) x.1.0 refl refl (maybe_back x.1.0) refl
+says kind.PlexDet x h = found (form.Acting (act.PlexDet x.1.1.1.0)) x.1.0 refl refl (maybe_back x.1.0) refl
+says kind.PlexAtt x h = found (form.Acting (act.PlexAtt x.1.1.1.0 x.1.1.1.1.0)) x.1.0 refl refl (maybe_back x.1.0) refl
+says kind.Read x h = found (form.Calling (call.Read x.1.1.0 x.1.1.1.0 x.1.1.1.1.0)) None refl refl refl refl
+says kind.Data x h = found (form.Calling (call.Data x.1.1.0 x.1.1.1.0 x.1.1.1.1.1.0)) None refl refl refl refl
+says kind.PrintM x h = found (form.PrintM x.1.1.1.0) x.1.0 (ap (option_and_then (λ v. Some (form.PrintM v))) (maybe_back x.1.1.1.0)) refl (maybe_back x.1.0) refl
+says kind.PrintHt x h = found (form.PrintHt x.1.1.1.0) x.1.0 (ap (option_and_then (λ v. Some (form.PrintHt v))) (maybe_back x.1.1.1.0)) refl (maybe_back x.1.0) refl
+says kind.PrintSnaps x h = found (form.PrintSnaps x.1.1.1.0) x.1.0 (ap (option_and_then (λ v. Some (form.PrintSnaps v))) (maybe_back x.1.1.1.0)) refl (maybe_back x.1.0) refl
+says kind.Recover x h = found (form.Recover x.1.1.1.0) x.1.0 (ap (option_and_then (λ v. Some (form.Recover v))) (maybe_back x.1.1.1.0)) refl (maybe_back x.1.0) refl
+says kind.Prepare x h = found (form.Prepare x.1.1.1.0 x.1.1.1.1.0 x.1.1.1.1.1.0) x.1.0 (rw (count_back x.1.1.1.1.0, count_back x.1.1.1.1.1.0) refl) refl (maybe_back x.1.0) refl
+says kind.Fill x h =
+    let e = each (items_of kind.Fill) (said_values (items_of kind.Fill) x) h in
+    found (form.Calling (call.Fill x.1.1.0 x.1.1.1.0 x.1.1.1.1.0 x.1.1.1.1.1.1.0)) None (ap (option_and_then (λ b. Some (form.Calling (call.Fill x.1.1.0 x.1.1.1.0 x.1.1.1.1.0 b)))) (byte_is x.1.1.1.1.1.1.0 e.1.1.1.1.1.1.0)) refl refl refl
+says kind.Sessions x h =
+    let e = each (items_of kind.Sessions) (said_values (items_of kind.Sessions) x) h in
+    found (form.Sessions (record { sessions = x.1.1.0; lines = [] })) None (ap (option_and_then (λ n. Some (form.Sessions (record { sessions = n; lines = [] })))) (small_is 1 16 x.1.1.0 (lit< tt) e.1.1.0)) refl refl refl
+says kind.MakeConcat x h =
+    let e = each (items_of kind.MakeConcat) (said_values (items_of kind.MakeConcat) x) h in
+    concat_says x.1.0 x.1.1.1.0 x.1.1.1.1.0 x.1.1.1.1.1.1.0 x.1.1.1.1.1.1.1.0 x.1.1.1.1.1.1.1.1.0 x.1.1.1.1.1.1.1.1.1.0 (few_of 1 8 x.1.1.1.1.1.1.0 (lit< tt) e.1.1.1.1.1.1.0) (few_of 0 2 x.1.1.1.1.1.1.1.1.0 (lit< tt) e.1.1.1.1.1.1.1.1.0) x.1.1.1.1.1.0
+says kind.MakeStripe x h =
+    let e = each (items_of kind.MakeStripe) (said_values (items_of kind.MakeStripe) x) h in
+    stripe_says x.1.0 x.1.1.1.0 x.1.1.1.1.0 x.1.1.1.1.1.1.1.1.0 x.1.1.1.1.1.1.1.1.1.0 x.1.1.1.1.1.1.1.1.1.1.0 x.1.1.1.1.1.1.1.1.1.1.1.0 (few_of 1 8 x.1.1.1.1.1.1.1.1.0 (lit< tt) e.1.1.1.1.1.1.1.1.0) (few_of 0 2 x.1.1.1.1.1.1.1.1.1.1.0 (lit< tt) e.1.1.1.1.1.1.1.1.1.1.0) x.1.1.1.1.1.1.0 x.1.1.1.1.1.1.1.0 (few_of 2 16 x.1.1.1.1.1.1.0 (lit< tt) e.1.1.1.1.1.1.0)
+
+-- no value of a form is of another sort than its part
+pub form_ok : (k : Kind) (vs : List Value) → are_of (items_of k) vs ≡ true → SaysForm k vs
+form_ok k vs h =
+    let d = decoded (items_of k) vs h in
+    subst (SaysForm k) (sym d.1) (says k d.0 (sym (ap (are_of (items_of k)) d.1) ∙ h))
+
+-- ---- from the form to the values, and back
+
+module _ (g : Option (List ℕ)) (vol : List ℕ) (size : ℕ) (nmirror region logs : Option ℕ) (disks : List (List ℕ)) where
+  abbrev again : Option WordLayout → Option ℕ → Option ℕ → List Value
+  again words ncol unit = value.Word ∷ maybe_value g ∷ value.Word ∷ value.Named vol ∷ value.Number size ∷ layout_values words ncol unit (count_value nmirror ∷ count_value region ∷ count_value logs ∷ value.Names disks ∷ [])
+
+  -- columns or a stripe unit without `layout=stripe` are refused
+  astray : (ncol unit : Option ℕ) → are_of (items_of kind.MakeStripe) (value.Word ∷ maybe_value g ∷ value.Word ∷ value.Named vol ∷ value.Number size ∷ value.Nothing ∷ count_value ncol ∷ count_value unit ∷ count_value nmirror ∷ count_value region ∷ count_value logs ∷ value.Names disks ∷ []) ≡ true → ⊥
+  astray ncol unit h =
+      let e = each (items_of kind.MakeStripe) (value.Word ∷ maybe_value g ∷ value.Word ∷ value.Named vol ∷ value.Number size ∷ value.Nothing ∷ count_value ncol ∷ count_value unit ∷ count_value nmirror ∷ count_value region ∷ count_value logs ∷ value.Names disks ∷ []) h in
+      both_ways false refl e.1.1.1.1.1.0
+
+  make_again : (words : Option WordLayout) (ncol unit : Option ℕ) → are_of (items_of (make_kind words ncol unit)) (again words ncol unit) ≡ true → form_of (make_kind words ncol unit) (again words ncol unit) ≡ Some (form.AssistMake vol size (record { layout = words; ncol = ncol; unit = unit; nmirror = nmirror; region = region; ndcomirror = logs }) disks)
+  make_again None None None h =
+      let e = each (items_of kind.MakeConcat) (again None None None) h in
+      plain_back g vol size nmirror region logs disks (few_of 1 8 nmirror (lit< tt) e.1.1.1.1.1.1.0) (few_of 0 2 logs (lit< tt) e.1.1.1.1.1.1.1.1.0)
+  make_again (Some layout.Concat) None None h =
+      let e = each (items_of kind.MakeConcat) (again (Some layout.Concat) None None) h in
+      concat_back g vol size nmirror region logs disks (few_of 1 8 nmirror (lit< tt) e.1.1.1.1.1.1.0) (few_of 0 2 logs (lit< tt) e.1.1.1.1.1.1.1.1.0)
+  make_again (Some layout.Stripe) ncol unit h =
+      let e = each (items_of kind.MakeStripe) (again (Some layout.Stripe) ncol unit) h in
+      stripe_back g vol size nmirror region logs disks (few_of 1 8 nmirror (lit< tt) e.1.1.1.1.1.1.1.1.0) (few_of 0 2 logs (lit< tt) e.1.1.1.1.1.1.1.1.1.1.0) ncol unit (few_of 2 16 ncol (lit< tt) e.1.1.1.1.1.1.0)
+  make_again None (Some n) unit h = absurd (astray (Some n) unit h)
+  make_again None None (Some u) h = absurd (astray None (Some u) h)
+  make_again (Some layout.Concat) (Some n) unit h = absurd (astray (Some n) unit h)
+  make_again (Some layout.Concat) None (Some u) h = absurd (astray None (Some u) h)
+
+-- a form whose values are those of its parts is said by them, as far as its first line goes
+pub form_again : (g : Option (List ℕ)) (f : Form) → are_of (items_of (kind_of f)) (values_of g f) ≡ true → form_of (kind_of f) (values_of g f) ≡ Some (opening f)
+form_again g (form.MkImage device size) h = refl
+form_again g (form.Bare vol device) h = refl
+form_again g (form.DgInit dg disks) h = refl
+form_again g (form.DgAddDisk dg disk) h = refl
+form_again g (form.DgImport dg) h = refl
+form_again g (form.DgDeport dg) h = refl
+form_again g (form.DiskUnsetup device) h = refl
+form_again g (form.VxMake text) h = refl
+form_again g (form.PrintM vol) h = ap (option_and_then (λ v. Some (form.PrintM v))) (maybe_back vol)
+form_again g (form.PrintHt vol) h = ap (option_and_then (λ v. Some (form.PrintHt v))) (maybe_back vol)
+form_again g (form.AssistMake vol size a disks) h = make_again g vol size a.nmirror a.region a.ndcomirror disks a.layout a.ncol a.unit h
+form_again g (form.Mirror vol disks) h = refl
+form_again g (form.RemoveVolume vol) h = refl
+form_again g (form.Start vol) h = refl
+form_again g (form.Stop vol) h = refl
+form_again g (form.Rdpol vol policy.Round) h = refl
+form_again g (form.Rdpol vol policy.Select) h = refl
+form_again g (form.Rdpol vol (policy.Prefer plex)) h = refl
+form_again g (form.PlexDis plex false) h = refl
+form_again g (form.PlexDis plex true) h = refl
+form_again g (form.Prepare vol ndcomirs region) h = rw (count_back ndcomirs, count_back region) refl
+form_again g (form.Unprepare vol) h = refl
+form_again g (form.AddMir vol disks) h = refl
+form_again g (form.Dis snap) h = refl
+form_again g (form.Split snap) h = refl
+form_again g (form.PrintSnaps vol) h = ap (option_and_then (λ v. Some (form.PrintSnaps v))) (maybe_back vol)
+form_again g (form.Recover vol) h = ap (option_and_then (λ v. Some (form.Recover v))) (maybe_back vol)
+form_again g (form.Acting (act.SnapMake vol snap plex)) h = refl
+form_again g (form.Acting (act.Reattach snap vol)) h = refl
+form_again g (form.Acting (act.Restore vol snap)) h = refl
+form_again g (form.Acting (act.Snapback snap false)) h = refl
+form_again g (form.Acting (act.Snapback snap true)) h = refl
+form_again g (form.Acting (act.PlexDet plex)) h = refl
+form_again g (form.Acting (act.PlexAtt vol plex)) h = refl
+form_again g (form.Calling (call.Read vol start count)) h = refl
+form_again g (form.Calling (call.Fill vol start count byte)) h =
+    let e = each (items_of kind.Fill) (values_of g (form.Calling (call.Fill vol start count byte))) h in
+    ap (option_and_then (λ b. Some (form.Calling (call.Fill vol start count b)))) (byte_is byte e.1.1.1.1.1.1.0)
+form_again g (form.Calling (call.Data vol start blocks)) h = refl
+form_again g (form.Sessions block) h =
+    let e = each (items_of kind.Sessions) (values_of g (form.Sessions block)) h in
+    ap (option_and_then (λ n. Some (form.Sessions (record { sessions = n; lines = [] })))) (small_is 1 16 block.sessions (lit< tt) e.1.1.0)
+
+-- the second value is the group
+pub group_again : (g : Option (List ℕ)) (f : Form) → maybe_name (values_of g f) 1 ≡ Some g
+group_again g (form.MkImage device size) = maybe_back g
+group_again g (form.Bare vol device) = maybe_back g
+group_again g (form.DgInit dg disks) = maybe_back g
+group_again g (form.DgAddDisk dg disk) = maybe_back g
+group_again g (form.DgImport dg) = maybe_back g
+group_again g (form.DgDeport dg) = maybe_back g
+group_again g (form.DiskUnsetup device) = maybe_back g
+group_again g (form.VxMake text) = maybe_back g
+group_again g (form.PrintM vol) = maybe_back g
+group_again g (form.PrintHt vol) = maybe_back g
+group_again g (form.AssistMake vol size a disks) = maybe_back g
+group_again g (form.Mirror vol disks) = maybe_back g
+group_again g (form.RemoveVolume vol) = maybe_back g
+group_again g (form.Start vol) = maybe_back g
+group_again g (form.Stop vol) = maybe_back g
+group_again g (form.Rdpol vol policy.Round) = maybe_back g
+group_again g (form.Rdpol vol policy.Select) = maybe_back g
+group_again g (form.Rdpol vol (policy.Prefer plex)) = maybe_back g
+group_again g (form.PlexDis plex false) = maybe_back g
+group_again g (form.PlexDis plex true) = maybe_back g
+group_again g (form.Prepare vol ndcomirs region) = maybe_back g
+group_again g (form.Unprepare vol) = maybe_back g
+group_again g (form.AddMir vol disks) = maybe_back g
+group_again g (form.Dis snap) = maybe_back g
+group_again g (form.Split snap) = maybe_back g
+group_again g (form.PrintSnaps vol) = maybe_back g
+group_again g (form.Recover vol) = maybe_back g
+group_again g (form.Acting (act.SnapMake vol snap plex)) = maybe_back g
+group_again g (form.Acting (act.Reattach snap vol)) = maybe_back g
+group_again g (form.Acting (act.Restore vol snap)) = maybe_back g
+group_again g (form.Acting (act.Snapback snap false)) = maybe_back g
+group_again g (form.Acting (act.Snapback snap true)) = maybe_back g
+group_again g (form.Acting (act.PlexDet plex)) = maybe_back g
+group_again g (form.Acting (act.PlexAtt vol plex)) = maybe_back g
+group_again g (form.Calling (call.Read vol start count)) = maybe_back g
+group_again g (form.Calling (call.Fill vol start count byte)) = maybe_back g
+group_again g (form.Calling (call.Data vol start blocks)) = maybe_back g
+group_again g (form.Sessions block) = maybe_back g

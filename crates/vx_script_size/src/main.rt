@@ -1,7 +1,7 @@
 //! Reads scripts that it makes itself, to show what a script of a size costs to read. Each line of the input is a kind
 //! and a number of bytes: `calls 4096` stands for reads and writes in turn that take so many bytes at most, `blocks 4096`
-//! for the same calls in blocks of 16 sessions with 65,536 lines. Printed are the bytes, and how many lines are calls and
-//! how many commands were read.
+//! for the same calls in blocks of 16 sessions with 65,536 lines; the other kinds, `reads`, `shortest`, `equal`, .., are
+//! told at `Kind`. Printed are the bytes, and how many lines are of the kind and how many commands were read.
 #![tactic(auto)]
 
 mod made;

@@ -5,6 +5,7 @@ ghost use Rattle.std.specs.Prelude.{◌≡◌, ◌+◌, ◌<◌, ◌≤◌, ◌^
 ghost use Rattle.vx_script.specs.Kept.{is_command};
 ghost use Rattle.vx_world.specs.World.{World};
 ghost use Rattle.vx_world.specs.Transcript.{Step};
+ghost use Rattle.vx_world.specs.Groups.{InitStep};
 ghost use Rattle.vx_world.specs.Form.{call_of};
 ghost use Rattle.vx_hold.specs.Kept.{Keeps, HasRoom};
 ghost use Rattle.vx_hold.specs.Stand.{Stand};
@@ -19,7 +20,8 @@ use vx_hold::System;
 use vx_importing::import;
 use vx_init::init;
 use vx_names::Name;
-use vx_script::{Command, Form};
+use vx_script::{Command, Disks, Form};
+use vx_script_forms::name_in;
 use vx_shelf::Shelf;
 use vx_world::{Answer, Call, Refusal};
 
@@ -53,7 +55,7 @@ pub fn execute<S: Shelf>(
     match &command.form {
         Form::MkImage { device, length } => make_image(alloc, system, shelf, *device, *length),
         Form::Bare { vol, device } => bare(alloc, system, shelf, *vol, *device),
-        Form::DgInit { dg, disks } => init(alloc, system, shelf, *dg, disks.as_slice()),
+        Form::DgInit { dg, disks } => init_disks(alloc, system, shelf, *dg, disks),
         Form::DgAddDisk { dg, disk } => add(alloc, system, shelf, *dg, disk.get()),
         Form::DgImport { dg } => import(alloc, system, shelf, *dg),
         Form::DgDeport { dg } => deport(alloc, system, shelf, *dg),
@@ -67,14 +69,35 @@ pub fn execute<S: Shelf>(
     }
 }
 
+/// Makes a group of the disks that the line names. For want of memory nothing is done.
+fn init_disks<S: Shelf>(
+    alloc: Global,
+    system: &mut System<S::P>,
+    shelf: &mut S,
+    dg: Name,
+    disks: &Disks,
+) -> Result<Answer, OutOfMemory>
+    requires keeps { Keeps S.P.seen (S.held shelf.old) system.old }
+    ensures keeps { Keeps S.P.seen (S.held shelf.new) system.new }
+    ensures room { (n : ℕ) → HasRoom n system.old → HasRoom (n + 1) system.new }
+    ensures step { IfOk result (λ answer. (w : World) → Stand S.P.seen (S.free shelf.old) system.old w →
+        Moves S.P.seen (λ f. InitStep f dg disks.now) answer w
+        (record { free = S.free shelf.old; faults = S.faults shelf.old; system = system.old })
+        (record { free = S.free shelf.new; faults = S.faults shelf.new; system = system.new })) }
+    ensures rests { OnErr result ((w : World) → Stand S.P.seen (S.free shelf.old) system.old w → Rests S.P.seen w
+        (record { free = S.free shelf.old; faults = S.faults shelf.old; system = system.old })
+        (record { free = S.free shelf.new; faults = S.faults shelf.new; system = system.new })) }
+    ensures later { S.faults shelf.old ≤ S.faults shelf.new }
+{
+    let disks = disks.to_vec(alloc)?;
+    init(alloc, system, shelf, dg, disks.as_slice())
+}
+
 /// The group that the line names, where it does.
 fn group_of(command: &Command) -> Option<Name>
     ensures { result ≡ command.now.group }
 {
-    match &command.group {
-        None => None,
-        Some(name) => Some(*name.get()),
-    }
+    name_in(&command.group)
 }
 
 /// The call that is made, where it is built.

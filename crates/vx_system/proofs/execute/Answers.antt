@@ -34,7 +34,7 @@ pub returns-in-Bare-clause-step : goal.returns-in-Bare-clause-step
 returns-in-Bare-clause-step g c = all_moved g.S.P.Piece.seen _ _ c.args.command.now (form.Bare c.in-Bare.vol c.in-Bare.device) (λ f. BareStep c.in-Bare.vol c.in-Bare.device) _ c.in-Bare.is (uncut c.args.command.now.cut (sym c.is_some.ensures ∙ c.if-is_some.false)) refl (λ f place w answer next step. step) c.bare.ensures.step
 
 pub returns-in-DgInit-clause-step : goal.returns-in-DgInit-clause-step
-returns-in-DgInit-clause-step g c = all_moved g.S.P.Piece.seen _ _ c.args.command.now (form.DgInit c.in-DgInit.dg c.in-DgInit.disks) (λ f. InitStep f c.in-DgInit.dg c.as_slice.result.now) _ c.in-DgInit.is (uncut c.args.command.now.cut (sym c.is_some.ensures ∙ c.if-is_some.false)) refl (λ f place w answer next step. subst (λ disks. InitStep f c.in-DgInit.dg disks w answer next) c.as_slice.ensures step) c.init.ensures.step
+returns-in-DgInit-clause-step g c = all_moved g.S.P.Piece.seen _ _ c.args.command.now (form.DgInit c.in-DgInit.dg c.in-DgInit.disks) (λ f. InitStep f c.in-DgInit.dg c.in-DgInit.disks) _ c.in-DgInit.is (uncut c.args.command.now.cut (sym c.is_some.ensures ∙ c.if-is_some.false)) refl (λ f place w answer next step. step) c.init_disks.ensures.step
 
 pub returns-in-DgAddDisk-clause-step : goal.returns-in-DgAddDisk-clause-step
 returns-in-DgAddDisk-clause-step g c = all_moved g.S.P.Piece.seen _ _ c.args.command.now (form.DgAddDisk c.in-DgAddDisk.dg c.in-DgAddDisk.disk) (λ f. AddStep f c.in-DgAddDisk.dg c.get.result.now) _ c.in-DgAddDisk.is (uncut c.args.command.now.cut (sym c.is_some.ensures ∙ c.if-is_some.false)) refl (λ f place w answer next step. subst (λ disk. AddStep f c.in-DgAddDisk.dg disk w answer next) c.get.ensures step) c.add.ensures.step

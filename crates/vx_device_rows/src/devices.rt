@@ -32,14 +32,20 @@ fn device(alloc: Global, sectors: u8, start: u64, count: u64) -> Result<MemPiece
 /// A write fails at the sector that is bad, after the one before it, and then passes.
 fn fails_once(rt: &HostRuntime) -> io::Result<()> {
     let mut piece = device(rt.alloc(), 4, 2, 1)?;
-    println!(rt; "a device of {} sectors, of which sector 2 fails once", piece.sectors())?;
+    println!(rt;
+        "a device of {} sectors, of which sector 2 fails once",
+        piece.sectors()
+    )?;
     write(rt, &mut piece, 1, &[0x41; 1024])?;
     read(rt, &mut piece, 1)?;
     read(rt, &mut piece, 2)?;
     write(rt, &mut piece, 1, &[0x42; 1024])?;
     read(rt, &mut piece, 2)?;
     counts(rt, &piece)?;
-    println!(rt; "no device: {}", MemPiece::new(7, Vec::new(rt.alloc()), Vec::new(rt.alloc())).is_none())
+    println!(rt;
+        "no device: {}",
+        MemPiece::new(7, Vec::new(rt.alloc()), Vec::new(rt.alloc())).is_none()
+    )
 }
 
 /// Each part of a device has the part of a Bad that lies in it, and the joined device has both counts.
@@ -51,7 +57,12 @@ fn cut_in_two_and_joined(rt: &HostRuntime) -> io::Result<()> {
     let Ok((mut front, mut back)) = piece.split(rt.alloc(), 1) else {
         return println!(rt; "no memory");
     };
-    println!(rt; "cut into {} and {} sectors, the second from {}", front.sectors(), back.sectors(), back.start())?;
+    println!(rt;
+        "cut into {} and {} sectors, the second from {}",
+        front.sectors(),
+        back.sectors(),
+        back.start()
+    )?;
     write(rt, &mut front, 0, &[0x41; 512])?;
     write(rt, &mut back, 1, &[0x42; 512])?;
     write(rt, &mut back, 1, &[0x43; 512])?;
@@ -59,7 +70,11 @@ fn cut_in_two_and_joined(rt: &HostRuntime) -> io::Result<()> {
     let Ok(mut piece) = front.join(rt.alloc(), back) else {
         return println!(rt; "no memory");
     };
-    println!(rt; "joined, {} sectors of device {}", piece.sectors(), piece.device())?;
+    println!(rt;
+        "joined, {} sectors of device {}",
+        piece.sectors(),
+        piece.device()
+    )?;
     read(rt, &mut piece, 0)?;
     read(rt, &mut piece, 2)?;
     counts(rt, &piece)
@@ -102,7 +117,10 @@ fn read<P: Piece>(rt: &HostRuntime, piece: &mut P, at: u64) -> io::Result<()>
 
 fn counts(rt: &HostRuntime, piece: &MemPiece) -> io::Result<()> {
     let counts = piece.counts();
-    println!(rt; "faults {}, writes {}, reads {}", counts.faults, counts.writes, counts.reads)
+    println!(rt;
+        "faults {}, writes {}, reads {}",
+        counts.faults, counts.writes, counts.reads
+    )
 }
 
 fn word(fault: PieceFault) -> &'static str {

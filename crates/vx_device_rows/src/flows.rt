@@ -26,7 +26,10 @@ pub fn rows(rt: &HostRuntime) -> io::Result<()> {
 fn read(rt: &HostRuntime, what: &str, source: &mut impl Source) -> io::Result<()> {
     let mut into = [0; 8];
     match source.read(&mut into) {
-        Ok(count) => println!(rt; "{what}: {count} bytes, {} {} {}", into[0], into[1], into[2]),
+        Ok(count) => println!(rt;
+            "{what}: {count} bytes, {} {} {}",
+            into[0], into[1], into[2]
+        ),
         Err(_) => println!(rt; "{what}: failed"),
     }
 }

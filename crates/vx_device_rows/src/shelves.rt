@@ -1,7 +1,6 @@
 //! Rows of calls of a shelf in memory.
 
-use std::io;
-use std::str;
+use std::{io, str};
 use vx_names::Name;
 use vx_piece::{Bad, MemPiece, Piece};
 use vx_shelf::{MemShelf, Shelf, ShelfFault};

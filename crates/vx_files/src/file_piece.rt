@@ -1,15 +1,14 @@
 ghost use Rattle.std.specs.Prelude.{◌≡◌, ◌+◌, ◌*◌, ◌<◌, ◌^◌};
 ghost use Rattle.vx_base.specs.Counts.{later_count};
 
+use crate::limit::check_length;
 use std::alloc::Global;
 use std::fs::{File, OpenFile, OpenOptions};
-use std::{fs, io};
 use std::os::unix::fs::FileExt;
 use std::rt::Files;
+use std::{fs, io};
 use vx_base::{BLOCK, OutOfMemory};
 use vx_piece::{Piece, PieceFault};
-
-use crate::limit::check_length;
 
 /// A run of sectors of a device that is a file. It opens the file at each call, and tells nothing of what it holds.
 #[derive(Drop)]

@@ -1,5 +1,6 @@
 ghost use Rattle.std.specs.Prelude.{◌*◌, ◌<◌, ◌^◌, IfOk};
 
+use crate::limit::check_length;
 use std::alloc::{AllocError, Global};
 use std::collections::{BTreeMap, BTreeSet};
 use std::fs::{DirEntry, File, Metadata, OpenFile};
@@ -10,8 +11,6 @@ use std::rt::Files;
 use std::{fs, io};
 use vx_base::BLOCK;
 use vx_names::Name;
-
-use crate::limit::check_length;
 
 /// A folder whose files are devices. Where several names lead to one file, the first by its bytes is the device, and the
 /// others are none. The empty path is that of no folder.

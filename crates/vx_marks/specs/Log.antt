@@ -14,6 +14,8 @@ pub record LogSeen : Type 0 where
   -- it has the maps below this number
   pub maps : ℕ
   pub copies : ℕ
+  -- pages of it may be out, in the hands of others
+  pub lent : Bool
   -- whether it says of a region that every copy shows a map's mark
   pub claims : ℕ → ℕ → Bool
   -- the marks of each region, where the copies tell what they hold
@@ -39,6 +41,7 @@ pub record KeepsLog (old new : LogSeen) : Type 0 where
   pub has_region : new.has_region ≡ old.has_region
   pub maps : new.maps ≡ old.maps
   pub copies : new.copies ≡ old.copies
+  pub lent : new.lent ≡ old.lent
   pub faults : (copy device : ℕ) → old.faults copy device ≤ new.faults copy device
   pub cut : IsTrue old.cut → IsTrue new.cut
 
@@ -104,9 +107,9 @@ pub record FailedAt (copy device : ℕ) (old new : LogSeen) : Type 0 where
   pub others : (copy' device' : ℕ) → IsOther copy device copy' device' → new.faults copy' device' ≡ old.faults copy' device'
 
 -- Why a call answers so: `Failed` comes only where that count rose, and no other did; `PowerLost` only where a copy is cut.
--- At `Busy` nothing has changed, and at Ok no count has risen.
+-- `Busy` comes only where pages may be out, and nothing has changed then; at Ok no count has risen.
 abbrev pub MarkHasCause : {T : Type 0} → LogSeen → LogSeen → Result T MarkFault → Type 0
 MarkHasCause old new (Ok u) = (copy device : ℕ) → new.faults copy device ≡ old.faults copy device
 MarkHasCause old new (Err (Failed copy device)) = FailedAt copy device old new
 MarkHasCause old new (Err PowerLost) = IsTrue new.cut
-MarkHasCause old new (Err Busy) = new ≡ old
+MarkHasCause old new (Err Busy) = (new ≡ old) × (old.lent ≡ true)

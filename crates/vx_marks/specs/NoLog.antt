@@ -9,6 +9,7 @@ no_log n = record {
   has_region = λ region. true;
   maps = 64;
   copies = 0;
+  lent = false;
   claims = λ region map. false;
   told = None;
   faults = λ copy device. 0;

@@ -8,7 +8,7 @@ pub enum MarkFault {
     Failed { copy: u8, device: u32 },
     /// The power is gone.
     PowerLost,
-    /// The page of the region is out. Nothing was done, and the call may be made again.
+    /// The page of the region is out, which only a log that is lent answers. Nothing was done, and the call may be made again.
     Busy,
 }
 

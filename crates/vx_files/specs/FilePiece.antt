@@ -11,19 +11,21 @@ file_seen p = record {
   told = None;
   faults = p.faults;
   writes = p.writes;
+  reads = p.reads;
   cut = false;
   stop = p.stop;
 }
 
--- a whole device that no call has met
-abbrev pub new_file : ℕ → ℕ → Seen
-new_file device sectors = record {
+-- a whole device as it comes from a shelf, with its count of faults
+abbrev pub new_file : ℕ → ℕ → ℕ → Seen
+new_file device sectors faults = record {
   device = device;
   start = 0;
   sectors = sectors;
   told = None;
-  faults = 0;
+  faults = faults;
   writes = 0;
+  reads = 0;
   cut = false;
   stop = None;
 }

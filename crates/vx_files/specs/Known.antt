@@ -1,4 +1,4 @@
--- The devices that a shelf of files knows, of which some are held.
+-- The devices that a shelf of files knows, of which some are held, and how often they have failed.
 use Rattle.std.specs.Prelude.{ℕ, Option, Some, None}
 use Rattle.std.specs.BTreeMap.{BTreeMap, get}
 use Rattle.std.specs.Cmp.Lexicographic.{slice_cmp}
@@ -18,3 +18,11 @@ held_by (Some k) = held_with k.device k.held
 -- what is held under a name
 abbrev pub held_in : BTreeMap Word Known → Word → Option Held
 held_in known name = held_by (get (slice_cmp nat_cmp) known name)
+
+abbrev pub counted_by : Option Known → ℕ
+counted_by None = 0
+counted_by (Some k) = k.faults
+
+-- how often calls of the device of a name had failed when it last came back
+abbrev pub counted_in : BTreeMap Word Known → Word → ℕ
+counted_in known name = counted_by (get (slice_cmp nat_cmp) known name)

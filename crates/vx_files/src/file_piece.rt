@@ -19,6 +19,7 @@ pub struct FilePiece<R> {
     sectors: u64,
     faults: u64,
     writes: u64,
+    reads: u64,
     stop: Option<u64>,
     pub ghost on_device: { 512 * (start + sectors) < 2 ^ 64 },
 }
@@ -26,10 +27,10 @@ pub struct FilePiece<R> {
 impl<R> FilePiece<R> {
     ghost use Rattle.vx_files.specs.FilePiece.{file_seen, new_file};
 
-    /// The whole device: so many sectors of the file.
-    pub fn new(rt: R, path: String, device: u32, sectors: u64) -> FilePiece<R>
+    /// The whole device: so many sectors of the file, whose calls have failed so often.
+    pub fn new(rt: R, path: String, device: u32, sectors: u64, faults: u64) -> FilePiece<R>
         requires { 512 * sectors < 2 ^ 64 }
-        ensures { file_seen result ≡ new_file device sectors }
+        ensures { file_seen result ≡ new_file device sectors faults }
     {
         FilePiece {
             rt,
@@ -37,10 +38,18 @@ impl<R> FilePiece<R> {
             device,
             start: 0,
             sectors,
-            faults: 0,
+            faults,
             writes: 0,
+            reads: 0,
             stop: None,
         }
+    }
+
+    /// How often its calls have failed.
+    pub fn faults(&self) -> u64
+        ensures { result ≡ (file_seen self.now).faults }
+    {
+        self.faults
     }
 }
 
@@ -51,6 +60,8 @@ where
     ghost use Rattle.vx_files.specs.FilePiece.{file_seen};
 
     ghost seen = { file_seen };
+
+    ghost ends = { λ _. tt };
 
     fn device(&self) -> u32 {
         self.device
@@ -65,6 +76,8 @@ where
     }
 
     fn read(&mut self, at: u64, into: &mut [u8]) -> Result<(), PieceFault> {
+        let count = (into.len() / BLOCK) as u64;
+        self.reads = self.reads.saturating_add(count);
         let first = BLOCK as u64 * (self.start + at);
         if read_at(&self.rt, self.path.as_str(), first, into).is_err() {
             return Err(failed(&mut self.faults));
@@ -101,6 +114,7 @@ where
             sectors: self.sectors - at,
             faults: 0,
             writes: 0,
+            reads: 0,
             stop: self.stop,
         };
         self.sectors = at;
@@ -115,6 +129,7 @@ where
         self.sectors += next.sectors;
         self.faults = self.faults.saturating_add(next.faults);
         self.writes = self.writes.saturating_add(next.writes);
+        self.reads = self.reads.saturating_add(next.reads);
         Ok(self)
     }
 

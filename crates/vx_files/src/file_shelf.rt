@@ -26,11 +26,12 @@ pub struct FileShelf<R> {
 }
 
 impl<R: AllocGlobal + Drop> FileShelf<R> {
-    ghost use Rattle.vx_files.specs.FileShelf.{held_by_files, shelf_faults};
+    ghost use Rattle.vx_files.specs.FileShelf.{held_by_files, counted_by_files, shelf_faults};
 
     /// A shelf over the folder, of which nothing is held.
     pub fn new(rt: R, folder: &str) -> Result<FileShelf<R>, OutOfMemory>
         ensures held { IfOk result (λ shelf. (name : Word) → held_by_files shelf name ≡ None) }
+        ensures counted { IfOk result (λ shelf. (name : Word) → counted_by_files shelf name ≡ 0) }
         ensures faults { IfOk result (λ shelf. shelf_faults shelf ≡ 0) }
     {
         let folder = String::from_str(rt.alloc(), folder)?;
@@ -48,7 +49,7 @@ impl<R: Files + AllocGlobal + Clone + Drop + Send> Shelf for FileShelf<R>
 where
     R::File: FileExt,
 {
-    ghost use Rattle.vx_files.specs.FileShelf.{held_by_files, shelf_faults};
+    ghost use Rattle.vx_files.specs.FileShelf.{held_by_files, counted_by_files, shelf_faults};
 
     type P = FilePiece<R>;
 
@@ -57,6 +58,10 @@ where
     ghost held = { held_by_files };
 
     ghost faults = { shelf_faults };
+
+    ghost counted = { counted_by_files };
+
+    ghost counts_are = { λ _. tt };
 
     fn names(&mut self, alloc: Global) -> Result<Vec<Name>, ShelfFault> {
         let Ok(names) = list(&self.rt, alloc, self.folder.as_str()) else {
@@ -96,15 +101,15 @@ where
         match look(&rt, path.as_str()) {
             Ok(0) => Err(ShelfFault::NoDisk),
             Ok(sectors) => match hold(&mut self.known, name, sectors) {
-                Ok(device) => Ok(FilePiece::new(rt, path, device, sectors)),
+                Ok(one) => Ok(FilePiece::new(rt, path, one.device, sectors, one.faults)),
                 Err(_) => Err(ShelfFault::OutOfMemory),
             },
             Err(_) => Err(failed(&mut self.faults)),
         }
     }
 
-    fn give(&mut self, name: &Name, _piece: FilePiece<R>) {
-        release(&mut self.known, name);
+    fn give(&mut self, name: &Name, piece: FilePiece<R>) {
+        release(&mut self.known, name, piece.faults());
     }
 }
 

@@ -1,11 +1,12 @@
 -- What a read takes from a source, what a write gives to a sink, and when either may fail.
-use Rattle.std.specs.Prelude.{◌≡◌, ℕ, ◌<◌, ◌≤◌, List, [], ◌++◌, length, take, Option, Some, None, Result, Ok, Err, OnErr}
+use Rattle.std.specs.Prelude.{◌≡◌, ℕ, ◌<◌, ◌≤◌, List, [], ◌++◌, length, take, Option, Some, None, Result, Ok, Err, OnOk, OnErr}
 use Rattle.vx_base.specs.Counts.{Rose}
 
--- a fault comes only where the count rose, and the count never falls
+-- a fault comes only where the count rose, an Ok call leaves the count, and it never falls
 pub record HasCause {T E : Type 0} (before now : ℕ) (result : Result T E) : Type 0 where
   pub later : before ≤ now
   pub failed : OnErr result (Rose before now)
+  pub quiet : OnOk result (now ≡ before)
 
 -- how many bytes a read took
 abbrev pub count_of : {E : Type 0} → Result ℕ E → ℕ

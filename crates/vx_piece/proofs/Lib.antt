@@ -1,3 +1,4 @@
+pub mod Contents
 pub mod Goods
 pub mod Sectors
 pub mod Steps

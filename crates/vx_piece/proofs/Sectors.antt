@@ -1,8 +1,11 @@
 -- Sectors of bytes that are written in part, cut in two, or joined.
-use Rattle.std.proofs.Common.{◌≡◌, ◌⊎◌, ℕ, ◌+◌, ◌*◌, ◌%◌, ◌<◌, ◌≤◌, List, ◌++◌, length, take, drop, arith, sym, ◌∙◌, ap, subst, refl}
-use Rattle.std.proofs.lemmas.List.{length-append, length-drop, length-take-le, take-append-le, drop-append-le, drop-drop, drop_at, take_all}
+use Rattle.std.proofs.Common.{◌≡◌, ◌⊎◌, ℕ, ◌+◌, ◌-◌, ◌*◌, ◌%◌, ◌<◌, ◌≤◌, List, ◌++◌, length, take, drop, arith, sym, ◌∙◌, ap, subst, refl, inl, inr}
+use Rattle.std.proofs.lemmas.List.{length-append, length-drop, length-take-le, take-append-le, drop-append-le, drop-drop, drop_at, drop_all, take_all}
+use Rattle.std.proofs.lemmas.Bool.{lt-ltb, le-ltb, cases_lt, cond-true, cond-false}
 use Rattle.vx_base.specs.Blocks.{block_at, blocks_in, written, IsTorn}
 use Rattle.vx_base.proofs.BlockLemmas.{part_of_part, block_at-put, IsTorn-put}
+use Rattle.vx_piece.specs.Told.{front_of, back_of, joined_of}
+use Rattle.vx_piece.proofs.Contents.{same_contents}
 
 -- the bytes with the first sectors of others put in
 abbrev pub put_good : List ℕ → List ℕ → ℕ → ℕ → List ℕ
@@ -33,25 +36,39 @@ part_of_front xs ys m o fits = ap (take m) (drop-append-le o xs ys (omega arith)
 part_of_back : (xs ys : List ℕ) (m o p : ℕ) → length xs ≡ p → take m (drop (p + o) (xs ++ ys)) ≡ take m (drop o ys)
 part_of_back xs ys m o p len = ap (take m) (sym (drop-drop o p (xs ++ ys)) ∙ ap (drop o) (drop_at xs ys p len))
 
--- joined bytes: first the sectors of the one, and then those of the other
-pub block_at-front : (xs ys : List ℕ) (k : ℕ) → k < blocks_in xs → block_at (xs ++ ys) k ≡ block_at xs k
+block_at-front : (xs ys : List ℕ) (k : ℕ) → k < blocks_in xs → block_at (xs ++ ys) k ≡ block_at xs k
 block_at-front xs ys k lt = part_of_front xs ys 512 (512 * k) (omega arith)
 
-pub block_at-back : (xs ys : List ℕ) (k : ℕ) → length xs % 512 ≡ 0 → block_at (xs ++ ys) (blocks_in xs + k) ≡ block_at ys k
-block_at-back xs ys k whole =
-    let place : 512 * (blocks_in xs + k) ≡ length xs + 512 * k = omega arith in
-    ap (λ i. take 512 (drop i (xs ++ ys))) place ∙ part_of_back xs ys 512 (512 * k) (length xs) refl
+block_at-back : (xs ys : List ℕ) (k : ℕ) → length xs % 512 ≡ 0 → blocks_in xs ≤ k → block_at (xs ++ ys) k ≡ block_at ys (k - blocks_in xs)
+block_at-back xs ys k whole le =
+    let place : 512 * k ≡ length xs + 512 * (k - blocks_in xs) = omega (arith, le, whole) in
+    ap (λ i. take 512 (drop i (xs ++ ys))) place ∙ part_of_back xs ys 512 (512 * (k - blocks_in xs)) (length xs) refl
+
+-- joined bytes: first the sectors of the one, and then those of the other
+pub joined_bytes : (xs ys : List ℕ) → length xs % 512 ≡ 0 → block_at (xs ++ ys) ≡ joined_of (blocks_in xs) (block_at xs) (block_at ys)
+joined_bytes xs ys whole = same_contents _ _ (λ k. elim (cases_lt k (blocks_in xs)) [
+  | inl lt ↦ block_at-front xs ys k lt ∙ sym (cond-true _ _ _ (lt-ltb k (blocks_in xs) lt))
+  | inr le ↦ block_at-back xs ys k whole le ∙ sym (cond-false _ _ _ (le-ltb k (blocks_in xs) le))
+])
 
 pub blocks_in-append : (xs ys : List ℕ) → length xs % 512 ≡ 0 → blocks_in (xs ++ ys) ≡ blocks_in xs + blocks_in ys
 blocks_in-append xs ys whole = omega (arith, length-append xs ys)
 
--- bytes cut in two
-pub block_at-take : (bs : List ℕ) (at k : ℕ) → k < at → block_at (take (512 * at) bs) k ≡ block_at bs (0 + k)
+block_at-take : (bs : List ℕ) (at k : ℕ) → k < at → block_at (take (512 * at) bs) k ≡ block_at bs k
 block_at-take bs at k lt =
-    let place : 0 + 512 * k ≡ 512 * (0 + k) = omega arith in
+    let place : 0 + 512 * k ≡ 512 * k = omega arith in
     part_of_part bs 512 (512 * k) (512 * at) 0 (omega arith) ∙ ap (λ i. take 512 (drop i bs)) place
 
-pub block_at-drop : (bs : List ℕ) (at k : ℕ) → block_at (drop (512 * at) bs) k ≡ block_at bs (at + k)
-block_at-drop bs at k =
+-- bytes cut in two
+pub front_bytes : (bs : List ℕ) (at : ℕ) → 512 * at ≤ length bs → block_at (take (512 * at) bs) ≡ front_of at (block_at bs)
+front_bytes bs at fits = same_contents _ _ (λ k. elim (cases_lt k at) [
+  | inl lt ↦ block_at-take bs at k lt ∙ sym (cond-true _ _ _ (lt-ltb k at lt))
+  | inr le ↦
+      let short : length (take (512 * at) bs) ≤ 512 * k = omega (arith, le, length-take-le (512 * at) bs fits) in
+      ap (take 512) (drop_all (512 * k) (take (512 * at) bs) short) ∙ sym (cond-false _ _ _ (le-ltb k at le))
+])
+
+pub back_bytes : (bs : List ℕ) (at : ℕ) → block_at (drop (512 * at) bs) ≡ back_of at (block_at bs)
+back_bytes bs at = same_contents _ _ (λ k.
     let place : 512 * at + 512 * k ≡ 512 * (at + k) = omega arith in
-    ap (take 512) (drop-drop (512 * k) (512 * at) bs ∙ ap (λ i. drop i bs) place)
+    ap (take 512) (drop-drop (512 * k) (512 * at) bs ∙ ap (λ i. drop i bs) place))

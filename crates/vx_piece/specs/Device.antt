@@ -11,6 +11,7 @@ new_device number bytes = record {
   told = Some (block_at bytes);
   faults = 0;
   writes = 0;
+  reads = 0;
   cut = false;
   stop = None;
 }

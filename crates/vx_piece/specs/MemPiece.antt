@@ -14,6 +14,7 @@ mem_seen p = record {
   told = Some (block_at p.bytes.items);
   faults = p.faults;
   writes = p.writes;
+  reads = p.reads;
   cut = false;
   stop = p.stop;
 }

@@ -2,18 +2,19 @@ ghost use Rattle.std.specs.Prelude.{◌≡◌, ℕ, ◌+◌, ◌-◌, ◌*◌, �
 ghost use Rattle.vx_base.specs.Blocks.{AreBlocks, block_at, blocks_in};
 ghost use Rattle.vx_base.specs.Counts.{later_count};
 ghost use Rattle.vx_piece.specs.Device.{new_device};
-ghost use Rattle.vx_piece.specs.Seen.{IsInside, Keeps, IsRead, IsWritten, IsOff, HasCause, IsSplit, IsNeighbour, IsJoined};
+ghost use Rattle.vx_piece.specs.Seen.{IsInside, Keeps, IsRead, CountsRead, IsWritten, IsOff, HasCause, IsSplit, IsNeighbour, IsJoined};
 
 use crate::bad::{bads_in, touch};
 use crate::{Bad, Piece, PieceFault};
 use std::alloc::Global;
 use vx_base::{BLOCK, OutOfMemory};
 
-/// How often a piece has failed, and how many sectors were handed to its `write`.
+/// How often a piece has failed, and how many sectors were handed to its `write` and to its `read`.
 #[derive(Clone, Copy, Debug, PartialEq, Eq)]
 pub struct Counts {
     pub faults: u64,
     pub writes: u64,
+    pub reads: u64,
 }
 
 /// A run of sectors of a device in memory, which fails where its Bads say so.
@@ -25,6 +26,7 @@ pub struct MemPiece {
     bad: Vec<Bad>,
     faults: u64,
     writes: u64,
+    reads: u64,
     stop: Option<u64>,
     ghost whole: { vec_len bytes % 512 ≡ 0 },
     ghost on_device: { start + vec_len bytes / 512 < 2 ^ 64 },
@@ -49,6 +51,7 @@ impl MemPiece {
             bad,
             faults: 0,
             writes: 0,
+            reads: 0,
             stop: None,
         })
     }
@@ -56,10 +59,12 @@ impl MemPiece {
     pub fn counts(&self) -> Counts
         ensures faults { result.faults ≡ (mem_seen self.now).faults }
         ensures writes { result.writes ≡ (mem_seen self.now).writes }
+        ensures reads { result.reads ≡ (mem_seen self.now).reads }
     {
         Counts {
             faults: self.faults,
             writes: self.writes,
+            reads: self.reads,
         }
     }
 
@@ -75,19 +80,21 @@ impl MemPiece {
 impl MemPiece {
     ghost use Rattle.vx_piece.specs.MemPiece.{mem_seen};
 
-    /// The empty run behind its last sector.
+    /// The empty run behind its last sector, with its count of faults.
     pub fn end(&self, alloc: Global) -> MemPiece
         ensures device { (mem_seen result).device ≡ (mem_seen self.now).device }
         ensures start { (mem_seen result).start ≡ (mem_seen self.now).start + (mem_seen self.now).sectors }
         ensures empty { (mem_seen result).sectors ≡ 0 }
+        ensures faults { (mem_seen result).faults ≡ (mem_seen self.now).faults }
     {
         MemPiece {
             device: self.device,
             start: self.start + self.sectors(),
             bytes: Vec::new(alloc),
             bad: Vec::new(alloc),
-            faults: 0,
+            faults: self.faults,
             writes: 0,
+            reads: 0,
             stop: None,
         }
     }
@@ -95,8 +102,12 @@ impl MemPiece {
 
 impl Piece for MemPiece {
     ghost use Rattle.vx_piece.specs.MemPiece.{mem_seen, bads_of, good_of, HasCounted, WritesGood, PartsBads};
+    ghost use Rattle.std.proofs.Common.{ap, arith};
+    ghost use Rattle.std.proofs.lemmas.List.{drop_all};
 
     ghost seen = { mem_seen };
+
+    ghost ends = { λ p k le. ap (take 512) (drop_all (512 * k) p.bytes.items (Prim.omega (arith, p.whole, le))) };
 
     fn device(&self) -> u32 {
         self.device
@@ -114,16 +125,18 @@ impl Piece for MemPiece {
         requires { IsInside (mem_seen self.old) at (length into.old) }
         ensures kept { Keeps (mem_seen self.old) (mem_seen self.new) }
         ensures same { IsRead (mem_seen self.old) (mem_seen self.new) }
+        ensures counted { CountsRead into.old (mem_seen self.old) (mem_seen self.new) }
         ensures ok { OnOk result (IfSome (mem_seen self.old).told (λ contents. AreBlocks into.new contents at)) }
         ensures off { IsTrue (mem_seen self.old).cut → IsOff (mem_seen self.old) (mem_seen self.new) result }
         ensures cause { HasCause (mem_seen self.old) (mem_seen self.new) result }
 
         // It fails exactly where a Bad makes it fail, and each failure is counted once.
         ensures fails { IsErr result ↔ (good_of self.old at (length into.old) false < length into.old / 512) }
-        ensures counted { HasCounted at (length into.old) false self.old self.new }
+        ensures bads { HasCounted at (length into.old) false self.old self.new }
         ensures faults { (mem_seen self.new).faults ≡ later_count (mem_seen self.old).faults (if is_ok result then 0 else 1) }
     {
         let count = (into.len() / BLOCK) as u64;
+        self.reads = self.reads.saturating_add(count);
         if touch(&mut self.bad, self.start + at, count, false) < count {
             return Err(failed(&mut self.faults));
         }
@@ -141,7 +154,7 @@ impl Piece for MemPiece {
         // It fails exactly where a Bad makes it fail, after the sectors before it, and each failure is counted once.
         ensures fails { IsErr result ↔ (good_of self.old at (length from.now) true < length from.now / 512) }
         ensures good { WritesGood at from.now (good_of self.old at (length from.now) true) self.old self.new }
-        ensures counted { HasCounted at (length from.now) true self.old self.new }
+        ensures bads { HasCounted at (length from.now) true self.old self.new }
         ensures faults { (mem_seen self.new).faults ≡ later_count (mem_seen self.old).faults (if is_ok result then 0 else 1) }
     {
         let count = (from.len() / BLOCK) as u64;
@@ -185,6 +198,7 @@ impl Piece for MemPiece {
             bad: back,
             faults: 0,
             writes: 0,
+            reads: 0,
             stop: self.stop,
         };
         keep_front(&mut self.bytes, at as usize);
@@ -216,6 +230,7 @@ impl Piece for MemPiece {
         let _ = self.bad.append(&mut next.bad);
         self.faults = self.faults.saturating_add(next.faults);
         self.writes = self.writes.saturating_add(next.writes);
+        self.reads = self.reads.saturating_add(next.reads);
         Ok(self)
     }
 
@@ -241,13 +256,16 @@ fn tail_of(alloc: Global, bytes: &Vec<u8>, at: usize) -> Result<Vec<u8>, OutOfMe
     Ok(Vec::from_slice(alloc, &bytes[BLOCK * at..])?)
 }
 
-/// Lets the bytes behind the first `at` sectors go, and their memory.
+/// Lets the bytes behind the first `at` sectors go, and their memory where it is more than half: a run that is cut from
+/// its end again and again is so moved seldom.
 fn keep_front(bytes: &mut Vec<u8>, at: usize)
     requires { 512 * at ≤ vec_len bytes.old }
     ensures { bytes.new.items ≡ take (512 * at) bytes.old.items }
 {
     bytes.truncate(BLOCK * at);
-    bytes.shrink_to_fit();
+    if bytes.len() < bytes.capacity() / 2 {
+        bytes.shrink_to_fit();
+    }
 }
 
 /// Copies the sectors from `at` on.

@@ -1,6 +1,6 @@
 ghost use Rattle.std.specs.Prelude.{◌≡◌, ◌+◌, ◌<◌, IsTrue, length, IfOk, OnOk, IfErr, IfSome, if◌then◌else◌};
 ghost use Rattle.vx_base.specs.Blocks.{AreBlocks};
-ghost use Rattle.vx_piece.specs.Seen.{Seen, IsInside, Keeps, IsRead, IsWritten, IsOff, HasCause, IsSplit, IsNeighbour, IsJoined};
+ghost use Rattle.vx_piece.specs.Seen.{Seen, IsInside, EndsThere, Keeps, IsRead, CountsRead, IsWritten, IsOff, HasCause, IsSplit, IsNeighbour, IsJoined};
 
 use std::alloc::Global;
 use vx_base::OutOfMemory;
@@ -38,6 +38,7 @@ pub trait Piece: Sized + Send {
         requires { IsInside (seen self.old) at (length into.old) }
         ensures kept { Keeps (seen self.old) (seen self.new) }
         ensures same { IsRead (seen self.old) (seen self.new) }
+        ensures counted { CountsRead into.old (seen self.old) (seen self.new) }
         ensures ok { OnOk result (IfSome (seen self.old).told (λ contents. AreBlocks into.new contents at)) }
         ensures off { IsTrue (seen self.old).cut → IsOff (seen self.old) (seen self.new) result }
         ensures cause { HasCause (seen self.old) (seen self.new) result };
@@ -67,4 +68,7 @@ pub trait Piece: Sized + Send {
     /// Sets when a power switch is to act on a piece that is not cut. Nothing else changes.
     fn arm(&mut self, stop: Option<u64>)
         ensures { seen self.new ≡ (if (seen self.old).cut then seen self.old else record (seen self.old) { stop = stop }) };
+
+    /// Nothing is told behind the last sector.
+    ghost ends: { (piece : Self) → EndsThere (seen piece) };
 }

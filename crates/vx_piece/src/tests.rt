@@ -41,7 +41,8 @@ fn a_bad_sector_fails_a_write_once(rt: HostRuntime) {
         piece.counts(),
         Counts {
             faults: 1,
-            writes: 4
+            writes: 4,
+            reads: 2
         }
     );
 }
@@ -67,7 +68,8 @@ fn a_device_is_cut_in_two_and_joined(rt: HostRuntime) {
         piece.counts(),
         Counts {
             faults: 2,
-            writes: 3
+            writes: 3,
+            reads: 0
         }
     );
     assert_eq!(rt; piece.bytes().get(1024), Some(&0x42));

@@ -1,3 +1,4 @@
+pub mod Counted
 pub mod Devices
 pub mod Listing
 pub mod Made

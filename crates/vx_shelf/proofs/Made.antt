@@ -28,6 +28,7 @@ is_blank count number bytes seen zeros is = subst (IsBlank count) (sym (is ∙ a
   zeros = block_of_zeros count;
   faults = refl;
   writes = refl;
+  reads = refl;
   cut = refl;
   stop = refl;
 })

@@ -1,6 +1,7 @@
 -- What stands on a shelf in memory. Of a device that was taken the empty run behind its last sector is left.
 use Rattle.std.specs.Prelude.{◌≡◌, ◌+◌, ◌++◌, ℕ, ◌==◌, ◌&&◌, nat_lt, not, Bool, true, false, zero, suc, if◌then◌else◌, List, [], ◌∷◌, Option, Some, None}
 use Rattle.std.specs.List.{list_all}
+use Rattle.std.specs.Option.{unwrap_or}
 use Rattle.std.specs.Str.{bytes_eq}
 use Rattle.vx_base.specs.Named.{Word}
 use Rattle.vx_piece.specs.Seen.{Seen}
@@ -38,6 +39,10 @@ free_in = shown_under free_by
 abbrev pub held_in : List Place → Word → Option Held
 held_in = shown_under held_by
 
+-- the faults of the first device of a name, whether it is held or not; 0 where none has it
+abbrev pub counted_in : List Place → Word → ℕ
+counted_in ps name = unwrap_or (shown_under (λ p. Some (mem_seen p).faults) ps name) 0
+
 -- a device that is there is whole, and one that was taken had a sector
 abbrev pub is_whole_or_left : MemPiece → Bool
 is_whole_or_left p = if is_empty p then nat_lt 0 (mem_seen p).start else (mem_seen p).start == 0
@@ -62,11 +67,12 @@ abbrev pub are_devices : List Place → Bool
 are_devices [] = true
 are_devices (p ∷ ps) = fits p ps && are_devices ps
 
--- what is left is the empty run behind the last sector of the device
+-- what is left is the empty run behind the last sector of the device, with its count of faults
 pub record HasLeft (device left : MemPiece) : Type 0 where
   pub empty : is_empty left ≡ true
   pub number : (mem_seen left).device ≡ (mem_seen device).device
   pub behind : (mem_seen left).start ≡ (mem_seen device).start + (mem_seen device).sectors
+  pub faults : (mem_seen left).faults ≡ (mem_seen device).faults
 
 -- the device's number is below this one
 abbrev pub is_numbered_below : ℕ → Place → Bool

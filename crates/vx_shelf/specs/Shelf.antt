@@ -1,5 +1,6 @@
 -- What stands on a shelf.
-use Rattle.std.specs.Prelude.{◌≡◌, ◌<◌, ◌⊎◌, ℕ, false, replicate, Option, Some, None, IsSome, IfSome}
+use Rattle.std.specs.Prelude.{◌≡◌, ◌<◌, ◌⊎◌, ℕ, false, if◌then◌else◌, replicate, Option, Some, None, IsSome, IfSome}
+use Rattle.std.specs.Str.{bytes_eq}
 use Rattle.vx_base.specs.Named.{Word, put, SameUnder}
 use Rattle.vx_piece.specs.Seen.{Seen}
 
@@ -61,6 +62,7 @@ pub record IsBlank (count : ℕ) (seen : Seen) : Type 0 where
   pub zeros : IfSome seen.told (λ contents. (k : ℕ) → k < count → contents k ≡ replicate 512 0)
   pub faults : seen.faults ≡ 0
   pub writes : seen.writes ≡ 0
+  pub reads : seen.reads ≡ 0
   pub cut : seen.cut ≡ false
   pub stop : seen.stop ≡ None
 
@@ -82,3 +84,15 @@ IsMade name count held None None = Unit {0}
 IsMade name count held None (Some new) = ⊥
 IsMade name count held (Some old) None = ⊥
 IsMade name count held (Some old) (Some new) = Joins name count held old new
+
+-- the count of each name is as it was
+abbrev pub SameCounts : (Word → ℕ) → (Word → ℕ) → Type 0
+SameCounts old new = (name : Word) → new name ≡ old name
+
+-- the same counts, but for the one of this name
+abbrev pub put_count : Word → ℕ → (Word → ℕ) → Word → ℕ
+put_count name count old other = if bytes_eq name other then count else old other
+
+-- a device that nobody holds has the count of its name, where the shelf tells its devices
+abbrev pub AreCounted : Option (Word → Option Seen) → (Word → ℕ) → Type 0
+AreCounted free counted = IfSome free (λ devices. (name : Word) → IfSome (devices name) (λ seen. seen.faults ≡ counted name))

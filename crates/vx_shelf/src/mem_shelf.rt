@@ -5,7 +5,7 @@ ghost use Rattle.vx_piece.specs.Seen.{Seen};
 ghost use Rattle.vx_piece.specs.MemPiece.{mem_seen};
 ghost use Rattle.vx_shelf.specs.Shelf.{IsBlank};
 ghost use Rattle.vx_shelf.specs.Listed.{IsRising, is_listed};
-ghost use Rattle.vx_shelf.specs.MemShelf.{is_under, is_empty, is_whole_or_left, free_by, held_by, free_in, held_in, is_at_rest, is_whole, are_apart, fits, are_devices, is_numbered_below, HasLeft, IsAppended, IsFirst, IsMissing};
+ghost use Rattle.vx_shelf.specs.MemShelf.{is_under, is_empty, is_whole_or_left, free_by, held_by, free_in, held_in, counted_in, is_at_rest, is_whole, are_apart, fits, are_devices, is_numbered_below, HasLeft, IsAppended, IsFirst, IsMissing};
 
 use crate::names::in_order;
 use crate::{Shelf, ShelfFault};
@@ -26,13 +26,14 @@ pub struct MemShelf {
 }
 
 impl MemShelf {
-    ghost use Rattle.vx_shelf.specs.OnShelf.{device_on, free_on, held_on};
+    ghost use Rattle.vx_shelf.specs.OnShelf.{device_on, free_on, held_on, counted_on};
 
     /// A shelf with these devices, which nobody holds. `accepts` tells whether they can stand on one.
     pub fn new(devices: Vec<(Name, MemPiece)>) -> MemShelf
         requires { IsTrue (are_devices devices.items) }
         ensures free { free_on result ≡ Some (free_in devices.items) }
         ensures held { (name : Word) → held_on result name ≡ None }
+        ensures counted { counted_on result ≡ counted_in devices.items }
     {
         let next = number_above(devices.as_slice());
         MemShelf {
@@ -73,7 +74,7 @@ impl MemShelf {
 }
 
 impl Shelf for MemShelf {
-    ghost use Rattle.vx_shelf.specs.OnShelf.{free_on, held_on};
+    ghost use Rattle.vx_shelf.specs.OnShelf.{free_on, held_on, counted_on, free_counted};
 
     type P = MemPiece;
 
@@ -82,6 +83,10 @@ impl Shelf for MemShelf {
     ghost held = { held_on };
 
     ghost faults = { λ _. 0 };
+
+    ghost counted = { counted_on };
+
+    ghost counts_are = { λ s name. free_counted s.places.items name };
 
     fn names(&mut self, alloc: Global) -> Result<Vec<Name>, ShelfFault> {
         match names_of(alloc, self.places.as_slice()) {
@@ -214,6 +219,7 @@ fn take_out(alloc: Global, device: &mut MemPiece) -> Option<MemPiece>
     ensures left { IfSome result (λ piece. HasLeft piece device.new) }
     ensures rest { IsTrue (is_whole_or_left device.old) → IsTrue (is_whole_or_left device.new) }
     ensures same { (mem_seen device.new).device ≡ (mem_seen device.old).device }
+    ensures counted { (mem_seen device.new).faults ≡ (mem_seen device.old).faults }
 {
     if is_empty(device) {
         return None;

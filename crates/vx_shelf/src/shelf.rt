@@ -2,7 +2,7 @@ ghost use Rattle.std.specs.Prelude.{◌≡◌, ◌≤◌, ◌^◌, ◌↔◌, �
 ghost use Rattle.vx_base.specs.Counts.{Rose};
 ghost use Rattle.vx_base.specs.Named.{Word, SameUnder};
 ghost use Rattle.vx_piece.specs.Seen.{Seen};
-ghost use Rattle.vx_shelf.specs.Shelf.{Held, IsWhole, IsOut, IsTaken, LeavesShelf, IsGiven, ComesToShelf, IsNowhere, IsUsed, IsMade};
+ghost use Rattle.vx_shelf.specs.Shelf.{Held, AreCounted, SameCounts, put_count, IsWhole, IsOut, IsTaken, LeavesShelf, IsGiven, ComesToShelf, IsNowhere, IsUsed, IsMade};
 ghost use Rattle.vx_shelf.specs.Listed.{IsRising, Lists};
 ghost use Rattle.vx_shelf.specs.Causes.{ListCause, MakeCause};
 
@@ -38,6 +38,9 @@ pub trait Shelf {
     /// How often a call of the shelf itself has failed.
     ghost faults: { Self → ℕ };
 
+    /// How often calls of the device of a name had failed when it last came to the shelf, and 0 before.
+    ghost counted: { Self → Word → ℕ };
+
     /// The names of all devices, those that are held too, sorted by their bytes.
     fn names(&mut self, alloc: Global) -> Result<Vec<Name>, ShelfFault>
         ensures sorted { IfOk result (λ names. IsRising names.items) }
@@ -47,7 +50,9 @@ pub trait Shelf {
         ensures stays { free self.new ≡ free self.old }
         ensures cause { IfErr result (ListCause (faults self.old) (faults self.new)) }
 
-        ensures later { faults self.old ≤ faults self.new };
+        ensures quiet { (IsErrOf result ShelfFault.Failed → ⊥) → faults self.new ≡ faults self.old }
+        ensures later { faults self.old ≤ faults self.new }
+        ensures counts { SameCounts (counted self.old) (counted self.new) };
 
     /// Makes a device of so many sectors of zeros. After an error no device has joined the others.
     fn make(&mut self, alloc: Global, name: &Name, sectors: u64) -> Result<(), ShelfFault>
@@ -61,9 +66,12 @@ pub trait Shelf {
         ensures held { IsSome (held self.old name.now) → IsErrOf result ShelfFault.Exists }
         ensures cause { IfErr result (MakeCause (faults self.old) (faults self.new)) }
 
-        ensures later { faults self.old ≤ faults self.new };
+        ensures quiet { (IsErrOf result ShelfFault.Failed → ⊥) → faults self.new ≡ faults self.old }
+        ensures later { faults self.old ≤ faults self.new }
+        ensures counts { SameCounts (counted self.old) (counted self.new) };
 
-    /// Takes a whole device, of a sector at least. One that is held is not told among those that nobody holds.
+    /// Takes a whole device, of a sector at least. One that is held is not told among those that nobody holds. Its count
+    /// of faults does not begin anew.
     fn take(&mut self, name: &Name) -> Result<Self::P, ShelfFault>
         ensures taken { IfOk result (λ piece. IsTaken name.now (Self.P.seen piece) (held self.old) (held self.new)) }
         ensures left { IfOk result (λ piece. LeavesShelf name.now (Self.P.seen piece) (free self.old) (free self.new)) }
@@ -76,7 +84,10 @@ pub trait Shelf {
         ensures failed { IsErrOf result ShelfFault.Failed → Rose (faults self.old) (faults self.new) }
         ensures never { IsErrOf result ShelfFault.Exists → ⊥ }
 
-        ensures later { faults self.old ≤ faults self.new };
+        ensures quiet { (IsErrOf result ShelfFault.Failed → ⊥) → faults self.new ≡ faults self.old }
+        ensures later { faults self.old ≤ faults self.new }
+        ensures counted { IfOk result (λ piece. counted self.old name.now ≤ (Self.P.seen piece).faults) }
+        ensures counts { SameCounts (counted self.old) (counted self.new) };
 
     /// Gives back a whole device that was taken under that name.
     fn give(&mut self, name: &Name, piece: Self::P)
@@ -84,5 +95,9 @@ pub trait Shelf {
         requires out { IsOut (held self.old name.now) (Self.P.seen piece) }
         ensures given { IsGiven name.now (held self.old) (held self.new) }
         ensures back { ComesToShelf name.now (Self.P.seen piece) (free self.old) (free self.new) }
-        ensures later { faults self.old ≤ faults self.new };
+        ensures quiet { faults self.new ≡ faults self.old }
+        ensures counts { SameCounts (put_count name.now (Self.P.seen piece).faults (counted self.old)) (counted self.new) };
+
+    /// A device that nobody holds has the count of its name.
+    ghost counts_are: { (shelf : Self) → AreCounted (free shelf) (counted shelf) };
 }

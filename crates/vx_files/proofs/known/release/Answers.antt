@@ -1,6 +1,10 @@
 use Rattle.std.proofs.Common.{None}
-use Rattle.vx_files.proofs.Held.{held_put}
+use Rattle.vx_files.proofs.Held.{held_put, counted_put}
+use Rattle.vx_files.specs.declared.known.Known.{Known}
 use Rattle.vx_files.proofs.known.release.Goals as goal
 
-pub returns-in-Ok : goal.returns-in-Ok
-returns-in-Ok c = held_put c.args.known.now c.insert.new.self c.args.name.now (record { device = c.in-Some.one.device; held = None }) c.in-Ok.ensures.updates.0
+pub returns-clause-given : goal.returns-clause-given
+returns-clause-given c = let one : Known = record { device = c.in-Some.one.device; held = None; faults = c.args.faults } in held_put c.args.known.now c.insert.new.self c.args.name.now one c.in-Ok.ensures.updates.0
+
+pub returns-clause-counts : goal.returns-clause-counts
+returns-clause-counts c = let one : Known = record { device = c.in-Some.one.device; held = None; faults = c.args.faults } in counted_put c.args.known.now c.insert.new.self c.args.name.now one c.in-Ok.ensures.updates.0

@@ -1,5 +1,5 @@
-use Rattle.std.proofs.Common.{◌≡◌, ◌%◌, ◌++◌, rules, refl, length}
-use Rattle.vx_piece.proofs.Sectors.{block_at-front, block_at-back, blocks_in-append}
+use Rattle.std.proofs.Common.{◌≡◌, ◌%◌, ◌++◌, rules, refl, ap, length, Some}
+use Rattle.vx_piece.proofs.Sectors.{joined_bytes, blocks_in-append}
 use Rattle.vx_piece.proofs.mem_piece.MemPiecePiece.join.Goals as goal
 
 pub returns-clause-joined : goal.returns-clause-joined
@@ -14,8 +14,6 @@ returns-clause-joined c =
       cut = refl;
       faults = search rules;
       writes = search rules;
-      told = (
-        λ k lt. rw bytes (block_at-front c.args.self.bytes.items c.args.next.bytes.items k lt),
-        λ k lt. rw bytes (block_at-back c.args.self.bytes.items c.args.next.bytes.items k whole),
-      );
+      reads = search rules;
+      told = rw bytes (ap Some (joined_bytes c.args.self.bytes.items c.args.next.bytes.items whole));
     }

@@ -1,6 +1,6 @@
-use Rattle.std.proofs.Common.{◌≡◌, ◌*◌, take, drop, arith, refl, List, ℕ, length}
+use Rattle.std.proofs.Common.{◌≡◌, ◌*◌, take, drop, arith, refl, ap, List, ℕ, length, Some}
 use Rattle.std.proofs.lemmas.List.{length-drop, length-take-le}
-use Rattle.vx_piece.proofs.Sectors.{block_at-take, block_at-drop}
+use Rattle.vx_piece.proofs.Sectors.{front_bytes, back_bytes}
 use Rattle.vx_piece.proofs.mem_piece.MemPiecePiece.split.Goals as goal
 
 pub returns-clause-parts : goal.returns-clause-parts
@@ -16,6 +16,7 @@ returns-clause-parts c =
       cuts = (refl, refl);
       faults = omega arith;
       writes = omega arith;
-      front = λ k lt. rw c.keep_front.ensures (block_at-take items c.args.at k lt);
-      back = λ k lt. rw rest (block_at-drop items c.args.at k);
+      reads = omega arith;
+      front = rw c.keep_front.ensures (ap Some (front_bytes items c.args.at (omega (arith, c.requires.inside))));
+      back = rw rest (ap Some (back_bytes items c.args.at));
     }

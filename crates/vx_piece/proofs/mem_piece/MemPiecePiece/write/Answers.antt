@@ -1,4 +1,4 @@
-use Rattle.std.proofs.Common.{arith, rules}
+use Rattle.std.proofs.Common.{arith, rules, refl}
 use Rattle.vx_piece.proofs.Sectors.{block_at-put_good, put_good-is_torn, put_good-all}
 use Rattle.vx_piece.proofs.mem_piece.MemPiecePiece.write.Goals as goal
 
@@ -6,6 +6,7 @@ pub returns-then-good-count-clause-told : goal.returns-then-good-count-clause-to
 returns-then-good-count-clause-told c = record {
   told = rw c.copy_in.ensures.items (put_good-is_torn c.args.self.now.bytes.items c.args.from.now c.args.at c.touch-good.result (omega (arith, c.requires.inside, c.requires.whole)) (omega (arith, c.touch-good.ensures.few)));
   writes = search rules;
+  reads = refl;
 }
 
 pub returns-then-good-count-clause-good : goal.returns-then-good-count-clause-good
@@ -15,6 +16,7 @@ pub returns-clause-told : goal.returns-clause-told
 returns-clause-told c = record {
   told = λ k. rw c.copy_in.ensures.items (put_good-all c.args.self.now.bytes.items c.args.from.now c.args.at c.touch-good.result (omega (arith, c.requires.inside, c.requires.whole)) (omega (arith, c.touch-good.ensures.few)) (omega (arith, c.touch-good.ensures.few, c.requires.whole)) k);
   writes = search rules;
+  reads = refl;
 }
 
 pub returns-clause-good : goal.returns-clause-good

@@ -1,4 +1,5 @@
 use Rattle.vx_shelf.proofs.Taken.{nowhere, given, comes, given_at_rest, given_number}
+use Rattle.vx_shelf.proofs.Counted.{counted_set}
 use Rattle.vx_shelf.proofs.Numbers.{numbered_set}
 use Rattle.vx_shelf.proofs.mem_shelf.MemShelfShelf.give.Goals as goal
 
@@ -33,6 +34,18 @@ returns-in-None-clause-given c =
 
 pub returns-in-None-clause-back : goal.returns-in-None-clause-back
 returns-in-None-clause-back c =
+    let missing = rw c.as_slice.ensures.value at c.in-None.ensures in
+    let none = (nowhere c.args.self.now.places.items c.args.name.now missing).not_held in
+    absurd (cc (c.requires.out, none))
+
+pub returns-in-Some-clause-counts : goal.returns-in-Some-clause-counts
+returns-in-Some-clause-counts c =
+    let found = rw c.as_slice.ensures.value at c.in-Some.ensures in
+    let place = c.index_mut-place.result.now in
+    counted_set c.args.self.now.places.items c.args.name.now c.in-Some.i place place found.1 c.index_mut-place.ensures.value c.args.piece
+
+pub returns-in-None-clause-counts : goal.returns-in-None-clause-counts
+returns-in-None-clause-counts c =
     let missing = rw c.as_slice.ensures.value at c.in-None.ensures in
     let none = (nowhere c.args.self.now.places.items c.args.name.now missing).not_held in
     absurd (cc (c.requires.out, none))

@@ -1,4 +1,5 @@
 use Rattle.std.proofs.Common.{refl, inr}
+use Rattle.vx_shelf.proofs.Counted.{counted_made}
 use Rattle.vx_shelf.proofs.Listing.{first_used, missing_unused}
 use Rattle.vx_shelf.proofs.Made.{made_at_rest, made_below, made_joins, made_held}
 use Rattle.vx_shelf.proofs.mem_shelf.MemShelfShelf.make.Goals as goal
@@ -48,3 +49,9 @@ pub returns-in-Err-clause-held : goal.returns-in-Err-clause-held
 returns-in-Err-clause-held c =
     let missing = rw c.as_slice.ensures.value at c.in-None.ensures in
     λ h. absurd (missing_unused c.args.self.now.places.items c.args.name.now missing (inr h))
+
+pub returns-in-Ok-clause-counts : goal.returns-in-Ok-clause-counts
+returns-in-Ok-clause-counts c =
+    let missing = rw c.as_slice.ensures.value at c.in-None.ensures in
+    let self = c.args.self.now in
+    counted_made c.args.name.now c.args.sectors self.next self.places.items c.append.new.places.items missing c.in-Ok.ensures.more

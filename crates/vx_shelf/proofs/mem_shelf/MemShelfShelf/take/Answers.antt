@@ -1,6 +1,8 @@
-use Rattle.std.proofs.Common.{◌≡◌, refl, subst, sym, IsSome, false, true}
+use Rattle.std.proofs.Common.{◌≡◌, ap, arith, refl, subst, sym, IsSome, false, true}
+use Rattle.vx_piece.specs.MemPiece.{mem_seen}
 use Rattle.vx_shelf.specs.MemShelf.{is_empty}
 use Rattle.vx_shelf.proofs.Taken.{not_some, not_true, nowhere, rest_here, free_under, none_held, taken, leaves, held_under, free_gone, stays_at_rest}
+use Rattle.vx_shelf.proofs.Counted.{counted_here, counted_same}
 use Rattle.vx_shelf.proofs.Numbers.{numbered_set}
 use Rattle.vx_shelf.proofs.mem_shelf.MemShelfShelf.take.Goals as goal
 
@@ -77,3 +79,17 @@ returns-in-Some-take_out-clause-held c =
     let full : is_empty place.1 ≡ false = not_true _ c.in-Some-take_out.ensures.none.1 in
     let none = none_held c.args.self.now.places.items c.args.name.now c.in-Some.i place place c.args.self.now.at_rest found.0 found.1 c.index_mut-place.ensures.value full in
     (λ e. cc, λ h. absurd (not_some _ none h))
+
+pub returns-in-Some-take_out-clause-counted : goal.returns-in-Some-take_out-clause-counted
+returns-in-Some-take_out-clause-counted c =
+    let found = rw c.as_slice.ensures.value at c.in-Some.ensures in
+    let place = c.index_mut-place.result.now in
+    let here = counted_here c.args.self.now.places.items c.args.name.now c.in-Some.i place place found.1 c.index_mut-place.ensures.value in
+    let same : (mem_seen c.in-Some-take_out.piece).faults ≡ (mem_seen place.1).faults = ap (λ p. (mem_seen p).faults) c.in-Some-take_out.ensures.some in
+    omega (arith, here, same)
+
+pub returns-in-Some-take_out-clause-counts : goal.returns-in-Some-take_out-clause-counts
+returns-in-Some-take_out-clause-counts c =
+    let found = rw c.as_slice.ensures.value at c.in-Some.ensures in
+    let place = c.index_mut-place.result.now in
+    counted_same c.args.self.now.places.items c.args.name.now c.in-Some.i place place found.1 c.index_mut-place.ensures.value c.take_out.new.device c.take_out.ensures.counted

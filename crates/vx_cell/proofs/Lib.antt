@@ -1,4 +1,9 @@
 pub mod Blocks
 pub mod Carried
 pub mod Changes
+pub mod Kept
+pub mod Measure
 pub mod Placed
+pub mod Scratch
+pub mod Stepped
+pub mod Working

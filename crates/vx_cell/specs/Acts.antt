@@ -1,5 +1,5 @@
 -- What one device call is, and what it does to the plexes and the log.
-use Rattle.std.specs.Prelude.{◌≡◌, ◌≢◌, ℕ, ◌+◌, ◌/◌, ◌%◌, ◌≤◌, ◌<◌, Bool, IsTrue, true, false, List, length, ◌⊎◌, Option, Some, None, Result, Ok, Err}
+use Rattle.std.specs.Prelude.{◌≡◌, ◌≢◌, ℕ, ◌+◌, ◌/◌, ◌%◌, ◌≤◌, ◌<◌, Bool, IsTrue, true, false, List, length, ◌⊎◌, Option, Some, None, IsSome, Result, Ok, Err}
 use Rattle.std.specs.Option.{option_map}
 use Rattle.vx_base.specs.Counts.{Rose}
 use Rattle.vx_mask.specs.Mask.{has}
@@ -53,15 +53,31 @@ abbrev pub PlaceRose : Place → List PlexSeen → LogSeen → List PlexSeen →
 PlaceRose (Data map piece device) ps log qs log' = RoseAt map piece device ps qs
 PlaceRose (Log copy device) ps log qs log' = Rose (log.faults copy device) (log'.faults copy device)
 
--- a failure has a place, whose count has risen
+-- where there is a place, its count has risen
+abbrev pub HasRisen : Option Place → List PlexSeen → LogSeen → List PlexSeen → LogSeen → Type 0
+HasRisen None ps log qs log' = Unit {0}
+HasRisen (Some place) ps log qs log' = PlaceRose place ps log qs log'
+
+-- a failure has a place, and the count there has risen
 abbrev pub IsPlaced : Option Answered → List PlexSeen → LogSeen → List PlexSeen → LogSeen → Type 0
 IsPlaced None ps log qs log' = Unit {0}
-IsPlaced (Some answer) ps log qs log' = IsFailure answer.event → (place : Place) × (answer.place ≡ Some place) × PlaceRose place ps log qs log'
+IsPlaced (Some answer) ps log qs log' = HasRisen answer.place ps log qs log' × (IsFailure answer.event → IsSome answer.place)
 
--- the answer names the piece of the plex that failed
+-- the earlier of two places
+abbrev pub earlier : Option Place → Option Place → Option Place
+earlier None then = then
+earlier (Some first) then = Some first
+
+-- the place of a run's answer in the plex
+abbrev pub run_place : {T : Type 0} → ℕ → Result T RunFault → Option Place
+run_place map (Ok u) = None
+run_place map (Err (Failed piece device)) = Some (Data map piece device)
+run_place map (Err PowerLost) = None
+
+-- the answer names the piece of the plex that failed, if one has
 abbrev pub HasPlace : {T : Type 0} → ℕ → Result T RunFault → Option Answered → Type 0
-HasPlace map (Err (Failed piece device)) (Some answer) = answer.place ≡ Some (Data map piece device)
-HasPlace map _ answer = Unit {0}
+HasPlace map result None = Unit {0}
+HasPlace map result (Some answer) = answer.place ≡ run_place map result
 
 pub record IsWriteOf (k at : ℕ) (bytes : List ℕ) (answer : Option Event) (ps qs : List PlexSeen) : Type 0 where
   pub result : Result (Unit {0}) RunFault

@@ -1,5 +1,5 @@
 -- How a job on a region runs, and what has become of the region so far.
-use Rattle.std.specs.Prelude.{◌≡◌, ◌≢◌, ℕ, ◌+◌, ◌-◌, ◌<◌, Bool, true, false, List, [], ◌∷◌, length, Option, Some, None, ◌⊎◌}
+use Rattle.std.specs.Prelude.{◌≡◌, ◌≢◌, ℕ, ◌+◌, ◌-◌, ◌<◌, ◌==◌, Bool, true, false, List, [], ◌∷◌, length, Option, Some, None, ◌⊎◌}
 use Rattle.vx_base.specs.Blocks.{Contents, blocks_in, block_at}
 use Rattle.vx_life.specs.Entry.{Entry}
 use Rattle.vx_mask.specs.Mask.{has}
@@ -7,23 +7,24 @@ use Rattle.vx_core.specs.declared.stage.Job.{Job}
 use Rattle.vx_core.specs.declared.stage.Event.{Event}
 use Rattle.vx_core.specs.declared.stage.Act.{Act}
 use Rattle.vx_core.specs.declared.stage.Phase.{Phase}
+use Rattle.vx_core.specs.declared.stage.Step.{Step}
 use Rattle.vx_core.specs.declared.stage.Stage.{Stage}
 use Rattle.vx_core.specs.declared.stage.Job.TheVariants.{Read as ReadJob, Write as WriteJob, Copy as CopyJob, Settle, Clear}
 use Rattle.vx_core.specs.declared.stage.Event.TheVariants.{MarkFailed, UnmarkFailed, WriteFailed, ReadFailed, Cut}
-use Rattle.vx_core.specs.declared.stage.Act.TheVariants.{WriteCall, WriteRegion, Done, Fault, Lost}
-use Rattle.vx_core.specs.declared.stage.Step.TheVariants.{Find as AtFind, Equal as AtEqual}
+use Rattle.vx_core.specs.declared.stage.Act.TheVariants.{Mark, Unmark, WriteCall, WriteRegion, ReadCall, ReadRegion, Done, Fault, Lost}
+use Rattle.vx_core.specs.declared.stage.Step.TheVariants.{Mark as AtMark, MarkFailed as AtMarkFailed, Unmark as AtUnmark}
 use Rattle.vx_core.specs.declared.stage.Phase.TheVariants.{Settled, Unsettled, Dead, Busy}
 use Rattle.vx_core.specs.Table.{current, act_at, next_of, IsNamed}
-use Rattle.vx_core.specs.History.{Call, Pending, NoCall, Reads, Writes}
+use Rattle.vx_core.specs.History.{Call, Pending, NoCall, Reads, Writes, MayBegin}
 use Rattle.vx_core.specs.Region.{Fixed, RegionState, entries_after, pending_after}
 use Rattle.vx_core.specs.Schedule.{Happening, Comes, Elsewhere, happens}
 use Rattle.vx_core.specs.Recovery.{region_after}
-use Rattle.vx_core.specs.Follow.{SameMasks, Rewrites, EndsSettled, settles}
+use Rattle.vx_core.specs.Follow.{SameMasks, Rewrites, EndsSettled, PossibleIn}
 use Rattle.vx_core.specs.Causes.{Faults, IsPlain, Blames}
 use Rattle.vx_core_laws.specs.Course.{EachFits}
 use Rattle.vx_cell.specs.declared.fault.Place.{Place}
-use Rattle.vx_cell.specs.Plexes.{PlexSeen, contents_of, blocks_of, PlexRose, WritesOnly}
-use Rattle.vx_cell.specs.Acts.{Bytes, IsRange, PlaceRose}
+use Rattle.vx_cell.specs.Plexes.{PlexSeen, holds, contents_of, PlexRose}
+use Rattle.vx_cell.specs.Acts.{Bytes, IsRange, HasRisen}
 use Rattle.vx_cell.specs.Region.{RegionSeen, IsWhole, IsTold, KeepsRegion, LogRose, IsCut, state_of}
 
 -- ---- calls
@@ -66,15 +67,25 @@ IsCallable size Clear io = Unit {0}
 
 -- ---- courses
 
+-- the plex whose failure the event tells
+abbrev pub plex_fails : Act → Event → ℕ → Bool
+plex_fails (WriteCall k) WriteFailed j = k == j
+plex_fails (WriteRegion k) WriteFailed j = k == j
+plex_fails (ReadCall offered) (ReadFailed k) j = k == j
+plex_fails (ReadRegion i) (ReadFailed k) j = k == j
+plex_fails act event j = false
+
+-- the event tells a failure of the log
+abbrev pub log_fails : Act → Event → Bool
+log_fails (Mark b) MarkFailed = true
+log_fails (Unmark b) UnmarkFailed = true
+log_fails act event = false
+
 -- a failure that an event tells is one by which a count has risen, and a cut one by which a piece is cut
-abbrev pub IsBacked : Act → Event → RegionSeen → RegionSeen → Type 0
-IsBacked (WriteCall k) WriteFailed old new = PlexRose k old.plexes new.plexes
-IsBacked (WriteRegion k) WriteFailed old new = PlexRose k old.plexes new.plexes
-IsBacked act (ReadFailed k) old new = PlexRose k old.plexes new.plexes
-IsBacked act MarkFailed old new = LogRose old.log new.log
-IsBacked act UnmarkFailed old new = LogRose old.log new.log
-IsBacked act Cut old new = IsCut new
-IsBacked act event old new = Unit {0}
+pub record IsBacked (act : Act) (event : Event) (old new : RegionSeen) : Type 0 where
+  pub plexes : (k : ℕ) → plex_fails act event k ≡ true → PlexRose k old.plexes new.plexes
+  pub log : log_fails act event ≡ true → LogRose old.log new.log
+  pub cut : event ≡ Cut → IsCut new
 
 -- the act that a stage waits for
 abbrev pub act_of : Stage → Phase → Act
@@ -87,12 +98,55 @@ AreBacked [] s old new = Unit {0}
 AreBacked (Comes event now call values ∷ hs) s old new = IsBacked (act_of s s.phase) event old new × AreBacked hs (next_of s event).0 old new
 AreBacked (Elsewhere marks ∷ hs) s old new = ⊥
 
--- Whatever its history is, the region goes by this course of events from the one state to the other. The first has this
--- call under way, or none; the second that one, and its entries are as `more` says.
-pub record GoesBy (course : List Happening) (old : RegionSeen) (last : ℕ) (call : Pending) (new : RegionSeen) (call' : Pending) (more : List Entry → List Entry) : Type 0 where
-  pub fits : (fixed : Fixed) (entries : List Entry) → EachFits course (state_of old fixed entries call last)
+-- Whatever its history is that this allows, the region goes by this course of events from the one state to the other. The
+-- first has this call under way, or none; the second that one, and its entries are as `more` says.
+pub record GoesBy (allows : Fixed → List Entry → Type 0) (course : List Happening) (old : RegionSeen) (last : ℕ) (call : Pending) (new : RegionSeen) (call' : Pending) (more : List Entry → List Entry) : Type 0 where
+  pub fits : (fixed : Fixed) (entries : List Entry) → allows fixed entries → EachFits course (state_of old fixed entries call last)
   pub ends : (fixed : Fixed) (entries : List Entry) → region_after course (state_of old fixed entries call last) ≡ state_of new fixed (more entries) call' new.number
   pub backed : AreBacked course old.stage old new
+
+-- ---- how a job starts: it begins in an idle region, or goes on where it stands
+
+-- the number that was drawn last before a job of this kind drew its own
+abbrev pub last_before : Job → ℕ → ℕ
+last_before ReadJob n = n - 1
+last_before WriteJob n = n - 1
+last_before (CopyJob k) n = n
+last_before Settle n = n
+last_before Clear n = n
+
+abbrev pub start_last : Phase → Job → ℕ → ℕ
+start_last (Busy w) job n = n
+start_last phase job n = last_before job n
+
+-- the call that is under way at the start
+abbrev pub start_call : Phase → Pending → Pending
+start_call (Busy w) call = call
+start_call phase call = NoCall
+
+-- a call begins only where it comes in order
+abbrev pub Allows : Phase → ℕ → Pending → Fixed → List Entry → Type 0
+Allows (Busy w) last call fixed entries = Unit {0}
+Allows phase last call fixed entries = MayBegin fixed.region last entries call
+
+-- the step waits for a mark or an unmark
+abbrev pub IsMarking : Step → Type 0
+IsMarking AtMark = Unit {0}
+IsMarking AtMarkFailed = Unit {0}
+IsMarking AtUnmark = Unit {0}
+IsMarking step = ⊥
+
+-- a job may begin, or is the one that stands before a mark
+abbrev pub MayRun : Job → Phase → Type 0
+MayRun job Settled = Unit {0}
+MayRun job Unsettled = Unit {0}
+MayRun job Dead = ⊥
+MayRun job (Busy w) = (w.job ≡ job) × IsMarking w.step
+
+-- the job begins in this phase
+abbrev pub Begins : Phase → Type 0
+Begins (Busy w) = ⊥
+Begins phase = Unit {0}
 
 -- ---- a job
 
@@ -123,27 +177,10 @@ pub record SameBytes (old new : Bytes) : Type 0 where
 abbrev pub GivesCurrent : RegionSeen → ℕ → List ℕ → Type 0
 GivesCurrent r at into = (k : ℕ) × (has (current r.stage) k ≡ true) × ((i : ℕ) → i < blocks_in into → block_at into i ≡ contents_of r.plexes k (at + i))
 
--- the count at the first place that failed has risen
-abbrev pub FirstRose : Option Place → RegionSeen → RegionSeen → Type 0
-FirstRose None old new = Unit {0}
-FirstRose (Some place) old new = PlaceRose place old.plexes old.log new.plexes new.log
-
 -- after a failure there is a first place
-abbrev pub IsNamed_at : Act → Option Place → Type 0
-IsNamed_at Fault None = ⊥
-IsNamed_at act first = Unit {0}
-
--- nothing is under way
-abbrev pub IsIdle : Phase → Type 0
-IsIdle (Busy w) = ⊥
-IsIdle phase = Unit {0}
-
--- a job may begin
-abbrev pub IsReady : Phase → Type 0
-IsReady Settled = Unit {0}
-IsReady Unsettled = Unit {0}
-IsReady Dead = ⊥
-IsReady (Busy w) = ⊥
+abbrev pub HasBlame : Act → Option Place → Type 0
+HasBlame Fault None = ⊥
+HasBlame act first = Unit {0}
 
 -- The job has come from the one region to the other, where it waits for this act, or has ended with it.
 pub record IsRunning (job : Job) (io : Bytes) (old now : RegionSeen) (first : Option Place) (act : Act) (io' : Bytes) : Type 0 where
@@ -152,12 +189,15 @@ pub record IsRunning (job : Job) (io : Bytes) (old now : RegionSeen) (first : Op
   pub number : now.number ≡ old.number
   pub masks : SameMasks old.stage now.stage
   pub named : IsNamed now.stage now.stage.phase act
+  pub asks : PossibleIn now.stage (holds now.plexes) now.stage.phase act
   pub runs : RunsIn job old now.size now.plexes io'.scratch act now.stage.phase
   pub bytes : SameBytes io io'
   pub tells : IsTold old → IsTold now
   pub goes : IsTold old → (who : Caller) → (course : List Happening) ×
-      GoesBy course old old.number (call_of job io old who) now (pending_after act (call_of job io old who)) (entries_after act (call_of job io old who) (values_at (old.start + io'.at) io'.into))
+      GoesBy (Allows old.stage.phase (start_last old.stage.phase job old.number) (call_of job io old who)) course old (start_last old.stage.phase job old.number) (start_call old.stage.phase (call_of job io old who))
+      now (pending_after act (call_of job io old who)) (entries_after act (call_of job io old who) (values_at (old.start + io'.at) io'.into))
+  pub causes : IsPlain job → Begins old.stage.phase → (f : Faults) × AreShown f old now × Blames (now.stage, act) (current old.stage) f
   pub cut : act ≡ Lost → IsCut now
-  pub rose : FirstRose first old now
-  pub blames : IsNamed_at act first
+  pub rose : HasRisen first old.plexes old.log now.plexes now.log
+  pub blames : HasBlame act first
   pub gives : act ≡ Done → job ≡ ReadJob → IsTold old → GivesCurrent now io'.at io'.into

@@ -109,7 +109,7 @@ possible_at s held ReadJob AtRead source left good failed formed = (refl, formed
 possible_at s held (CopyJob k) AtRead source left good failed formed = (is_held s held source formed.stage formed.step.3.0.source_current, refl)
 possible_at s held job AtRead source left good failed formed = absurd formed.step.3
 
-possible_in : (s : Stage) (held : ℕ → Bool) (phase : Phase) (act : Act) → IsFormed s phase held → IsNamed s phase act → PossibleIn s held phase act
+pub possible_in : (s : Stage) (held : ℕ → Bool) (phase : Phase) (act : Act) → IsFormed s phase held → IsNamed s phase act → PossibleIn s held phase act
 possible_in s held (Busy w) act formed named =
     subst (λ (x : Act). IsPossible s held w.job w.source x) (sym named) (possible_at s held w.job w.step w.source w.left w.good w.failed formed)
 possible_in s held phase act formed named = tt

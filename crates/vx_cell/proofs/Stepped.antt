@@ -25,7 +25,8 @@ use Rattle.vx_core.specs.declared.stage.Phase.TheVariants.{Settled, Unsettled, D
 use Rattle.vx_core.specs.Table.{current, act_at, read_act, busy, answered, begun, next_of, IsNamed, NamesAct}
 use Rattle.vx_core.specs.History.{Call, Pending, NoCall, MayBegin}
 use Rattle.vx_core.specs.Region.{Around, Disks, Fixed, RegionState, CallOf, FitsIn, Answers, ReadGives, MayAnswer, entries_after, pending_after, pending_at, last_at}
-use Rattle.vx_core.specs.Schedule.{Happening, Comes, Elsewhere, happens}
+use Rattle.vx_core.specs.Schedule.{Happening, Comes, Elsewhere, happens, IsIdle}
+use Rattle.vx_cell.specs.Calls.{Stands, HasRun}
 use Rattle.vx_core.specs.Recovery.{region_after}
 use Rattle.vx_core.specs.Progress.{rank, steps_left, FallsBelow, ProgressFrom, KeepsForm}
 use Rattle.vx_core.specs.Form.{IsFormed, MayCome}
@@ -604,3 +605,98 @@ module _ (job : Job) (io0 : Bytes) (old : RegionSeen) (s : Stage) (region start 
             maps = λ k there. subst (λ (n : ℕ). k < n) (sym kept.maps) (h.maps k there);
             dirty = subst (λ (n : ℕ). 30 < n) (sym kept.maps) h.dirty;
           }
+
+  -- the same, with the call as it lay in the region at the start
+  pub running_next : s.phase ≡ Busy w → IsRunning job io0 old now first act io → IsCallable old.size job io0 → length io0.scratch ≡ 512 * old.size →
+      Carries region act (Some answer.event) io ps log io' qs log' → IsPlaced (Some answer) ps log qs log' → SameBytes io io' →
+      NamesAct x → KeepsForm s answer.event x → AsksPossible s answer.event x → CausesFrom s s.phase answer.event x → FollowsFrom s s.phase answer.event x → FailsFrom s answer.event x → ReadsFrom s s.phase answer.event x → x ≡ next_of s answer.event →
+      (place : Option Place) → place ≡ earlier first answer.place → IsRunning job io0 old next_region place x.1 io'
+  running_next is run callable scratch carries placed same names form possible causes follows fails reads table place e =
+      subst (λ (p : Option Place). IsRunning job io0 old next_region p x.1 io') (sym e)
+      (running_goes_on is run (subst (λ (n : ℕ). IsCallable n job io0) (sym run.kept.size) callable) (subst (λ (n : ℕ). length io0.scratch ≡ 512 * n) (sym run.kept.size) scratch)
+      carries placed same names form possible causes follows fails reads table)
+
+-- ---- in the loop
+
+pub askable_now : (job : Job) (io0 : Bytes) (old now : RegionSeen) (first : Option Place) (act : Act) (io : Bytes) (w : Work) → now.stage.phase ≡ Busy w → IsRunning job io0 old now first act io → IsCallable old.size job io0 →
+    IsAskable now.region now.size io.at (length io.into) (length io.from) now.plexes now.log act
+askable_now job io0 old now first act io w is run callable =
+    let can : IsPossible now.stage (holds now.plexes) w.job w.source act = possible_work now.stage (holds now.plexes) now.stage.phase w act is run.asks in
+    let runs = runs_work job old now.size now.plexes io.scratch act now.stage.phase w is run.runs in
+    let ok : IsCallable now.size job io0 = subst (λ (n : ℕ). IsCallable n job io0) (sym run.kept.size) callable in
+    askable now job w.source io act run.whole (subst (λ (j : Job). IsPossible now.stage (holds now.plexes) j w.source act) runs.0 can) (moved_callable now.size job io0 io run.bytes ok)
+
+pub maps_fit : (r : RegionSeen) → IsWhole r → (k : ℕ) → holds r.plexes k ≡ true → k < 256
+maps_fit r whole k there =
+    elim (whole.formed.stage.plexes k there) [
+      | inl on ↦ let lt = has-lt r.stage.on k whole.formed.stage.on_fits on in omega (arith, lt)
+      | inr off ↦ let lt = has-lt r.stage.off k whole.formed.stage.off_fits off in omega (arith, lt)
+    ]
+
+pub scratch_range : (old now : RegionSeen) (scratch scratch' : List ℕ) → now.size ≡ old.size → 0 < now.size → length scratch ≡ 512 * old.size → length scratch' ≡ length scratch → IsRange now.size 0 (length scratch')
+scratch_range old now scratch scratch' size some e same = record { some = omega (arith, e, same, size, some); whole = omega (arith, e, same); inside = omega (arith, e, same, size) }
+
+-- an act that has no answer is a mark or an unmark, and nothing has changed
+pub record IsOut (act : Act) (io io' : Bytes) (ps qs : List PlexSeen) (log log' : LogSeen) : Type 0 where
+  pub plexes : qs ≡ ps
+  pub log_is : log' ≡ log
+  pub bytes : io' ≡ io
+  pub lent : log.lent ≡ true
+
+is_marking : (s : Stage) (w : Work) (step : Step) (b : ℕ) → (Mark b ≡ act_at s w step) ⊎ (Unmark b ≡ act_at s w step) → IsMarking step
+is_marking s w AtMark b e = tt
+is_marking s w AtMarkFailed b e = tt
+is_marking s w AtUnmark b e = tt
+is_marking s w AtWrite b e = elim e [ inl m ↦ cc | inr u ↦ cc ]
+is_marking s w AtFind b e = elim e [ inl m ↦ cc | inr u ↦ cc ]
+is_marking s w AtEqual b e = elim e [ inl m ↦ cc | inr u ↦ cc ]
+is_marking s w AtCopy b e = elim e [ inl m ↦ cc | inr u ↦ cc ]
+is_marking s w AtRead b e = read_marks w w.job b e
+  where
+    read_marks : (w : Work) (job : Job) (b : ℕ) → (Mark b ≡ read_act w job) ⊎ (Unmark b ≡ read_act w job) → IsMarking AtRead
+    read_marks w ReadJob b e = elim e [ inl m ↦ cc | inr u ↦ cc ]
+    read_marks w WriteJob b e = elim e [ inl m ↦ cc | inr u ↦ cc ]
+    read_marks w (CopyJob k) b e = elim e [ inl m ↦ cc | inr u ↦ cc ]
+    read_marks w Settle b e = elim e [ inl m ↦ cc | inr u ↦ cc ]
+    read_marks w Clear b e = elim e [ inl m ↦ cc | inr u ↦ cc ]
+
+out_of : (s : Stage) (w : Work) (region : ℕ) (act : Act) (io io' : Bytes) (ps qs : List PlexSeen) (log log' : LogSeen) → act ≡ act_at s w w.step → Carries region act None io ps log io' qs log' → IsOut act io io' ps qs log log' × IsMarking w.step
+out_of s w region (Mark b) io io' ps qs log log' is h = (record { plexes = h.1; log_is = h.0.cause.0; bytes = h.2; lent = h.0.cause.1 }, is_marking s w w.step b (inl is))
+out_of s w region (Unmark b) io io' ps qs log log' is h = (record { plexes = h.1; log_is = h.0.cause.0; bytes = h.2; lent = h.0.cause.1 }, is_marking s w w.step b (inr is))
+out_of s w region (WriteCall k) io io' ps qs log log' is h = let e = h.0.answers in cc
+out_of s w region (WriteRegion k) io io' ps qs log log' is h = let e = h.0.answers in cc
+out_of s w region (ReadCall b) io io' ps qs log log' is h = let e = h.2.answers in cc
+out_of s w region (ReadRegion k) io io' ps qs log log' is h = let e = h.0.answers in cc
+out_of s w region Done io io' ps qs log log' is h = absurd h
+out_of s w region Skipped io io' ps qs log log' is h = absurd h
+out_of s w region Fault io io' ps qs log log' is h = absurd h
+out_of s w region Lost io io' ps qs log log' is h = absurd h
+
+stands_in : (phase : Phase) (w : Work) → phase ≡ Busy w → IsMarking w.step → Stands phase
+stands_in (Busy v) w is marks = let same : w ≡ v = cc in subst (λ (u : Work). IsMarking u.step) same marks
+stands_in Settled w is marks = cc
+stands_in Unsettled w is marks = cc
+stands_in Dead w is marks = cc
+
+-- the page of a mark was out: the job stands where it stood
+pub running_held : (job : Job) (io0 : Bytes) (old : RegionSeen) (s : Stage) (region start size number epoch : ℕ) (ps : List PlexSeen) (log : LogSeen) (first : Option Place) (act : Act) (io : Bytes) (w : Work) (qs : List PlexSeen) (log' : LogSeen) (io' : Bytes) →
+    s.phase ≡ Busy w → IsRunning job io0 old (record { stage = s; region = region; start = start; size = size; number = number; epoch = epoch; plexes = ps; log = log }) first act io →
+    Carries region act None io ps log io' qs log' →
+    HasRun job io0 old (record { stage = s; region = region; start = start; size = size; number = number; epoch = epoch; plexes = qs; log = log' }) None first io'
+running_held job io0 old s region start size number epoch ps log first act io w qs log' io' is run carries =
+    let out = out_of s w region act io io' ps qs log log' (act_work s s.phase w act is run.named) carries in
+    let h = out.0 in
+    (
+      act,
+      subst (λ (b : Bytes). IsRunning job io0 old (record { stage = s; region = region; start = start; size = size; number = number; epoch = epoch; plexes = qs; log = log' }) first act b) (sym h.bytes)
+      (subst (λ (l : LogSeen). IsRunning job io0 old (record { stage = s; region = region; start = start; size = size; number = number; epoch = epoch; plexes = qs; log = l }) first act io) (sym h.log_is)
+      (subst (λ (xs : List PlexSeen). IsRunning job io0 old (record { stage = s; region = region; start = start; size = size; number = number; epoch = epoch; plexes = xs; log = log }) first act io) (sym h.plexes) run)),
+      stands_in s.phase w is out.1,
+      sym run.kept.log.lent ∙ h.lent,
+    )
+
+pub phase_idle : (phase : Phase) → ((w : Work) → phase ≡ Busy w → ⊥) → IsIdle phase
+phase_idle Settled never = tt
+phase_idle Unsettled never = tt
+phase_idle Dead never = tt
+phase_idle (Busy w) never = absurd (never w refl)

@@ -1,4 +1,5 @@
 pub mod Acts
+pub mod Calls
 pub mod Plexes
 pub mod Region
 pub mod Running

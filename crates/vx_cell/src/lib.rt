@@ -3,8 +3,11 @@
 #![tactic(auto)]
 
 mod acts;
+mod cell;
 mod fault;
 mod plex;
+mod run;
 
+pub use cell::Cell;
 pub use fault::{CellFault, Place};
 pub use plex::Plex;

@@ -1,6 +1,7 @@
 pub mod Blocks
 pub mod Carried
 pub mod Changes
+pub mod Ended
 pub mod Kept
 pub mod Measure
 pub mod Placed

@@ -389,7 +389,7 @@ last_still Got job io r who = refl
 last_still (ReadFailed k) job io r who = refl
 last_still Cut job io r who = refl
 
-quiet_work : (s : Stage) (phase : Phase) (w : Work) (act : Act) (call : Pending) (values : Contents) (entries : List Entry) → phase ≡ Busy w → IsNamed s phase act →
+pub quiet_work : (s : Stage) (phase : Phase) (w : Work) (act : Act) (call : Pending) (values : Contents) (entries : List Entry) → phase ≡ Busy w → IsNamed s phase act →
     (entries_after act call values entries ≡ entries) × (pending_after act call ≡ call)
 quiet_work s (Busy v) w act call values entries is named =
     subst (λ (x : Act). (entries_after x call values entries ≡ entries) × (pending_after x call ≡ call)) (sym named) (quiet s v v.step call values entries)

@@ -3,6 +3,7 @@
 #![tactic(auto)]
 
 mod acts;
+mod calls;
 mod cell;
 mod fault;
 mod plex;

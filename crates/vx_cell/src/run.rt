@@ -16,6 +16,7 @@ use vx_picker::{Picker, Policy};
 use vx_piece::Piece;
 
 /// How a job has run: the act that ended it, or none where the page of a mark was out; and the first place that failed.
+#[derive(Clone, Copy)]
 pub(crate) struct Ran {
     pub act: Option<Act>,
     pub first: Option<Place>,

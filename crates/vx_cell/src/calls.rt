@@ -1,0 +1,178 @@
+//! The calls on a cell that run a job.
+
+ghost use Rattle.std.specs.Prelude.{◌≡◌, ◌≢◌, ◌+◌, ◌-◌, ◌*◌, ◌/◌, ◌%◌, ◌^◌, ◌<◌, ◌≤◌, true, [], length, IfOk, ℕ};
+ghost use Rattle.vx_core.specs.declared.stage.Job.TheVariants.{Read, Write, Copy, Settle, Clear};
+ghost use Rattle.vx_core.specs.declared.stage.Phase.TheVariants.{Dead};
+ghost use Rattle.vx_core.specs.Schedule.{IsIdle};
+ghost use Rattle.vx_mask.specs.Mask.{has};
+ghost use Rattle.vx_picker.specs.Picks.{PicksMember};
+ghost use Rattle.vx_cell.specs.Acts.{Bytes};
+ghost use Rattle.vx_cell.specs.Region.{IsTold, IsWhole};
+ghost use Rattle.vx_cell.specs.Running.{GivesCurrent};
+ghost use Rattle.vx_cell.specs.Calls.{CallEnds, IsInSpan, answer_of, region_of};
+
+use crate::cell::Cell;
+use crate::fault::CellFault;
+use crate::run::Ran;
+use vx_core::{Act, Job, Phase};
+use vx_marks::Marker;
+use vx_picker::{Picker, Policy};
+use vx_piece::Piece;
+
+impl<P: Piece> Cell<P> {
+    /// Reads blocks, and answers the call's number. `at` counts from the volume's first block. `scratch` has the bytes of the
+    /// region.
+    pub fn read<M: Marker, F: Fn(u64, u64) -> u32>(
+        &mut self,
+        at: u64,
+        into: &mut [u8],
+        scratch: &mut [u8],
+        log: &mut M,
+        pick: &Picker<F>,
+        policy: Policy,
+    ) -> Result<u64, CellFault>
+        requires picks { PicksMember (F.pre pick.now.select) (F.post pick.now.select) }
+        requires idle { IsIdle self.old.stage.phase }
+        requires whole { IsWhole (region_of P.seen self.old (M.log log.old)) }
+        requires scratch { length scratch.old ≡ 512 * self.old.span.count }
+        requires range { IsInSpan self.old.span.start self.old.span.count at (length into.old) }
+        requires room { self.old.number + 1 < 2 ^ 64 }
+        ensures ended { CallEnds Read
+            (record { at = at - self.old.span.start; into = into.old; from = []; scratch = scratch.old }) (region_of P.seen self.old (M.log log.old))
+            (region_of P.seen self.new (M.log log.new)) (record { at = at - self.old.span.start; into = into.new; from = []; scratch = scratch.new }) result }
+        ensures number { IfOk result (λ n. n ≡ self.new.number) }
+        // Whatever the stored choice is, the bytes are those of a plex that is on and unmarked.
+        ensures gives { IfOk result (λ n. IsTold (region_of P.seen self.old (M.log log.old)) → GivesCurrent (region_of P.seen self.new (M.log log.new)) (at - self.old.span.start) into.new) }
+        ensures length { length into.new ≡ length into.old }
+        ensures scratch { length scratch.new ≡ length scratch.old }
+        ensures follows { M.follows log.old log.new }
+    {
+        if self.is_dead() {
+            return Err(CellFault::PowerLost);
+        }
+        self.number += 1;
+        let ran = self.run(Job::Read, at - self.span.start, into, &[], scratch, log, pick, policy);
+        answer(ran, self.number, self.number)
+    }
+
+    /// Writes blocks, and answers the call's number. `at` counts from the volume's first block. A logged region stays marked
+    /// dirty.
+    pub fn write_dirty<M: Marker>(
+        &mut self,
+        at: u64,
+        from: &[u8],
+        scratch: &mut [u8],
+        log: &mut M,
+    ) -> Result<u64, CellFault>
+        requires idle { IsIdle self.old.stage.phase }
+        requires whole { IsWhole (region_of P.seen self.old (M.log log.old)) }
+        requires scratch { length scratch.old ≡ 512 * self.old.span.count }
+        requires range { IsInSpan self.old.span.start self.old.span.count at (length from.now) }
+        requires room { self.old.number + 1 < 2 ^ 64 }
+        ensures ended { CallEnds Write
+            (record { at = at - self.old.span.start; into = []; from = from.now; scratch = scratch.old }) (region_of P.seen self.old (M.log log.old))
+            (region_of P.seen self.new (M.log log.new)) (record { at = at - self.old.span.start; into = []; from = from.now; scratch = scratch.new }) result }
+        ensures number { IfOk result (λ n. n ≡ self.new.number) }
+        ensures scratch { length scratch.new ≡ length scratch.old }
+        ensures follows { M.follows log.old log.new }
+    {
+        if self.is_dead() {
+            return Err(CellFault::PowerLost);
+        }
+        self.number += 1;
+        let pick = Picker::new(lowest_member);
+        let ran = self.run(Job::Write, at - self.span.start, &mut [], from, scratch, log, &pick, Policy::Round);
+        answer(ran, self.number, self.number)
+    }
+
+    /// Makes the current plexes of the region equal.
+    pub fn settle<M: Marker>(&mut self, scratch: &mut [u8], log: &mut M) -> Result<(), CellFault>
+        requires idle { IsIdle self.old.stage.phase }
+        requires whole { IsWhole (region_of P.seen self.old (M.log log.old)) }
+        requires scratch { length scratch.old ≡ 512 * self.old.span.count }
+        ensures ended { CallEnds Settle
+            (record { at = 0; into = []; from = []; scratch = scratch.old }) (region_of P.seen self.old (M.log log.old))
+            (region_of P.seen self.new (M.log log.new)) (record { at = 0; into = []; from = []; scratch = scratch.new }) result }
+        ensures scratch { length scratch.new ≡ length scratch.old }
+        ensures follows { M.follows log.old log.new }
+    {
+        if self.is_dead() {
+            return Err(CellFault::PowerLost);
+        }
+        let pick = Picker::new(lowest_member);
+        let ran = self.run(Job::Settle, 0, &mut [], &[], scratch, log, &pick, Policy::Round);
+        answer(ran, (), ())
+    }
+
+    /// Copies the region to a marked plex, and answers whether there was something to copy. An unsettled region is settled
+    /// first.
+    pub fn copy_to<M: Marker>(&mut self, map: u8, scratch: &mut [u8], log: &mut M) -> Result<bool, CellFault>
+        requires idle { IsIdle self.old.stage.phase }
+        requires whole { IsWhole (region_of P.seen self.old (M.log log.old)) }
+        requires scratch { length scratch.old ≡ 512 * self.old.span.count }
+        ensures ended { CallEnds (Copy map)
+            (record { at = 0; into = []; from = []; scratch = scratch.old }) (region_of P.seen self.old (M.log log.old))
+            (region_of P.seen self.new (M.log log.new)) (record { at = 0; into = []; from = []; scratch = scratch.new }) result }
+        ensures scratch { length scratch.new ≡ length scratch.old }
+        ensures follows { M.follows log.old log.new }
+    {
+        if self.is_dead() {
+            return Err(CellFault::PowerLost);
+        }
+        let pick = Picker::new(lowest_member);
+        let ran = self.run(Job::Copy(map as u32), 0, &mut [], &[], scratch, log, &pick, Policy::Round);
+        answer(ran, true, false)
+    }
+
+    /// Takes the dirty mark away where there is one. An unsettled region is settled first.
+    pub fn clear_dirty<M: Marker>(&mut self, scratch: &mut [u8], log: &mut M) -> Result<(), CellFault>
+        requires idle { IsIdle self.old.stage.phase }
+        requires whole { IsWhole (region_of P.seen self.old (M.log log.old)) }
+        requires scratch { length scratch.old ≡ 512 * self.old.span.count }
+        ensures ended { CallEnds Clear
+            (record { at = 0; into = []; from = []; scratch = scratch.old }) (region_of P.seen self.old (M.log log.old))
+            (region_of P.seen self.new (M.log log.new)) (record { at = 0; into = []; from = []; scratch = scratch.new }) result }
+        ensures scratch { length scratch.new ≡ length scratch.old }
+        ensures follows { M.follows log.old log.new }
+    {
+        if self.is_dead() {
+            return Err(CellFault::PowerLost);
+        }
+        let pick = Picker::new(lowest_member);
+        let ran = self.run(Job::Clear, 0, &mut [], &[], scratch, log, &pick, Policy::Round);
+        answer(ran, (), ())
+    }
+
+    fn is_dead(&self) -> bool
+        ensures dead { result ≡ true → self.now.stage.phase ≡ Dead }
+        ensures alive { self.now.stage.phase ≡ Dead → result ≡ true }
+    {
+        match self.stage.phase {
+            Phase::Dead => true,
+            Phase::Settled | Phase::Unsettled | Phase::Busy(_) => false,
+        }
+    }
+}
+
+/// The answer to a call whose job has run.
+fn answer<T: Copy>(ran: Ran, done: T, skipped: T) -> Result<T, CellFault>
+    ensures { result ≡ answer_of done skipped ran.act ran.first }
+{
+    match ran.act {
+        None => Err(CellFault::Held),
+        Some(Act::Done) => Ok(done),
+        Some(Act::Skipped) => Ok(skipped),
+        Some(Act::Lost) => Err(CellFault::PowerLost),
+        Some(_) => match ran.first {
+            None => Err(CellFault::PowerLost),
+            Some(place) => Err(CellFault::Fault(place)),
+        },
+    }
+}
+
+/// Answers a member of a mask that is not empty.
+fn lowest_member(mask: u64, _turn: u64) -> u32
+    ensures { mask ≢ 0 → has mask result ≡ true }
+{
+    vx_mask::first(mask)
+}

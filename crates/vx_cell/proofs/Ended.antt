@@ -23,8 +23,8 @@ use Rattle.vx_cell.specs.declared.fault.CellFault.TheVariants.{Fault as FaultAns
 use Rattle.vx_cell.specs.Plexes.{PlexSeen}
 use Rattle.vx_cell.specs.Acts.{Bytes, PlaceRose}
 use Rattle.vx_cell.specs.Region.{RegionSeen, IsTold, AllFailed, state_of}
-use Rattle.vx_cell.specs.Running.{Caller, values_at, call_of, GoesBy, start_last, start_call, Allows, Begins, RunsIn, SameBytes, IsRunning, GivesCurrent}
-use Rattle.vx_cell.specs.Calls.{Stands, HasRun, answer_of, entries_by, call_left, HasEnded, numbered, CallEnds}
+use Rattle.vx_cell.specs.Running.{Caller, values_at, call_of, GoesBy, start_last, start_call, Allows, Begins, RunsIn, SameBytes, MayRun, IsCallable, IsRunning, GivesCurrent}
+use Rattle.vx_cell.specs.Calls.{Stands, HasRun, answer_of, entries_by, call_left, HasEnded, numbered, CallEnds, IsResumable, IsAnswerTo, ResumeEnds, done_of, skipped_of}
 use Rattle.vx_cell.proofs.Stepped.{quiet_work}
 
 busy_phase : (phase : Phase) → Stands phase → (w : Work) × (phase ≡ Busy w)
@@ -281,3 +281,61 @@ quiet_ended done skipped job at from scratch old new into' scratch' answer first
     let empty = no_bytes into' (run_bytes job (record { at = at; into = []; from = from; scratch = scratch }) (numbered job old) new answer first (record { at = at; into = into'; from = from; scratch = scratch' }) h).same_into in
     call_ended done skipped job (record { at = at; into = []; from = from; scratch = scratch }) old new (record { at = at; into = []; from = from; scratch = scratch' }) answer first result alive
     (subst (λ (xs : List ℕ). HasRun job (record { at = at; into = []; from = from; scratch = scratch }) (numbered job old) new answer first (record { at = at; into = xs; from = from; scratch = scratch' })) empty h) e
+
+done_or_skipped : (job : Job) (number : ℕ) (answer : Option Act) (first : Option Place) → IfOk (answer_of (done_of job number) (skipped_of job number) answer first) (λ n. IsAnswerTo job number n)
+done_or_skipped job number None first = tt
+done_or_skipped job number (Some Done) first = is_done job number
+  where
+    is_done : (job : Job) (number : ℕ) → IsAnswerTo job number (done_of job number)
+    is_done ReadJob number = refl
+    is_done WriteJob number = refl
+    is_done (CopyJob k) number = inl refl
+    is_done Settle number = refl
+    is_done Clear number = refl
+done_or_skipped job number (Some Skipped) first = is_skipped job number
+  where
+    is_skipped : (job : Job) (number : ℕ) → IsAnswerTo job number (skipped_of job number)
+    is_skipped ReadJob number = refl
+    is_skipped WriteJob number = refl
+    is_skipped (CopyJob k) number = inr refl
+    is_skipped Settle number = refl
+    is_skipped Clear number = refl
+done_or_skipped job number (Some Lost) first = tt
+done_or_skipped job number (Some (Mark b)) None = tt
+done_or_skipped job number (Some (Mark b)) (Some place) = tt
+done_or_skipped job number (Some (Unmark b)) None = tt
+done_or_skipped job number (Some (Unmark b)) (Some place) = tt
+done_or_skipped job number (Some (WriteCall b)) None = tt
+done_or_skipped job number (Some (WriteCall b)) (Some place) = tt
+done_or_skipped job number (Some (WriteRegion b)) None = tt
+done_or_skipped job number (Some (WriteRegion b)) (Some place) = tt
+done_or_skipped job number (Some (ReadCall b)) None = tt
+done_or_skipped job number (Some (ReadCall b)) (Some place) = tt
+done_or_skipped job number (Some (ReadRegion b)) None = tt
+done_or_skipped job number (Some (ReadRegion b)) (Some place) = tt
+done_or_skipped job number (Some Fault) None = tt
+done_or_skipped job number (Some Fault) (Some place) = tt
+
+-- a call that went on
+pub resumed : (phase : Phase) (w : Work) (io : Bytes) (old new : RegionSeen) (io' : Bytes) (answer : Option Act) (first : Option Place) (done skipped : ℕ) (result : Result ℕ CellFault) →
+    phase ≡ Busy w → HasRun w.job io old new answer first io' → done ≡ done_of w.job new.number → skipped ≡ skipped_of w.job new.number → result ≡ answer_of done skipped answer first →
+    ResumeEnds phase io old new io' result
+resumed (Busy v) w io old new io' answer first done skipped result is h d s e =
+    let same : w ≡ v = cc in
+    let there : result ≡ answer_of (done_of w.job new.number) (skipped_of w.job new.number) answer first =
+    e ∙ ap (λ (n : ℕ). answer_of n skipped answer first) d ∙ ap (λ (n : ℕ). answer_of (done_of w.job new.number) n answer first) s in
+    subst (λ (u : Work). ResumeEnds (Busy u) io old new io' result) same
+    (
+      subst (λ (r : Result ℕ CellFault). HasEnded w.job io old new io' r) (sym there) (ended (done_of w.job new.number) (skipped_of w.job new.number) w.job io old new io' answer first h),
+      subst (λ (r : Result ℕ CellFault). IfOk r (λ n. IsAnswerTo w.job new.number n)) (sym there) (done_or_skipped w.job new.number answer first),
+    )
+resumed Settled w io old new io' answer first done skipped result is h d s e = tt
+resumed Unsettled w io old new io' answer first done skipped result is h d s e = tt
+resumed Dead w io old new io' answer first done skipped result is h d s e = tt
+
+-- what a call that goes on needs
+pub may_resume : (phase : Phase) (w : Work) (size : ℕ) (io : Bytes) → phase ≡ Busy w → Stands phase → IsResumable size phase io → MayRun w.job phase × IsCallable size w.job io
+may_resume (Busy v) w size io is stands ok = let same : v ≡ w = cc in subst (λ (u : Work). MayRun u.job (Busy v) × IsCallable size u.job io) same ((refl, stands), ok)
+may_resume Settled w size io is stands ok = absurd stands
+may_resume Unsettled w size io is stands ok = absurd stands
+may_resume Dead w size io is stands ok = absurd stands

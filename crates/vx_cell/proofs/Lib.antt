@@ -4,6 +4,7 @@ pub mod Changes
 pub mod Ended
 pub mod Kept
 pub mod Measure
+pub mod Members
 pub mod Placed
 pub mod Scratch
 pub mod Stepped

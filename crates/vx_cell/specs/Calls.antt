@@ -1,5 +1,5 @@
 -- What the calls on a cell say.
-use Rattle.std.specs.Prelude.{◌≡◌, ◌⊎◌, ℕ, ◌+◌, ◌-◌, ◌≤◌, true, List, Option, Some, None, Result, Ok, Err}
+use Rattle.std.specs.Prelude.{◌≡◌, ◌⊎◌, ℕ, ◌+◌, ◌-◌, ◌≤◌, true, List, Option, Some, None, Result, Ok, Err, IfOk}
 use Rattle.vx_base.specs.Blocks.{Contents}
 use Rattle.vx_life.specs.Entry.{Entry}
 use Rattle.vx_core.specs.declared.stage.Job.{Job}
@@ -22,7 +22,7 @@ use Rattle.vx_cell.specs.declared.fault.CellFault.TheVariants.{Fault, PowerLost,
 use Rattle.vx_cell.specs.Plexes.{plexes_seen}
 use Rattle.vx_cell.specs.Acts.{Bytes, IsRange, PlaceRose}
 use Rattle.vx_cell.specs.Region.{RegionSeen, IsWhole, IsTold, KeepsRegion, AllFailed, IsCut}
-use Rattle.vx_cell.specs.Running.{Caller, call_of, values_at, GoesBy, start_last, start_call, Allows, IsMarking, Begins, IsRunning}
+use Rattle.vx_cell.specs.Running.{Caller, call_of, values_at, GoesBy, start_last, start_call, Allows, IsMarking, Begins, IsCallable, IsRunning}
 
 -- the region of a cell, with the log that its calls are given
 abbrev pub region_of : {P : Type 0} → (P → Seen) → Cell P → LogSeen → RegionSeen
@@ -137,3 +137,38 @@ pub record CallEnds {T : Type 0} (job : Job) (io : Bytes) (old new : RegionSeen)
 pub record IsInSpan (start size at bytes : ℕ) : Type 0 where
   pub from : start ≤ at
   pub range : IsRange size (at - start) bytes
+
+-- ---- a call that goes on
+
+-- the bytes are those of the call that stands in the stage
+abbrev pub IsResumable : ℕ → Phase → Bytes → Type 0
+IsResumable size (Busy w) io = IsCallable size w.job io
+IsResumable size phase io = ⊥
+
+-- the answer to a job: its number, or 1 and 0 for a copy that copied or had nothing to copy, or 0
+abbrev pub IsAnswerTo : Job → ℕ → ℕ → Type 0
+IsAnswerTo ReadJob number n = n ≡ number
+IsAnswerTo WriteJob number n = n ≡ number
+IsAnswerTo (CopyJob k) number n = (n ≡ 1) ⊎ (n ≡ 0)
+IsAnswerTo Settle number n = n ≡ 0
+IsAnswerTo Clear number n = n ≡ 0
+
+-- the call ends as the job that stands in the stage
+abbrev pub ResumeEnds : Phase → Bytes → RegionSeen → RegionSeen → Bytes → Result ℕ CellFault → Type 0
+ResumeEnds (Busy w) io old new io' result = HasEnded w.job io old new io' result × IfOk result (λ n. IsAnswerTo w.job new.number n)
+ResumeEnds phase io old new io' result = Unit {0}
+
+-- what a job answers where it is done, and where it had nothing to do
+abbrev pub done_of : Job → ℕ → ℕ
+done_of ReadJob number = number
+done_of WriteJob number = number
+done_of (CopyJob k) number = 1
+done_of Settle number = 0
+done_of Clear number = 0
+
+abbrev pub skipped_of : Job → ℕ → ℕ
+skipped_of ReadJob number = number
+skipped_of WriteJob number = number
+skipped_of (CopyJob k) number = 0
+skipped_of Settle number = 0
+skipped_of Clear number = 0

@@ -1,5 +1,6 @@
 pub mod Acts
 pub mod Calls
+pub mod Changes
 pub mod Plexes
 pub mod Region
 pub mod Running

@@ -9,7 +9,7 @@ ghost use Rattle.vx_picker.specs.Picks.{PicksMember};
 ghost use Rattle.vx_cell.specs.Acts.{Bytes};
 ghost use Rattle.vx_cell.specs.Region.{IsTold, IsWhole};
 ghost use Rattle.vx_cell.specs.Running.{GivesCurrent};
-ghost use Rattle.vx_cell.specs.Calls.{CallEnds, IsInSpan, answer_of, region_of};
+ghost use Rattle.vx_cell.specs.Calls.{CallEnds, IsInSpan, IsResumable, ResumeEnds, Stands, answer_of, done_of, region_of, skipped_of};
 
 use crate::cell::Cell;
 use crate::fault::CellFault;
@@ -143,6 +143,41 @@ impl<P: Piece> Cell<P> {
         answer(ran, (), ())
     }
 
+    /// Goes on with the call that was held, whose job stands in the stage, with the same range and bytes; a slice that the
+    /// call does not have is empty. Answers the number, or 1 for a copy that copied and 0 for one that had nothing to copy,
+    /// and 0 for the others.
+    pub fn resume<M: Marker, F: Fn(u64, u64) -> u32>(
+        &mut self,
+        at: u64,
+        into: &mut [u8],
+        from: &[u8],
+        scratch: &mut [u8],
+        log: &mut M,
+        pick: &Picker<F>,
+        policy: Policy,
+    ) -> Result<u64, CellFault>
+        requires picks { PicksMember (F.pre pick.now.select) (F.post pick.now.select) }
+        requires stands { Stands self.old.stage.phase }
+        requires whole { IsWhole (region_of P.seen self.old (M.log log.old)) }
+        requires scratch { length scratch.old ≡ 512 * self.old.span.count }
+        requires resumable { IsResumable self.old.span.count self.old.stage.phase (record { at = at - self.old.span.start; into = into.old; from = from.now; scratch = scratch.old }) }
+        ensures ended { ResumeEnds self.old.stage.phase
+            (record { at = at - self.old.span.start; into = into.old; from = from.now; scratch = scratch.old }) (region_of P.seen self.old (M.log log.old))
+            (region_of P.seen self.new (M.log log.new)) (record { at = at - self.old.span.start; into = into.new; from = from.now; scratch = scratch.new }) result }
+        ensures length { length into.new ≡ length into.old }
+        ensures scratch { length scratch.new ≡ length scratch.old }
+        ensures follows { M.follows log.old log.new }
+    {
+        match self.stage.phase {
+            Phase::Busy(work) => {
+                let from_start = at.saturating_sub(self.span.start);
+                let ran = self.run(work.job, from_start, into, from, scratch, log, pick, policy);
+                answer(ran, done_of(work.job, self.number), skipped_of(work.job, self.number))
+            }
+            Phase::Settled | Phase::Unsettled | Phase::Dead => Err(CellFault::Held),
+        }
+    }
+
     fn is_dead(&self) -> bool
         ensures dead { result ≡ true → self.now.stage.phase ≡ Dead }
         ensures alive { self.now.stage.phase ≡ Dead → result ≡ true }
@@ -167,6 +202,27 @@ fn answer<T: Copy>(ran: Ran, done: T, skipped: T) -> Result<T, CellFault>
             None => Err(CellFault::PowerLost),
             Some(place) => Err(CellFault::Fault(place)),
         },
+    }
+}
+
+/// What a job answers where it is done.
+fn done_of(job: Job, number: u64) -> u64
+    ensures { result ≡ done_of job number }
+{
+    match job {
+        Job::Read | Job::Write => number,
+        Job::Copy(_) => 1,
+        Job::Settle | Job::Clear => 0,
+    }
+}
+
+/// What a job answers where it had nothing to do.
+fn skipped_of(job: Job, number: u64) -> u64
+    ensures { result ≡ skipped_of job number }
+{
+    match job {
+        Job::Read | Job::Write => number,
+        Job::Copy(_) | Job::Settle | Job::Clear => 0,
     }
 }
 

@@ -6,6 +6,7 @@ use vx_piece::Piece;
 use vx_runs::{RunFault, read_run, write_run};
 
 /// A plex of one region: its map, and its pieces in order, which together have the sectors of the region.
+#[derive(Drop)]
 pub struct Plex<P> {
     pub map: u8,
     pub pieces: Vec<P>,

@@ -7,5 +7,7 @@ pub mod Measure
 pub mod Members
 pub mod Placed
 pub mod Scratch
+pub mod Standing
 pub mod Stepped
 pub mod Working
+pub mod Writing

@@ -332,12 +332,12 @@ fits_answer s Dead w act event a after call values is named answers gives = cc
 -- ---- courses grow
 
 -- the stage after a course
-stage_after : List Happening → Stage → Stage
+unfoldable pub stage_after : List Happening → Stage → Stage
 stage_after [] s = s
 stage_after (Comes event now call values ∷ hs) s = stage_after hs (next_of s event).0
 stage_after (Elsewhere marks ∷ hs) s = stage_after hs s
 
-course_stage : (course : List Happening) (r : RegionState) → (region_after course r).stage ≡ stage_after course r.stage
+pub course_stage : (course : List Happening) (r : RegionState) → (region_after course r).stage ≡ stage_after course r.stage
 unfolding stage_after
 course_stage [] r = refl
 course_stage (Comes event now call values ∷ hs) r = course_stage hs (happens r (Comes event now call values))
@@ -351,7 +351,7 @@ backed_now act event old now new plexes log h =
       cut = λ e. elim (h.cut e) [ inl piece ↦ inl (keep_cut now.plexes new.plexes plexes piece) | inr cut ↦ inr (log.cut cut) ];
     }
 
-backed_more : (course : List Happening) (s : Stage) (old now new : RegionSeen) → KeepPlexes now.plexes new.plexes → KeepsLog now.log new.log → AreBacked course s old now → AreBacked course s old new
+pub backed_more : (course : List Happening) (s : Stage) (old now new : RegionSeen) → KeepPlexes now.plexes new.plexes → KeepsLog now.log new.log → AreBacked course s old now → AreBacked course s old new
 backed_more [] s old now new plexes log h = tt
 backed_more (Comes event disks call values ∷ hs) s old now new plexes log h = (backed_now (act_of s s.phase) event old now new plexes log h.0, backed_more hs (next_of s event).0 old now new plexes log h.1)
 backed_more (Elsewhere marks ∷ hs) s old now new plexes log h = absurd h
@@ -364,7 +364,7 @@ backed_add (Comes first d c v ∷ hs) s old new event disks call values h last =
 backed_add (Elsewhere marks ∷ hs) s old new event disks call values h last = absurd h
 
 -- some history, to tell the stage at the end of a course
-some_fixed : Fixed
+pub some_fixed : Fixed
 some_fixed = record { held = λ k. false; copies = 0; base = λ k i. []; first = λ k. Any; region = 0; from = 0 }
 
 act_is : (s : Stage) (phase : Phase) (w : Work) (act : Act) → phase ≡ Busy w → IsNamed s phase act → act_of s phase ≡ act

@@ -9,7 +9,7 @@ use Rattle.vx_core.specs.declared.stage.Job.TheVariants.{Read as ReadJob, Write 
 use Rattle.vx_core.specs.declared.stage.Act.TheVariants.{Done, Skipped, Fault as FaultAct, Lost}
 use Rattle.vx_core.specs.declared.stage.Phase.TheVariants.{Settled, Unsettled, Dead, Busy}
 use Rattle.vx_core.specs.History.{Pending, NoCall}
-use Rattle.vx_core.specs.Region.{entries_after}
+use Rattle.vx_core.specs.Region.{Fixed, entries_after}
 use Rattle.vx_core.specs.Schedule.{Happening, IsIdle}
 use Rattle.vx_core.specs.Follow.{SameMasks}
 use Rattle.vx_core.specs.Causes.{IsPlain}
@@ -172,3 +172,48 @@ skipped_of WriteJob number = number
 skipped_of (CopyJob k) number = 0
 skipped_of Settle number = 0
 skipped_of Clear number = 0
+
+-- ---- a write, and a clear after it
+
+-- Why a write that clears the region is answered so: as a write; and power may be gone in the clear.
+abbrev pub WriteGoes : Result ℕ CellFault → (allows : Fixed → List Entry → Type 0) → List Happening → RegionSeen → ℕ → Pending → RegionSeen → Pending → Contents → Type 0
+WriteGoes (Err PowerLost) allows course old last before new call values =
+    GoesBy allows course old last before new NoCall (entries_after Lost call values) ⊎ GoesBy allows course old last before new NoCall (entries_after Done call values)
+WriteGoes result allows course old last before new call values = GoesBy allows course old last before new NoCall (entries_by result call values)
+
+-- how it leaves the region: a clear that failed leaves it idle
+abbrev pub WriteLeaves : Result ℕ CellFault → Phase → Type 0
+WriteLeaves (Ok n) phase = (phase ≡ Settled) ⊎ (phase ≡ Unsettled)
+WriteLeaves result phase = LeavesPhase result phase
+
+-- How a write ends that clears the region once it is done. Where the power goes in the clear, the write was done and is told
+-- as torn all the same: what it stands for as done it stands for as torn.
+pub record HasWritten (io : Bytes) (old new : RegionSeen) (io' : Bytes) (result : Result ℕ CellFault) : Type 0 where
+  pub whole : IsWhole new
+  pub kept : KeepsRegion old new
+  pub number : new.number ≡ old.number
+  pub masks : SameMasks old.stage new.stage
+  pub tells : IsTold old → IsTold new
+  pub goes : IsTold old → (who : Caller) → (course : List Happening) ×
+      WriteGoes result (Allows old.stage.phase (start_last old.stage.phase WriteJob old.number) (call_of WriteJob io old who)) course old (start_last old.stage.phase WriteJob old.number)
+      (start_call old.stage.phase (call_of WriteJob io old who)) new (call_of WriteJob io old who) (values_at (old.start + io'.at) io'.into)
+  pub phase : WriteLeaves result new.stage.phase
+  pub cause : CallHasCause WriteJob old new result
+
+-- a write on a cell that is not under way
+pub record WriteEnds (io : Bytes) (old new : RegionSeen) (io' : Bytes) (result : Result ℕ CellFault) : Type 0 where
+  pub dead : old.stage.phase ≡ Dead → IsNotBegun old new result
+  pub ended : (old.stage.phase ≡ Dead → ⊥) → HasWritten io (numbered WriteJob old) new io' result
+
+-- what a write answers after its clear
+abbrev pub answer_after : {T : Type 0} → ℕ → Result T CellFault → Result ℕ CellFault
+answer_after number (Err PowerLost) = Err PowerLost
+answer_after number cleared = Ok number
+
+-- a clear has ended in some way, and this is the answer after it
+pub record HasCleared (number : ℕ) (old new : RegionSeen) (result : Result ℕ CellFault) : Type 0 where
+  pub io : Bytes
+  pub io' : Bytes
+  pub cleared : Result (Unit {0}) CellFault
+  pub ended : HasEnded Clear io old new io' cleared
+  pub answer : result ≡ answer_after number cleared

@@ -1,15 +1,15 @@
 //! The calls on a cell that run a job.
 
-ghost use Rattle.std.specs.Prelude.{◌≡◌, ◌≢◌, ◌+◌, ◌-◌, ◌*◌, ◌/◌, ◌%◌, ◌^◌, ◌<◌, ◌≤◌, true, [], length, IfOk, ℕ};
+ghost use Rattle.std.specs.Prelude.{◌≡◌, ◌≢◌, ◌+◌, ◌-◌, ◌*◌, ◌/◌, ◌%◌, ◌^◌, ◌<◌, ◌≤◌, true, false, [], length, IfOk, ℕ};
 ghost use Rattle.vx_core.specs.declared.stage.Job.TheVariants.{Read, Write, Copy, Settle, Clear};
-ghost use Rattle.vx_core.specs.declared.stage.Phase.TheVariants.{Dead};
+ghost use Rattle.vx_core.specs.declared.stage.Phase.TheVariants.{Dead, Settled};
 ghost use Rattle.vx_core.specs.Schedule.{IsIdle};
 ghost use Rattle.vx_mask.specs.Mask.{has};
 ghost use Rattle.vx_picker.specs.Picks.{PicksMember};
 ghost use Rattle.vx_cell.specs.Acts.{Bytes};
 ghost use Rattle.vx_cell.specs.Region.{IsTold, IsWhole};
 ghost use Rattle.vx_cell.specs.Running.{GivesCurrent};
-ghost use Rattle.vx_cell.specs.Calls.{CallEnds, IsInSpan, IsResumable, ResumeEnds, Stands, answer_of, done_of, region_of, skipped_of};
+ghost use Rattle.vx_cell.specs.Calls.{CallEnds, HasCleared, IsInSpan, IsResumable, ResumeEnds, Stands, WriteEnds, answer_of, done_of, region_of, skipped_of};
 
 use crate::cell::Cell;
 use crate::fault::CellFault;
@@ -83,6 +83,45 @@ impl<P: Piece> Cell<P> {
         let pick = Picker::new(lowest_member);
         let ran = self.run(Job::Write, at - self.span.start, &mut [], from, scratch, log, &pick, Policy::Round);
         answer(ran, self.number, self.number)
+    }
+
+    /// Writes blocks, and then takes the dirty mark away; a failure of that changes no answer. `at` counts from the volume's
+    /// first block. The log is not lent.
+    pub fn write<M: Marker>(&mut self, at: u64, from: &[u8], scratch: &mut [u8], log: &mut M) -> Result<u64, CellFault>
+        requires idle { IsIdle self.old.stage.phase }
+        requires whole { IsWhole (region_of P.seen self.old (M.log log.old)) }
+        requires scratch { length scratch.old ≡ 512 * self.old.span.count }
+        requires range { IsInSpan self.old.span.start self.old.span.count at (length from.now) }
+        requires room { self.old.number + 1 < 2 ^ 64 }
+        requires own { (M.log log.old).lent ≡ false }
+        ensures ended { WriteEnds
+            (record { at = at - self.old.span.start; into = []; from = from.now; scratch = scratch.old }) (region_of P.seen self.old (M.log log.old))
+            (region_of P.seen self.new (M.log log.new)) (record { at = at - self.old.span.start; into = []; from = from.now; scratch = scratch.new }) result }
+        ensures number { IfOk result (λ n. n ≡ self.new.number) }
+        ensures scratch { length scratch.new ≡ length scratch.old }
+        ensures follows { M.follows log.old log.new }
+    {
+        let written = self.write_dirty(at, from, scratch, log);
+        match written {
+            Ok(number) if self.stage.logged => self.clear_after(number, scratch, log),
+            _ => written,
+        }
+    }
+
+    /// Takes the dirty mark away after a write that was done.
+    fn clear_after<M: Marker>(&mut self, number: u64, scratch: &mut [u8], log: &mut M) -> Result<u64, CellFault>
+        requires settled { self.old.stage.phase ≡ Settled }
+        requires whole { IsWhole (region_of P.seen self.old (M.log log.old)) }
+        requires scratch { length scratch.old ≡ 512 * self.old.span.count }
+        ensures cleared { HasCleared number (region_of P.seen self.old (M.log log.old)) (region_of P.seen self.new (M.log log.new)) result }
+        ensures number { IfOk result (λ n. n ≡ number) }
+        ensures scratch { length scratch.new ≡ length scratch.old }
+        ensures follows { M.follows log.old log.new }
+    {
+        match self.clear_dirty(scratch, log) {
+            Err(CellFault::PowerLost) => Err(CellFault::PowerLost),
+            _ => Ok(number),
+        }
     }
 
     /// Makes the current plexes of the region equal.

@@ -6,6 +6,7 @@ mod acts;
 mod calls;
 mod cell;
 mod fault;
+pub mod laws;
 mod plex;
 mod run;
 

@@ -1,3 +1,4 @@
+pub mod Arming
 pub mod Blocks
 pub mod Carried
 pub mod Changes

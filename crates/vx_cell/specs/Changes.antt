@@ -7,6 +7,7 @@ use Rattle.vx_core.specs.declared.stage.Phase.TheVariants.{Dead}
 use Rattle.vx_core.specs.Table.{current}
 use Rattle.vx_core.specs.Plexes.{set_on, set_off, take_out, put_in}
 use Rattle.vx_piece.specs.Seen.{Seen}
+use Rattle.vx_runs.specs.Run.{EachPiece, IsArmed}
 use Rattle.vx_cell.specs.declared.cell.Cell.{Cell}
 use Rattle.vx_cell.specs.declared.fault.CellFault.{CellFault}
 use Rattle.vx_cell.specs.declared.fault.CellFault.TheVariants.{Only}
@@ -66,3 +67,14 @@ pub record Leaves (map : ℕ) (old new : CellSeen) (pieces : List Seen) : Type 0
 -- the list of plexes has room for one more
 abbrev pub HasRoom : {P : Type 0} → Cell P → Type 0
 HasRoom cell = vec_len cell.plexes < vec_capacity cell.plexes
+
+-- each plex keeps its map, and its pieces that are not cut get this stop
+abbrev pub AreArmed : Option ℕ → List PlexSeen → List PlexSeen → Type 0
+AreArmed stop [] [] = Unit {0}
+AreArmed stop (p ∷ ps) (q ∷ qs) = (q.map ≡ p.map) × EachPiece (IsArmed stop) p.pieces q.pieces × AreArmed stop ps qs
+AreArmed stop _ _ = ⊥
+
+-- nothing else of the cell changes
+pub record CellArmed (stop : Option ℕ) (old new : CellSeen) : Type 0 where
+  pub plexes : AreArmed stop old.plexes new.plexes
+  pub same : new ≡ record old { plexes = new.plexes }

@@ -3,11 +3,11 @@ ghost use Rattle.std.specs.Vec.{vec_capacity, vec_len};
 ghost use Rattle.vx_core.specs.declared.stage.Phase.TheVariants.{Dead};
 ghost use Rattle.vx_core.specs.Plexes.{put_in};
 ghost use Rattle.vx_cell.specs.Plexes.{holds, plexes_seen};
-ghost use Rattle.vx_cell.specs.Changes.{HasRoom, IsSet, Leaves, cell_seen, has_other};
+ghost use Rattle.vx_cell.specs.Changes.{CellArmed, HasRoom, IsSet, Leaves, cell_seen, has_other};
 ghost use Rattle.vx_cell.specs.declared.fault.CellFault.TheVariants.{Only};
 
 use crate::fault::CellFault;
-use crate::plex::{Plex, find};
+use crate::plex::{Plex, arm_plexes, find};
 use std::alloc::Global;
 use vx_base::OutOfMemory;
 use vx_block::Span;
@@ -99,6 +99,13 @@ impl<P: Piece> Cell<P> {
         ensures { cell_seen P.seen self.new ≡ record (cell_seen P.seen self.old) { stage = record (cell_seen P.seen self.old).stage { phase = Dead } } }
     {
         self.stage = vx_core::next(&self.stage, Event::Cut).0;
+    }
+
+    /// Sets when a power switch is to act on the pieces of the cell.
+    pub fn arm(&mut self, stop: Option<u64>)
+        ensures { CellArmed stop (cell_seen P.seen self.old) (cell_seen P.seen self.new) }
+    {
+        arm_plexes(&mut self.plexes, stop);
     }
 
     /// Sets a plex on, or off.

@@ -1,9 +1,10 @@
 ghost use Rattle.std.specs.Prelude.{◌≡◌, ◌+◌, ◌*◌, ◌/◌, ◌%◌, ◌^◌, ◌<◌, ◌≤◌, true, false, length, MatchOption};
 ghost use Rattle.vx_cell.specs.Plexes.{AllCover, ChangesPlex, IsFirst, holds, plexes_seen};
+ghost use Rattle.vx_cell.specs.Changes.{AreArmed};
 ghost use Rattle.vx_cell.specs.Acts.{IsPlexRead, IsPlexWritten, IsRange};
 
 use vx_piece::Piece;
-use vx_runs::{RunFault, read_run, write_run};
+use vx_runs::{RunFault, arm_run, read_run, write_run};
 
 /// A plex of one region: its map, and its pieces in order, which together have the sectors of the region.
 #[derive(Drop)]
@@ -61,5 +62,15 @@ pub fn read_plex<P: Piece>(plexes: &mut Vec<Plex<P>>, map: u32, at: u64, into: &
             let plex = &mut plexes[i];
             read_run(&mut plex.pieces, at, into)
         }
+    }
+}
+
+/// Sets when a power switch is to act on the pieces of the plexes.
+pub fn arm_plexes<P: Piece>(plexes: &mut Vec<Plex<P>>, stop: Option<u64>)
+    ensures { AreArmed stop (plexes_seen P.seen plexes.old.items) (plexes_seen P.seen plexes.new.items) }
+{
+    for index in 0..plexes.len() {
+        let plex = &mut plexes[index];
+        arm_run(&mut plex.pieces, stop);
     }
 }

@@ -1,5 +1,5 @@
 -- What contracts see of a run, and what a call may change.
-use Rattle.std.specs.Prelude.{◌≡◌, ◌⊎◌, ℕ, zero, suc, ◌+◌, ◌-◌, ◌/◌, ◌%◌, ◌^◌, ◌<◌, ◌≤◌, min, nat_lt, if◌then◌else◌, IsTrue, List, [], ◌∷◌, Result, Ok, Err}
+use Rattle.std.specs.Prelude.{◌≡◌, ◌⊎◌, ℕ, zero, suc, ◌+◌, ◌-◌, ◌/◌, ◌%◌, ◌^◌, ◌<◌, ◌≤◌, min, nat_lt, if◌then◌else◌, IsTrue, List, [], ◌∷◌, Option, Result, Ok, Err}
 use Rattle.vx_base.specs.Counts.{Rose}
 use Rattle.vx_base.specs.Blocks.{Contents, AreBlocks, IsTorn, written}
 use Rattle.vx_piece.specs.Seen.{Seen, Keeps}
@@ -48,6 +48,10 @@ abbrev pub FailedAt : ℕ → ℕ → List Seen → List Seen → Type 0
 FailedAt zero device (p ∷ ps) (q ∷ qs) = (p.device ≡ device) × Rose p.faults q.faults × EachPiece SameFaults ps qs
 FailedAt (suc i) device (p ∷ ps) (q ∷ qs) = SameFaults p q × FailedAt i device ps qs
 FailedAt i device _ _ = ⊥
+
+-- a piece that is not cut gets this stop, and nothing else changes
+abbrev pub IsArmed : Option ℕ → Seen → Seen → Type 0
+IsArmed stop old new = new ≡ (if old.cut then old else record old { stop = stop })
 
 -- a piece is cut
 abbrev pub SomeCut : List Seen → Type 0

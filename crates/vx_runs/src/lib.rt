@@ -5,4 +5,4 @@
 mod part;
 mod run;
 
-pub use run::{RunFault, read_run, write_run};
+pub use run::{RunFault, arm_run, read_run, write_run};

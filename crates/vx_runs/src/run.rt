@@ -1,5 +1,5 @@
 ghost use Rattle.std.specs.Prelude.{◌≡◌, ◌+◌, ◌*◌, ◌/◌, ◌%◌, ◌^◌, ◌<◌, ◌≤◌, length, map};
-ghost use Rattle.vx_runs.specs.Run.{IsRunRange, IsRunRead, IsRunWritten, fault_at};
+ghost use Rattle.vx_runs.specs.Run.{EachPiece, IsArmed, IsRunRange, IsRunRead, IsRunWritten, fault_at};
 
 use crate::part::{read_part, write_part};
 use vx_piece::{Piece, PieceFault};
@@ -60,4 +60,14 @@ pub fn read_run<P: Piece>(pieces: &mut Vec<P>, at: u64, into: &mut [u8]) -> Resu
         start += sectors;
     }
     Ok(())
+}
+
+/// Sets when a power switch is to act on the pieces.
+pub fn arm_run<P: Piece>(pieces: &mut Vec<P>, stop: Option<u64>)
+    ensures { EachPiece (IsArmed stop) (map P.seen pieces.old.items) (map P.seen pieces.new.items) }
+{
+    for index in 0..pieces.len() {
+        let piece = &mut pieces[index];
+        piece.arm(stop);
+    }
 }

@@ -12,3 +12,4 @@ pub mod Standing
 pub mod Stepped
 pub mod Working
 pub mod Writing
+pub mod Written

@@ -52,6 +52,8 @@ use Rattle.vx_cell.proofs.Carried.{carried_answers, carried_gives, Fit}
 use Rattle.vx_cell.proofs.Kept.{log_same, log_more, others_same, others_more, carried_plexes, carried_log, carried_others, carried_tells, carried_may, carried_shows, with_failures, has_failed, or_cases}
 use Rattle.vx_cell.proofs.Placed.{some_same}
 use Rattle.vx_cell.proofs.Measure.{phase_steps}
+use Rattle.vx_cell.specs.Running.{settles_in, MayWrite, IsQuiet}
+use Rattle.vx_cell.proofs.Written.{same_writes, more_writes, carried_writes, stays_quiet, quiet_work as quiet_step, form_work, standing_quiet}
 use Rattle.vx_cell.proofs.Scratch.{got_ok, scratch_after}
 use Rattle.vx_cell.proofs.Working.{call_fits, no_faults, no_true, runs_from, act_not_lost, lost_by_cut, quiet, still, may_come, follows_work, runs_work, possible_work, act_work, blames_work, read_range, moved_callable, moved_call, askable, fit_for, full_scratch, same_formed, log_still, log_now, some_steps, falls_to, still_current, fits_into}
 
@@ -86,6 +88,12 @@ not_lost_begun s Settled job x fresh may follows names lost = let e : Begin job 
 not_lost_begun s Unsettled job x fresh may follows names lost = let e : Begin job ≡ Cut = lost_by_cut job AtFind (Begin job) 0 x.0 x.1 x.0.phase follows.0 names lost in cc
 not_lost_begun s Dead job x fresh may follows names lost = absurd may
 not_lost_begun s (Busy w) job x fresh may follows names lost = absurd fresh
+
+begun_quiet : (s : Stage) (phase : Phase) (job : Job) (x : Stage × Act) → Begins phase → MayRun job phase → FollowsFrom s phase (Begin job) x → settles_in phase ≡ false → IsQuiet x.0.phase
+begun_quiet s Settled job x fresh may follows quiet = stays_quiet job AtMark (Begin job) 0 x.1 x.0.phase follows.0 refl
+begun_quiet s Unsettled job x fresh may follows quiet = cc
+begun_quiet s Dead job x fresh may follows quiet = absurd may
+begun_quiet s (Busy w) job x fresh may follows quiet = absurd fresh
 
 no_read_begun : (s : Stage) (phase : Phase) (job : Job) (x : Stage × Act) → Begins phase → MayRun job phase → ReadsFrom s phase (Begin job) x → job ≡ ReadJob → x.1 ≡ Done → ⊥
 no_read_begun s Settled ReadJob x fresh may reads is done = reads done
@@ -197,6 +205,8 @@ module _ (s : Stage) (region start size number epoch : ℕ) (ps : List PlexSeen)
         );
         causes = λ plain begins. (no_faults, record { plexes = λ k e. no_true e; log = λ e. no_true e }, begun_blames s s.phase job x fresh may plain causes);
         cut = λ lost. absurd (not_lost_begun s s.phase job x fresh may follows names lost);
+        quiet = λ quiet. begun_quiet s s.phase job x fresh may follows quiet;
+        writes = same_writes (MayWrite job (settles_in s.phase)) ps;
         rose = tt;
         blames = no_blame x.1 None (λ fault. absurd (fails (holds ps) whole.formed come fault));
         gives = λ done is told. absurd (no_read_begun s s.phase job x fresh may reads is done);
@@ -283,6 +293,8 @@ module _ (s : Stage) (region start size number epoch : ℕ) (ps : List PlexSeen)
             );
         causes = λ plain begins. absurd (subst (λ (p : Phase). Begins p) is begins);
         cut = λ lost. absurd (not_an_end w Lost can lost);
+        quiet = λ quiet. standing_quiet s.phase quiet;
+        writes = same_writes (MayWrite job (settles_in s.phase)) ps;
         rose = tt;
         blames = no_blame (act_at s w w.step) None (λ fault. absurd (not_an_end w Fault can fault));
         gives = λ done read told. absurd (not_an_end w Done can done);
@@ -582,6 +594,11 @@ module _ (job : Job) (io0 : Bytes) (old : RegionSeen) (s : Stage) (region start 
               blames_work s s.phase w act event x (holds ps) (current old.stage) f (with_failures f act event) is run.named run.whole.formed may was.2.0 (has_failed act event f may) causes,
             );
         cut = λ lost. shows.2 (lost_by_cut w.job w.step event w.source x.0 x.1 x.0.phase on.0 names lost);
+        quiet = λ began. stays_quiet w.job w.step event w.source x.1 x.0.phase on.0 (quiet_step s.phase w is (run.quiet began));
+        writes =
+            more_writes (MayWrite job (settles_in old.stage.phase)) old.plexes ps qs run.kept.plexes run.writes
+            (carried_writes job (settles_in old.stage.phase) s w (holds ps) region ps qs log log' io io' act (Some event) runs.0 (form_work s s.phase w is run.whole.formed.step)
+            (λ began. quiet_step s.phase w is (run.quiet began)) at_step can_job carries);
         rose = risen_first first answer.place old.plexes ps qs old.log log log' run.kept.plexes run.kept.log kept_plexes kept_log run.rose placed.0;
         blames = no_blame x.1 (earlier first answer.place) (λ fault. some_earlier first answer.place (placed.1 (fails (holds ps) run.whole.formed come fault)));
         gives = λ done read told.

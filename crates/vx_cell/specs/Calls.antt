@@ -19,10 +19,10 @@ use Rattle.vx_cell.specs.declared.cell.Cell.{Cell}
 use Rattle.vx_cell.specs.declared.fault.Place.{Place}
 use Rattle.vx_cell.specs.declared.fault.CellFault.{CellFault}
 use Rattle.vx_cell.specs.declared.fault.CellFault.TheVariants.{Fault, PowerLost, Held, Only}
-use Rattle.vx_cell.specs.Plexes.{plexes_seen}
+use Rattle.vx_cell.specs.Plexes.{plexes_seen, WritesOnly}
 use Rattle.vx_cell.specs.Acts.{Bytes, IsRange, PlaceRose}
 use Rattle.vx_cell.specs.Region.{RegionSeen, IsWhole, IsTold, KeepsRegion, AllFailed, IsCut}
-use Rattle.vx_cell.specs.Running.{Caller, call_of, values_at, GoesBy, start_last, start_call, Allows, IsMarking, Begins, IsCallable, IsRunning}
+use Rattle.vx_cell.specs.Running.{Caller, call_of, values_at, GoesBy, start_last, start_call, Allows, IsMarking, Begins, IsCallable, settles_in, MayWrite, IsRunning}
 
 -- the region of a cell, with the log that its calls are given
 abbrev pub region_of : {P : Type 0} → (P → Seen) → Cell P → LogSeen → RegionSeen
@@ -114,6 +114,8 @@ pub record HasEnded {T : Type 0} (job : Job) (io : Bytes) (old new : RegionSeen)
       new (call_left result (call_of job io old who)) (entries_by result (call_of job io old who) (values_at (old.start + io'.at) io'.into))
   pub phase : LeavesPhase result new.stage.phase
   pub cause : CallHasCause job old new result
+  -- the counts of writes rise on these plexes alone
+  pub writes : WritesOnly (MayWrite job (settles_in old.stage.phase)) old.plexes new.plexes
 
 -- the region once a call of this job has drawn its number
 abbrev pub numbered : Job → RegionSeen → RegionSeen

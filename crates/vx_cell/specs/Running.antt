@@ -19,11 +19,11 @@ use Rattle.vx_core.specs.History.{Call, Pending, NoCall, Reads, Writes, MayBegin
 use Rattle.vx_core.specs.Region.{Fixed, RegionState, entries_after, pending_after}
 use Rattle.vx_core.specs.Schedule.{Happening, Comes, Elsewhere, happens}
 use Rattle.vx_core.specs.Recovery.{region_after}
-use Rattle.vx_core.specs.Follow.{SameMasks, Rewrites, EndsSettled, PossibleIn}
+use Rattle.vx_core.specs.Follow.{SameMasks, Rewrites, EndsSettled, PossibleIn, settles}
 use Rattle.vx_core.specs.Causes.{Faults, IsPlain, Blames}
 use Rattle.vx_core_laws.specs.Course.{EachFits}
 use Rattle.vx_cell.specs.declared.fault.Place.{Place}
-use Rattle.vx_cell.specs.Plexes.{PlexSeen, holds, contents_of, PlexRose}
+use Rattle.vx_cell.specs.Plexes.{PlexSeen, holds, contents_of, PlexRose, WritesOnly}
 use Rattle.vx_cell.specs.Acts.{Bytes, IsRange, HasRisen}
 use Rattle.vx_cell.specs.Region.{RegionSeen, IsWhole, IsTold, KeepsRegion, LogRose, IsCut, state_of}
 
@@ -182,6 +182,28 @@ abbrev pub HasBlame : Act → Option Place → Type 0
 HasBlame Fault None = ⊥
 HasBlame act first = Unit {0}
 
+-- the plexes are being made equal, or wait for it
+abbrev pub settles_in : Phase → Bool
+settles_in (Busy w) = settles w.step
+settles_in Unsettled = true
+settles_in Settled = false
+settles_in Dead = false
+
+-- The plexes that a job may write: each one where it began in a region that was to be settled or is a write, and else the
+-- target of a copy alone.
+abbrev pub MayWrite : Job → Bool → ℕ → Type 0
+MayWrite job true k = Unit {0}
+MayWrite WriteJob false k = Unit {0}
+MayWrite (CopyJob target) false k = k ≡ target
+MayWrite ReadJob false k = ⊥
+MayWrite Settle false k = ⊥
+MayWrite Clear false k = ⊥
+
+-- no job under way makes the plexes equal
+abbrev pub IsQuiet : Phase → Type 0
+IsQuiet (Busy w) = settles w.step ≡ false
+IsQuiet phase = Unit {0}
+
 -- The job has come from the one region to the other, where it waits for this act, or has ended with it.
 pub record IsRunning (job : Job) (io : Bytes) (old now : RegionSeen) (first : Option Place) (act : Act) (io' : Bytes) : Type 0 where
   pub whole : IsWhole now
@@ -198,6 +220,8 @@ pub record IsRunning (job : Job) (io : Bytes) (old now : RegionSeen) (first : Op
       now (pending_after act (call_of job io old who)) (entries_after act (call_of job io old who) (values_at (old.start + io'.at) io'.into))
   pub causes : IsPlain job → Begins old.stage.phase → (f : Faults) × AreShown f old now × Blames (now.stage, act) (current old.stage) f
   pub cut : act ≡ Lost → IsCut now
+  pub quiet : settles_in old.stage.phase ≡ false → IsQuiet now.stage.phase
+  pub writes : WritesOnly (MayWrite job (settles_in old.stage.phase)) old.plexes now.plexes
   pub rose : HasRisen first old.plexes old.log now.plexes now.log
   pub blames : HasBlame act first
   pub gives : act ≡ Done → job ≡ ReadJob → IsTold old → GivesCurrent now io'.at io'.into

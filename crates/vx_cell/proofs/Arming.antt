@@ -1,5 +1,5 @@
 -- The pieces of plexes are armed one plex after the other.
-use Rattle.std.proofs.Common.{◌≡◌, ℕ, zero, suc, ◌+◌, ◌<◌, ◌≤◌, refl, sym, ap, subst, arith, List, [], ◌∷◌, length, map, get_or, set, Option}
+use Rattle.std.proofs.Common.{◌≡◌, ℕ, zero, suc, ◌+◌, ◌<◌, ◌≤◌, subst, arith, List, [], ◌∷◌, length, get_or, set, Option}
 use Rattle.vx_piece.specs.Seen.{Seen}
 use Rattle.vx_runs.specs.Run.{EachPiece, IsArmed}
 use Rattle.vx_cell.specs.declared.plex.Plex.{Plex}

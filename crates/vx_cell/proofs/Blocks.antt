@@ -1,13 +1,12 @@
 -- What one device call does to the blocks of a region.
-use Rattle.std.proofs.Common.{◌≡◌, ◌≢◌, ℕ, ◌+◌, ◌-◌, ◌<◌, ◌≤◌, Bool, IsTrue, true, false, refl, sym, ◌∙◌, ap, subst, inl, inr, arith, ◌⊎◌, List, [], ◌∷◌, Result, Ok, Err}
+use Rattle.std.proofs.Common.{◌≡◌, ◌≢◌, ℕ, ◌+◌, ◌-◌, ◌<◌, ◌≤◌, true, false, refl, sym, ◌∙◌, ap, inl, inr, arith, ◌⊎◌, List, [], ◌∷◌, Result, Ok, Err}
 use Rattle.std.specs.Prelude.{◌==◌, if◌then◌else◌}
 use Rattle.std.proofs.lemmas.Bool.{cond-true, cond-false}
 use Rattle.vx_base.specs.Blocks.{Contents, block_at, blocks_in, written, AreBlocks, is_in}
 use Rattle.vx_base.proofs.BlockLemmas.{is_in_cases, is_in-true, is_in-before, is_in-after, written_in, written_out}
 use Rattle.vx_mask.proofs.Tests.{not_both}
-use Rattle.vx_core.specs.History.{Call, Pending, Reads, Writes, overlaid}
+use Rattle.vx_core.specs.History.{Call, Reads, Writes, overlaid}
 use Rattle.vx_core.specs.Region.{Gets, MayGet, AreOf}
-use Rattle.vx_piece.specs.Seen.{Seen}
 use Rattle.vx_runs.specs.Run.{run_contents}
 use Rattle.vx_runs.specs.declared.run.RunFault.{RunFault}
 use Rattle.vx_cell.specs.Plexes.{PlexSeen, contents_of, blocks_of, AllTell, KeepsPlex, ChangesPlex}

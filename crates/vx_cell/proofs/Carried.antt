@@ -1,7 +1,6 @@
 -- A device call that is the act answers it, with an effect that the core knows.
-use Rattle.std.proofs.Common.{◌≡◌, ◌≢◌, ℕ, ◌+◌, ◌-◌, ◌/◌, ◌<◌, ◌≤◌, Bool, IsTrue, true, false, refl, sym, ◌∙◌, ap, subst, inl, inr, arith, ◌⊎◌, List, [], ◌∷◌, length, Option, Some, None, Result, Ok, Err}
+use Rattle.std.proofs.Common.{◌≡◌, ℕ, ◌+◌, ◌<◌, ◌≤◌, true, refl, sym, ◌∙◌, ap, subst, arith, List, length, Option, Some, None, Result, Ok, Err}
 use Rattle.vx_base.specs.Blocks.{Contents, block_at, blocks_in}
-use Rattle.vx_life.specs.Entry.{Entry}
 use Rattle.vx_mask.specs.Mask.{has}
 use Rattle.vx_mask.specs.Marks.{Marks}
 use Rattle.vx_core.specs.declared.stage.Event.{Event}
@@ -14,7 +13,7 @@ use Rattle.vx_runs.specs.declared.run.RunFault.{RunFault}
 use Rattle.vx_runs.specs.declared.run.RunFault.TheVariants.{Failed, PowerLost}
 use Rattle.vx_marks.specs.Log.{LogSeen, OnMarks, ChangesAt}
 use Rattle.vx_cell.specs.Plexes.{PlexSeen, contents_of, blocks_of, AllTell, ChangesPlex}
-use Rattle.vx_cell.specs.Acts.{Bytes, Carries, IsWriteOf, IsReadOf, IsMarkOf, MarksBy, UnmarksBy, write_event, read_event, IsPlexWritten, IsPlexRead}
+use Rattle.vx_cell.specs.Acts.{Bytes, Carries, MarksBy, UnmarksBy, write_event, read_event, IsPlexWritten, IsPlexRead}
 use Rattle.vx_cell.specs.Region.{Tells, marks_or, TidiesOthers}
 use Rattle.vx_cell.specs.Running.{values_at}
 use Rattle.vx_cell.proofs.Placed.{some_same}

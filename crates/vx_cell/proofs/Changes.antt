@@ -1,11 +1,9 @@
 -- What follows where one plex changes.
-use Rattle.std.proofs.Common.{◌≡◌, ◌≢◌, ℕ, suc, zero, ◌+◌, ◌<◌, ◌≤◌, Bool, IsTrue, true, false, refl, sym, ◌∙◌, ap, subst, inl, inr, arith, ◌⊎◌, List, [], ◌∷◌, get_or, set, length, map}
+use Rattle.std.proofs.Common.{◌≡◌, ◌≢◌, ℕ, suc, zero, ◌<◌, Bool, true, false, refl, sym, ◌∙◌, ap, subst, inl, inr, arith, List, [], ◌∷◌, get_or, set, length, map}
 use Rattle.std.specs.Prelude.{◌==◌, ◌||◌}
 use Rattle.std.proofs.lemmas.Bool.Decides.{nat_tests}
-use Rattle.vx_base.specs.Counts.{Rose}
-use Rattle.vx_base.specs.Blocks.{Contents}
 use Rattle.vx_piece.specs.Seen.{Seen, Keeps}
-use Rattle.vx_runs.specs.Run.{run_sectors, run_contents, RunTells, EachPiece, SameFaults, FailedAt, SomeCut, index_of}
+use Rattle.vx_runs.specs.Run.{run_sectors, run_contents, RunTells, EachPiece, FailedAt, SomeCut, index_of}
 use Rattle.vx_cell.specs.declared.plex.Plex.{Plex}
 use Rattle.vx_cell.specs.Plexes.{PlexSeen, plex_seen, plexes_seen, holds, MapsDiffer, AllCover, contents_of, AllTell, KeepsPlex, KeepPlexes, ChangesPlex, PieceRose, RoseAt, PlexRose, SomePieceCut, IsFirst}
 
@@ -45,18 +43,17 @@ more_pieces [] [] (r ∷ rs) a b = absurd b
 more_pieces [] (q ∷ qs) rs a b = absurd a
 more_pieces (p ∷ ps) [] rs a b = absurd a
 more_pieces (p ∷ ps) (q ∷ qs) [] a b = absurd b
-more_pieces (p ∷ ps) (q ∷ qs) (r ∷ rs) a b =
-    (
-      record {
-        device = b.0.device ∙ a.0.device;
-        start = b.0.start ∙ a.0.start;
-        sectors = b.0.sectors ∙ a.0.sectors;
-        stop = b.0.stop ∙ a.0.stop;
-        faults = omega (arith, a.0.faults, b.0.faults);
-        cut = λ c. b.0.cut (a.0.cut c);
-      },
-      more_pieces ps qs rs a.1 b.1,
-    )
+more_pieces (p ∷ ps) (q ∷ qs) (r ∷ rs) a b = (
+  record {
+    device = b.0.device ∙ a.0.device;
+    start = b.0.start ∙ a.0.start;
+    sectors = b.0.sectors ∙ a.0.sectors;
+    stop = b.0.stop ∙ a.0.stop;
+    faults = omega (arith, a.0.faults, b.0.faults);
+    cut = λ c. b.0.cut (a.0.cut c);
+  },
+  more_pieces ps qs rs a.1 b.1,
+)
 
 pub kept_sectors : (ps qs : List Seen) → EachPiece Keeps ps qs → run_sectors qs ≡ run_sectors ps
 kept_sectors [] [] a = refl

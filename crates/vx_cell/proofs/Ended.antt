@@ -7,24 +7,21 @@ use Rattle.vx_core.specs.declared.stage.Job.{Job}
 use Rattle.vx_core.specs.declared.stage.Act.{Act}
 use Rattle.vx_core.specs.declared.stage.Work.{Work}
 use Rattle.vx_core.specs.declared.stage.Phase.{Phase}
-use Rattle.vx_core.specs.declared.stage.Stage.{Stage}
 use Rattle.vx_core.specs.declared.stage.Job.TheVariants.{Read as ReadJob, Write as WriteJob, Copy as CopyJob, Settle, Clear}
 use Rattle.vx_core.specs.declared.stage.Act.TheVariants.{Mark, Unmark, WriteCall, WriteRegion, ReadCall, ReadRegion, Done, Skipped, Fault, Lost}
 use Rattle.vx_core.specs.declared.stage.Phase.TheVariants.{Settled, Unsettled, Dead, Busy}
-use Rattle.vx_core.specs.Table.{current}
 use Rattle.vx_core.specs.Follow.{EndsSettled}
 use Rattle.vx_core.specs.History.{Pending, NoCall}
 use Rattle.vx_core.specs.Region.{Fixed, entries_after, pending_after}
 use Rattle.vx_core.specs.Schedule.{Happening, IsIdle}
-use Rattle.vx_core.specs.Causes.{Faults, IsPlain}
 use Rattle.vx_cell.specs.declared.fault.Place.{Place}
 use Rattle.vx_cell.specs.declared.fault.CellFault.{CellFault}
 use Rattle.vx_cell.specs.declared.fault.CellFault.TheVariants.{Fault as FaultAnswer, PowerLost, Held}
 use Rattle.vx_cell.specs.Plexes.{PlexSeen}
-use Rattle.vx_cell.specs.Acts.{Bytes, PlaceRose}
-use Rattle.vx_cell.specs.Region.{RegionSeen, IsTold, AllFailed, state_of}
-use Rattle.vx_cell.specs.Running.{Caller, values_at, call_of, GoesBy, start_last, start_call, Allows, Begins, RunsIn, SameBytes, MayRun, IsCallable, IsRunning, GivesCurrent}
-use Rattle.vx_cell.specs.Calls.{Stands, HasRun, answer_of, entries_by, call_left, HasEnded, numbered, CallEnds, IsResumable, IsAnswerTo, ResumeEnds, done_of, skipped_of}
+use Rattle.vx_cell.specs.Acts.{Bytes}
+use Rattle.vx_cell.specs.Region.{RegionSeen, IsTold, state_of}
+use Rattle.vx_cell.specs.Running.{Caller, values_at, call_of, GoesBy, RunsIn, SameBytes, MayRun, IsCallable, IsRunning, GivesCurrent}
+use Rattle.vx_cell.specs.Calls.{Stands, HasRun, answer_of, HasEnded, numbered, CallEnds, IsResumable, IsAnswerTo, ResumeEnds, done_of, skipped_of}
 use Rattle.vx_cell.proofs.Stepped.{quiet_work}
 
 busy_phase : (phase : Phase) → Stands phase → (w : Work) × (phase ≡ Busy w)
@@ -135,8 +132,8 @@ module _ {T : Type 0} (done skipped : T) (job : Job) (io : Bytes) (old new : Reg
             let values = values_at (old.start + io'.at) io'.into in (
               g.0,
               told_as _ g.0 old new _ _ (pending_after act call) call (entries_after act call values) (λ es. es)
-              (sym (quiet_work new.stage new.stage.phase w.0 act call values [] w.1 run.named).1)
-              (λ es. sym (quiet_work new.stage new.stage.phase w.0 act call values es w.1 run.named).0) g.1,
+                  (sym (quiet_work new.stage new.stage.phase w.0 act call values [] w.1 run.named).1)
+                  (λ es. sym (quiet_work new.stage new.stage.phase w.0 act call values es w.1 run.named).0) g.1,
             );
         phase = stands;
         cause = lent;
@@ -327,8 +324,7 @@ resumed (Busy v) w io old new io' answer first done skipped result is h d s e =
     let same : w ≡ v = cc in
     let there : result ≡ answer_of (done_of w.job new.number) (skipped_of w.job new.number) answer first =
     e ∙ ap (λ (n : ℕ). answer_of n skipped answer first) d ∙ ap (λ (n : ℕ). answer_of (done_of w.job new.number) n answer first) s in
-    subst (λ (u : Work). ResumeEnds (Busy u) io old new io' result) same
-    (
+    subst (λ (u : Work). ResumeEnds (Busy u) io old new io' result) same (
       subst (λ (r : Result ℕ CellFault). HasEnded w.job io old new io' r) (sym there) (ended (done_of w.job new.number) (skipped_of w.job new.number) w.job io old new io' answer first h),
       subst (λ (r : Result ℕ CellFault). IfOk r (λ n. IsAnswerTo w.job new.number n)) (sym there) (done_or_skipped w.job new.number answer first),
     )

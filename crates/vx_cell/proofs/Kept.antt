@@ -1,9 +1,8 @@
 -- What a device call keeps, and what its failure shows.
-use Rattle.std.proofs.Common.{◌≡◌, ◌≢◌, ℕ, ◌+◌, ◌<◌, ◌≤◌, Bool, IsTrue, true, false, refl, sym, ◌∙◌, ap, subst, inl, inr, arith, ◌⊎◌, List, [], ◌∷◌, Option, Some, None, Result, Ok, Err}
+use Rattle.std.proofs.Common.{◌≡◌, ℕ, ◌≤◌, Bool, IsTrue, true, false, refl, sym, ◌∙◌, subst, inl, inr, arith, ◌⊎◌, List, Option, Some, None, Result, Ok, Err}
 use Rattle.std.specs.Prelude.{◌==◌, ◌||◌}
-use Rattle.vx_base.specs.Counts.{Rose}
 use Rattle.vx_mask.specs.Mask.{has}
-use Rattle.vx_mask.specs.Marks.{Marks, MayTidy}
+use Rattle.vx_mask.specs.Marks.{Marks}
 use Rattle.vx_mask.proofs.MarkLemmas.{tidy_same, tidy_more}
 use Rattle.vx_core.specs.declared.stage.Event.{Event}
 use Rattle.vx_core.specs.declared.stage.Act.{Act}
@@ -11,7 +10,7 @@ use Rattle.vx_core.specs.declared.stage.Event.TheVariants.{Begin, Marked, MarkFa
 use Rattle.vx_core.specs.declared.stage.Act.TheVariants.{Mark, Unmark, WriteCall, WriteRegion, ReadCall, ReadRegion, Done, Skipped, Fault, Lost}
 use Rattle.vx_core.specs.Region.{MayAnswer}
 use Rattle.vx_core.specs.Causes.{Faults, Tells as TellsFault, HasFailed}
-use Rattle.vx_marks.specs.Log.{LogSeen, KeepsLog, OnMarks, ChangesAt}
+use Rattle.vx_marks.specs.Log.{LogSeen, KeepsLog, OnMarks}
 use Rattle.vx_runs.specs.declared.run.RunFault.{RunFault}
 use Rattle.vx_runs.specs.declared.run.RunFault.TheVariants.{Failed, PowerLost}
 use Rattle.vx_cell.specs.Plexes.{PlexSeen, KeepPlexes, ChangesPlex, PlexRose, SomePieceCut}
@@ -137,7 +136,6 @@ read_may_region : (k : ℕ) (result : Result (Unit {0}) RunFault) → MayAnswer 
 read_may_region k (Ok u) = tt
 read_may_region k (Err (Failed piece device)) = refl
 read_may_region k (Err PowerLost) = tt
-
 
 module _ (region : ℕ) (ps qs : List PlexSeen) (log log' : LogSeen) (io io' : Bytes) where
   by_event : (act : Act) (event found : Event) → Some event ≡ Some found → MayAnswer act found → MayAnswer act event
@@ -340,4 +338,3 @@ tells_failure Lost Cut f may = tt
 pub has_failed : (act : Act) (event : Event) (f : Faults) → MayAnswer act event → HasFailed act event f (with_failures f act event)
 has_failed act event f may =
     record { plex = λ k h. or_left (f.plex k) (plex_fails act event k) h; log = λ h. or_left f.log (log_fails act event) h; told = tells_failure act event f may }
-

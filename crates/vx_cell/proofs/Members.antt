@@ -1,9 +1,7 @@
 -- Plexes that come and go.
-use Rattle.std.proofs.Common.{◌≡◌, ℕ, zero, suc, ◌+◌, ◌<◌, Bool, true, false, refl, sym, ◌∙◌, ap, inl, inr, arith, List, [], ◌∷◌, ◌++◌, length, map, get_or}
+use Rattle.std.proofs.Common.{◌≡◌, ℕ, zero, suc, ◌<◌, refl, ap, inl, inr, arith, List, [], ◌∷◌, ◌++◌, length, map, get_or}
 use Rattle.std.specs.List.{remove}
-use Rattle.std.specs.Prelude.{◌==◌}
 use Rattle.vx_core.specs.declared.stage.Stage.{Stage}
-use Rattle.vx_core.specs.declared.stage.Phase.{Phase}
 use Rattle.vx_piece.specs.Seen.{Seen}
 use Rattle.vx_cell.specs.declared.plex.Plex.{Plex}
 use Rattle.vx_cell.specs.Plexes.{PlexSeen, plex_seen, plexes_seen, IsFirst}

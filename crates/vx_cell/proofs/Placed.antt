@@ -1,8 +1,8 @@
 -- A piece that failed is where the answer says.
-use Rattle.std.proofs.Common.{◌≡◌, ℕ, ◌<◌, refl, sym, subst, List, Option, Some, None, Result, Ok, Err}
+use Rattle.std.proofs.Common.{◌≡◌, ℕ, refl, sym, subst, List, Option, Some, None, Result, Ok, Err}
 use Rattle.std.specs.Prelude.{IsSome}
 use Rattle.vx_core.specs.declared.stage.Event.{Event}
-use Rattle.vx_core.specs.declared.stage.Event.TheVariants.{Wrote, WriteFailed, Got, ReadFailed, Cut}
+use Rattle.vx_core.specs.declared.stage.Event.TheVariants.{Wrote, Got, Cut}
 use Rattle.vx_core.specs.Follow.{IsFailure}
 use Rattle.vx_marks.specs.Log.{LogSeen}
 use Rattle.vx_runs.specs.declared.run.RunFault.{RunFault}

@@ -1,52 +1,26 @@
 -- What the scratch holds while plexes are rewritten.
-use Rattle.std.proofs.Common.{◌≡◌, ◌≢◌, ℕ, ◌+◌, ◌-◌, ◌*◌, ◌/◌, ◌^◌, ◌<◌, ◌≤◌, Bool, IsTrue, true, false, refl, sym, ◌∙◌, ap, subst, inl, inr, arith, ◌⊎◌, List, [], ◌∷◌, ◌++◌, length, Option, Some, None, Result, Ok, Err}
-use Rattle.std.specs.Prelude.{◌==◌}
+use Rattle.std.proofs.Common.{◌≡◌, ◌≢◌, ℕ, ◌+◌, ◌<◌, Bool, refl, sym, ◌∙◌, ap, subst, arith, List, Some, Result, Ok, Err}
 use Rattle.vx_base.specs.Blocks.{Contents, block_at, blocks_in}
-use Rattle.vx_base.specs.Counts.{Rose}
-use Rattle.vx_life.specs.Entry.{Entry}
-use Rattle.vx_mask.specs.Mask.{has, union, without}
-use Rattle.vx_mask.proofs.MaskLemmas.{has-lt}
-use Rattle.vx_mask.proofs.Sets.{without_parts}
-use Rattle.vx_mask.proofs.Tests.{true_or_false}
+use Rattle.vx_mask.specs.Mask.{has}
 use Rattle.vx_core.specs.declared.stage.Job.{Job}
 use Rattle.vx_core.specs.declared.stage.Event.{Event}
-use Rattle.vx_core.specs.declared.stage.Act.{Act}
 use Rattle.vx_core.specs.declared.stage.Step.{Step}
-use Rattle.vx_core.specs.declared.stage.Work.{Work}
-use Rattle.vx_core.specs.declared.stage.Phase.{Phase}
 use Rattle.vx_core.specs.declared.stage.Stage.{Stage}
 use Rattle.vx_core.specs.declared.stage.Job.TheVariants.{Read as ReadJob, Write as WriteJob, Copy as CopyJob, Settle, Clear}
 use Rattle.vx_core.specs.declared.stage.Event.TheVariants.{Begin, Marked, MarkFailed, Unmarked, UnmarkFailed, Wrote, WriteFailed, Got, ReadFailed, Cut}
-use Rattle.vx_core.specs.declared.stage.Act.TheVariants.{Mark, Unmark, WriteCall, WriteRegion, ReadCall, ReadRegion, Done, Skipped, Fault, Lost}
 use Rattle.vx_core.specs.declared.stage.Step.TheVariants.{Mark as AtMark, Write as AtWrite, MarkFailed as AtMarkFailed, Find as AtFind, Equal as AtEqual, Copy as AtCopy, Unmark as AtUnmark, Read as AtRead}
-use Rattle.vx_core.specs.declared.stage.Phase.TheVariants.{Settled, Unsettled, Dead, Busy}
-use Rattle.vx_core.specs.Table.{current, act_at, read_act, begun, next_of, IsNamed, NamesAct}
-use Rattle.vx_core.specs.History.{Call, Pending, NoCall, MayBegin}
-use Rattle.vx_core.specs.Region.{Around, Disks, Fixed, RegionState, CallOf, FitsIn, Answers, ReadGives, MayAnswer, entries_after, pending_after, pending_at, last_at}
-use Rattle.vx_core.specs.Schedule.{Happening, Comes, happens}
-use Rattle.vx_core.specs.Recovery.{region_after}
-use Rattle.vx_core.specs.Progress.{rank, steps_left, FallsBelow, ProgressFrom, KeepsForm}
-use Rattle.vx_core.specs.Form.{IsFormed, MayCome}
-use Rattle.vx_core.specs.Follow.{AsksPossible, Follows, FollowsIn, FollowsFrom, FailsFrom, ReadsFrom, IsFailure, IsFollowing, IsReadDone, SameMasks, Rewrites, HasRead, IsPossible, PossibleIn, EndsSettled, IsMapOf}
-use Rattle.vx_core.specs.Causes.{Faults, IsPlain, Blames, KnowsFaults, CausesFrom, HasFailed}
+use Rattle.vx_core.specs.Table.{act_at}
+use Rattle.vx_core.specs.Follow.{Rewrites, HasRead, IsPossible}
 use Rattle.vx_core.proofs.Jobs.{mk}
-use Rattle.vx_core_laws.specs.Course.{EachFits}
-use Rattle.vx_core_laws.proofs.Courses.{after_both, fits_both}
-use Rattle.vx_marks.specs.Log.{LogSeen, KeepsLog, HasMaps, OnMarks}
+use Rattle.vx_marks.specs.Log.{LogSeen}
 use Rattle.vx_runs.specs.declared.run.RunFault.{RunFault}
 use Rattle.vx_runs.specs.declared.run.RunFault.TheVariants.{Failed, PowerLost}
-use Rattle.vx_cell.specs.declared.fault.Place.{Place}
-use Rattle.vx_cell.specs.declared.fault.Place.TheVariants.{Data, Log}
-use Rattle.vx_cell.specs.declared.acts.Answered.{Answered}
-use Rattle.vx_cell.specs.Plexes.{PlexSeen, contents_of, blocks_of, holds, AllTell, AllCover, KeepPlexes, PlexRose, RoseAt, ChangesPlex, SomePieceCut}
-use Rattle.vx_cell.specs.Acts.{Bytes, IsRange, IsAskable, IsPlaced, PlaceRose, Carries, IsPlexWritten, IsPlexRead, read_event, event_of}
-use Rattle.vx_cell.specs.Region.{RegionSeen, IsWhole, IsLogOf, IsTold, Tells, KeepsRegion, LogRose, IsCut, TidiesOthers, marks_or, disks_of, state_of}
-use Rattle.vx_cell.specs.Running.{Caller, call_at, values_at, call_of, IsCallable, IsBacked, act_of, AreBacked, GoesBy, last_before, start_last, start_call, Allows, IsMarking, MayRun, Begins, HoldsRegion, RunsIn, AreShown, SameBytes, GivesCurrent, HasBlame, IsRunning}
-use Rattle.vx_cell.proofs.Changes.{keep_same, keep_more, keep_holds, keep_tell, keep_cover, keep_cut, keep_differ, holds_alike, rose_now, rose_still, at_now, at_still, change_others}
-use Rattle.vx_cell.proofs.Blocks.{IsCallOn, keeps_written, read_same, read_blocks}
-use Rattle.vx_cell.proofs.Carried.{carried_answers, carried_gives, Fit}
-use Rattle.vx_cell.proofs.Kept.{log_same, log_more, others_same, others_more, carried_plexes, carried_log, carried_others, carried_tells, carried_may, carried_shows, with_failures, has_failed, or_cases}
-use Rattle.vx_cell.proofs.Placed.{some_same}
+use Rattle.vx_cell.specs.Plexes.{PlexSeen, contents_of, holds, AllTell, ChangesPlex}
+use Rattle.vx_cell.specs.Acts.{Bytes, Carries, IsPlexWritten, IsPlexRead, read_event}
+use Rattle.vx_cell.specs.Region.{RegionSeen, IsTold}
+use Rattle.vx_cell.specs.Running.{HoldsRegion}
+use Rattle.vx_cell.proofs.Changes.{change_others}
+use Rattle.vx_cell.proofs.Blocks.{keeps_written, read_same, read_blocks}
 
 -- ---- what the scratch holds
 
@@ -217,4 +191,3 @@ module _ (region size : ℕ) (ps qs : List PlexSeen) (log log' : LogSeen) (io io
       λ told i lt. scratch_written size ps qs io.scratch io'.scratch _ source h.0.result can.1 h.0.changes (ap (λ (b : Bytes). b.scratch) h.2) (holds tt told) i lt
 
 -- ---- what an act needs is there
-

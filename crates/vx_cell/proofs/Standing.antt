@@ -1,12 +1,12 @@
 -- What regions stand for after a call.
-use Rattle.std.proofs.Common.{◌≡◌, ◌≢◌, ℕ, refl, subst, Option, Some, None}
+use Rattle.std.proofs.Common.{◌≢◌, ℕ, subst, Option, Some, None}
 use Rattle.vx_mask.specs.Marks.{Marks, MayTidy}
 use Rattle.vx_core.specs.Region.{RegionState}
 use Rattle.vx_core.proofs.ScheduleLaws.{kept_elsewhere}
 use Rattle.vx_core_laws.specs.Course.{IsKeptState}
 use Rattle.vx_core_laws.proofs.Courses.{course_keeps}
-use Rattle.vx_marks.specs.Log.{LogSeen, OnMarks}
-use Rattle.vx_cell.specs.Region.{RegionSeen, Tells, TidiesOthers, marks_or, state_of}
+use Rattle.vx_marks.specs.Log.{OnMarks}
+use Rattle.vx_cell.specs.Region.{Tells, TidiesOthers, marks_or, state_of}
 use Rattle.vx_cell.specs.Running.{call_of, start_last, start_call}
 use Rattle.vx_cell.specs.Laws.{EachCallStands, EachOtherStands}
 

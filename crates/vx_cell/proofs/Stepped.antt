@@ -1,14 +1,9 @@
 -- A job begins and goes on, by the clauses of `next` and of a device call.
-use Rattle.std.proofs.Common.{◌≡◌, ◌≢◌, ℕ, ◌+◌, ◌-◌, ◌*◌, ◌/◌, ◌^◌, ◌<◌, ◌≤◌, Bool, IsTrue, true, false, refl, sym, ◌∙◌, ap, subst, inl, inr, arith, ◌⊎◌, List, [], ◌∷◌, ◌++◌, length, Option, Some, None, Result, Ok, Err}
-use Rattle.std.specs.Prelude.{◌==◌}
+use Rattle.std.proofs.Common.{◌≡◌, ℕ, ◌+◌, ◌*◌, ◌<◌, Bool, true, false, refl, sym, ◌∙◌, ap, subst, inl, inr, arith, ◌⊎◌, List, [], ◌∷◌, ◌++◌, length, Option, Some, None, Result, Ok}
 use Rattle.vx_base.specs.Blocks.{Contents, block_at, blocks_in}
-use Rattle.vx_base.specs.Counts.{Rose}
 use Rattle.vx_life.specs.Entry.{Entry}
 use Rattle.vx_life.specs.Candidates.{Any}
-use Rattle.vx_mask.specs.Mask.{has, union, without}
 use Rattle.vx_mask.proofs.MaskLemmas.{has-lt}
-use Rattle.vx_mask.proofs.Sets.{without_parts}
-use Rattle.vx_mask.proofs.Tests.{true_or_false}
 use Rattle.std.specs.Prelude.{IsSome}
 use Rattle.vx_core.specs.declared.stage.Job.{Job}
 use Rattle.vx_core.specs.declared.stage.Event.{Event}
@@ -23,39 +18,36 @@ use Rattle.vx_core.specs.declared.stage.Act.TheVariants.{Mark, Unmark, WriteCall
 use Rattle.vx_core.specs.declared.stage.Step.TheVariants.{Mark as AtMark, Write as AtWrite, MarkFailed as AtMarkFailed, Find as AtFind, Equal as AtEqual, Copy as AtCopy, Unmark as AtUnmark, Read as AtRead}
 use Rattle.vx_core.specs.declared.stage.Phase.TheVariants.{Settled, Unsettled, Dead, Busy}
 use Rattle.vx_core.specs.Table.{current, act_at, read_act, busy, answered, begun, next_of, IsNamed, NamesAct}
-use Rattle.vx_core.specs.History.{Call, Pending, NoCall, MayBegin}
-use Rattle.vx_core.specs.Region.{Around, Disks, Fixed, RegionState, CallOf, FitsIn, Answers, ReadGives, MayAnswer, entries_after, pending_after, pending_at, last_at}
+use Rattle.vx_core.specs.History.{Pending}
+use Rattle.vx_core.specs.Region.{Around, Disks, Fixed, RegionState, CallOf, FitsIn, Answers, ReadGives, MayAnswer, entries_after, pending_after, last_at}
 use Rattle.vx_core.specs.Schedule.{Happening, Comes, Elsewhere, happens, IsIdle}
 use Rattle.vx_cell.specs.Calls.{Stands, HasRun}
 use Rattle.vx_core.specs.Recovery.{region_after}
-use Rattle.vx_core.specs.Progress.{rank, steps_left, FallsBelow, ProgressFrom, KeepsForm}
+use Rattle.vx_core.specs.Progress.{steps_left, ProgressFrom, KeepsForm}
 use Rattle.vx_core.specs.Form.{IsFormed, MayCome}
-use Rattle.vx_core.specs.Follow.{AsksPossible, Follows, FollowsIn, FollowsFrom, FailsFrom, ReadsFrom, IsFailure, IsFollowing, IsReadDone, SameMasks, Rewrites, HasRead, IsPossible, PossibleIn, EndsSettled, IsMapOf}
-use Rattle.vx_core.specs.Causes.{Faults, IsPlain, Blames, KnowsFaults, CausesFrom, HasFailed}
-use Rattle.vx_core.proofs.Jobs.{mk}
+use Rattle.vx_core.specs.Follow.{AsksPossible, FollowsFrom, FailsFrom, ReadsFrom, IsFailure, IsReadDone, SameMasks, Rewrites, IsPossible, PossibleIn}
+use Rattle.vx_core.specs.Causes.{Faults, IsPlain, Blames, CausesFrom}
 use Rattle.vx_core.proofs.PossibleLaws.{possible_in}
 use Rattle.vx_core_laws.specs.Course.{EachFits}
 use Rattle.vx_core_laws.proofs.Courses.{after_both, fits_both}
-use Rattle.vx_marks.specs.Log.{LogSeen, KeepsLog, HasMaps, OnMarks}
+use Rattle.vx_marks.specs.Log.{LogSeen, KeepsLog, OnMarks}
 use Rattle.vx_runs.specs.declared.run.RunFault.{RunFault}
-use Rattle.vx_runs.specs.declared.run.RunFault.TheVariants.{Failed, PowerLost}
 use Rattle.vx_cell.specs.declared.fault.Place.{Place}
 use Rattle.vx_cell.specs.declared.fault.Place.TheVariants.{Data, Log}
 use Rattle.vx_cell.specs.declared.acts.Answered.{Answered}
-use Rattle.vx_cell.specs.Plexes.{PlexSeen, contents_of, blocks_of, holds, AllTell, AllCover, KeepPlexes, PlexRose, RoseAt, ChangesPlex, SomePieceCut}
-use Rattle.vx_cell.specs.Acts.{Bytes, IsRange, IsAskable, IsPlaced, HasRisen, earlier, PlaceRose, Carries, IsPlexWritten, IsPlexRead, read_event, event_of}
-use Rattle.vx_cell.specs.Region.{RegionSeen, IsWhole, IsLogOf, IsTold, Tells, KeepsRegion, LogRose, IsCut, TidiesOthers, marks_or, disks_of, state_of}
-use Rattle.vx_cell.specs.Running.{Caller, call_at, values_at, call_of, IsCallable, plex_fails, log_fails, IsBacked, act_of, AreBacked, GoesBy, last_before, start_last, start_call, Allows, IsMarking, MayRun, Begins, HoldsRegion, RunsIn, AreShown, SameBytes, GivesCurrent, HasBlame, IsRunning}
-use Rattle.vx_cell.proofs.Changes.{keep_same, keep_more, keep_holds, keep_tell, keep_cover, keep_cut, keep_differ, holds_alike, rose_now, rose_still, at_now, at_still, change_others}
-use Rattle.vx_cell.proofs.Blocks.{IsCallOn, keeps_written, read_same, read_blocks}
+use Rattle.vx_cell.specs.Plexes.{PlexSeen, contents_of, holds, AllTell, KeepPlexes, ChangesPlex}
+use Rattle.vx_cell.specs.Acts.{Bytes, IsRange, IsAskable, IsPlaced, HasRisen, earlier, Carries, IsPlexRead, read_event}
+use Rattle.vx_cell.specs.Region.{RegionSeen, IsWhole, IsLogOf, Tells, TidiesOthers, disks_of, state_of}
+use Rattle.vx_cell.specs.Running.{Caller, values_at, call_of, IsCallable, plex_fails, log_fails, IsBacked, act_of, AreBacked, GoesBy, start_last, start_call, Allows, IsMarking, MayRun, Begins, RunsIn, SameBytes, HasBlame, IsRunning}
+use Rattle.vx_cell.proofs.Changes.{keep_same, keep_more, keep_tell, keep_cover, keep_cut, keep_differ, holds_alike, rose_now, rose_still, at_now, at_still}
+use Rattle.vx_cell.proofs.Blocks.{read_same, read_blocks}
 use Rattle.vx_cell.proofs.Carried.{carried_answers, carried_gives, Fit}
 use Rattle.vx_cell.proofs.Kept.{log_same, log_more, others_same, others_more, carried_plexes, carried_log, carried_others, carried_tells, carried_may, carried_shows, with_failures, has_failed, or_cases}
-use Rattle.vx_cell.proofs.Placed.{some_same}
 use Rattle.vx_cell.proofs.Measure.{phase_steps}
 use Rattle.vx_cell.specs.Running.{settles_in, MayWrite, IsQuiet}
 use Rattle.vx_cell.proofs.Written.{same_writes, more_writes, carried_writes, stays_quiet, quiet_work as quiet_step, form_work, standing_quiet}
 use Rattle.vx_cell.proofs.Scratch.{got_ok, scratch_after}
-use Rattle.vx_cell.proofs.Working.{call_fits, no_faults, no_true, runs_from, act_not_lost, lost_by_cut, quiet, still, may_come, follows_work, runs_work, possible_work, act_work, blames_work, read_range, moved_callable, moved_call, askable, fit_for, full_scratch, same_formed, log_still, log_now, some_steps, falls_to, still_current, fits_into}
+use Rattle.vx_cell.proofs.Working.{call_fits, no_faults, no_true, runs_from, lost_by_cut, quiet, still, may_come, follows_work, runs_work, possible_work, act_work, blames_work, moved_callable, moved_call, askable, fit_for, full_scratch, same_formed, log_still, log_now, some_steps, falls_to, still_current}
 
 -- the log of the region stays its log
 pub same_log : (s t : Stage) → SameMasks s t → (log : LogSeen) (region : ℕ) → IsLogOf log region s → IsLogOf log region t
@@ -508,7 +500,11 @@ module _ (job : Job) (io0 : Bytes) (old : RegionSeen) (s : Stage) (region start 
       let on = follows_work s s.phase w act event x (holds ps) is run.named may run.whole.formed follows in
       let at_step : act ≡ act_at s w w.step = act_work s s.phase w act is run.named in
       let bytes : SameBytes io0 io' = record {
-        same_at = same.same_at ∙ run.bytes.same_at; same_from = same.same_from ∙ run.bytes.same_from; same_into = same.same_into ∙ run.bytes.same_into; same_scratch = same.same_scratch ∙ run.bytes.same_scratch } in
+        same_at = same.same_at ∙ run.bytes.same_at;
+        same_from = same.same_from ∙ run.bytes.same_from;
+        same_into = same.same_into ∙ run.bytes.same_into;
+        same_scratch = same.same_scratch ∙ run.bytes.same_scratch;
+      } in
       let full : blocks_in io.scratch ≡ size = full_scratch size io0.scratch io.scratch scratch run.bytes.same_scratch in
       let full' : blocks_in io'.scratch ≡ size = full_scratch size io0.scratch io'.scratch scratch bytes.same_scratch in
       let can_job : IsPossible s (holds ps) job w.source act = subst (λ (j : Job). IsPossible s (holds ps) j w.source act) runs.0 can in
@@ -547,8 +543,8 @@ module _ (job : Job) (io0 : Bytes) (old : RegionSeen) (s : Stage) (region start 
             subst (λ (j : Job). RunsIn j old size qs io'.scratch x.1 x.0.phase) runs.0
             (runs_from w.job w.step event w.source x.1 x.0.phase old size qs io'.scratch
             (λ has. scratch_after region size ps qs log log' io io' old s (holds ps) (λ told. (run.tells told).0) full' w.job w.step w.source w.left w.good w.failed event
-              (subst (λ (a : Act). Carries region a (Some event) io ps log io' qs log') at_step carries)
-              (subst (λ (a : Act). IsPossible s (holds ps) w.job w.source a) at_step can) has runs.1)
+            (subst (λ (a : Act). Carries region a (Some event) io ps log io' qs log') at_step carries)
+            (subst (λ (a : Act). IsPossible s (holds ps) w.job w.source a) at_step can) has runs.1)
             on.0);
         bytes = bytes;
         tells = λ told. (keep_tell ps qs kept_plexes (run.tells told).0, carried_tells region ps qs log log' io io' act (Some event) carries (run.tells told).1);
@@ -562,24 +558,22 @@ module _ (job : Job) (io0 : Bytes) (old : RegionSeen) (s : Stage) (region start 
             (subst (λ (c : Pending). Fit old.start size act c w.source io ps) (sym (moved_call job io0 io old who run.bytes)) (fit_for s w size ps old (holds ps) job io who act can_job at_step callable_io full runs.1 told)) in
             let answers : Answers call w.source act event (disks_of now) (disks_of next_region) = carried_answers region start size ps qs log log' tell tell_log act event io io' call w.source carries fit in
             let drawn_still : last_at number event call ≡ number =
-            subst (λ (n : ℕ). last_at n event call ≡ n) (sym run.number) (last_still event job io0 old who) in
-            (
+            subst (λ (n : ℕ). last_at n event call ≡ n) (sym run.number) (last_still event job io0 old who) in (
               g.0 ++ (Comes event (disks_of next_region) call (values_at (old.start + io'.at) io'.into) ∷ []),
               goes_more (Allows old.stage.phase (start_last old.stage.phase job old.number) call) old now next_region (start_last old.stage.phase job old.number) (start_call old.stage.phase call) call act event x
-              (values_at (old.start + io.at) io.into) (values_at (old.start + io'.at) io'.into) g.0 g.1
-              (λ entries. quiet_work s s.phase w act call (values_at (old.start + io.at) io.into) entries is run.named)
-              (act_is s s.phase w act is run.named)
-              (λ fixed entries.
-                let a : Around = (state_of now fixed entries call number).around in
-                fits_answer s s.phase w act event a (disks_of next_region) call (values_at (old.start + io'.at) io'.into) is run.named answers
-                (subst (λ (n : ℕ). ReadGives a act event (values_at (n + io'.at) io'.into)) run.kept.start
-                (carried_gives region start size ps qs log log' tell tell_log act event io io' call w.source a refl refl carries fit same.same_at same.same_into)))
-              table refl drawn_still kept_plexes kept_log backed,
+                  (values_at (old.start + io.at) io.into) (values_at (old.start + io'.at) io'.into) g.0 g.1
+                  (λ entries. quiet_work s s.phase w act call (values_at (old.start + io.at) io.into) entries is run.named)
+                  (act_is s s.phase w act is run.named)
+                  (λ fixed entries.
+                  let a : Around = (state_of now fixed entries call number).around in
+                  fits_answer s s.phase w act event a (disks_of next_region) call (values_at (old.start + io'.at) io'.into) is run.named answers
+                  (subst (λ (n : ℕ). ReadGives a act event (values_at (n + io'.at) io'.into)) run.kept.start
+                  (carried_gives region start size ps qs log log' tell tell_log act event io io' call w.source a refl refl carries fit same.same_at same.same_into)))
+                  table refl drawn_still kept_plexes kept_log backed,
             );
         causes = λ plain begins.
             let was = run.causes plain begins in
-            let f : Faults = was.0 in
-            (
+            let f : Faults = was.0 in (
               with_failures f act event,
               record {
                 plexes = λ k e. elim (or_cases (f.plex k) (plex_fails act event k) e) [
@@ -606,8 +600,7 @@ module _ (job : Job) (io0 : Bytes) (old : RegionSeen) (s : Stage) (region start 
             let at_read : act ≡ ReadCall w.left = at_step ∙ ap (λ (st : Step). act_at s w st) fact.step ∙ ap (λ (j : Job). read_act w j) (runs.0 ∙ read) in
             let c : Carries region (ReadCall w.left) (Some Got) io ps log io' qs log' =
             subst (λ (e : Event). Carries region (ReadCall w.left) (Some e) io ps log io' qs log') fact.answered (subst (λ (a : Act). Carries region a (Some event) io ps log io' qs log') at_read carries) in
-            let could : IsPossible s (holds ps) w.job w.source (ReadCall w.left) = subst (λ (a : Act). IsPossible s (holds ps) w.job w.source a) at_read can in
-            (
+            let could : IsPossible s (holds ps) w.job w.source (ReadCall w.left) = subst (λ (a : Act). IsPossible s (holds ps) w.job w.source a) at_read can in (
               c.0,
               still_current s.on s.bits x.0.on x.0.bits c.0 on.1.0 fact.bits (could.3 c.0 c.1),
               given ps qs c.0 io.at io'.at io'.into c.2.result c.2.answers c.2.changes (run.tells told).0 same.same_at,
@@ -702,12 +695,11 @@ pub running_held : (job : Job) (io0 : Bytes) (old : RegionSeen) (s : Stage) (reg
     HasRun job io0 old (record { stage = s; region = region; start = start; size = size; number = number; epoch = epoch; plexes = qs; log = log' }) None first io'
 running_held job io0 old s region start size number epoch ps log first act io w qs log' io' is run carries =
     let out = out_of s w region act io io' ps qs log log' (act_work s s.phase w act is run.named) carries in
-    let h = out.0 in
-    (
+    let h = out.0 in (
       act,
       subst (λ (b : Bytes). IsRunning job io0 old (record { stage = s; region = region; start = start; size = size; number = number; epoch = epoch; plexes = qs; log = log' }) first act b) (sym h.bytes)
-      (subst (λ (l : LogSeen). IsRunning job io0 old (record { stage = s; region = region; start = start; size = size; number = number; epoch = epoch; plexes = qs; log = l }) first act io) (sym h.log_is)
-      (subst (λ (xs : List PlexSeen). IsRunning job io0 old (record { stage = s; region = region; start = start; size = size; number = number; epoch = epoch; plexes = xs; log = log }) first act io) (sym h.plexes) run)),
+          (subst (λ (l : LogSeen). IsRunning job io0 old (record { stage = s; region = region; start = start; size = size; number = number; epoch = epoch; plexes = qs; log = l }) first act io) (sym h.log_is)
+          (subst (λ (xs : List PlexSeen). IsRunning job io0 old (record { stage = s; region = region; start = start; size = size; number = number; epoch = epoch; plexes = xs; log = log }) first act io) (sym h.plexes) run)),
       stands_in s.phase w is out.1,
       sym run.kept.log.lent ∙ h.lent,
     )

@@ -1,11 +1,10 @@
 -- What is known of a job under way.
-use Rattle.std.proofs.Common.{◌≡◌, ◌≢◌, ℕ, ◌+◌, ◌-◌, ◌*◌, ◌/◌, ◌^◌, ◌<◌, ◌≤◌, Bool, IsTrue, true, false, refl, sym, ◌∙◌, ap, subst, inl, inr, arith, ◌⊎◌, List, [], ◌∷◌, ◌++◌, length, Option, Some, None, Result, Ok, Err}
+use Rattle.std.proofs.Common.{◌≡◌, ℕ, ◌+◌, ◌*◌, ◌/◌, ◌^◌, ◌<◌, ◌≤◌, Bool, true, false, refl, sym, ◌∙◌, ap, subst, inl, inr, arith, List, length}
 use Rattle.std.specs.Prelude.{◌==◌}
-use Rattle.vx_base.specs.Blocks.{Contents, block_at, blocks_in}
+use Rattle.vx_base.specs.Blocks.{Contents, blocks_in}
 use Rattle.vx_base.specs.Counts.{Rose}
 use Rattle.vx_life.specs.Entry.{Entry}
 use Rattle.vx_mask.specs.Mask.{has, union, without}
-use Rattle.vx_mask.proofs.MaskLemmas.{has-lt}
 use Rattle.vx_mask.proofs.Sets.{without_parts, in_union}
 use Rattle.vx_mask.proofs.Tests.{true_or_false}
 use Rattle.vx_core.specs.declared.stage.Job.{Job}
@@ -20,33 +19,19 @@ use Rattle.vx_core.specs.declared.stage.Event.TheVariants.{Begin, Marked, MarkFa
 use Rattle.vx_core.specs.declared.stage.Act.TheVariants.{Mark, Unmark, WriteCall, WriteRegion, ReadCall, ReadRegion, Done, Skipped, Fault, Lost}
 use Rattle.vx_core.specs.declared.stage.Step.TheVariants.{Mark as AtMark, Write as AtWrite, MarkFailed as AtMarkFailed, Find as AtFind, Equal as AtEqual, Copy as AtCopy, Unmark as AtUnmark, Read as AtRead}
 use Rattle.vx_core.specs.declared.stage.Phase.TheVariants.{Settled, Unsettled, Dead, Busy}
-use Rattle.vx_core.specs.Table.{current, act_at, read_act, begun, next_of, IsNamed, NamesAct}
-use Rattle.vx_core.specs.History.{Call, Pending, NoCall, MayBegin}
-use Rattle.vx_core.specs.Region.{Around, Disks, Fixed, RegionState, CallOf, FitsIn, Answers, ReadGives, MayAnswer, entries_after, pending_after, pending_at, last_at}
-use Rattle.vx_core.specs.Schedule.{Happening, Comes, happens}
-use Rattle.vx_core.specs.Recovery.{region_after}
-use Rattle.vx_core.specs.Progress.{rank, steps_left, FallsBelow, ProgressFrom, KeepsForm}
+use Rattle.vx_core.specs.Table.{act_at, read_act, IsNamed}
+use Rattle.vx_core.specs.History.{Pending}
+use Rattle.vx_core.specs.Region.{CallOf, MayAnswer, entries_after, pending_after, pending_at}
+use Rattle.vx_core.specs.Progress.{rank, FallsBelow}
 use Rattle.vx_core.specs.Form.{IsFormed, MayCome}
-use Rattle.vx_core.specs.Follow.{AsksPossible, Follows, FollowsIn, FollowsFrom, FailsFrom, ReadsFrom, IsFailure, IsFollowing, IsReadDone, SameMasks, Rewrites, HasRead, IsPossible, PossibleIn, EndsSettled, IsMapOf}
-use Rattle.vx_core.specs.Causes.{Faults, IsPlain, Blames, KnowsFaults, CausesFrom, HasFailed}
-use Rattle.vx_core.proofs.Jobs.{mk}
-use Rattle.vx_core_laws.specs.Course.{EachFits}
-use Rattle.vx_core_laws.proofs.Courses.{after_both, fits_both}
-use Rattle.vx_marks.specs.Log.{LogSeen, KeepsLog, HasMaps, OnMarks}
-use Rattle.vx_runs.specs.declared.run.RunFault.{RunFault}
-use Rattle.vx_runs.specs.declared.run.RunFault.TheVariants.{Failed, PowerLost}
-use Rattle.vx_cell.specs.declared.fault.Place.{Place}
-use Rattle.vx_cell.specs.declared.fault.Place.TheVariants.{Data, Log}
-use Rattle.vx_cell.specs.declared.acts.Answered.{Answered}
-use Rattle.vx_cell.specs.Plexes.{PlexSeen, contents_of, blocks_of, holds, AllTell, AllCover, KeepPlexes, PlexRose, RoseAt, ChangesPlex, SomePieceCut}
-use Rattle.vx_cell.specs.Acts.{Bytes, IsRange, IsAskable, IsPlaced, PlaceRose, Carries, IsPlexWritten, IsPlexRead, read_event, event_of}
-use Rattle.vx_cell.specs.Region.{RegionSeen, IsWhole, IsLogOf, IsTold, Tells, KeepsRegion, LogRose, IsCut, TidiesOthers, marks_or, disks_of, state_of}
-use Rattle.vx_cell.specs.Running.{Caller, call_at, values_at, call_of, IsCallable, IsBacked, act_of, AreBacked, GoesBy, last_before, start_last, start_call, Allows, IsMarking, MayRun, Begins, HoldsRegion, RunsIn, AreShown, SameBytes, GivesCurrent, HasBlame, IsRunning}
-use Rattle.vx_cell.proofs.Changes.{keep_same, keep_more, keep_holds, keep_tell, keep_cover, keep_cut, keep_differ, holds_alike, rose_now, rose_still, at_now, at_still, change_others}
-use Rattle.vx_cell.proofs.Blocks.{IsCallOn, keeps_written, read_same, read_blocks}
-use Rattle.vx_cell.proofs.Carried.{carried_answers, carried_gives, Fit}
-use Rattle.vx_cell.proofs.Kept.{log_same, log_more, others_same, others_more, carried_plexes, carried_log, carried_others, carried_tells, carried_may, carried_shows, with_failures, has_failed, or_cases}
-use Rattle.vx_cell.proofs.Placed.{some_same}
+use Rattle.vx_core.specs.Follow.{Follows, FollowsIn, FollowsFrom, Rewrites, HasRead, IsPossible, PossibleIn, EndsSettled, IsMapOf}
+use Rattle.vx_core.specs.Causes.{Faults, Blames, KnowsFaults, CausesFrom, HasFailed}
+use Rattle.vx_marks.specs.Log.{LogSeen, KeepsLog, HasMaps}
+use Rattle.vx_cell.specs.Plexes.{PlexSeen, holds}
+use Rattle.vx_cell.specs.Acts.{Bytes, IsRange, IsAskable}
+use Rattle.vx_cell.specs.Region.{RegionSeen, IsWhole, IsLogOf, IsTold, LogRose}
+use Rattle.vx_cell.specs.Running.{Caller, call_at, call_of, IsCallable, HoldsRegion, RunsIn, SameBytes}
+use Rattle.vx_cell.proofs.Carried.{Fit}
 use Rattle.vx_cell.proofs.Measure.{phase_steps}
 
 -- ---- a job begins
@@ -67,10 +52,12 @@ no_true e = cc
 -- what `next` says of the job, once it is known what the scratch holds
 pub runs_from : (job : Job) (was : Step) (event : Event) (source : ℕ) (act : Act) (phase : Phase) (old : RegionSeen) (size : ℕ) (ps : List PlexSeen) (scratch : List ℕ) →
     (HasRead job was event → HoldsRegion old size scratch ps source) → FollowsIn job was event source act phase → RunsIn job old size ps scratch act phase
-runs_from job was event source act (Busy w) old size ps scratch holds follows =
-    (follows.same_job, λ rewrites.
+runs_from job was event source act (Busy w) old size ps scratch holds follows = (
+  follows.same_job,
+  λ rewrites.
       let h = follows.same_source rewrites in
-      subst (λ (k : ℕ). HoldsRegion old size scratch ps k) (sym h.1) (holds h.0))
+      subst (λ (k : ℕ). HoldsRegion old size scratch ps k) (sym h.1) (holds h.0),
+)
 runs_from job was event source act Settled old size ps scratch holds follows = follows
 runs_from job was event source act Unsettled old size ps scratch holds follows = follows
 runs_from job was event source act Dead old size ps scratch holds follows = follows.0
@@ -319,7 +306,6 @@ full_scratch size scratch scratch' e same = omega (arith, e, same)
 pub same_formed : (s : Stage) (phase : Phase) (f g : ℕ → Bool) → g ≡ f → IsFormed s phase f → IsFormed s phase g
 same_formed s phase f g e h = rw e h
 
-
 pub le_rose : (a b c : ℕ) → a ≤ b → Rose b c → Rose a c
 le_rose a b c le rose = omega (arith, le, rose)
 
@@ -353,4 +339,3 @@ still_current on bits on' bits' k e f there = rw (e, f) there
 
 pub fits_into : (size at : ℕ) (into into' : List ℕ) → at + length into / 512 ≤ size → length into' ≡ length into → at + blocks_in into' ≤ size
 fits_into size at into into' le same = omega (arith, le, same)
-

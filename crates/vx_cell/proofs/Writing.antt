@@ -1,35 +1,29 @@
 -- A write, and the clear after it.
-use Rattle.std.proofs.Common.{◌≡◌, ℕ, ◌+◌, Bool, true, false, refl, sym, ◌∙◌, ap, subst, inl, inr, ◌⊎◌, List, [], ◌∷◌, ◌++◌, Option, Some, None, Result, Ok, Err}
+use Rattle.std.proofs.Common.{◌≡◌, ℕ, ◌+◌, false, refl, sym, ◌∙◌, ap, subst, inl, inr, ◌⊎◌, List, [], ◌∷◌, ◌++◌, Result, Ok, Err}
 use Rattle.vx_base.specs.Blocks.{Contents}
 use Rattle.vx_life.specs.Entry.{Entry}
-use Rattle.vx_life.specs.Candidates.{Any}
-use Rattle.vx_core.specs.declared.stage.Job.{Job}
 use Rattle.vx_core.specs.declared.stage.Event.{Event}
 use Rattle.vx_core.specs.declared.stage.Act.{Act}
 use Rattle.vx_core.specs.declared.stage.Phase.{Phase}
 use Rattle.vx_core.specs.declared.stage.Stage.{Stage}
-use Rattle.vx_core.specs.declared.stage.Event.TheVariants.{Cut}
 use Rattle.vx_core.specs.declared.stage.Job.TheVariants.{Write as WriteJob, Clear}
 use Rattle.vx_core.specs.declared.stage.Act.TheVariants.{Done}
-use Rattle.vx_core.specs.declared.stage.Phase.TheVariants.{Settled, Unsettled, Dead, Busy}
+use Rattle.vx_core.specs.declared.stage.Phase.TheVariants.{Settled, Unsettled, Dead}
 use Rattle.vx_core.specs.Table.{next_of}
 use Rattle.vx_core.specs.History.{Pending, NoCall}
 use Rattle.vx_core.specs.Region.{Fixed, RegionState, entries_after}
-use Rattle.vx_core.specs.Schedule.{Happening, Comes, Elsewhere, happens}
+use Rattle.vx_core.specs.Schedule.{Happening, Comes, Elsewhere}
 use Rattle.vx_core.specs.Recovery.{region_after}
-use Rattle.vx_core.specs.Follow.{SameMasks}
-use Rattle.vx_core.specs.Causes.{IsPlain}
 use Rattle.vx_core_laws.specs.Course.{EachFits}
 use Rattle.vx_core_laws.proofs.Courses.{after_both, fits_both}
-use Rattle.vx_marks.specs.Log.{LogSeen, KeepsLog, OnMarks}
-use Rattle.vx_cell.specs.declared.fault.Place.{Place}
+use Rattle.vx_marks.specs.Log.{KeepsLog, OnMarks}
 use Rattle.vx_cell.specs.declared.fault.CellFault.{CellFault}
 use Rattle.vx_cell.specs.declared.fault.CellFault.TheVariants.{Fault, PowerLost, Held, Only}
 use Rattle.vx_cell.specs.Plexes.{KeepPlexes}
 use Rattle.vx_cell.specs.Acts.{Bytes}
 use Rattle.vx_cell.specs.Region.{RegionSeen, IsWhole, IsTold, KeepsRegion, TidiesOthers, state_of}
 use Rattle.vx_cell.specs.Running.{Caller, values_at, call_of, IsBacked, act_of, AreBacked, GoesBy, start_last, start_call, Allows}
-use Rattle.vx_cell.specs.Calls.{LeavesPhase, CallHasCause, HasEnded, entries_by, call_left, WriteGoes, HasWritten, answer_after, HasCleared, numbered, CallEnds, WriteEnds}
+use Rattle.vx_cell.specs.Calls.{HasEnded, entries_by, call_left, HasWritten, answer_after, HasCleared, numbered, CallEnds, WriteEnds}
 use Rattle.vx_cell.proofs.Changes.{keep_more, rose_now}
 use Rattle.vx_cell.proofs.Kept.{log_more, others_more}
 use Rattle.vx_cell.proofs.Working.{log_now}
@@ -102,8 +96,7 @@ clear_goes : (io : Bytes) (b c : RegionSeen) (io' : Bytes) (result : Result (Uni
 clear_goes io b c io' result settled ended told who =
     let g = ended.goes told who in
     let h : GoesBy (λ fixed entries. Unit {0}) g.0 b b.number NoCall c (call_left result NoCall) (entries_by result NoCall (values_at (b.start + io'.at) io'.into)) =
-    subst (λ (p : Phase). GoesBy (Allows p (start_last p Clear b.number) NoCall) g.0 b (start_last p Clear b.number) (start_call p NoCall) c (call_left result NoCall) (entries_by result NoCall (values_at (b.start + io'.at) io'.into))) settled g.1 in
-    (
+    subst (λ (p : Phase). GoesBy (Allows p (start_last p Clear b.number) NoCall) g.0 b (start_last p Clear b.number) (start_call p NoCall) c (call_left result NoCall) (entries_by result NoCall (values_at (b.start + io'.at) io'.into))) settled g.1 in (
       g.0,
       record {
         fits = h.fits;

@@ -1,7 +1,5 @@
 -- Which plexes a job writes.
-use Rattle.std.proofs.Common.{◌≡◌, ℕ, Bool, true, false, refl, sym, ◌∙◌, ap, subst, inl, inr, ◌⊎◌, List, [], ◌∷◌, Option, Some, Result}
-use Rattle.std.specs.Prelude.{◌==◌}
-use Rattle.vx_mask.specs.Mask.{has}
+use Rattle.std.proofs.Common.{◌≡◌, ℕ, Bool, true, false, refl, sym, ◌∙◌, subst, inl, inr, List, [], ◌∷◌, Option, Result}
 use Rattle.vx_core.specs.declared.stage.Job.{Job}
 use Rattle.vx_core.specs.declared.stage.Event.{Event}
 use Rattle.vx_core.specs.declared.stage.Act.{Act}
@@ -47,14 +45,13 @@ more_writes may [] [] (r ∷ rs) k a b = absurd b
 more_writes may [] (q ∷ qs) rs k a b = absurd k
 more_writes may (p ∷ ps) [] rs k a b = absurd k
 more_writes may (p ∷ ps) (q ∷ qs) [] k a b = absurd b
-more_writes may (p ∷ ps) (q ∷ qs) (r ∷ rs) k a b =
-    (
-      elim a.0 [
-        | inr may_p ↦ inr may_p
-        | inl same ↦ elim b.0 [ inl again ↦ inl (more_pieces p.pieces q.pieces r.pieces same again) | inr may_q ↦ inr (subst (λ (m : ℕ). may m) k.0.same_map may_q) ]
-      ],
-      more_writes may ps qs rs k.1 a.1 b.1,
-    )
+more_writes may (p ∷ ps) (q ∷ qs) (r ∷ rs) k a b = (
+  elim a.0 [
+    | inr may_p ↦ inr may_p
+    | inl same ↦ elim b.0 [ inl again ↦ inl (more_pieces p.pieces q.pieces r.pieces same again) | inr may_q ↦ inr (subst (λ (m : ℕ). may m) k.0.same_map may_q) ]
+  ],
+  more_writes may ps qs rs k.1 a.1 b.1,
+)
 
 by_same : (may : ℕ → Type 0) (ps qs : List PlexSeen) → qs ≡ ps → WritesOnly may ps qs
 by_same may ps qs e = subst (λ (xs : List PlexSeen). WritesOnly may ps xs) (sym e) (same_writes may ps)

@@ -1,6 +1,5 @@
 -- What one device call is, and what it does to the plexes and the log.
-use Rattle.std.specs.Prelude.{◌≡◌, ◌≢◌, ℕ, ◌+◌, ◌/◌, ◌%◌, ◌≤◌, ◌<◌, Bool, IsTrue, true, false, List, length, ◌⊎◌, Option, Some, None, IsSome, Result, Ok, Err}
-use Rattle.std.specs.Option.{option_map}
+use Rattle.std.specs.Prelude.{◌≡◌, ◌≢◌, ℕ, ◌+◌, ◌/◌, ◌%◌, ◌≤◌, ◌<◌, IsTrue, true, List, Option, Some, None, IsSome, Result, Ok, Err}
 use Rattle.vx_base.specs.Counts.{Rose}
 use Rattle.vx_mask.specs.Mask.{has}
 use Rattle.vx_mask.specs.Marks.{Marks, AllGain, AllLose, MayGain, MayLose}

@@ -1,11 +1,10 @@
 -- What is done to a cell between calls.
-use Rattle.std.specs.Prelude.{◌≡◌, ◌≢◌, ◌⊎◌, ℕ, ◌<◌, ◌==◌, Bool, true, false, if◌then◌else◌, List, [], ◌∷◌, ◌++◌, map, Option, Result, Ok, Err}
+use Rattle.std.specs.Prelude.{◌≡◌, ◌⊎◌, ℕ, ◌<◌, ◌==◌, Bool, true, false, if◌then◌else◌, List, [], ◌∷◌, map, Option, Result, Ok, Err}
 use Rattle.std.specs.Vec.{vec_len, vec_capacity}
-use Rattle.vx_mask.specs.Mask.{has, only, without}
+use Rattle.vx_mask.specs.Mask.{only, without}
 use Rattle.vx_core.specs.declared.stage.Stage.{Stage}
-use Rattle.vx_core.specs.declared.stage.Phase.TheVariants.{Dead}
 use Rattle.vx_core.specs.Table.{current}
-use Rattle.vx_core.specs.Plexes.{set_on, set_off, take_out, put_in}
+use Rattle.vx_core.specs.Plexes.{set_on, set_off, take_out}
 use Rattle.vx_piece.specs.Seen.{Seen}
 use Rattle.vx_runs.specs.Run.{EachPiece, IsArmed}
 use Rattle.vx_cell.specs.declared.cell.Cell.{Cell}

@@ -1,5 +1,5 @@
 -- What calls on cells mean for the histories that regions stand for.
-use Rattle.std.specs.Prelude.{◌≡◌, ◌≢◌, ℕ, ◌+◌, List, Result}
+use Rattle.std.specs.Prelude.{◌≢◌, ℕ, ◌+◌, List, Result}
 use Rattle.vx_life.specs.Entry.{Entry}
 use Rattle.vx_core.specs.declared.stage.Job.{Job}
 use Rattle.vx_core.specs.History.{Pending}

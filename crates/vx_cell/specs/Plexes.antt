@@ -1,5 +1,5 @@
 -- What contracts see of the plexes of a region.
-use Rattle.std.specs.Prelude.{◌≡◌, ◌≢◌, ℕ, ◌-◌, ◌==◌, ◌||◌, ◌<◌, Bool, true, false, if◌then◌else◌, zero, suc, List, [], ◌∷◌, map, ◌⊎◌}
+use Rattle.std.specs.Prelude.{◌≡◌, ℕ, ◌-◌, ◌==◌, ◌||◌, ◌<◌, Bool, true, false, if◌then◌else◌, zero, suc, List, [], ◌∷◌, map, ◌⊎◌}
 use Rattle.vx_base.specs.Counts.{Rose}
 use Rattle.vx_base.specs.Blocks.{Contents, is_in}
 use Rattle.vx_piece.specs.Seen.{Seen, Keeps}

@@ -1,7 +1,6 @@
 -- What contracts see of a region, and the histories that it stands for.
-use Rattle.std.specs.Prelude.{◌≡◌, ◌≢◌, ℕ, ◌+◌, ◌^◌, ◌<◌, ◌≤◌, Bool, IsTrue, true, false, List, Option, Some, None, ◌⊎◌}
+use Rattle.std.specs.Prelude.{◌≡◌, ◌≢◌, ℕ, ◌^◌, ◌<◌, IsTrue, true, false, List, Option, Some, None, ◌⊎◌}
 use Rattle.vx_base.specs.Counts.{Rose}
-use Rattle.vx_base.specs.Blocks.{Contents}
 use Rattle.vx_life.specs.Entry.{Entry}
 use Rattle.vx_mask.specs.Mask.{has, union}
 use Rattle.vx_mask.specs.Marks.{Marks, MayTidy}

@@ -1,5 +1,5 @@
 -- How a job on a region runs, and what has become of the region so far.
-use Rattle.std.specs.Prelude.{◌≡◌, ◌≢◌, ℕ, ◌+◌, ◌-◌, ◌<◌, ◌==◌, Bool, true, false, List, [], ◌∷◌, length, Option, Some, None, ◌⊎◌}
+use Rattle.std.specs.Prelude.{◌≡◌, ℕ, ◌+◌, ◌-◌, ◌<◌, ◌==◌, Bool, true, false, List, [], ◌∷◌, length, Option, None}
 use Rattle.vx_base.specs.Blocks.{Contents, blocks_in, block_at}
 use Rattle.vx_life.specs.Entry.{Entry}
 use Rattle.vx_mask.specs.Mask.{has}
@@ -16,8 +16,8 @@ use Rattle.vx_core.specs.declared.stage.Step.TheVariants.{Mark as AtMark, MarkFa
 use Rattle.vx_core.specs.declared.stage.Phase.TheVariants.{Settled, Unsettled, Dead, Busy}
 use Rattle.vx_core.specs.Table.{current, act_at, next_of, IsNamed}
 use Rattle.vx_core.specs.History.{Call, Pending, NoCall, Reads, Writes, MayBegin}
-use Rattle.vx_core.specs.Region.{Fixed, RegionState, entries_after, pending_after}
-use Rattle.vx_core.specs.Schedule.{Happening, Comes, Elsewhere, happens}
+use Rattle.vx_core.specs.Region.{Fixed, entries_after, pending_after}
+use Rattle.vx_core.specs.Schedule.{Happening, Comes, Elsewhere}
 use Rattle.vx_core.specs.Recovery.{region_after}
 use Rattle.vx_core.specs.Follow.{SameMasks, Rewrites, EndsSettled, PossibleIn, settles}
 use Rattle.vx_core.specs.Causes.{Faults, IsPlain, Blames}

@@ -48,7 +48,10 @@ fn mark<M: Marker>(log: &mut M, region: u64, bits: u64) -> Option<Answered>
 {
     match log.mark(region, bits) {
         Ok(()) => plain(Event::Marked),
-        Err(MarkFault::Failed { copy, device }) => failed(Event::MarkFailed, Place::Log { copy, device }),
+        Err(MarkFault::Failed { copy, device }) => failed(
+            Event::MarkFailed,
+            Place::Log { copy, device },
+        ),
         Err(MarkFault::PowerLost) => plain(Event::Cut),
         Err(MarkFault::Busy) => None,
     }
@@ -63,7 +66,10 @@ fn unmark<M: Marker>(log: &mut M, region: u64, bits: u64) -> Option<Answered>
 {
     match log.unmark(region, bits) {
         Ok(()) => plain(Event::Unmarked),
-        Err(MarkFault::Failed { copy, device }) => failed(Event::UnmarkFailed, Place::Log { copy, device }),
+        Err(MarkFault::Failed { copy, device }) => failed(
+            Event::UnmarkFailed,
+            Place::Log { copy, device },
+        ),
         Err(MarkFault::PowerLost) => plain(Event::Cut),
         Err(MarkFault::Busy) => None,
     }
@@ -85,7 +91,10 @@ fn wrote(map: u32, answer: Result<(), RunFault>) -> Option<Answered>
 {
     match answer {
         Ok(()) => plain(Event::Wrote),
-        Err(RunFault::Failed { piece, device }) => failed(Event::WriteFailed, place_of(map, piece, device)),
+        Err(RunFault::Failed { piece, device }) => failed(
+            Event::WriteFailed,
+            place_of(map, piece, device),
+        ),
         Err(RunFault::PowerLost) => plain(Event::Cut),
     }
 }
@@ -96,7 +105,10 @@ fn got(map: u32, answer: Result<(), RunFault>) -> Option<Answered>
 {
     match answer {
         Ok(()) => plain(Event::Got),
-        Err(RunFault::Failed { piece, device }) => failed(Event::ReadFailed(map), place_of(map, piece, device)),
+        Err(RunFault::Failed { piece, device }) => failed(
+            Event::ReadFailed(map),
+            place_of(map, piece, device),
+        ),
         Err(RunFault::PowerLost) => plain(Event::Cut),
     }
 }

@@ -51,7 +51,16 @@ impl<P: Piece> Cell<P> {
             return Err(CellFault::PowerLost);
         }
         self.number += 1;
-        let ran = self.run(Job::Read, at - self.span.start, into, &[], scratch, log, pick, policy);
+        let ran = self.run(
+            Job::Read,
+            at - self.span.start,
+            into,
+            &[],
+            scratch,
+            log,
+            pick,
+            policy,
+        );
         answer(ran, self.number, self.number)
     }
 
@@ -81,13 +90,28 @@ impl<P: Piece> Cell<P> {
         }
         self.number += 1;
         let pick = Picker::new(lowest_member);
-        let ran = self.run(Job::Write, at - self.span.start, &mut [], from, scratch, log, &pick, Policy::Round);
+        let ran = self.run(
+            Job::Write,
+            at - self.span.start,
+            &mut [],
+            from,
+            scratch,
+            log,
+            &pick,
+            Policy::Round,
+        );
         answer(ran, self.number, self.number)
     }
 
     /// Writes blocks, and then takes the dirty mark away; a failure of that changes no answer. `at` counts from the volume's
     /// first block. The log is not lent.
-    pub fn write<M: Marker>(&mut self, at: u64, from: &[u8], scratch: &mut [u8], log: &mut M) -> Result<u64, CellFault>
+    pub fn write<M: Marker>(
+        &mut self,
+        at: u64,
+        from: &[u8],
+        scratch: &mut [u8],
+        log: &mut M,
+    ) -> Result<u64, CellFault>
         requires idle { IsIdle self.old.stage.phase }
         requires whole { IsWhole (region_of P.seen self.old (M.log log.old)) }
         requires scratch { length scratch.old ≡ 512 * self.old.span.count }
@@ -109,7 +133,12 @@ impl<P: Piece> Cell<P> {
     }
 
     /// Takes the dirty mark away after a write that was done.
-    fn clear_after<M: Marker>(&mut self, number: u64, scratch: &mut [u8], log: &mut M) -> Result<u64, CellFault>
+    fn clear_after<M: Marker>(
+        &mut self,
+        number: u64,
+        scratch: &mut [u8],
+        log: &mut M,
+    ) -> Result<u64, CellFault>
         requires settled { self.old.stage.phase ≡ Settled }
         requires whole { IsWhole (region_of P.seen self.old (M.log log.old)) }
         requires scratch { length scratch.old ≡ 512 * self.old.span.count }
@@ -139,13 +168,27 @@ impl<P: Piece> Cell<P> {
             return Err(CellFault::PowerLost);
         }
         let pick = Picker::new(lowest_member);
-        let ran = self.run(Job::Settle, 0, &mut [], &[], scratch, log, &pick, Policy::Round);
+        let ran = self.run(
+            Job::Settle,
+            0,
+            &mut [],
+            &[],
+            scratch,
+            log,
+            &pick,
+            Policy::Round,
+        );
         answer(ran, (), ())
     }
 
     /// Copies the region to a marked plex, and answers whether there was something to copy. An unsettled region is settled
     /// first.
-    pub fn copy_to<M: Marker>(&mut self, map: u8, scratch: &mut [u8], log: &mut M) -> Result<bool, CellFault>
+    pub fn copy_to<M: Marker>(
+        &mut self,
+        map: u8,
+        scratch: &mut [u8],
+        log: &mut M,
+    ) -> Result<bool, CellFault>
         requires idle { IsIdle self.old.stage.phase }
         requires whole { IsWhole (region_of P.seen self.old (M.log log.old)) }
         requires scratch { length scratch.old ≡ 512 * self.old.span.count }
@@ -159,12 +202,25 @@ impl<P: Piece> Cell<P> {
             return Err(CellFault::PowerLost);
         }
         let pick = Picker::new(lowest_member);
-        let ran = self.run(Job::Copy(map as u32), 0, &mut [], &[], scratch, log, &pick, Policy::Round);
+        let ran = self.run(
+            Job::Copy(map as u32),
+            0,
+            &mut [],
+            &[],
+            scratch,
+            log,
+            &pick,
+            Policy::Round,
+        );
         answer(ran, true, false)
     }
 
     /// Takes the dirty mark away where there is one. An unsettled region is settled first.
-    pub fn clear_dirty<M: Marker>(&mut self, scratch: &mut [u8], log: &mut M) -> Result<(), CellFault>
+    pub fn clear_dirty<M: Marker>(
+        &mut self,
+        scratch: &mut [u8],
+        log: &mut M,
+    ) -> Result<(), CellFault>
         requires idle { IsIdle self.old.stage.phase }
         requires whole { IsWhole (region_of P.seen self.old (M.log log.old)) }
         requires scratch { length scratch.old ≡ 512 * self.old.span.count }
@@ -178,7 +234,16 @@ impl<P: Piece> Cell<P> {
             return Err(CellFault::PowerLost);
         }
         let pick = Picker::new(lowest_member);
-        let ran = self.run(Job::Clear, 0, &mut [], &[], scratch, log, &pick, Policy::Round);
+        let ran = self.run(
+            Job::Clear,
+            0,
+            &mut [],
+            &[],
+            scratch,
+            log,
+            &pick,
+            Policy::Round,
+        );
         answer(ran, (), ())
     }
 
@@ -211,7 +276,11 @@ impl<P: Piece> Cell<P> {
             Phase::Busy(work) => {
                 let from_start = at.saturating_sub(self.span.start);
                 let ran = self.run(work.job, from_start, into, from, scratch, log, pick, policy);
-                answer(ran, done_of(work.job, self.number), skipped_of(work.job, self.number))
+                answer(
+                    ran,
+                    done_of(work.job, self.number),
+                    skipped_of(work.job, self.number),
+                )
             }
             Phase::Settled | Phase::Unsettled | Phase::Dead => Err(CellFault::Held),
         }

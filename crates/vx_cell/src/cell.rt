@@ -35,7 +35,14 @@ impl<P: Piece> Cell<P> {
     }
 
     /// A cell within a life, with this number and epoch.
-    pub fn new_at(stage: Stage, region: u64, span: Span, plexes: Vec<Plex<P>>, number: u64, epoch: u64) -> Cell<P>
+    pub fn new_at(
+        stage: Stage,
+        region: u64,
+        span: Span,
+        plexes: Vec<Plex<P>>,
+        number: u64,
+        epoch: u64,
+    ) -> Cell<P>
         ensures { cell_seen P.seen result ≡ record { stage = stage; region = region; start = span.start; size = span.count; number = number; epoch = epoch; plexes = plexes_seen P.seen plexes.items } }
     {
         Cell {
@@ -160,8 +167,8 @@ impl<P: Piece> Cell<P> {
     /// Puts a plex in, which is then off. It is given back only where there was no room for it.
     pub fn put_plex(&mut self, map: u8, pieces: Vec<P>) -> Result<(), Plex<P>>
         ensures ok { OnOk result (cell_seen P.seen self.new ≡ record (cell_seen P.seen self.old) {
-            stage = put_in (cell_seen P.seen self.old).stage map;
-            plexes = (cell_seen P.seen self.old).plexes ++ record { map = map; pieces = map_of P.seen pieces.items } ∷ [];
+          stage = put_in (cell_seen P.seen self.old).stage map;
+          plexes = (cell_seen P.seen self.old).plexes ++ record { map = map; pieces = map_of P.seen pieces.items } ∷ [];
         }) }
         ensures same { OnErr result (cell_seen P.seen self.new ≡ cell_seen P.seen self.old) }
         ensures room { HasRoom self.old → OnErr result ⊥ }

@@ -33,7 +33,13 @@ pub fn find<P: Piece>(plexes: &[Plex<P>], map: u32) -> Option<usize>
 }
 
 /// Writes blocks of a plex. `at` counts from the region's first block.
-pub fn write_plex<P: Piece>(plexes: &mut Vec<Plex<P>>, map: u32, at: u64, bytes: &[u8], size: u64) -> Result<(), RunFault>
+pub fn write_plex<P: Piece>(
+    plexes: &mut Vec<Plex<P>>,
+    map: u32,
+    at: u64,
+    bytes: &[u8],
+    size: u64,
+) -> Result<(), RunFault>
     requires held { holds (plexes_seen P.seen plexes.old.items) map ≡ true }
     requires cover { AllCover size (plexes_seen P.seen plexes.old.items) }
     requires range { IsRange size at (length bytes.now) }
@@ -49,7 +55,13 @@ pub fn write_plex<P: Piece>(plexes: &mut Vec<Plex<P>>, map: u32, at: u64, bytes:
 }
 
 /// Reads blocks of a plex.
-pub fn read_plex<P: Piece>(plexes: &mut Vec<Plex<P>>, map: u32, at: u64, into: &mut [u8], size: u64) -> Result<(), RunFault>
+pub fn read_plex<P: Piece>(
+    plexes: &mut Vec<Plex<P>>,
+    map: u32,
+    at: u64,
+    into: &mut [u8],
+    size: u64,
+) -> Result<(), RunFault>
     requires held { holds (plexes_seen P.seen plexes.old.items) map ≡ true }
     requires cover { AllCover size (plexes_seen P.seen plexes.old.items) }
     requires range { IsRange size at (length into.old) }

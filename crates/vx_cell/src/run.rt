@@ -52,7 +52,20 @@ impl<P: Piece> Cell<P> {
         let mut act = begun.1;
         let mut first = None;
         while let Phase::Busy(work) = self.stage.phase {
-            match carry_out(&mut self.plexes, self.region, self.span.count, at, into, from, scratch, log, pick, policy, self.number, act) {
+            match carry_out(
+                &mut self.plexes,
+                self.region,
+                self.span.count,
+                at,
+                into,
+                from,
+                scratch,
+                log,
+                pick,
+                policy,
+                self.number,
+                act,
+            ) {
                 None => return Ran { act: None, first },
                 Some(answer) => {
                     first = earlier(first, answer.place);

@@ -1,4 +1,4 @@
-use Rattle.std.proofs.Common.{◌≡◌, ◌<◌, ℕ, refl, subst, sym, ap, arith, get_or, length, map}
+use Rattle.std.proofs.Common.{◌≡◌, refl, subst, sym, arith, map}
 use Rattle.vx_runs.specs.Run.{run_sectors}
 use Rattle.vx_cell.specs.declared.plex.Plex.{Plex}
 use Rattle.vx_cell.specs.Plexes.{plex_seen}

@@ -1,4 +1,4 @@
-use Rattle.std.proofs.Common.{◌≡◌, refl, arith, length, map, rules}
+use Rattle.std.proofs.Common.{refl, arith, map, rules}
 use Rattle.vx_runs.specs.Run.{IsArmed}
 use Rattle.vx_runs.proofs.Going.{sectors_before, step_next, step_end, each_part}
 use Rattle.vx_runs.proofs.run.arm_run.Goals as goal

@@ -1,8 +1,7 @@
-use Rattle.std.proofs.Common.{◌≡◌, ℕ, ◌∙◌, ◌∷◌, ◌++◌, [], sym, ap, subst, refl, List, map, Result, Ok, Err, Bool, true, cond}
-use Rattle.std.specs.Prelude.{is_ok}
+use Rattle.std.proofs.Common.{ℕ, ◌∙◌, ap, refl, List}
 use Rattle.vx_mask.specs.Mask.{only, union}
 use Rattle.vx_cell.specs.declared.plex.Plex.{Plex}
-use Rattle.vx_cell.specs.Plexes.{PlexSeen, plexes_seen}
+use Rattle.vx_cell.specs.Plexes.{plexes_seen}
 use Rattle.vx_cell.proofs.Members.{seen_more, seen_as}
 use Rattle.vx_cell.proofs.cell.Cell.put_plex.Goals as goal
 

@@ -1,7 +1,7 @@
-use Rattle.std.proofs.Common.{◌≡◌, ◌∙◌, ℕ, refl, sym, ap, length}
+use Rattle.std.proofs.Common.{refl}
 use Rattle.vx_cell.specs.Plexes.{plexes_seen}
 use Rattle.vx_cell.specs.Calls.{region_of}
-use Rattle.vx_cell.proofs.Stepped.{running_starts, running_next, running_smaller, running_held, askable_now, maps_fit, scratch_range, phase_idle}
+use Rattle.vx_cell.proofs.Stepped.{running_starts, running_next, running_smaller, askable_now, maps_fit}
 use Rattle.vx_cell.proofs.Kept.{carried_may}
 use Rattle.vx_cell.proofs.cell.Cell.run.Goals as goal
 

@@ -1,10 +1,9 @@
-use Rattle.std.proofs.Common.{◌≡◌, ℕ, ◌∙◌, ◌<◌, sym, ap, subst, refl, arith, List, length, map, get_or, Bool, true, false}
+use Rattle.std.proofs.Common.{ℕ, ◌∙◌, sym, ap, subst, refl, List, map}
 use Rattle.std.specs.List.{remove}
-use Rattle.vx_piece.specs.Seen.{Seen}
 use Rattle.vx_mask.specs.Mask.{only, without}
 use Rattle.vx_cell.specs.declared.plex.Plex.{Plex}
-use Rattle.vx_cell.specs.Plexes.{PlexSeen, plexes_seen}
-use Rattle.vx_cell.specs.Changes.{IsTaken, has_other}
+use Rattle.vx_cell.specs.Plexes.{plexes_seen}
+use Rattle.vx_cell.specs.Changes.{IsTaken}
 use Rattle.vx_cell.proofs.Members.{taken_at, seen_as}
 use Rattle.vx_cell.proofs.cell.Cell.take_plex.Goals as goal
 

@@ -1,0 +1,15 @@
+pub mod Arming
+pub mod Blocks
+pub mod Carried
+pub mod Changes
+pub mod Ended
+pub mod Kept
+pub mod Measure
+pub mod Members
+pub mod Placed
+pub mod Scratch
+pub mod Standing
+pub mod Stepped
+pub mod Working
+pub mod Writing
+pub mod Written

@@ -1,0 +1,7 @@
+pub mod Acts
+pub mod Calls
+pub mod Changes
+pub mod Laws
+pub mod Plexes
+pub mod Region
+pub mod Running

@@ -1,7 +1,6 @@
 ghost use Rattle.std.specs.Prelude.{◌≡◌, ◌+◌, ◌*◌, ◌<◌, ◌^◌};
 ghost use Rattle.vx_base.specs.Counts.{later_count};
 
-use crate::limit::check_length;
 use std::alloc::Global;
 use std::fs::{File, OpenFile, OpenOptions};
 use std::os::unix::fs::FileExt;
@@ -161,7 +160,6 @@ fn write_at<R: Files>(rt: &R, path: &str, first: u64, from: &[u8]) -> io::Result
 where
     R::File: FileExt,
 {
-    check_length(first.saturating_add(from.len() as u64))?;
     let file = open(rt, path)?;
     file.write_all_at(from, first)?;
     file.sync_data()

@@ -1,6 +1,5 @@
 ghost use Rattle.std.specs.Prelude.{◌*◌, ◌<◌, ◌^◌, IfOk};
 
-use crate::limit::check_length;
 use std::alloc::{AllocError, Global};
 use std::collections::{BTreeMap, BTreeSet};
 use std::fs::{DirEntry, File, Metadata, OpenFile};
@@ -143,7 +142,6 @@ impl Folder {
     }
 
     fn fill<R: Files>(&self, rt: &R, file: &R::File, bytes: u64) -> io::Result<()> {
-        check_length(bytes)?;
         file.set_len(bytes)?;
         file.sync_all()?;
         File::open(rt, self.path.as_str())?.sync_all()

@@ -5,7 +5,6 @@ mod file_piece;
 mod file_shelf;
 mod folder;
 mod known;
-mod limit;
 
 pub use file_piece::FilePiece;
 pub use file_shelf::FileShelf;

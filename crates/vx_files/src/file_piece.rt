@@ -1,7 +1,6 @@
 ghost use Rattle.std.specs.Prelude.{◌≡◌, ◌+◌, ◌*◌, ◌<◌, ◌^◌};
 ghost use Rattle.vx_base.specs.Counts.{later_count};
 
-use crate::limit::check_length;
 use std::alloc::Global;
 use std::fs::{File, OpenFile, OpenOptions};
 use std::os::unix::fs::FileExt;

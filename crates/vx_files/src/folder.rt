@@ -1,6 +1,5 @@
 ghost use Rattle.std.specs.Prelude.{◌*◌, ◌<◌, ◌^◌, IfOk};
 
-use crate::limit::check_length;
 use std::alloc::{AllocError, Global};
 use std::collections::{BTreeMap, BTreeSet};
 use std::fs::{DirEntry, File, Metadata, OpenFile};

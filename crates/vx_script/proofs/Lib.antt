@@ -1,3 +1,4 @@
+pub mod Calls
 pub mod Carry
 pub mod Faults
 pub mod Heads

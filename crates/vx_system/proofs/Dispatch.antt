@@ -1,21 +1,26 @@
 -- A step of a family is a step of the command.
 use Rattle.std.proofs.Common.{◌≡◌, ℕ, Bool, true, false, List, Option, Some, None, Result, Ok, Err, refl, sym, subst, arith}
 use Rattle.std.specs.Prelude.{IfOk, MatchBool, MatchOption, is_some, is_none, ◌&&◌}
+use Rattle.std.proofs.lemmas.Bool.{and_parts}
+use Rattle.std.proofs.lemmas.Option.{same_Some}
 use Rattle.vx_base.specs.Named.{Word}
 use Rattle.vx_base.proofs.CountLemmas.{none_rose}
 use Rattle.vx_script_words.specs.declared.value.DiskAt.{DiskAt}
 use Rattle.vx_script_forms.specs.declared.call.Call.{Call as Said}
+use Rattle.vx_script_forms.specs.declared.call.Call.TheVariants as said
 use Rattle.vx_piece.specs.Seen.{Seen}
 use Rattle.vx_script_forms.specs.declared.form.Form.{Form}
 use Rattle.vx_script_forms.specs.declared.form.Form.TheVariants as form
+use Rattle.vx_script.specs.Kept.{is_said, is_body, maybe_cut, is_command}
 use Rattle.vx_script.specs.declared.command.Command.{Command}
+use Rattle.vx_script.proofs.Calls.{read_range, fill_range}
 use Rattle.vx_world.specs.declared.answer.Answer.{Answer}
 use Rattle.vx_world.specs.declared.answer.Answer.TheVariants.{Refused}
 use Rattle.vx_world.specs.declared.answer.Refusal.TheVariants.{NotBuilt}
 use Rattle.vx_world.specs.declared.command.Call.{Call}
 use Rattle.vx_world.specs.Failures.{Failures}
 use Rattle.vx_world.specs.World.{World, IsRefused}
-use Rattle.vx_world.specs.Form.{is_built, is_built_form, call_of}
+use Rattle.vx_world.specs.Form.{is_built, is_built_form, is_call, call_of}
 use Rattle.vx_world.specs.Transcript.{Step, FormStep}
 use Rattle.vx_world.specs.Calls.{CallStep}
 use Rattle.vx_hold.specs.Stand.{State, StandsFor}
@@ -119,6 +124,18 @@ call_built said call e = subst (λ (o : Option Call). is_some o ≡ true) (sym e
 
 pub call_step : (f : Failures) (place : ℕ) (group : Option Word) (said : Said) (call : Call) (w : World) (answer : Answer) (next : World) → call_of said ≡ Some call → CallStep place call w answer next → FormStep f place group (form.Calling said) w answer next
 call_step f place group said call w answer next e step = subst (λ (o : Option Call). MatchOption o ⊥ (λ c. CallStep place c w answer next)) (sym e) step
+
+-- a call that a kept command makes is in its range
+said_call : (group : Option Word) (said : Said) (call : Call) → is_said group (form.Calling said) ≡ true → call_of said ≡ Some call → is_call call ≡ true
+said_call group (said.Read vol start count) call kept e = subst (λ x. is_call x ≡ true) (same_Some _ _ e) (read_range group vol start count kept)
+said_call group (said.Fill vol start count byte) call kept e = subst (λ x. is_call x ≡ true) (same_Some _ _ e) (fill_range group vol start count byte kept)
+said_call group (said.Data vol start blocks) call kept e = cc
+
+pub call_kept : (c : Command) (said : Said) (call : Call) → is_command c ≡ true → c.form ≡ form.Calling said → call_of said ≡ Some call → is_call call ≡ true
+call_kept c said call kept is e =
+    let whole = and_parts (is_said c.group c.form && is_body c.form) (maybe_cut c.cut) kept in
+    let first = and_parts (is_said c.group c.form) (is_body c.form) whole.0 in
+    said_call c.group said call (subst (λ x. is_said c.group x ≡ true) is first.0) e
 
 -- the refusal of a command that is not built moves nothing
 module _ {P : Type 0} (see : P → Seen) (old : State P) where

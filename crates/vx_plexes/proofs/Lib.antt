@@ -1,1 +1,8 @@
+pub mod Members
+mod Valid
 mod Once
+mod Chain
+mod Walks
+pub mod Plexes
+mod Apart
+pub mod Lying

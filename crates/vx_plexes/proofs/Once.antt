@@ -1,5 +1,5 @@
 -- No sector of a disk is in two subdisks of a valid configuration.
-use Rattle.std.proofs.Common.{◌≡◌, ℕ, ◌+◌, ◌<◌, ◌≤◌, Bool, true, false, cond, List, [], ◌∷◌, ◌++◌, Option, Some, None, refl, sym, ◌∙◌, ap, subst, inl, inr, arith}
+use Rattle.std.proofs.Common.{◌≡◌, ℕ, ◌+◌, ◌<◌, ◌≤◌, Bool, true, false, cond, List, [], ◌∷◌, Option, Some, None, refl, sym, ◌∙◌, ap, subst, inl, inr, arith}
 use Rattle.std.specs.Prelude.{◌&&◌, ◌||◌, nat_lt}
 use Rattle.std.specs.List.{list_any, fold}
 use Rattle.std.specs.Prelude.{take, drop}
@@ -13,12 +13,11 @@ use Rattle.vx_parts.specs.declared.subdisk.Subdisk.{Subdisk}
 use Rattle.vx_parts.specs.Objects.{is_subdisk, comes_before}
 use Rattle.vx_extents.specs.Overlap.{shares_sector, overlaps_earlier, first_overlap_with, first_overlap}
 use Rattle.vx_extents.proofs.NameOrder.{same_place}
-use Rattle.vx_rules.specs.Rules.{first_broken, first_broken_of, fault_of, fault_over, fault_in, rules}
-use Rattle.vx_rules.specs.Faults.{first_some, first_of}
-use Rattle.vx_rules.specs.declared.rule.Rule.{Rule}
+use Rattle.vx_rules.specs.Rules.{first_broken, fault_of, fault_over, rules}
 use Rattle.vx_rules.specs.declared.rule.Rule.TheVariants as rule
 use Rattle.vx_extents.specs.Overlap.{overlap_of, overlap_fault}
 use Rattle.vx_plexes.specs.Once.{IsOneOf, HasSector}
+use Rattle.vx_plexes.proofs.Valid.{one_rule, over_rule}
 
 -- ---- where no subdisk overlaps an earlier one
 
@@ -107,25 +106,9 @@ once all e s t hs ht disk sector x y =
 
 -- ---- of a valid configuration
 
-first_none : {A : Type 0} (a b : Option A) → first_some a b ≡ None → a ≡ None
-first_none None b e = refl
-first_none (Some x) b e = cc
-
-second_none : {A : Type 0} (a b : Option A) → first_some a b ≡ None → b ≡ None
-second_none None b e = e
-second_none (Some x) b e = cc
-
-one_rule : (rs : List Rule) (r : Rule) (more : List Rule) (all : List Object) → first_broken_of (rs ++ r ∷ more) all ≡ None → fault_of r all ≡ None
-one_rule [] r more all e = first_none (fault_of r all) (first_broken_of more all) e
-one_rule (s ∷ rs) r more all e = one_rule rs r more all (second_none (fault_of s all) (first_broken_of (rs ++ r ∷ more) all) e)
-
 overlap_rule : (all : List Object) → first_broken all ≡ None → fault_of rule.SubdisksDoNotOverlap all ≡ None
 unfolding first_broken
 overlap_rule all e = one_rule (take 10 rules) rule.SubdisksDoNotOverlap (drop 11 rules) all e
-
-overlap_over : (all : List Object) → fault_of rule.SubdisksDoNotOverlap all ≡ None → fault_over rule.SubdisksDoNotOverlap all ≡ None
-unfolding fault_of
-overlap_over all e = first_none (fault_over rule.SubdisksDoNotOverlap all) (first_of (fault_in rule.SubdisksDoNotOverlap all) all) e
 
 overlap_none : (all : List Object) → fault_over rule.SubdisksDoNotOverlap all ≡ None → overlap_fault all ≡ None
 unfolding fault_over
@@ -137,4 +120,4 @@ no_name (Some name) e = cc
 
 pub valid_once : (all : List Object) → first_broken all ≡ None → (s t : Subdisk) → IsOneOf all (SubdiskRecord s) → IsOneOf all (SubdiskRecord t) → s.disk ≡ t.disk →
     (sector : ℕ) → HasSector s sector → HasSector t sector → s.name ≡ t.name
-valid_once all e = once all (no_name (first_overlap all) (overlap_none all (overlap_over all (overlap_rule all e))))
+valid_once all e = once all (no_name (first_overlap all) (overlap_none all (over_rule rule.SubdisksDoNotOverlap all (overlap_rule all e))))

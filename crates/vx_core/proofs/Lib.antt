@@ -4,6 +4,7 @@ pub mod CauseLaws
 pub mod Effects
 pub mod Ends
 pub mod Facts
+pub mod FailLaws
 pub mod FollowLaws
 pub mod FormLaws
 pub mod Histories

@@ -1,5 +1,5 @@
 -- How a job goes on: it stays the job that it is, writes a region only once that region was read, and ends as its kind may end.
-use Rattle.std.specs.Prelude.{◌≡◌, ◌≢◌, ℕ, ◌<◌, ◌^◌, Bool, true, false}
+use Rattle.std.specs.Prelude.{◌≡◌, ◌≢◌, ℕ, ◌<◌, ◌^◌, Bool, true, false, ◌⊎◌}
 use Rattle.vx_core.specs.declared.stage.Job.{Job}
 use Rattle.vx_core.specs.declared.stage.Event.{Event}
 use Rattle.vx_core.specs.declared.stage.Act.{Act}
@@ -7,21 +7,29 @@ use Rattle.vx_core.specs.declared.stage.Step.{Step}
 use Rattle.vx_core.specs.declared.stage.Phase.{Phase}
 use Rattle.vx_core.specs.declared.stage.Stage.{Stage}
 use Rattle.vx_core.specs.declared.stage.Job.TheVariants.{Read as ReadJob, Write as WriteJob, Copy as CopyJob, Clear}
-use Rattle.vx_core.specs.declared.stage.Event.TheVariants.{Begin, Got, Cut}
+use Rattle.vx_core.specs.declared.stage.Event.TheVariants.{Begin, MarkFailed, UnmarkFailed, WriteFailed, Got, ReadFailed, Cut}
 use Rattle.vx_core.specs.declared.stage.Act.TheVariants.{Mark, Unmark, WriteCall, WriteRegion, ReadCall, ReadRegion, Done, Skipped, Fault, Lost}
 use Rattle.vx_core.specs.declared.stage.Step.TheVariants.{Mark as AtMark, Find as AtFind, Equal as AtEqual, Copy as AtCopy, Read as AtRead}
 use Rattle.vx_core.specs.declared.stage.Phase.TheVariants.{Settled, Unsettled, Dead, Busy}
 use Rattle.vx_mask.specs.Mask.{has}
 use Rattle.vx_core.specs.Table.{current, act_at}
 use Rattle.vx_core.specs.Region.{MayAnswer}
+use Rattle.vx_core.specs.Soundness.{IsData}
 use Rattle.vx_core.specs.Form.{IsFormed, MayCome}
 
 -- ---- what a job under way may ask for
 
--- The act can be carried out: marks need a log, and plexes that are written or read are held.
+-- the maps of a region: that of the dirty bit, those of its plexes and those of its relations
+abbrev pub IsMapOf : Stage → ℕ → Type 0
+IsMapOf s k = (k ≡ 30) ⊎ ((has s.snaps k ≡ true) ⊎ IsData s k)
+
+abbrev pub AreMapsOf : Stage → ℕ → Type 0
+AreMapsOf s mask = (k : ℕ) → has mask k ≡ true → IsMapOf s k
+
+-- The act can be carried out: marks are of maps of the region and need a log, and plexes that are written or read are held.
 abbrev pub IsPossible : Stage → (ℕ → Bool) → Job → ℕ → Act → Type 0
-IsPossible s held job source (Mark b) = (s.logged ≡ true) × (b ≢ 0)
-IsPossible s held job source (Unmark b) = (s.logged ≡ true) × (b ≢ 0)
+IsPossible s held job source (Mark b) = (s.logged ≡ true) × (b ≢ 0) × AreMapsOf s b
+IsPossible s held job source (Unmark b) = (s.logged ≡ true) × (b ≢ 0) × AreMapsOf s b
 IsPossible s held job source (WriteCall k) = (held k ≡ true) × (job ≡ WriteJob)
 IsPossible s held job source (WriteRegion k) = (held k ≡ true) × (k ≢ source)
 IsPossible s held job source (ReadCall offered) = (job ≡ ReadJob) × (offered ≢ 0) × (offered < 2 ^ 64) × ((k : ℕ) → has offered k ≡ true → has (current s) k ≡ true)
@@ -97,6 +105,20 @@ FollowsFrom s Settled (Begin job) x = Follows s job AtMark (Begin job) 0 x
 FollowsFrom s Unsettled (Begin job) x = Follows s job AtFind (Begin job) 0 x
 FollowsFrom s Dead (Begin job) x = (x.0 ≡ s) × (x.1 ≡ Lost)
 FollowsFrom s _ _ x = Unit {0}
+
+-- ---- when a job fails
+
+-- the event tells that a device failed
+abbrev pub IsFailure : Event → Type 0
+IsFailure MarkFailed = Unit {0}
+IsFailure UnmarkFailed = Unit {0}
+IsFailure WriteFailed = Unit {0}
+IsFailure (ReadFailed k) = Unit {0}
+IsFailure _ = ⊥
+
+-- a job answers Fault only as a device fails
+abbrev pub FailsFrom : Stage → Event → Stage × Act → Type 0
+FailsFrom s event x = (held : ℕ → Bool) → IsFormed s s.phase held → MayCome s s.phase event → x.1 ≡ Fault → IsFailure event
 
 -- ---- when a read is done
 

@@ -27,7 +27,7 @@ ghost use Rattle.vx_core.specs.Table.{
   wrote,
 };
 ghost use Rattle.vx_core.specs.Causes.{CausesFrom};
-ghost use Rattle.vx_core.specs.Follow.{AsksPossible, FollowsFrom, ReadsFrom};
+ghost use Rattle.vx_core.specs.Follow.{AsksPossible, FailsFrom, FollowsFrom, ReadsFrom};
 ghost use Rattle.vx_core.specs.Kept.{Keeps};
 ghost use Rattle.vx_core.specs.Progress.{KeepsForm};
 
@@ -414,6 +414,9 @@ pub fn next(stage: &Stage, event: Event) -> (Stage, Act)
 
     // A job stays what it is, writes a region only once that was read, and ends as its kind may end; dead only by a cut.
     ensures follows { FollowsFrom stage.now stage.now.phase event result }
+
+    // A job answers Fault only as a device fails.
+    ensures fails { FailsFrom stage.now event result }
 
     // A read is done only once it has got its blocks.
     ensures reads { ReadsFrom stage.now stage.now.phase event result }

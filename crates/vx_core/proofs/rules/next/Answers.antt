@@ -3,10 +3,11 @@ use Rattle.std.proofs.Common.{subst, sym}
 use Rattle.vx_core.specs.declared.stage.Act.{Act}
 use Rattle.vx_core.specs.declared.stage.Stage.{Stage}
 use Rattle.vx_core.specs.Causes.{CausesFrom}
-use Rattle.vx_core.specs.Follow.{AsksPossible, FollowsFrom, ReadsFrom}
+use Rattle.vx_core.specs.Follow.{AsksPossible, FailsFrom, FollowsFrom, ReadsFrom}
 use Rattle.vx_core.specs.Progress.{KeepsForm}
 use Rattle.vx_core.specs.Table.{NamesAct}
 use Rattle.vx_core.proofs.CauseLaws.{causes}
+use Rattle.vx_core.proofs.FailLaws.{fails}
 use Rattle.vx_core.proofs.FollowLaws.{follows}
 use Rattle.vx_core.proofs.FormLaws.{forms}
 use Rattle.vx_core.proofs.Keeps.{keeps}
@@ -42,3 +43,7 @@ returns-clause-reads c =
 pub returns-clause-causes : goal.returns-clause-causes
 returns-clause-causes c =
     subst (λ (x : Stage × Act). CausesFrom c.args.stage.now c.args.stage.now.phase c.args.event x) (sym c.decide.ensures) (causes c.args.stage.now c.args.event)
+
+pub returns-clause-fails : goal.returns-clause-fails
+returns-clause-fails c =
+    subst (λ (x : Stage × Act). FailsFrom c.args.stage.now c.args.event x) (sym c.decide.ensures) (fails c.args.stage.now c.args.event)

@@ -1,0 +1,4 @@
+pub mod Blocks
+pub mod Carried
+pub mod Changes
+pub mod Placed

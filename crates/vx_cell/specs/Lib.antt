@@ -1,0 +1,4 @@
+pub mod Acts
+pub mod Plexes
+pub mod Region
+pub mod Running

@@ -1,0 +1,64 @@
+ghost use Rattle.std.specs.Prelude.{◌≡◌, ◌+◌, ◌*◌, ◌/◌, ◌%◌, ◌^◌, ◌<◌, ◌≤◌, true, false, length, MatchOption};
+ghost use Rattle.vx_cell.specs.Plexes.{AllCover, ChangesPlex, IsFirst, holds, plexes_seen};
+ghost use Rattle.vx_cell.specs.Acts.{IsPlexRead, IsPlexWritten, IsRange};
+
+use vx_piece::Piece;
+use vx_runs::{RunFault, read_run, write_run};
+
+/// A plex of one region: its map, and its pieces in order, which together have the sectors of the region.
+pub struct Plex<P> {
+    pub map: u8,
+    pub pieces: Vec<P>,
+}
+
+/// The index of the first plex with the map.
+pub fn find<P: Piece>(plexes: &[Plex<P>], map: u32) -> Option<usize>
+    ensures { MatchOption result (holds (plexes_seen P.seen plexes.now) map ≡ false) (λ i. (i < length plexes.now) × IsFirst map plexes.now i) }
+{
+    match plexes {
+        [] => None,
+        [first, rest @ ..] => {
+            if first.map as u32 == map {
+                Some(0)
+            } else {
+                match find(rest, map) {
+                    None => None,
+                    Some(i) => Some(i + 1),
+                }
+            }
+        }
+    }
+}
+
+/// Writes blocks of a plex. `at` counts from the region's first block.
+pub fn write_plex<P: Piece>(plexes: &mut Vec<Plex<P>>, map: u32, at: u64, bytes: &[u8], size: u64) -> Result<(), RunFault>
+    requires held { holds (plexes_seen P.seen plexes.old.items) map ≡ true }
+    requires cover { AllCover size (plexes_seen P.seen plexes.old.items) }
+    requires range { IsRange size at (length bytes.now) }
+    ensures { ChangesPlex map (IsPlexWritten at bytes.now result) (plexes_seen P.seen plexes.old.items) (plexes_seen P.seen plexes.new.items) }
+{
+    match find(plexes.as_slice(), map) {
+        None => Ok(()),
+        Some(i) => {
+            let plex = &mut plexes[i];
+            write_run(&mut plex.pieces, at, bytes)
+        }
+    }
+}
+
+/// Reads blocks of a plex.
+pub fn read_plex<P: Piece>(plexes: &mut Vec<Plex<P>>, map: u32, at: u64, into: &mut [u8], size: u64) -> Result<(), RunFault>
+    requires held { holds (plexes_seen P.seen plexes.old.items) map ≡ true }
+    requires cover { AllCover size (plexes_seen P.seen plexes.old.items) }
+    requires range { IsRange size at (length into.old) }
+    ensures changes { ChangesPlex map (IsPlexRead at into.new result) (plexes_seen P.seen plexes.old.items) (plexes_seen P.seen plexes.new.items) }
+    ensures length { length into.new ≡ length into.old }
+{
+    match find(plexes.as_slice(), map) {
+        None => Ok(()),
+        Some(i) => {
+            let plex = &mut plexes[i];
+            read_run(&mut plex.pieces, at, into)
+        }
+    }
+}

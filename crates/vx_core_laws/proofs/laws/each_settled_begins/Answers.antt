@@ -1,0 +1,5 @@
+use Rattle.vx_core_laws.proofs.Begun.{settled_begins}
+use Rattle.vx_core_laws.proofs.laws.each_settled_begins.Goals as goal
+
+pub returns : goal.returns
+returns c = settled_begins

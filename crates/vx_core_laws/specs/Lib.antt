@@ -1,0 +1,5 @@
+pub mod Beginning
+pub mod Course
+pub mod Exact
+pub mod Quiet
+pub mod Tracking

@@ -1,0 +1,75 @@
+ghost use Rattle.std.specs.Prelude.{◌≡◌, ℕ, true, false, length, IsTrue};
+ghost use Rattle.vx_maps.specs.Sector.{IsFormed};
+ghost use Rattle.vx_maps.specs.Pieces.{sector_of};
+
+use crate::bytes::{has_bit, put_bit, put_none};
+use crate::copies::put;
+use vx_marks::MarkFault;
+use vx_piece::Piece;
+use vx_sector::is_zero;
+
+/// The sector of one map on one page: its piece on each copy, and in memory what is sure of it and what a failed call
+/// has left open.
+#[derive(Drop)]
+pub struct MapSector<P: Piece> {
+    first: P,
+    second: Option<P>,
+    sure: Vec<u8>,
+    loose: Vec<u8>,
+    ghost formed: { IsFormed (sector_of P.seen first second sure.items loose.items) },
+}
+
+impl<P: Piece> MapSector<P> {
+    ghost use Rattle.vx_maps.specs.Sectors.{sector_seen};
+    ghost use Rattle.vx_maps.specs.Bytes.{same_place};
+    ghost use Rattle.vx_maps.specs.Sector.{BitOpened, Goes, HasCause, IsBitPut, IsTidied, NoneLoose, SameShown, faults_at, is_cut, is_loose, is_sure, shown, tells};
+
+    /// Whether the sector has the sure bit of a region.
+    pub fn is_marked(&self, region: u64) -> bool
+        ensures { result ≡ is_sure (sector_seen P.seen self.now) region }
+    {
+        has_bit(&self.sure, region)
+    }
+
+    /// Writes the sector again on every copy where anything of it is loose. It stays loose until `forget`.
+    pub fn tidy(&mut self) -> Result<(), MarkFault>
+        ensures goes { IsTidied result (sector_seen P.seen self.old) (sector_seen P.seen self.new) }
+        ensures cause { HasCause (faults_at (sector_seen P.seen self.old).copies) (faults_at (sector_seen P.seen self.new).copies) (is_cut (sector_seen P.seen self.new).copies) result }
+    {
+        if is_zero(&self.loose) {
+            return Ok(());
+        }
+        put(&mut self.first, &mut self.second, &self.sure)
+    }
+
+    /// Nothing is loose any more. Every copy shows what is sure.
+    pub fn forget(&mut self)
+        requires { tells (sector_seen P.seen self.old).copies ≡ true → (n region : ℕ) → shown (sector_seen P.seen self.old).copies n region ≡ is_sure (sector_seen P.seen self.old) region }
+        ensures { Goes NoneLoose SameShown (sector_seen P.seen self.old) (sector_seen P.seen self.new) }
+    {
+        put_none(&mut self.loose);
+    }
+
+    /// Puts the bit of a region on every copy. Where that fails, the bit is loose.
+    pub fn put_mark(&mut self, region: u64, on: bool) -> Result<(), MarkFault>
+        requires { (other : ℕ) → is_loose (sector_seen P.seen self.old) other ≡ false }
+        ensures goes { IsBitPut (same_place region) on result (sector_seen P.seen self.old) (sector_seen P.seen self.new) }
+        ensures cause { HasCause (faults_at (sector_seen P.seen self.old).copies) (faults_at (sector_seen P.seen self.new).copies) (is_cut (sector_seen P.seen self.new).copies) result }
+    {
+        put_bit(&mut self.sure, region, on);
+        if let Err(fault) = put(&mut self.first, &mut self.second, &self.sure) {
+            put_bit(&mut self.sure, region, false);
+            put_bit(&mut self.loose, region, true);
+            return Err(fault);
+        }
+        Ok(())
+    }
+
+    /// Leaves the bit of a region open.
+    pub fn open_mark(&mut self, region: u64)
+        ensures { Goes (BitOpened (same_place region)) SameShown (sector_seen P.seen self.old) (sector_seen P.seen self.new) }
+    {
+        put_bit(&mut self.sure, region, false);
+        put_bit(&mut self.loose, region, true);
+    }
+}

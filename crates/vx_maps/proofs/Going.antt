@@ -6,7 +6,7 @@ use Rattle.vx_mapfmt.specs.Bits.{bit_in}
 use Rattle.vx_sector.specs.Fields.{zeros}
 use Rattle.vx_marks.specs.declared.marker.MarkFault.{MarkFault}
 use Rattle.vx_maps.specs.Bytes.{same_place}
-use Rattle.vx_maps.specs.Sector.{Copies, SectorSeen, tells, held, shown, is_sure, is_loose, IsFormed, KeepsCopies, KeepsSector, Holds, IsPut, Goes, SameBits, Swept, MaySweep, SameShown, IsTidied, NoneLoose, BitPut, BitMay, ShownPut, ShownMay, IsBitPut, BitOpened}
+use Rattle.vx_maps.specs.Sector.{Copies, SectorSeen, tells, held, shown, is_sure, is_loose, IsFormed, KeepsCopies, KeepsSector, Holds, IsPut, Goes, SameBits, Swept, MaySweep, IsTidied, IsFirm, Turns, NoneLoose, BitPut, BitMay, ShownPut, ShownMay, IsBitPut, BitOpened}
 use Rattle.vx_maps.proofs.Bits.{no_bit}
 
 abbrev seen : Copies → List ℕ → List ℕ → SectorSeen
@@ -92,18 +92,22 @@ tidy_formed c c' sure loose result formed put =
 none_in : (loose : List ℕ) (region : ℕ) → loose ≡ zeros 512 → bit_in loose region ≡ false
 none_in loose region none = ap (λ (page : List ℕ). bit_in page region) none ∙ no_bit region
 
-pub forgets : (c : Copies) (sure loose loose' : List ℕ) → loose' ≡ zeros 512 → Goes NoneLoose SameShown (seen c sure loose) (seen c sure loose')
-forgets c sure loose loose' none = record { kept = kept_same c sure loose sure loose'; bits = λ region. (refl, none_in loose' region none); shows = λ t n region. refl }
+pub forgets : (c : Copies) (sure loose loose' : List ℕ) → loose' ≡ zeros 512 → Turns NoneLoose (seen c sure loose) (seen c sure loose')
+forgets c sure loose loose' none = record { copies = refl; bits = λ region. (refl, none_in loose' region none) }
 
-pub forget_formed : (c : Copies) (sure loose loose' : List ℕ) → length loose' ≡ 512 → loose' ≡ zeros 512 → (tells c ≡ true → (n region : ℕ) → shown c n region ≡ bit_in sure region) →
-    IsFormed (seen c sure loose) → IsFormed (seen c sure loose')
+pub forget_formed : (c : Copies) (sure loose loose' : List ℕ) → length loose' ≡ 512 → loose' ≡ zeros 512 → IsFirm (seen c sure loose) → IsFormed (seen c sure loose) → IsFormed (seen c sure loose')
 forget_formed c sure loose loose' len none firm formed =
     record {
       sectors = formed.sectors;
       sure = formed.sure;
       loose = len;
-      shows = λ t n region. ap (λ (l : Bool). shown c n region && not l) (none_in loose' region none) ∙ and_all _ ∙ firm t n region;
+      shows = λ t n region. shown_sure _ _ _ _ (formed.shows t n region) (firm t n region) (none_in loose' region none);
     }
+  where
+    shown_sure : (x l s l' : Bool) → (x && not l) ≡ s → (x && l) ≡ false → l' ≡ false → (x && not l') ≡ s
+    shown_sure true true s l' h out none = not_both refl out
+    shown_sure true false s l' h out none = rw none h
+    shown_sure false l s l' h out none = h
 
 -- ---- a bit is put
 
@@ -184,9 +188,8 @@ open_bits true s l s' l' is unsure = (is ∙ sym (and_none s), unsure ∙ sym (o
 open_bits false s l s' l' is unsure = (is ∙ sym (and_all s), unsure ∙ sym (or_none l))
 
 pub opens : (c : Copies) (sure loose sure' loose' : List ℕ) (region : ℕ) → WithBit region false sure sure' → WithBit region true loose loose' →
-    Goes (BitOpened (same_place region)) SameShown (seen c sure loose) (seen c sure' loose')
-opens c sure loose sure' loose' region is unsure =
-    record { kept = kept_same c sure loose sure' loose'; bits = λ other. open_bits _ _ _ _ _ (is other) (unsure other); shows = λ t n other. refl }
+    Turns (BitOpened (same_place region)) (seen c sure loose) (seen c sure' loose')
+opens c sure loose sure' loose' region is unsure = record { copies = refl; bits = λ other. open_bits _ _ _ _ _ (is other) (unsure other) }
 
 pub open_formed : (c : Copies) (sure loose sure' loose' : List ℕ) (region : ℕ) → length sure' ≡ 512 → length loose' ≡ 512 → WithBit region false sure sure' → WithBit region true loose loose' →
     IsFormed (seen c sure loose) → IsFormed (seen c sure' loose')

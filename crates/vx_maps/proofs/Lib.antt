@@ -1,3 +1,5 @@
 pub mod Bits
 pub mod Going
+pub mod Loops
 pub mod Putting
+pub mod Ways

@@ -130,6 +130,15 @@ pub record Goes (fact : ℕ → Bool → Bool → Bool → Bool → Type 0) (sho
   pub bits : (region : ℕ) → fact region (is_sure old region) (is_loose old region) (is_sure new region) (is_loose new region)
   pub shows : tells old.copies ≡ true → (n region : ℕ) → showing region (shown old.copies n region) (is_loose old region) (shown new.copies n region)
 
+-- a sector goes on in memory alone
+pub record Turns (fact : ℕ → Bool → Bool → Bool → Bool → Type 0) (old new : SectorSeen) : Type 0 where
+  pub copies : new.copies ≡ old.copies
+  pub bits : (region : ℕ) → fact region (is_sure old region) (is_loose old region) (is_sure new region) (is_loose new region)
+
+-- no copy shows a loose mark
+abbrev pub IsFirm : SectorSeen → Type 0
+IsFirm s = tells s.copies ≡ true → (n region : ℕ) → (shown s.copies n region && is_loose s region) ≡ false
+
 abbrev pub SameBits : ℕ → Bool → Bool → Bool → Bool → Type 0
 SameBits region sure loose sure' loose' = (sure' ≡ sure) × (loose' ≡ loose)
 
@@ -140,9 +149,6 @@ Swept region shows loose shows' = shows' ≡ (shows && not loose)
 -- the copy may have lost the mark if it was loose
 abbrev pub MaySweep : ℕ → Bool → Bool → Bool → Type 0
 MaySweep region shows loose shows' = (shows' ≡ shows) ⊎ ((loose ≡ true) × (shows' ≡ false))
-
-abbrev pub SameShown : ℕ → Bool → Bool → Bool → Type 0
-SameShown region shows loose shows' = shows' ≡ shows
 
 -- what is loose is written again on every copy; nothing is called firm yet
 abbrev pub IsTidied : {T : Type 0} → Result T MarkFault → SectorSeen → SectorSeen → Type 0

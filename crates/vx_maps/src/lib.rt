@@ -4,5 +4,6 @@
 mod bytes;
 mod copies;
 mod sector;
+mod sectors;
 
 pub use sector::MapSector;

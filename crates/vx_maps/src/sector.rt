@@ -1,4 +1,4 @@
-ghost use Rattle.std.specs.Prelude.{◌≡◌, ℕ, true, false, length, IsTrue};
+ghost use Rattle.std.specs.Prelude.{◌≡◌, ℕ, false};
 ghost use Rattle.vx_maps.specs.Sector.{IsFormed};
 ghost use Rattle.vx_maps.specs.Pieces.{sector_of};
 
@@ -22,7 +22,7 @@ pub struct MapSector<P: Piece> {
 impl<P: Piece> MapSector<P> {
     ghost use Rattle.vx_maps.specs.Sectors.{sector_seen};
     ghost use Rattle.vx_maps.specs.Bytes.{same_place};
-    ghost use Rattle.vx_maps.specs.Sector.{BitOpened, Goes, HasCause, IsBitPut, IsTidied, NoneLoose, SameShown, faults_at, is_cut, is_loose, is_sure, shown, tells};
+    ghost use Rattle.vx_maps.specs.Sector.{BitOpened, HasCause, IsBitPut, IsFirm, IsTidied, NoneLoose, Turns, faults_at, is_cut, is_loose, is_sure};
 
     /// Whether the sector has the sure bit of a region.
     pub fn is_marked(&self, region: u64) -> bool
@@ -42,10 +42,10 @@ impl<P: Piece> MapSector<P> {
         put(&mut self.first, &mut self.second, &self.sure)
     }
 
-    /// Nothing is loose any more. Every copy shows what is sure.
+    /// Nothing is loose any more. No copy shows a loose mark.
     pub fn forget(&mut self)
-        requires { tells (sector_seen P.seen self.old).copies ≡ true → (n region : ℕ) → shown (sector_seen P.seen self.old).copies n region ≡ is_sure (sector_seen P.seen self.old) region }
-        ensures { Goes NoneLoose SameShown (sector_seen P.seen self.old) (sector_seen P.seen self.new) }
+        requires { IsFirm (sector_seen P.seen self.old) }
+        ensures { Turns NoneLoose (sector_seen P.seen self.old) (sector_seen P.seen self.new) }
     {
         put_none(&mut self.loose);
     }
@@ -67,9 +67,38 @@ impl<P: Piece> MapSector<P> {
 
     /// Leaves the bit of a region open.
     pub fn open_mark(&mut self, region: u64)
-        ensures { Goes (BitOpened (same_place region)) SameShown (sector_seen P.seen self.old) (sector_seen P.seen self.new) }
+        ensures { Turns (BitOpened (same_place region)) (sector_seen P.seen self.old) (sector_seen P.seen self.new) }
     {
         put_bit(&mut self.sure, region, false);
         put_bit(&mut self.loose, region, true);
+    }
+}
+
+impl<P: Piece> MapSector<P> {
+    ghost use Rattle.vx_maps.specs.Sectors.{sector_seen};
+    ghost use Rattle.vx_maps.specs.Bytes.{same_place};
+    ghost use Rattle.vx_maps.specs.Sector.{BitOpened, HasCause, IsBitPut, Turns, faults_at, is_cut, is_loose};
+    ghost use Rattle.std.specs.Prelude.{◌&&◌};
+
+    /// Puts the bit of a region on every copy, if the map is asked for.
+    pub fn put_if(&mut self, asked: bool, region: u64, on: bool) -> Result<(), MarkFault>
+        requires { (other : ℕ) → is_loose (sector_seen P.seen self.old) other ≡ false }
+        ensures goes { IsBitPut (λ other. asked && same_place region other) on result (sector_seen P.seen self.old) (sector_seen P.seen self.new) }
+        ensures cause { HasCause (faults_at (sector_seen P.seen self.old).copies) (faults_at (sector_seen P.seen self.new).copies) (is_cut (sector_seen P.seen self.new).copies) result }
+    {
+        if asked {
+            self.put_mark(region, on)
+        } else {
+            Ok(())
+        }
+    }
+
+    /// Leaves the bit of a region open, if the map is asked for.
+    pub fn open_if(&mut self, asked: bool, region: u64)
+        ensures { Turns (BitOpened (λ other. asked && same_place region other)) (sector_seen P.seen self.old) (sector_seen P.seen self.new) }
+    {
+        if asked {
+            self.open_mark(region);
+        }
     }
 }

@@ -1,0 +1,22 @@
+use Rattle.std.proofs.Common.{◌≡◌, ◌<◌, ◌≤◌, ◌∙◌, sym, ap, inl, inr, refl, length, arith, rules, subst, Bool, ℕ, Result, Ok, Err}
+use Rattle.std.specs.Prelude.{◌&&◌}
+use Rattle.std.proofs.lemmas.List.{length-map}
+use Rattle.vx_marks.specs.declared.marker.MarkFault.{MarkFault}
+use Rattle.vx_maps.specs.Bytes.{same_place}
+use Rattle.vx_maps.specs.Sector.{SectorSeen, IsFirm, NoneLoose, Turns, BitOpened, IsTidied, IsBitPut, HasCause, faults_at, is_cut, is_loose}
+use Rattle.vx_maps.specs.Page.{asked, sectors_seen}
+use Rattle.vx_maps.specs.Sectors.{sector_seen}
+use Rattle.vx_maps.proofs.Loops.{starts, goes_on, stops, still, ends, inside_old, quiet_on, cause_on}
+use Rattle.vx_maps.proofs.Ways.{tidied_may, tidied_none, put_may, put_none}
+use Rattle.vx_maps.proofs.sectors.forget_all.Goals as goal
+
+pub forget-requires-after_bounds : goal.forget-requires-after_bounds
+forget-requires-after_bounds g c κs within =
+    let lt : c.loop-map.map < length c.loop-map.sectors.items = let f = c.loop-map.invariant.size in omega (arith, c.len-map-end.ensures, f, c.args.sectors.now.ok.0) in
+    subst IsFirm (sym (still (sector_seen g.P.Piece.seen) _ _ c.loop-map.sectors.items c.loop-map.map c.index_mut-sector.result.now lt c.index_mut-sector.ensures.value c.loop-map.invariant.went))
+    (c.requires c.loop-map.map (let f = c.loop-map.invariant.size in omega (arith, lt, f)))
+
+pub loop-map-preserved : goal.loop-map-preserved
+loop-map-preserved g c =
+    let lt : c.loop-map.map < length c.loop-map.sectors.items = let f = c.loop-map.invariant.size in omega (arith, c.len-map-end.ensures, f, c.args.sectors.now.ok.0) in
+    record { went = goes_on (sector_seen g.P.Piece.seen) _ _ c.loop-map.sectors.items c.loop-map.map c.index_mut-sector.result.now c.forget.new.self lt c.index_mut-sector.ensures.value c.loop-map.invariant.went c.forget.ensures; size = search rules }

@@ -1,0 +1,84 @@
+-- The sectors of a page, one for each map, and what they show as a log of marks.
+use Rattle.std.specs.Prelude.{◌≡◌, ℕ, zero, suc, ◌+◌, ◌/◌, ◌<◌, ◌==◌, ◌&&◌, ◌||◌, nat_lt, Bool, true, false, is_some, if◌then◌else◌, List, [], ◌∷◌, length, map, Some, None}
+use Rattle.vx_mask.specs.Mask.{has}
+use Rattle.vx_mask.specs.Marks.{Marks}
+use Rattle.vx_piece.specs.Seen.{Seen}
+use Rattle.vx_piece.specs.declared.piece.Piece.{Ghosts}
+use Rattle.vx_marks.specs.Log.{LogSeen}
+use Rattle.vx_maps.specs.declared.sector.MapSector.{MapSector}
+use Rattle.vx_maps.specs.Bytes.{same_place}
+use Rattle.vx_maps.specs.Sector.{SectorSeen, shown, tells, faults_at, is_cut, is_sure, is_loose}
+use Rattle.vx_maps.specs.Sectors.{sector_seen}
+
+abbrev pub sectors_seen : {P : Type 0} {ghosts : Ghosts P} → (P → Seen) → List (MapSector P ghosts) → List SectorSeen
+sectors_seen seen sectors = map (sector_seen seen) sectors
+
+-- no sector
+abbrev pub no_sector : SectorSeen
+no_sector = record {
+  copies = record {
+    first = record { device = 0; start = 0; sectors = 0; told = None; faults = 0; writes = 0; reads = 0; cut = false; stop = None };
+    second = None;
+  };
+  sure = [];
+  loose = [];
+}
+
+-- the sector of a map
+abbrev pub sector_at : List SectorSeen → ℕ → SectorSeen
+sector_at [] map = no_sector
+sector_at (s ∷ ss) zero = s
+sector_at (s ∷ ss) (suc map) = sector_at ss map
+
+-- how often calls on a copy's pieces have failed, by the device
+abbrev pub faults_in : List SectorSeen → ℕ → ℕ → ℕ
+faults_in [] copy device = 0
+faults_in (s ∷ ss) copy device = faults_at s.copies copy device + faults_in ss copy device
+
+-- the power of some piece is gone
+abbrev pub cut_in : List SectorSeen → Bool
+cut_in [] = false
+cut_in (s ∷ ss) = is_cut s.copies || cut_in ss
+
+-- each piece tells what it holds
+abbrev pub all_tell : List SectorSeen → Bool
+all_tell [] = true
+all_tell (s ∷ ss) = tells s.copies && all_tell ss
+
+-- each sector goes on in this way, by its map
+pub record EachSector (fact : ℕ → SectorSeen → SectorSeen → Type 0) (old new : List SectorSeen) : Type 0 where
+  pub size : length new ≡ length old
+  pub each : (map : ℕ) → map < length old → fact map (sector_at old map) (sector_at new map)
+
+-- nothing is loose in any sector
+abbrev pub AreClean : List SectorSeen → Type 0
+AreClean sectors = (map region : ℕ) → map < length sectors → is_loose (sector_at sectors map) region ≡ false
+
+-- the bit at the region's place is asked for, where the map is in the mask
+abbrev pub asked : ℕ → ℕ → ℕ → ℕ → Bool
+asked bits region map other = has bits map && same_place region other
+
+-- the region is one of the page's, and of the volume's
+abbrev pub has_region : ℕ → ℕ → ℕ → Bool
+has_region index regions region = (region / 4096 == index) && nat_lt region regions
+
+-- the marks of each region
+abbrev pub marks_of : ℕ → ℕ → List SectorSeen → ℕ → Marks
+marks_of index regions sectors region = record {
+  shows = λ n map. has_region index regions region && shown (sector_at sectors map).copies n region;
+  loose = λ map. has_region index regions region && is_loose (sector_at sectors map) region;
+}
+
+-- what contracts see of a page as a log of marks; `regions` are those of the whole volume
+abbrev pub page_log : ℕ → ℕ → List SectorSeen → LogSeen
+page_log index regions sectors = record {
+  there = true;
+  has_region = has_region index regions;
+  maps = 32;
+  copies = if is_some (sector_at sectors 0).copies.second then 2 else 1;
+  lent = false;
+  claims = λ region map. has_region index regions region && is_sure (sector_at sectors map) region;
+  told = if all_tell sectors then Some (marks_of index regions sectors) else None;
+  faults = faults_in sectors;
+  cut = cut_in sectors;
+}

@@ -1,0 +1,67 @@
+//! The sectors of a page, one for each map.
+
+ghost use Rattle.std.specs.Prelude.{◌≡◌, ℕ, ◌<◌, length};
+ghost use Rattle.vx_maps.specs.Sector.{BitOpened, HasCause, IsBitPut, IsFirm, IsTidied, NoneLoose, Turns, is_loose};
+ghost use Rattle.vx_maps.specs.Page.{AreClean, EachSector, asked, cut_in, faults_in, sector_at, sectors_seen};
+
+use crate::sector::MapSector;
+use vx_mask::contains;
+use vx_marks::MarkFault;
+use vx_piece::Piece;
+
+/// Writes each sector again on every copy where anything of it is loose, and stops at the first that fails.
+pub fn tidy_all<P: Piece>(sectors: &mut Vec<MapSector<P>>) -> Result<(), MarkFault>
+    ensures each { EachSector (λ map. IsTidied result) (sectors_seen P.seen sectors.old.items) (sectors_seen P.seen sectors.new.items) }
+    ensures cause { HasCause (faults_in (sectors_seen P.seen sectors.old.items)) (faults_in (sectors_seen P.seen sectors.new.items)) (cut_in (sectors_seen P.seen sectors.new.items)) result }
+{
+    for map in 0..sectors.len() {
+        let sector = &mut sectors[map];
+        if let Err(fault) = sector.tidy() {
+            return Err(fault);
+        }
+    }
+    Ok(())
+}
+
+/// Nothing is loose any more.
+pub fn forget_all<P: Piece>(sectors: &mut Vec<MapSector<P>>)
+    requires { (map : ℕ) → map < length sectors.old.items → IsFirm (sector_at (sectors_seen P.seen sectors.old.items) map) }
+    ensures { EachSector (λ map. Turns NoneLoose) (sectors_seen P.seen sectors.old.items) (sectors_seen P.seen sectors.new.items) }
+{
+    for map in 0..sectors.len() {
+        let sector = &mut sectors[map];
+        sector.forget();
+    }
+}
+
+/// Puts the bit of a region in each map of the mask on every copy, and stops at the first that fails.
+pub fn put_all<P: Piece>(
+    sectors: &mut Vec<MapSector<P>>,
+    region: u64,
+    bits: u64,
+    on: bool,
+) -> Result<(), MarkFault>
+    requires maps { length sectors.old.items ≡ 32 }
+    requires clean { AreClean (sectors_seen P.seen sectors.old.items) }
+    ensures each { EachSector (λ map. IsBitPut (asked bits region map) on result) (sectors_seen P.seen sectors.old.items) (sectors_seen P.seen sectors.new.items) }
+    ensures cause { HasCause (faults_in (sectors_seen P.seen sectors.old.items)) (faults_in (sectors_seen P.seen sectors.new.items)) (cut_in (sectors_seen P.seen sectors.new.items)) result }
+{
+    for map in 0..32 {
+        let sector = &mut sectors[map];
+        if let Err(fault) = sector.put_if(contains(bits, map as u32), region, on) {
+            return Err(fault);
+        }
+    }
+    Ok(())
+}
+
+/// Leaves the bit of a region open in each map of the mask.
+pub fn open_all<P: Piece>(sectors: &mut Vec<MapSector<P>>, region: u64, bits: u64)
+    requires { length sectors.old.items ≡ 32 }
+    ensures { EachSector (λ map. Turns (BitOpened (asked bits region map))) (sectors_seen P.seen sectors.old.items) (sectors_seen P.seen sectors.new.items) }
+{
+    for map in 0..32 {
+        let sector = &mut sectors[map];
+        sector.open_if(contains(bits, map as u32), region);
+    }
+}

@@ -3,3 +3,4 @@ pub mod Going
 pub mod Loops
 pub mod Putting
 pub mod Ways
+pub mod Whole

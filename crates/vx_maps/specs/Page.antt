@@ -1,5 +1,5 @@
 -- The sectors of a page, one for each map, and what they show as a log of marks.
-use Rattle.std.specs.Prelude.{◌≡◌, ℕ, zero, suc, ◌+◌, ◌/◌, ◌<◌, ◌==◌, ◌&&◌, ◌||◌, nat_lt, Bool, true, false, is_some, if◌then◌else◌, List, [], ◌∷◌, length, map, Some, None}
+use Rattle.std.specs.Prelude.{◌≡◌, ◌⊎◌, ℕ, zero, suc, ◌+◌, ◌/◌, ◌<◌, ◌==◌, ◌&&◌, ◌||◌, nat_lt, Bool, true, false, is_some, if◌then◌else◌, List, [], ◌∷◌, length, map, Some, None, Result, Ok, Err}
 use Rattle.vx_mask.specs.Mask.{has}
 use Rattle.vx_mask.specs.Marks.{Marks}
 use Rattle.vx_piece.specs.Seen.{Seen}
@@ -7,7 +7,8 @@ use Rattle.vx_piece.specs.declared.piece.Piece.{Ghosts}
 use Rattle.vx_marks.specs.Log.{LogSeen}
 use Rattle.vx_maps.specs.declared.sector.MapSector.{MapSector}
 use Rattle.vx_maps.specs.Bytes.{same_place}
-use Rattle.vx_maps.specs.Sector.{SectorSeen, shown, tells, faults_at, is_cut, is_sure, is_loose}
+use Rattle.vx_marks.specs.declared.marker.MarkFault.{MarkFault}
+use Rattle.vx_maps.specs.Sector.{SectorSeen, shown, tells, faults_at, is_cut, is_sure, is_loose, Goes, NoneLoose, Swept, SameBits, MaySweep, BitPut, ShownPut, BitOpened, ShownMay, BitSet, ShownSet, BitLeft, ShownLeft}
 use Rattle.vx_maps.specs.Sectors.{sector_seen}
 
 abbrev pub sectors_seen : {P : Type 0} {ghosts : Ghosts P} → (P → Seen) → List (MapSector P ghosts) → List SectorSeen
@@ -82,3 +83,32 @@ page_log index regions sectors = record {
   faults = faults_in sectors;
   cut = cut_in sectors;
 }
+
+-- What is loose was written again: at Ok nothing is loose any more and every copy has lost what was; after a fault all stays as
+-- loose as it was, and each copy has lost a part of it.
+abbrev pub IsFirmed : {T : Type 0} → Result T MarkFault → List SectorSeen → List SectorSeen → Type 0
+IsFirmed (Ok u) old new = EachSector (λ map. Goes NoneLoose Swept) old new
+IsFirmed (Err fault) old new = EachSector (λ map. Goes SameBits MaySweep) old new
+
+-- The bits that are asked for were put where nothing was loose: at Ok on every copy, and else they are left open.
+abbrev pub IsChanged : {T : Type 0} → ℕ → ℕ → Bool → Result T MarkFault → List SectorSeen → List SectorSeen → Type 0
+IsChanged bits region on (Ok u) old new = EachSector (λ map. Goes (BitPut (asked bits region map) on) (ShownPut (asked bits region map) on)) old new
+IsChanged bits region on (Err fault) old new = EachSector (λ map. Goes (BitOpened (asked bits region map)) (ShownMay (asked bits region map) on)) old new
+
+-- what was loose is gone, and then the bits that are asked for are on every copy, or on none
+abbrev pub AllSet : ℕ → ℕ → Bool → List SectorSeen → List SectorSeen → Type 0
+AllSet bits region on old new = EachSector (λ map. Goes (BitSet (asked bits region map) on) (ShownSet (asked bits region map) on)) old new
+
+-- what was loose is gone, and then the bits that are asked for are left open
+abbrev pub AllLeft : ℕ → ℕ → Bool → List SectorSeen → List SectorSeen → Type 0
+AllLeft bits region on old new = EachSector (λ map. Goes (BitLeft (asked bits region map)) (ShownLeft (asked bits region map) on)) old new
+
+-- a mark: where it fails, while what was loose was written again or later
+abbrev pub IsMarkedIn : {T : Type 0} → ℕ → ℕ → Result T MarkFault → List SectorSeen → List SectorSeen → Type 0
+IsMarkedIn bits region (Ok u) old new = AllSet bits region true old new
+IsMarkedIn bits region (Err fault) old new = EachSector (λ map. Goes SameBits MaySweep) old new ⊎ AllLeft bits region true old new
+
+-- an unmark: the same, and the bits are left open whenever it fails
+abbrev pub IsUnmarkedIn : {T : Type 0} → ℕ → ℕ → Result T MarkFault → List SectorSeen → List SectorSeen → Type 0
+IsUnmarkedIn bits region (Ok u) old new = AllSet bits region false old new
+IsUnmarkedIn bits region (Err fault) old new = EachSector (λ map. Goes (BitOpened (asked bits region map)) MaySweep) old new ⊎ AllLeft bits region false old new

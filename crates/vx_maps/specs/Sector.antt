@@ -180,3 +180,19 @@ IsBitPut asked on (Err fault) old new = Goes (BitMay asked) (ShownMay asked on) 
 -- the bit that is asked for is left open: no longer sure, and loose
 abbrev pub BitOpened : (ℕ → Bool) → ℕ → Bool → Bool → Bool → Bool → Type 0
 BitOpened asked region sure loose sure' loose' = (sure' ≡ (sure && not (asked region))) × (loose' ≡ (loose || asked region))
+
+-- nothing is loose any more, and the bit is put where it is asked for
+abbrev pub BitSet : (ℕ → Bool) → Bool → ℕ → Bool → Bool → Bool → Bool → Type 0
+BitSet asked on region sure loose sure' loose' = (sure' ≡ (if asked region then on else sure)) × (loose' ≡ false)
+
+-- the copy has lost the mark if it was loose, and then got the bit where it is asked for
+abbrev pub ShownSet : (ℕ → Bool) → Bool → ℕ → Bool → Bool → Bool → Type 0
+ShownSet asked on region shows loose shows' = shows' ≡ (if asked region then on else (shows && not loose))
+
+-- the bit that is asked for is left open, and nothing else is loose any more
+abbrev pub BitLeft : (ℕ → Bool) → ℕ → Bool → Bool → Bool → Bool → Type 0
+BitLeft asked region sure loose sure' loose' = (sure' ≡ (sure && not (asked region))) × (loose' ≡ asked region)
+
+-- the copy has lost the mark if it was loose, and then may have got the bit where it is asked for
+abbrev pub ShownLeft : (ℕ → Bool) → Bool → ℕ → Bool → Bool → Bool → Type 0
+ShownLeft asked on region shows loose shows' = (shows' ≡ (shows && not loose)) ⊎ ((asked region ≡ true) × (shows' ≡ on))

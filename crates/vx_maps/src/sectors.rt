@@ -2,7 +2,7 @@
 
 ghost use Rattle.std.specs.Prelude.{◌≡◌, ℕ, ◌<◌, length};
 ghost use Rattle.vx_maps.specs.Sector.{BitOpened, HasCause, IsBitPut, IsFirm, IsTidied, NoneLoose, Turns, is_loose};
-ghost use Rattle.vx_maps.specs.Page.{AreClean, EachSector, asked, cut_in, faults_in, sector_at, sectors_seen};
+ghost use Rattle.vx_maps.specs.Page.{AreClean, EachSector, IsChanged, IsFirmed, IsMarkedIn, IsUnmarkedIn, asked, cut_in, faults_in, sector_at, sectors_seen};
 
 use crate::sector::MapSector;
 use vx_mask::contains;
@@ -64,4 +64,68 @@ pub fn open_all<P: Piece>(sectors: &mut Vec<MapSector<P>>, region: u64, bits: u6
         let sector = &mut sectors[map];
         sector.open_if(contains(bits, map as u32), region);
     }
+}
+
+/// Writes what is loose again. Nothing is loose any more once all of it is done.
+pub fn firm_all<P: Piece>(sectors: &mut Vec<MapSector<P>>) -> Result<(), MarkFault>
+    ensures each { IsFirmed result (sectors_seen P.seen sectors.old.items) (sectors_seen P.seen sectors.new.items) }
+    ensures cause { HasCause (faults_in (sectors_seen P.seen sectors.old.items)) (faults_in (sectors_seen P.seen sectors.new.items)) (cut_in (sectors_seen P.seen sectors.new.items)) result }
+{
+    if let Err(fault) = tidy_all(sectors) {
+        return Err(fault);
+    }
+    forget_all(sectors);
+    Ok(())
+}
+
+/// Puts the bit of a region in each map of the mask on every copy. Where that fails, these bits are left open.
+pub fn change_all<P: Piece>(
+    sectors: &mut Vec<MapSector<P>>,
+    region: u64,
+    bits: u64,
+    on: bool,
+) -> Result<(), MarkFault>
+    requires maps { length sectors.old.items ≡ 32 }
+    requires clean { AreClean (sectors_seen P.seen sectors.old.items) }
+    ensures each { IsChanged bits region on result (sectors_seen P.seen sectors.old.items) (sectors_seen P.seen sectors.new.items) }
+    ensures cause { HasCause (faults_in (sectors_seen P.seen sectors.old.items)) (faults_in (sectors_seen P.seen sectors.new.items)) (cut_in (sectors_seen P.seen sectors.new.items)) result }
+{
+    if let Err(fault) = put_all(sectors, region, bits, on) {
+        open_all(sectors, region, bits);
+        return Err(fault);
+    }
+    Ok(())
+}
+
+/// Marks a region in each map of the mask.
+pub fn mark_all<P: Piece>(
+    sectors: &mut Vec<MapSector<P>>,
+    region: u64,
+    bits: u64,
+) -> Result<(), MarkFault>
+    requires { length sectors.old.items ≡ 32 }
+    ensures each { IsMarkedIn bits region result (sectors_seen P.seen sectors.old.items) (sectors_seen P.seen sectors.new.items) }
+    ensures cause { HasCause (faults_in (sectors_seen P.seen sectors.old.items)) (faults_in (sectors_seen P.seen sectors.new.items)) (cut_in (sectors_seen P.seen sectors.new.items)) result }
+{
+    if let Err(fault) = firm_all(sectors) {
+        return Err(fault);
+    }
+    change_all(sectors, region, bits, true)
+}
+
+/// Takes the marks of a region away in each map of the mask. Where that fails, they are left open.
+pub fn unmark_all<P: Piece>(
+    sectors: &mut Vec<MapSector<P>>,
+    region: u64,
+    bits: u64,
+) -> Result<(), MarkFault>
+    requires { length sectors.old.items ≡ 32 }
+    ensures each { IsUnmarkedIn bits region result (sectors_seen P.seen sectors.old.items) (sectors_seen P.seen sectors.new.items) }
+    ensures cause { HasCause (faults_in (sectors_seen P.seen sectors.old.items)) (faults_in (sectors_seen P.seen sectors.new.items)) (cut_in (sectors_seen P.seen sectors.new.items)) result }
+{
+    if let Err(fault) = firm_all(sectors) {
+        open_all(sectors, region, bits);
+        return Err(fault);
+    }
+    change_all(sectors, region, bits, false)
 }

@@ -1,0 +1,18 @@
+use Rattle.std.proofs.Common.{◌≡◌, ◌<◌, ◌∙◌, sym, ap, inl, inr, refl, length, arith, subst, ℕ, Result, Ok, Err, true, false, List, map}
+use Rattle.std.proofs.lemmas.List.{length-map}
+use Rattle.vx_marks.specs.declared.marker.MarkFault.{MarkFault}
+use Rattle.vx_maps.specs.Sector.{SectorSeen, Goes, Turns, SameBits, Swept, MaySweep, NoneLoose, BitPut, BitMay, BitOpened, ShownPut, ShownMay, BitSet, ShownSet, BitLeft, ShownLeft, IsTidied, IsBitPut, HasCause}
+use Rattle.vx_maps.specs.Page.{asked, faults_in, cut_in, sectors_seen, EachSector, IsFirmed, IsChanged, IsMarkedIn, IsUnmarkedIn}
+use Rattle.vx_maps.proofs.Ways.{firms, fails, leaves_open, sets, leaves, tidied_firm}
+use Rattle.vx_maps.proofs.Whole.{each_then, turned_faults, turned_cut, cause_stays, cause_after}
+use Rattle.vx_maps.proofs.sectors.firm_all.Goals as goal
+
+pub returns-clause-each : goal.returns-clause-each
+returns-clause-each g c =
+    each_then (λ m. Goes SameBits Swept) (λ m. Turns NoneLoose) (λ m. Goes NoneLoose Swept) _ _ _ (λ m x y z one two. firms x y z one two)
+    (subst (λ (r : Result (Unit {0}) MarkFault). EachSector (λ m. IsTidied r) (sectors_seen g.P.Piece.seen c.args.sectors.now.items) (sectors_seen g.P.Piece.seen c.tidy_all.new.sectors.items)) c.in_default.is c.tidy_all.ensures.each) c.forget_all.ensures
+
+pub returns-clause-cause : goal.returns-clause-cause
+returns-clause-cause g c copy device =
+    turned_faults (λ m. NoneLoose) _ _ c.forget_all.ensures copy device
+    ∙ (subst (λ (r : Result (Unit {0}) MarkFault). HasCause (faults_in (sectors_seen g.P.Piece.seen c.args.sectors.now.items)) (faults_in (sectors_seen g.P.Piece.seen c.tidy_all.new.sectors.items)) (cut_in (sectors_seen g.P.Piece.seen c.tidy_all.new.sectors.items)) r) c.in_default.is c.tidy_all.ensures.cause) copy device

@@ -3,7 +3,7 @@ use Rattle.std.specs.Prelude.{◌≡◌, ◌⊎◌, ℕ, zero, suc, ◌+◌, ◌
 use Rattle.vx_mask.specs.Mask.{has}
 use Rattle.vx_mask.specs.Marks.{Marks}
 use Rattle.vx_piece.specs.Seen.{Seen}
-use Rattle.vx_piece.specs.declared.piece.Piece.{Ghosts}
+use Rattle.vx_maps.specs.declared.local_piece.LocalPiece.{Ghosts}
 use Rattle.vx_marks.specs.Log.{LogSeen}
 use Rattle.vx_maps.specs.declared.sector.MapSector.{MapSector}
 use Rattle.vx_maps.specs.Bytes.{same_place}

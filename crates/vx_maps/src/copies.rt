@@ -5,10 +5,11 @@ ghost use Rattle.vx_maps.specs.Sector.{AreSectors, IsPut};
 ghost use Rattle.vx_maps.specs.Pieces.{IsPutOn, copies_of};
 
 use vx_marks::MarkFault;
-use vx_piece::{Piece, PieceFault};
+use crate::local_piece::LocalPiece;
+use vx_piece::PieceFault;
 
 /// Writes the sector on each copy, and stops at the first that fails.
-pub fn put<P: Piece>(
+pub fn put<P: LocalPiece>(
     first: &mut P,
     second: &mut Option<P>,
     sector: &[u8],
@@ -27,7 +28,7 @@ pub fn put<P: Piece>(
 }
 
 /// Writes the sector on one copy.
-fn put_one<P: Piece>(piece: &mut P, copy: u8, sector: &[u8]) -> Result<(), MarkFault>
+fn put_one<P: LocalPiece>(piece: &mut P, copy: u8, sector: &[u8]) -> Result<(), MarkFault>
     requires whole { length sector.now ≡ 512 }
     requires sector { (P.seen piece.old).sectors ≡ 1 }
     ensures { IsPutOn copy sector.now (P.seen piece.old) (P.seen piece.new) result }

@@ -3,7 +3,10 @@
 
 mod bytes;
 mod copies;
+mod local_piece;
+mod page;
 mod sector;
 mod sectors;
 
-pub use sector::MapSector;
+pub use local_piece::LocalPiece;
+pub use page::Page;

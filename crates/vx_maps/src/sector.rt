@@ -5,13 +5,13 @@ ghost use Rattle.vx_maps.specs.Pieces.{sector_of};
 use crate::bytes::{has_bit, put_bit, put_none};
 use crate::copies::put;
 use vx_marks::MarkFault;
-use vx_piece::Piece;
+use crate::local_piece::LocalPiece;
 use vx_sector::is_zero;
 
 /// The sector of one map on one page: its piece on each copy, and in memory what is sure of it and what a failed call
 /// has left open.
 #[derive(Drop)]
-pub struct MapSector<P: Piece> {
+pub struct MapSector<P: LocalPiece> {
     first: P,
     second: Option<P>,
     sure: Vec<u8>,
@@ -19,7 +19,7 @@ pub struct MapSector<P: Piece> {
     ghost formed: { IsFormed (sector_of P.seen first second sure.items loose.items) },
 }
 
-impl<P: Piece> MapSector<P> {
+impl<P: LocalPiece> MapSector<P> {
     ghost use Rattle.vx_maps.specs.Sectors.{sector_seen};
     ghost use Rattle.vx_maps.specs.Bytes.{same_place};
     ghost use Rattle.vx_maps.specs.Sector.{BitOpened, HasCause, IsBitPut, IsFirm, IsTidied, NoneLoose, Turns, faults_at, is_cut, is_loose, is_sure};
@@ -74,7 +74,7 @@ impl<P: Piece> MapSector<P> {
     }
 }
 
-impl<P: Piece> MapSector<P> {
+impl<P: LocalPiece> MapSector<P> {
     ghost use Rattle.vx_maps.specs.Sectors.{sector_seen};
     ghost use Rattle.vx_maps.specs.Bytes.{same_place};
     ghost use Rattle.vx_maps.specs.Sector.{BitOpened, HasCause, IsBitPut, Turns, faults_at, is_cut, is_loose};

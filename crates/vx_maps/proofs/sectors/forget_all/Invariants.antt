@@ -6,6 +6,6 @@ use Rattle.vx_maps.proofs.sectors.forget_all.Given as goal
 
 abbrev pub invariant-loop-map : goal.invariant-loop-map
 invariant-loop-map g l = record {
-  went : Went (λ map. Turns NoneLoose) l.map (sectors_seen g.P.Piece.seen l.fn.sectors.items) (sectors_seen g.P.Piece.seen l.sectors.items);
+  went : Went (λ map. Turns NoneLoose) l.map (sectors_seen g.P.LocalPiece.seen l.fn.sectors.items) (sectors_seen g.P.LocalPiece.seen l.sectors.items);
   size : length l.sectors.items ≡ length l.fn.sectors.items;
 }

@@ -6,7 +6,7 @@ use Rattle.vx_maps.proofs.sectors.put_all.Given as goal
 
 abbrev pub invariant-loop-map : goal.invariant-loop-map
 invariant-loop-map g l = record {
-  went : Went (λ map. IsBitPut {T = Unit {0}} (asked l.bits l.region map) l.on (Ok tt)) l.map (sectors_seen g.P.Piece.seen l.fn.sectors.items) (sectors_seen g.P.Piece.seen l.sectors.items);
+  went : Went (λ map. IsBitPut {T = Unit {0}} (asked l.bits l.region map) l.on (Ok tt)) l.map (sectors_seen g.P.LocalPiece.seen l.fn.sectors.items) (sectors_seen g.P.LocalPiece.seen l.sectors.items);
   size : length l.sectors.items ≡ 32;
-  quiet : (copy device : ℕ) → faults_in (sectors_seen g.P.Piece.seen l.sectors.items) copy device ≡ faults_in (sectors_seen g.P.Piece.seen l.fn.sectors.items) copy device;
+  quiet : (copy device : ℕ) → faults_in (sectors_seen g.P.LocalPiece.seen l.sectors.items) copy device ≡ faults_in (sectors_seen g.P.LocalPiece.seen l.fn.sectors.items) copy device;
 }

@@ -16,10 +16,10 @@ invariant_of-self-2 g c =
     record {
       formed =
           tidy_formed _ _ _ _ c.put.result c.args.self.now.formed
-          (subst (λ (bytes : List ℕ). IsPut bytes (copies_of g.P.Piece.seen c.args.self.now.first c.args.self.now.second) (copies_of g.P.Piece.seen c.put.new.first c.put.new.second) c.put.result) c.deref-2.ensures.value c.put.ensures);
+          (subst (λ (bytes : List ℕ). IsPut bytes (copies_of g.P.LocalPiece.seen c.args.self.now.first c.args.self.now.second) (copies_of g.P.LocalPiece.seen c.put.new.first c.put.new.second) c.put.result) c.deref-2.ensures.value c.put.ensures);
     }
 
 pub returns-clause-goes : goal.returns-clause-goes
 returns-clause-goes g c =
     tidied _ _ _ _ c.put.result c.args.self.now.formed
-    (subst (λ (bytes : List ℕ). IsPut bytes (copies_of g.P.Piece.seen c.args.self.now.first c.args.self.now.second) (copies_of g.P.Piece.seen c.put.new.first c.put.new.second) c.put.result) c.deref-2.ensures.value c.put.ensures)
+    (subst (λ (bytes : List ℕ). IsPut bytes (copies_of g.P.LocalPiece.seen c.args.self.now.first c.args.self.now.second) (copies_of g.P.LocalPiece.seen c.put.new.first c.put.new.second) c.put.result) c.deref-2.ensures.value c.put.ensures)

@@ -1,8 +1,10 @@
 pub mod Bits
 pub mod Going
+pub mod Items
 pub mod Loops
 pub mod Marking
 pub mod Masks
 pub mod Putting
+pub mod Storing
 pub mod Ways
 pub mod Whole

@@ -8,7 +8,8 @@ use Rattle.vx_marks.specs.Log.{IsOther}
 use Rattle.vx_marks.specs.declared.marker.MarkFault.{MarkFault}
 use Rattle.vx_marks.specs.declared.marker.MarkFault.TheVariants.{Failed, PowerLost, Busy}
 use Rattle.vx_maps.specs.Sector.{SectorSeen, faults_at, is_cut, RiseAt, HasCause}
-use Rattle.vx_maps.specs.Page.{sector_at, faults_in, cut_in, EachSector}
+use Rattle.vx_maps.proofs.Items as items
+use Rattle.vx_maps.specs.Page.{no_sector, sector_at, faults_in, cut_in, EachSector}
 
 -- the sectors below this map have gone so, and the others are as they were
 pub record Went (fact : ℕ → SectorSeen → SectorSeen → Type 0) (i : ℕ) (old now : List SectorSeen) : Type 0 where
@@ -24,26 +25,16 @@ ends fact i old now le went = record { size = went.size; each = λ map lt. went.
 
 module _ {T : Type 0} (see : T → SectorSeen) where
   at_is : (xs : List T) (i : ℕ) (d : T) → i < length xs → sector_at (map see xs) i ≡ see (get_or xs i d)
-  at_is [] i d lt = absurd (omega arith)
-  at_is (x ∷ xs) zero d lt = refl
-  at_is (x ∷ xs) (suc i) d lt = at_is xs i d (omega arith)
+  at_is = items.at_is no_sector see
 
   at_set : (xs : List T) (i : ℕ) (q : T) → i < length xs → sector_at (map see (set xs i q)) i ≡ see q
-  at_set [] i q lt = absurd (omega arith)
-  at_set (x ∷ xs) zero q lt = refl
-  at_set (x ∷ xs) (suc i) q lt = at_set xs i q (omega arith)
+  at_set = items.at_set no_sector see
 
   at_other : (xs : List T) (i j : ℕ) (q : T) → j ≢ i → sector_at (map see (set xs i q)) j ≡ sector_at (map see xs) j
-  at_other [] i j q apart = refl
-  at_other (x ∷ xs) zero zero q apart = absurd (apart refl)
-  at_other (x ∷ xs) zero (suc j) q apart = refl
-  at_other (x ∷ xs) (suc i) zero q apart = refl
-  at_other (x ∷ xs) (suc i) (suc j) q apart = at_other xs i j q (λ e. apart (ap (λ (n : ℕ). suc n) e))
+  at_other = items.at_other no_sector see
 
   set_size : (xs : List T) (i : ℕ) (q : T) → length (map see (set xs i q)) ≡ length (map see xs)
-  set_size [] i q = refl
-  set_size (x ∷ xs) zero q = refl
-  set_size (x ∷ xs) (suc i) q = ap (λ (n : ℕ). suc n) (set_size xs i q)
+  set_size = items.set_size no_sector see
 
   faults_set : (xs : List T) (i : ℕ) (d q : T) (copy device : ℕ) → i < length xs →
       faults_in (map see (set xs i q)) copy device + faults_at (see (get_or xs i d)).copies copy device ≡ faults_in (map see xs) copy device + faults_at (see q).copies copy device

@@ -8,6 +8,7 @@ use Rattle.vx_mask.proofs.MaskLemmas.{has-zero, has-union, has-only_same, has-on
 use Rattle.vx_maps.specs.Sector.{SectorSeen, is_sure}
 use Rattle.vx_maps.specs.Page.{no_sector, sector_at}
 use Rattle.vx_maps.proofs.Bits.{empty_bit}
+use Rattle.vx_maps.proofs.Items.{at_is}
 use Rattle.vx_maps.proofs.Marking.{beyond}
 
 and_right : (b : Bool) → (b && true) ≡ b
@@ -44,16 +45,11 @@ next_map sure i other =
     ]
 
 module _ {T : Type 0} (see : T → SectorSeen) where
-  at_is : (xs : List T) (i : ℕ) (d : T) → i < length xs → sector_at (map see xs) i ≡ see (get_or xs i d)
-  at_is [] i d lt = absurd (omega arith)
-  at_is (x ∷ xs) zero d lt = refl
-  at_is (x ∷ xs) (suc i) d lt = at_is xs i d (omega arith)
-
   pub masks_on : (xs : List T) (i region mask mask' : ℕ) (p : T) (there : Bool) → i < length xs → p ≡ get_or xs i p → there ≡ is_sure (see p) region →
       ((k : ℕ) → has mask k ≡ (nat_lt k i && is_sure (sector_at (map see xs) k) region)) → ((k : ℕ) → has mask' k ≡ (has mask k || ((k == i) && there))) →
       (k : ℕ) → has mask' k ≡ (nat_lt k (i + 1) && is_sure (sector_at (map see xs) k) region)
   masks_on xs i region mask mask' p there lt is sure before next k =
-      let here : there ≡ is_sure (sector_at (map see xs) i) region = sure ∙ ap (λ (s : SectorSeen). is_sure s region) (ap see is ∙ sym (at_is xs i p lt)) in
+      let here : there ≡ is_sure (sector_at (map see xs) i) region = sure ∙ ap (λ (s : SectorSeen). is_sure s region) (ap see is ∙ sym (at_is no_sector see xs i p lt)) in
       next k ∙ ap (λ (b : Bool). b || ((k == i) && there)) (before k) ∙ ap (λ (b : Bool). (nat_lt k i && is_sure (sector_at (map see xs) k) region) || ((k == i) && b)) here
       ∙ next_map (λ m. is_sure (sector_at (map see xs) m) region) i k
 

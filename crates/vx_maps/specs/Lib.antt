@@ -1,7 +1,9 @@
 pub mod Bytes
 pub mod Firm
+pub mod Items
 pub mod Page
 pub mod Pages
 pub mod Pieces
 pub mod Sector
 pub mod Sectors
+pub mod Store

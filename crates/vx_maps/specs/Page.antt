@@ -1,5 +1,5 @@
 -- The sectors of a page, one for each map, and what they show as a log of marks.
-use Rattle.std.specs.Prelude.{◌≡◌, ◌⊎◌, ℕ, zero, suc, ◌+◌, ◌/◌, ◌<◌, ◌==◌, ◌&&◌, ◌||◌, nat_lt, Bool, true, false, is_some, if◌then◌else◌, List, [], ◌∷◌, length, map, Some, None, Result, Ok, Err}
+use Rattle.std.specs.Prelude.{◌≡◌, ◌⊎◌, ℕ, ◌+◌, ◌/◌, ◌<◌, ◌==◌, ◌&&◌, ◌||◌, nat_lt, Bool, true, false, is_some, if◌then◌else◌, List, [], ◌∷◌, length, map, Some, None, Result, Ok, Err}
 use Rattle.vx_mask.specs.Mask.{has}
 use Rattle.vx_mask.specs.Marks.{Marks}
 use Rattle.vx_piece.specs.Seen.{Seen}
@@ -7,6 +7,7 @@ use Rattle.vx_maps.specs.declared.local_piece.LocalPiece.{Ghosts}
 use Rattle.vx_marks.specs.Log.{LogSeen}
 use Rattle.vx_maps.specs.declared.sector.MapSector.{MapSector}
 use Rattle.vx_maps.specs.Bytes.{same_place}
+use Rattle.vx_maps.specs.Items.{item_at}
 use Rattle.vx_marks.specs.declared.marker.MarkFault.{MarkFault}
 use Rattle.vx_maps.specs.Sector.{SectorSeen, shown, tells, faults_at, is_cut, is_sure, is_loose, Goes, NoneLoose, Swept, SameBits, MaySweep, BitPut, ShownPut, BitOpened, ShownMay, BitSet, ShownSet, BitLeft, ShownLeft}
 use Rattle.vx_maps.specs.Sectors.{sector_seen}
@@ -27,9 +28,7 @@ no_sector = record {
 
 -- the sector of a map
 abbrev pub sector_at : List SectorSeen → ℕ → SectorSeen
-sector_at [] map = no_sector
-sector_at (s ∷ ss) zero = s
-sector_at (s ∷ ss) (suc map) = sector_at ss map
+sector_at sectors map = item_at no_sector sectors map
 
 -- how often calls on a copy's pieces have failed, by the device
 abbrev pub faults_in : List SectorSeen → ℕ → ℕ → ℕ

@@ -7,6 +7,8 @@ mod local_piece;
 mod page;
 mod sector;
 mod sectors;
+mod store;
 
 pub use local_piece::LocalPiece;
 pub use page::Page;
+pub use store::{Base, MapStore};

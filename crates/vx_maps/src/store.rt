@@ -1,0 +1,48 @@
+ghost use Rattle.std.specs.Prelude.{◌≡◌, ℕ};
+ghost use Rattle.vx_maps.specs.Store.{ArePages, pages_seen};
+
+use crate::local_piece::LocalPiece;
+use crate::page::Page;
+use vx_mapfmt::DcoShape;
+use vx_marks::{MarkFault, Marker};
+
+/// What a store keeps beside its pages: its shape, and for each copy the pieces between the pages, in order.
+#[derive(Drop)]
+pub struct Base<P: LocalPiece> {
+    shape: DcoShape,
+    between: Vec<Vec<P>>,
+}
+
+/// The change maps of a volume, kept as pages.
+#[derive(Drop)]
+pub struct MapStore<P: LocalPiece> {
+    base: Base<P>,
+    pages: Vec<Page<P>>,
+    ghost paged: { ArePages base.shape.regions (pages_seen P.seen pages.items) },
+}
+
+impl<P: LocalPiece> Marker for MapStore<P> {
+    ghost use Rattle.vx_maps.specs.Store.{store_log};
+
+    ghost log = { λ store. store_log store.base.shape.regions (pages_seen P.seen store.pages.items) };
+
+    ghost follows = { λ x y. Unit {0} };
+
+    fn marked(&self, region: u64) -> u64 {
+        self.pages[(region / 4096) as usize].marked(region)
+    }
+
+    fn mark(&mut self, region: u64, bits: u64) -> Result<(), MarkFault> {
+        let page = &mut self.pages[(region / 4096) as usize];
+        page.mark(region, bits)
+    }
+
+    fn unmark(&mut self, region: u64, bits: u64) -> Result<(), MarkFault> {
+        let page = &mut self.pages[(region / 4096) as usize];
+        page.unmark(region, bits)
+    }
+
+    ghost follows_same = { λ x. tt };
+
+    ghost follows_on = { λ x y z first then. tt };
+}

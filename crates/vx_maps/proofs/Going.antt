@@ -6,7 +6,7 @@ use Rattle.vx_mapfmt.specs.Bits.{bit_in}
 use Rattle.vx_sector.specs.Fields.{zeros}
 use Rattle.vx_marks.specs.declared.marker.MarkFault.{MarkFault}
 use Rattle.vx_maps.specs.Bytes.{same_place}
-use Rattle.vx_maps.specs.Sector.{Copies, SectorSeen, tells, held, shown, is_sure, is_loose, IsFormed, KeepsCopies, KeepsSector, Holds, IsPut, Goes, SameBits, Swept, MaySweep, IsTidied, IsFirm, Turns, NoneLoose, BitPut, BitMay, ShownPut, ShownMay, IsBitPut, BitOpened}
+use Rattle.vx_maps.specs.Sector.{AreSectors, IsMade, Copies, SectorSeen, tells, held, shown, is_sure, is_loose, IsFormed, KeepsCopies, KeepsSector, Holds, IsPut, Goes, SameBits, Swept, MaySweep, IsTidied, IsFirm, Turns, NoneLoose, BitPut, BitMay, ShownPut, ShownMay, IsBitPut, BitOpened}
 use Rattle.vx_maps.proofs.Bits.{no_bit}
 
 abbrev seen : Copies → List ℕ → List ℕ → SectorSeen
@@ -199,3 +199,18 @@ open_formed c sure loose sure' loose' region len len' is unsure formed =
     left : (a x l s l' s' : Bool) → (x && not l) ≡ s → s' ≡ (if a then false else s) → l' ≡ (if a then true else l) → (x && not l') ≡ s'
     left true x l s l' s' h is unsure = rw (unsure, is) (and_none x)
     left false x l s l' s' h is unsure = rw (unsure, is) h
+
+-- ---- a sector is made
+
+pub made_formed : (c c' : Copies) (sure loose : List ℕ) → AreSectors c → length sure ≡ 512 → length loose ≡ 512 → loose ≡ zeros 512 → IsPut {T = Unit {0}} sure c c' (Ok tt) → IsFormed (seen c' sure loose)
+made_formed c c' sure loose sectors len len' none put =
+    record {
+      sectors = put.kept.sectors sectors;
+      sure = len;
+      loose = len';
+      shows = λ t n region.
+          ap (λ (l : Bool). shown c' n region && not l) (none_in loose region none) ∙ and_all _ ∙ ap (λ (page : List ℕ). bit_in page region) (put.holds (sym put.kept.tells ∙ t) n);
+    }
+
+pub made : (c c' : Copies) (sure loose : List ℕ) → loose ≡ zeros 512 → IsPut {T = Unit {0}} sure c c' (Ok tt) → IsMade sure c (seen c' sure loose)
+made c c' sure loose none put = record { kept = put.kept; holds = put.holds; sure = refl; loose = λ region. none_in loose region none; quiet = put.cause }

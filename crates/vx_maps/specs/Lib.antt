@@ -7,3 +7,4 @@ pub mod Pieces
 pub mod Sector
 pub mod Sectors
 pub mod Store
+pub mod Stores

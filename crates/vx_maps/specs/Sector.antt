@@ -196,3 +196,11 @@ BitLeft asked region sure loose sure' loose' = (sure' ≡ (sure && not (asked re
 -- the copy has lost the mark if it was loose, and then may have got the bit where it is asked for
 abbrev pub ShownLeft : (ℕ → Bool) → Bool → ℕ → Bool → Bool → Bool → Type 0
 ShownLeft asked on region shows loose shows' = (shows' ≡ (shows && not loose)) ⊎ ((asked region ≡ true) × (shows' ≡ on))
+
+-- a sector that was written with these bytes on every copy: they are sure, and nothing is loose
+pub record IsMade (bytes : List ℕ) (old : Copies) (new : SectorSeen) : Type 0 where
+  pub kept : KeepsCopies old new.copies
+  pub holds : tells old ≡ true → (n : ℕ) → held new.copies n ≡ bytes
+  pub sure : new.sure ≡ bytes
+  pub loose : (region : ℕ) → is_loose new region ≡ false
+  pub quiet : (copy device : ℕ) → faults_at new.copies copy device ≡ faults_at old copy device

@@ -3,12 +3,15 @@
 
 mod bytes;
 mod copies;
+mod create;
 mod local_piece;
 mod page;
 mod sector;
 mod sectors;
 mod store;
 
+pub use create::{SectorRefused, create_sector};
 pub use local_piece::LocalPiece;
 pub use page::Page;
+pub use sector::MapSector;
 pub use store::{Base, MapStore};

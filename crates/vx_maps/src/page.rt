@@ -17,8 +17,21 @@ pub struct Page<P: LocalPiece> {
 
 impl<P: LocalPiece> Page<P> {
     ghost use Rattle.vx_marks.specs.Log.{KeepsLog, MarkHasCause, OnMarks};
+    ghost use Rattle.vx_maps.specs.Page.{page_log, sectors_seen};
     ghost use Rattle.vx_maps.specs.Pages.{page_seen};
     ghost use Rattle.vx_maps.specs.Firm.{FirmsAll};
+
+    /// A page of a volume of so many regions, by its index, of its sectors in the order of the maps.
+    pub fn of(index: u64, regions: u64, sectors: Vec<MapSector<P>>) -> Page<P>
+        requires { length sectors.items ≡ 32 }
+        ensures { page_seen P.seen result ≡ page_log index regions (sectors_seen P.seen sectors.items) }
+    {
+        Page {
+            index,
+            regions,
+            sectors,
+        }
+    }
 
     /// Writes again what a failed call has left open, and keeps all that is claimed. After Ok nothing is loose.
     pub fn firm(&mut self) -> Result<(), MarkFault>

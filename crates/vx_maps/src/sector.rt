@@ -102,3 +102,20 @@ impl<P: LocalPiece> MapSector<P> {
         }
     }
 }
+
+impl<P: LocalPiece> MapSector<P> {
+    ghost use Rattle.vx_maps.specs.Sectors.{sector_seen};
+
+    /// A sector of which each copy shows what is sure, and nothing is loose.
+    pub(crate) fn of(first: P, second: Option<P>, sure: Vec<u8>, loose: Vec<u8>) -> MapSector<P>
+        requires { IsFormed (sector_of P.seen first second sure.items loose.items) }
+        ensures { sector_seen P.seen result ≡ sector_of P.seen first second sure.items loose.items }
+    {
+        MapSector {
+            first,
+            second,
+            sure,
+            loose,
+        }
+    }
+}

@@ -21,6 +21,38 @@ pub struct MapStore<P: LocalPiece> {
     ghost paged: { ArePages base.shape.regions (pages_seen P.seen pages.items) },
 }
 
+impl<P: LocalPiece> Base<P> {
+    /// A base of this shape.
+    pub fn of(shape: DcoShape, between: Vec<Vec<P>>) -> Base<P>
+        ensures shape { result.shape ≡ shape }
+        ensures between { result.between.items ≡ between.items }
+    {
+        Base { shape, between }
+    }
+}
+
+impl<P: LocalPiece> MapStore<P> {
+    ghost use Rattle.vx_maps.specs.Store.{store_log};
+    ghost use Rattle.vx_maps.specs.Stores.{store_seen};
+
+    /// The store of these pages: one for each 4,096 regions of the base's shape, in order.
+    pub fn from_pages(base: Base<P>, pages: Vec<Page<P>>) -> MapStore<P>
+        requires { ArePages base.shape.regions (pages_seen P.seen pages.items) }
+        ensures { store_seen P.seen result ≡ store_log base.shape.regions (pages_seen P.seen pages.items) }
+    {
+        MapStore { base, pages }
+    }
+
+    /// Its base and its pages. Takes no memory.
+    pub fn into_pages(self) -> (Base<P>, Vec<Page<P>>)
+        ensures pages { ArePages result.0.shape.regions (pages_seen P.seen result.1.items) }
+        ensures log { store_seen P.seen self ≡ store_log result.0.shape.regions (pages_seen P.seen result.1.items) }
+    {
+        let MapStore { base, pages } = self;
+        (base, pages)
+    }
+}
+
 impl<P: LocalPiece> Marker for MapStore<P> {
     ghost use Rattle.vx_maps.specs.Store.{store_log};
 

@@ -1,11 +1,13 @@
 //! The bytes of a page: a bit for each of its regions.
 
-ghost use Rattle.std.specs.Prelude.{◌≡◌, ℕ, ◌<◌, ◌==◌, length, if◌then◌else◌};
+ghost use Rattle.std.specs.Prelude.{◌≡◌, ℕ, ◌<◌, ◌==◌, length, if◌then◌else◌, IfOk};
 ghost use Rattle.vx_mapfmt.specs.Bits.{bit_in};
 ghost use Rattle.vx_mask.specs.Mask.{has};
 ghost use Rattle.vx_sector.specs.Fields.{zeros};
 ghost use Rattle.vx_maps.specs.Bytes.{same_place};
 
+use std::alloc::Global;
+use vx_base::OutOfMemory;
 use vx_mask::contains;
 use vx_sector::put_zeros;
 
@@ -25,6 +27,16 @@ pub fn put_bit(page: &mut Vec<u8>, region: u64, on: bool)
 {
     let place = (region % 4096 / 8) as usize;
     page[place] = with_bit(page[place], (region % 8) as u32, on);
+}
+
+/// The memory of a page without a bit.
+#[tactic(auto, unfolding(vx_sector::specs::Fields::zeros))]
+pub fn empty_page(alloc: Global) -> Result<Vec<u8>, OutOfMemory>
+    ensures none { IfOk result (λ page. page.items ≡ zeros 512) }
+    ensures length { IfOk result (λ page. length page.items ≡ 512) }
+{
+    let page = vec![in alloc; 0; 512]?;
+    Ok(page)
 }
 
 /// Takes each bit away.

@@ -10,6 +10,7 @@ mod sector;
 mod sectors;
 mod store;
 
+pub use bytes::{empty_page, has_bit};
 pub use create::{SectorRefused, create_sector};
 pub use local_piece::LocalPiece;
 pub use page::Page;

@@ -33,6 +33,13 @@ impl<P: LocalPiece> Page<P> {
         }
     }
 
+    /// Its sectors, in the order of the maps.
+    pub fn into_sectors(self) -> Vec<MapSector<P>>
+        ensures { length result.items ≡ 32 }
+    {
+        self.sectors
+    }
+
     /// Writes again what a failed call has left open, and keeps all that is claimed. After Ok nothing is loose.
     pub fn firm(&mut self) -> Result<(), MarkFault>
         ensures kept { KeepsLog (page_seen P.seen self.old) (page_seen P.seen self.new) }

@@ -104,6 +104,7 @@ impl<P: LocalPiece> MapSector<P> {
 }
 
 impl<P: LocalPiece> MapSector<P> {
+    ghost use Rattle.vx_maps.specs.Pieces.{copies_of};
     ghost use Rattle.vx_maps.specs.Sectors.{sector_seen};
 
     /// A sector of which each copy shows what is sure, and nothing is loose.
@@ -117,5 +118,18 @@ impl<P: LocalPiece> MapSector<P> {
             sure,
             loose,
         }
+    }
+
+    /// Its piece of each copy. What is sure or loose is forgotten.
+    pub fn into_pieces(self) -> (P, Option<P>)
+        ensures { copies_of P.seen result.0 result.1 ≡ (sector_seen P.seen self).copies }
+    {
+        let MapSector {
+            first,
+            second,
+            sure: _sure,
+            loose: _loose,
+        } = self;
+        (first, second)
     }
 }

@@ -50,7 +50,11 @@ fn piece(alloc: Global, copy: u8, map: u32, fault: Option<Fault>) -> Result<MemP
     Ok(piece)
 }
 
-fn sector(alloc: Global, map: u32, fault: Option<Fault>) -> Result<MapSector<MemPiece>, AllocError> {
+fn sector(
+    alloc: Global,
+    map: u32,
+    fault: Option<Fault>,
+) -> Result<MapSector<MemPiece>, AllocError> {
     let first = piece(alloc, 0, map, fault)?;
     let second = piece(alloc, 1, map, fault)?;
     let (Ok(sure), Ok(loose)) = (empty_page(alloc), empty_page(alloc)) else {

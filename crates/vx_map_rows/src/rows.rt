@@ -97,7 +97,9 @@ fn firm_if(page: &mut Page<MemPiece>, asked: bool) -> Result<(), MarkFault>
 fn answer(rt: &HostRuntime, call: &str, answer: Result<(), MarkFault>) -> io::Result<()> {
     match answer {
         Ok(()) => println!(rt; "  {call}: ok"),
-        Err(MarkFault::Failed { copy, device }) => println!(rt; "  {call}: copy {copy} failed on device {device}"),
+        Err(MarkFault::Failed { copy, device }) => println!(rt;
+            "  {call}: copy {copy} failed on device {device}"
+        ),
         Err(MarkFault::PowerLost) => println!(rt; "  {call}: power lost"),
         Err(MarkFault::Busy) => println!(rt; "  {call}: busy"),
     }

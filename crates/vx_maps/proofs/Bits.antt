@@ -1,5 +1,5 @@
 -- The bits of a byte, and of a page.
-use Rattle.std.proofs.Common.{◌≡◌, ◌≢◌, ◌⊎◌, inl, inr, ℕ, ◌+◌, ◌-◌, ◌*◌, zero, suc, ◌%◌, ◌/◌, ◌<◌, ◌^◌, Bool, true, false, refl, sym, ◌∙◌, ap, arith, min}
+use Rattle.std.proofs.Common.{◌≡◌, inl, inr, ℕ, ◌+◌, ◌-◌, ◌*◌, zero, suc, ◌%◌, ◌/◌, ◌<◌, ◌^◌, Bool, true, false, refl, sym, ◌∙◌, ap, arith, min}
 use Rattle.std.specs.Prelude.{◌==◌, ◌&&◌, ◌||◌, not, bit_and, bit_or, bit_xor, slice_index_or, replicate, [], if◌then◌else◌}
 use Rattle.std.specs.Int.{bit_at, w8}
 use Rattle.std.proofs.lemmas.Bool.{cases_lt, cond-true, cond-false}

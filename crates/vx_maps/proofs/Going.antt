@@ -1,12 +1,12 @@
 -- How the sector of a map goes on by each of its calls.
-use Rattle.std.proofs.Common.{arith, ◌≡◌, ◌⊎◌, inl, inr, ℕ, Bool, true, false, refl, sym, ◌∙◌, ap, subst, List, length, Result, Ok, Err}
+use Rattle.std.proofs.Common.{arith, ◌≡◌, ◌⊎◌, inl, inr, ℕ, Bool, true, false, refl, sym, ◌∙◌, ap, List, length, Result, Ok, Err}
 use Rattle.std.specs.Prelude.{◌&&◌, ◌||◌, not, if◌then◌else◌}
 use Rattle.vx_mask.proofs.Tests.{not_both}
 use Rattle.vx_mapfmt.specs.Bits.{bit_in}
 use Rattle.vx_sector.specs.Fields.{zeros}
 use Rattle.vx_marks.specs.declared.marker.MarkFault.{MarkFault}
 use Rattle.vx_maps.specs.Bytes.{same_place}
-use Rattle.vx_maps.specs.Sector.{AreSectors, IsMade, Copies, SectorSeen, tells, held, shown, is_sure, is_loose, IsFormed, KeepsCopies, KeepsSector, Holds, IsPut, Goes, SameBits, Swept, MaySweep, IsTidied, IsFirm, Turns, NoneLoose, BitPut, BitMay, ShownPut, ShownMay, IsBitPut, BitOpened}
+use Rattle.vx_maps.specs.Sector.{AreSectors, IsMade, Copies, SectorSeen, tells, held, shown, IsFormed, KeepsCopies, KeepsSector, Holds, IsPut, Goes, SameBits, Swept, IsTidied, IsFirm, Turns, NoneLoose, BitPut, BitMay, ShownPut, ShownMay, BitOpened}
 use Rattle.vx_maps.proofs.Bits.{no_bit}
 
 abbrev seen : Copies → List ℕ → List ℕ → SectorSeen

@@ -1,13 +1,12 @@
 -- How a loop over the sectors of a page goes on and ends.
-use Rattle.std.proofs.Common.{◌≡◌, ◌≢◌, ◌⊎◌, inl, inr, ℕ, zero, suc, ◌+◌, ◌-◌, ◌<◌, ◌≤◌, Bool, true, false, refl, sym, ◌∙◌, ap, subst, arith, List, [], ◌∷◌, length, map, get_or, set, Result, Ok, Err}
-use Rattle.std.specs.Prelude.{◌||◌, ◌^◌, min}
-use Rattle.std.proofs.lemmas.Bool.{cases_lt, cases_order}
+use Rattle.std.proofs.Common.{◌≡◌, ◌≢◌, inl, inr, ℕ, zero, suc, ◌+◌, ◌<◌, ◌≤◌, Bool, true, false, refl, sym, ◌∙◌, ap, subst, arith, List, [], ◌∷◌, length, map, get_or, set, Err}
+use Rattle.std.specs.Prelude.{◌||◌}
+use Rattle.std.proofs.lemmas.Bool.{cases_order}
 use Rattle.std.proofs.lemmas.List.{length-map}
 use Rattle.vx_base.specs.Counts.{Rose}
-use Rattle.vx_marks.specs.Log.{IsOther}
 use Rattle.vx_marks.specs.declared.marker.MarkFault.{MarkFault}
 use Rattle.vx_marks.specs.declared.marker.MarkFault.TheVariants.{Failed, PowerLost, Busy}
-use Rattle.vx_maps.specs.Sector.{SectorSeen, faults_at, is_cut, RiseAt, HasCause}
+use Rattle.vx_maps.specs.Sector.{SectorSeen, faults_at, is_cut, HasCause}
 use Rattle.vx_maps.proofs.Items as items
 use Rattle.vx_maps.specs.Page.{no_sector, sector_at, faults_in, cut_in, EachSector}
 

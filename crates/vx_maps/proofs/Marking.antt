@@ -1,18 +1,18 @@
 -- What calls on the sectors of a page are to the page as a log of marks.
-use Rattle.std.proofs.Common.{◌≡◌, ◌≢◌, ◌⊎◌, inl, inr, ℕ, zero, suc, ◌+◌, ◌*◌, ◌/◌, ◌%◌, ◌<◌, ◌≤◌, Bool, true, false, IsTrue, refl, sym, ◌∙◌, ap, subst, arith, List, [], ◌∷◌, length, Option, Some, None, Result, Ok, Err}
-use Rattle.std.specs.Prelude.{◌==◌, ◌&&◌, ◌||◌, not, nat_lt, is_some, if◌then◌else◌}
-use Rattle.std.proofs.lemmas.Bool.{cases_lt, eq-eqb, ne_eqb, cond-true}
+use Rattle.std.proofs.Common.{◌≡◌, ◌≢◌, ◌⊎◌, inl, inr, ℕ, zero, suc, ◌/◌, ◌%◌, ◌<◌, ◌≤◌, Bool, true, false, refl, sym, ◌∙◌, ap, arith, List, [], ◌∷◌, length, Some, None, Result, Ok, Err}
+use Rattle.std.specs.Prelude.{◌&&◌, ◌||◌, not, is_some, if◌then◌else◌}
+use Rattle.std.proofs.lemmas.Bool.{cases_lt, eq-eqb, ne_eqb}
 use Rattle.std.proofs.lemmas.Bool.Decides.{eqb_tells}
 use Rattle.vx_mask.specs.Mask.{has}
-use Rattle.vx_mask.specs.Marks.{Marks, AllGain, AllLose, SomeLoseLoose, SomeGain, SomeLose, MayGain, MayLose, MayTidy}
+use Rattle.vx_mask.specs.Marks.{Marks, AllGain, AllLose, SomeLoseLoose, MayGain, MayLose, MayTidy}
 use Rattle.vx_mask.proofs.MaskLemmas.{has-zero}
 use Rattle.vx_mask.proofs.Tests.{not_both, true_or_false, both_parts}
-use Rattle.vx_marks.specs.Log.{LogSeen, KeepsLog, OnMarks, ChangesAt, IsMarkedAs, IsUnmarkedAs, MayUnclaim, IsClaimedAs, IsUnclaimedAs, ClaimsAt, MarkHasCause}
+use Rattle.vx_marks.specs.Log.{KeepsLog, OnMarks, ChangesAt, IsMarkedAs, IsUnmarkedAs, MayUnclaim, IsClaimedAs, IsUnclaimedAs, ClaimsAt, MarkHasCause}
 use Rattle.vx_marks.specs.declared.marker.MarkFault.{MarkFault}
 use Rattle.vx_marks.specs.declared.marker.MarkFault.TheVariants.{Failed, PowerLost, Busy}
 use Rattle.vx_maps.specs.Bytes.{same_place}
 use Rattle.vx_maps.specs.Firm.{FirmsAll}
-use Rattle.vx_maps.specs.Sector.{SectorSeen, KeepsSector, Goes, HasCause, SameBits, Swept, MaySweep, NoneLoose, BitOpened, BitSet, ShownSet, BitLeft, ShownLeft, tells, shown, is_loose, is_sure, faults_at, is_cut}
+use Rattle.vx_maps.specs.Sector.{SectorSeen, KeepsSector, Goes, HasCause, SameBits, Swept, MaySweep, NoneLoose, BitOpened, BitSet, ShownSet, BitLeft, ShownLeft, tells, shown, is_loose, is_sure}
 use Rattle.vx_maps.specs.Page.{no_sector, sector_at, faults_in, cut_in, all_tell, EachSector, asked, has_region, marks_of, page_log, AllSet, AllLeft, IsFirmed, IsMarkedIn, IsUnmarkedIn}
 use Rattle.vx_maps.proofs.Bits.{empty_bit}
 
@@ -289,9 +289,9 @@ module _ (index regions region bits : ℕ) (xs ys : List SectorSeen) (size : len
     left_shows t = shows_at (λ map. BitLeft (asked bits region map)) (λ map. ShownLeft (asked bits region map) on) xs ys size all t (λ map other le. inl refl)
 
     left_here : all_tell xs ≡ true → (n k : ℕ) → (
-      ((has_region index regions region && shown (sector_at ys k).copies n region) ≡ ((has_region index regions region && shown (sector_at xs k).copies n region) && not (has_region index regions region && is_loose (sector_at xs k) region)))
-      ⊎ ((has bits k ≡ true) × ((has_region index regions region && shown (sector_at ys k).copies n region) ≡ on))
-    )
+        ((has_region index regions region && shown (sector_at ys k).copies n region) ≡ ((has_region index regions region && shown (sector_at xs k).copies n region) && not (has_region index regions region && is_loose (sector_at xs k) region)))
+        ⊎ ((has bits k ≡ true) × ((has_region index regions region && shown (sector_at ys k).copies n region) ≡ on))
+        )
     left_here t n k = left_open (has_region index regions region) (asked bits region k region) (has bits k) on _ _ _ known (asked_here bits region k) (left_shows t k n region)
 
     left_loose : (k : ℕ) → (has_region index regions region && is_loose (sector_at ys k) region) ≡ has bits k

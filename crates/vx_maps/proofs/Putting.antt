@@ -1,20 +1,18 @@
 -- How a sector is written on one copy after the other.
-use Rattle.std.proofs.Common.{◌≡◌, ◌≢◌, ◌⊎◌, inl, inr, ℕ, zero, suc, ◌+◌, ◌-◌, ◌*◌, ◌<◌, ◌≤◌, Bool, true, false, refl, sym, ◌∙◌, ap, subst, arith, List, length, take, drop, Option, Some, None, Result, Ok, Err}
-use Rattle.std.specs.Prelude.{◌==◌, ◌&&◌, ◌||◌, ◌/◌, is_some, if◌then◌else◌}
+use Rattle.std.proofs.Common.{◌≡◌, ◌≢◌, ◌⊎◌, inl, inr, ℕ, zero, suc, ◌≤◌, Bool, true, false, refl, sym, ◌∙◌, subst, arith, List, length, Option, Some, None, Result, Ok, Err}
+use Rattle.std.specs.Prelude.{◌==◌, ◌&&◌, ◌||◌, is_some, if◌then◌else◌}
 use Rattle.std.proofs.lemmas.List.{take_all}
 use Rattle.std.proofs.lemmas.Bool.{cond-true, cond-false, eq-eqb, ne_eqb}
-use Rattle.std.proofs.lemmas.Bool.Decides.{eqb_tells}
 use Rattle.vx_base.specs.Counts.{Rose}
-use Rattle.vx_base.specs.Blocks.{Contents, block_at, blocks_in, written}
+use Rattle.vx_base.specs.Blocks.{Contents, block_at, written}
 use Rattle.vx_base.proofs.BlockLemmas.{written_in}
 use Rattle.vx_piece.specs.Seen.{Seen, Keeps, Writes, IsWritten, HasCause as HasPieceCause}
 use Rattle.vx_piece.specs.declared.piece.PieceFault.{PieceFault}
 use Rattle.vx_piece.specs.declared.piece.PieceFault.TheVariants as piece
 use Rattle.vx_runs.specs.Part.{told_or}
-use Rattle.vx_marks.specs.Log.{IsOther}
 use Rattle.vx_marks.specs.declared.marker.MarkFault.{MarkFault}
 use Rattle.vx_marks.specs.declared.marker.MarkFault.TheVariants.{Failed, PowerLost, Busy}
-use Rattle.vx_maps.specs.Sector.{Copies, or_first, copy_of, second_tells, tells, held, faults_on, second_faults, faults_at, second_cut, is_cut, AreSectors, KeepsCopies, RiseAt, HasCause, Holds, IsPut}
+use Rattle.vx_maps.specs.Sector.{copy_of, held, faults_on, faults_at, is_cut, KeepsCopies, RiseAt, HasCause, Holds, IsPut}
 use Rattle.vx_maps.specs.Pieces.{PieceCause, IsPutOn}
 
 -- ---- one piece

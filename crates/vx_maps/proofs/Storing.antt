@@ -1,13 +1,13 @@
 -- What a call on one page of a store is to the store.
-use Rattle.std.proofs.Common.{◌≡◌, ◌≢◌, ◌⊎◌, inl, inr, ℕ, zero, suc, ◌+◌, ◌/◌, ◌<◌, ◌≤◌, Bool, true, false, refl, sym, ◌∙◌, ap, subst, arith, List, [], ◌∷◌, length, map, get_or, set, Option, Some, None, Result, Ok, Err}
-use Rattle.std.specs.Prelude.{◌==◌, ◌&&◌, ◌||◌, nat_lt, is_some, if◌then◌else◌}
-use Rattle.std.proofs.lemmas.Bool.{eq-eqb, cases_lt, cond-true, ltb-true}
+use Rattle.std.proofs.Common.{◌≡◌, ◌≢◌, inl, inr, ℕ, zero, suc, ◌+◌, ◌/◌, ◌<◌, ◌≤◌, Bool, true, false, refl, sym, ◌∙◌, ap, subst, arith, List, [], ◌∷◌, length, map, get_or, set, Option, Some, None, Result, Ok, Err}
+use Rattle.std.specs.Prelude.{◌&&◌, ◌||◌, nat_lt, is_some, if◌then◌else◌}
+use Rattle.std.proofs.lemmas.Bool.{eq-eqb, ltb-true}
 use Rattle.std.proofs.lemmas.Bool.Decides.{eqb_tells}
 use Rattle.vx_base.specs.Counts.{Rose}
 use Rattle.vx_mask.specs.Marks.{Marks, MayTidy}
 use Rattle.vx_mask.proofs.MarkLemmas.{tidy_same}
 use Rattle.vx_mask.proofs.Tests.{not_both, both_parts}
-use Rattle.vx_marks.specs.Log.{LogSeen, IsAskable, KeepsLog, OnMarks, ChangesAt, ClaimsAt, MarkHasCause, IsOther}
+use Rattle.vx_marks.specs.Log.{LogSeen, IsAskable, KeepsLog, OnMarks, ChangesAt, ClaimsAt, MarkHasCause}
 use Rattle.vx_marks.specs.declared.marker.MarkFault.{MarkFault}
 use Rattle.vx_marks.specs.declared.marker.MarkFault.TheVariants.{Failed, PowerLost, Busy}
 use Rattle.vx_mapfmt.specs.Sizes.{page_count}

@@ -1,9 +1,9 @@
 -- What a call on all sectors of a page does to each, where it ends well and where it fails.
-use Rattle.std.proofs.Common.{◌≡◌, ◌⊎◌, inl, inr, ℕ, ◌≤◌, Bool, true, false, refl, sym, ◌∙◌, ap, subst, arith}
+use Rattle.std.proofs.Common.{◌≡◌, ◌⊎◌, inl, inr, ℕ, Bool, true, false, refl, sym, ◌∙◌, ap, subst, arith}
 use Rattle.std.specs.Prelude.{◌&&◌, ◌||◌, not, is_some, if◌then◌else◌}
 use Rattle.vx_mask.proofs.Tests.{not_both}
 use Rattle.vx_marks.specs.declared.marker.MarkFault.{MarkFault}
-use Rattle.vx_maps.specs.Sector.{SectorSeen, Copies, KeepsSector, Goes, BitSet, ShownSet, BitLeft, ShownLeft, Turns, SameBits, Swept, MaySweep, IsTidied, NoneLoose, BitPut, BitMay, ShownPut, ShownMay, IsBitPut, BitOpened, IsFirm, tells, shown, is_loose, is_sure, faults_at, is_cut}
+use Rattle.vx_maps.specs.Sector.{SectorSeen, Copies, KeepsSector, Goes, BitSet, ShownSet, BitLeft, ShownLeft, Turns, SameBits, Swept, MaySweep, NoneLoose, BitPut, BitMay, ShownPut, ShownMay, BitOpened, IsFirm, tells, shown, is_loose, faults_at, is_cut}
 
 pub keeps_none : (s : SectorSeen) → KeepsSector s s
 keeps_none s = record { pair = refl; tells = refl; faults = λ copy device. omega arith; cut = λ h. h }

@@ -1,10 +1,10 @@
 -- What calls on all sectors of a page do one after another.
-use Rattle.std.proofs.Common.{◌≡◌, inl, inr, ℕ, zero, suc, ◌+◌, ◌<◌, Bool, true, false, refl, sym, ◌∙◌, ap, subst, arith, List, [], ◌∷◌, length, Result, Ok, Err}
+use Rattle.std.proofs.Common.{◌≡◌, inr, ℕ, suc, ◌<◌, Bool, true, false, refl, sym, ◌∙◌, ap, subst, arith, List, [], ◌∷◌, length, Result, Ok, Err}
 use Rattle.std.specs.Prelude.{◌||◌}
 use Rattle.vx_base.specs.Counts.{Rose}
 use Rattle.vx_marks.specs.declared.marker.MarkFault.{MarkFault}
 use Rattle.vx_marks.specs.declared.marker.MarkFault.TheVariants.{Failed, PowerLost, Busy}
-use Rattle.vx_maps.specs.Sector.{Copies, SectorSeen, Goes, Turns, NoneLoose, Swept, BitPut, ShownPut, BitOpened, ShownMay, BitSet, ShownSet, BitLeft, ShownLeft, HasCause, RiseAt, faults_at, is_cut}
+use Rattle.vx_maps.specs.Sector.{Copies, SectorSeen, Goes, Turns, NoneLoose, Swept, BitPut, ShownPut, BitOpened, ShownMay, BitSet, ShownSet, BitLeft, ShownLeft, HasCause, faults_at, is_cut}
 use Rattle.vx_maps.specs.Page.{EachSector, IsChanged, IsMarkedIn, IsUnmarkedIn, AllSet, AllLeft, asked, sector_at, faults_in, cut_in}
 use Rattle.vx_maps.proofs.Ways.{sets, leaves}
 

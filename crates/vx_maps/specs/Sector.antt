@@ -1,8 +1,8 @@
 -- One map's sector of a page, on each copy, and what a call may do to it.
-use Rattle.std.specs.Prelude.{◌≡◌, ◌⊎◌, ℕ, zero, suc, ◌≤◌, ◌==◌, ◌&&◌, ◌||◌, not, Bool, true, false, if◌then◌else◌, is_some, List, [], length, Option, Some, None, Result, Ok, Err}
+use Rattle.std.specs.Prelude.{◌≡◌, ◌⊎◌, ℕ, zero, suc, ◌≤◌, ◌==◌, ◌&&◌, ◌||◌, not, Bool, true, false, if◌then◌else◌, is_some, List, length, Option, Some, None, Result, Ok, Err}
 use Rattle.vx_base.specs.Counts.{Rose}
 use Rattle.vx_mapfmt.specs.Bits.{bit_in}
-use Rattle.vx_piece.specs.Seen.{Seen, Keeps}
+use Rattle.vx_piece.specs.Seen.{Seen}
 use Rattle.vx_runs.specs.Part.{told_or}
 use Rattle.vx_marks.specs.Log.{IsOther}
 use Rattle.vx_marks.specs.declared.marker.MarkFault.{MarkFault}

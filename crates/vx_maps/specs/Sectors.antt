@@ -1,5 +1,4 @@
 -- What is seen of the sectors of a page.
-use Rattle.std.specs.Prelude.{ℕ, List}
 use Rattle.vx_piece.specs.Seen.{Seen}
 use Rattle.vx_maps.specs.declared.local_piece.LocalPiece.{Ghosts}
 use Rattle.vx_maps.specs.declared.sector.MapSector.{MapSector}

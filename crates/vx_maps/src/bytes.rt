@@ -16,7 +16,10 @@ pub fn has_bit(page: &[u8], region: u64) -> bool
     requires { length page.now ≡ 512 }
     ensures { result ≡ bit_in page.now region }
 {
-    contains(page[(region % 4096 / 8) as usize] as u64, (region % 8) as u32)
+    contains(
+        page[(region % 4096 / 8) as usize] as u64,
+        (region % 8) as u32,
+    )
 }
 
 /// Puts the bit of a region to this value.
@@ -53,5 +56,9 @@ fn with_bit(byte: u8, bit: u32, on: bool) -> u8
     requires { bit < 8 }
     ensures { (k : ℕ) → has result k ≡ (if bit == k then on else has byte k) }
 {
-    if on { byte | 1 << bit } else { byte & !(1 << bit) }
+    if on {
+        byte | 1 << bit
+    } else {
+        byte & !(1 << bit)
+    }
 }

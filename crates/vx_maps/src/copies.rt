@@ -4,8 +4,8 @@ ghost use Rattle.std.specs.Prelude.{◌≡◌, ◌↔◌, length};
 ghost use Rattle.vx_maps.specs.Sector.{AreSectors, IsPut};
 ghost use Rattle.vx_maps.specs.Pieces.{IsPutOn, copies_of};
 
-use vx_marks::MarkFault;
 use crate::local_piece::LocalPiece;
+use vx_marks::MarkFault;
 use vx_piece::PieceFault;
 
 /// Writes the sector on each copy, and stops at the first that fails.

@@ -1,9 +1,9 @@
 ghost use Rattle.std.specs.Prelude.{◌≡◌, ℕ, true, length};
 
+use crate::local_piece::LocalPiece;
 use crate::sector::MapSector;
 use crate::sectors::{firm_all, mark_all, marks_at, unmark_all};
 use vx_marks::{MarkFault, Marker};
-use crate::local_piece::LocalPiece;
 
 /// A page of every map: the bits of 4,096 regions, the last page perhaps of fewer, with its sectors on each copy. It is a
 /// log of marks of its own, and holds no borrow.

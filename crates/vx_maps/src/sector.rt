@@ -4,8 +4,8 @@ ghost use Rattle.vx_maps.specs.Pieces.{sector_of};
 
 use crate::bytes::{has_bit, put_bit, put_none};
 use crate::copies::put;
-use vx_marks::MarkFault;
 use crate::local_piece::LocalPiece;
+use vx_marks::MarkFault;
 use vx_sector::is_zero;
 
 /// The sector of one map on one page: its piece on each copy, and in memory what is sure of it and what a failed call

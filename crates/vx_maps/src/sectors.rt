@@ -5,10 +5,10 @@ ghost use Rattle.vx_mask.specs.Mask.{has};
 ghost use Rattle.vx_maps.specs.Sector.{BitOpened, HasCause, IsBitPut, IsFirm, IsTidied, NoneLoose, Turns, is_loose, is_sure};
 ghost use Rattle.vx_maps.specs.Page.{AreClean, EachSector, IsChanged, IsFirmed, IsMarkedIn, IsUnmarkedIn, asked, cut_in, faults_in, sector_at, sectors_seen};
 
-use crate::sector::MapSector;
-use vx_mask::{contains, of, with};
-use vx_marks::MarkFault;
 use crate::local_piece::LocalPiece;
+use crate::sector::MapSector;
+use vx_marks::MarkFault;
+use vx_mask::{contains, of, with};
 
 /// Writes each sector again on every copy where anything of it is loose, and stops at the first that fails.
 pub fn tidy_all<P: LocalPiece>(sectors: &mut Vec<MapSector<P>>) -> Result<(), MarkFault>
@@ -149,9 +149,5 @@ fn with_map(marks: u64, map: u32, there: bool) -> u64
     requires { map < 64 }
     ensures { (other : ℕ) → has result other ≡ (has marks other || (other == map && there)) }
 {
-    if there {
-        with(marks, of(map))
-    } else {
-        marks
-    }
+    if there { with(marks, of(map)) } else { marks }
 }

@@ -1,6 +1,5 @@
-use Rattle.std.proofs.Common.{◌≡◌, ◌∙◌, ap, subst, sym, Err, Ok, Some, None, Result, Option}
+use Rattle.std.proofs.Common.{subst, sym, Ok, Some, Result, Option}
 use Rattle.std.specs.Option.{option_map}
-use Rattle.vx_piece.specs.Seen.{Seen}
 use Rattle.vx_marks.specs.declared.marker.MarkFault.{MarkFault}
 use Rattle.vx_maps.specs.Sector.{AreSectors, IsPut}
 use Rattle.vx_maps.specs.Pieces.{IsPutOn, copies_of}

@@ -1,4 +1,4 @@
-use Rattle.std.proofs.Common.{◌≡◌, sym, subst, List, ℕ, Ok, Result}
+use Rattle.std.proofs.Common.{sym, subst, List, ℕ, Ok, Result}
 use Rattle.vx_marks.specs.declared.marker.MarkFault.{MarkFault}
 use Rattle.vx_maps.specs.Pieces.{copies_of}
 use Rattle.vx_maps.specs.Sector.{IsPut, IsMade, SectorSeen}

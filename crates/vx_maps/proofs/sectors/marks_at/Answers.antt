@@ -1,4 +1,4 @@
-use Rattle.std.proofs.Common.{◌∙◌, arith, sym, length}
+use Rattle.std.proofs.Common.{◌∙◌, arith}
 use Rattle.std.proofs.lemmas.List.{length-map}
 use Rattle.vx_maps.specs.Sector.{is_sure}
 use Rattle.vx_maps.specs.Page.{sector_at, sectors_seen}

@@ -1,13 +1,12 @@
-use Rattle.std.proofs.Common.{◌≡◌, ◌<◌, ◌≤◌, ◌∙◌, sym, ap, inl, inr, refl, length, arith, rules, subst, Bool, ℕ, Result, Ok, Err}
+use Rattle.std.proofs.Common.{◌<◌, ◌∙◌, ap, length, arith, rules, subst, Bool, Result, Ok, Err}
 use Rattle.std.specs.Prelude.{◌&&◌}
-use Rattle.std.proofs.lemmas.List.{length-map}
 use Rattle.vx_marks.specs.declared.marker.MarkFault.{MarkFault}
 use Rattle.vx_maps.specs.Bytes.{same_place}
-use Rattle.vx_maps.specs.Sector.{SectorSeen, IsFirm, NoneLoose, Turns, BitOpened, IsTidied, IsBitPut, HasCause, faults_at, is_cut, is_loose}
-use Rattle.vx_maps.specs.Page.{asked, sectors_seen}
+use Rattle.vx_maps.specs.Sector.{SectorSeen, IsBitPut, HasCause, faults_at, is_cut, is_loose}
+use Rattle.vx_maps.specs.Page.{asked}
 use Rattle.vx_maps.specs.Sectors.{sector_seen}
-use Rattle.vx_maps.proofs.Loops.{starts, goes_on, stops, still, ends, inside_old, quiet_on, cause_on}
-use Rattle.vx_maps.proofs.Ways.{tidied_may, tidied_none, put_may, put_none}
+use Rattle.vx_maps.proofs.Loops.{goes_on, stops, still, inside_old, quiet_on, cause_on}
+use Rattle.vx_maps.proofs.Ways.{put_may, put_none}
 use Rattle.vx_maps.proofs.sectors.put_all.Goals as goal
 
 pub put_if-requires : goal.put_if-requires

@@ -1,6 +1,6 @@
-use Rattle.std.proofs.Common.{◌≡◌, ℕ, Bool, sym, ◌∙◌, ap}
+use Rattle.std.proofs.Common.{ℕ, Bool, sym, ◌∙◌, ap}
 use Rattle.std.specs.Prelude.{◌==◌, ◌&&◌, ◌||◌}
-use Rattle.vx_mask.specs.Mask.{has, only, union}
+use Rattle.vx_mask.specs.Mask.{has, union}
 use Rattle.vx_maps.proofs.Masks.{put_in, left_out}
 use Rattle.vx_maps.proofs.sectors.with_map.Goals as goal
 

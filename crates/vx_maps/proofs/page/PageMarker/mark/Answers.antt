@@ -1,4 +1,4 @@
-use Rattle.std.proofs.Common.{◌≡◌, ℕ, length, sym, ◌∙◌}
+use Rattle.std.proofs.Common.{◌∙◌}
 use Rattle.std.proofs.lemmas.List.{length-map}
 use Rattle.vx_maps.specs.Sectors.{sector_seen}
 use Rattle.vx_maps.proofs.Marking.{mark_kept, mark_told, mark_claims, page_cause}

@@ -1,4 +1,3 @@
-use Rattle.std.proofs.Common.{length}
 use Rattle.vx_maps.proofs.Going.{forgets, forget_formed}
 use Rattle.vx_maps.proofs.sector.MapSector.forget.Goals as goal
 

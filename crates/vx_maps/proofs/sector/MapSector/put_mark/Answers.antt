@@ -1,8 +1,7 @@
-use Rattle.std.proofs.Common.{subst, List, ℕ, Result, Ok, Err}
-use Rattle.vx_marks.specs.declared.marker.MarkFault.{MarkFault}
+use Rattle.std.proofs.Common.{subst, List, ℕ, Err}
 use Rattle.vx_maps.specs.Sector.{IsPut}
 use Rattle.vx_maps.specs.Pieces.{copies_of}
-use Rattle.vx_maps.proofs.Going.{bit_put, put_formed, bit_failed, failed_formed}
+use Rattle.vx_maps.proofs.Going.{bit_failed, failed_formed}
 use Rattle.vx_maps.proofs.sector.MapSector.put_mark.Goals as goal
 
 pub invariant_of-self : goal.invariant_of-self

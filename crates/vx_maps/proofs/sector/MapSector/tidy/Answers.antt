@@ -1,4 +1,4 @@
-use Rattle.std.proofs.Common.{◌≡◌, ◌∙◌, sym, ap, subst, length, List, ℕ}
+use Rattle.std.proofs.Common.{◌∙◌, sym, ap, subst, length, List, ℕ}
 use Rattle.vx_sector.specs.Fields.{zeros}
 use Rattle.vx_maps.specs.Sector.{IsPut}
 use Rattle.vx_maps.specs.Pieces.{copies_of}

@@ -1,4 +1,4 @@
-use Rattle.std.proofs.Common.{◌≡◌, ◌∙◌, sym, ◌<◌, length, ◌/◌}
+use Rattle.std.proofs.Common.{◌∙◌, sym, ◌<◌, length, ◌/◌}
 use Rattle.vx_marks.specs.Log.{IsMarkedAs, IsClaimedAs}
 use Rattle.vx_maps.specs.Pages.{page_seen}
 use Rattle.vx_maps.proofs.Storing.{has_page, size_seen, askable, there_is, paged_still, store_kept, store_told, store_claims, store_cause}

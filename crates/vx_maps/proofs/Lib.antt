@@ -5,6 +5,7 @@ pub mod Loops
 pub mod Marking
 pub mod Masks
 pub mod Putting
+pub mod Rounds
 pub mod Storing
 pub mod Ways
 pub mod Whole

@@ -7,34 +7,14 @@ use Rattle.vx_base.specs.Counts.{Rose}
 use Rattle.vx_marks.specs.declared.marker.MarkFault.{MarkFault}
 use Rattle.vx_marks.specs.declared.marker.MarkFault.TheVariants.{Failed, PowerLost, Busy}
 use Rattle.vx_maps.specs.Sector.{SectorSeen, faults_at, is_cut, HasCause}
-use Rattle.vx_maps.proofs.Items as items
+use Rattle.vx_maps.proofs.Rounds as rounds
 use Rattle.vx_maps.specs.Page.{no_sector, sector_at, faults_in, cut_in, EachSector}
 
 -- the sectors below this map have gone so, and the others are as they were
-pub record Went (fact : ℕ → SectorSeen → SectorSeen → Type 0) (i : ℕ) (old now : List SectorSeen) : Type 0 where
-  pub size : length now ≡ length old
-  pub below : (map : ℕ) → map < i → map < length old → fact map (sector_at old map) (sector_at now map)
-  pub rest : (map : ℕ) → i ≤ map → sector_at now map ≡ sector_at old map
-
-pub starts : (fact : ℕ → SectorSeen → SectorSeen → Type 0) (old : List SectorSeen) → Went fact 0 old old
-starts fact old = record { size = refl; below = λ map lt inside. absurd (omega arith); rest = λ map le. refl }
-
-pub ends : (fact : ℕ → SectorSeen → SectorSeen → Type 0) (i : ℕ) (old now : List SectorSeen) → length old ≤ i → Went fact i old now → EachSector fact old now
-ends fact i old now le went = record { size = went.size; each = λ map lt. went.below map (omega arith) lt }
+abbrev pub Went : (ℕ → SectorSeen → SectorSeen → Type 0) → ℕ → List SectorSeen → List SectorSeen → Type 0
+Went fact i old now = rounds.Went no_sector fact i old now
 
 module _ {T : Type 0} (see : T → SectorSeen) where
-  at_is : (xs : List T) (i : ℕ) (d : T) → i < length xs → sector_at (map see xs) i ≡ see (get_or xs i d)
-  at_is = items.at_is no_sector see
-
-  at_set : (xs : List T) (i : ℕ) (q : T) → i < length xs → sector_at (map see (set xs i q)) i ≡ see q
-  at_set = items.at_set no_sector see
-
-  at_other : (xs : List T) (i j : ℕ) (q : T) → j ≢ i → sector_at (map see (set xs i q)) j ≡ sector_at (map see xs) j
-  at_other = items.at_other no_sector see
-
-  set_size : (xs : List T) (i : ℕ) (q : T) → length (map see (set xs i q)) ≡ length (map see xs)
-  set_size = items.set_size no_sector see
-
   faults_set : (xs : List T) (i : ℕ) (d q : T) (copy device : ℕ) → i < length xs →
       faults_in (map see (set xs i q)) copy device + faults_at (see (get_or xs i d)).copies copy device ≡ faults_in (map see xs) copy device + faults_at (see q).copies copy device
   faults_set [] i d q copy device lt = absurd (omega arith)
@@ -52,46 +32,19 @@ module _ {T : Type 0} (see : T → SectorSeen) where
 
   -- the sector at an index is still as it was
   pub still : (fact : ℕ → SectorSeen → SectorSeen → Type 0) (old : List SectorSeen) (now : List T) (i : ℕ) (p : T) → i < length now → p ≡ get_or now i p → Went fact i old (map see now) → see p ≡ sector_at old i
-  still fact old now i p lt is went = ap see is ∙ sym (at_is now i p lt) ∙ went.rest i (omega arith)
+  still = rounds.still no_sector see
 
   pub inside_old : (fact : ℕ → SectorSeen → SectorSeen → Type 0) (old : List SectorSeen) (now : List T) (i : ℕ) → i < length now → Went fact i old (map see now) → i < length old
-  inside_old fact old now i lt went = let e = length-map now see in let f = went.size in omega (arith, e, f)
+  inside_old = rounds.inside_old no_sector see
 
   pub goes_on : (fact : ℕ → SectorSeen → SectorSeen → Type 0) (old : List SectorSeen) (now : List T) (i : ℕ) (p q : T) → i < length now → p ≡ get_or now i p → Went fact i old (map see now) →
       fact i (see p) (see q) → Went fact (i + 1) old (map see (set now i q))
-  goes_on fact old now i p q lt is went step =
-      record {
-        size = set_size now i q ∙ went.size;
-        below = λ m low inside.
-            elim (cases_order m i) [
-              | inl same ↦ subst (λ (k : ℕ). fact k (sector_at old k) (sector_at (map see (set now i q)) k)) (sym same) here
-              | inr (inl lower) ↦ subst (λ (s : SectorSeen). fact m (sector_at old m) s) (sym (at_other now i m q (λ e. absurd (omega arith)))) (went.below m lower inside)
-              | inr (inr higher) ↦ absurd (omega arith)
-            ];
-        rest = λ m le. at_other now i m q (λ e. absurd (omega arith)) ∙ went.rest m (omega arith);
-      }
-    where
-      here : fact i (sector_at old i) (sector_at (map see (set now i q)) i)
-      here = subst (λ (s : SectorSeen). fact i (sector_at old i) s) (sym (at_set now i q lt)) (subst (λ (s : SectorSeen). fact i s (see q)) (still fact old now i p lt is went) step)
+  goes_on = rounds.goes_on no_sector see
 
   -- a call on one sector fails
   pub stops : (fact fails : ℕ → SectorSeen → SectorSeen → Type 0) (old : List SectorSeen) (now : List T) (i : ℕ) (p q : T) → i < length now → p ≡ get_or now i p → Went fact i old (map see now) →
       ((map : ℕ) (a b : SectorSeen) → fact map a b → fails map a b) → ((map : ℕ) (a : SectorSeen) → fails map a a) → fails i (see p) (see q) → EachSector fails old (map see (set now i q))
-  stops fact fails old now i p q lt is went well none step =
-      record {
-        size = set_size now i q ∙ went.size;
-        each = λ m inside.
-            elim (cases_order m i) [
-              | inl same ↦ subst (λ (k : ℕ). fails k (sector_at old k) (sector_at (map see (set now i q)) k)) (sym same) here
-              | inr (inl lower) ↦
-                  well m _ _ (subst (λ (s : SectorSeen). fact m (sector_at old m) s) (sym (at_other now i m q (λ e. absurd (omega arith)))) (went.below m lower inside))
-              | inr (inr higher) ↦
-                  subst (λ (s : SectorSeen). fails m (sector_at old m) s) (sym (at_other now i m q (λ e. absurd (omega arith)) ∙ went.rest m (omega arith))) (none m (sector_at old m))
-            ];
-      }
-    where
-      here : fails i (sector_at old i) (sector_at (map see (set now i q)) i)
-      here = subst (λ (s : SectorSeen). fails i (sector_at old i) s) (sym (at_set now i q lt)) (subst (λ (s : SectorSeen). fails i s (see q)) (still fact old now i p lt is went) step)
+  stops = rounds.stops no_sector see
 
   -- ---- causes
 

@@ -7,7 +7,7 @@ use Rattle.vx_maps.specs.declared.local_piece.LocalPiece.{Ghosts}
 use Rattle.vx_marks.specs.Log.{LogSeen}
 use Rattle.vx_maps.specs.declared.sector.MapSector.{MapSector}
 use Rattle.vx_maps.specs.Bytes.{same_place}
-use Rattle.vx_maps.specs.Items.{item_at}
+use Rattle.vx_maps.specs.Items.{item_at, EachItem}
 use Rattle.vx_marks.specs.declared.marker.MarkFault.{MarkFault}
 use Rattle.vx_maps.specs.Sector.{SectorSeen, shown, tells, faults_at, is_cut, is_sure, is_loose, Goes, NoneLoose, Swept, SameBits, MaySweep, BitPut, ShownPut, BitOpened, ShownMay, BitSet, ShownSet, BitLeft, ShownLeft}
 use Rattle.vx_maps.specs.Sectors.{sector_seen}
@@ -46,9 +46,8 @@ all_tell [] = true
 all_tell (s ∷ ss) = tells s.copies && all_tell ss
 
 -- each sector goes on in this way, by its map
-pub record EachSector (fact : ℕ → SectorSeen → SectorSeen → Type 0) (old new : List SectorSeen) : Type 0 where
-  pub size : length new ≡ length old
-  pub each : (map : ℕ) → map < length old → fact map (sector_at old map) (sector_at new map)
+abbrev pub EachSector : (ℕ → SectorSeen → SectorSeen → Type 0) → List SectorSeen → List SectorSeen → Type 0
+EachSector fact old new = EachItem no_sector fact old new
 
 -- nothing is loose in any sector
 abbrev pub AreClean : List SectorSeen → Type 0

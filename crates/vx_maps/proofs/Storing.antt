@@ -17,7 +17,7 @@ use Rattle.vx_maps.proofs.Items.{at_is, at_set, at_other, set_size}
 
 -- ---- told marks
 
-tells_page : (pages : List LogSeen) (i : ℕ) → i < length pages → pages_tell pages ≡ true → is_some (page_at pages i).told ≡ true
+pub tells_page : (pages : List LogSeen) (i : ℕ) → i < length pages → pages_tell pages ≡ true → is_some (page_at pages i).told ≡ true
 tells_page [] i lt t = absurd (omega arith)
 tells_page (p ∷ ps) zero lt t = (both_parts _ _ t).0
 tells_page (p ∷ ps) (suc i) lt t = tells_page ps i (omega arith) (both_parts _ _ t).1
@@ -27,28 +27,28 @@ changes_in region effect None b h t = cc
 changes_in region effect (Some a) None h t = absurd h
 changes_in region effect (Some a) (Some b) h t = (refl, record { here = h.here; elsewhere = h.elsewhere })
 
-on_both : (fact : (ℕ → Marks) → (ℕ → Marks) → Type 0) (t t' : Bool) (old new : ℕ → Marks) → (t ≡ true → (t' ≡ true) × fact old new) → OnMarks fact (if t then Some old else None) (if t' then Some new else None)
+pub on_both : (fact : (ℕ → Marks) → (ℕ → Marks) → Type 0) (t t' : Bool) (old new : ℕ → Marks) → (t ≡ true → (t' ≡ true) × fact old new) → OnMarks fact (if t then Some old else None) (if t' then Some new else None)
 on_both fact true true old new h = (h refl).1
 on_both fact true false old new h = not_both (h refl).0 refl
 on_both fact false t' old new h = tt
 
-same_sum : (a b s s' : ℕ) → s' + a ≡ s + b → b ≡ a → s' ≡ s
+pub same_sum : (a b s s' : ℕ) → s' + a ≡ s + b → b ≡ a → s' ≡ s
 same_sum a b s s' e f = omega arith
 
-rise_sum : (a b s s' : ℕ) → a ≤ s → s' + a ≡ s + b → Rose a b → Rose s s'
+pub rise_sum : (a b s s' : ℕ) → a ≤ s → s' + a ≡ s + b → Rose a b → Rose s s'
 rise_sum a b s s' le e f = omega arith
 
 le_sum : (a b s s' : ℕ) → s' + a ≡ s + b → a ≤ b → s ≤ s'
 le_sum a b s s' e f = omega arith
 
 module _ {T : Type 0} (see : T → LogSeen) where
-  faults_set : (xs : List T) (i : ℕ) (d q : T) (copy device : ℕ) → i < length xs →
+  pub faults_set : (xs : List T) (i : ℕ) (d q : T) (copy device : ℕ) → i < length xs →
       pages_faults (map see (set xs i q)) copy device + (see (get_or xs i d)).faults copy device ≡ pages_faults (map see xs) copy device + (see q).faults copy device
   faults_set [] i d q copy device lt = absurd (omega arith)
   faults_set (x ∷ xs) zero d q copy device lt = omega arith
   faults_set (x ∷ xs) (suc i) d q copy device lt = let e = faults_set xs i d q copy device (omega arith) in omega (arith, e)
 
-  part_le : (xs : List T) (i : ℕ) (d : T) (copy device : ℕ) → i < length xs → (see (get_or xs i d)).faults copy device ≤ pages_faults (map see xs) copy device
+  pub part_le : (xs : List T) (i : ℕ) (d : T) (copy device : ℕ) → i < length xs → (see (get_or xs i d)).faults copy device ≤ pages_faults (map see xs) copy device
   part_le [] i d copy device lt = absurd (omega arith)
   part_le (x ∷ xs) zero d copy device lt = omega arith
   part_le (x ∷ xs) (suc i) d copy device lt = let e = part_le xs i d copy device (omega arith) in omega (arith, e)
@@ -63,7 +63,7 @@ module _ {T : Type 0} (see : T → LogSeen) where
   cut_keeps (x ∷ xs) zero d q lt stays is = or_later _ _ _ _ stays (λ h. h) is
   cut_keeps (x ∷ xs) (suc i) d q lt stays is = or_later (see x).cut _ (see x).cut _ (λ h. h) (cut_keeps xs i d q (omega arith) stays) is
 
-  cut_set : (xs : List T) (i : ℕ) (q : T) → i < length xs → (see q).cut ≡ true → pages_cut (map see (set xs i q)) ≡ true
+  pub cut_set : (xs : List T) (i : ℕ) (q : T) → i < length xs → (see q).cut ≡ true → pages_cut (map see (set xs i q)) ≡ true
   cut_set [] i q lt is = absurd (omega arith)
   cut_set (x ∷ xs) zero q lt is = rw is refl
   cut_set (x ∷ xs) (suc i) q lt is = or_right _ _ (cut_set xs i q (omega arith) is)

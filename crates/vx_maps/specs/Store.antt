@@ -1,12 +1,14 @@
 -- The pages of a store, and what they show together as one log of marks.
-use Rattle.std.specs.Prelude.{◌≡◌, ℕ, ◌+◌, ◌/◌, ◌<◌, ◌&&◌, ◌||◌, nat_lt, Bool, true, false, is_some, if◌then◌else◌, List, [], ◌∷◌, length, map, Option, Some, None}
+use Rattle.std.specs.Prelude.{◌≡◌, ℕ, ◌+◌, ◌/◌, ◌<◌, ◌&&◌, ◌||◌, nat_lt, Bool, true, false, is_some, if◌then◌else◌, List, [], ◌∷◌, length, map, Option, Some, None, Result, Ok, Err}
 use Rattle.vx_mask.specs.Marks.{Marks}
 use Rattle.vx_piece.specs.Seen.{Seen}
 use Rattle.vx_mapfmt.specs.Sizes.{page_count}
 use Rattle.vx_maps.specs.declared.local_piece.LocalPiece.{Ghosts}
-use Rattle.vx_marks.specs.Log.{LogSeen}
+use Rattle.vx_marks.specs.Log.{LogSeen, KeepsLog, OnMarks}
+use Rattle.vx_marks.specs.declared.marker.MarkFault.{MarkFault}
+use Rattle.vx_maps.specs.Firm.{FirmsStore}
 use Rattle.vx_maps.specs.declared.page.Page.{Page}
-use Rattle.vx_maps.specs.Items.{item_at}
+use Rattle.vx_maps.specs.Items.{item_at, EachItem}
 use Rattle.vx_maps.specs.Page.{has_region}
 use Rattle.vx_maps.specs.Pages.{page_seen}
 
@@ -76,3 +78,14 @@ store_log regions pages = record {
   faults = pages_faults pages;
   cut = pages_cut pages;
 }
+
+-- a page was written again, and nothing else became of it
+pub record PageGoes (fact : (ℕ → Marks) → (ℕ → Marks) → Type 0) (old new : LogSeen) : Type 0 where
+  pub kept : KeepsLog old new
+  pub told : OnMarks fact old.told new.told
+  pub claims : (region map : ℕ) → new.claims region map ≡ old.claims region map
+
+-- at Ok every page is firm, and else the marks of each region are at most tidied
+abbrev pub ArePagesFirmed : {T : Type 0} → Result T MarkFault → List LogSeen → List LogSeen → Type 0
+ArePagesFirmed (Ok u) old new = EachItem no_page (λ index. PageGoes (FirmsStore {T = Unit {0}} (Ok tt))) old new
+ArePagesFirmed (Err fault) old new = EachItem no_page (λ index. PageGoes (FirmsStore {T = Unit {0}} (Err fault))) old new

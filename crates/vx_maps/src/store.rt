@@ -1,5 +1,6 @@
 ghost use Rattle.std.specs.Prelude.{◌≡◌, ℕ};
-ghost use Rattle.vx_maps.specs.Store.{ArePages, pages_seen};
+ghost use Rattle.vx_maps.specs.Sector.{HasCause};
+ghost use Rattle.vx_maps.specs.Store.{ArePages, ArePagesFirmed, pages_cut, pages_faults, pages_seen};
 
 use crate::local_piece::LocalPiece;
 use crate::page::Page;
@@ -50,6 +51,36 @@ impl<P: LocalPiece> MapStore<P> {
     {
         let MapStore { base, pages } = self;
         (base, pages)
+    }
+}
+
+/// Writes again what is loose, page by page, and stops at the first page that fails.
+fn firm_pages<P: LocalPiece>(pages: &mut Vec<Page<P>>) -> Result<(), MarkFault>
+    ensures each { ArePagesFirmed result (pages_seen P.seen pages.old.items) (pages_seen P.seen pages.new.items) }
+    ensures cause { HasCause (pages_faults (pages_seen P.seen pages.old.items)) (pages_faults (pages_seen P.seen pages.new.items)) (pages_cut (pages_seen P.seen pages.new.items)) result }
+{
+    for index in 0..pages.len() {
+        let page = &mut pages[index];
+        if let Err(fault) = page.firm() {
+            return Err(fault);
+        }
+    }
+    Ok(())
+}
+
+impl<P: LocalPiece> MapStore<P> {
+    ghost use Rattle.vx_marks.specs.Log.{KeepsLog, MarkHasCause, OnMarks};
+    ghost use Rattle.vx_maps.specs.Firm.{FirmsStore};
+    ghost use Rattle.vx_maps.specs.Stores.{store_seen};
+
+    /// Writes again what failed calls have left open, and keeps all that is claimed. After Ok nothing is loose.
+    pub fn firm(&mut self) -> Result<(), MarkFault>
+        ensures kept { KeepsLog (store_seen P.seen self.old) (store_seen P.seen self.new) }
+        ensures told { OnMarks (FirmsStore result) (store_seen P.seen self.old).told (store_seen P.seen self.new).told }
+        ensures claims { (region map : ℕ) → (store_seen P.seen self.new).claims region map ≡ (store_seen P.seen self.old).claims region map }
+        ensures cause { MarkHasCause (store_seen P.seen self.old) (store_seen P.seen self.new) result }
+    {
+        firm_pages(&mut self.pages)
     }
 }
 

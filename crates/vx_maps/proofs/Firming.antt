@@ -1,16 +1,15 @@
 -- How the pages of a store are written again one after another, and what that is to the store.
 use Rattle.std.proofs.Common.{◌≡◌, inl, inr, ℕ, zero, suc, ◌+◌, ◌/◌, ◌<◌, ◌≤◌, Bool, true, false, refl, sym, ◌∙◌, ap, subst, arith, List, [], ◌∷◌, length, map, get_or, set, Option, Some, None, Result, Ok, Err}
-use Rattle.std.specs.Prelude.{◌&&◌, ◌||◌, is_some, if◌then◌else◌}
+use Rattle.std.specs.Prelude.{◌&&◌, ◌||◌, is_some}
 use Rattle.std.proofs.lemmas.Bool.{cases_lt}
 use Rattle.vx_base.specs.Counts.{Rose}
 use Rattle.vx_mask.specs.Marks.{Marks, AllLose, MayTidy}
 use Rattle.vx_mask.proofs.MarkLemmas.{tidy_same}
-use Rattle.vx_mask.proofs.MaskLemmas.{has-zero}
 use Rattle.vx_mask.proofs.Tests.{not_both, both_parts}
 use Rattle.vx_marks.specs.Log.{LogSeen, KeepsLog, OnMarks, MarkHasCause}
 use Rattle.vx_marks.specs.declared.marker.MarkFault.{MarkFault}
 use Rattle.vx_marks.specs.declared.marker.MarkFault.TheVariants.{Failed, PowerLost, Busy}
-use Rattle.vx_maps.specs.Items.{item_at, EachItem}
+use Rattle.vx_maps.specs.Items.{EachItem}
 use Rattle.vx_maps.specs.Firm.{FirmsAll, FirmsStore}
 use Rattle.vx_maps.specs.Sector.{HasCause}
 use Rattle.vx_maps.specs.Store.{no_page, no_marks, page_at, marks_in, pages_tell, pages_faults, pages_cut, ArePages, PageGoes, ArePagesFirmed, store_log}

@@ -4,8 +4,8 @@ use Rattle.std.specs.Prelude.{◌&&◌, ◌||◌, not, Ok, Err}
 use Rattle.vx_mask.specs.Mask.{has}
 use Rattle.vx_mask.specs.Marks.{Marks, AllGain, AllLose, MayGain, MayLose}
 use Rattle.vx_mask.proofs.MarkLemmas.{tidied_shows, tidied_loose, tidied_still}
-use Rattle.vx_mask.proofs.Tests.{not_both, or_from_right, or_cases, and_not, and_not_parts, never_true}
-use Rattle.vx_marks.specs.Log.{IsHonest}
+use Rattle.vx_mask.proofs.Tests.{not_both, true_or_false, or_from_right, or_cases, and_not, and_not_parts, never_true}
+use Rattle.vx_marks.specs.Log.{IsHonest, MayUnclaim}
 use Rattle.vx_marks.specs.Laws.{MarkStaysHonest, UnmarkStaysHonest, OthersStayHonest}
 use Rattle.vx_marks.specs.declared.marker.MarkFault.TheVariants.{Failed, PowerLost, Busy}
 
@@ -76,11 +76,36 @@ may_gain copies bits claims old new fresh (inr some) honest =
       apart = λ k h. fresh k (sym (some.loose k) ∙ h);
     }
 
+-- what is claimed counts, map by map
+same_claims : (copies : ℕ) (claims claims' : ℕ → Bool) (marks : Marks) → ((k : ℕ) → claims' k ≡ claims k) → IsHonest copies claims marks → IsHonest copies claims' marks
+same_claims copies claims claims' marks same honest =
+    record {
+      shown = λ n k inside h. honest.shown n k inside (sym (same k) ∙ h);
+      bounded = λ n k inside h. elim (honest.bounded n k inside h) [ inl there ↦ inl (same k ∙ there) | inr loose ↦ inr loose ];
+      apart = λ k h. same k ∙ honest.apart k h;
+    }
+
+still_claimed : (bits : ℕ) (claims claims' : ℕ → Bool) → ((k : ℕ) → has bits k ≡ true → claims k ≡ false) → MayUnclaim bits claims claims' → (k : ℕ) → claims' k ≡ claims k
+still_claimed bits claims claims' fresh may k =
+    elim (true_or_false (has bits k)) [
+      | inl asked ↦ none_more _ _ (fresh k asked) (may.fewer k)
+      | inr other ↦ may.others k other
+    ]
+  where
+    none_more : (c c' : Bool) → c ≡ false → (c' ≡ true → c ≡ true) → c' ≡ c
+    none_more c true none fewer = sym (fewer refl)
+    none_more c false none fewer = sym none
+
+mark_fails : (copies bits : ℕ) (claims claims' : ℕ → Bool) (old new : Marks) → ((k : ℕ) → has bits k ≡ true → claims k ≡ false) →
+    MayGain bits old new → MayUnclaim bits claims claims' → IsHonest copies claims old → IsHonest copies claims' new
+mark_fails copies bits claims claims' old new fresh gain may honest =
+    same_claims copies claims claims' new (still_claimed bits claims claims' fresh may) (may_gain copies bits claims old new fresh gain honest)
+
 pub mark_stays : MarkStaysHonest
-mark_stays copies bits (Ok u) claims old new fresh gain honest = gained copies bits claims old new gain honest
-mark_stays copies bits (Err (Failed copy device)) claims old new fresh gain honest = may_gain copies bits claims old new fresh gain honest
-mark_stays copies bits (Err PowerLost) claims old new fresh gain honest = may_gain copies bits claims old new fresh gain honest
-mark_stays copies bits (Err Busy) claims old new fresh same honest = rw same honest
+mark_stays copies bits (Ok u) claims claims' old new fresh gain is honest = same_claims copies _ claims' new is (gained copies bits claims old new gain honest)
+mark_stays copies bits (Err (Failed copy device)) claims claims' old new fresh gain may honest = mark_fails copies bits claims claims' old new fresh gain may honest
+mark_stays copies bits (Err PowerLost) claims claims' old new fresh gain may honest = mark_fails copies bits claims claims' old new fresh gain may honest
+mark_stays copies bits (Err Busy) claims claims' old new fresh same is honest = rw same (same_claims copies claims claims' old is honest)
 
 -- ---- an unmark
 
@@ -149,7 +174,7 @@ may_lose copies bits claims old new (inr some) honest =
     }
 
 pub unmark_stays : UnmarkStaysHonest
-unmark_stays copies bits (Ok u) claims old new lose honest = lost copies bits claims old new lose honest
-unmark_stays copies bits (Err (Failed copy device)) claims old new lose honest = may_lose copies bits claims old new lose honest
-unmark_stays copies bits (Err PowerLost) claims old new lose honest = may_lose copies bits claims old new lose honest
-unmark_stays copies bits (Err Busy) claims old new same honest = rw same honest
+unmark_stays copies bits (Ok u) claims claims' old new lose is honest = same_claims copies _ claims' new is (lost copies bits claims old new lose honest)
+unmark_stays copies bits (Err (Failed copy device)) claims claims' old new lose is honest = same_claims copies _ claims' new is (may_lose copies bits claims old new lose honest)
+unmark_stays copies bits (Err PowerLost) claims claims' old new lose is honest = same_claims copies _ claims' new is (may_lose copies bits claims old new lose honest)
+unmark_stays copies bits (Err Busy) claims claims' old new same is honest = rw same (same_claims copies claims claims' old is honest)

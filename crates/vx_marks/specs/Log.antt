@@ -70,21 +70,28 @@ IsUnmarkedAs bits (Err (Failed copy device)) old new = MayLose bits old new
 IsUnmarkedAs bits (Err PowerLost) old new = MayLose bits old new
 IsUnmarkedAs bits (Err Busy) old new = new ≡ old
 
--- what is claimed of the region after a mark: the bits too, if it was answered Ok
-abbrev pub claimed : {T : Type 0} → ℕ → Result T MarkFault → (ℕ → Bool) → ℕ → Bool
-claimed bits (Ok u) old k = old k || has bits k
-claimed bits (Err fault) old k = old k
+-- some of these bits are perhaps no longer claimed, and nothing else changes
+pub record MayUnclaim (bits : ℕ) (old new : ℕ → Bool) : Type 0 where
+  pub others : (k : ℕ) → has bits k ≡ false → new k ≡ old k
+  pub fewer : (k : ℕ) → new k ≡ true → old k ≡ true
+
+-- what is claimed of the region after a mark: the bits too, if it was answered Ok, and where it failed perhaps none of them
+abbrev pub IsClaimedAs : {T : Type 0} → ℕ → Result T MarkFault → (ℕ → Bool) → (ℕ → Bool) → Type 0
+IsClaimedAs bits (Ok u) old new = (k : ℕ) → new k ≡ (old k || has bits k)
+IsClaimedAs bits (Err (Failed copy device)) old new = MayUnclaim bits old new
+IsClaimedAs bits (Err PowerLost) old new = MayUnclaim bits old new
+IsClaimedAs bits (Err Busy) old new = (k : ℕ) → new k ≡ old k
 
 -- what is claimed after an unmark: not the bits, also where it failed
-abbrev pub unclaimed : {T : Type 0} → ℕ → Result T MarkFault → (ℕ → Bool) → ℕ → Bool
-unclaimed bits (Ok u) old k = old k && not (has bits k)
-unclaimed bits (Err (Failed copy device)) old k = old k && not (has bits k)
-unclaimed bits (Err PowerLost) old k = old k && not (has bits k)
-unclaimed bits (Err Busy) old k = old k
+abbrev pub IsUnclaimedAs : {T : Type 0} → ℕ → Result T MarkFault → (ℕ → Bool) → (ℕ → Bool) → Type 0
+IsUnclaimedAs bits (Ok u) old new = (k : ℕ) → new k ≡ (old k && not (has bits k))
+IsUnclaimedAs bits (Err (Failed copy device)) old new = (k : ℕ) → new k ≡ (old k && not (has bits k))
+IsUnclaimedAs bits (Err PowerLost) old new = (k : ℕ) → new k ≡ (old k && not (has bits k))
+IsUnclaimedAs bits (Err Busy) old new = (k : ℕ) → new k ≡ old k
 
 -- what is claimed of the region changes so, and what is claimed of the others stays
-pub record ClaimsAt (region : ℕ) (change : (ℕ → Bool) → ℕ → Bool) (old new : ℕ → ℕ → Bool) : Type 0 where
-  pub here : (k : ℕ) → new region k ≡ change (old region) k
+pub record ClaimsAt (region : ℕ) (change : (ℕ → Bool) → (ℕ → Bool) → Type 0) (old new : ℕ → ℕ → Bool) : Type 0 where
+  pub here : change (old region) (new region)
   pub elsewhere : (other k : ℕ) → other ≢ region → new other k ≡ old other k
 
 -- the mask has the maps that are claimed

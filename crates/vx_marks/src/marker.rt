@@ -1,5 +1,5 @@
 ghost use Rattle.std.specs.Prelude.{◌≡◌, true};
-ghost use Rattle.vx_marks.specs.Log.{AreClaimed, ChangesAt, ClaimsAt, IsAskable, IsMarkedAs, IsUnmarkedAs, KeepsLog, MarkHasCause, OnMarks, claimed, unclaimed};
+ghost use Rattle.vx_marks.specs.Log.{AreClaimed, ChangesAt, ClaimsAt, IsAskable, IsClaimedAs, IsMarkedAs, IsUnclaimedAs, IsUnmarkedAs, KeepsLog, MarkHasCause, OnMarks};
 
 /// Why a mark is not on every copy, or may still be on one.
 #[derive(Clone, Copy, Debug, PartialEq, Eq)]
@@ -14,9 +14,9 @@ pub enum MarkFault {
 
 /// A log of marks of the regions of one volume. Bit k of a region's mask is map k.
 ///
-/// After a mark that failed, the bits that it was to add are loose: each copy may show them or not. After an unmark that
-/// failed, so are those that it was to take away, which the log no longer claims. Loose marks go with the next call on
-/// their page that writes.
+/// After a mark that failed, the bits that it was to add are loose: each copy may show them or not. A log may then also
+/// leave off claiming such bits as it claimed before. After an unmark that failed, the bits that it was to take away are
+/// loose, and the log no longer claims them. Loose marks go with the next call on their page that writes.
 pub trait Marker {
     /// What contracts see of it.
     ghost log: { Self → LogSeen };
@@ -36,7 +36,7 @@ pub trait Marker {
         requires { IsAskable (log self.old) region bits }
         ensures kept { KeepsLog (log self.old) (log self.new) }
         ensures told { (log self.old).there ≡ true → OnMarks (ChangesAt region (IsMarkedAs bits result)) (log self.old).told (log self.new).told }
-        ensures claims { (log self.old).there ≡ true → ClaimsAt region (claimed bits result) (log self.old).claims (log self.new).claims }
+        ensures claims { (log self.old).there ≡ true → ClaimsAt region (IsClaimedAs bits result) (log self.old).claims (log self.new).claims }
         ensures cause { MarkHasCause (log self.old) (log self.new) result }
         ensures follows { follows self.old self.new };
 
@@ -45,7 +45,7 @@ pub trait Marker {
         requires { IsAskable (log self.old) region bits }
         ensures kept { KeepsLog (log self.old) (log self.new) }
         ensures told { (log self.old).there ≡ true → OnMarks (ChangesAt region (IsUnmarkedAs bits result)) (log self.old).told (log self.new).told }
-        ensures claims { (log self.old).there ≡ true → ClaimsAt region (unclaimed bits result) (log self.old).claims (log self.new).claims }
+        ensures claims { (log self.old).there ≡ true → ClaimsAt region (IsUnclaimedAs bits result) (log self.old).claims (log self.new).claims }
         ensures cause { MarkHasCause (log self.old) (log self.new) result }
         ensures follows { follows self.old self.new };
 

@@ -1,0 +1,12 @@
+//! Rows of marks on pages of change maps in memory: a fault is moved along the writes of a call, and each row tells the
+//! answer, what the page claims then, and what each copy shows. The stored output was worked out by hand.
+#![tactic(auto)]
+
+mod pages;
+mod rows;
+
+use std::io;
+
+fn main(rt: HostRuntime) -> io::Result<()> {
+    rows::rows(&rt)
+}

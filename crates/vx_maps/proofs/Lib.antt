@@ -1,0 +1,12 @@
+pub mod Bits
+pub mod Firming
+pub mod Going
+pub mod Items
+pub mod Loops
+pub mod Marking
+pub mod Masks
+pub mod Putting
+pub mod Rounds
+pub mod Storing
+pub mod Ways
+pub mod Whole

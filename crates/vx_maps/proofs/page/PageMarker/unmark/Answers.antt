@@ -1,0 +1,23 @@
+use Rattle.std.proofs.Common.{◌∙◌}
+use Rattle.std.proofs.lemmas.List.{length-map}
+use Rattle.vx_maps.specs.Sectors.{sector_seen}
+use Rattle.vx_maps.proofs.Marking.{unmark_kept, unmark_told, unmark_claims, page_cause}
+use Rattle.vx_maps.proofs.page.PageMarker.unmark.Goals as goal
+
+pub returns-clause-kept : goal.returns-clause-kept
+returns-clause-kept g c =
+    unmark_kept c.args.self.now.index c.args.self.now.regions c.args.region c.args.bits _ _ (length-map c.args.self.now.sectors.items (sector_seen g.P.LocalPiece.seen) ∙ c.args.self.now.maps) c.requires.known c.requires.maps
+    c.unmark_all.result c.unmark_all.ensures.each
+
+pub returns-clause-told : goal.returns-clause-told
+returns-clause-told g c there =
+    unmark_told c.args.self.now.index c.args.self.now.regions c.args.region c.args.bits _ _ (length-map c.args.self.now.sectors.items (sector_seen g.P.LocalPiece.seen) ∙ c.args.self.now.maps) c.requires.known c.requires.maps
+    c.unmark_all.result c.unmark_all.ensures.cause c.unmark_all.ensures.each
+
+pub returns-clause-claims : goal.returns-clause-claims
+returns-clause-claims g c there =
+    unmark_claims c.args.self.now.index c.args.self.now.regions c.args.region c.args.bits _ _ (length-map c.args.self.now.sectors.items (sector_seen g.P.LocalPiece.seen) ∙ c.args.self.now.maps) c.requires.known c.requires.maps
+    c.unmark_all.result c.unmark_all.ensures.cause c.unmark_all.ensures.each
+
+pub returns-clause-cause : goal.returns-clause-cause
+returns-clause-cause g c = page_cause c.args.self.now.index c.args.self.now.regions _ _ c.unmark_all.result c.unmark_all.ensures.cause

@@ -1,0 +1,35 @@
+use Rattle.std.proofs.Common.{◌∙◌, sym, ◌<◌, length, ◌/◌}
+use Rattle.vx_marks.specs.Log.{IsUnmarkedAs, IsUnclaimedAs}
+use Rattle.vx_maps.specs.Pages.{page_seen}
+use Rattle.vx_maps.proofs.Storing.{has_page, size_seen, askable, there_is, paged_still, store_kept, store_told, store_claims, store_cause}
+use Rattle.vx_maps.proofs.store.MapStoreMarker.unmark.Goals as goal
+
+pub unmark-requires : goal.unmark-requires
+unmark-requires g c =
+    let lt : c.args.region / 4096 < length c.args.self.now.pages.items = has_page c.args.self.now.base.shape.regions c.args.region _ (sym (size_seen (page_seen g.P.LocalPiece.seen) c.args.self.now.pages.items) ∙ c.args.self.now.paged.count) c.requires.known in
+    askable (page_seen g.P.LocalPiece.seen) c.args.self.now.base.shape.regions c.args.region c.args.self.now.pages.items c.index_mut-page.result.now c.args.self.now.paged lt c.index_mut-page.ensures.value c.args.bits c.requires
+
+pub invariant_of-self : goal.invariant_of-self
+invariant_of-self g c =
+    let lt : c.args.region / 4096 < length c.args.self.now.pages.items = has_page c.args.self.now.base.shape.regions c.args.region _ (sym (size_seen (page_seen g.P.LocalPiece.seen) c.args.self.now.pages.items) ∙ c.args.self.now.paged.count) c.requires.known in
+    record { paged = paged_still (page_seen g.P.LocalPiece.seen) c.args.self.now.base.shape.regions c.args.region c.args.self.now.pages.items c.index_mut-page.result.now c.args.self.now.paged lt c.index_mut-page.ensures.value c.unmark.new.self c.unmark.ensures.kept }
+
+pub returns-clause-kept : goal.returns-clause-kept
+returns-clause-kept g c =
+    let lt : c.args.region / 4096 < length c.args.self.now.pages.items = has_page c.args.self.now.base.shape.regions c.args.region _ (sym (size_seen (page_seen g.P.LocalPiece.seen) c.args.self.now.pages.items) ∙ c.args.self.now.paged.count) c.requires.known in
+    store_kept (page_seen g.P.LocalPiece.seen) c.args.self.now.base.shape.regions c.args.region c.args.self.now.pages.items c.index_mut-page.result.now c.args.self.now.paged lt c.index_mut-page.ensures.value c.unmark.new.self c.unmark.ensures.kept
+
+pub returns-clause-told : goal.returns-clause-told
+returns-clause-told g c there =
+    let lt : c.args.region / 4096 < length c.args.self.now.pages.items = has_page c.args.self.now.base.shape.regions c.args.region _ (sym (size_seen (page_seen g.P.LocalPiece.seen) c.args.self.now.pages.items) ∙ c.args.self.now.paged.count) c.requires.known in
+    store_told (page_seen g.P.LocalPiece.seen) c.args.self.now.base.shape.regions c.args.region c.args.self.now.pages.items c.index_mut-page.result.now c.args.self.now.paged lt c.index_mut-page.ensures.value c.unmark.new.self c.unmark.ensures.kept (IsUnmarkedAs c.args.bits c.unmark.result) (c.unmark.ensures.told (there_is (page_seen g.P.LocalPiece.seen) c.args.self.now.base.shape.regions c.args.region c.args.self.now.pages.items c.index_mut-page.result.now c.args.self.now.paged lt c.index_mut-page.ensures.value))
+
+pub returns-clause-claims : goal.returns-clause-claims
+returns-clause-claims g c there =
+    let lt : c.args.region / 4096 < length c.args.self.now.pages.items = has_page c.args.self.now.base.shape.regions c.args.region _ (sym (size_seen (page_seen g.P.LocalPiece.seen) c.args.self.now.pages.items) ∙ c.args.self.now.paged.count) c.requires.known in
+    store_claims (page_seen g.P.LocalPiece.seen) c.args.self.now.base.shape.regions c.args.region c.args.self.now.pages.items c.index_mut-page.result.now c.args.self.now.paged lt c.index_mut-page.ensures.value c.unmark.new.self c.unmark.ensures.kept (IsUnclaimedAs c.args.bits c.unmark.result) (c.unmark.ensures.claims (there_is (page_seen g.P.LocalPiece.seen) c.args.self.now.base.shape.regions c.args.region c.args.self.now.pages.items c.index_mut-page.result.now c.args.self.now.paged lt c.index_mut-page.ensures.value))
+
+pub returns-clause-cause : goal.returns-clause-cause
+returns-clause-cause g c =
+    let lt : c.args.region / 4096 < length c.args.self.now.pages.items = has_page c.args.self.now.base.shape.regions c.args.region _ (sym (size_seen (page_seen g.P.LocalPiece.seen) c.args.self.now.pages.items) ∙ c.args.self.now.paged.count) c.requires.known in
+    store_cause (page_seen g.P.LocalPiece.seen) c.args.self.now.base.shape.regions c.args.region c.args.self.now.pages.items c.index_mut-page.result.now c.args.self.now.paged lt c.index_mut-page.ensures.value c.unmark.new.self c.unmark.ensures.kept c.unmark.result c.unmark.ensures.cause

@@ -1,0 +1,10 @@
+pub mod Bytes
+pub mod Firm
+pub mod Items
+pub mod Page
+pub mod Pages
+pub mod Pieces
+pub mod Sector
+pub mod Sectors
+pub mod Store
+pub mod Stores

@@ -1,0 +1,10 @@
+-- What contracts see of a store.
+use Rattle.vx_piece.specs.Seen.{Seen}
+use Rattle.vx_maps.specs.declared.local_piece.LocalPiece.{Ghosts}
+use Rattle.vx_marks.specs.Log.{LogSeen}
+use Rattle.vx_maps.specs.declared.store.MapStore.{MapStore}
+use Rattle.vx_maps.specs.Store.{store_log, pages_seen}
+
+-- the store as a log of marks
+abbrev pub store_seen : {P : Type 0} {ghosts : Ghosts P} → (P → Seen) → MapStore P ghosts → LogSeen
+store_seen seen store = store_log store.base.shape.regions (pages_seen seen store.pages.items)

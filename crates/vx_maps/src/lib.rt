@@ -1,0 +1,18 @@
+//! The change maps of a volume on one or two copies, as a log of marks: the store of all pages, and a page alone.
+#![tactic(auto)]
+
+mod bytes;
+mod copies;
+mod create;
+mod local_piece;
+mod page;
+mod sector;
+mod sectors;
+mod store;
+
+pub use bytes::{empty_page, has_bit};
+pub use create::{SectorRefused, create_sector};
+pub use local_piece::LocalPiece;
+pub use page::Page;
+pub use sector::MapSector;
+pub use store::{Base, MapStore};

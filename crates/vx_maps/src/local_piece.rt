@@ -1,0 +1,36 @@
+ghost use Rattle.std.specs.Prelude.{◌≡◌, length};
+ghost use Rattle.vx_piece.specs.Seen.{HasCause, IsInside, IsWritten, Keeps};
+
+use vx_piece::{Piece, PieceFault};
+
+/// What the calls of a log of marks need of a piece. Each piece is one; unlike `Piece` it does not ask that the value can
+/// go to another thread, on which the proof of a trait's method can not rest.
+pub trait LocalPiece: Sized {
+    ghost use Rattle.vx_piece.specs.Seen.{Seen};
+
+    /// What contracts see of it.
+    ghost seen: { Self → Seen };
+
+    /// The number of the device.
+    fn device(&self) -> u32
+        ensures { result ≡ (seen self.now).device };
+
+    /// Writes whole sectors.
+    fn write(&mut self, at: u64, from: &[u8]) -> Result<(), PieceFault>
+        requires { IsInside (seen self.old) at (length from.now) }
+        ensures kept { Keeps (seen self.old) (seen self.new) }
+        ensures told { IsWritten at from.now (seen self.old) (seen self.new) result }
+        ensures cause { HasCause (seen self.old) (seen self.new) result };
+}
+
+impl<P: Piece> LocalPiece for P {
+    ghost seen = { P.seen };
+
+    fn device(&self) -> u32 {
+        Piece::device(self)
+    }
+
+    fn write(&mut self, at: u64, from: &[u8]) -> Result<(), PieceFault> {
+        Piece::write(self, at, from)
+    }
+}

@@ -46,7 +46,7 @@ pub returns-in-DiskUnsetup-clause-step : goal.returns-in-DiskUnsetup-clause-step
 returns-in-DiskUnsetup-clause-step g c = all_moved g.S.P.Piece.seen _ _ c.args.command.now (form.DiskUnsetup c.in-DiskUnsetup.device) (λ f. UnsetupStep c.in-DiskUnsetup.device) _ c.in-DiskUnsetup.is (uncut c.args.command.now.cut (sym c.is_some.ensures ∙ c.if-is_some.false)) refl (λ f place w answer next step. step) c.unsetup.ensures.step
 
 pub call-requires-clause-valid : goal.call-requires-clause-valid
-call-requires-clause-valid g c = call_kept c.args.command.now c.in-Calling.said c.in-Some.one c.requires.kept c.in-Calling.is (sym c.call_of.ensures ∙ c.in-Some.is)
+call-requires-clause-valid g c κs within = call_kept c.args.command.now c.in-Calling.said c.in-Some.one c.requires.kept c.in-Calling.is (sym c.call_of.ensures ∙ c.in-Some.is)
 
 pub returns-in-Some-clause-step : goal.returns-in-Some-clause-step
 returns-in-Some-clause-step g c = all_placed g.S.P.Piece.seen _ _ c.args.command.now (form.Calling c.in-Calling.said) (λ place f. CallStep place c.in-Some.one) _ c.in-Calling.is (uncut c.args.command.now.cut (sym c.is_some.ensures ∙ c.if-is_some.false)) (call_built c.in-Calling.said c.in-Some.one (sym c.call_of.ensures ∙ c.in-Some.is)) (λ f place w answer next step. call_step f place c.args.command.now.group c.in-Calling.said c.in-Some.one w answer next (sym c.call_of.ensures ∙ c.in-Some.is) step) c.call.ensures.step

@@ -2,6 +2,7 @@ use Rattle.std.proofs.Common.{◌+◌, ◌∙◌, subst, arith}
 use Rattle.std.specs.Prelude.{IfOk}
 use Rattle.vx_world.specs.Groups.{InitStep}
 use Rattle.vx_world.specs.World.{World}
+use Rattle.vx_calls.proofs.Among.{any_err}
 use Rattle.vx_hold.specs.Moves.{Moves}
 use Rattle.vx_hold.specs.Stand.{Stand}
 use Rattle.vx_hold.proofs.Answered.{rests}
@@ -9,14 +10,11 @@ use Rattle.vx_hold.proofs.Closed.{state}
 use Rattle.vx_hold.proofs.Rooms.{more_room}
 use Rattle.vx_system.proofs.init_disks.Goals as goal
 
-pub returns-in_err-disks : goal.returns-in_err-disks
-returns-in_err-disks g c = record {
-  keeps = c.requires.keeps;
-  room = λ n room. more_room n (n + 1) (omega arith) c.args.system.now room;
-  step = tt;
-  rests = λ w stand. rests g.S.P.Piece.seen c.args.dg _ c.args.system.now c.requires.keeps _ _ (omega arith) w _ stand;
-  later = omega arith;
-}
+pub returns-in_err-disks-clause-room : goal.returns-in_err-disks-clause-room
+returns-in_err-disks-clause-room g c = λ n room. more_room n (n + 1) (omega arith) c.args.system.now room
+
+pub returns-in_err-disks-clause-rests : goal.returns-in_err-disks-clause-rests
+returns-in_err-disks-clause-rests g c = any_err c.from_residual.result (λ w stand. rests g.S.P.Piece.seen c.args.dg (g.S.Shelf.held c.args.shelf.now) c.args.system.now c.requires.keeps (g.S.Shelf.faults c.args.shelf.now) (g.S.Shelf.faults c.args.shelf.now) (omega arith) w (g.S.Shelf.free c.args.shelf.now) stand)
 
 pub returns-clause-step : goal.returns-clause-step
 returns-clause-step g c =

@@ -1,18 +1,20 @@
 -- The strips of a plex's columns: each is a subdisk's, lies on its disk, and has no sector of another.
-use Rattle.std.proofs.Common.{◌≡◌, ℕ, zero, suc, ◌+◌, ◌≤◌, ◌^◌, Bool, true, List, [], ◌∷◌, ◌++◌, length, Option, Some, None, refl, sym, ap, subst, inl, inr, arith, ◌&&◌, ◌==◌, nat_le}
+use Rattle.std.proofs.Common.{◌≡◌, ◌∙◌, ℕ, zero, suc, ◌+◌, ◌≤◌, ◌^◌, Bool, true, List, [], ◌∷◌, ◌++◌, length, Option, Some, None, refl, sym, ap, subst, inl, inr, arith, ◌&&◌, ◌==◌, nat_le}
 use Rattle.std.specs.List.{list_all, flat_map, find}
-use Rattle.std.proofs.lemmas.Bool.{and_parts, and_from, le-leb, lt-ltb, eq-eqb, eqb-true}
+use Rattle.std.proofs.lemmas.Bool.{false≢true, and_parts, and_from, le-leb, lt-ltb, eq-eqb, eqb-true}
 use Rattle.vx_base.specs.Named.{Word}
 use Rattle.vx_layout.specs.declared.strip.Strip.{Strip}
 use Rattle.vx_layout.specs.Valid.{is_strip, is_apart, are_apart}
+use Rattle.vx_base.proofs.NamedLemmas.{bytes_eq_same}
+use Rattle.vx_parts.specs.declared.plex.Plex.{Plex}
 use Rattle.vx_parts.specs.declared.subdisk.Subdisk.{Subdisk}
 use Rattle.vx_parts.specs.Objects.{refers}
 use Rattle.vx_extents.specs.Columns.{is_in_column}
 use Rattle.vx_objects.specs.declared.config.Config.{Config}
-use Rattle.vx_plexes.specs.Lies.{slot_of, strip_of, strip_then, strips_from, columns_from, is_on_disk, are_on_disks}
+use Rattle.vx_plexes.specs.Lies.{strips_of, slot_of, strip_of, strip_then, strips_from, columns_from, is_on_disk, are_on_disks}
 use Rattle.vx_plexes.proofs.Members.{IsIn, in_either, in_any, all_in}
 use Rattle.vx_plexes.proofs.Chain.{IsPiece, found_in}
-use Rattle.vx_plexes.proofs.Plexes.{IsValid, filled, on_disk, disk_short, clear}
+use Rattle.vx_plexes.proofs.Plexes.{IsValid, config_valid, filled, on_disk, disk_short, clear}
 
 pub all_from : {A : Type 0} (test : A → Bool) (xs : List A) → ((x : A) → IsIn xs x → test x ≡ true) → list_all test xs ≡ true
 all_from test [] h = refl
@@ -100,14 +102,15 @@ append_apart (x ∷ xs) ys a b h =
     (append_apart xs ys parts.1 b (λ y z k l. h y z (inr k) l))
 
 -- the strips of these columns are those of subdisks in them
-columns_come : (n : ℕ) (c : Config) (name : Word) (col : ℕ) (x : Strip) → IsIn (flat_map (λ strips. strips) (columns_from n c name col)) x → (t : Subdisk) × IsIn c.subdisks t × (col ≤ t.col) × (x ≡ strip_of c.disks t)
+columns_come : (n : ℕ) (c : Config) (name : Word) (col : ℕ) (x : Strip) → IsIn (flat_map (λ strips. strips) (columns_from n c name col)) x → (t : Subdisk) × IsIn c.subdisks t × (col ≤ t.col) × (x ≡ strip_of c.disks t) × (refers t.plex name ≡ true)
 columns_come zero c name col x h = absurd h
 columns_come (suc n) c name col x h = elim (in_either (strips_from (length c.subdisks) c name col 0) (flat_map (λ strips. strips) (columns_from n c name (col + 1))) x h) [
   | inl here ↦
       let r = strips_come (length c.subdisks) c name col 0 x here in
-      let number = eqb-true r.subdisk.col col (and_parts (refers r.subdisk.plex name) (r.subdisk.col == col) r.piece.1).1 in
-      (r.subdisk, r.piece.0, omega (arith, number), r.is)
-  | inr later ↦ let r = columns_come n c name (col + 1) x later in let le = r.2 in (r.0, r.1, omega (arith, le), r.3)
+      let parts = and_parts (refers r.subdisk.plex name) (r.subdisk.col == col) r.piece.1 in
+      let number = eqb-true r.subdisk.col col parts.1 in
+      (r.subdisk, r.piece.0, omega (arith, number), r.is, parts.0)
+  | inr later ↦ let r = columns_come n c name (col + 1) x later in let le = r.2 in (r.0, r.1, omega (arith, le), r.3, r.4)
 ]
 
 pub apart_columns : (c : Config) → IsValid c → (n : ℕ) (name : Word) (col : ℕ) → are_apart (flat_map (λ strips. strips) (columns_from n c name col)) ≡ true
@@ -119,3 +122,18 @@ apart_columns c v (suc n) name col =
     let number = eqb-true a.subdisk.col col (and_parts (refers a.subdisk.plex name) (a.subdisk.col == col) a.piece.1).1 in
     let le = b.2 in
     subst (λ z. is_apart z y ≡ true) (sym a.is) (subst (λ z. is_apart (strip_of c.disks a.subdisk) z ≡ true) (sym b.3) (clear c v a.subdisk b.0 a.piece.0 b.1 (λ same. let e = same_col a.subdisk b.0 same in omega (arith, e, le, number)))))
+
+-- ---- two plexes
+
+one_name : (o : Option Word) (a b : Word) → refers o a ≡ true → refers o b ≡ true → a ≡ b
+one_name None a b h k = absurd (false≢true h)
+one_name (Some n) a b h k = sym (bytes_eq_same n a h) ∙ bytes_eq_same n b k
+
+same_plex : (s t : Subdisk) (name : Word) → s ≡ t → refers t.plex name ≡ true → refers s.plex name ≡ true
+same_plex s t name same h = ap (λ x. refers x.plex name) same ∙ h
+
+pub plexes_apart : (c : Config) (p q : Plex) → (p.name ≡ q.name → ⊥) → list_all (λ x. list_all (is_apart x) (strips_of c q)) (strips_of c p) ≡ true
+plexes_apart c p q differ = all_from (λ x. list_all (is_apart x) (strips_of c q)) (strips_of c p) (λ x h. all_from (is_apart x) (strips_of c q) (λ y k.
+    let a = columns_come p.ncol c p.name 0 x h in
+    let b = columns_come q.ncol c q.name 0 y k in
+    subst (λ z. is_apart z y ≡ true) (sym a.3) (subst (λ z. is_apart (strip_of c.disks a.0) z ≡ true) (sym b.3) (clear c (config_valid c) a.0 b.0 a.1 b.1 (λ same. differ (one_name a.0.plex p.name q.name a.4 (same_plex a.0 b.0 q.name same b.4)))))))

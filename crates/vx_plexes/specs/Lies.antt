@@ -1,10 +1,11 @@
 -- Where a plex lies: its columns are its subdisks end to end.
 use Rattle.std.specs.Prelude.{◌≡◌, ◌==◌, ◌&&◌, ◌+◌, ◌≤◌, nat_le, ℕ, zero, suc, Bool, Option, Some, None, List, [], ◌∷◌, length, true, if◌then◌else◌}
-use Rattle.std.specs.List.{list_all, list_any, find}
+use Rattle.std.specs.List.{list_all, list_any, flat_map, find}
 use Rattle.std.specs.Str.{bytes_eq}
 use Rattle.vx_base.specs.Named.{Word}
 use Rattle.vx_layout.specs.declared.strip.Strip.{Strip}
 use Rattle.vx_layout.specs.Columns.{capacity}
+use Rattle.vx_layout.specs.Valid.{is_apart}
 use Rattle.vx_parts.specs.declared.disk.Disk.{Disk}
 use Rattle.vx_parts.specs.declared.subdisk.Subdisk.{Subdisk}
 use Rattle.vx_parts.specs.declared.plex.Plex.{Plex}
@@ -59,3 +60,11 @@ is_on_disk disks strip = list_any (λ d. d.slot == strip.disk && nat_le (strip.s
 -- each strip of these columns does
 abbrev pub are_on_disks : List Disk → List (List Strip) → Bool
 are_on_disks disks columns = list_all (λ strips. list_all (is_on_disk disks) strips) columns
+
+-- the strips of all its columns
+abbrev pub strips_of : Config → Plex → List Strip
+strips_of c p = flat_map (λ strips. strips) (columns_of c p)
+
+-- Two plexes of a configuration, whose names differ, have no sector of a disk in common.
+abbrev pub PlexesLieApart : Type 0
+PlexesLieApart = (c : Config) (p q : Plex) → (p.name ≡ q.name → ⊥) → list_all (λ x. list_all (is_apart x) (strips_of c q)) (strips_of c p) ≡ true

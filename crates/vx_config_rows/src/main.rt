@@ -5,6 +5,7 @@
 //! - `config`: what is answered to the edited text: `read`, the refusal, or the line that does not fit;
 //! - `back`: whether a configuration that is read gives the records and the text back;
 //! - `view`: whether what is printed of the volume EDIT is the text of the file WANTED;
+//! - `lies`: where the plexes of the edited text lie: the strips of each column, each as `SLOT:FIRST+COUNT`;
 //! - `apply`: what becomes of the configuration by edits: the text of BASE under the edits WANTED, or the refusal;
 //! - `fronts`: each front of the text is read or refused at its last line;
 //! - `bytes`: the text with each byte in turn replaced by that of EDIT is read or refused at the line of that byte.
@@ -13,6 +14,7 @@
 
 mod answer;
 mod edits;
+mod lies;
 mod row;
 mod text;
 mod torn;

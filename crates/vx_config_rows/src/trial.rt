@@ -1,6 +1,7 @@
 //! What a row answers.
 use crate::answer::{joined, named, refusal, unprinted};
 use crate::edits::edits_of;
+use crate::lies::lies;
 use crate::row::Row;
 use crate::text::{edited, is};
 use crate::torn::{bytes, fronts};
@@ -15,6 +16,13 @@ pub fn answer_to(alloc: Global, row: &Row, base: &[u8]) -> Result<Vec<u8>, OutOf
     if is(row.kind, b"config") {
         let text = edited(alloc, base, row.edit)?;
         return said(alloc, &text);
+    }
+    if is(row.kind, b"lies") {
+        let text = edited(alloc, base, row.edit)?;
+        return match config_of(alloc, &text) {
+            Ok(config) => lies(alloc, &config),
+            Err(said) => said,
+        };
     }
     if is(row.kind, b"fronts") {
         return fronts(alloc, base);

@@ -1,6 +1,6 @@
 -- What a write of a half or of a toggle does to what a disk offers.
 use Rattle.std.proofs.Common.{◌≡◌, ◌⊎◌, ℕ, zero, suc, ◌+◌, ◌-◌, ◌*◌, ◌^◌, ◌<◌, ◌≤◌, true, false, List, [], ◌∷◌, ◌++◌, length, take, drop, Option, Some, None, Result, Ok, Err, refl, sym, ap, ◌∙◌, subst, arith, inl, inr}
-use Rattle.std.specs.Prelude.{MatchOption}
+use Rattle.std.specs.Prelude.{IsTrue, MatchOption}
 use Rattle.std.proofs.lemmas.List.{drop-drop, length-drop, take-append-drop, take_all}
 use Rattle.vx_base.specs.Blocks.{Contents, block_at, blocks_in, is_in, written, IsTorn}
 use Rattle.vx_piece.specs.Seen.{Seen, IsInside, Writes}
@@ -8,10 +8,13 @@ use Rattle.vx_base.proofs.BlockLemmas.{written_in, written_out, is_in-before, is
 use Rattle.vx_header.specs.Said.{Said, toggle_of}
 use Rattle.vx_header.specs.Sectors.{toggle_sector}
 use Rattle.vx_header.proofs.Saying.{said_spells, said_back}
-use Rattle.vx_copies.specs.Image.{blocks_from, sectors_for, half_start, text_in, toggle_at, offer_by, offer_of}
-use Rattle.vx_copies.specs.Disks.{NamesHalf, HasText, StaysTold, OffersJust, KeepsNamed, SameOffer}
+use Rattle.vx_copies.specs.Image.{blocks_from, sectors_for, filled, half_start, text_in, toggle_at, offer_by, offer_of}
+use Rattle.vx_copies.specs.Disks.{Held, NamesHalf, HasText, StaysTold, OffersJust, KeepsNamed, SameOffer}
 use Rattle.vx_copies.specs.Pass.{IsPadded}
+use Rattle.vx_copies.specs.Written.{BothTell, Holds, HalfStays, OldOrText}
+use Rattle.vx_copies.specs.Steps.{HalfLeaves, ToggleLeaves, Says}
 use Rattle.vx_copies.proofs.Going.{same_toggle}
+use Rattle.vx_copies.proofs.Only.{torn_only}
 
 pub blocks_same : (n at : ℕ) (c d : Contents) → ((k : ℕ) → at ≤ k → k < at + n → d k ≡ c k) → blocks_from n at d ≡ blocks_from n at c
 blocks_same zero at c d same = refl
@@ -50,6 +53,10 @@ pub few_sectors : (n : ℕ) → n ≤ 522240 → sectors_for n ≤ 1020
 unfolding sectors_for
 few_sectors n le = omega (arith, le)
 
+-- the sectors of a text fit into a half
+pub few_text : (text padded : List ℕ) → IsPadded text padded → blocks_in (filled text) ≤ 1020
+few_text text padded fills = let few : blocks_in padded ≤ 1020 = omega (arith, fills.size, fills.fits, few_sectors (length text) fills.fits) in subst (λ p. blocks_in p ≤ 1020) fills.zeros few
+
 -- a text is the same where its half is
 pub text_same : (half len : ℕ) (c d : Contents) → ((k : ℕ) → half_start half ≤ k → k < half_start half + sectors_for len → d k ≡ c k) → text_in half len d ≡ text_in half len c
 unfolding text_in
@@ -82,32 +89,40 @@ module _ (half : ℕ) (text padded : List ℕ) (c d : Contents) (is_half : half 
   few : blocks_in padded ≤ 1020
   few = omega (arith, fills.size, fills.fits, few_sectors (length text) fills.fits)
 
+  halves : (h : ℕ) → h < 2 → (h ≡ 0) ⊎ (h ≡ 1)
+  halves zero lt = inl refl
+  halves (suc zero) lt = inr refl
+  halves (suc (suc h)) lt = absurd (omega (arith, lt))
+
+  -- a write of the spare half leaves the other half
+  pub half_left : IsTorn (half_start (1 - half)) padded c d → HalfStays half c d
+  half_left torn k le lt = torn_out (half_start (1 - half)) padded c d torn k (elim (halves half is_half) [ inl h ↦ inl (omega (arith, h, le, lt)) | inr h ↦ inr (omega (arith, h, le, lt, few)) ])
+
   -- a write of the spare half, torn or not, leaves the offer
   pub half_stays : NamesHalf half (Some c) → IsTorn (half_start (1 - half)) padded c d → StaysTold (Some c) (Some d)
   half_stays names torn =
       let out = torn_out (half_start (1 - half)) padded c d torn in
-      let one = out 1 (inl (omega arith)) in (
-        out 0 (inl (omega arith)),
-        same_offer half c d names one (λ k le lt. out k (elim (halves half is_half) [ inl h ↦ inl (omega (arith, h, le, lt)) | inr h ↦ inr (omega (arith, h, le, lt, few)) ])),
-        λ k le. out k (inr (omega (arith, is_half, le, few))),
-      )
-    where
-      halves : (h : ℕ) → h < 2 → (h ≡ 0) ⊎ (h ≡ 1)
-      halves zero lt = inl refl
-      halves (suc zero) lt = inr refl
-      halves (suc (suc h)) lt = absurd (omega (arith, lt))
+      let one = out 1 (inl (omega arith)) in
+      (out 0 (inl (omega arith)), same_offer half c d names one (half_left torn), λ k le. out k (inr (omega (arith, is_half, le, few))))
 
-  -- once it is done the text is there
-  pub half_has : ((k : ℕ) → d k ≡ written (half_start (1 - half)) padded c k) → text_in (1 - half) (length text) d ≡ text
-  unfolding text_in
-  half_has is =
-      let at : ℕ = half_start (1 - half) in
-      let blocks : blocks_from (sectors_for (length text)) (half_start (1 - half)) d ≡ padded =
+  -- once it is done the half holds the text with what fills its last sector
+  pub half_blocks : ((k : ℕ) → d k ≡ written (half_start (1 - half)) padded c k) → blocks_from (sectors_for (length text)) (half_start (1 - half)) d ≡ padded
+  half_blocks is =
       blocks_are 512 (sectors_for (length text)) (half_start (1 - half)) padded d fills.size (λ k lt.
       let n : blocks_in padded ≡ sectors_for (length text) = omega (arith, fills.size) in
       let back : half_start (1 - half) + k - half_start (1 - half) ≡ k = omega arith in
-      is (half_start (1 - half) + k) ∙ written_in (half_start (1 - half)) padded c (half_start (1 - half) + k) (omega arith) (omega (arith, n, lt)) ∙ ap (block_at padded) back) in
-      ap (take (length text)) blocks ∙ fills.front
+      is (half_start (1 - half) + k) ∙ written_in (half_start (1 - half)) padded c (half_start (1 - half) + k) (omega arith) (omega (arith, n, lt)) ∙ ap (block_at padded) back)
+
+  pub half_has : ((k : ℕ) → d k ≡ written (half_start (1 - half)) padded c k) → text_in (1 - half) (length text) d ≡ text
+  unfolding text_in
+  half_has is = ap (take (length text)) (half_blocks is) ∙ fills.front
+
+  -- each sector is as before, or the text's in a half
+  pub half_only : IsTorn (half_start (1 - half)) padded c d → OldOrText text c d
+  half_only torn = torn_only text (1 - half) c d (few_text text padded fills) (omega (arith, is_half)) (subst (λ p. IsTorn (half_start (1 - half)) p c d) fills.zeros torn)
+
+  pub half_leaves : IsTorn (half_start (1 - half)) padded c d → HalfLeaves half text c d
+  half_leaves torn = record { toggle = torn_out (half_start (1 - half)) padded c d torn 1 (inl (omega arith)); named = half_left torn; only = half_only torn }
 
 pub one_sector : (n : ℕ) → 1 ≤ sectors_for n
 unfolding sectors_for
@@ -138,6 +153,21 @@ module _ {T E : Type 0} (half : ℕ) (text padded : List ℕ) (is_half : half < 
   half_text (Some c) None result u is writes = absurd writes
   half_text (Some c) (Some d) (Ok v) u is writes = half_has half text padded c d is_half fills writes
   half_text (Some c) (Some d) (Err e) u is writes = cc
+
+  -- the same sector by sector
+  pub half_put : (told after : Option Contents) (result : Result T E) → Writes (half_start (1 - half)) padded told after result → BothTell (HalfLeaves half text) told after
+  half_put None None result writes = tt
+  half_put None (Some d) result writes = absurd writes
+  half_put (Some c) None result writes = absurd writes
+  half_put (Some c) (Some d) (Ok u) writes = half_leaves half text padded c d is_half fills (written_torn _ _ _ _ writes)
+  half_put (Some c) (Some d) (Err e) writes = half_leaves half text padded c d is_half fills writes
+
+  pub half_holds : (told after : Option Contents) (result : Result T E) (u : T) → result ≡ Ok u → Writes (half_start (1 - half)) padded told after result → MatchOption after (Unit {0}) (Holds text (1 - half))
+  half_holds None None result u is writes = tt
+  half_holds None (Some d) result u is writes = absurd writes
+  half_holds (Some c) None result u is writes = absurd writes
+  half_holds (Some c) (Some d) (Ok v) u is writes = half_blocks half text padded c d is_half fills writes ∙ fills.zeros
+  half_holds (Some c) (Some d) (Err e) u is writes = cc
 
 -- the toggle's half stays named
 pub names_on : (half : ℕ) (told after : Option Contents) → StaysTold told after → NamesHalf half told → NamesHalf half after
@@ -200,6 +230,49 @@ module _ (half sequence mask : ℕ) (text sector : List ℕ) (is_half : half < 2
     toggle_named (Some c) None result u e writes = absurd writes
     toggle_named (Some c) (Some d) (Ok v) u e writes = toggle_names c d writes
     toggle_named (Some c) (Some d) (Err w) u e writes = cc
+
+    pub toggle_says : (told after : Option Contents) (result : Result T E) (u : T) → result ≡ Ok u → Writes 1 sector told after result → MatchOption after (Unit {0}) (Says sequence mask text (1 - half))
+    unfolding toggle_at
+    toggle_says None None result u e writes = tt
+    toggle_says None (Some d) result u e writes = absurd writes
+    toggle_says (Some c) None result u e writes = absurd writes
+    toggle_says (Some c) (Some d) (Ok v) u e writes = ap toggle_of (writes 1 ∙ there c) ∙ is
+    toggle_says (Some c) (Some d) (Err w) u e writes = cc
+
+  -- the sector of the toggle alone changes, and says the new toggle where it does
+  toggle_only : (c d : Contents) → IsTorn 1 sector c d → (k : ℕ) → (k ≡ 1 → ⊥) → d k ≡ c k
+  toggle_only c d torn k not = by k not
+    where
+      by : (j : ℕ) → (j ≡ 1 → ⊥) → d j ≡ c j
+      by zero n = torn_out 1 sector c d torn zero (inl (omega arith))
+      by (suc zero) n = absurd (n refl)
+      by (suc (suc j)) n = others c d torn (suc (suc j)) (omega arith)
+
+  toggle_new : (c d : Contents) → d 1 ≡ written 1 sector c 1 → Says sequence mask text (1 - half) d
+  unfolding toggle_at
+  toggle_new c d new = ap toggle_of (new ∙ there c) ∙ is
+
+  module _ (old new : Held) (names : old.half ≡ half) (was : IsTrue old.good) where
+    leaves : (c d : Contents) → IsTorn 1 sector c d → ((d 1 ≡ c 1) → IsTrue new.good → new.half ≡ old.half) → ToggleLeaves sequence mask text old new c d
+    leaves c d torn same = record {
+      toggle = elim (torn 1) [ inl e ↦ inl (e, same e) | inr e ↦ inr (was, subst (λ h. Says sequence mask text (1 - h) d) (sym names) (toggle_new c d e)) ];
+      others = toggle_only c d torn;
+    }
+
+    -- a write that failed: the half of the disk is as before, or it is not good any more
+    pub toggle_failed : {T E : Type 0} (told after : Option Contents) (result : Result T E) → (IsTrue new.good → new.half ≡ old.half) → Writes 1 sector told after result → BothTell (ToggleLeaves sequence mask text old new) told after
+    toggle_failed None None result same writes = tt
+    toggle_failed None (Some d) result same writes = absurd writes
+    toggle_failed (Some c) None result same writes = absurd writes
+    toggle_failed (Some c) (Some d) (Ok u) same writes = leaves c d (written_torn 1 sector c d writes) (λ e. same)
+    toggle_failed (Some c) (Some d) (Err e) same writes = leaves c d writes (λ e. same)
+
+    pub toggle_there : {T E : Type 0} (told after : Option Contents) (result : Result T E) (u : T) → result ≡ Ok u → Writes 1 sector told after result → BothTell (ToggleLeaves sequence mask text old new) told after
+    toggle_there None None result u e writes = tt
+    toggle_there None (Some d) result u e writes = absurd writes
+    toggle_there (Some c) None result u e writes = absurd writes
+    toggle_there (Some c) (Some d) (Ok v) u e writes = record { toggle = inr (was, subst (λ h. Says sequence mask text (1 - h) d) (sym names) (toggle_new c d (writes 1))); others = toggle_only c d (written_torn 1 sector c d writes) }
+    toggle_there (Some c) (Some d) (Err w) u e writes = cc
 
 -- the sector that was put says the toggle
 pub said_there : (sequence half len mask : ℕ) (out : List ℕ) → out ≡ toggle_sector sequence half len mask → 0 < sequence → sequence < 2 ^ 64 → half < 2 → len ≤ 522240 → mask < 2 ^ 32 → toggle_of out ≡ Some (record { sequence = sequence; half = half; length = len; good = mask })

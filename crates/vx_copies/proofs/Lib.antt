@@ -1,3 +1,5 @@
+pub mod Counted
+pub mod Only
 pub mod Halves
 pub mod InGroup
 pub mod Going
@@ -9,3 +11,6 @@ pub mod Chained
 pub mod Tried
 pub mod Chosen
 pub mod Left
+pub mod Passing
+pub mod Touching
+pub mod Recording

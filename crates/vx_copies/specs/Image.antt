@@ -1,8 +1,9 @@
 -- What a private region offers, and the configuration of a group.
-use Rattle.std.specs.Prelude.{ℕ, zero, suc, ◌+◌, ◌*◌, ◌/◌, max, nat_lt, Bool, true, false, if◌then◌else◌, List, [], ◌∷◌, ◌++◌, take, Option, Some, None}
+use Rattle.std.specs.Prelude.{ℕ, zero, suc, ◌+◌, ◌-◌, ◌*◌, ◌/◌, max, nat_lt, Bool, true, false, if◌then◌else◌, List, [], ◌∷◌, ◌++◌, length, take, Option, Some, None}
 use Rattle.std.specs.Str.{bytes_eq}
 use Rattle.vx_base.specs.Blocks.{Contents}
 use Rattle.vx_base.specs.Named.{Word}
+use Rattle.vx_sector.specs.Fields.{zeros}
 use Rattle.vx_header.specs.Named.{Label, header_of}
 use Rattle.vx_header.specs.Said.{Said, toggle_of}
 
@@ -14,6 +15,10 @@ blocks_from (suc n) at contents = contents at ++ blocks_from n (at + 1) contents
 -- the sectors that a text needs, at least one
 unfoldable pub sectors_for : ℕ → ℕ
 sectors_for len = max 1 ((len + 511) / 512)
+
+-- the text, and zeros up to the end of its last sector
+abbrev pub filled : List ℕ → List ℕ
+filled text = text ++ zeros (512 * sectors_for (length text) - length text)
 
 -- the first sector of a half
 abbrev pub half_start : ℕ → ℕ

@@ -4,4 +4,6 @@ pub mod Disks
 pub mod Config
 pub mod Chain
 pub mod Pass
+pub mod Written
+pub mod Steps
 pub mod Commit

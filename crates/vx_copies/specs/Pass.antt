@@ -1,16 +1,17 @@
 -- How a pass over the disks ends.
 use Rattle.std.specs.Prelude.{◌≡◌, ◌⊎◌, ℕ, ◌*◌, ◌≤◌, ◌<◌, List, [], ◌∷◌, length, take, false, IsTrue, Option, Some, None, MatchOption}
 use Rattle.vx_base.specs.Blocks.{Contents}
-use Rattle.vx_copies.specs.Image.{offer_of, sectors_for}
+use Rattle.vx_copies.specs.Image.{offer_of, sectors_for, filled}
 use Rattle.vx_copies.specs.Lists.{Each, AllOf, AnyOf}
 use Rattle.vx_copies.specs.Disks.{Held, good_count, IsCut, IsReady, HasSpare, IsOffer, SameOffer, RestStays}
 use Rattle.vx_copies.specs.declared.disk.Pass.{Pass}
 use Rattle.vx_copies.specs.declared.disk.Pass.TheVariants.{Done, Dropped, Cut}
 
--- the text with what fills its last sector
+-- the text with the zeros that fill its last sector
 pub record IsPadded (text padded : List ℕ) : Type 0 where
   pub front : take (length text) padded ≡ text
   pub size : length padded ≡ 512 * sectors_for (length text)
+  pub zeros : padded ≡ filled text
   pub fits : length text ≤ 522240
 
 -- the disk offers just this

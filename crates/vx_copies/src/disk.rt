@@ -1,6 +1,7 @@
 ghost use Rattle.std.specs.Prelude.{◌≡◌, ◌<◌, ◌≤◌, ◌^◌, length, map};
 ghost use Rattle.vx_copies.specs.Disks.{held, Stamps, Stays, IsReady, HasSpare};
 ghost use Rattle.vx_copies.specs.Pass.{IsPadded, HalfEnds, ToggleEnds};
+ghost use Rattle.vx_copies.specs.Steps.{HalfPut, HalfDone, TogglePut, ToggleDone};
 
 use vx_header::Toggle;
 use vx_names::Name;
@@ -45,6 +46,8 @@ pub fn put_half<P: Piece>(disk: &mut Disk<P>, text: &[u8], padded: &[u8]) -> Pas
     requires padded { IsPadded text.now padded.now }
     ensures stays { Stays (held P.seen disk.old) (held P.seen disk.new) }
     ensures ends { HalfEnds result text.now (held P.seen disk.old) (held P.seen disk.new) }
+    ensures put { HalfPut text.now (held P.seen disk.old) (held P.seen disk.new) }
+    ensures done { result ≡ Pass.Done → HalfDone text.now (held P.seen disk.old) (held P.seen disk.new) }
 {
     if !disk.good {
         return Pass::Done;
@@ -76,6 +79,8 @@ pub fn put_toggle<P: Piece>(
     ensures size { length sector.new ≡ 512 }
     ensures stamps { Stamps sequence mask text.now (held P.seen disk.old) (held P.seen disk.new) }
     ensures ends { ToggleEnds result sequence mask text.now (held P.seen disk.old) (held P.seen disk.new) }
+    ensures put { TogglePut sequence mask text.now (held P.seen disk.old) (held P.seen disk.new) }
+    ensures done { result ≡ Pass.Done → ToggleDone sequence mask text.now (held P.seen disk.old) (held P.seen disk.new) }
 {
     if !disk.good {
         return Pass::Done;

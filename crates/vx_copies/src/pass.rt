@@ -2,6 +2,7 @@ ghost use Rattle.std.specs.Prelude.{◌≡◌, ◌+◌, ◌-◌, ◌*◌, ◌<�
 ghost use Rattle.vx_copies.specs.Lists.{Each, AllOf};
 ghost use Rattle.vx_copies.specs.Disks.{held, Stays, Stamps, IsReady, HasSpare};
 ghost use Rattle.vx_copies.specs.Pass.{IsPadded, HalvesEnd, TogglesEnd, TellsIfGood, TurnsFirst};
+ghost use Rattle.vx_copies.specs.Steps.{HalfPut, HalfDone, TogglePut, ToggleDone};
 
 use crate::Disk;
 use crate::disk::{Pass, put_half, put_toggle};
@@ -13,6 +14,8 @@ pub fn put_halves<P: Piece>(disks: &mut [Disk<P>], text: &[u8], padded: &[u8]) -
     requires padded { IsPadded text.now padded.now }
     ensures stays { Each Stays (map (held P.seen) disks.old) (map (held P.seen) disks.new) }
     ensures ends { HalvesEnd result text.now (map (held P.seen) disks.old) (map (held P.seen) disks.new) }
+    ensures puts { Each (HalfPut text.now) (map (held P.seen) disks.old) (map (held P.seen) disks.new) }
+    ensures done { result ≡ Pass.Done → Each (HalfDone text.now) (map (held P.seen) disks.old) (map (held P.seen) disks.new) }
 {
     let mut i = 0;
     'halves: while i < disks.len() {
@@ -43,6 +46,8 @@ pub fn put_toggles<P: Piece>(
     ensures stamps { Each (Stamps sequence mask text.now) (map (held P.seen) disks.old) (map (held P.seen) disks.new) }
     ensures first { AllOf TellsIfGood (map (held P.seen) disks.old) → TurnsFirst sequence mask text.now (map (held P.seen) disks.old) (map (held P.seen) disks.new) }
     ensures ends { TogglesEnd result sequence mask text.now (map (held P.seen) disks.old) (map (held P.seen) disks.new) }
+    ensures puts { Each (TogglePut sequence mask text.now) (map (held P.seen) disks.old) (map (held P.seen) disks.new) }
+    ensures done { result ≡ Pass.Done → Each (ToggleDone sequence mask text.now) (map (held P.seen) disks.old) (map (held P.seen) disks.new) }
 {
     let mut i = 0;
     'toggles: while i < disks.len() {

@@ -1,5 +1,6 @@
 use Rattle.std.proofs.Common.{rules, refl}
-use Rattle.vx_copies.proofs.Halves.{wide_on, half_inside, half_told, half_text, names_on}
+use Rattle.vx_copies.proofs.Halves.{wide_on, half_inside, half_told, half_text, names_on, half_put, half_holds}
+use Rattle.vx_copies.proofs.Counted.{ok_not_cut, most_writes, just_writes, half_sectors}
 use Rattle.vx_copies.proofs.disk.put_half.Goals as goal
 
 pub write-requires : goal.write-requires
@@ -47,4 +48,41 @@ returns-in-Err-PowerLost-clause-stays g c = record {
   good = search rules;
   told = half_told c.args.disk.now.half c.args.text.now c.args.padded.now c.requires.ready.half c.requires.padded _ _ c.write.result (c.requires.ready.names (search rules)) c.write.ensures.told.told;
   idle = λ e. search rules;
+}
+
+pub returns-in-Ok-clause-put : goal.returns-in-Ok-clause-put
+returns-in-Ok-clause-put g c = record {
+  half = refl;
+  told = half_put c.args.disk.now.half c.args.text.now c.args.padded.now c.requires.ready.half c.requires.padded _ _ c.write.result c.write.ensures.told.told;
+  reads = c.write.ensures.told.reads;
+  writes = most_writes _ _ _ c.args.padded.now _ (half_sectors c.args.text.now c.args.padded.now c.requires.padded) c.write.ensures.told.writes;
+}
+
+pub returns-in-Err-Failed-clause-put : goal.returns-in-Err-Failed-clause-put
+returns-in-Err-Failed-clause-put g c = record {
+  half = refl;
+  told = half_put c.args.disk.now.half c.args.text.now c.args.padded.now c.requires.ready.half c.requires.padded _ _ c.write.result c.write.ensures.told.told;
+  reads = c.write.ensures.told.reads;
+  writes = most_writes _ _ _ c.args.padded.now _ (half_sectors c.args.text.now c.args.padded.now c.requires.padded) c.write.ensures.told.writes;
+}
+
+pub returns-in-Err-PowerLost-clause-put : goal.returns-in-Err-PowerLost-clause-put
+returns-in-Err-PowerLost-clause-put g c = record {
+  half = refl;
+  told = half_put c.args.disk.now.half c.args.text.now c.args.padded.now c.requires.ready.half c.requires.padded _ _ c.write.result c.write.ensures.told.told;
+  reads = c.write.ensures.told.reads;
+  writes = most_writes _ _ _ c.args.padded.now _ (half_sectors c.args.text.now c.args.padded.now c.requires.padded) c.write.ensures.told.writes;
+}
+
+pub returns-in-Ok-clause-done : goal.returns-in-Ok-clause-done
+returns-in-Ok-clause-done g c = λ done. record {
+  put = record {
+    half = refl;
+    told = half_put c.args.disk.now.half c.args.text.now c.args.padded.now c.requires.ready.half c.requires.padded _ _ c.write.result c.write.ensures.told.told;
+    reads = c.write.ensures.told.reads;
+    writes = most_writes _ _ _ c.args.padded.now _ (half_sectors c.args.text.now c.args.padded.now c.requires.padded) c.write.ensures.told.writes;
+  };
+  good = refl;
+  holds = λ good. half_holds c.args.disk.now.half c.args.text.now c.args.padded.now c.requires.ready.half c.requires.padded _ _ c.write.result c.in-Ok.field-0 c.in-Ok.is c.write.ensures.told.told;
+  writes = λ good. just_writes _ _ _ c.args.padded.now _ (half_sectors c.args.text.now c.args.padded.now c.requires.padded) (ok_not_cut _ _ c.write.result c.in-Ok.field-0 c.in-Ok.is c.write.ensures.off) c.write.ensures.told.writes;
 }

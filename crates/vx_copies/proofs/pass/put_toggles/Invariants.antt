@@ -2,6 +2,8 @@ use Rattle.std.proofs.Common.{◌≡◌, ◌-◌, ◌≤◌, length, map, take, 
 use Rattle.vx_copies.specs.Lists.{Each, AllOf}
 use Rattle.vx_copies.specs.Disks.{held, Stamps, IsReady, HasSpare, IsOffer}
 use Rattle.vx_copies.specs.Pass.{KeepsOffer}
+use Rattle.vx_copies.specs.Steps.{ToggleDone}
+use Rattle.vx_copies.proofs.Passing.{PassedTo}
 use Rattle.vx_copies.proofs.pass.put_toggles.Given as goal
 
 abbrev pub invariant-toggles : goal.invariant-toggles
@@ -13,6 +15,7 @@ invariant-toggles g l = record {
   spare : AllOf (HasSpare l.text) (map (held g.P.Piece.seen) (drop l.i l.disks));
   rest : Each (λ a b. KeepsOffer a.seen.told b.seen.told) (drop l.i (map (held g.P.Piece.seen) l.fn.disks)) (map (held g.P.Piece.seen) (drop l.i l.disks));
   offer : AllOf (IsOffer l.sequence l.mask l.text) (map (held g.P.Piece.seen) (take l.i l.disks));
+  done : PassedTo l.i (ToggleDone l.sequence l.mask l.text) (map (held g.P.Piece.seen) l.fn.disks) (map (held g.P.Piece.seen) l.disks);
   good : Each (λ a b. b.good ≡ a.good) (map (held g.P.Piece.seen) l.fn.disks) (map (held g.P.Piece.seen) l.disks);
 }
 

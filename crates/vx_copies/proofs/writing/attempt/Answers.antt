@@ -1,13 +1,17 @@
-use Rattle.std.proofs.Common.{◌≡◌, map, take, arith}
-use Rattle.vx_copies.specs.Disks.{held, good_count}
+use Rattle.std.proofs.Common.{◌≡◌, ◌∙◌, map, take, sym, subst, arith}
+use Rattle.vx_copies.specs.Lists.{AllOf}
+use Rattle.vx_copies.specs.Disks.{held, Goes, good_count, good_mask}
+use Rattle.vx_copies.specs.Commit.{AttemptEnds}
+use Rattle.vx_copies.specs.Written.{IsMaskOf, CarriesIfGood}
 use Rattle.vx_copies.specs.Pass.{HalvesEnd, TogglesEnd}
 use Rattle.vx_copies.specs.declared.disk.Pass.TheVariants.{Done}
-use Rattle.vx_copies.proofs.Going.{all_trans, each_first, stays_all, stamps_all, slots_stay}
+use Rattle.vx_copies.proofs.Going.{each_map, all_trans, each_first, stays_all, stamps_all, slots_stay}
 use Rattle.vx_copies.proofs.Chained.{sound_stays, sound_stamps, sound_turned, sound_later, still_named, stays_was}
 use Rattle.vx_copies.proofs.Turning.{tells_if_good, first_done}
 use Rattle.vx_copies.proofs.Placed.{same_count, count_first}
 use Rattle.vx_copies.proofs.Masks.{good_named}
-use Rattle.vx_copies.proofs.Tried.{halves_tried, toggles_tried}
+use Rattle.vx_copies.proofs.Tried.{halves_tried, toggles_tried, same_mask}
+use Rattle.vx_copies.proofs.Recording.{Fades, goes_fade, mask_of, all_half_touch, all_touch, all_once, all_carry}
 use Rattle.vx_copies.proofs.writing.attempt.Goals as goal
 
 pub returns-in-Done-clause-goes : goal.returns-in-Done-clause-goes
@@ -46,5 +50,26 @@ returns-in_default g c = record {
   goes = stays_all c.args.sequence c.args.sequence c.args.text.now _ _ c.put_halves.ensures.stays;
   sound = λ group others last carriers lt some sound. sound_later group others last c.args.sequence carriers _ (omega (arith, lt)) (sound_stays group others last carriers _ _ c.put_halves.ensures.stays sound);
   all = λ group others last carriers lt some sound done. absurd (c.in_default.not-Done done);
+  touches = all_half_touch c.args.sequence c.args.text.now _ _ _ c.put_halves.ensures.puts;
+  done = λ is. absurd (c.in_default.not-Done is);
   ends = halves_tried c.put_halves.result c.args.sequence c.args.text.now _ _ c.in_default.not-Done c.put_halves.ensures.ends;
 }
+
+pub returns-in-Done-clause-touches : goal.returns-in-Done-clause-touches
+returns-in-Done-clause-touches g c =
+    let halves = c.put_halves.ensures.done c.in-Done.is in
+    let goes = each_map (Goes c.args.sequence c.args.sequence c.args.text.now) Fades (goes_fade c.args.sequence c.args.sequence c.args.text.now) _ _ (all_trans c.args.sequence c.args.sequence c.args.text.now _ _ _ (stays_all c.args.sequence c.args.sequence c.args.text.now _ _ c.put_halves.ensures.stays) (stamps_all c.args.sequence c.good_slots-mask.result c.args.text.now _ _ c.put_toggles.ensures.stamps)) in
+    let mask : IsMaskOf (map (held g.P.Piece.seen) c.args.disks.now) (map (held g.P.Piece.seen) c.put_toggles.new.disks) c.good_slots-mask.result = mask_of c.good_slots-mask.result _ _ goes c.good_slots-mask.ensures.names (good_named c.good_slots-mask.result _ c.good_slots-mask.ensures.names) in
+    all_touch c.args.sequence c.args.text.now (IsMaskOf (map (held g.P.Piece.seen) c.args.disks.now) (map (held g.P.Piece.seen) c.put_toggles.new.disks)) c.good_slots-mask.result mask c.requires.padded.fits _ _ _ halves c.put_toggles.ensures.puts
+
+pub returns-in-Done-clause-done : goal.returns-in-Done-clause-done
+returns-in-Done-clause-done g c = λ done.
+    let halves = c.put_halves.ensures.done c.in-Done.is in
+    let goes = each_map (Goes c.args.sequence c.args.sequence c.args.text.now) Fades (goes_fade c.args.sequence c.args.sequence c.args.text.now) _ _ (all_trans c.args.sequence c.args.sequence c.args.text.now _ _ _ (stays_all c.args.sequence c.args.sequence c.args.text.now _ _ c.put_halves.ensures.stays) (stamps_all c.args.sequence c.good_slots-mask.result c.args.text.now _ _ c.put_toggles.ensures.stamps)) in
+    let mask : IsMaskOf (map (held g.P.Piece.seen) c.args.disks.now) (map (held g.P.Piece.seen) c.put_toggles.new.disks) c.good_slots-mask.result = mask_of c.good_slots-mask.result _ _ goes c.good_slots-mask.ensures.names (good_named c.good_slots-mask.result _ c.good_slots-mask.ensures.names) in
+    let toggles = c.put_toggles.ensures.done done in
+    let ends : AttemptEnds Done c.args.sequence c.args.text.now (map (held g.P.Piece.seen) c.args.disks.now) (map (held g.P.Piece.seen) c.put_toggles.new.disks) = rw done at (returns-in-Done-clause-ends g c) in
+    let just : c.good_slots-mask.result ≡ good_mask (map (held g.P.Piece.seen) c.put_toggles.new.disks) = c.good_slots-mask.ensures.just ∙ sym (same_mask _ _ (each_map Fades (λ a b. b.slot ≡ a.slot) (λ a b is. is.slot) _ _ goes) ends.2) in (
+      all_once c.args.sequence c.args.text.now (IsMaskOf (map (held g.P.Piece.seen) c.args.disks.now) (map (held g.P.Piece.seen) c.put_toggles.new.disks)) c.good_slots-mask.result mask c.requires.padded.fits _ _ _ halves toggles,
+      subst (λ m. AllOf (CarriesIfGood c.args.sequence m c.args.text.now) (map (held g.P.Piece.seen) c.put_toggles.new.disks)) just (all_carry c.args.sequence c.args.text.now (IsMaskOf (map (held g.P.Piece.seen) c.args.disks.now) (map (held g.P.Piece.seen) c.put_toggles.new.disks)) c.good_slots-mask.result mask c.requires.padded.fits _ _ _ halves toggles),
+    )

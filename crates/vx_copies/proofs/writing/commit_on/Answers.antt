@@ -1,11 +1,14 @@
 use Rattle.std.proofs.Common.{◌≡◌, ◌+◌, ◌∙◌, map, take, refl, sym, ap, subst, arith, false}
 use Rattle.std.proofs.lemmas.List.{take-map}
-use Rattle.vx_copies.specs.Lists.{AllOf}
+use Rattle.vx_copies.specs.Lists.{Each, AllOf}
 use Rattle.vx_copies.specs.Disks.{Held, held, good_count}
 use Rattle.vx_copies.specs.Commit.{AttemptEnds}
 use Rattle.vx_copies.specs.declared.disk.Pass.TheVariants.{Done, Dropped}
-use Rattle.vx_copies.proofs.Going.{all_refl, all_risen, each_first}
+use Rattle.vx_copies.proofs.Going.{each_refl, each_map, all_refl, all_risen, each_first}
 use Rattle.vx_copies.proofs.Placed.{count_first, same_count}
+use Rattle.vx_copies.specs.Written.{IsMaskOf, WritesOnce}
+use Rattle.vx_copies.proofs.Touching.{touches_none, all_on}
+use Rattle.vx_copies.proofs.Recording.{Fades, goes_fade, mask_then, mask_before, quiet_before, quiet_count}
 use Rattle.vx_copies.proofs.Chosen.{below_all}
 use Rattle.vx_copies.proofs.Left.{older_all}
 use Rattle.vx_copies.proofs.Tried.{one_more, count_few}
@@ -14,7 +17,7 @@ use Rattle.vx_copies.proofs.writing.commit_on.Goals as goal
 pub again-init : goal.again-init
 again-init g c =
     let few = count_few g.P.Piece.seen c.args.disks.now in
-    record { size = c.requires.size; long = refl; later = omega arith; bound = omega (arith, few, c.requires.count); ready = c.requires.ready; goes = all_refl (c.args.sequence.now + 1) c.args.sequence.now c.args.text.now _; sound = λ group others is. is }
+    record { size = c.requires.size; long = refl; later = omega arith; bound = omega (arith, few, c.requires.count); ready = c.requires.ready; goes = all_refl (c.args.sequence.now + 1) c.args.sequence.now c.args.text.now _; touches = each_refl _ (touches_none (c.args.sequence.now + 1) c.args.sequence.now c.args.text.now _) _; quiet = λ q. (refl, refl); sound = λ group others is. is }
 
 pub returns-in-Done-clause-goes : goal.returns-in-Done-clause-goes
 returns-in-Done-clause-goes g c = one_more (c.args.sequence.now + 1) c.again.sequence c.args.text.now _ _ _ (omega (arith, c.again.invariant.later)) c.again.invariant.goes c.attempt.ensures.goes
@@ -71,12 +74,19 @@ returns-in-Cut-clause-few g c =
 
 pub again-preserved : goal.again-preserved
 again-preserved g c =
+    let first : Each Fades (map (held g.P.Piece.seen) c.args.disks.now) (map (held g.P.Piece.seen) c.again.disks) = each_map _ Fades (goes_fade (c.args.sequence.now + 1) c.again.sequence c.args.text.now) _ _ c.again.invariant.goes in
+    let next : Each Fades (map (held g.P.Piece.seen) c.again.disks) (map (held g.P.Piece.seen) c.attempt.new.disks) = each_map _ Fades (goes_fade (c.again.sequence + 1) (c.again.sequence + 1) c.args.text.now) _ _ c.attempt.ensures.goes in
     let ends : AttemptEnds Dropped (c.again.sequence + 1) c.args.text.now (map (held g.P.Piece.seen) c.again.disks) (map (held g.P.Piece.seen) c.attempt.new.disks) = rw c.in-Dropped.is at c.attempt.ensures.ends in
     let less = ends.1 in
     let some = c.any_good.ensures.some c.again-test.true in
     let there : good_count (map (held g.P.Piece.seen) (take c.args.carriers c.again.disks)) ≡ good_count (take c.args.carriers (map (held g.P.Piece.seen) c.again.disks)) = ap good_count (sym (take-map (held g.P.Piece.seen) c.args.carriers c.again.disks)) in
     record {
       size = c.attempt.ensures.size;
+      touches = all_on (c.args.sequence.now + 1) c.again.sequence c.args.text.now c.requires.padded.fits (IsMaskOf (map (held g.P.Piece.seen) c.args.disks.now) (map (held g.P.Piece.seen) c.again.disks)) (IsMaskOf (map (held g.P.Piece.seen) c.again.disks) (map (held g.P.Piece.seen) c.attempt.new.disks)) (IsMaskOf (map (held g.P.Piece.seen) c.args.disks.now) (map (held g.P.Piece.seen) c.attempt.new.disks)) (mask_then (map (held g.P.Piece.seen) c.args.disks.now) (map (held g.P.Piece.seen) c.again.disks) (map (held g.P.Piece.seen) c.attempt.new.disks) next) (mask_before (map (held g.P.Piece.seen) c.args.disks.now) (map (held g.P.Piece.seen) c.again.disks) (map (held g.P.Piece.seen) c.attempt.new.disks) first next) (omega (arith, c.again.invariant.later)) _ _ _ c.again.invariant.ready c.attempt.ensures.goes c.again.invariant.touches c.attempt.ensures.touches;
+      quiet = λ quiet.
+      let count = quiet_count (map (held g.P.Piece.seen) c.args.disks.now) (map (held g.P.Piece.seen) c.attempt.new.disks) (each_map _ Fades (goes_fade (c.args.sequence.now + 1) (c.again.sequence + 1) c.args.text.now) _ _ (one_more (c.args.sequence.now + 1) c.again.sequence c.args.text.now _ _ _ (omega (arith, c.again.invariant.later)) c.again.invariant.goes c.attempt.ensures.goes)) quiet in
+      let before = ap good_count (c.again.invariant.quiet (quiet_before (map (held g.P.Piece.seen) c.args.disks.now) (map (held g.P.Piece.seen) c.again.disks) (map (held g.P.Piece.seen) c.attempt.new.disks) first next quiet)).0 in
+      absurd (omega (arith, less, count, before));
       long = c.attempt.auto.disks ∙ c.again.invariant.long;
       later = omega (arith, c.again.invariant.later);
       bound = omega (arith, less, c.again.invariant.bound);
@@ -89,3 +99,35 @@ pub returns-clause-ends : goal.returns-clause-ends
 returns-clause-ends g c =
     all_risen (c.args.sequence.now + 1) c.again.sequence c.args.text.now _ _ (each_first _ c.args.carriers _ _ c.again.invariant.goes)
     (subst (AllOf (λ (h : Held). h.good ≡ false)) (sym (take-map (held g.P.Piece.seen) c.args.carriers c.again.disks)) (c.any_good.ensures.none c.again-test.false))
+
+pub returns-in-Done-clause-recorded : goal.returns-in-Done-clause-recorded
+returns-in-Done-clause-recorded g c =
+    let first : Each Fades (map (held g.P.Piece.seen) c.args.disks.now) (map (held g.P.Piece.seen) c.again.disks) = each_map _ Fades (goes_fade (c.args.sequence.now + 1) c.again.sequence c.args.text.now) _ _ c.again.invariant.goes in
+    let next : Each Fades (map (held g.P.Piece.seen) c.again.disks) (map (held g.P.Piece.seen) c.attempt.new.disks) = each_map _ Fades (goes_fade (c.again.sequence + 1) (c.again.sequence + 1) c.args.text.now) _ _ c.attempt.ensures.goes in
+    record {
+      touches = all_on (c.args.sequence.now + 1) c.again.sequence c.args.text.now c.requires.padded.fits (IsMaskOf (map (held g.P.Piece.seen) c.args.disks.now) (map (held g.P.Piece.seen) c.again.disks)) (IsMaskOf (map (held g.P.Piece.seen) c.again.disks) (map (held g.P.Piece.seen) c.attempt.new.disks)) (IsMaskOf (map (held g.P.Piece.seen) c.args.disks.now) (map (held g.P.Piece.seen) c.attempt.new.disks)) (mask_then (map (held g.P.Piece.seen) c.args.disks.now) (map (held g.P.Piece.seen) c.again.disks) (map (held g.P.Piece.seen) c.attempt.new.disks) next) (mask_before (map (held g.P.Piece.seen) c.args.disks.now) (map (held g.P.Piece.seen) c.again.disks) (map (held g.P.Piece.seen) c.attempt.new.disks) first next) (omega (arith, c.again.invariant.later)) _ _ _ c.again.invariant.ready c.attempt.ensures.goes c.again.invariant.touches c.attempt.ensures.touches;
+      once = λ quiet. let same = (c.again.invariant.quiet (quiet_before (map (held g.P.Piece.seen) c.args.disks.now) (map (held g.P.Piece.seen) c.again.disks) (map (held g.P.Piece.seen) c.attempt.new.disks) first next quiet)).1 in omega (arith, same);
+    }
+
+pub returns-in-Cut-clause-recorded : goal.returns-in-Cut-clause-recorded
+returns-in-Cut-clause-recorded g c =
+    let first : Each Fades (map (held g.P.Piece.seen) c.args.disks.now) (map (held g.P.Piece.seen) c.again.disks) = each_map _ Fades (goes_fade (c.args.sequence.now + 1) c.again.sequence c.args.text.now) _ _ c.again.invariant.goes in
+    let next : Each Fades (map (held g.P.Piece.seen) c.again.disks) (map (held g.P.Piece.seen) c.attempt.new.disks) = each_map _ Fades (goes_fade (c.again.sequence + 1) (c.again.sequence + 1) c.args.text.now) _ _ c.attempt.ensures.goes in
+    record {
+      touches = all_on (c.args.sequence.now + 1) c.again.sequence c.args.text.now c.requires.padded.fits (IsMaskOf (map (held g.P.Piece.seen) c.args.disks.now) (map (held g.P.Piece.seen) c.again.disks)) (IsMaskOf (map (held g.P.Piece.seen) c.again.disks) (map (held g.P.Piece.seen) c.attempt.new.disks)) (IsMaskOf (map (held g.P.Piece.seen) c.args.disks.now) (map (held g.P.Piece.seen) c.attempt.new.disks)) (mask_then (map (held g.P.Piece.seen) c.args.disks.now) (map (held g.P.Piece.seen) c.again.disks) (map (held g.P.Piece.seen) c.attempt.new.disks) next) (mask_before (map (held g.P.Piece.seen) c.args.disks.now) (map (held g.P.Piece.seen) c.again.disks) (map (held g.P.Piece.seen) c.attempt.new.disks) first next) (omega (arith, c.again.invariant.later)) _ _ _ c.again.invariant.ready c.attempt.ensures.goes c.again.invariant.touches c.attempt.ensures.touches;
+      once = λ quiet. let same = (c.again.invariant.quiet (quiet_before (map (held g.P.Piece.seen) c.args.disks.now) (map (held g.P.Piece.seen) c.again.disks) (map (held g.P.Piece.seen) c.attempt.new.disks) first next quiet)).1 in omega (arith, same);
+    }
+
+pub returns-in-Done-clause-done : goal.returns-in-Done-clause-done
+returns-in-Done-clause-done g c =
+    let first : Each Fades (map (held g.P.Piece.seen) c.args.disks.now) (map (held g.P.Piece.seen) c.again.disks) = each_map _ Fades (goes_fade (c.args.sequence.now + 1) c.again.sequence c.args.text.now) _ _ c.again.invariant.goes in
+    let next : Each Fades (map (held g.P.Piece.seen) c.again.disks) (map (held g.P.Piece.seen) c.attempt.new.disks) = each_map _ Fades (goes_fade (c.again.sequence + 1) (c.again.sequence + 1) c.args.text.now) _ _ c.attempt.ensures.goes in
+    let done = c.attempt.ensures.done c.in-Done.is in
+    record {
+      some = (returns-in-Done-clause-ends g c).2;
+      current = done.1;
+      exact = λ quiet. subst (λ hs. Each (WritesOnce 0 c.args.text.now) hs (map (held g.P.Piece.seen) c.attempt.new.disks)) (c.again.invariant.quiet (quiet_before (map (held g.P.Piece.seen) c.args.disks.now) (map (held g.P.Piece.seen) c.again.disks) (map (held g.P.Piece.seen) c.attempt.new.disks) first next quiet)).0 done.0;
+    }
+
+pub returns-clause-recorded : goal.returns-clause-recorded
+returns-clause-recorded g c = record { touches = c.again.invariant.touches; once = λ quiet. let same = (c.again.invariant.quiet quiet).1 in omega (arith, same) }

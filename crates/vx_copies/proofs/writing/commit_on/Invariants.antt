@@ -3,6 +3,7 @@ use Rattle.vx_base.specs.Named.{Word}
 use Rattle.vx_copies.specs.Lists.{Each, AllOf}
 use Rattle.vx_copies.specs.Disks.{held, Goes, IsReady, good_count}
 use Rattle.vx_copies.specs.Chain.{Copy, IsSound}
+use Rattle.vx_copies.specs.Written.{Touches, IsMaskOf, IsQuiet}
 use Rattle.vx_copies.proofs.writing.commit_on.Given as goal
 
 abbrev pub invariant-again : goal.invariant-again
@@ -13,6 +14,8 @@ invariant-again g l = record {
   bound : l.sequence + good_count (map (held g.P.Piece.seen) l.disks) ≤ l.fn.sequence + 32;
   ready : AllOf IsReady (map (held g.P.Piece.seen) l.disks);
   goes : Each (Goes (l.fn.sequence + 1) l.sequence l.text) (map (held g.P.Piece.seen) l.fn.disks) (map (held g.P.Piece.seen) l.disks);
+  touches : Each (Touches (l.fn.sequence + 1) l.sequence l.text (IsMaskOf (map (held g.P.Piece.seen) l.fn.disks) (map (held g.P.Piece.seen) l.disks))) (map (held g.P.Piece.seen) l.fn.disks) (map (held g.P.Piece.seen) l.disks);
+  quiet : Each IsQuiet (map (held g.P.Piece.seen) l.fn.disks) (map (held g.P.Piece.seen) l.disks) → (map (held g.P.Piece.seen) l.disks ≡ map (held g.P.Piece.seen) l.fn.disks) × (l.sequence ≡ l.fn.sequence);
   sound : (group : Word) (others : List Copy) → IsSound group others l.fn.sequence l.carriers (map (held g.P.Piece.seen) l.fn.disks) → IsSound group others l.sequence l.carriers (map (held g.P.Piece.seen) l.disks);
 }
 

@@ -218,13 +218,29 @@ pub each_refl : {X : Type 0} (R : X → X → Type 0) → ((a : X) → R a a) �
 each_refl R one [] = tt
 each_refl R one (h ∷ hs) = (one h, each_refl R one hs)
 
+pub each_then : {X : Type 0} (R S T : X → X → Type 0) → ((a b c : X) → R a b → S b c → T a c) → (hs bs cs : List X) → Each R hs bs → Each S bs cs → Each T hs cs
+each_then R S T one [] [] [] p q = tt
+each_then R S T one [] [] (c ∷ cs) p q = absurd q
+each_then R S T one [] (b ∷ bs) cs p q = absurd p
+each_then R S T one (a ∷ hs) [] cs p q = absurd p
+each_then R S T one (a ∷ hs) (b ∷ bs) [] p q = absurd q
+each_then R S T one (a ∷ hs) (b ∷ bs) (c ∷ cs) p q = (one a b c p.0 q.0, each_then R S T one hs bs cs p.1 q.1)
+
 pub each_trans : {X : Type 0} (R : X → X → Type 0) → ((a b c : X) → R a b → R b c → R a c) → (hs bs cs : List X) → Each R hs bs → Each R bs cs → Each R hs cs
-each_trans R one [] [] [] p q = tt
-each_trans R one [] [] (c ∷ cs) p q = absurd q
-each_trans R one [] (b ∷ bs) cs p q = absurd p
-each_trans R one (a ∷ hs) [] cs p q = absurd p
-each_trans R one (a ∷ hs) (b ∷ bs) [] p q = absurd q
-each_trans R one (a ∷ hs) (b ∷ bs) (c ∷ cs) p q = (one a b c p.0 q.0, each_trans R one hs bs cs p.1 q.1)
+each_trans R one hs bs cs p q = each_then R R R one hs bs cs p q
+
+-- two of them together, and with what holds of the first
+pub each_both : {X : Type 0} (R S : X → X → Type 0) → (hs bs : List X) → Each R hs bs → Each S hs bs → Each (λ a b. R a b × S a b) hs bs
+each_both R S [] [] p q = tt
+each_both R S [] (b ∷ bs) p q = absurd p
+each_both R S (a ∷ hs) [] p q = absurd p
+each_both R S (a ∷ hs) (b ∷ bs) p q = ((p.0, q.0), each_both R S hs bs p.1 q.1)
+
+pub each_from : {X : Type 0} (Q : X → Type 0) (R : X → X → Type 0) → (hs bs : List X) → AllOf Q hs → Each R hs bs → Each (λ a b. Q a × R a b) hs bs
+each_from Q R [] [] q p = tt
+each_from Q R [] (b ∷ bs) q p = absurd p
+each_from Q R (a ∷ hs) [] q p = absurd p
+each_from Q R (a ∷ hs) (b ∷ bs) q p = ((q.0, p.0), each_from Q R hs bs q.1 p.1)
 
 pub each_map : {X : Type 0} (R S : X → X → Type 0) → ((a b : X) → R a b → S a b) → (hs bs : List X) → Each R hs bs → Each S hs bs
 each_map R S one [] [] is = tt

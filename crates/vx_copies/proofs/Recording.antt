@@ -6,9 +6,10 @@ use Rattle.vx_mask.specs.Mask.{has}
 use Rattle.vx_piece.specs.Seen.{Seen, Keeps}
 use Rattle.vx_copies.specs.Lists.{Each, AllOf}
 use Rattle.vx_copies.specs.Disks.{Held, Drops, Goes, good_count, is_good_slot}
-use Rattle.vx_copies.specs.Written.{Touches, IsMaskOf, IsQuiet, CarriesIfGood, WritesOnce}
+use Rattle.vx_copies.specs.Written.{Touches, IsMaskOf, IsQuiet, CarriesIfGood, sectors_of, WritesJust}
 use Rattle.vx_copies.specs.Steps.{HalfPut, HalfDone, TogglePut, ToggleDone}
 use Rattle.vx_copies.proofs.Touching.{half_touches, both_touch, writes_once, carries}
+use Rattle.vx_copies.proofs.Going.{each_then, each_map, each_both, each_from}
 use Rattle.vx_copies.proofs.Placed.{same_count}
 
 -- a disk keeps its slot, and is dropped by a fault alone
@@ -47,42 +48,23 @@ slot_was slot (a ∷ hs) (b ∷ bs) fades is = and_or a.good b.good (is_good_slo
 abbrev Lacks : ℕ → Held → Held → Type 0
 Lacks m a b = IsTrue a.good → has m a.slot ≡ false → Rose a.seen.faults b.seen.faults
 
-lacks_first : (m : ℕ) (fs hs bs : List Held) → Each Fades fs hs → Each (Lacks m) hs bs → Each Fades hs bs → Each (Lacks m) fs bs
-lacks_first m [] [] [] p q r = tt
-lacks_first m [] [] (c ∷ bs) p q r = absurd q
-lacks_first m [] (b ∷ hs) bs p q r = absurd p
-lacks_first m (a ∷ fs) [] bs p q r = absurd p
-lacks_first m (a ∷ fs) (b ∷ hs) [] p q r = absurd q
-lacks_first m (a ∷ fs) (b ∷ hs) (c ∷ bs) p q r = (λ good out. by a.good b.good p.0.good good refl out, lacks_first m fs hs bs p.1 q.1 r.1)
+lacks_one : (m : ℕ) (a b c : Held) → Fades a b → Lacks m b c × Fades b c → Lacks m a c
+lacks_one m a b c p q good out = by a.good b.good p.good good refl
   where
-    by : (x y : Bool) → Drops x y a.seen b.seen → IsTrue x → b.good ≡ y → has m a.slot ≡ false → Rose a.seen.faults c.seen.faults
-    by true true d is e out = rose_before a.seen.faults b.seen.faults c.seen.faults (let k = p.0.kept.faults in k) (q.0 e (ap (has m) p.0.slot ∙ out))
-    by true false d is e out = rose_later a.seen.faults b.seen.faults c.seen.faults (let k = r.0.kept.faults in k) d
-    by false y d is e out = cc
-
-lacks_then : (m : ℕ) (fs hs bs : List Held) → Each (Lacks m) fs hs → Each Fades hs bs → Each (Lacks m) fs bs
-lacks_then m [] [] [] p q = tt
-lacks_then m [] [] (c ∷ bs) p q = absurd q
-lacks_then m [] (b ∷ hs) bs p q = absurd p
-lacks_then m (a ∷ fs) [] bs p q = absurd p
-lacks_then m (a ∷ fs) (b ∷ hs) [] p q = absurd q
-lacks_then m (a ∷ fs) (b ∷ hs) (c ∷ bs) p q = (λ good out. rose_later a.seen.faults b.seen.faults c.seen.faults (let k = q.0.kept.faults in k) (p.0 good out), lacks_then m fs hs bs p.1 q.1)
+    by : (x y : Bool) → Drops x y a.seen b.seen → IsTrue x → b.good ≡ y → Rose a.seen.faults c.seen.faults
+    by true true d is e = rose_before a.seen.faults b.seen.faults c.seen.faults (let k = p.kept.faults in k) (q.0 e (ap (has m) p.slot ∙ out))
+    by true false d is e = rose_later a.seen.faults b.seen.faults c.seen.faults (let k = q.1.kept.faults in k) d
+    by false y d is e = cc
 
 -- the mask of an attempt is one of the whole call
 pub mask_before : (fs hs bs : List Held) → Each Fades fs hs → Each Fades hs bs → (m : ℕ) → IsMaskOf hs bs m → IsMaskOf fs bs m
-mask_before fs hs bs p q m is = record { good = λ slot e. slot_was slot fs hs p (is.good slot e); lacks = lacks_first m fs hs bs p is.lacks q }
+mask_before fs hs bs p q m is = record { good = λ slot e. slot_was slot fs hs p (is.good slot e); lacks = each_then Fades (λ b c. Lacks m b c × Fades b c) (Lacks m) (lacks_one m) fs hs bs p (each_both (Lacks m) Fades hs bs is.lacks q) }
 
 pub mask_then : (fs hs bs : List Held) → Each Fades hs bs → (m : ℕ) → IsMaskOf fs hs m → IsMaskOf fs bs m
-mask_then fs hs bs q m is = record { good = is.good; lacks = lacks_then m fs hs bs is.lacks q }
-
-named_lacks : (m : ℕ) (hs bs : List Held) → Each Fades hs bs → AllOf (λ h. IsTrue h.good → has m h.slot ≡ true) hs → Each (Lacks m) hs bs
-named_lacks m [] [] fades named = tt
-named_lacks m [] (b ∷ bs) fades named = absurd fades
-named_lacks m (a ∷ hs) [] fades named = absurd fades
-named_lacks m (a ∷ hs) (b ∷ bs) fades named = (λ good out. let is = named.0 good in cc, named_lacks m hs bs fades.1 named.1)
+mask_then fs hs bs q m is = record { good = is.good; lacks = each_then (Lacks m) Fades (Lacks m) (λ a b c lacks fades good out. rose_later a.seen.faults b.seen.faults c.seen.faults (let k = fades.kept.faults in k) (lacks good out)) fs hs bs is.lacks q }
 
 pub mask_of : (m : ℕ) (hs bs : List Held) → Each Fades hs bs → ((slot : ℕ) → has m slot ≡ is_good_slot slot hs) → AllOf (λ h. IsTrue h.good → has m h.slot ≡ true) hs → IsMaskOf hs bs m
-mask_of m hs bs fades names named = record { good = λ slot is. sym (names slot) ∙ is; lacks = named_lacks m hs bs fades named }
+mask_of m hs bs fades names named = record { good = λ slot is. sym (names slot) ∙ is; lacks = each_map _ (Lacks m) (λ a b is good out. let there = is.0 good in cc) hs bs (each_from _ Fades hs bs named fades) }
 
 -- where no count rose to the end, none rose before
 pub quiet_before : (fs hs bs : List Held) → Each Fades fs hs → Each Fades hs bs → Each IsQuiet fs bs → Each IsQuiet fs hs
@@ -94,44 +76,28 @@ quiet_before (a ∷ fs) (b ∷ hs) [] p q r = absurd q
 quiet_before (a ∷ fs) (b ∷ hs) (c ∷ bs) p q r = (λ rose. r.0 (rose_later a.seen.faults b.seen.faults c.seen.faults (let k = q.0.kept.faults in k) rose), quiet_before fs hs bs p.1 q.1 r.1)
 
 -- and no disk was dropped
-quiet_good : (fs bs : List Held) → Each Fades fs bs → Each IsQuiet fs bs → Each (λ a b. b.good ≡ a.good) fs bs
-quiet_good [] [] p q = tt
-quiet_good [] (b ∷ bs) p q = absurd p
-quiet_good (a ∷ fs) [] p q = absurd p
-quiet_good (a ∷ fs) (b ∷ bs) p q = (by a.good b.good p.0.good, quiet_good fs bs p.1 q.1)
+quiet_one : (a b : Held) → Fades a b × IsQuiet a b → b.good ≡ a.good
+quiet_one a b is = by a.good b.good is.0.good
   where
     by : (x y : Bool) → Drops x y a.seen b.seen → y ≡ x
     by true true d = refl
     by false false d = refl
-    by true false d = absurd (q.0 d)
+    by true false d = absurd (is.1 d)
     by false true d = cc
 
 pub quiet_count : (fs bs : List Held) → Each Fades fs bs → Each IsQuiet fs bs → good_count bs ≡ good_count fs
-quiet_count fs bs p q = same_count fs bs (quiet_good fs bs p q)
+quiet_count fs bs p q = same_count fs bs (each_map _ (λ a b. b.good ≡ a.good) quiet_one fs bs (each_both Fades IsQuiet fs bs p q))
 
 -- all disks of an attempt
 pub all_half_touch : (s : ℕ) (text : List ℕ) (M : ℕ → Type 0) (hs bs : List Held) → Each (HalfPut text) hs bs → Each (Touches s s text M) hs bs
-all_half_touch s text M [] [] p = tt
-all_half_touch s text M [] (b ∷ bs) p = absurd p
-all_half_touch s text M (a ∷ hs) [] p = absurd p
-all_half_touch s text M (a ∷ hs) (b ∷ bs) p = (half_touches s text M a b p.0, all_half_touch s text M hs bs p.1)
+all_half_touch s text M hs bs p = each_map (HalfPut text) (Touches s s text M) (half_touches s text M) hs bs p
 
 module _ (s : ℕ) (text : List ℕ) (M : ℕ → Type 0) (m : ℕ) (is_mask : M m) (fits : length text ≤ 522240) where
   pub all_touch : (hs ms bs : List Held) → Each (HalfDone text) hs ms → Each (TogglePut s m text) ms bs → Each (Touches s s text M) hs bs
-  all_touch [] [] [] p q = tt
-  all_touch [] [] (c ∷ bs) p q = absurd q
-  all_touch [] (b ∷ ms) bs p q = absurd p
-  all_touch (a ∷ hs) [] bs p q = absurd p
-  all_touch (a ∷ hs) (b ∷ ms) [] p q = absurd q
-  all_touch (a ∷ hs) (b ∷ ms) (c ∷ bs) p q = (both_touch s text M m is_mask fits a b c p.0 q.0, all_touch hs ms bs p.1 q.1)
+  all_touch hs ms bs p q = each_then (HalfDone text) (TogglePut s m text) (Touches s s text M) (both_touch s text M m is_mask fits) hs ms bs p q
 
-  pub all_once : (hs ms bs : List Held) → Each (HalfDone text) hs ms → Each (ToggleDone s m text) ms bs → Each (WritesOnce 0 text) hs bs
-  all_once [] [] [] p q = tt
-  all_once [] [] (c ∷ bs) p q = absurd q
-  all_once [] (b ∷ ms) bs p q = absurd p
-  all_once (a ∷ hs) [] bs p q = absurd p
-  all_once (a ∷ hs) (b ∷ ms) [] p q = absurd q
-  all_once (a ∷ hs) (b ∷ ms) (c ∷ bs) p q = (writes_once s text M m is_mask fits a b c p.0 q.0, all_once hs ms bs p.1 q.1)
+  pub all_once : (hs ms bs : List Held) → Each (HalfDone text) hs ms → Each (ToggleDone s m text) ms bs → Each (WritesJust (sectors_of text)) hs bs
+  all_once hs ms bs p q = each_then (HalfDone text) (ToggleDone s m text) (WritesJust (sectors_of text)) (writes_once s text M m is_mask fits) hs ms bs p q
 
   pub all_carry : (hs ms bs : List Held) → Each (HalfDone text) hs ms → Each (ToggleDone s m text) ms bs → AllOf (CarriesIfGood s m text) bs
   all_carry [] [] [] p q = tt

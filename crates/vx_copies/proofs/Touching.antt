@@ -8,9 +8,9 @@ use Rattle.vx_piece.specs.Seen.{Seen}
 use Rattle.vx_copies.specs.Lists.{Each, AllOf}
 use Rattle.vx_copies.specs.Image.{half_start, sectors_for, toggle_at}
 use Rattle.vx_copies.specs.Disks.{Held, NamesHalf, IsReady, Goes, Drops}
-use Rattle.vx_copies.specs.Written.{BothTell, Holds, HalfStays, OldOrText, IsTurned, NotTurned, TurnedOnce, TurnedAgain, Turns, Touches, sectors_of, IsCurrent, CarriesIfGood, WritesOnce}
+use Rattle.vx_copies.specs.Written.{BothTell, Holds, HalfStays, OldOrText, IsTurned, NotTurned, TurnedOnce, TurnedAgain, Turns, Touches, sectors_of, IsCurrent, CarriesIfGood, WritesJust}
 use Rattle.vx_copies.specs.Steps.{HalfLeaves, HalfPut, HalfDone, Says, ToggleLeaves, TogglePut, ToggleDone}
-use Rattle.vx_copies.proofs.Going.{same_toggle}
+use Rattle.vx_copies.proofs.Going.{same_toggle, each_then, each_both, each_from}
 use Rattle.vx_copies.proofs.Halves.{few_sectors, blocks_same}
 use Rattle.vx_copies.proofs.Only.{only_refl, only_trans, tell_refl, tell_trans, tell_map}
 use Rattle.vx_copies.proofs.Counted.{more_calls}
@@ -116,7 +116,7 @@ module _ (s : ℕ) (text : List ℕ) (M : ℕ → Type 0) where
       was_good good = sym half.good ∙ sym done.good ∙ good
 
       -- one that is done
-      pub writes_once : WritesOnce 0 text a b
+      pub writes_once : WritesJust (sectors_of text) a b
       writes_once good =
           let first = half.writes (was_good good) in
           let second = done.writes (sym done.good ∙ good) in
@@ -207,9 +207,6 @@ module _ (f l : ℕ) (text : List ℕ) (fits : length text ≤ 522240) (M N K : 
     }
 
   pub all_on : (hs ms bs : List Held) → AllOf IsReady ms → Each (Goes (l + 1) (l + 1) text) ms bs → Each (Touches f l text M) hs ms → Each (Touches (l + 1) (l + 1) text N) ms bs → Each (Touches f (l + 1) text K) hs bs
-  all_on [] [] [] ready goes p q = tt
-  all_on [] [] (c ∷ bs) ready goes p q = absurd q
-  all_on [] (b ∷ ms) bs ready goes p q = absurd p
-  all_on (a ∷ hs) [] bs ready goes p q = absurd p
-  all_on (a ∷ hs) (b ∷ ms) [] ready goes p q = absurd q
-  all_on (a ∷ hs) (b ∷ ms) (c ∷ bs) ready goes p q = (touches_on a b c ready.0 goes.0 p.0 q.0, all_on hs ms bs ready.1 goes.1 p.1 q.1)
+  all_on hs ms bs ready goes p q =
+      each_then (Touches f l text M) (λ b c. IsReady b × (Goes (l + 1) (l + 1) text b c × Touches (l + 1) (l + 1) text N b c)) (Touches f (l + 1) text K) (λ a b c first next. touches_on a b c next.0 next.1.0 first next.1.1) hs ms bs p
+      (each_from IsReady _ ms bs ready (each_both _ _ ms bs goes q))

@@ -94,12 +94,11 @@ pub record IsCurrent (sequence mask : ℕ) (text : List ℕ) (half : ℕ) (conte
 abbrev pub CarriesIfGood : ℕ → ℕ → List ℕ → Held → Type 0
 CarriesIfGood sequence mask text h = IsTrue h.good → MatchOption h.seen.told (Unit {0}) (IsCurrent sequence mask text h.half)
 
--- where it is good, so many sectors were handed to it besides the text and the toggle, and each of them once
-abbrev pub WritesOnce : ℕ → List ℕ → Held → Held → Type 0
-WritesOnce besides text old new = IsTrue new.good → new.seen.writes ≡ later_count old.seen.writes (besides + sectors_of text)
+-- where it is good, just so many sectors were handed to it
+abbrev pub WritesJust : ℕ → Held → Held → Type 0
+WritesJust n old new = IsTrue new.good → new.seen.writes ≡ later_count old.seen.writes n
 
 -- what a commit that is done leaves: a good disk among the carriers, and on each good disk the newest toggle and the text
-pub record IsDone (carriers sequence : ℕ) (text : List ℕ) (old new : List Held) : Type 0 where
+pub record IsDone (carriers sequence : ℕ) (text : List ℕ) (new : List Held) : Type 0 where
   pub some : 0 < good_count (take carriers new)
   pub current : AllOf (CarriesIfGood sequence (good_mask new) text) new
-  pub exact : Each IsQuiet old new → Each (WritesOnce 0 text) old new

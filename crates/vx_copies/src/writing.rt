@@ -7,7 +7,7 @@ ghost use Rattle.vx_copies.specs.Config.{GivesOldOrNew, GivesNew, IsOlder};
 ghost use Rattle.vx_copies.specs.Chain.{Copy, IsSound};
 ghost use Rattle.vx_copies.specs.Commit.{AttemptEnds, CommitEnds};
 ghost use Rattle.vx_copies.specs.Pass.{IsPadded};
-ghost use Rattle.vx_copies.specs.Written.{Touches, IsMaskOf, CarriesIfGood, WritesOnce, Recorded, IsDone};
+ghost use Rattle.vx_copies.specs.Written.{Touches, IsMaskOf, CarriesIfGood, IsQuiet, sectors_of, WritesJust, Recorded, IsDone};
 
 use crate::Disk;
 use crate::disk::Pass;
@@ -70,7 +70,7 @@ fn attempt<P: Piece>(
     ensures all { (group : Word) (others : List Copy) (last carriers : ℕ) → last < sequence → 0 < good_count (take carriers (map (held P.seen) disks.old)) → IsSound group others last carriers (map (held P.seen) disks.old) → result ≡ Pass.Done → IsSound group others sequence (length disks.old) (map (held P.seen) disks.new) }
     ensures ends { AttemptEnds result sequence text.now (map (held P.seen) disks.old) (map (held P.seen) disks.new) }
     ensures touches { Each (Touches sequence sequence text.now (IsMaskOf (map (held P.seen) disks.old) (map (held P.seen) disks.new))) (map (held P.seen) disks.old) (map (held P.seen) disks.new) }
-    ensures done { result ≡ Pass.Done → Each (WritesOnce 0 text.now) (map (held P.seen) disks.old) (map (held P.seen) disks.new) × AllOf (CarriesIfGood sequence (good_mask (map (held P.seen) disks.new)) text.now) (map (held P.seen) disks.new) }
+    ensures done { result ≡ Pass.Done → Each (WritesJust (sectors_of text.now)) (map (held P.seen) disks.old) (map (held P.seen) disks.new) × AllOf (CarriesIfGood sequence (good_mask (map (held P.seen) disks.new)) text.now) (map (held P.seen) disks.new) }
 {
     let mask = good_slots(disks);
     match put_halves(disks, text, padded) {
@@ -103,7 +103,8 @@ fn commit_on<P: Piece>(
     ensures more { sequence.old ≤ sequence.new }
     ensures next { OnOk result (sequence.old < sequence.new) }
     ensures recorded { Recorded (sequence.old + 1) sequence.new text.now (map (held P.seen) disks.old) (map (held P.seen) disks.new) }
-    ensures done { OnOk result (IsDone carriers sequence.new text.now (map (held P.seen) disks.old) (map (held P.seen) disks.new)) }
+    ensures done { OnOk result (IsDone carriers sequence.new text.now (map (held P.seen) disks.new)) }
+    ensures exact { OnOk result (Each IsQuiet (map (held P.seen) disks.old) (map (held P.seen) disks.new) → Each (WritesJust (sectors_of text.now)) (map (held P.seen) disks.old) (map (held P.seen) disks.new)) }
     ensures few { sequence.new ≤ sequence.old + 32 }
 {
     'again: while any_good(&disks[..carriers]) {
@@ -143,7 +144,8 @@ pub fn commit<P: Piece>(
     ensures all { OnOk result ((group : Word) (others : List Copy) → IsSound group others sequence.old carriers (map (held P.seen) disks.old) → IsSound group others sequence.new (length disks.old) (map (held P.seen) disks.new)) }
     ensures more { sequence.old ≤ sequence.new }
     ensures recorded { Recorded (sequence.old + 1) sequence.new text.now (map (held P.seen) disks.old) (map (held P.seen) disks.new) }
-    ensures done { OnOk result (IsDone carriers sequence.new text.now (map (held P.seen) disks.old) (map (held P.seen) disks.new)) }
+    ensures done { OnOk result (IsDone carriers sequence.new text.now (map (held P.seen) disks.new)) }
+    ensures exact { OnOk result (Each IsQuiet (map (held P.seen) disks.old) (map (held P.seen) disks.new) → Each (WritesJust (sectors_of text.now)) (map (held P.seen) disks.old) (map (held P.seen) disks.new)) }
     ensures few { sequence.new ≤ sequence.old + 32 }
 {
     commit_on(disks, carriers, sequence, text, padded, sector)

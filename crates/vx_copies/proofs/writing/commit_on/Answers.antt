@@ -6,7 +6,7 @@ use Rattle.vx_copies.specs.Commit.{AttemptEnds}
 use Rattle.vx_copies.specs.declared.disk.Pass.TheVariants.{Done, Dropped}
 use Rattle.vx_copies.proofs.Going.{each_refl, each_map, all_refl, all_risen, each_first}
 use Rattle.vx_copies.proofs.Placed.{count_first, same_count}
-use Rattle.vx_copies.specs.Written.{IsMaskOf, WritesOnce}
+use Rattle.vx_copies.specs.Written.{IsMaskOf, sectors_of, WritesJust}
 use Rattle.vx_copies.proofs.Touching.{touches_none, all_on}
 use Rattle.vx_copies.proofs.Recording.{Fades, goes_fade, mask_then, mask_before, quiet_before, quiet_count}
 use Rattle.vx_copies.proofs.Chosen.{below_all}
@@ -84,9 +84,9 @@ again-preserved g c =
       size = c.attempt.ensures.size;
       touches = all_on (c.args.sequence.now + 1) c.again.sequence c.args.text.now c.requires.padded.fits (IsMaskOf (map (held g.P.Piece.seen) c.args.disks.now) (map (held g.P.Piece.seen) c.again.disks)) (IsMaskOf (map (held g.P.Piece.seen) c.again.disks) (map (held g.P.Piece.seen) c.attempt.new.disks)) (IsMaskOf (map (held g.P.Piece.seen) c.args.disks.now) (map (held g.P.Piece.seen) c.attempt.new.disks)) (mask_then (map (held g.P.Piece.seen) c.args.disks.now) (map (held g.P.Piece.seen) c.again.disks) (map (held g.P.Piece.seen) c.attempt.new.disks) next) (mask_before (map (held g.P.Piece.seen) c.args.disks.now) (map (held g.P.Piece.seen) c.again.disks) (map (held g.P.Piece.seen) c.attempt.new.disks) first next) (omega (arith, c.again.invariant.later)) _ _ _ c.again.invariant.ready c.attempt.ensures.goes c.again.invariant.touches c.attempt.ensures.touches;
       quiet = λ quiet.
-      let count = quiet_count (map (held g.P.Piece.seen) c.args.disks.now) (map (held g.P.Piece.seen) c.attempt.new.disks) (each_map _ Fades (goes_fade (c.args.sequence.now + 1) (c.again.sequence + 1) c.args.text.now) _ _ (one_more (c.args.sequence.now + 1) c.again.sequence c.args.text.now _ _ _ (omega (arith, c.again.invariant.later)) c.again.invariant.goes c.attempt.ensures.goes)) quiet in
-      let before = ap good_count (c.again.invariant.quiet (quiet_before (map (held g.P.Piece.seen) c.args.disks.now) (map (held g.P.Piece.seen) c.again.disks) (map (held g.P.Piece.seen) c.attempt.new.disks) first next quiet)).0 in
-      absurd (omega (arith, less, count, before));
+          let count = quiet_count (map (held g.P.Piece.seen) c.args.disks.now) (map (held g.P.Piece.seen) c.attempt.new.disks) (each_map _ Fades (goes_fade (c.args.sequence.now + 1) (c.again.sequence + 1) c.args.text.now) _ _ (one_more (c.args.sequence.now + 1) c.again.sequence c.args.text.now _ _ _ (omega (arith, c.again.invariant.later)) c.again.invariant.goes c.attempt.ensures.goes)) quiet in
+          let before = ap good_count (c.again.invariant.quiet (quiet_before (map (held g.P.Piece.seen) c.args.disks.now) (map (held g.P.Piece.seen) c.again.disks) (map (held g.P.Piece.seen) c.attempt.new.disks) first next quiet)).0 in
+          absurd (omega (arith, less, count, before));
       long = c.attempt.auto.disks ∙ c.again.invariant.long;
       later = omega (arith, c.again.invariant.later);
       bound = omega (arith, less, c.again.invariant.bound);
@@ -119,15 +119,14 @@ returns-in-Cut-clause-recorded g c =
     }
 
 pub returns-in-Done-clause-done : goal.returns-in-Done-clause-done
-returns-in-Done-clause-done g c =
+returns-in-Done-clause-done g c = record { some = (returns-in-Done-clause-ends g c).2; current = (c.attempt.ensures.done c.in-Done.is).1 }
+
+pub returns-in-Done-clause-exact : goal.returns-in-Done-clause-exact
+returns-in-Done-clause-exact g c =
     let first : Each Fades (map (held g.P.Piece.seen) c.args.disks.now) (map (held g.P.Piece.seen) c.again.disks) = each_map _ Fades (goes_fade (c.args.sequence.now + 1) c.again.sequence c.args.text.now) _ _ c.again.invariant.goes in
     let next : Each Fades (map (held g.P.Piece.seen) c.again.disks) (map (held g.P.Piece.seen) c.attempt.new.disks) = each_map _ Fades (goes_fade (c.again.sequence + 1) (c.again.sequence + 1) c.args.text.now) _ _ c.attempt.ensures.goes in
     let done = c.attempt.ensures.done c.in-Done.is in
-    record {
-      some = (returns-in-Done-clause-ends g c).2;
-      current = done.1;
-      exact = λ quiet. subst (λ hs. Each (WritesOnce 0 c.args.text.now) hs (map (held g.P.Piece.seen) c.attempt.new.disks)) (c.again.invariant.quiet (quiet_before (map (held g.P.Piece.seen) c.args.disks.now) (map (held g.P.Piece.seen) c.again.disks) (map (held g.P.Piece.seen) c.attempt.new.disks) first next quiet)).0 done.0;
-    }
+    λ quiet. subst (λ hs. Each (WritesJust (sectors_of c.args.text.now)) hs (map (held g.P.Piece.seen) c.attempt.new.disks)) (c.again.invariant.quiet (quiet_before (map (held g.P.Piece.seen) c.args.disks.now) (map (held g.P.Piece.seen) c.again.disks) (map (held g.P.Piece.seen) c.attempt.new.disks) first next quiet)).0 done.0
 
 pub returns-clause-recorded : goal.returns-clause-recorded
 returns-clause-recorded g c = record { touches = c.again.invariant.touches; once = λ quiet. let same = (c.again.invariant.quiet quiet).1 in omega (arith, same) }

@@ -1,6 +1,6 @@
 -- What the writing of a first toggle and of a header does to what a device offers.
 use Rattle.std.proofs.Common.{◌≡◌, ◌⊎◌, ℕ, zero, suc, ◌-◌, ◌*◌, ◌<◌, Bool, true, false, List, [], ◌∷◌, length, map, take, drop, set, get_or, Option, Some, None, Result, Ok, Err, refl, sym, ap, ◌∙◌, subst, arith, inl, inr}
-use Rattle.std.specs.Prelude.{MatchOption}
+use Rattle.std.specs.Prelude.{◌+◌, ◌≤◌, IsTrue, MatchOption}
 use Rattle.std.proofs.lemmas.Bool.{cases_order}
 use Rattle.std.proofs.lemmas.List.{take_all}
 use Rattle.vx_base.specs.Blocks.{Contents, block_at, written, IsTorn}
@@ -10,15 +10,20 @@ use Rattle.vx_header.specs.Named.{Label, header_of}
 use Rattle.vx_header.specs.Said.{toggle_of}
 use Rattle.vx_header.proofs.Saying.{zeros_say}
 use Rattle.vx_sector.specs.Fields.{zeros}
-use Rattle.vx_piece.specs.Seen.{Seen, Writes}
+use Rattle.vx_base.specs.Counts.{later_count}
+use Rattle.vx_piece.specs.declared.piece.PieceFault.{PieceFault}
+use Rattle.vx_piece.specs.Seen.{Seen, Writes, IsWritten, IsOff}
 use Rattle.vx_copies.specs.Lists.{AllOf}
 use Rattle.vx_copies.specs.Disks.{Held, held, NamesHalf, RestStays}
 use Rattle.vx_copies.specs.declared.disk.Disk.{Disk}
 use Rattle.vx_copies.specs.Image.{toggle_at, offer_by, offer_of, offer_if, names_group, offer_in}
+use Rattle.vx_copies.specs.Written.{BothTell, WritesJust}
+use Rattle.vx_copies.proofs.Only.{tell_refl, tell_trans}
+use Rattle.vx_copies.proofs.Counted.{one_block, most_writes, just_writes, ok_not_cut}
 use Rattle.vx_copies.proofs.InGroup.{told_none}
 use Rattle.vx_copies.proofs.Halves.{torn_out, written_torn}
 use Rattle.vx_copies.proofs.Going.{keeps_trans, keeps_refl, drops_trans, drops_refl, rest_refl, rest_trans}
-use Rattle.vx_confdb.specs.Prepare.{IsFresh, IsBlank, Says, Begins, Prepares, AreJoined, label_in}
+use Rattle.vx_confdb.specs.Prepare.{IsFresh, IsBlank, Says, Begins, OnlyFront, Fronts, Prepares, AreJoined, label_in}
 use Rattle.vx_confdb.specs.declared.joining.Prepared.{Prepared}
 use Rattle.vx_confdb.proofs.Grouped.{same_label}
 
@@ -117,6 +122,42 @@ module _ (sector : List ℕ) (size : length sector ≡ 512) where
   header_named label (Some c) None result u says is writes = absurd writes
   header_named label (Some c) (Some d) (Ok v) u says is writes = ap header_of (writes 0 ∙ there 0 c) ∙ says
   header_named label (Some c) (Some d) (Err e) u says is writes = cc
+
+  pub front_only : {T E : Type 0} (at : ℕ) → at < 2 → (told after : Option Contents) (result : Result T E) → Writes at sector told after result → BothTell OnlyFront told after
+  front_only at lt None None result writes = tt
+  front_only at lt None (Some d) result writes = absurd writes
+  front_only at lt (Some c) None result writes = absurd writes
+  front_only at lt (Some c) (Some d) (Ok u) writes = λ k le. beside at c d (written_torn at sector c d writes) k (inr (omega (arith, lt, le)))
+  front_only at lt (Some c) (Some d) (Err e) writes = λ k le. beside at c d writes k (inr (omega (arith, lt, le)))
+
+-- one write of a sector in front, and one after another
+pub front_write : {T E : Type 0} (sector : List ℕ) (at : ℕ) (a b : Held) (result : Result T E) → length sector ≡ 512 → at < 2 → IsWritten at sector a.seen b.seen result → Fronts 1 a b
+front_write sector at a b result size lt is = record { only = front_only sector size at lt a.seen.told b.seen.told result is.told; reads = is.reads; writes = most_writes a.seen.cut a.seen.writes b.seen.writes sector 1 (one_block sector size) is.writes }
+
+pub front_just : {T : Type 0} (sector : List ℕ) (at : ℕ) (a b : Held) (result : Result T PieceFault) (u : T) → length sector ≡ 512 → result ≡ Ok u → (IsTrue a.seen.cut → IsOff a.seen b.seen result) → IsWritten at sector a.seen b.seen result → b.seen.writes ≡ later_count a.seen.writes 1
+front_just sector at a b result u size ok off is = just_writes a.seen.cut a.seen.writes b.seen.writes sector 1 (one_block sector size) (ok_not_cut a.seen b.seen result u ok off) is.writes
+
+pub front_more : (m n : ℕ) (a b : Held) → m ≤ n → Fronts m a b → Fronts n a b
+front_more m n a b le p = record { only = p.only; reads = p.reads; writes = let w = p.writes in omega (arith, w, le) }
+
+pub front_then : (a b c : Held) → Fronts 1 a b → Fronts 1 b c → Fronts 2 a c
+front_then a b c p q = record {
+  only = tell_trans OnlyFront OnlyFront OnlyFront (λ x y z f g k le. g k le ∙ f k le) a.seen.told b.seen.told c.seen.told p.only q.only;
+  reads = q.reads ∙ p.reads;
+  writes = let v = p.writes in let w = q.writes in omega (arith, v, w);
+}
+
+pub front_none : (n : ℕ) (a : Held) → Fronts n a a
+front_none n a = record { only = tell_refl OnlyFront (λ c k le. refl) a.seen.told; reads = refl; writes = omega arith }
+
+abbrev pub FrontsJust : Held → Held → Type 0
+FrontsJust a b = Fronts 2 a b × WritesJust 2 a b
+
+pub front_of : (a b : Held) → FrontsJust a b → Fronts 2 a b
+front_of a b is = is.0
+
+pub just_of : (a b : Held) → FrontsJust a b → WritesJust 2 a b
+just_of a b is = is.1
 
 -- a disk whose toggle says nothing has no half that is named
 pub blank_names : (half : ℕ) (told : Option Contents) → IsBlank told → NamesHalf half told

@@ -6,6 +6,7 @@ use Rattle.vx_copies.specs.Disks.{Held, IsBelow, Goes}
 use Rattle.vx_copies.specs.Config.{GivesOldOrNew, GivesNew}
 use Rattle.vx_copies.specs.Chain.{Copy, IsSound}
 use Rattle.vx_copies.specs.Commit.{CommitEnds}
+use Rattle.vx_copies.specs.Written.{Recorded, IsDone, IsQuiet, WritesJust, sectors_of}
 use Rattle.vx_copies.specs.declared.writing.Lost.{Lost}
 
 pub record IsCarried (result : Result (Unit {0}) Lost) (carriers before now : ℕ) (text : List ℕ) (old new : List Held) : Type 0 where
@@ -16,5 +17,8 @@ pub record IsCarried (result : Result (Unit {0}) Lost) (carriers before now : �
   pub goes : Each (Goes (before + 1) now text) old new
   pub sound : (group : Word) (others : List Copy) → IsSound group others before carriers old → IsSound group others now carriers new
   pub all : OnOk result ((group : Word) (others : List Copy) → IsSound group others before carriers old → IsSound group others now (length old) new)
+  pub recorded : Recorded (before + 1) now text old new
+  pub done : OnOk result (IsDone carriers now text new)
+  pub exact : OnOk result (Each IsQuiet old new → Each (WritesJust (sectors_of text)) old new)
   pub more : before ≤ now
   pub few : now ≤ before + 32

@@ -1,11 +1,12 @@
 -- A group, and what its calls leave.
-use Rattle.std.specs.Prelude.{◌≡◌, ◌⊎◌, ℕ, ◌+◌, ◌<◌, ◌≤◌, IsTrue, List, length, map, take, Some, None, Result, Ok, Err, MatchOption}
+use Rattle.std.specs.Prelude.{◌≡◌, ◌⊎◌, ℕ, ◌+◌, ◌<◌, ◌≤◌, IsTrue, List, length, map, take, Some, None, Result, Ok, Err, MatchOption, OnOk}
 use Rattle.vx_base.specs.Named.{Word}
 use Rattle.vx_piece.specs.Seen.{Seen}
 use Rattle.vx_copies.specs.Lists.{Each, AllOf, AnyOf}
 use Rattle.vx_copies.specs.Disks.{Held, held, HasSlot, IsCut, IsReady, IsBelow, Goes}
 use Rattle.vx_copies.specs.Config.{GivesOldOrNew, GivesNew}
 use Rattle.vx_copies.specs.Commit.{AllOffer, HasRisen}
+use Rattle.vx_copies.specs.Written.{Recorded, IsDone, IsQuiet, WritesJust, sectors_of}
 use Rattle.vx_copies.specs.declared.writing.Lost.TheVariants as lost
 use Rattle.vx_confdb.specs.Prepare.{IsHeaded}
 use Rattle.vx_confdb.specs.Texts.{text_of}
@@ -57,6 +58,9 @@ WrittenBy see (Err fault.PowerLost) carriers text old new = (new.lost ≡ Some l
 pub record IsWritten {P : Type 0} (see : P → Seen) (result : Result (Unit {0}) GroupFault) (carriers : ℕ) (text : List ℕ) (old new : Group P) : Type 0 where
   pub committed : IsCommitted see text old new
   pub ends : WrittenBy see result carriers text old new
+  pub recorded : Recorded (old.sequence + 1) new.sequence text (members see old) (members see new)
+  pub done : OnOk result (IsDone carriers new.sequence text (members see new))
+  pub exact : OnOk result (Each IsQuiet (members see old) (members see new) → Each (WritesJust (sectors_of text)) (members see old) (members see new))
 
 -- a commit is done, or refused and all is as before, or lost
 abbrev pub CommitGives : {P : Type 0} → (P → Seen) → Result (Unit {0}) GroupFault → List ℕ → Group P → Group P → Type 0

@@ -5,3 +5,4 @@ pub mod Carried
 pub mod Groups
 pub mod Create
 pub mod Add
+pub mod Enlisted

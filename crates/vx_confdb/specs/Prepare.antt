@@ -1,5 +1,5 @@
 -- How a disk becomes a member of a group.
-use Rattle.std.specs.Prelude.{◌≡◌, ◌⊎◌, ◌<◌, ◌≤◌, ◌^◌, true, IsTrue, List, Option, Some, None, MatchOption}
+use Rattle.std.specs.Prelude.{◌≡◌, ◌⊎◌, ℕ, ◌+◌, ◌<◌, ◌≤◌, ◌^◌, true, IsTrue, List, Option, Some, None, MatchOption}
 use Rattle.vx_base.specs.Blocks.{Contents}
 use Rattle.vx_base.specs.Named.{Word}
 use Rattle.vx_header.specs.Named.{Label, header_of}
@@ -9,6 +9,7 @@ use Rattle.vx_copies.specs.Lists.{Each, AllOf, AnyOf}
 use Rattle.vx_sector.specs.Fields.{zeros}
 use Rattle.vx_copies.specs.Image.{offer_told}
 use Rattle.vx_copies.specs.Disks.{Held, IsCut, IsReady, Drops, RestStays}
+use Rattle.vx_copies.specs.Written.{BothTell, WritesJust}
 use Rattle.vx_copies.specs.declared.disk.Disk.{Disk}
 use Rattle.vx_confdb.specs.declared.joining.Prepared.{Prepared}
 use Rattle.vx_confdb.specs.declared.joining.Prepared.TheVariants.{Done, Cut}
@@ -51,6 +52,16 @@ Begins label (Some old) None = ⊥
 Begins label (Some old) (Some new) =
     ((new ≡ old) ⊎ ((new 0 ≡ old 0) × (new 1 ≡ zeros 512)) ⊎ ((header_of (new 0) ≡ Some label) × (new 1 ≡ zeros 512))) × RestStays old new
 
+-- the sectors behind those of the header and the toggle stay
+abbrev pub OnlyFront : Contents → Contents → Type 0
+OnlyFront old new = (k : ℕ) → 2 ≤ k → new k ≡ old k
+
+-- the header and the toggle alone are written, in so many sectors at most
+pub record Fronts (most : ℕ) (old new : Held) : Type 0 where
+  pub only : BothTell OnlyFront old.seen.told new.seen.told
+  pub reads : new.seen.reads ≡ old.seen.reads
+  pub writes : new.seen.writes ≤ old.seen.writes + most
+
 pub record Prepares (group : Word) (old new : Held) : Type 0 where
   pub slot : new.slot ≡ old.slot
   pub name : new.name ≡ old.name
@@ -77,6 +88,8 @@ AllPrepared Cut group hs = AnyOf IsCut hs
 pub record AreJoined (result : Prepared) (group : Word) (old new : List Held) : Type 0 where
   pub prepares : Each (Prepares group) old new
   pub ends : AllPrepared result group new
+  pub fronts : Each (Fronts 2) old new
+  pub just : result ≡ Done → Each (WritesJust 2) old new
 
 -- the device offers nothing in the group
 abbrev pub OffersNone : Word → Held → Type 0

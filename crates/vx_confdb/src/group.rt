@@ -3,6 +3,7 @@ ghost use Rattle.vx_copies.specs.Lists.{Each};
 ghost use Rattle.vx_mask.specs.Mask.{has};
 ghost use Rattle.vx_copies.specs.Disks.{held, Goes, good_count, is_good_slot, good_mask};
 ghost use Rattle.vx_copies.specs.Config.{GivesOldOrNew};
+ghost use Rattle.vx_copies.specs.Written.{Recorded, IsDone, IsQuiet, WritesJust, sectors_of};
 ghost use Rattle.vx_copies.specs.Chain.{Copy, IsSound};
 ghost use Rattle.vx_confdb.specs.Faults.{fault_of};
 ghost use Rattle.vx_confdb.specs.Groups.{members, IsGroup, IsAlive, IsWritten, CommitGives};
@@ -54,6 +55,9 @@ impl<P: Piece> Group<P> {
         ensures ends { CommitGives P.seen result text.now self.old self.new }
         ensures too_long { 522240 < length text.now → result ≡ Err (GroupFault.TooLong (length text.now)) }
         ensures again { length text.now ≤ 522240 → IfSome self.old.lost (λ lost. result ≡ Err (fault_of lost)) }
+        ensures recorded { Recorded (self.old.sequence + 1) self.new.sequence text.now (members P.seen self.old) (members P.seen self.new) }
+        ensures done { OnOk result (IsDone (length self.old.disks.items) self.new.sequence text.now (members P.seen self.new)) }
+        ensures exact { OnOk result (Each IsQuiet (members P.seen self.old) (members P.seen self.new) → Each (WritesJust (sectors_of text.now)) (members P.seen self.old) (members P.seen self.new)) }
         ensures old_or_new { self.old.lost ≡ None → GivesOldOrNew self.old.name (self.old.sequence + 1) self.new.sequence text.now (members P.seen self.old) (members P.seen self.new) }
         ensures sound { (others : List Copy) → IsSound self.old.name others self.old.sequence (length self.old.disks.items) (members P.seen self.old) → IsSound self.old.name others self.new.sequence (length self.old.disks.items) (members P.seen self.new) }
     {

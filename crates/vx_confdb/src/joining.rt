@@ -1,7 +1,8 @@
 ghost use Rattle.std.specs.Prelude.{◌≡◌, ◌<◌, ◌≤◌, length, map};
 ghost use Rattle.vx_copies.specs.Lists.{Each, AllOf};
 ghost use Rattle.vx_copies.specs.Disks.{held};
-ghost use Rattle.vx_confdb.specs.Prepare.{IsFresh, IsBlank, Prepares, PrepareEnds, AllPrepared, AreJoined};
+ghost use Rattle.vx_copies.specs.Written.{WritesJust};
+ghost use Rattle.vx_confdb.specs.Prepare.{IsFresh, IsBlank, Fronts, Prepares, PrepareEnds, AllPrepared, AreJoined};
 
 use vx_copies::Disk;
 use vx_header::Header;
@@ -33,6 +34,8 @@ pub fn join_one<P: Piece>(disk: &mut Disk<P>, group: &Name) -> Prepared
     requires fresh { IsFresh P.seen group.now disk.old }
     ensures prepares { Prepares group.now (held P.seen disk.old) (held P.seen disk.new) }
     ensures ends { PrepareEnds result group.now (held P.seen disk.new) }
+    ensures fronts { Fronts 2 (held P.seen disk.old) (held P.seen disk.new) }
+    ensures just { result ≡ Prepared.Done → WritesJust 2 (held P.seen disk.old) (held P.seen disk.new) }
 {
     let mut sector = [0; 512];
     prepare(disk, group, &mut sector)
@@ -44,6 +47,8 @@ fn prepare_all<P: Piece>(disks: &mut [Disk<P>], group: &Name, sector: &mut [u8])
     ensures size { length sector.new ≡ 512 }
     ensures prepares { Each (Prepares group.now) (map (held P.seen) disks.old) (map (held P.seen) disks.new) }
     ensures ends { AllPrepared result group.now (map (held P.seen) disks.new) }
+    ensures fronts { Each (Fronts 2) (map (held P.seen) disks.old) (map (held P.seen) disks.new) }
+    ensures just { result ≡ Prepared.Done → Each (WritesJust 2) (map (held P.seen) disks.old) (map (held P.seen) disks.new) }
 {
     let mut i = 0;
     'disks: while i < disks.len() {
@@ -65,6 +70,8 @@ fn prepare<P: Piece>(disk: &mut Disk<P>, group: &Name, sector: &mut [u8]) -> Pre
     ensures size { length sector.new ≡ 512 }
     ensures prepares { Prepares group.now (held P.seen disk.old) (held P.seen disk.new) }
     ensures ends { PrepareEnds result group.now (held P.seen disk.new) }
+    ensures fronts { Fronts 2 (held P.seen disk.old) (held P.seen disk.new) }
+    ensures just { result ≡ Prepared.Done → WritesJust 2 (held P.seen disk.old) (held P.seen disk.new) }
 {
     put_zeros(512, 0, sector);
     match disk.piece.write(1, sector) {
@@ -85,6 +92,8 @@ fn put_header<P: Piece>(disk: &mut Disk<P>, group: &Name, sector: &mut [u8]) -> 
     ensures size { length sector.new ≡ 512 }
     ensures prepares { Prepares group.now (held P.seen disk.old) (held P.seen disk.new) }
     ensures ends { PrepareEnds result group.now (held P.seen disk.new) }
+    ensures fronts { Fronts 1 (held P.seen disk.old) (held P.seen disk.new) }
+    ensures just { result ≡ Prepared.Done → WritesJust 1 (held P.seen disk.old) (held P.seen disk.new) }
 {
     let header = Header {
         group: *group,

@@ -6,10 +6,10 @@ use Rattle.vx_mask.specs.Mask.{has}
 use Rattle.vx_piece.specs.Seen.{Seen, Keeps}
 use Rattle.vx_copies.specs.Lists.{Each, AllOf}
 use Rattle.vx_copies.specs.Disks.{Held, Drops, Goes, good_count, is_good_slot}
-use Rattle.vx_copies.specs.Written.{Touches, IsMaskOf, IsQuiet, CarriesIfGood, sectors_of, WritesJust}
+use Rattle.vx_copies.specs.Written.{Recorded, Touches, IsMaskOf, IsQuiet, CarriesIfGood, sectors_of, WritesJust}
 use Rattle.vx_copies.specs.Steps.{HalfPut, HalfDone, TogglePut, ToggleDone}
-use Rattle.vx_copies.proofs.Touching.{half_touches, both_touch, writes_once, carries}
-use Rattle.vx_copies.proofs.Going.{each_then, each_map, each_both, each_from}
+use Rattle.vx_copies.proofs.Touching.{touches_none, half_touches, both_touch, writes_once, carries}
+use Rattle.vx_copies.proofs.Going.{each_refl, each_then, each_map, each_both, each_from}
 use Rattle.vx_copies.proofs.Placed.{same_count}
 
 -- a disk keeps its slot, and is dropped by a fault alone
@@ -106,3 +106,7 @@ module _ (s : ℕ) (text : List ℕ) (M : ℕ → Type 0) (m : ℕ) (is_mask : M
   all_carry (a ∷ hs) [] bs p q = absurd p
   all_carry (a ∷ hs) (b ∷ ms) [] p q = absurd q
   all_carry (a ∷ hs) (b ∷ ms) (c ∷ bs) p q = (carries s text M m is_mask fits a b c p.0 q.0, all_carry hs ms bs p.1 q.1)
+
+-- no attempt was made
+pub none_recorded : (n : ℕ) (text : List ℕ) (hs : List Held) → Recorded (n + 1) n text hs hs
+none_recorded n text hs = record { touches = each_refl _ (touches_none (n + 1) n text (IsMaskOf hs hs)) hs; once = λ quiet. omega arith }

@@ -2,6 +2,8 @@ use Rattle.std.proofs.Common.{◌≡◌, ◌-◌, ◌≤◌, length, map, take, 
 use Rattle.vx_copies.specs.Lists.{Each, AllOf}
 use Rattle.vx_copies.specs.Disks.{held}
 use Rattle.vx_confdb.specs.Prepare.{IsFresh, Prepares, IsPrepared}
+use Rattle.vx_copies.proofs.Passing.{PassedTo}
+use Rattle.vx_confdb.proofs.Preparing.{FrontsJust}
 use Rattle.vx_confdb.proofs.joining.prepare_all.Given as goal
 
 abbrev pub invariant-disks : goal.invariant-disks
@@ -10,6 +12,7 @@ invariant-disks g l = record {
   size : length l.sector ≡ 512;
   prepares : Each (Prepares l.group) (map (held g.P.Piece.seen) l.fn.disks) (map (held g.P.Piece.seen) l.disks);
   fresh : AllOf (IsFresh g.P.Piece.seen l.group) (drop l.i l.disks);
+  passed : PassedTo l.i FrontsJust (map (held g.P.Piece.seen) l.fn.disks) (map (held g.P.Piece.seen) l.disks);
   prepared : AllOf (IsPrepared l.group) (map (held g.P.Piece.seen) (take l.i l.disks));
 }
 

@@ -18,6 +18,9 @@ returns g c =
             goes = c.commit.ensures.goes;
             sound = c.commit.ensures.sound;
             all = rw (length-map c.deref_mut.result.now (held g.P.Piece.seen)) c.commit.ensures.all;
+            recorded = c.commit.ensures.recorded;
+            done = c.commit.ensures.done;
+            exact = c.commit.ensures.exact;
             more = c.commit.ensures.more;
             few = c.commit.ensures.few;
           });

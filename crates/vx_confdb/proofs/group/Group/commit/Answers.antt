@@ -1,6 +1,7 @@
 use Rattle.std.proofs.Common.{◌≡◌, ◌≤◌, length, arith}
 use Rattle.std.proofs.lemmas.List.{length-map}
 use Rattle.vx_copies.specs.Disks.{held}
+use Rattle.vx_copies.proofs.Recording.{none_recorded}
 use Rattle.vx_confdb.specs.Groups.{members}
 use Rattle.vx_confdb.proofs.Grouped.{gives_from, same_length}
 use Rattle.vx_confdb.proofs.group.Group.commit.Goals as goal
@@ -10,3 +11,12 @@ returns-clause-ends g c =
     let few : length (members g.P.Piece.seen c.args.self.now) ≤ c.len-carriers.result = omega (arith, length-map c.args.self.now.disks.items (held g.P.Piece.seen), c.args.self.now.disks.ok.0, c.len-carriers.ensures) in
     let same : length (members g.P.Piece.seen c.write.new.self) ≡ length (members g.P.Piece.seen c.args.self.now) = same_length _ _ _ c.write.ensures.written.committed.goes in
     gives_from g.P.Piece.seen c.write.result c.len-carriers.result c.args.text.now c.args.self.now c.write.new.self few (omega (arith, few, same)) (rw c.in-Ok.ensures at c.write.ensures.written)
+
+pub returns-then-text-clause-recorded : goal.returns-then-text-clause-recorded
+returns-then-text-clause-recorded g c = none_recorded c.args.self.now.sequence c.args.text.now _
+
+pub returns-in-Some-clause-recorded : goal.returns-in-Some-clause-recorded
+returns-in-Some-clause-recorded g c = none_recorded c.args.self.now.sequence c.args.text.now _
+
+pub returns-in_default-of-clause-recorded : goal.returns-in_default-of-clause-recorded
+returns-in_default-of-clause-recorded g c = none_recorded c.args.self.now.sequence c.args.text.now _

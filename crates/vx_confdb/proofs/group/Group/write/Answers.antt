@@ -27,6 +27,9 @@ returns-in-Ok-clause-written g c =
           few = omega (arith, c.write_all.ensures.long, c.requires.alive.few);
         };
       };
+      recorded = carried.recorded;
+      done = carried.done;
+      exact = carried.exact;
     }
 
 pub returns-in-Ok-clause-sound : goal.returns-in-Ok-clause-sound
@@ -46,6 +49,9 @@ returns-in-Err-clause-written g c =
         few = carried.few;
       };
       ends = rw c.fault_of.ensures (lost_by g.P.Piece.seen c.write_all.result c.in-Err.lost c.args.carriers c.write_all.new.sequence (text_of c.args.text) c.args.self.now _ c.in-Err.is refl carried.ends);
+      recorded = carried.recorded;
+      done = tt;
+      exact = tt;
     }
 
 pub returns-in-Ok-clause-group : goal.returns-in-Ok-clause-group

@@ -3,6 +3,7 @@ use Rattle.vx_confdb.specs.Add.{IsJoined}
 use Rattle.vx_confdb.specs.declared.joining.Prepared.TheVariants.{Cut}
 use Rattle.vx_confdb.specs.Texts.{text_of}
 use Rattle.vx_copies.proofs.Going.{all_refl}
+use Rattle.vx_copies.proofs.Recording.{none_recorded}
 use Rattle.vx_confdb.proofs.group.Group.write_joined.Goals as goal
 
 pub returns-in-Cut-clause-written : goal.returns-in-Cut-clause-written
@@ -11,6 +12,9 @@ returns-in-Cut-clause-written g c =
     record {
       committed = record { name = refl; goes = all_refl (c.args.self.now.sequence + 1) c.args.self.now.sequence (text_of c.args.text) _; old_or_new = λ readable. inl refl; few = omega arith };
       ends = (refl, cut.2);
+      recorded = none_recorded c.args.self.now.sequence (text_of c.args.text) _;
+      done = tt;
+      exact = tt;
     }
 
 pub returns-in-Cut-clause-group : goal.returns-in-Cut-clause-group

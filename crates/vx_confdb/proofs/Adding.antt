@@ -57,21 +57,21 @@ same_configuration group readable [] h none = ap (λ o. higher o None) (none_if 
 same_configuration group readable (a ∷ hs) h none = ap (higher (cond (readable a.slot) (offer_told group a.seen.told) None)) (same_configuration group readable hs h none)
 
 -- the disks that were there, and the one that joined
-take_each : {X : Type 0} (R : X → X → Type 0) (n : ℕ) (xs ys : List X) → Each R xs ys → Each R (take n xs) (take n ys)
+pub take_each : {X : Type 0} (R : X → X → Type 0) (n : ℕ) (xs ys : List X) → Each R xs ys → Each R (take n xs) (take n ys)
 take_each R zero xs ys is = tt
 take_each R (suc n) [] [] is = tt
 take_each R (suc n) [] (y ∷ ys) is = absurd is
 take_each R (suc n) (x ∷ xs) [] is = absurd is
 take_each R (suc n) (x ∷ xs) (y ∷ ys) is = (is.0, take_each R n xs ys is.1)
 
-drop_each : {X : Type 0} (R : X → X → Type 0) (n : ℕ) (xs ys : List X) → Each R xs ys → Each R (drop n xs) (drop n ys)
+pub drop_each : {X : Type 0} (R : X → X → Type 0) (n : ℕ) (xs ys : List X) → Each R xs ys → Each R (drop n xs) (drop n ys)
 drop_each R zero xs ys is = is
 drop_each R (suc n) [] [] is = tt
 drop_each R (suc n) [] (y ∷ ys) is = absurd is
 drop_each R (suc n) (x ∷ xs) [] is = absurd is
 drop_each R (suc n) (x ∷ xs) (y ∷ ys) is = drop_each R n xs ys is.1
 
-drop_first : {X : Type 0} (xs ys : List X) → drop (length xs) (xs ++ ys) ≡ ys
+pub drop_first : {X : Type 0} (xs ys : List X) → drop (length xs) (xs ++ ys) ≡ ys
 drop_first [] ys = refl
 drop_first (x ∷ xs) ys = drop_first xs ys
 

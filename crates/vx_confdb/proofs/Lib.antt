@@ -3,3 +3,4 @@ pub mod Preparing
 pub mod Grouped
 pub mod Begun
 pub mod Adding
+pub mod Enlisting

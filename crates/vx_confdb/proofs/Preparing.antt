@@ -1,6 +1,6 @@
 -- What the writing of a first toggle and of a header does to what a device offers.
 use Rattle.std.proofs.Common.{◌≡◌, ◌⊎◌, ℕ, zero, suc, ◌-◌, ◌*◌, ◌<◌, Bool, true, false, List, [], ◌∷◌, length, map, take, drop, set, get_or, Option, Some, None, Result, Ok, Err, refl, sym, ap, ◌∙◌, subst, arith, inl, inr}
-use Rattle.std.specs.Prelude.{◌+◌, ◌≤◌, IsTrue, MatchOption}
+use Rattle.std.specs.Prelude.{◌≤◌, IsTrue, MatchOption}
 use Rattle.std.proofs.lemmas.Bool.{cases_order}
 use Rattle.std.proofs.lemmas.List.{take_all}
 use Rattle.vx_base.specs.Blocks.{Contents, block_at, written, IsTorn}

@@ -1,7 +1,6 @@
 ghost use Rattle.std.specs.Prelude.{◌≡◌};
 ghost use Rattle.vx_confdb.specs.Faults.{fault_of};
 
-use vx_base::OutOfMemory;
 use vx_copies::Lost;
 
 /// Why a call on a group was not done.
@@ -14,12 +13,6 @@ pub enum GroupFault {
     GroupLost,
     /// The power is gone. The group has to be imported again.
     PowerLost,
-}
-
-impl From<OutOfMemory> for GroupFault {
-    fn from(_refused: OutOfMemory) -> GroupFault {
-        GroupFault::OutOfMemory
-    }
 }
 
 pub(crate) fn fault_of(lost: Lost) -> GroupFault

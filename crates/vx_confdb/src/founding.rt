@@ -3,6 +3,7 @@ ghost use Rattle.vx_copies.specs.Lists.{AllOf};
 ghost use Rattle.vx_copies.specs.Disks.{held};
 ghost use Rattle.vx_copies.specs.Chain.{Copy, IsSound};
 ghost use Rattle.vx_confdb.specs.Create.{CreateGives, IsTooLong};
+ghost use Rattle.vx_confdb.specs.Enlisted.{CreateWrites};
 ghost use Rattle.vx_confdb.specs.Groups.{members, IsGroup};
 ghost use Rattle.vx_confdb.specs.Prepare.{IsFresh, OffersNone, Tells};
 ghost use Rattle.vx_confdb.specs.Texts.{text_of};
@@ -37,6 +38,7 @@ pub fn create<P: Piece>(
     requires fresh { AllOf (IsFresh P.seen name) disks.items }
     requires none { AllOf (OffersNone name) (map (held P.seen) disks.items) }
     ensures gives { CreateGives P.seen result name text.now disks.items }
+    ensures writes { CreateWrites P.seen result name text.now disks.items }
     ensures too_long { 522240 < length text.now → IsTooLong (length text.now) result }
     ensures group { IfOk result (IsGroup P.seen) }
     ensures sound { (others : List Copy) → AllOf (λ c. c.offer ≡ None) others → AllOf Tells (map (held P.seen) disks.items) → IfOk result (λ group. IsSound name others group.sequence (length disks.items) (members P.seen group)) }
@@ -57,6 +59,7 @@ fn found<P: Piece>(name: Name, disks: Vec<Disk<P>>, text: Text) -> Result<Group<
     requires fresh { AllOf (IsFresh P.seen name) disks.items }
     requires none { AllOf (OffersNone name) (map (held P.seen) disks.items) }
     ensures gives { CreateGives P.seen result name (text_of text) disks.items }
+    ensures writes { CreateWrites P.seen result name (text_of text) disks.items }
     ensures group { IfOk result (IsGroup P.seen) }
     ensures sound { (others : List Copy) → AllOf (λ c. c.offer ≡ None) others → AllOf Tells (map (held P.seen) disks.items) → IfOk result (λ group. IsSound name others group.sequence (length disks.items) (members P.seen group)) }
 {

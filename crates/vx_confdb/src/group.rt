@@ -9,6 +9,7 @@ ghost use Rattle.vx_confdb.specs.Faults.{fault_of};
 ghost use Rattle.vx_confdb.specs.Groups.{members, IsGroup, IsAlive, IsWritten, CommitGives};
 ghost use Rattle.vx_confdb.specs.Prepare.{IsFresh, OffersNone};
 ghost use Rattle.vx_confdb.specs.Add.{AddGives, IsJoined};
+ghost use Rattle.vx_confdb.specs.Enlisted.{AddWrites};
 ghost use Rattle.vx_confdb.specs.Texts.{text_of};
 
 use crate::fault::{GroupFault, fault_of};
@@ -90,6 +91,7 @@ impl<P: Piece> Group<P> {
         requires none { OffersNone self.old.name (held P.seen disk) }
         ensures group { IsGroup P.seen self.new }
         ensures ends { AddGives P.seen result text.now disk self.old self.new }
+        ensures writes { AddWrites P.seen result text.now disk self.old self.new }
         ensures too_long { 522240 < length text.now → result ≡ Err (GroupFault.TooLong (length text.now), Some disk) }
         ensures again { length text.now ≤ 522240 → IfSome self.old.lost (λ lost. result ≡ Err (fault_of lost, Some disk)) }
     {

@@ -1,9 +1,9 @@
 -- Each sector but the toggle's is as it was, or the text's in a half: one write after another.
-use Rattle.std.proofs.Common.{◌≡◌, ◌⊎◌, ℕ, zero, suc, ◌+◌, ◌-◌, ◌<◌, ◌≤◌, Bool, true, false, cond, List, Option, Some, None, refl, sym, ap, ◌∙◌, arith, inl, inr}
+use Rattle.std.proofs.Common.{◌≡◌, ◌⊎◌, ℕ, zero, suc, ◌-◌, ◌<◌, ◌≤◌, Bool, true, false, cond, List, Option, Some, None, refl, sym, ap, ◌∙◌, arith, inl, inr}
 use Rattle.vx_base.specs.Blocks.{Contents, block_at, blocks_in, written, IsTorn, is_in}
 use Rattle.vx_base.proofs.BlockLemmas.{is_in_cases, is_in-before, is_in-after, written_in, written_out}
 use Rattle.vx_copies.specs.Image.{half_start, filled}
-use Rattle.vx_copies.specs.Written.{BothTell, HalfStays, OldOrText, in_both}
+use Rattle.vx_copies.specs.Written.{BothTell, OldOrText, in_both}
 
 module _ (text : List ℕ) where
   pub only_refl : (c : Contents) → OldOrText text c c
@@ -14,7 +14,7 @@ module _ (text : List ℕ) where
   twice false true x y z = refl
   twice false false x y z = refl
 
-  both_same : (c d : Contents) (k : ℕ) → (d k ≡ c k) ⊎ (d k ≡ in_both text c k) → in_both text d k ≡ in_both text c k
+  pub both_same : (c d : Contents) (k : ℕ) → (d k ≡ c k) ⊎ (d k ≡ in_both text c k) → in_both text d k ≡ in_both text c k
   both_same c d k (inl e) = ap (λ x. cond (is_in (half_start 1) (blocks_in (filled text)) k) (block_at (filled text) (k - half_start 1)) (cond (is_in (half_start 0) (blocks_in (filled text)) k) (block_at (filled text) (k - half_start 0)) x)) e
   both_same c d k (inr e) =
       ap (λ x. cond (is_in (half_start 1) (blocks_in (filled text)) k) (block_at (filled text) (k - half_start 1)) (cond (is_in (half_start 0) (blocks_in (filled text)) k) (block_at (filled text) (k - half_start 0)) x)) e

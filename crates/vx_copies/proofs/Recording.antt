@@ -1,5 +1,5 @@
 -- The masks of a commit's toggles, the counts that rose, and all disks of an attempt together.
-use Rattle.std.proofs.Common.{◌≡◌, ◌⊎◌, ℕ, ◌+◌, ◌-◌, ◌<◌, ◌≤◌, Bool, true, false, List, [], ◌∷◌, length, refl, sym, ap, ◌∙◌, subst, arith, inl, inr}
+use Rattle.std.proofs.Common.{◌≡◌, ℕ, ◌+◌, ◌≤◌, Bool, true, false, List, [], ◌∷◌, length, refl, sym, ap, ◌∙◌, arith}
 use Rattle.std.specs.Prelude.{◌&&◌, ◌||◌, ◌==◌, IsTrue}
 use Rattle.vx_base.specs.Counts.{Rose}
 use Rattle.vx_mask.specs.Mask.{has}
@@ -39,6 +39,9 @@ was_good : (x y : Bool) (a b : Seen) → Drops x y a b → IsTrue y → IsTrue x
 was_good x true a b d is = d
 was_good x false a b d is = cc
 
+pub fades_good : (a b : Held) → Fades a b → IsTrue b.good → IsTrue a.good
+fades_good a b is good = was_good a.good b.good a.seen b.seen is.good good
+
 slot_was : (slot : ℕ) (hs bs : List Held) → Each Fades hs bs → is_good_slot slot bs ≡ true → is_good_slot slot hs ≡ true
 slot_was slot [] [] fades is = is
 slot_was slot [] (b ∷ bs) fades is = absurd fades
@@ -74,6 +77,14 @@ quiet_before [] (b ∷ hs) bs p q r = absurd p
 quiet_before (a ∷ fs) [] bs p q r = absurd p
 quiet_before (a ∷ fs) (b ∷ hs) [] p q r = absurd q
 quiet_before (a ∷ fs) (b ∷ hs) (c ∷ bs) p q r = (λ rose. r.0 (rose_later a.seen.faults b.seen.faults c.seen.faults (let k = q.0.kept.faults in k) rose), quiet_before fs hs bs p.1 q.1 r.1)
+
+pub quiet_after : (fs hs bs : List Held) → Each Fades fs hs → Each Fades hs bs → Each IsQuiet fs bs → Each IsQuiet hs bs
+quiet_after [] [] [] p q r = tt
+quiet_after [] [] (c ∷ bs) p q r = absurd q
+quiet_after [] (b ∷ hs) bs p q r = absurd p
+quiet_after (a ∷ fs) [] bs p q r = absurd p
+quiet_after (a ∷ fs) (b ∷ hs) [] p q r = absurd q
+quiet_after (a ∷ fs) (b ∷ hs) (c ∷ bs) p q r = (λ rose. r.0 (rose_before a.seen.faults b.seen.faults c.seen.faults (let k = p.0.kept.faults in k) rose), quiet_after fs hs bs p.1 q.1 r.1)
 
 -- and no disk was dropped
 quiet_one : (a b : Held) → Fades a b × IsQuiet a b → b.good ≡ a.good

@@ -1,14 +1,11 @@
 -- What one attempt does to a disk, and one attempt after others.
-use Rattle.std.proofs.Common.{◌≡◌, ◌⊎◌, ℕ, zero, suc, ◌+◌, ◌-◌, ◌*◌, ◌<◌, ◌≤◌, Bool, true, false, List, [], ◌∷◌, length, Option, Some, None, refl, sym, ap, ◌∙◌, subst, arith, inl, inr}
+use Rattle.std.proofs.Common.{◌≡◌, ◌⊎◌, ℕ, ◌+◌, ◌-◌, ◌*◌, ◌≤◌, Bool, true, false, List, length, Option, Some, None, refl, sym, ap, ◌∙◌, subst, arith, inl, inr}
 use Rattle.std.specs.Prelude.{IsTrue, MatchOption}
 use Rattle.vx_base.specs.Blocks.{Contents}
-use Rattle.vx_base.specs.Counts.{later_count}
-use Rattle.vx_header.specs.Said.{Said}
-use Rattle.vx_piece.specs.Seen.{Seen}
 use Rattle.vx_copies.specs.Lists.{Each, AllOf}
-use Rattle.vx_copies.specs.Image.{half_start, sectors_for, toggle_at}
+use Rattle.vx_copies.specs.Image.{half_start, sectors_for}
 use Rattle.vx_copies.specs.Disks.{Held, NamesHalf, IsReady, Goes, Drops}
-use Rattle.vx_copies.specs.Written.{BothTell, Holds, HalfStays, OldOrText, IsTurned, NotTurned, TurnedOnce, TurnedAgain, Turns, Touches, sectors_of, IsCurrent, CarriesIfGood, WritesJust}
+use Rattle.vx_copies.specs.Written.{BothTell, Holds, HalfStays, OldOrText, IsTurned, TurnedAgain, Turns, Touches, sectors_of, IsCurrent, CarriesIfGood, WritesJust}
 use Rattle.vx_copies.specs.Steps.{HalfLeaves, HalfPut, HalfDone, Says, ToggleLeaves, TogglePut, ToggleDone}
 use Rattle.vx_copies.proofs.Going.{same_toggle, each_then, each_both, each_from}
 use Rattle.vx_copies.proofs.Halves.{few_sectors, blocks_same}
@@ -44,6 +41,18 @@ touches_none f l text M a = record {
   reads = refl;
   writes = omega arith;
 }
+
+-- the same with more masks
+turned_masks : (f l : ℕ) (text : List ℕ) (M K : ℕ → Type 0) → ((m : ℕ) → M m → K m) → (h : ℕ) (c : Contents) → IsTurned f l text M h c → IsTurned f l text K h c
+turned_masks f l text M K more h c is = record { sequence = is.sequence; mask = is.mask; from = is.from; up_to = is.up_to; masks = more is.mask is.masks; says = is.says; holds = is.holds }
+
+pub touches_masks : (f l : ℕ) (text : List ℕ) (M K : ℕ → Type 0) → ((m : ℕ) → M m → K m) → (a b : Held) → Touches f l text M a b → Touches f l text K a b
+touches_masks f l text M K more a b is = record { turns = tell_map (Turns f l text M a b) (Turns f l text K a b) by a.seen.told b.seen.told is.turns; only = is.only; reads = is.reads; writes = is.writes }
+  where
+    by : (c d : Contents) → Turns f l text M a b c d → Turns f l text K a b c d
+    by c d (inl stay) = inl stay
+    by c d (inr (inl once)) = inr (inl (record { turned = turned_masks f l text M K more (1 - a.half) d once.turned; named = once.named }))
+    by c d (inr (inr again)) = inr (inr (record { again = again.again; now = again.now; turned = turned_masks f l text M K more again.now d again.turned }))
 
 one_attempt : (s k : ℕ) → (s + 1 - s) * k ≡ k
 one_attempt s k = let one : s + 1 - s ≡ 1 = omega arith in ap (λ n. n * k) one ∙ (let e : 1 * k ≡ k = omega arith in e)

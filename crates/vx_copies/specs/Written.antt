@@ -2,7 +2,6 @@
 use Rattle.std.specs.Prelude.{◌≡◌, ◌⊎◌, ℕ, ◌+◌, ◌-◌, ◌*◌, ◌<◌, ◌≤◌, true, false, IsTrue, List, length, take, Option, Some, None, MatchOption}
 use Rattle.vx_base.specs.Blocks.{Contents, written}
 use Rattle.vx_base.specs.Counts.{Rose, later_count}
-use Rattle.vx_header.specs.Said.{Said}
 use Rattle.vx_mask.specs.Mask.{has}
 use Rattle.vx_copies.specs.Lists.{Each, AllOf}
 use Rattle.vx_copies.specs.Image.{half_start, blocks_from, sectors_for, filled, toggle_at}

@@ -5,6 +5,8 @@ use Rattle.vx_confdb.specs.Prepare.{AllPrepared}
 use Rattle.vx_confdb.specs.declared.joining.Prepared.TheVariants.{Done, Cut}
 use Rattle.vx_confdb.specs.Texts.{text_of}
 use Rattle.vx_confdb.proofs.Grouped.{headed_stays}
+use Rattle.vx_copies.specs.Written.{sectors_of}
+use Rattle.vx_confdb.proofs.Enlisting.{all_begun, all_enlisted, all_just, done_all}
 use Rattle.vx_confdb.proofs.Begun.{none_all, none_below, prepared_ready, prepared_headed, none_or_text, none_still, all_prepare, all_join, refused_by, tell_all, sound_none}
 use Rattle.vx_confdb.specs.Create.{IsBegun}
 use Rattle.vx_confdb.specs.Groups.{IsAlive}
@@ -85,3 +87,28 @@ returns-in-Ok-clause-group g c =
       few = omega (arith, c.write_all.ensures.long, c.join_all.ensures.long, c.requires.few);
     } in
     rw c.of.ensures alive
+
+pub returns-in-Cut-clause-writes : goal.returns-in-Cut-clause-writes
+returns-in-Cut-clause-writes g c = record { last = 0; few = omega arith; are = all_begun c.args.name (text_of c.args.text) _ _ c.join_all.ensures.joined.prepares c.join_all.ensures.joined.fronts }
+
+pub returns-in-Ok-clause-writes : goal.returns-in-Ok-clause-writes
+returns-in-Ok-clause-writes g c =
+    let carried = c.in-Ok.ensures.carried in
+    let prepared : AllPrepared Done c.args.name (map (held g.P.Piece.seen) c.join_all.new.disks.items) = rw c.in-Done.is at c.join_all.ensures.joined.ends in
+    let few : length (map (held g.P.Piece.seen) c.join_all.new.disks.items) ≤ c.len-carriers.result = omega (arith, length-map c.join_all.new.disks.items (held g.P.Piece.seen), c.join_all.new.disks.ok.0, c.len-carriers.ensures) in
+    let few' : length (map (held g.P.Piece.seen) c.write_all.new.disks.items) ≤ c.len-carriers.result = omega (arith, few, length-map c.join_all.new.disks.items (held g.P.Piece.seen), length-map c.write_all.new.disks.items (held g.P.Piece.seen), c.write_all.ensures.long) in
+    rw c.of.ensures (record {
+      are = all_enlisted c.args.name (text_of c.args.text) (map (held g.P.Piece.seen) c.args.disks.items) (map (held g.P.Piece.seen) c.join_all.new.disks.items) c.join_all.ensures.joined.prepares c.join_all.ensures.joined.fronts c.write_all.new.sequence (map (held g.P.Piece.seen) c.write_all.new.disks.items) prepared carried.goes carried.recorded;
+      done = done_all c.len-carriers.result c.write_all.new.sequence (text_of c.args.text) (map (held g.P.Piece.seen) c.write_all.new.disks.items) few' carried.done;
+      exact = all_just c.args.name (text_of c.args.text) (map (held g.P.Piece.seen) c.args.disks.items) (map (held g.P.Piece.seen) c.join_all.new.disks.items) c.join_all.ensures.joined.prepares c.join_all.ensures.joined.fronts c.write_all.new.sequence (map (held g.P.Piece.seen) c.write_all.new.disks.items) prepared carried.goes carried.recorded 2 (sectors_of (text_of c.args.text)) (c.join_all.ensures.joined.just c.in-Done.is) carried.exact;
+    })
+
+pub returns-in-Err-clause-writes : goal.returns-in-Err-clause-writes
+returns-in-Err-clause-writes g c =
+    let carried = c.write_all.ensures.carried in
+    let prepared : AllPrepared Done c.args.name (map (held g.P.Piece.seen) c.join_all.new.disks.items) = rw c.in-Done.is at c.join_all.ensures.joined.ends in
+    record {
+      last = c.write_all.new.sequence;
+      few = carried.few;
+      are = all_enlisted c.args.name (text_of c.args.text) (map (held g.P.Piece.seen) c.args.disks.items) (map (held g.P.Piece.seen) c.join_all.new.disks.items) c.join_all.ensures.joined.prepares c.join_all.ensures.joined.fronts c.write_all.new.sequence (map (held g.P.Piece.seen) c.write_all.new.disks.items) prepared carried.goes carried.recorded;
+    }

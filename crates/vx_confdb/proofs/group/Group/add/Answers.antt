@@ -1,10 +1,14 @@
-use Rattle.std.proofs.Common.{◌≡◌, ◌≤◌, length, map, ap, List, [], ◌∷◌, ◌++◌, arith, Ok, Err, None}
+use Rattle.std.proofs.Common.{◌≡◌, ◌+◌, ◌≤◌, length, map, subst, sym, ap, List, [], ◌∷◌, ◌++◌, arith, Ok, Err, None}
 use Rattle.std.proofs.lemmas.List.{length-map}
 use Rattle.vx_copies.specs.Disks.{held}
 use Rattle.vx_copies.specs.Chain.{Copy, copy_of, IsChained, IsSound}
 use Rattle.vx_confdb.specs.Prepare.{Tells}
 use Rattle.vx_confdb.specs.Groups.{members, IsAlive}
 use Rattle.vx_confdb.specs.Add.{IsTaken, TakenBy, AddGives}
+use Rattle.vx_copies.specs.Written.{IsDone}
+use Rattle.vx_confdb.specs.Enlisted.{AddWrites}
+use Rattle.vx_confdb.specs.declared.joining.Prepared.TheVariants.{Done}
+use Rattle.vx_confdb.proofs.Enlisting.{is_enlisted, is_added, not_cut}
 use Rattle.vx_confdb.specs.Texts.{text_of}
 use Rattle.vx_confdb.specs.declared.group.Group.{Group}
 use Rattle.vx_confdb.proofs.Begun.{none_all}
@@ -57,3 +61,23 @@ returns-in-Err-clause-ends g c =
     let ends : AddGives g.P.Piece.seen (Err (c.in-Err.fault, None)) (text_of c.in-Ok.text) c.args.disk c.args.self.now c.write_joined.new.self =
     lost_taken g.P.Piece.seen c.in-Err.fault c.len-carriers.result (text_of c.in-Ok.text) c.args.disk c.join_one-joined.new.disk c.args.self.now mid c.write_joined.new.self is long size taken c.in-Err.ensures.written.ends in
     rw c.in-Ok.ensures at ends
+
+pub returns-in-Ok-write_joined-clause-writes : goal.returns-in-Ok-write_joined-clause-writes
+returns-in-Ok-write_joined-clause-writes g c =
+    let is = mid_members g.P.Piece.seen c.args.self.now.disks.items c.reserve.new.self.items c.put_last.new.disks.items c.join_one-joined.new.disk c.reserve.ensures.items c.put_last.ensures.put in
+    let size : length c.args.self.now.disks.items ≡ length (members g.P.Piece.seen c.args.self.now) = sym (length-map c.args.self.now.disks.items (held g.P.Piece.seen)) in
+    let written = c.write_joined.ensures.written in
+    let carriers : c.len-carriers.result ≡ length c.args.self.now.disks.items = omega (arith, c.args.self.now.disks.ok.0, c.reserve.ensures.len, c.len-carriers.ensures) in
+    let joined : c.join_one-joined.result ≡ Done = not_cut c.join_one-joined.result (λ cut. ok_not_err c.write_joined.result c.in-Ok-write_joined.field-0 _ c.in-Ok-write_joined.is (c.write_joined.ensures.cut cut)) in
+    let writes : AddWrites g.P.Piece.seen (Ok c.in-Ok-write_joined.field-0) (text_of c.in-Ok.text) c.args.disk c.args.self.now c.write_joined.new.self =
+    (is_enlisted c.join_one-joined.result c.args.self.now.name (length c.args.self.now.disks.items) (c.args.self.now.sequence + 1) c.write_joined.new.self.sequence (text_of c.in-Ok.text) (members g.P.Piece.seen c.args.self.now) _ (members g.P.Piece.seen c.write_joined.new.self) (held g.P.Piece.seen c.args.disk) (held g.P.Piece.seen c.join_one-joined.new.disk) size is c.join_one-joined.ensures.prepares c.join_one-joined.ensures.fronts c.join_one-joined.ensures.ends (λ cut. ap (map (held g.P.Piece.seen)) (c.write_joined.ensures.stays cut)) written.committed.goes written.recorded, is_added c.join_one-joined.result c.args.self.now.name (length c.args.self.now.disks.items) (c.args.self.now.sequence + 1) c.write_joined.new.self.sequence (text_of c.in-Ok.text) (members g.P.Piece.seen c.args.self.now) _ (members g.P.Piece.seen c.write_joined.new.self) (held g.P.Piece.seen c.args.disk) (held g.P.Piece.seen c.join_one-joined.new.disk) size is c.join_one-joined.ensures.prepares c.join_one-joined.ensures.fronts c.join_one-joined.ensures.ends (λ cut. ap (map (held g.P.Piece.seen)) (c.write_joined.ensures.stays cut)) written.committed.goes written.recorded (c.join_one-joined.ensures.just joined) (subst (λ k. IsDone k c.write_joined.new.self.sequence (text_of c.in-Ok.text) (members g.P.Piece.seen c.write_joined.new.self)) carriers c.in-Ok-write_joined.ensures.written.done) c.in-Ok-write_joined.ensures.written.exact) in
+    rw c.in-Ok.ensures at writes
+
+pub returns-in-Err-clause-writes : goal.returns-in-Err-clause-writes
+returns-in-Err-clause-writes g c =
+    let is = mid_members g.P.Piece.seen c.args.self.now.disks.items c.reserve.new.self.items c.put_last.new.disks.items c.join_one-joined.new.disk c.reserve.ensures.items c.put_last.ensures.put in
+    let size : length c.args.self.now.disks.items ≡ length (members g.P.Piece.seen c.args.self.now) = sym (length-map c.args.self.now.disks.items (held g.P.Piece.seen)) in
+    let written = c.write_joined.ensures.written in
+    let writes : AddWrites g.P.Piece.seen (Err (c.in-Err.fault, None)) (text_of c.in-Ok.text) c.args.disk c.args.self.now c.write_joined.new.self =
+    is_enlisted c.join_one-joined.result c.args.self.now.name (length c.args.self.now.disks.items) (c.args.self.now.sequence + 1) c.write_joined.new.self.sequence (text_of c.in-Ok.text) (members g.P.Piece.seen c.args.self.now) _ (members g.P.Piece.seen c.write_joined.new.self) (held g.P.Piece.seen c.args.disk) (held g.P.Piece.seen c.join_one-joined.new.disk) size is c.join_one-joined.ensures.prepares c.join_one-joined.ensures.fronts c.join_one-joined.ensures.ends (λ cut. ap (map (held g.P.Piece.seen)) (c.write_joined.ensures.stays cut)) written.committed.goes written.recorded in
+    rw c.in-Ok.ensures at writes

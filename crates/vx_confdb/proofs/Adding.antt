@@ -8,7 +8,7 @@ use Rattle.vx_copies.specs.Lists.{Each, AllOf, AnyOf}
 use Rattle.vx_copies.specs.Image.{Offer, offer_told, higher}
 use Rattle.vx_copies.specs.Disks.{Held, held, HasSlot, Goes, IsReady, IsBelow, IsCut}
 use Rattle.vx_copies.specs.Config.{configuration, GivesOldOrNew}
-use Rattle.vx_copies.specs.Chain.{Copy, copy_of, AllUpTo, NamesNewer, IsChained, NamesGood, IsGoodMember, IsSound}
+use Rattle.vx_copies.specs.Chain.{Copy, copy_of, AllUpTo, NamesNewer, NamesMissing, IsChained, AgreeIn, AllAgree, NamesGood, IsGoodMember, IsSound}
 use Rattle.vx_copies.specs.declared.disk.Disk.{Disk}
 use Rattle.vx_copies.specs.Commit.{HasRisen}
 use Rattle.vx_confdb.specs.Add.{IsTaken, IsJoined, AddGives}
@@ -112,17 +112,32 @@ module _ (x : Copy) (none : x.offer ≡ None) where
   newer_last o (c ∷ cs) (inl is) = inl is
   newer_last o (c ∷ cs) (inr is) = inr (newer_last o cs is)
 
-  linked : (cs : List Copy) (c : Option Offer) → MatchOption c (Unit {0}) (λ o. AllUpTo o.sequence cs ⊎ NamesNewer o cs) → MatchOption c (Unit {0}) (λ o. AllUpTo o.sequence (cs ++ x ∷ []) ⊎ NamesNewer o (cs ++ x ∷ []))
-  linked cs None is = tt
-  linked cs (Some o) (inl top) = inl (up_to_last o.sequence cs top)
-  linked cs (Some o) (inr newer) = inr (newer_last o cs newer)
+  linked : (missing : ℕ) (cs : List Copy) (c : Option Offer) → MatchOption c (Unit {0}) (λ o. AllUpTo o.sequence cs ⊎ (NamesNewer o cs ⊎ NamesMissing missing o)) → MatchOption c (Unit {0}) (λ o. AllUpTo o.sequence (cs ++ x ∷ []) ⊎ (NamesNewer o (cs ++ x ∷ []) ⊎ NamesMissing missing o))
+  linked missing cs None is = tt
+  linked missing cs (Some o) (inl top) = inl (up_to_last o.sequence cs top)
+  linked missing cs (Some o) (inr (inl newer)) = inr (inl (newer_last o cs newer))
+  linked missing cs (Some o) (inr (inr gone)) = inr (inr gone)
 
   all_map : (Q R : Copy → Type 0) → ((c : Copy) → Q c → R c) → (cs : List Copy) → AllOf Q cs → AllOf R cs
   all_map Q R f [] all = tt
   all_map Q R f (c ∷ cs) all = (f c all.0, all_map Q R f cs all.1)
 
-  pub chained_last : (cs : List Copy) → IsChained cs → IsChained (cs ++ x ∷ [])
-  chained_last cs chained = all_last _ cs x (all_map _ _ (λ c. linked cs c.offer) cs chained) (none_of _)
+  pub chained_last : (missing : ℕ) (cs : List Copy) → IsChained missing cs → IsChained missing (cs ++ x ∷ [])
+  chained_last missing cs chained = all_last _ cs x (all_map _ _ (λ c. linked missing cs c.offer) cs chained) (none_of _)
+
+  agree_with : (o : Option Offer) → AgreeIn o x.offer
+  agree_with None = tt
+  agree_with (Some o) = subst (AgreeIn (Some o)) (sym none) tt
+
+  with_all : (cs : List Copy) → AllOf (λ d. AgreeIn x.offer d.offer) cs
+  with_all cs = subst (λ o. AllOf (λ d. AgreeIn o d.offer) cs) (sym none) (nothing cs)
+    where
+      nothing : (ds : List Copy) → AllOf (λ d. AgreeIn None d.offer) ds
+      nothing [] = tt
+      nothing (d ∷ ds) = (tt, nothing ds)
+
+  pub agree_last : (cs : List Copy) → AllAgree cs → AllAgree (cs ++ x ∷ [])
+  agree_last cs all = all_last _ cs x (all_map _ _ (λ c is. all_last _ cs x is (agree_with c.offer)) cs all) (with_all (cs ++ x ∷ []))
 
   newest_by : (cs : List Copy) (hs : List Held) (c : Option Offer) → MatchOption c (Unit {0}) (λ o. AllUpTo o.sequence cs → NamesGood o hs) → MatchOption c (Unit {0}) (λ o. AllUpTo o.sequence (cs ++ x ∷ []) → NamesGood o hs)
   newest_by cs hs None is = tt
@@ -138,16 +153,17 @@ append_last (o ∷ os) cs c = ap (λ xs. o ∷ xs) (append_last os cs c)
 copies_last : (group : Word) (os : List Copy) (hs : List Held) (h : Held) → os ++ map (copy_of group) (hs ++ h ∷ []) ≡ (os ++ map (copy_of group) hs) ++ copy_of group h ∷ []
 copies_last group os hs h = ap (λ cs. os ++ cs) (map_last (copy_of group) hs h) ∙ append_last os (map (copy_of group) hs) (copy_of group h)
 
-pub chain_with : (group : Word) (os : List Copy) (last n : ℕ) (hs : List Held) (h : Held) → OffersNone group h → IsSound group os last n hs → IsChained (os ++ map (copy_of group) (hs ++ h ∷ []))
-chain_with group os last n hs h none sound = subst IsChained (sym (copies_last group os hs h)) (chained_last (copy_of group h) none (os ++ map (copy_of group) hs) sound.chained)
+pub chain_with : (group : Word) (missing : ℕ) (os : List Copy) (last n : ℕ) (hs : List Held) (h : Held) → OffersNone group h → IsSound group missing os last n hs → IsChained missing (os ++ map (copy_of group) (hs ++ h ∷ []))
+chain_with group missing os last n hs h none sound = subst (IsChained missing) (sym (copies_last group os hs h)) (chained_last (copy_of group h) none missing (os ++ map (copy_of group) hs) sound.chained)
 
-pub sound_with : (group : Word) (os : List Copy) (last n : ℕ) (hs : List Held) (h : Held) → n ≡ length hs → OffersNone group h → IsGoodMember group h → IsSound group os last n hs → IsSound group os last n (hs ++ h ∷ [])
-sound_with group os last n hs h long none member sound =
+pub sound_with : (group : Word) (missing : ℕ) (os : List Copy) (last n : ℕ) (hs : List Held) (h : Held) → n ≡ length hs → OffersNone group h → IsGoodMember group h → IsSound group missing os last n hs → IsSound group missing os last n (hs ++ h ∷ [])
+sound_with group missing os last n hs h long none member sound =
     let same = sym (copies_last group os hs h) in
     let whole : take n hs ≡ take n (hs ++ h ∷ []) = first_whole ∙ sym (first_of n hs (h ∷ []) long) in
     record {
       members = all_last _ hs h sound.members member;
-      chained = chain_with group os last n hs h none sound;
+      chained = chain_with group missing os last n hs h none sound;
+      agree = subst AllAgree same (agree_last (copy_of group h) none (os ++ map (copy_of group) hs) sound.agree);
       newest = subst (λ xs. AllOf (λ c. MatchOption c.offer (Unit {0}) (λ o. AllUpTo o.sequence (os ++ map (copy_of group) (hs ++ h ∷ [])) → NamesGood o xs)) (os ++ map (copy_of group) (hs ++ h ∷ []))) whole
           (subst (λ cs. AllOf (λ c. MatchOption c.offer (Unit {0}) (λ o. AllUpTo o.sequence cs → NamesGood o (take n hs))) cs) same (newest_last (copy_of group h) none (os ++ map (copy_of group) hs) (take n hs) sound.newest));
       up_to = subst (AllUpTo last) same (up_to_last (copy_of group h) none last (os ++ map (copy_of group) hs) sound.up_to);
@@ -179,23 +195,23 @@ joined_is see Cut mid hs h is few ready headed below none slot ends = (
 pub member_by : (group : Word) (h h' : Held) → Prepares group h h' → Tells h → IsPrepared group h' → IsGoodMember group h'
 member_by group h h' prepares tells prepared = λ good. member_one group (label_in group h') h'.seen.told refl (tells_still (label_in group h) h.seen.told h'.seen.told prepares.told tells) (prepared.headed good)
 
-pub chain_by : (r : Prepared) (group : Word) (os : List Copy) (last later n : ℕ) (hs ms new : List Held) (h h' : Held) → ms ≡ hs ++ h' ∷ [] → n ≡ length hs → Prepares group h h' → OffersNone group h' → PrepareEnds r group h'
-    → (r ≡ Cut → new ≡ ms) → (IsSound group os last n ms → IsSound group os later n new) → Tells h → IsSound group os last n hs → IsChained (os ++ map (copy_of group) new)
-chain_by Done group os last later n hs ms new h h' is long prepares none ends stays goes tells sound =
-    (goes (subst (IsSound group os last n) (sym is) (sound_with group os last n hs h' long none (member_by group h h' prepares tells ends) sound))).chained
-chain_by Cut group os last later n hs ms new h h' is long prepares none ends stays goes tells sound =
-    subst (λ xs. IsChained (os ++ map (copy_of group) xs)) (sym (stays refl ∙ is)) (chain_with group os last n hs h' none sound)
+pub chain_by : (r : Prepared) (group : Word) (missing : ℕ) (os : List Copy) (last later n : ℕ) (hs ms new : List Held) (h h' : Held) → ms ≡ hs ++ h' ∷ [] → n ≡ length hs → Prepares group h h' → OffersNone group h' → PrepareEnds r group h'
+    → (r ≡ Cut → new ≡ ms) → (IsSound group missing os last n ms → IsSound group missing os later n new) → Tells h → IsSound group missing os last n hs → IsChained missing (os ++ map (copy_of group) new)
+chain_by Done group missing os last later n hs ms new h h' is long prepares none ends stays goes tells sound =
+    (goes (subst (IsSound group missing os last n) (sym is) (sound_with group missing os last n hs h' long none (member_by group h h' prepares tells ends) sound))).chained
+chain_by Cut group missing os last later n hs ms new h h' is long prepares none ends stays goes tells sound =
+    subst (λ xs. IsChained missing (os ++ map (copy_of group) xs)) (sym (stays refl ∙ is)) (chain_with group missing os last n hs h' none sound)
 
-pub whole_by : (r : Prepared) (group : Word) (os : List Copy) (last later n k : ℕ) (hs ms new : List Held) (h h' : Held) → ms ≡ hs ++ h' ∷ [] → n ≡ length hs → Prepares group h h' → OffersNone group h' → PrepareEnds r group h'
-    → (r ≡ Cut → ⊥) → (IsSound group os last n ms → IsSound group os later k new) → Tells h → IsSound group os last n hs → IsSound group os later k new
-whole_by Done group os last later n k hs ms new h h' is long prepares none ends not goes tells sound =
-    goes (subst (IsSound group os last n) (sym is) (sound_with group os last n hs h' long none (member_by group h h' prepares tells ends) sound))
-whole_by Cut group os last later n k hs ms new h h' is long prepares none ends not goes tells sound = absurd (not refl)
+pub whole_by : (r : Prepared) (group : Word) (missing : ℕ) (os : List Copy) (last later n k : ℕ) (hs ms new : List Held) (h h' : Held) → ms ≡ hs ++ h' ∷ [] → n ≡ length hs → Prepares group h h' → OffersNone group h' → PrepareEnds r group h'
+    → (r ≡ Cut → ⊥) → (IsSound group missing os last n ms → IsSound group missing os later k new) → Tells h → IsSound group missing os last n hs → IsSound group missing os later k new
+whole_by Done group missing os last later n k hs ms new h h' is long prepares none ends not goes tells sound =
+    goes (subst (IsSound group missing os last n) (sym is) (sound_with group missing os last n hs h' long none (member_by group h h' prepares tells ends) sound))
+whole_by Cut group missing os last later n k hs ms new h h' is long prepares none ends not goes tells sound = absurd (not refl)
 
 pub taken_is : {P : Type 0} (see : P → Seen) (r : Prepared) (text : List ℕ) (disk d : Disk P) (old new : Group P) (ms : List Held) → ms ≡ members see old ++ held see d ∷ [] → Prepares old.name (held see disk) (held see d) → OffersNone old.name (held see d)
     → PrepareEnds r old.name (held see d) → (r ≡ Cut → members see new ≡ ms)
     → new.name ≡ old.name → Each (Goes (old.sequence + 1) new.sequence text) ms (members see new) → GivesOldOrNew old.name (old.sequence + 1) new.sequence text ms (members see new) → new.sequence ≤ old.sequence + 32
-    → ((os : List Copy) → Tells (held see disk) → IsSound old.name os old.sequence (length old.disks.items) (members see old) → IsChained (os ++ map (copy_of old.name) (members see new))) → IsTaken see text disk old new
+    → ((missing : ℕ) (os : List Copy) → Tells (held see disk) → IsSound old.name missing os old.sequence (length old.disks.items) (members see old) → IsChained missing (os ++ map (copy_of old.name) (members see new))) → IsTaken see text disk old new
 taken_is see r text disk d old new ms is prepares none ends stays name goes gives few chain =
     let long : length old.disks.items ≡ length (members see old) = sym (length-map old.disks.items (held see)) in
     record {

@@ -11,7 +11,7 @@ use Rattle.vx_copies.specs.Lists.{Each, AllOf}
 use Rattle.vx_copies.specs.Image.{Offer, offer_of, offer_in, offer_told, names_group, higher}
 use Rattle.vx_copies.specs.Disks.{Held, held, Drops, Goes, Offers, IsReady, IsBelow, IsNew, IsMember}
 use Rattle.vx_copies.specs.Config.{configuration, GivesOldOrNew}
-use Rattle.vx_copies.specs.Chain.{Copy, copy_of, IsGoodMember, IsSound}
+use Rattle.vx_copies.specs.Chain.{Copy, copy_of, AgreeIn, IsGoodMember, IsSound}
 use Rattle.vx_copies.proofs.Going.{keeps_trans, drops_trans, rest_trans, each_map}
 use Rattle.vx_confdb.specs.Prepare.{Says, label_in, Begins, Prepares, IsPrepared, IsBlank, OffersNone, Tells}
 use Rattle.vx_confdb.specs.Groups.{IsMemberOf}
@@ -175,10 +175,18 @@ copies_none group [] [] others all = tt
 copies_none group [] (h ∷ hs) others all = (all.0, copies_none group [] hs others all.1)
 copies_none group (o ∷ os) hs others all = (others.0, copies_none group os hs others.1 all)
 
-pub sound_none : (group : Word) (os : List Copy) (n k : ℕ) (hs : List Held) → AllOf (λ c. c.offer ≡ None) os → AllOf (OffersNone group) hs → AllOf Tells hs → AllOf (IsMemberOf group) hs → IsSound group os n k hs
-sound_none group os n k hs others none tells headed =
+agree_none : (cs ds : List Copy) → AllOf (λ c. c.offer ≡ None) cs → AllOf (λ c. AllOf (λ d. AgreeIn c.offer d.offer) ds) cs
+agree_none [] ds all = tt
+agree_none (c ∷ cs) ds all = (subst (λ o. AllOf (λ d. AgreeIn o d.offer) ds) (sym all.0) (nothing ds), agree_none cs ds all.1)
+  where
+    nothing : (es : List Copy) → AllOf (λ d. AgreeIn None d.offer) es
+    nothing [] = tt
+    nothing (e ∷ es) = (tt, nothing es)
+
+pub sound_none : (group : Word) (missing : ℕ) (os : List Copy) (n k : ℕ) (hs : List Held) → AllOf (λ c. c.offer ≡ None) os → AllOf (OffersNone group) hs → AllOf Tells hs → AllOf (IsMemberOf group) hs → IsSound group missing os n k hs
+sound_none group missing os n k hs others none tells headed =
     let all = copies_none group os hs others none in
-    record { members = members_of group hs tells headed; chained = all_none _ _ all; newest = all_none _ _ all; up_to = all_none _ _ all }
+    record { members = members_of group hs tells headed; chained = all_none _ _ all; agree = agree_none _ _ all; newest = all_none _ _ all; up_to = all_none _ _ all }
 
 -- the answer of a lost commit
 pub refused_by : {P : Type 0} (see : P → Seen) (r : Result (Unit {0}) Lost) (l : Lost) (n k : ℕ) (name : Word) (text : List ℕ) (old mid new : List (Disk P)) → r ≡ Err l

@@ -33,12 +33,12 @@ pub record IsTaken {P : Type 0} (see : P → Seen) (text : List ℕ) (disk : Dis
   pub joins : Each (Joins old.name text) (held see disk ∷ []) (drop (length old.disks.items) (members see new))
   pub old_or_new : GivesOldOrNew old.name (old.sequence + 1) new.sequence text (members see old) (members see new)
   pub few : new.sequence ≤ old.sequence + 32
-  pub chained : (others : List Copy) → Tells (held see disk) → IsSound old.name others old.sequence (length old.disks.items) (members see old) → IsChained (others ++ map (copy_of old.name) (members see new))
+  pub chained : (missing : ℕ) (others : List Copy) → Tells (held see disk) → IsSound old.name missing others old.sequence (length old.disks.items) (members see old) → IsChained missing (others ++ map (copy_of old.name) (members see new))
 
 abbrev pub TakenBy : {P : Type 0} → (P → Seen) → Result (Unit {0}) GroupFault → List ℕ → Disk P → Group P → Group P → Type 0
 TakenBy see (Ok u) text disk old new =
     IsTaken see text disk old new × CarriesText see (old.sequence + 1) text new
-    × ((others : List Copy) → Tells (held see disk) → IsSound old.name others old.sequence (length old.disks.items) (members see old) → IsSound old.name others new.sequence (length new.disks.items) (members see new))
+    × ((missing : ℕ) (others : List Copy) → Tells (held see disk) → IsSound old.name missing others old.sequence (length old.disks.items) (members see old) → IsSound old.name missing others new.sequence (length new.disks.items) (members see new))
 TakenBy see (Err fault.OutOfMemory) text disk old new = ⊥
 TakenBy see (Err (fault.TooLong n)) text disk old new = ⊥
 TakenBy see (Err fault.GroupLost) text disk old new = IsTaken see text disk old new × (new.lost ≡ Some lost.GroupLost) × Each HasRisen (members see old) (take (length old.disks.items) (members see new))

@@ -15,8 +15,8 @@ pub record IsCarried (result : Result (Unit {0}) Lost) (carriers before now : �
   pub below : (group : Word) → AllOf (IsBelow group before) old → AllOf (IsBelow group now) new
   pub ends : CommitEnds result carriers now text old new
   pub goes : Each (Goes (before + 1) now text) old new
-  pub sound : (group : Word) (others : List Copy) → IsSound group others before carriers old → IsSound group others now carriers new
-  pub all : OnOk result ((group : Word) (others : List Copy) → IsSound group others before carriers old → IsSound group others now (length old) new)
+  pub sound : (group : Word) (missing : ℕ) (others : List Copy) → IsSound group missing others before carriers old → IsSound group missing others now carriers new
+  pub all : OnOk result ((group : Word) (missing : ℕ) (others : List Copy) → IsSound group missing others before carriers old → IsSound group missing others now (length old) new)
   pub recorded : Recorded (before + 1) now text old new
   pub done : OnOk result (IsDone carriers now text new)
   pub exact : OnOk result (Each IsQuiet old new → Each (WritesJust (sectors_of text)) old new)

@@ -1,4 +1,4 @@
-ghost use Rattle.std.specs.Prelude.{◌≡◌, ◌<◌, ◌≤◌, List, length, map, None, IfOk};
+ghost use Rattle.std.specs.Prelude.{◌≡◌, ℕ, ◌<◌, ◌≤◌, List, length, map, None, IfOk};
 ghost use Rattle.vx_copies.specs.Lists.{AllOf};
 ghost use Rattle.vx_copies.specs.Disks.{held};
 ghost use Rattle.vx_copies.specs.Chain.{Copy, IsSound};
@@ -41,7 +41,7 @@ pub fn create<P: Piece>(
     ensures writes { CreateWrites P.seen result name text.now disks.items }
     ensures too_long { 522240 < length text.now → IsTooLong (length text.now) result }
     ensures group { IfOk result (IsGroup P.seen) }
-    ensures sound { (others : List Copy) → AllOf (λ c. c.offer ≡ None) others → AllOf Tells (map (held P.seen) disks.items) → IfOk result (λ group. IsSound name others group.sequence (length disks.items) (members P.seen group)) }
+    ensures sound { (missing : ℕ) (others : List Copy) → AllOf (λ c. c.offer ≡ None) others → AllOf Tells (map (held P.seen) disks.items) → IfOk result (λ group. IsSound name missing others group.sequence (length disks.items) (members P.seen group)) }
 {
     if text.len() > MOST_TEXT as usize {
         let fault = GroupFault::TooLong(text.len() as u64);
@@ -61,7 +61,7 @@ fn found<P: Piece>(name: Name, disks: Vec<Disk<P>>, text: Text) -> Result<Group<
     ensures gives { CreateGives P.seen result name (text_of text) disks.items }
     ensures writes { CreateWrites P.seen result name (text_of text) disks.items }
     ensures group { IfOk result (IsGroup P.seen) }
-    ensures sound { (others : List Copy) → AllOf (λ c. c.offer ≡ None) others → AllOf Tells (map (held P.seen) disks.items) → IfOk result (λ group. IsSound name others group.sequence (length disks.items) (members P.seen group)) }
+    ensures sound { (missing : ℕ) (others : List Copy) → AllOf (λ c. c.offer ≡ None) others → AllOf Tells (map (held P.seen) disks.items) → IfOk result (λ group. IsSound name missing others group.sequence (length disks.items) (members P.seen group)) }
 {
     let mut disks = disks;
     match join_all(&mut disks, &name) {

@@ -60,7 +60,7 @@ impl<P: Piece> Group<P> {
         ensures done { OnOk result (IsDone (length self.old.disks.items) self.new.sequence text.now (members P.seen self.new)) }
         ensures exact { OnOk result (Each IsQuiet (members P.seen self.old) (members P.seen self.new) → Each (WritesJust (sectors_of text.now)) (members P.seen self.old) (members P.seen self.new)) }
         ensures old_or_new { self.old.lost ≡ None → GivesOldOrNew self.old.name (self.old.sequence + 1) self.new.sequence text.now (members P.seen self.old) (members P.seen self.new) }
-        ensures sound { (others : List Copy) → IsSound self.old.name others self.old.sequence (length self.old.disks.items) (members P.seen self.old) → IsSound self.old.name others self.new.sequence (length self.old.disks.items) (members P.seen self.new) }
+        ensures sound { (missing : ℕ) (others : List Copy) → IsSound self.old.name missing others self.old.sequence (length self.old.disks.items) (members P.seen self.old) → IsSound self.old.name missing others self.new.sequence (length self.old.disks.items) (members P.seen self.new) }
     {
         if text.len() > MOST_TEXT as usize {
             return Err(GroupFault::TooLong(text.len() as u64));
@@ -132,8 +132,8 @@ impl<P: Piece> Group<P> {
         requires carriers { carriers ≤ length self.old.disks.items }
         ensures group { IsGroup P.seen self.new }
         ensures written { IsWritten P.seen result carriers (text_of text) self.old self.new }
-        ensures sound { (others : List Copy) → IsSound self.old.name others self.old.sequence carriers (members P.seen self.old) → IsSound self.old.name others self.new.sequence carriers (members P.seen self.new) }
-        ensures all { OnOk result ((others : List Copy) → IsSound self.old.name others self.old.sequence carriers (members P.seen self.old) → IsSound self.old.name others self.new.sequence (length self.old.disks.items) (members P.seen self.new)) }
+        ensures sound { (missing : ℕ) (others : List Copy) → IsSound self.old.name missing others self.old.sequence carriers (members P.seen self.old) → IsSound self.old.name missing others self.new.sequence carriers (members P.seen self.new) }
+        ensures all { OnOk result ((missing : ℕ) (others : List Copy) → IsSound self.old.name missing others self.old.sequence carriers (members P.seen self.old) → IsSound self.old.name missing others self.new.sequence (length self.old.disks.items) (members P.seen self.new)) }
         ensures cut { joined ≡ Prepared.Cut → result ≡ Err GroupFault.PowerLost }
         ensures stays { joined ≡ Prepared.Cut → self.new.disks.items ≡ self.old.disks.items }
     {
@@ -154,8 +154,8 @@ impl<P: Piece> Group<P> {
         requires carriers { carriers ≤ length self.old.disks.items }
         ensures group { IsGroup P.seen self.new }
         ensures written { IsWritten P.seen result carriers (text_of text) self.old self.new }
-        ensures sound { (others : List Copy) → IsSound self.old.name others self.old.sequence carriers (members P.seen self.old) → IsSound self.old.name others self.new.sequence carriers (members P.seen self.new) }
-        ensures all { OnOk result ((others : List Copy) → IsSound self.old.name others self.old.sequence carriers (members P.seen self.old) → IsSound self.old.name others self.new.sequence (length self.old.disks.items) (members P.seen self.new)) }
+        ensures sound { (missing : ℕ) (others : List Copy) → IsSound self.old.name missing others self.old.sequence carriers (members P.seen self.old) → IsSound self.old.name missing others self.new.sequence carriers (members P.seen self.new) }
+        ensures all { OnOk result ((missing : ℕ) (others : List Copy) → IsSound self.old.name missing others self.old.sequence carriers (members P.seen self.old) → IsSound self.old.name missing others self.new.sequence (length self.old.disks.items) (members P.seen self.new)) }
     {
         match write_all(&mut self.disks, carriers, &mut self.sequence, &text) {
             Ok(_) => {

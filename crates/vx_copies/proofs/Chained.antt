@@ -11,7 +11,7 @@ use Rattle.vx_copies.specs.Disks.{Held, Drops, Stays, StaysTold, Stamps, OffersJ
 use Rattle.vx_copies.specs.Pass.{NowOffers, FirstTurned, KeepsOffer, TurnsFirst}
 use Rattle.vx_copies.proofs.InGroup.{in_same, in_just, in_member}
 use Rattle.vx_header.specs.Named.{header_of}
-use Rattle.vx_copies.specs.Chain.{IsGoodMember, Copy, copy_of, AllUpTo, NamesNewer, IsChained, NamesGood, IsSound}
+use Rattle.vx_copies.specs.Chain.{IsGoodMember, Copy, copy_of, AllUpTo, NamesNewer, NamesMissing, IsChained, AgreeIn, AllAgree, NamesGood, IsSound}
 
 abbrev IfOffer : (Offer → Type 0) → Copy → Type 0
 IfOffer Q c = MatchOption c.offer (Unit {0}) Q
@@ -20,8 +20,8 @@ IfOffer Q c = MatchOption c.offer (Unit {0}) Q
 abbrev NewestNames : List Copy → ℕ → Copy → Type 0
 NewestNames copies x c = IfOffer (λ o. AllUpTo o.sequence copies → has o.good x ≡ true) c
 
-abbrev Linked : List Copy → Copy → Type 0
-Linked copies c = IfOffer (λ o. AllUpTo o.sequence copies ⊎ NamesNewer o copies) c
+abbrev Linked : ℕ → List Copy → Copy → Type 0
+Linked missing copies c = IfOffer (λ o. AllUpTo o.sequence copies ⊎ (NamesNewer o copies ⊎ NamesMissing missing o)) c
 
 if_offer : (Q : Offer → Type 0) (c : Copy) (o : Offer) → c.offer ≡ Some o → MatchOption c.offer (Unit {0}) Q → Q o
 if_offer Q c o e is = subst (λ x. MatchOption x (Unit {0}) Q) e is
@@ -78,25 +78,60 @@ module _ (old : List Copy) (last sequence mask : ℕ) (text : List ℕ) (later :
   names_turned o c e le top at (d ∷ ds) (inr any) = inr (names_turned o c e le top at ds any)
   names_turned o c e le top at (d ∷ ds) (inl new) = inl (if_offer (λ o. AllUpTo o.sequence old → has o.good d.slot ≡ true) c o e (at d.slot new.named) top, subst (λ x. MatchOption x ⊥ (λ p. o.sequence < p.sequence)) (sym new.offer) (let lt : o.sequence < sequence = omega (arith, le, later) in lt))
 
+  -- what agreed still does, and new ones agree
+  low_not_new : (o : Option Offer) → MatchOption o (Unit {0}) (λ p. p.sequence ≤ last) → AgreeIn o (Some (record { sequence = sequence; good = mask; text = text }))
+  low_not_new None low = tt
+  low_not_new (Some p) low = λ same. absurd (omega (arith, low, later, same))
+
+  new_not_low : (o : Option Offer) → MatchOption o (Unit {0}) (λ p. p.sequence ≤ last) → AgreeIn (Some (record { sequence = sequence; good = mask; text = text })) o
+  new_not_low None low = tt
+  new_not_low (Some p) low = λ same. absurd (omega (arith, low, later, same))
+
+  agree_by : (a b a' b' : Option Offer) → a' ≡ a → b' ≡ b → AgreeIn a b → AgreeIn a' b'
+  agree_by a b a' b' e f is = subst (λ x. AgreeIn x b') (sym e) (subst (AgreeIn a) (sym f) is)
+
+  agree_one : (c d e f : Copy) → Turned c e → Turned d f → IfOffer (λ o. o.sequence ≤ last) c → IfOffer (λ o. o.sequence ≤ last) d → AgreeIn c.offer d.offer → AgreeIn e.offer f.offer
+  agree_one c d e f (p, inl same) (q, inl still) low under is = agree_by c.offer d.offer e.offer f.offer same still is
+  agree_one c d e f (p, inl same) (q, inr new) low under is = agree_by c.offer (Some (record { sequence = sequence; good = mask; text = text })) e.offer f.offer same new (low_not_new c.offer low)
+  agree_one c d e f (p, inr new) (q, inl still) low under is = agree_by (Some (record { sequence = sequence; good = mask; text = text })) d.offer e.offer f.offer new still (new_not_low d.offer under)
+  agree_one c d e f (p, inr new) (q, inr also) low under is = agree_by (Some (record { sequence = sequence; good = mask; text = text })) (Some (record { sequence = sequence; good = mask; text = text })) e.offer f.offer new also (λ same. (refl, refl))
+
+  agree_row : (c e : Copy) → Turned c e → IfOffer (λ o. o.sequence ≤ last) c → (ds fs : List Copy) → Each Turned ds fs → AllUpTo last ds → AllOf (λ d. AgreeIn c.offer d.offer) ds → AllOf (λ f. AgreeIn e.offer f.offer) fs
+  agree_row c e turned low [] [] is under all = tt
+  agree_row c e turned low [] (f ∷ fs) is under all = absurd is
+  agree_row c e turned low (d ∷ ds) [] is under all = absurd is
+  agree_row c e turned low (d ∷ ds) (f ∷ fs) is under all = (agree_one c d e f turned is.0 low under.0 all.0, agree_row c e turned low ds fs is.1 under.1 all.1)
+
+  module _ (new : List Copy) (turned : Each Turned old new) (low : AllUpTo last old) where
+    agree_all : (cs es : List Copy) → Each Turned cs es → AllUpTo last cs → AllOf (λ c. AllOf (λ d. AgreeIn c.offer d.offer) old) cs → AllOf (λ e. AllOf (λ f. AgreeIn e.offer f.offer) new) es
+    agree_all [] [] is under all = tt
+    agree_all [] (e ∷ es) is under all = absurd is
+    agree_all (c ∷ cs) [] is under all = absurd is
+    agree_all (c ∷ cs) (e ∷ es) is under all = (agree_row c e is.0 under.0 old new turned low all.0, agree_all cs es is.1 under.1 all.1)
+
+    pub agree_after : AllAgree old → AllAgree new
+    agree_after all = agree_all old new turned low all
+
   module _ (new : List Copy) (turned : Each Turned old new) (any : AnyOf IsTurned new) (up : AllUpTo sequence new) where
-    linked_one : (c d : Copy) → Turned c d → ((x : ℕ) → AllOf (NewestNames old x) old → NewestNames old x c) → IfOffer (λ o. o.sequence ≤ last) c → Linked old c → Linked new d
-    linked_one c d (slot, inr is) at low link = subst (λ x. MatchOption x (Unit {0}) (λ o. AllUpTo o.sequence new ⊎ NamesNewer o new)) (sym is) (inl up)
-    linked_one c d (slot, inl same) at low link = subst (λ x. MatchOption x (Unit {0}) (λ o. AllUpTo o.sequence new ⊎ NamesNewer o new)) (sym same) (by c.offer refl low link)
+    linked_one : (missing : ℕ) (c d : Copy) → Turned c d → ((x : ℕ) → AllOf (NewestNames old x) old → NewestNames old x c) → IfOffer (λ o. o.sequence ≤ last) c → Linked missing old c → Linked missing new d
+    linked_one missing c d (slot, inr is) at low link = subst (λ x. MatchOption x (Unit {0}) (λ o. AllUpTo o.sequence new ⊎ (NamesNewer o new ⊎ NamesMissing missing o))) (sym is) (inl up)
+    linked_one missing c d (slot, inl same) at low link = subst (λ x. MatchOption x (Unit {0}) (λ o. AllUpTo o.sequence new ⊎ (NamesNewer o new ⊎ NamesMissing missing o))) (sym same) (by c.offer refl low link)
       where
-        by : (x : Option Offer) → c.offer ≡ x → MatchOption x (Unit {0}) (λ o. o.sequence ≤ last) → MatchOption x (Unit {0}) (λ o. AllUpTo o.sequence old ⊎ NamesNewer o old) → MatchOption x (Unit {0}) (λ o. AllUpTo o.sequence new ⊎ NamesNewer o new)
+        by : (x : Option Offer) → c.offer ≡ x → MatchOption x (Unit {0}) (λ o. o.sequence ≤ last) → MatchOption x (Unit {0}) (λ o. AllUpTo o.sequence old ⊎ (NamesNewer o old ⊎ NamesMissing missing o)) → MatchOption x (Unit {0}) (λ o. AllUpTo o.sequence new ⊎ (NamesNewer o new ⊎ NamesMissing missing o))
         by None e low link = tt
-        by (Some o) e low (inl top) = inr (names_turned o c e low top at new any)
-        by (Some o) e low (inr newer) = inr (newer_stays o low old new turned newer)
+        by (Some o) e low (inl top) = inr (inl (names_turned o c e low top at new any))
+        by (Some o) e low (inr (inl newer)) = inr (inl (newer_stays o low old new turned newer))
+        by (Some o) e low (inr (inr gone)) = inr (inr gone)
 
     -- the copies from some place on
-    linked_all : (cs ds : List Copy) → Each Turned cs ds → ((x : ℕ) → AllOf (NewestNames old x) old → AllOf (NewestNames old x) cs) → AllUpTo last cs → AllOf (Linked old) cs → AllOf (Linked new) ds
-    linked_all [] [] is at low links = tt
-    linked_all [] (d ∷ ds) is at low links = absurd is
-    linked_all (c ∷ cs) [] is at low links = absurd is
-    linked_all (c ∷ cs) (d ∷ ds) is at low links = (linked_one c d is.0 (λ x all. (at x all).0) low.0 links.0, linked_all cs ds is.1 (λ x all. (at x all).1) low.1 links.1)
+    linked_all : (missing : ℕ) (cs ds : List Copy) → Each Turned cs ds → ((x : ℕ) → AllOf (NewestNames old x) old → AllOf (NewestNames old x) cs) → AllUpTo last cs → AllOf (Linked missing old) cs → AllOf (Linked missing new) ds
+    linked_all missing [] [] is at low links = tt
+    linked_all missing [] (d ∷ ds) is at low links = absurd is
+    linked_all missing (c ∷ cs) [] is at low links = absurd is
+    linked_all missing (c ∷ cs) (d ∷ ds) is at low links = (linked_one missing c d is.0 (λ x all. (at x all).0) low.0 links.0, linked_all missing cs ds is.1 (λ x all. (at x all).1) low.1 links.1)
 
-    pub chained_after : IsChained old → AllUpTo last old → IsChained new
-    chained_after chained low = linked_all old new turned (λ x all. all) low chained
+    pub chained_after : (missing : ℕ) → IsChained missing old → AllUpTo last old → IsChained missing new
+    chained_after missing chained low = linked_all missing old new turned (λ x all. all) low chained
 
     -- what is newest now is new
     not_low : (o : Offer) → o.sequence ≤ last → (ds : List Copy) → AnyOf IsTurned ds → AllUpTo o.sequence ds → ⊥
@@ -221,24 +256,25 @@ stamps_headers s m text [] (b ∷ bs) is = absurd is
 stamps_headers s m text (a ∷ hs) [] is = absurd is
 stamps_headers s m text (a ∷ hs) (b ∷ bs) is = (just_header s m text a.good a.seen.told b.seen.told is.0.offers, stamps_headers s m text hs bs is.1)
 
-pub sound_stays : (group : Word) (others : List Copy) (last n : ℕ) (hs bs : List Held) → Each Stays hs bs → IsSound group others last n hs → IsSound group others last n bs
-sound_stays group others last n hs bs stays sound =
+pub sound_stays : (group : Word) (missing : ℕ) (others : List Copy) (last n : ℕ) (hs bs : List Held) → Each Stays hs bs → IsSound group missing others last n hs → IsSound group missing others last n bs
+sound_stays group missing others last n hs bs stays sound =
     let same : others ++ map (copy_of group) hs ≡ others ++ map (copy_of group) bs = ap (λ cs. others ++ cs) (sym (copies_stay group hs bs stays)) in
     record {
       members = members_stay group hs bs (stays_was hs bs stays) (stays_headers hs bs stays) sound.members;
-      chained = subst IsChained same sound.chained;
+      chained = subst (IsChained missing) same sound.chained;
+      agree = subst AllAgree same sound.agree;
       newest = subst (λ cs. AllOf (IfOffer (λ o. AllUpTo o.sequence cs → NamesGood o (take n bs))) cs) same (newest_left _ (take n hs) (take n bs) (each_first WasGood n hs bs (stays_was hs bs stays)) _ sound.newest);
       up_to = subst (AllUpTo last) same sound.up_to;
     }
 
-pub sound_later : (group : Word) (others : List Copy) (last later n : ℕ) (hs : List Held) → last ≤ later → IsSound group others last n hs → IsSound group others later n hs
-sound_later group others last later n hs le sound = record { members = sound.members; chained = sound.chained; newest = sound.newest; up_to = all_map _ _ (λ c. by c.offer) _ sound.up_to }
+pub sound_later : (group : Word) (missing : ℕ) (others : List Copy) (last later n : ℕ) (hs : List Held) → last ≤ later → IsSound group missing others last n hs → IsSound group missing others later n hs
+sound_later group missing others last later n hs le sound = record { members = sound.members; chained = sound.chained; agree = sound.agree; newest = sound.newest; up_to = all_map _ _ (λ c. by c.offer) _ sound.up_to }
   where
     by : (x : Option Offer) → MatchOption x (Unit {0}) (λ o. o.sequence ≤ last) → MatchOption x (Unit {0}) (λ o. o.sequence ≤ later)
     by None is = tt
     by (Some o) is = let r : o.sequence ≤ later = omega (arith, is, le) in r
 
-module _ (group : Word) (others : List Copy) (last sequence mask : ℕ) (text : List ℕ) (later : last < sequence) where
+module _ (group : Word) (missing : ℕ) (others : List Copy) (last sequence mask : ℕ) (text : List ℕ) (later : last < sequence) where
   turn_one : (copies : List Copy) (a b : Held) → Stamps sequence mask text a b → Turned copies last sequence mask text later (copy_of group a) (copy_of group b)
   turn_one copies a b is = (is.slot, by a.seen.told b.seen.told is.offers)
     where
@@ -305,7 +341,7 @@ module _ (group : Word) (others : List Copy) (last sequence mask : ℕ) (text : 
   any_behind Q [] cs any = any
   any_behind Q (o ∷ os) cs any = inr (any_behind Q os cs any)
 
-  module _ (n : ℕ) (hs bs : List Held) (stamps : Each (Stamps sequence mask text) hs bs) (names : AllOf (λ h. IsTrue h.good → has mask h.slot ≡ true) hs) (sound : IsSound group others last n hs) where
+  module _ (n : ℕ) (hs bs : List Held) (stamps : Each (Stamps sequence mask text) hs bs) (names : AllOf (λ h. IsTrue h.good → has mask h.slot ≡ true) hs) (sound : IsSound group missing others last n hs) where
     old : List Copy
     old = others ++ map (copy_of group) hs
 
@@ -322,23 +358,25 @@ module _ (group : Word) (others : List Copy) (last sequence mask : ℕ) (text : 
     left_members = members_stay group hs bs (stamps_was sequence mask text hs bs stamps) (stamps_headers sequence mask text hs bs stamps) sound.members
 
     -- where the first good disk has the toggle, the newest name all good disks
-    pub sound_turned : (k : ℕ) → 0 < good_count (take n hs) → FirstTurned sequence mask text hs bs → IsSound group others sequence k bs
+    pub sound_turned : (k : ℕ) → 0 < good_count (take n hs) → FirstTurned sequence mask text hs bs → IsSound group missing others sequence k bs
     sound_turned k some first =
         let any = any_behind (IsTurned (others ++ map (copy_of group) hs) last sequence mask text later) others (map (copy_of group) bs) (witness (others ++ map (copy_of group) hs) n hs bs stamps first some sound.members sound.newest) in
         record {
           members = left_members;
-          chained = chained_after (others ++ map (copy_of group) hs) last sequence mask text later (others ++ map (copy_of group) bs) turned any up sound.chained sound.up_to;
+          chained = chained_after (others ++ map (copy_of group) hs) last sequence mask text later (others ++ map (copy_of group) bs) turned any up missing sound.chained sound.up_to;
+          agree = agree_after (others ++ map (copy_of group) hs) last sequence mask text later (others ++ map (copy_of group) bs) turned sound.up_to sound.agree;
           newest = newest_after (others ++ map (copy_of group) hs) last sequence mask text later (others ++ map (copy_of group) bs) turned any up (take k bs) (all_first _ k bs still) (others ++ map (copy_of group) hs) (others ++ map (copy_of group) bs) turned sound.up_to;
           up_to = up;
         }
 
-    pub sound_stamps : 0 < good_count (take n hs) → TurnsFirst sequence mask text hs bs → IsSound group others sequence n bs
+    pub sound_stamps : 0 < good_count (take n hs) → TurnsFirst sequence mask text hs bs → IsSound group missing others sequence n bs
     sound_stamps some (inl first) = sound_turned n some first
     sound_stamps some (inr keeps) =
         let same : others ++ map (copy_of group) hs ≡ others ++ map (copy_of group) bs = ap (λ cs. others ++ cs) (sym (same_offers hs bs stamps keeps)) in
         record {
           members = left_members;
-          chained = subst IsChained same sound.chained;
+          chained = subst (IsChained missing) same sound.chained;
+          agree = subst AllAgree same sound.agree;
           newest = subst (λ cs. AllOf (IfOffer (λ o. AllUpTo o.sequence cs → NamesGood o (take n bs))) cs) same (newest_left _ (take n hs) (take n bs) (each_first WasGood n hs bs (stamps_was sequence mask text hs bs stamps)) _ sound.newest);
           up_to = up;
         }

@@ -1,5 +1,5 @@
 -- The copies of a group's configuration on all its devices, and what they keep, so that no import takes an older one.
-use Rattle.std.specs.Prelude.{◌≡◌, ◌⊎◌, ℕ, ◌<◌, ◌≤◌, true, IsTrue, List, ◌++◌, map, take, Option, MatchOption}
+use Rattle.std.specs.Prelude.{◌≡◌, ◌⊎◌, ℕ, ◌<◌, ◌≤◌, true, IsTrue, List, ◌++◌, map, take, Option, Some, None, MatchOption}
 use Rattle.vx_base.specs.Named.{Word}
 use Rattle.vx_mask.specs.Mask.{has}
 use Rattle.vx_copies.specs.Lists.{AllOf, AnyOf}
@@ -22,9 +22,22 @@ AllUpTo n copies = AllOf (λ c. MatchOption c.offer (Unit {0}) (λ o. o.sequence
 abbrev pub NamesNewer : Offer → List Copy → Type 0
 NamesNewer o copies = AnyOf (λ c. (has o.good c.slot ≡ true) × MatchOption c.offer ⊥ (λ p. o.sequence < p.sequence)) copies
 
--- each offer is one of the newest, or names a device with a newer one
-abbrev pub IsChained : List Copy → Type 0
-IsChained copies = AllOf (λ c. MatchOption c.offer (Unit {0}) (λ o. AllUpTo o.sequence copies ⊎ NamesNewer o copies)) copies
+-- the offer names a slot of this mask, whose disk is missing
+abbrev pub NamesMissing : ℕ → Offer → Type 0
+NamesMissing missing o = (slot : ℕ) × (has missing slot ≡ true) × (has o.good slot ≡ true)
+
+-- each offer is one of the newest, or names a device with a newer one, or a disk that is missing
+abbrev pub IsChained : ℕ → List Copy → Type 0
+IsChained missing copies = AllOf (λ c. MatchOption c.offer (Unit {0}) (λ o. AllUpTo o.sequence copies ⊎ (NamesNewer o copies ⊎ NamesMissing missing o))) copies
+
+-- two offers of one sequence have one mask and one text
+abbrev pub AgreeIn : Option Offer → Option Offer → Type 0
+AgreeIn None b = Unit {0}
+AgreeIn (Some o) None = Unit {0}
+AgreeIn (Some o) (Some p) = o.sequence ≡ p.sequence → (o.good ≡ p.good) × (o.text ≡ p.text)
+
+abbrev pub AllAgree : List Copy → Type 0
+AllAgree copies = AllOf (λ c. AllOf (λ d. AgreeIn c.offer d.offer) copies) copies
 
 -- the offer names each good disk
 abbrev pub NamesGood : Offer → List Held → Type 0
@@ -34,10 +47,11 @@ NamesGood o disks = AllOf (λ h. IsTrue h.good → has o.good h.slot ≡ true) d
 abbrev pub IsGoodMember : Word → Held → Type 0
 IsGoodMember group h = IsTrue h.good → IsMember group h.seen.told
 
--- The members of the group and its other devices, up to a sequence: their copies are chained, and the newest name each
--- good one of the first `carriers` members.
-pub record IsSound (group : Word) (others : List Copy) (last carriers : ℕ) (disks : List Held) : Type 0 where
+-- The members of the group and its other devices, up to a sequence, where the disks of a mask are missing: their copies are
+-- chained and agree, and the newest name each good one of the first `carriers` members.
+pub record IsSound (group : Word) (missing : ℕ) (others : List Copy) (last carriers : ℕ) (disks : List Held) : Type 0 where
   pub members : AllOf (IsGoodMember group) disks
-  pub chained : IsChained (others ++ map (copy_of group) disks)
+  pub chained : IsChained missing (others ++ map (copy_of group) disks)
+  pub agree : AllAgree (others ++ map (copy_of group) disks)
   pub newest : AllOf (λ c. MatchOption c.offer (Unit {0}) (λ o. AllUpTo o.sequence (others ++ map (copy_of group) disks) → NamesGood o (take carriers disks))) (others ++ map (copy_of group) disks)
   pub up_to : AllUpTo last (others ++ map (copy_of group) disks)

@@ -66,8 +66,8 @@ fn attempt<P: Piece>(
     requires size { length sector.old ≡ 512 }
     ensures size { length sector.new ≡ 512 }
     ensures goes { Each (Goes sequence sequence text.now) (map (held P.seen) disks.old) (map (held P.seen) disks.new) }
-    ensures sound { (group : Word) (others : List Copy) (last carriers : ℕ) → last < sequence → 0 < good_count (take carriers (map (held P.seen) disks.old)) → IsSound group others last carriers (map (held P.seen) disks.old) → IsSound group others sequence carriers (map (held P.seen) disks.new) }
-    ensures all { (group : Word) (others : List Copy) (last carriers : ℕ) → last < sequence → 0 < good_count (take carriers (map (held P.seen) disks.old)) → IsSound group others last carriers (map (held P.seen) disks.old) → result ≡ Pass.Done → IsSound group others sequence (length disks.old) (map (held P.seen) disks.new) }
+    ensures sound { (group : Word) (missing : ℕ) (others : List Copy) (last carriers : ℕ) → last < sequence → 0 < good_count (take carriers (map (held P.seen) disks.old)) → IsSound group missing others last carriers (map (held P.seen) disks.old) → IsSound group missing others sequence carriers (map (held P.seen) disks.new) }
+    ensures all { (group : Word) (missing : ℕ) (others : List Copy) (last carriers : ℕ) → last < sequence → 0 < good_count (take carriers (map (held P.seen) disks.old)) → IsSound group missing others last carriers (map (held P.seen) disks.old) → result ≡ Pass.Done → IsSound group missing others sequence (length disks.old) (map (held P.seen) disks.new) }
     ensures ends { AttemptEnds result sequence text.now (map (held P.seen) disks.old) (map (held P.seen) disks.new) }
     ensures touches { Each (Touches sequence sequence text.now (IsMaskOf (map (held P.seen) disks.old) (map (held P.seen) disks.new))) (map (held P.seen) disks.old) (map (held P.seen) disks.new) }
     ensures done { result ≡ Pass.Done → Each (WritesJust (sectors_of text.now)) (map (held P.seen) disks.old) (map (held P.seen) disks.new) × AllOf (CarriesIfGood sequence (good_mask (map (held P.seen) disks.new)) text.now) (map (held P.seen) disks.new) }
@@ -97,8 +97,8 @@ fn commit_on<P: Piece>(
     requires low { sequence.old < 2 ^ 64 - 64 }
     ensures goes { Each (Goes (sequence.old + 1) sequence.new text.now) (map (held P.seen) disks.old) (map (held P.seen) disks.new) }
     ensures ends { CommitEnds result carriers sequence.new text.now (map (held P.seen) disks.old) (map (held P.seen) disks.new) }
-    ensures sound { (group : Word) (others : List Copy) → IsSound group others sequence.old carriers (map (held P.seen) disks.old) → IsSound group others sequence.new carriers (map (held P.seen) disks.new) }
-    ensures all { OnOk result ((group : Word) (others : List Copy) → IsSound group others sequence.old carriers (map (held P.seen) disks.old) → IsSound group others sequence.new (length disks.old) (map (held P.seen) disks.new)) }
+    ensures sound { (group : Word) (missing : ℕ) (others : List Copy) → IsSound group missing others sequence.old carriers (map (held P.seen) disks.old) → IsSound group missing others sequence.new carriers (map (held P.seen) disks.new) }
+    ensures all { OnOk result ((group : Word) (missing : ℕ) (others : List Copy) → IsSound group missing others sequence.old carriers (map (held P.seen) disks.old) → IsSound group missing others sequence.new (length disks.old) (map (held P.seen) disks.new)) }
     ensures older { OnOk result ((group : Word) → AllOf (IsBelow group sequence.old) (map (held P.seen) disks.old) → AllOf (IsOlder group sequence.new) (map (held P.seen) disks.new)) }
     ensures more { sequence.old ≤ sequence.new }
     ensures next { OnOk result (sequence.old < sequence.new) }
@@ -140,8 +140,8 @@ pub fn commit<P: Piece>(
     ensures below { (group : Word) → AllOf (IsBelow group sequence.old) (map (held P.seen) disks.old) → AllOf (IsBelow group sequence.new) (map (held P.seen) disks.new) }
     ensures ends { CommitEnds result carriers sequence.new text.now (map (held P.seen) disks.old) (map (held P.seen) disks.new) }
     ensures goes { Each (Goes (sequence.old + 1) sequence.new text.now) (map (held P.seen) disks.old) (map (held P.seen) disks.new) }
-    ensures sound { (group : Word) (others : List Copy) → IsSound group others sequence.old carriers (map (held P.seen) disks.old) → IsSound group others sequence.new carriers (map (held P.seen) disks.new) }
-    ensures all { OnOk result ((group : Word) (others : List Copy) → IsSound group others sequence.old carriers (map (held P.seen) disks.old) → IsSound group others sequence.new (length disks.old) (map (held P.seen) disks.new)) }
+    ensures sound { (group : Word) (missing : ℕ) (others : List Copy) → IsSound group missing others sequence.old carriers (map (held P.seen) disks.old) → IsSound group missing others sequence.new carriers (map (held P.seen) disks.new) }
+    ensures all { OnOk result ((group : Word) (missing : ℕ) (others : List Copy) → IsSound group missing others sequence.old carriers (map (held P.seen) disks.old) → IsSound group missing others sequence.new (length disks.old) (map (held P.seen) disks.new)) }
     ensures more { sequence.old ≤ sequence.new }
     ensures recorded { Recorded (sequence.old + 1) sequence.new text.now (map (held P.seen) disks.old) (map (held P.seen) disks.new) }
     ensures done { OnOk result (IsDone carriers sequence.new text.now (map (held P.seen) disks.new)) }

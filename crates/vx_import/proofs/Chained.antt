@@ -6,7 +6,7 @@ use Rattle.vx_base.specs.Named.{Word}
 use Rattle.vx_mask.specs.Mask.{has}
 use Rattle.vx_copies.specs.Lists.{AllOf, AnyOf}
 use Rattle.vx_copies.specs.Image.{Offer, offer_told, higher}
-use Rattle.vx_copies.specs.Chain.{Copy, AllUpTo, NamesNewer, IsChained}
+use Rattle.vx_copies.specs.Chain.{Copy, AllUpTo, NamesNewer, NamesMissing, IsChained}
 use Rattle.vx_import.specs.Looks.{Looked}
 use Rattle.vx_import.specs.Choice.{given}
 use Rattle.vx_import.specs.Newest.{copy_of, copies_with, NamesUnread, IsNewestOrNames}
@@ -72,10 +72,10 @@ module _ (group : Word) where
   any_part Q (c ∷ others) cs (inl is) = inl (inl is)
   any_part Q (c ∷ others) cs (inr any) = elim (any_part Q others cs any) [ inl a ↦ inl (inr a) | inr b ↦ inr b ]
 
-  linked_at : (o : Offer) (all cs : List Copy) → AllOf (λ c. MatchOption c.offer (Unit {0}) (λ p. AllUpTo p.sequence all ⊎ NamesNewer p all)) cs → AnyOf (λ c. c.offer ≡ Some o) cs → AllUpTo o.sequence all ⊎ NamesNewer o all
-  linked_at o all [] links any = absurd any
-  linked_at o all (c ∷ cs) links (inl is) = subst (λ x. MatchOption x (Unit {0}) (λ p. AllUpTo p.sequence all ⊎ NamesNewer p all)) is links.0
-  linked_at o all (c ∷ cs) links (inr any) = linked_at o all cs links.1 any
+  linked_at : (missing : ℕ) (o : Offer) (all cs : List Copy) → AllOf (λ c. MatchOption c.offer (Unit {0}) (λ p. AllUpTo p.sequence all ⊎ (NamesNewer p all ⊎ NamesMissing missing p))) cs → AnyOf (λ c. c.offer ≡ Some o) cs → AllUpTo o.sequence all ⊎ (NamesNewer o all ⊎ NamesMissing missing o)
+  linked_at missing o all [] links any = absurd any
+  linked_at missing o all (c ∷ cs) links (inl is) = subst (λ x. MatchOption x (Unit {0}) (λ p. AllUpTo p.sequence all ⊎ (NamesNewer p all ⊎ NamesMissing missing p))) is links.0
+  linked_at missing o all (c ∷ cs) links (inr any) = linked_at missing o all cs links.1 any
 
   unread : (o : Offer) (fs : List Looked) → AllOf (λ f. UpTo o.sequence (offer_here f)) fs → NamesNewer o (map (copy_of group) fs) → NamesUnread o fs
   unread o [] up any = absurd any
@@ -86,12 +86,13 @@ module _ (group : Word) where
       by true le = absurd (not_above o.sequence (offer_told group f.seen.told) le is.1)
       by false le = refl
 
-  pub newest_or_names : (others : List Copy) (fs : List Looked) (o : Offer) → IsChained (copies_with group others fs) → given group fs ≡ Some o → IsNewestOrNames group o others fs
-  newest_or_names others fs o chained e =
+  pub newest_or_names : (missing : ℕ) (others : List Copy) (fs : List Looked) (o : Offer) → IsChained missing (copies_with group others fs) → given group fs ≡ Some o → IsNewestOrNames group missing o others fs
+  newest_or_names missing others fs o chained e =
       let at_most : o.sequence ≤ o.sequence = omega arith in
       let up = all_up o.sequence fs (subst (UpTo o.sequence) (sym e) at_most) in
       let any = any_more (λ c. c.offer ≡ Some o) others (map (copy_of group) fs) (any_given o fs e) in
-      elim (linked_at o (copies_with group others fs) (copies_with group others fs) chained any) [
+      elim (linked_at missing o (copies_with group others fs) (copies_with group others fs) chained any) [
         | inl top ↦ inl top
-        | inr newer ↦ inr (elim (any_part (λ c. (has o.good c.slot ≡ true) × MatchOption c.offer ⊥ (λ p. o.sequence < p.sequence)) others (map (copy_of group) fs) newer) [ inl a ↦ inl a | inr b ↦ inr (unread o fs up b) ])
+        | inr (inl newer) ↦ inr (elim (any_part (λ c. (has o.good c.slot ≡ true) × MatchOption c.offer ⊥ (λ p. o.sequence < p.sequence)) others (map (copy_of group) fs) newer) [ inl a ↦ inl a | inr b ↦ inr (inl (unread o fs up b)) ])
+        | inr (inr gone) ↦ inr (inr (inr gone))
       ]

@@ -1,5 +1,5 @@
 -- Where each slot that is named has a device that can be read, what is taken is the newest of all devices of the group.
-use Rattle.std.proofs.Common.{◌≡◌, ◌≢◌, ℕ, ◌<◌, ◌≤◌, ◌^◌, Bool, true, false, List, [], ◌∷◌, refl, subst, arith, inl, inr}
+use Rattle.std.proofs.Common.{◌≡◌, ◌≢◌, ℕ, ◌<◌, ◌≤◌, ◌^◌, Bool, true, false, List, [], ◌∷◌, refl, sym, ap, ◌∙◌, subst, arith, inl, inr}
 use Rattle.std.specs.Prelude.{◌&&◌, ◌||◌, ◌==◌, Result, Ok, Err, IfOk}
 use Rattle.std.proofs.lemmas.Bool.{cases_lt, ne_eqb}
 use Rattle.std.proofs.lemmas.Nat.Bits.{bit_at_above}
@@ -11,7 +11,7 @@ use Rattle.vx_copies.specs.Chain.{Copy, NamesNewer}
 use Rattle.vx_confdb.specs.Texts.{text_of}
 use Rattle.vx_import.specs.Looks.{Looked}
 use Rattle.vx_import.specs.Naming.{is_readable_slot, AllThere}
-use Rattle.vx_import.specs.Answers.{IsRising, IsChosen, IsElsewhere, IsNewestOf, Answers}
+use Rattle.vx_import.specs.Answers.{IsRising, IsChosen, IsElsewhere, AreApart, IsNewestOf, Answers}
 use Rattle.vx_import.specs.declared.judging.Given.{Given}
 use Rattle.vx_import.specs.declared.judging.ImportFault.{ImportFault}
 use Rattle.vx_import.proofs.Chained.{newest_or_names}
@@ -69,14 +69,18 @@ nobody o [] fs there apart any = absurd any
 nobody o (c ∷ others) fs there apart (inl is) = not_there c.slot fs apart.0 (there c.slot is.0)
 nobody o (c ∷ others) fs there apart (inr any) = nobody o others fs there apart.1 any
 
+slot_apart : (missing slot : ℕ) (fs : List Looked) → has missing slot ≡ true → AreApart missing fs → AllOf (λ f. f.label.slot ≢ slot) fs
+slot_apart missing slot [] is apart = tt
+slot_apart missing slot (f ∷ fs) is apart = (λ e. let here : has missing slot ≡ false = ap (has missing) (sym e) ∙ apart.0 in cc, slot_apart missing slot fs is apart.1)
+
 pub is_newest : (group : Word) (sequence good : ℕ) (text : List ℕ) (fs : List Looked) → IsRising fs → IsChosen group sequence good text fs → AllThere 32 good fs → IsNewestOf group sequence fs
-is_newest group sequence good text fs rising chosen there = λ others tells apart chained.
-    let o : Offer = record { sequence = sequence; good = good; text = text } in
+is_newest group sequence good text fs rising chosen there = λ missing others tells away apart chained.
     let named : (slot : ℕ) → has good slot ≡ true → is_readable_slot slot fs ≡ true = λ slot is. there slot (has_below good slot chosen.mask_fits is) is in
-    elim (newest_or_names group others fs (record { sequence = sequence; good = good; text = text }) chained (chosen.gives tells)) [
+    elim (newest_or_names group missing others fs (record { sequence = sequence; good = good; text = text }) chained (chosen.gives tells)) [
       | inl top ↦ top
       | inr (inl names) ↦ absurd (nobody (record { sequence = sequence; good = good; text = text }) others fs named apart names)
-      | inr (inr unread) ↦ absurd (gone_here fs (λ slot. has good slot ≡ true) rising named unread)
+      | inr (inr (inl unread)) ↦ absurd (gone_here fs (λ slot. has good slot ≡ true) rising named unread)
+      | inr (inr (inr gone)) ↦ absurd (not_there gone.0 fs (slot_apart missing gone.0 fs gone.1 away) (named gone.0 gone.2))
     ]
 
 pub all_newest : (group : Word) (r : Result Given ImportFault) (fs : List Looked) → IsRising fs → Answers r group fs → IfOk r (λ g. IsNewestOf group g.sequence fs)

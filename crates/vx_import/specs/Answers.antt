@@ -1,9 +1,10 @@
 -- What the devices of a group give, or why they give nothing.
-use Rattle.std.specs.Prelude.{◌≡◌, ◌≢◌, ◌⊎◌, ℕ, Bool, ◌<◌, ◌≤◌, ◌^◌, List, [], ◌∷◌, length, Option, Some, None, IfSome, Result, Ok, Err}
+use Rattle.std.specs.Prelude.{◌≡◌, ◌≢◌, ◌⊎◌, ℕ, Bool, false, ◌<◌, ◌≤◌, ◌^◌, List, [], ◌∷◌, length, Option, Some, None, IfSome, Result, Ok, Err}
 use Rattle.vx_base.specs.Named.{Word}
 use Rattle.vx_header.specs.Named.{header_of}
 use Rattle.vx_header.specs.Said.{Said}
 use Rattle.vx_piece.specs.Seen.{Seen}
+use Rattle.vx_mask.specs.Mask.{has}
 use Rattle.vx_copies.specs.Disks.{Held}
 use Rattle.vx_copies.specs.Lists.{AllOf, AnyOf}
 use Rattle.vx_copies.specs.Chain.{Copy, AllUpTo, IsChained}
@@ -113,9 +114,14 @@ RefusedIs (Some d) index t fs =
 abbrev pub IsElsewhere : List Looked → Copy → Type 0
 IsElsewhere fs c = AllOf (λ f. f.label.slot ≢ c.slot) fs
 
--- whatever other devices the group has, none of them and none of these has a newer configuration, where all are chained
+-- none of these devices has a slot of the mask
+abbrev pub AreApart : ℕ → List Looked → Type 0
+AreApart missing fs = AllOf (λ f. has missing f.label.slot ≡ false) fs
+
+-- Whatever other devices the group has, and whatever disks are missing: none of them and none of these has a newer
+-- configuration, where all are chained.
 abbrev pub IsNewestOf : Word → ℕ → List Looked → Type 0
-IsNewestOf group sequence fs = (others : List Copy) → AllOf Tells fs → AllOf (IsElsewhere fs) others → IsChained (copies_with group others fs) → AllUpTo sequence (copies_with group others fs)
+IsNewestOf group sequence fs = (missing : ℕ) (others : List Copy) → AllOf Tells fs → AreApart missing fs → AllOf (IsElsewhere fs) others → IsChained missing (copies_with group others fs) → AllUpTo sequence (copies_with group others fs)
 
 -- the disk that a device becomes, with the private region that was split off
 abbrev pub disk_of : Bool → Looked → Seen → Held

@@ -51,12 +51,12 @@ returns-in-Ok-clause-gives g c =
     })
 
 pub returns-in-Ok-clause-sound : goal.returns-in-Ok-clause-sound
-returns-in-Ok-clause-sound g c = λ others none_else tells.
+returns-in-Ok-clause-sound g c = λ missing others none_else tells.
     let carried = c.in-Ok.ensures.carried in
     let prepared : AllPrepared Done c.args.name (map (held g.P.Piece.seen) c.join_all.new.disks.items) = rw c.in-Done.is at c.join_all.ensures.joined.ends in
     let none = none_all c.args.name _ _ c.join_all.ensures.joined.prepares c.requires.none in
     let below = none_below c.args.name 0 _ none in
-    let sound = carried.all c.args.name others (sound_none c.args.name others 0 c.len-carriers.result _ none_else none (tell_all c.args.name _ _ c.join_all.ensures.joined.prepares tells) (prepared_headed c.args.name _ prepared)) in
+    let sound = carried.all c.args.name missing others (sound_none c.args.name missing others 0 c.len-carriers.result _ none_else none (tell_all c.args.name _ _ c.join_all.ensures.joined.prepares tells) (prepared_headed c.args.name _ prepared)) in
     let long : length (map (held g.P.Piece.seen) c.join_all.new.disks.items) ≡ length c.args.disks.items = length-map c.join_all.new.disks.items (held g.P.Piece.seen) ∙ c.join_all.ensures.long in
     rw c.of.ensures (rw long at sound)
 

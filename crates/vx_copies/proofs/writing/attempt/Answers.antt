@@ -18,23 +18,23 @@ pub returns-in-Done-clause-goes : goal.returns-in-Done-clause-goes
 returns-in-Done-clause-goes g c = all_trans c.args.sequence c.args.sequence c.args.text.now _ _ _ (stays_all c.args.sequence c.args.sequence c.args.text.now _ _ c.put_halves.ensures.stays) (stamps_all c.args.sequence c.good_slots-mask.result c.args.text.now _ _ c.put_toggles.ensures.stamps)
 
 pub returns-in-Done-clause-sound : goal.returns-in-Done-clause-sound
-returns-in-Done-clause-sound g c = λ group others last carriers lt some sound.
+returns-in-Done-clause-sound g c = λ group missing others last carriers lt some sound.
     let ends : HalvesEnd Done c.args.text.now (map (held g.P.Piece.seen) c.args.disks.now) (map (held g.P.Piece.seen) c.put_halves.new.disks) = rw c.in-Done.is at c.put_halves.ensures.ends in
-    let mid = sound_stays group others last carriers _ _ c.put_halves.ensures.stays sound in
+    let mid = sound_stays group missing others last carriers _ _ c.put_halves.ensures.stays sound in
     let same : good_count (take carriers (map (held g.P.Piece.seen) c.put_halves.new.disks)) ≡ good_count (take carriers (map (held g.P.Piece.seen) c.args.disks.now)) = same_count _ _ (each_first _ carriers _ _ ends.2) in
     let names = still_named c.good_slots-mask.result _ _ (stays_was _ _ c.put_halves.ensures.stays) (good_named c.good_slots-mask.result _ c.good_slots-mask.ensures.names) in
     let first = c.put_toggles.ensures.first (tells_if_good group _ mid.members) in
-    sound_stamps group others last c.args.sequence c.good_slots-mask.result c.args.text.now lt carriers _ _ c.put_toggles.ensures.stamps names mid (omega (arith, same, some)) first
+    sound_stamps group missing others last c.args.sequence c.good_slots-mask.result c.args.text.now lt carriers _ _ c.put_toggles.ensures.stamps names mid (omega (arith, same, some)) first
 
 pub returns-in-Done-clause-all : goal.returns-in-Done-clause-all
-returns-in-Done-clause-all g c = λ group others last carriers lt some sound done.
+returns-in-Done-clause-all g c = λ group missing others last carriers lt some sound done.
     let ends : HalvesEnd Done c.args.text.now (map (held g.P.Piece.seen) c.args.disks.now) (map (held g.P.Piece.seen) c.put_halves.new.disks) = rw c.in-Done.is at c.put_halves.ensures.ends in
-    let mid = sound_stays group others last carriers _ _ c.put_halves.ensures.stays sound in
+    let mid = sound_stays group missing others last carriers _ _ c.put_halves.ensures.stays sound in
     let same : good_count (take carriers (map (held g.P.Piece.seen) c.put_halves.new.disks)) ≡ good_count (take carriers (map (held g.P.Piece.seen) c.args.disks.now)) = same_count _ _ (each_first _ carriers _ _ ends.2) in
     let names = still_named c.good_slots-mask.result _ _ (stays_was _ _ c.put_halves.ensures.stays) (good_named c.good_slots-mask.result _ c.good_slots-mask.ensures.names) in
     let first = c.put_toggles.ensures.first (tells_if_good group _ mid.members) in
     let whole : TogglesEnd Done c.args.sequence c.good_slots-mask.result c.args.text.now (map (held g.P.Piece.seen) c.put_halves.new.disks) (map (held g.P.Piece.seen) c.put_toggles.new.disks) = rw done at c.put_toggles.ensures.ends in
-    sound_turned group others last c.args.sequence c.good_slots-mask.result c.args.text.now lt carriers _ _ c.put_toggles.ensures.stamps names mid _ (omega (arith, same, some))
+    sound_turned group missing others last c.args.sequence c.good_slots-mask.result c.args.text.now lt carriers _ _ c.put_toggles.ensures.stamps names mid _ (omega (arith, same, some))
     (first_done c.args.sequence c.good_slots-mask.result c.args.text.now _ _ c.put_toggles.ensures.stamps whole.2 (tells_if_good group _ mid.members) whole.1 (omega (arith, same, some, count_first carriers (map (held g.P.Piece.seen) c.put_halves.new.disks))))
 
 pub returns-in-Done-clause-ends : goal.returns-in-Done-clause-ends
@@ -48,8 +48,8 @@ pub returns-in_default : goal.returns-in_default
 returns-in_default g c = record {
   size = c.requires.size;
   goes = stays_all c.args.sequence c.args.sequence c.args.text.now _ _ c.put_halves.ensures.stays;
-  sound = λ group others last carriers lt some sound. sound_later group others last c.args.sequence carriers _ (omega (arith, lt)) (sound_stays group others last carriers _ _ c.put_halves.ensures.stays sound);
-  all = λ group others last carriers lt some sound done. absurd (c.in_default.not-Done done);
+  sound = λ group missing others last carriers lt some sound. sound_later group missing others last c.args.sequence carriers _ (omega (arith, lt)) (sound_stays group missing others last carriers _ _ c.put_halves.ensures.stays sound);
+  all = λ group missing others last carriers lt some sound done. absurd (c.in_default.not-Done done);
   touches = all_half_touch c.args.sequence c.args.text.now _ _ _ c.put_halves.ensures.puts;
   done = λ is. absurd (c.in_default.not-Done is);
   ends = halves_tried c.put_halves.result c.args.sequence c.args.text.now _ _ c.in_default.not-Done c.put_halves.ensures.ends;

@@ -17,7 +17,7 @@ use Rattle.vx_copies.proofs.writing.commit_on.Goals as goal
 pub again-init : goal.again-init
 again-init g c =
     let few = count_few g.P.Piece.seen c.args.disks.now in
-    record { size = c.requires.size; long = refl; later = omega arith; bound = omega (arith, few, c.requires.count); ready = c.requires.ready; goes = all_refl (c.args.sequence.now + 1) c.args.sequence.now c.args.text.now _; touches = each_refl _ (touches_none (c.args.sequence.now + 1) c.args.sequence.now c.args.text.now _) _; quiet = λ q. (refl, refl); sound = λ group others is. is }
+    record { size = c.requires.size; long = refl; later = omega arith; bound = omega (arith, few, c.requires.count); ready = c.requires.ready; goes = all_refl (c.args.sequence.now + 1) c.args.sequence.now c.args.text.now _; touches = each_refl _ (touches_none (c.args.sequence.now + 1) c.args.sequence.now c.args.text.now _) _; quiet = λ q. (refl, refl); sound = λ group missing others is. is }
 
 pub returns-in-Done-clause-goes : goal.returns-in-Done-clause-goes
 returns-in-Done-clause-goes g c = one_more (c.args.sequence.now + 1) c.again.sequence c.args.text.now _ _ _ (omega (arith, c.again.invariant.later)) c.again.invariant.goes c.attempt.ensures.goes
@@ -38,16 +38,16 @@ returns-in-Done-clause-older g c = λ group below.
     older_all group c.again.sequence (c.again.sequence + 1) c.args.text.now (map (held g.P.Piece.seen) c.again.disks) (map (held g.P.Piece.seen) c.attempt.new.disks) (omega arith) mids c.attempt.ensures.goes ends.2
 
 pub returns-in-Done-clause-sound : goal.returns-in-Done-clause-sound
-returns-in-Done-clause-sound g c = λ group others is.
+returns-in-Done-clause-sound g c = λ group missing others is.
     let some = c.any_good.ensures.some c.again-test.true in
     let there : good_count (map (held g.P.Piece.seen) (take c.args.carriers c.again.disks)) ≡ good_count (take c.args.carriers (map (held g.P.Piece.seen) c.again.disks)) = ap good_count (sym (take-map (held g.P.Piece.seen) c.args.carriers c.again.disks)) in
-    c.attempt.ensures.sound group others c.again.sequence c.args.carriers (omega arith) (omega (arith, some, there)) (c.again.invariant.sound group others is)
+    c.attempt.ensures.sound group missing others c.again.sequence c.args.carriers (omega arith) (omega (arith, some, there)) (c.again.invariant.sound group missing others is)
 
 pub returns-in-Done-clause-all : goal.returns-in-Done-clause-all
-returns-in-Done-clause-all g c = λ group others is.
+returns-in-Done-clause-all g c = λ group missing others is.
     let some = c.any_good.ensures.some c.again-test.true in
     let there : good_count (map (held g.P.Piece.seen) (take c.args.carriers c.again.disks)) ≡ good_count (take c.args.carriers (map (held g.P.Piece.seen) c.again.disks)) = ap good_count (sym (take-map (held g.P.Piece.seen) c.args.carriers c.again.disks)) in
-    rw c.again.invariant.long at c.attempt.ensures.all group others c.again.sequence c.args.carriers (omega arith) (omega (arith, some, there)) (c.again.invariant.sound group others is) c.in-Done.is
+    rw c.again.invariant.long at c.attempt.ensures.all group missing others c.again.sequence c.args.carriers (omega arith) (omega (arith, some, there)) (c.again.invariant.sound group missing others is) c.in-Done.is
 
 pub returns-in-Done-clause-few : goal.returns-in-Done-clause-few
 returns-in-Done-clause-few g c =
@@ -60,10 +60,10 @@ pub returns-in-Cut-clause-goes : goal.returns-in-Cut-clause-goes
 returns-in-Cut-clause-goes g c = one_more (c.args.sequence.now + 1) c.again.sequence c.args.text.now _ _ _ (omega (arith, c.again.invariant.later)) c.again.invariant.goes c.attempt.ensures.goes
 
 pub returns-in-Cut-clause-sound : goal.returns-in-Cut-clause-sound
-returns-in-Cut-clause-sound g c = λ group others is.
+returns-in-Cut-clause-sound g c = λ group missing others is.
     let some = c.any_good.ensures.some c.again-test.true in
     let there : good_count (map (held g.P.Piece.seen) (take c.args.carriers c.again.disks)) ≡ good_count (take c.args.carriers (map (held g.P.Piece.seen) c.again.disks)) = ap good_count (sym (take-map (held g.P.Piece.seen) c.args.carriers c.again.disks)) in
-    c.attempt.ensures.sound group others c.again.sequence c.args.carriers (omega arith) (omega (arith, some, there)) (c.again.invariant.sound group others is)
+    c.attempt.ensures.sound group missing others c.again.sequence c.args.carriers (omega arith) (omega (arith, some, there)) (c.again.invariant.sound group missing others is)
 
 pub returns-in-Cut-clause-few : goal.returns-in-Cut-clause-few
 returns-in-Cut-clause-few g c =
@@ -92,7 +92,7 @@ again-preserved g c =
       bound = omega (arith, less, c.again.invariant.bound);
       ready = ends.0;
       goes = one_more (c.args.sequence.now + 1) c.again.sequence c.args.text.now _ _ _ (omega (arith, c.again.invariant.later)) c.again.invariant.goes c.attempt.ensures.goes;
-      sound = λ group others is. c.attempt.ensures.sound group others c.again.sequence c.args.carriers (omega arith) (omega (arith, some, there)) (c.again.invariant.sound group others is);
+      sound = λ group missing others is. c.attempt.ensures.sound group missing others c.again.sequence c.args.carriers (omega arith) (omega (arith, some, there)) (c.again.invariant.sound group missing others is);
     }
 
 pub returns-clause-ends : goal.returns-clause-ends

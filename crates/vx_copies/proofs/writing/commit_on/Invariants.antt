@@ -1,4 +1,4 @@
-use Rattle.std.proofs.Common.{◌≡◌, ◌+◌, ◌≤◌, List, length, map}
+use Rattle.std.proofs.Common.{◌≡◌, ℕ, ◌+◌, ◌≤◌, List, length, map}
 use Rattle.vx_base.specs.Named.{Word}
 use Rattle.vx_copies.specs.Lists.{Each, AllOf}
 use Rattle.vx_copies.specs.Disks.{held, Goes, IsReady, good_count}
@@ -16,7 +16,7 @@ invariant-again g l = record {
   goes : Each (Goes (l.fn.sequence + 1) l.sequence l.text) (map (held g.P.Piece.seen) l.fn.disks) (map (held g.P.Piece.seen) l.disks);
   touches : Each (Touches (l.fn.sequence + 1) l.sequence l.text (IsMaskOf (map (held g.P.Piece.seen) l.fn.disks) (map (held g.P.Piece.seen) l.disks))) (map (held g.P.Piece.seen) l.fn.disks) (map (held g.P.Piece.seen) l.disks);
   quiet : Each IsQuiet (map (held g.P.Piece.seen) l.fn.disks) (map (held g.P.Piece.seen) l.disks) → (map (held g.P.Piece.seen) l.disks ≡ map (held g.P.Piece.seen) l.fn.disks) × (l.sequence ≡ l.fn.sequence);
-  sound : (group : Word) (others : List Copy) → IsSound group others l.fn.sequence l.carriers (map (held g.P.Piece.seen) l.fn.disks) → IsSound group others l.sequence l.carriers (map (held g.P.Piece.seen) l.disks);
+  sound : (group : Word) (missing : ℕ) (others : List Copy) → IsSound group missing others l.fn.sequence l.carriers (map (held g.P.Piece.seen) l.fn.disks) → IsSound group missing others l.sequence l.carriers (map (held g.P.Piece.seen) l.disks);
 }
 
 abbrev pub decreases-again : goal.decreases-again

@@ -1,4 +1,4 @@
-use Rattle.std.proofs.Common.{◌≡◌, ◌+◌, ◌≤◌, length, map, subst, sym, ap, List, [], ◌∷◌, ◌++◌, arith, Ok, Err, None}
+use Rattle.std.proofs.Common.{◌≡◌, ℕ, ◌+◌, ◌≤◌, length, map, subst, sym, ap, List, [], ◌∷◌, ◌++◌, arith, Ok, Err, None}
 use Rattle.std.proofs.lemmas.List.{length-map}
 use Rattle.vx_copies.specs.Disks.{held}
 use Rattle.vx_copies.specs.Chain.{Copy, copy_of, IsChained, IsSound}
@@ -32,15 +32,15 @@ returns-in-Ok-write_joined-clause-ends g c =
     let long : c.len-carriers.result ≡ length (members g.P.Piece.seen c.args.self.now) = omega (arith, length-map c.args.self.now.disks.items (held g.P.Piece.seen), c.args.self.now.disks.ok.0, c.reserve.ensures.len, c.len-carriers.ensures) in
     let size : c.len-carriers.result ≡ length c.args.self.now.disks.items = omega (arith, c.args.self.now.disks.ok.0, c.reserve.ensures.len, c.len-carriers.ensures) in
     let same = ap (map (held g.P.Piece.seen)) in
-    let chain : (os : List Copy) → Tells (held g.P.Piece.seen c.args.disk) → IsSound c.args.self.now.name os c.args.self.now.sequence (length c.args.self.now.disks.items) (members g.P.Piece.seen c.args.self.now) → IsChained (os ++ map (copy_of c.args.self.now.name) (members g.P.Piece.seen c.write_joined.new.self)) = λ os tells sound. chain_by c.join_one-joined.result c.args.self.now.name os c.args.self.now.sequence c.write_joined.new.self.sequence c.len-carriers.result (members g.P.Piece.seen c.args.self.now) (members g.P.Piece.seen mid) (members g.P.Piece.seen c.write_joined.new.self) (held g.P.Piece.seen c.args.disk) (held g.P.Piece.seen c.join_one-joined.new.disk) is long c.join_one-joined.ensures.prepares none c.join_one-joined.ensures.ends
-    (λ cut. same (c.write_joined.ensures.stays cut)) (c.write_joined.ensures.sound os) tells (rw size sound) in
+    let chain : (missing : ℕ) (os : List Copy) → Tells (held g.P.Piece.seen c.args.disk) → IsSound c.args.self.now.name missing os c.args.self.now.sequence (length c.args.self.now.disks.items) (members g.P.Piece.seen c.args.self.now) → IsChained missing (os ++ map (copy_of c.args.self.now.name) (members g.P.Piece.seen c.write_joined.new.self)) = λ missing os tells sound. chain_by c.join_one-joined.result c.args.self.now.name missing os c.args.self.now.sequence c.write_joined.new.self.sequence c.len-carriers.result (members g.P.Piece.seen c.args.self.now) (members g.P.Piece.seen mid) (members g.P.Piece.seen c.write_joined.new.self) (held g.P.Piece.seen c.args.disk) (held g.P.Piece.seen c.join_one-joined.new.disk) is long c.join_one-joined.ensures.prepares none c.join_one-joined.ensures.ends
+    (λ cut. same (c.write_joined.ensures.stays cut)) (c.write_joined.ensures.sound missing os) tells (rw size sound) in
     let committed = c.write_joined.ensures.written.committed in
     let taken : IsTaken g.P.Piece.seen (text_of c.in-Ok.text) c.args.disk c.args.self.now c.write_joined.new.self =
     taken_is g.P.Piece.seen c.join_one-joined.result (text_of c.in-Ok.text) c.args.disk c.join_one-joined.new.disk c.args.self.now c.write_joined.new.self (members g.P.Piece.seen mid) is c.join_one-joined.ensures.prepares none c.join_one-joined.ensures.ends (λ cut. same (c.write_joined.ensures.stays cut)) committed.name committed.goes committed.old_or_new committed.few chain in
     let longer : length c.write_joined.new.self.disks.items ≡ length c.put_last.new.disks.items = held_length g.P.Piece.seen _ c.put_last.new.disks.items c.write_joined.new.self.disks.items committed.goes in
-    let whole : (os : List Copy) → Tells (held g.P.Piece.seen c.args.disk) → IsSound c.args.self.now.name os c.args.self.now.sequence (length c.args.self.now.disks.items) (members g.P.Piece.seen c.args.self.now) → IsSound c.args.self.now.name os c.write_joined.new.self.sequence (length c.write_joined.new.self.disks.items) (members g.P.Piece.seen c.write_joined.new.self) = λ os tells sound.
-    whole_by c.join_one-joined.result c.args.self.now.name os c.args.self.now.sequence c.write_joined.new.self.sequence c.len-carriers.result (length c.write_joined.new.self.disks.items) (members g.P.Piece.seen c.args.self.now) (members g.P.Piece.seen mid) (members g.P.Piece.seen c.write_joined.new.self) (held g.P.Piece.seen c.args.disk) (held g.P.Piece.seen c.join_one-joined.new.disk) is long c.join_one-joined.ensures.prepares none c.join_one-joined.ensures.ends
-    (λ cut. ok_not_err c.write_joined.result c.in-Ok-write_joined.field-0 _ c.in-Ok-write_joined.is (c.write_joined.ensures.cut cut)) (λ x. rw longer (c.in-Ok-write_joined.ensures.all os x)) tells (rw size sound) in
+    let whole : (missing : ℕ) (os : List Copy) → Tells (held g.P.Piece.seen c.args.disk) → IsSound c.args.self.now.name missing os c.args.self.now.sequence (length c.args.self.now.disks.items) (members g.P.Piece.seen c.args.self.now) → IsSound c.args.self.now.name missing os c.write_joined.new.self.sequence (length c.write_joined.new.self.disks.items) (members g.P.Piece.seen c.write_joined.new.self) = λ missing os tells sound.
+    whole_by c.join_one-joined.result c.args.self.now.name missing os c.args.self.now.sequence c.write_joined.new.self.sequence c.len-carriers.result (length c.write_joined.new.self.disks.items) (members g.P.Piece.seen c.args.self.now) (members g.P.Piece.seen mid) (members g.P.Piece.seen c.write_joined.new.self) (held g.P.Piece.seen c.args.disk) (held g.P.Piece.seen c.join_one-joined.new.disk) is long c.join_one-joined.ensures.prepares none c.join_one-joined.ensures.ends
+    (λ cut. ok_not_err c.write_joined.result c.in-Ok-write_joined.field-0 _ c.in-Ok-write_joined.is (c.write_joined.ensures.cut cut)) (λ x. rw longer (c.in-Ok-write_joined.ensures.all missing os x)) tells (rw size sound) in
     let ends : TakenBy g.P.Piece.seen (Ok c.in-Ok-write_joined.field-0) (text_of c.in-Ok.text) c.args.disk c.args.self.now c.write_joined.new.self = (taken, c.in-Ok-write_joined.ensures.written.ends, whole) in
     rw c.in-Ok.ensures at ends
 
@@ -53,8 +53,8 @@ returns-in-Err-clause-ends g c =
     let long : c.len-carriers.result ≡ length (members g.P.Piece.seen c.args.self.now) = omega (arith, length-map c.args.self.now.disks.items (held g.P.Piece.seen), c.args.self.now.disks.ok.0, c.reserve.ensures.len, c.len-carriers.ensures) in
     let size : c.len-carriers.result ≡ length c.args.self.now.disks.items = omega (arith, c.args.self.now.disks.ok.0, c.reserve.ensures.len, c.len-carriers.ensures) in
     let same = ap (map (held g.P.Piece.seen)) in
-    let chain : (os : List Copy) → Tells (held g.P.Piece.seen c.args.disk) → IsSound c.args.self.now.name os c.args.self.now.sequence (length c.args.self.now.disks.items) (members g.P.Piece.seen c.args.self.now) → IsChained (os ++ map (copy_of c.args.self.now.name) (members g.P.Piece.seen c.write_joined.new.self)) = λ os tells sound. chain_by c.join_one-joined.result c.args.self.now.name os c.args.self.now.sequence c.write_joined.new.self.sequence c.len-carriers.result (members g.P.Piece.seen c.args.self.now) (members g.P.Piece.seen mid) (members g.P.Piece.seen c.write_joined.new.self) (held g.P.Piece.seen c.args.disk) (held g.P.Piece.seen c.join_one-joined.new.disk) is long c.join_one-joined.ensures.prepares none c.join_one-joined.ensures.ends
-    (λ cut. same (c.write_joined.ensures.stays cut)) (c.write_joined.ensures.sound os) tells (rw size sound) in
+    let chain : (missing : ℕ) (os : List Copy) → Tells (held g.P.Piece.seen c.args.disk) → IsSound c.args.self.now.name missing os c.args.self.now.sequence (length c.args.self.now.disks.items) (members g.P.Piece.seen c.args.self.now) → IsChained missing (os ++ map (copy_of c.args.self.now.name) (members g.P.Piece.seen c.write_joined.new.self)) = λ missing os tells sound. chain_by c.join_one-joined.result c.args.self.now.name missing os c.args.self.now.sequence c.write_joined.new.self.sequence c.len-carriers.result (members g.P.Piece.seen c.args.self.now) (members g.P.Piece.seen mid) (members g.P.Piece.seen c.write_joined.new.self) (held g.P.Piece.seen c.args.disk) (held g.P.Piece.seen c.join_one-joined.new.disk) is long c.join_one-joined.ensures.prepares none c.join_one-joined.ensures.ends
+    (λ cut. same (c.write_joined.ensures.stays cut)) (c.write_joined.ensures.sound missing os) tells (rw size sound) in
     let committed = c.write_joined.ensures.written.committed in
     let taken : IsTaken g.P.Piece.seen (text_of c.in-Ok.text) c.args.disk c.args.self.now c.write_joined.new.self =
     taken_is g.P.Piece.seen c.join_one-joined.result (text_of c.in-Ok.text) c.args.disk c.join_one-joined.new.disk c.args.self.now c.write_joined.new.self (members g.P.Piece.seen mid) is c.join_one-joined.ensures.prepares none c.join_one-joined.ensures.ends (λ cut. same (c.write_joined.ensures.stays cut)) committed.name committed.goes committed.old_or_new committed.few chain in

@@ -1,7 +1,8 @@
-use Rattle.std.proofs.Common.{◌≡◌, ◌≤◌, length, arith}
+use Rattle.std.proofs.Common.{◌≡◌, ◌≤◌, length, subst, sym, arith}
 use Rattle.std.proofs.lemmas.List.{length-map}
 use Rattle.vx_copies.specs.Disks.{held}
 use Rattle.vx_copies.proofs.Recording.{none_recorded}
+use Rattle.vx_copies.specs.Chain.{IsSound}
 use Rattle.vx_confdb.specs.Groups.{members}
 use Rattle.vx_confdb.proofs.Grouped.{gives_from, same_length}
 use Rattle.vx_confdb.proofs.group.Group.commit.Goals as goal
@@ -20,3 +21,9 @@ returns-in-Some-clause-recorded g c = none_recorded c.args.self.now.sequence c.a
 
 pub returns-in_default-of-clause-recorded : goal.returns-in_default-of-clause-recorded
 returns-in_default-of-clause-recorded g c = none_recorded c.args.self.now.sequence c.args.text.now _
+
+pub returns-clause-sound : goal.returns-clause-sound
+returns-clause-sound g c = λ missing others sound.
+    let size : c.len-carriers.result ≡ length c.args.self.now.disks.items = omega (arith, c.args.self.now.disks.ok.0, c.len-carriers.ensures) in
+    subst (λ k. IsSound c.args.self.now.name missing others c.write.new.self.sequence k (members g.P.Piece.seen c.write.new.self)) size
+    (c.write.ensures.sound missing others (subst (λ k. IsSound c.args.self.now.name missing others c.args.self.now.sequence k (members g.P.Piece.seen c.args.self.now)) (sym size) sound))

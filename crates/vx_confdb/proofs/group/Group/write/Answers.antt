@@ -33,10 +33,10 @@ returns-in-Ok-clause-written g c =
     }
 
 pub returns-in-Ok-clause-sound : goal.returns-in-Ok-clause-sound
-returns-in-Ok-clause-sound g c = λ others sound. c.write_all.ensures.carried.sound c.args.self.now.name others sound
+returns-in-Ok-clause-sound g c = λ missing others sound. c.write_all.ensures.carried.sound c.args.self.now.name missing others sound
 
 pub returns-in-Ok-clause-all : goal.returns-in-Ok-clause-all
-returns-in-Ok-clause-all g c = λ others sound. rw (length-map c.args.self.now.disks.items (held g.P.Piece.seen)) at c.in-Ok.ensures.carried.all c.args.self.now.name others sound
+returns-in-Ok-clause-all g c = λ missing others sound. rw (length-map c.args.self.now.disks.items (held g.P.Piece.seen)) at c.in-Ok.ensures.carried.all c.args.self.now.name missing others sound
 
 pub returns-in-Err-clause-written : goal.returns-in-Err-clause-written
 returns-in-Err-clause-written g c =
@@ -66,3 +66,6 @@ returns-in-Ok-clause-group g c =
 
 pub returns-in-Err-clause-group : goal.returns-in-Err-clause-group
 returns-in-Err-clause-group g c = slots_stay _ _ _ _ _ c.write_all.ensures.carried.goes (ready_slots _ c.requires.alive.ready)
+
+pub returns-in-Err-clause-sound : goal.returns-in-Err-clause-sound
+returns-in-Err-clause-sound g c = λ missing others sound. c.write_all.ensures.carried.sound c.args.self.now.name missing others sound

@@ -1,4 +1,4 @@
-ghost use Rattle.std.specs.Prelude.{◌≡◌, ◌+◌, ◌-◌, ◌<◌, ◌≤◌, ◌^◌, List, length, map, None, Some, Err, OnOk, IfSome, is_some, ℕ, vec_len, vec_capacity, ◌++◌, ◌∷◌, []};
+ghost use Rattle.std.specs.Prelude.{◌≡◌, ◌+◌, ◌-◌, ◌<◌, ◌≤◌, ◌^◌, List, length, map, None, Some, Err, OnOk, OnErr, IfSome, is_some, ℕ, vec_len, vec_capacity, ◌++◌, ◌∷◌, []};
 ghost use Rattle.vx_copies.specs.Lists.{Each};
 ghost use Rattle.vx_mask.specs.Mask.{has};
 ghost use Rattle.vx_copies.specs.Disks.{held, Goes, good_count, is_good_slot, good_mask};
@@ -56,6 +56,7 @@ impl<P: Piece> Group<P> {
         ensures ends { CommitGives P.seen result text.now self.old self.new }
         ensures too_long { 522240 < length text.now → result ≡ Err (GroupFault.TooLong (length text.now)) }
         ensures again { length text.now ≤ 522240 → IfSome self.old.lost (λ lost. result ≡ Err (fault_of lost)) }
+        ensures text { OnErr result (self.new.text ≡ self.old.text) }
         ensures recorded { Recorded (self.old.sequence + 1) self.new.sequence text.now (members P.seen self.old) (members P.seen self.new) }
         ensures done { OnOk result (IsDone (length self.old.disks.items) self.new.sequence text.now (members P.seen self.new)) }
         ensures exact { OnOk result (Each IsQuiet (members P.seen self.old) (members P.seen self.new) → Each (WritesJust (sectors_of text.now)) (members P.seen self.old) (members P.seen self.new)) }
@@ -92,6 +93,7 @@ impl<P: Piece> Group<P> {
         ensures group { IsGroup P.seen self.new }
         ensures ends { AddGives P.seen result text.now disk self.old self.new }
         ensures writes { AddWrites P.seen result text.now disk self.old self.new }
+        ensures text { OnErr result (self.new.text ≡ self.old.text) }
         ensures too_long { 522240 < length text.now → result ≡ Err (GroupFault.TooLong (length text.now), Some disk) }
         ensures again { length text.now ≤ 522240 → IfSome self.old.lost (λ lost. result ≡ Err (fault_of lost, Some disk)) }
     {
@@ -132,6 +134,7 @@ impl<P: Piece> Group<P> {
         requires carriers { carriers ≤ length self.old.disks.items }
         ensures group { IsGroup P.seen self.new }
         ensures written { IsWritten P.seen result carriers (text_of text) self.old self.new }
+        ensures text { OnErr result (self.new.text ≡ self.old.text) }
         ensures sound { (missing : ℕ) (others : List Copy) → IsSound self.old.name missing others self.old.sequence carriers (members P.seen self.old) → IsSound self.old.name missing others self.new.sequence carriers (members P.seen self.new) }
         ensures all { OnOk result ((missing : ℕ) (others : List Copy) → IsSound self.old.name missing others self.old.sequence carriers (members P.seen self.old) → IsSound self.old.name missing others self.new.sequence (length self.old.disks.items) (members P.seen self.new)) }
         ensures cut { joined ≡ Prepared.Cut → result ≡ Err GroupFault.PowerLost }
@@ -154,6 +157,7 @@ impl<P: Piece> Group<P> {
         requires carriers { carriers ≤ length self.old.disks.items }
         ensures group { IsGroup P.seen self.new }
         ensures written { IsWritten P.seen result carriers (text_of text) self.old self.new }
+        ensures text { OnErr result (self.new.text ≡ self.old.text) }
         ensures sound { (missing : ℕ) (others : List Copy) → IsSound self.old.name missing others self.old.sequence carriers (members P.seen self.old) → IsSound self.old.name missing others self.new.sequence carriers (members P.seen self.new) }
         ensures all { OnOk result ((missing : ℕ) (others : List Copy) → IsSound self.old.name missing others self.old.sequence carriers (members P.seen self.old) → IsSound self.old.name missing others self.new.sequence (length self.old.disks.items) (members P.seen self.new)) }
     {

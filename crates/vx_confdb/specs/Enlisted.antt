@@ -41,6 +41,7 @@ pub record AreEnlisted (group : Word) (last : ℕ) (text : List ℕ) (old new : 
   pub enlists : Each (Enlists group 1 last text (IsMaskOf old new)) old new
   pub once : Each IsQuiet old new → last ≤ 1
 
+-- what is left where no group was made: some attempts came, up to 32
 pub record AreBegun (group : Word) (text : List ℕ) (old new : List Held) : Type 0 where
   pub last : ℕ
   pub few : last ≤ 32
@@ -52,6 +53,7 @@ pub record IsMadeOf (group : Word) (sequence : ℕ) (text : List ℕ) (old new :
   pub done : IsDone (length new) sequence text new
   pub exact : Each IsQuiet old new → Each (WritesJust (2 + sectors_of text)) old new
 
+-- a group is made and writes so, or the disks that are given back have this
 abbrev pub CreateWrites : {P : Type 0} → (P → Seen) → Result (Group P) (Refused P) → Word → List ℕ → List (Disk P) → Type 0
 CreateWrites see (Ok g) name text old = IsMadeOf name g.sequence text (map (held see) old) (members see g)
 CreateWrites see (Err r) name text old = AreBegun name text (map (held see) old) (map (held see) r.disks.items)

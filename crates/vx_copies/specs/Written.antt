@@ -57,6 +57,7 @@ pub record TurnedAgain (first last : ℕ) (text : List ℕ) (Masks : ℕ → Typ
   pub now : ℕ
   pub turned : IsTurned first last text Masks now d
 
+-- the toggle did not turn, or turned once, or again
 abbrev pub Turns : ℕ → ℕ → List ℕ → (ℕ → Type 0) → Held → Held → Contents → Contents → Type 0
 Turns first last text Masks old new c d = NotTurned old new c d ⊎ (TurnedOnce first last text Masks old.half c d ⊎ TurnedAgain first last text Masks d)
 
@@ -85,11 +86,12 @@ pub record Recorded (first last : ℕ) (text : List ℕ) (old new : List Held) :
   pub touches : Each (Touches first last text (IsMaskOf old new)) old new
   pub once : Each IsQuiet old new → last ≤ first
 
--- where it is good, its toggle has this sequence and mask, and names the disk's half, which holds the text
+-- the toggle has this sequence and mask, and names this half, which holds the text
 pub record IsCurrent (sequence mask : ℕ) (text : List ℕ) (half : ℕ) (contents : Contents) : Type 0 where
   pub says : toggle_at contents ≡ Some (record { sequence = sequence; half = half; length = length text; good = mask })
   pub holds : Holds text half contents
 
+-- where the disk is good, its toggle has this sequence and mask, and names the half that the disk is known by
 abbrev pub CarriesIfGood : ℕ → ℕ → List ℕ → Held → Type 0
 CarriesIfGood sequence mask text h = IsTrue h.good → MatchOption h.seen.told (Unit {0}) (IsCurrent sequence mask text h.half)
 

@@ -170,6 +170,20 @@ pub list_stays : (numbers : List ℕ) (ls : List Layout) → HaveNumbers numbers
 list_stays numbers ls have plexes j k d lt lt' other start end ps qs le stays free =
     strips_stay numbers have (slice_index_or ls j d) (slice_index_or ls k d) (at_list numbers ls plexes j d lt) (at_list numbers ls plexes k d lt') (plexes.apart j k d lt lt' other) start end ps qs le stays free
 
+pub volumes_stay : (numbers : List ℕ) (ls : List Layout) (m : Layout) → HaveNumbers numbers → All (λ (l : Layout). EachStrip (HasNumber numbers) l.columns) ls → EachStrip (HasNumber numbers) m.columns →
+    All (λ (l : Layout). AreApartStrips l.columns m.columns) ls →
+    (start end : ℕ) (ps qs : List Seen) → ((j : ℕ) (d : Layout) → j < length ls → end ≤ capacity (slice_index_or ls j d).columns) → StaysBeside numbers ls start end ps qs →
+    EachStrip (IsFreeStrip numbers ps) m.columns → EachStrip (IsFreeStrip numbers qs) m.columns
+volumes_stay numbers ls m have numbered numbered' apart start end ps qs inside stays free i d lt j e lt' k less =
+    let y = get_or (get_or m.columns i d) j e in
+    stays (slice_index numbers y.disk) (2048 + y.start + k)
+    (λ n f lt'' b from below at.
+    let l = slice_index_or ls n f in
+    let short = inside n f lt'' in
+    let both = lies_apart numbers have l m (numbered n f lt'') numbered' (apart n f lt'') b (omega (arith, below, short)) i d lt j e lt' in
+    block_not_at numbers (place_of l.unit l.columns b) y (slice_index numbers y.disk) (2048 + y.start + k) have both.1 both.0 at (refl, omega arith, omega (arith, less)))
+    ∙ free i d lt j e lt' k less
+
 -- a place at its own sector
 stays_at : (numbers : List ℕ) (o : Option Place) (ps qs : List Seen) → ((device sector : ℕ) → IsAt numbers device sector o → owners device sector qs ≡ owners device sector ps) → IsFreeAt numbers ps o → IsFreeAt numbers qs o
 stays_at numbers None ps qs same free = absurd free

@@ -1,6 +1,6 @@
 -- What is known of the strips of a layout, which decides where its blocks lie.
-use Rattle.std.specs.Prelude.{◌≡◌, ◌≢◌, ℕ, ◌+◌, ◌<◌, List, true, length, slice_index, slice_index_or}
-use Rattle.std.specs.List.{All, list_all, flat_map}
+use Rattle.std.specs.Prelude.{◌≡◌, ◌≢◌, ◌==◌, ◌&&◌, nat_le, ℕ, ◌+◌, ◌<◌, Bool, List, true, length, slice_index, slice_index_or}
+use Rattle.std.specs.List.{All, list_all, list_any, flat_map}
 use Rattle.vx_piece.specs.Seen.{Seen}
 use Rattle.vx_layout.specs.declared.strip.Strip.{Strip}
 use Rattle.vx_layout.specs.declared.layout.Layout.{Layout}
@@ -37,3 +37,15 @@ pub record AreOfDisks (numbers : List ℕ) (runs : List Run) : Type 0 where
 -- each sector of the run is in one of the pieces
 abbrev pub IsFreeRun : List ℕ → List Seen → Run → Type 0
 IsFreeRun numbers ps run = IsFree (slice_index numbers run.disk) (2048 + run.sector) run.count ps
+
+-- the device of the run's slot has a number, and each sector of the run is in one of the pieces
+abbrev pub IsOpenRun : List ℕ → List Seen → Run → Type 0
+IsOpenRun numbers ps run = (run.disk < length numbers) × IsFreeRun numbers ps run
+
+-- the strip lies in one of these runs of disks
+abbrev pub lies_in : List Run → Strip → Bool
+lies_in runs strip = list_any (λ r. r.disk == strip.disk && nat_le r.sector strip.start && nat_le (strip.start + strip.count) (r.sector + r.count)) runs
+
+-- each strip of these columns does
+abbrev pub all_lie_in : List Run → List (List Strip) → Bool
+all_lie_in runs columns = list_all (λ strips. list_all (lies_in runs) strips) columns

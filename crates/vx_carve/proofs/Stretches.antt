@@ -8,7 +8,7 @@ use Rattle.vx_piece.specs.Seen.{Seen}
 use Rattle.vx_layout.specs.declared.run.Run.{Run}
 use Rattle.vx_carve.specs.Together.{covers_at, AreOnce}
 use Rattle.vx_carve.specs.Carved.{ArePieces, HaveNumbers, wants, wanted}
-use Rattle.vx_carve.specs.Strips.{AreOfDisks, IsFreeRun}
+use Rattle.vx_carve.specs.Strips.{AreOfDisks, IsOpenRun, HaveTogether}
 use Rattle.vx_carve.proofs.Spans.{at_number, pieces_have}
 use Rattle.vx_carve.proofs.Runs.{inside}
 
@@ -67,19 +67,25 @@ module _ (numbers : List ℕ) (have : HaveNumbers numbers) where
       let there = some_wanted runs k d (omega (arith, lt)) i less in
       omega (arith, sum, there)
 
-pub stretches_free : (numbers : List ℕ) (stretches : List Run) (ps : List Seen) → HaveNumbers numbers → AreOfDisks numbers stretches → ArePieces numbers stretches ps → AreOnce ps × All (IsFreeRun numbers ps) stretches
-stretches_free numbers stretches ps have of are = (once, free)
+pub pieces_together : (numbers : List ℕ) (runs : List Run) (ps : List Seen) → ArePieces numbers runs ps → HaveTogether numbers runs ps
+pieces_together numbers runs ps are device sector = pieces_have numbers runs ps device sector are
+
+pub stretches_free : (numbers : List ℕ) (stretches : List Run) (ps : List Seen) → HaveNumbers numbers → AreOfDisks numbers stretches → HaveTogether numbers stretches ps → AreOnce ps × All (IsOpenRun numbers ps) stretches
+stretches_free numbers stretches ps have of together = (once, free)
   where
     once : AreOnce ps
     once device sector =
-        let all = pieces_have numbers stretches ps device sector are in
+        let all = together device sector in
         let few = once_wanted numbers have stretches device sector of in
         omega (arith, all, few)
 
-    free : All (IsFreeRun numbers ps) stretches
-    free k d lt i less =
-        let r = get_or stretches k d in
-        let all = pieces_have numbers stretches ps (slice_index numbers r.disk) (2048 + r.sector + i) are in
-        let few = once_wanted numbers have stretches (slice_index numbers r.disk) (2048 + r.sector + i) of in
-        let some = some_wanted numbers have stretches k d lt i less in
-        omega (arith, all, few, some)
+    free : All (IsOpenRun numbers ps) stretches
+    free k d lt = (
+      of.numbered k d lt,
+      λ i less.
+          let r = get_or stretches k d in
+          let all = together (slice_index numbers r.disk) (2048 + r.sector + i) in
+          let few = once_wanted numbers have stretches (slice_index numbers r.disk) (2048 + r.sector + i) of in
+          let some = some_wanted numbers have stretches k d lt i less in
+          omega (arith, all, few, some),
+    )

@@ -8,11 +8,15 @@ use Rattle.vx_layout.specs.declared.strip.Strip.{Strip}
 use Rattle.vx_layout.specs.Columns.{capacity, place_of}
 use Rattle.vx_carve.specs.Together.{AreOnce}
 use Rattle.vx_carve.specs.Carved.{ArePieces, HaveNumbers, AreOn, AreFreeBlocks, AreApartBlocks, IsFreeAt, StaysElsewhere, StaysBeside}
-use Rattle.vx_carve.specs.Strips.{EachStrip, HasNumber, IsFreeStrip, AreApartStrips, ArePlexes, AreOfDisks, IsFreeRun, IsOpenRun, all_lie_in}
+use Rattle.vx_carve.specs.Strips.{EachStrip, HasNumber, IsFreeStrip, AreApartStrips, ArePlexes, AreOfDisks, HaveTogether, IsOpenRun, all_lie_in}
 
--- Pieces that are stretches of disks, one of each disk, have each sector once, and all of theirs.
+-- The pieces of runs have together the sectors of the runs.
+abbrev pub PiecesHaveSectors : Type 0
+PiecesHaveSectors = (numbers : List ℕ) (runs : List Run) (ps : List Seen) → ArePieces numbers runs ps → HaveTogether numbers runs ps
+
+-- Pieces that are together stretches of disks, one of each disk, have each sector once, and all of theirs.
 abbrev pub StretchesAreFree : Type 0
-StretchesAreFree = (numbers : List ℕ) (stretches : List Run) (ps : List Seen) → HaveNumbers numbers → AreOfDisks numbers stretches → ArePieces numbers stretches ps → AreOnce ps × All (IsFreeRun numbers ps) stretches
+StretchesAreFree = (numbers : List ℕ) (stretches : List Run) (ps : List Seen) → HaveNumbers numbers → AreOfDisks numbers stretches → HaveTogether numbers stretches ps → AreOnce ps × All (IsOpenRun numbers ps) stretches
 
 -- Strips that lie in runs that are in pieces have numbers and are in pieces.
 abbrev pub StripsAreFree : Type 0

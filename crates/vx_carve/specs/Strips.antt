@@ -6,7 +6,8 @@ use Rattle.vx_layout.specs.declared.strip.Strip.{Strip}
 use Rattle.vx_layout.specs.declared.layout.Layout.{Layout}
 use Rattle.vx_layout.specs.declared.run.Run.{Run}
 use Rattle.vx_layout.specs.Valid.{is_apart}
-use Rattle.vx_carve.specs.Together.{IsFree}
+use Rattle.vx_carve.specs.Together.{IsFree, owners}
+use Rattle.vx_carve.specs.Carved.{wanted}
 
 -- each strip of these columns is so
 abbrev pub EachStrip : (Strip → Type 0) → List (List Strip) → Type 0
@@ -49,3 +50,7 @@ lies_in runs strip = list_any (λ r. r.disk == strip.disk && nat_le r.sector str
 -- each strip of these columns does
 abbrev pub all_lie_in : List Run → List (List Strip) → Bool
 all_lie_in runs columns = list_all (λ strips. list_all (lies_in runs) strips) columns
+
+-- a sector is in as many of the pieces as of the runs
+abbrev pub HaveTogether : List ℕ → List Run → List Seen → Type 0
+HaveTogether numbers runs ps = (device sector : ℕ) → owners device sector ps ≡ wanted numbers device sector runs

@@ -2,10 +2,11 @@
 //! `carve_plex` and `carve_region` ask: for the first plex over whole stretches of disks, for the next plex and volume, and
 //! for the next region.
 
-ghost use Rattle.vx_carve.specs.Laws.{StretchesAreFree, StripsAreFree, BlocksAreOn, BlocksAreFree, BlocksAreApart, OtherPlexesStay, OtherVolumesStay, OtherBlocksStay};
+ghost use Rattle.vx_carve.specs.Laws.{PiecesHaveSectors, StretchesAreFree, StripsAreFree, BlocksAreOn, BlocksAreFree, BlocksAreApart, OtherPlexesStay, OtherVolumesStay, OtherBlocksStay};
 
 /// Stretches of disks, one of each disk, have each sector once, and all of theirs; so have the strips that lie in them.
 pub fn stretches_are_free()
+    ensures pieces { PiecesHaveSectors }
     ensures stretches { StretchesAreFree }
     ensures strips { StripsAreFree }
 {}

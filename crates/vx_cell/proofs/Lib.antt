@@ -13,3 +13,4 @@ pub mod Stepped
 pub mod Working
 pub mod Writing
 pub mod Written
+pub mod Called

@@ -14,3 +14,4 @@ pub mod Working
 pub mod Writing
 pub mod Written
 pub mod Called
+pub mod Taking

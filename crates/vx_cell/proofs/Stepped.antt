@@ -597,7 +597,7 @@ module _ (job : Job) (io0 : Bytes) (old : RegionSeen) (s : Stage) (region start 
             more_writes (MayWrite job (settles_in old.stage.phase)) old.plexes ps qs run.kept.plexes run.writes
             (carried_writes job (settles_in old.stage.phase) s w (holds ps) region ps qs log log' io io' act (Some event) runs.0 (form_work s s.phase w is run.whole.formed.step)
             (λ began. quiet_step s.phase w is (run.quiet began)) at_step can_job carries);
-        calls = called_more old.stage job s act first answer.place event x run.calls placed.1 table;
+        calls = called_more old.stage job s act first answer.place event x run.calls may placed.1 table;
         rose = risen_first first answer.place old.plexes ps qs old.log log log' run.kept.plexes run.kept.log kept_plexes kept_log run.rose placed.0;
         blames = no_blame x.1 (earlier first answer.place) (λ fault. some_earlier first answer.place (some_from_fits act event answer.place placed.1 (fails (holds ps) run.whole.formed come fault)));
         gives = λ done read told.

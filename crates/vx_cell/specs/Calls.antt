@@ -1,5 +1,5 @@
 -- What the calls on a cell say.
-use Rattle.std.specs.Prelude.{◌≡◌, ◌⊎◌, ℕ, ◌+◌, ◌-◌, ◌≤◌, true, List, Option, Some, None, Result, Ok, Err, IfOk}
+use Rattle.std.specs.Prelude.{◌≡◌, ◌⊎◌, ◌&&◌, ℕ, ◌+◌, ◌-◌, ◌≤◌, Bool, true, false, if◌then◌else◌, List, Option, Some, None, Result, Ok, Err, IfOk}
 use Rattle.vx_base.specs.Blocks.{Contents}
 use Rattle.vx_life.specs.Entry.{Entry}
 use Rattle.vx_core.specs.declared.stage.Job.{Job}
@@ -9,6 +9,8 @@ use Rattle.vx_core.specs.declared.stage.Phase.{Phase}
 use Rattle.vx_core.specs.declared.stage.Job.TheVariants.{Read as ReadJob, Write as WriteJob, Copy as CopyJob, Settle, Clear}
 use Rattle.vx_core.specs.declared.stage.Act.TheVariants.{Done, Skipped, Fault as FaultAct, Lost}
 use Rattle.vx_core.specs.declared.stage.Phase.TheVariants.{Settled, Unsettled, Dead, Busy}
+use Rattle.vx_mask.specs.Mask.{has, without}
+use Rattle.vx_core.specs.Table.{freed_by}
 use Rattle.vx_core.specs.History.{Pending, NoCall}
 use Rattle.vx_core.specs.Region.{Fixed, entries_after}
 use Rattle.vx_core.specs.Schedule.{Happening, IsIdle}
@@ -140,6 +142,39 @@ pub record HasEnded {T : Type 0} (job : Job) (io : Bytes) (old new : RegionSeen)
   pub calls : AnswersLast job old.stage new.stage result
   -- the counts of writes rise on these plexes alone
   pub writes : WritesOnly (MayWrite job (settles_in old.stage.phase)) old.plexes new.plexes
+
+-- ---- what a copy and a clear leave of the marks
+
+-- whether the job has a mark to take away: a copy that of its plex, where that is on, and a clear the dirty bit
+abbrev pub takes : Job → ℕ → ℕ → Bool
+takes (CopyJob k) on marks = has on k && has marks k
+takes Clear on marks = has marks 30
+takes ReadJob on marks = false
+takes WriteJob on marks = false
+takes Settle on marks = false
+
+-- the marks of the region once it was settled: those that it had, and where it was not settled also those of plexes that the
+-- settling missed
+pub record HasMarks (old : Stage) (marks : ℕ) : Type 0 where
+  pub settled : old.phase ≡ Settled → marks ≡ old.bits
+  pub more : (j : ℕ) → has old.bits j ≡ true → has marks j ≡ true
+
+-- the job found a mark to take away, and has taken it and no other; or it found none
+pub record LeavesMarks (job : Job) (old new : Stage) (found : Bool) : Type 0 where
+  pub marks : ℕ
+  pub were : HasMarks old marks
+  pub is_found : takes job new.on marks ≡ found
+  pub left : new.bits ≡ (if found then without marks (freed_by job) else marks)
+
+-- a copy tells whether its plex was on and, once the region was settled, marked
+abbrev pub CopyLeaves : ℕ → Stage → Stage → Result Bool CellFault → Type 0
+CopyLeaves k old new (Ok copied) = LeavesMarks (CopyJob k) old new copied
+CopyLeaves k old new (Err fault) = Unit {0}
+
+-- after a clear the region is not dirty
+abbrev pub ClearLeaves : Stage → Stage → Result (Unit {0}) CellFault → Type 0
+ClearLeaves old new (Ok u) = (found : Bool) × LeavesMarks Clear old new found × (has new.bits 30 ≡ false)
+ClearLeaves old new (Err fault) = Unit {0}
 
 -- the region once a call of this job has drawn its number
 abbrev pub numbered : Job → RegionSeen → RegionSeen

@@ -16,7 +16,7 @@ use Rattle.vx_core.specs.declared.stage.Step.TheVariants.{Mark as AtMark, MarkFa
 use Rattle.vx_core.specs.declared.stage.Phase.TheVariants.{Settled, Unsettled, Dead, Busy}
 use Rattle.vx_core.specs.Table.{current, act_at, next_of, IsNamed}
 use Rattle.vx_core.specs.History.{Call, Pending, NoCall, Reads, Writes, MayBegin}
-use Rattle.vx_core.specs.Region.{Fixed, entries_after, pending_after}
+use Rattle.vx_core.specs.Region.{Fixed, MayAnswer, entries_after, pending_after}
 use Rattle.vx_core.specs.Schedule.{Happening, Comes, Elsewhere}
 use Rattle.vx_core.specs.Recovery.{region_after}
 use Rattle.vx_core.specs.Follow.{SameMasks, Rewrites, EndsSettled, PossibleIn, settles}
@@ -112,6 +112,11 @@ abbrev pub answered_by : Stage × Act → List Event → Stage × Act
 answered_by x [] = x
 answered_by x (event ∷ events) = answered_by (next_of x.0 event) events
 
+-- each of them may answer the act that was named then
+abbrev pub AreAnswers : Stage × Act → List Event → Type 0
+AreAnswers x [] = Unit {0}
+AreAnswers x (event ∷ events) = MayAnswer x.1 event × AreAnswers (next_of x.0 event) events
+
 -- the first of the calls that failed has failed at this place; or none has failed, and there is no place
 abbrev pub FailsFirstAt : Stage × Act → List Event → Option Place → Type 0
 FailsFirstAt x [] None = Unit {0}
@@ -123,6 +128,7 @@ FailsFirstAt x (event ∷ events) (Some place) = FailsAt x.1 event place ⊎ (Fi
 -- calls, each a call that the stage named then, brought it there. A job that stands before an act begins with it.
 pub record HasCalled (old : Stage) (job : Job) (now : Stage) (act : Act) (first : Option Place) : Type 0 where
   pub events : List Event
+  pub answers : AreAnswers (next_of old (Begin job)) events
   pub comes : answered_by (next_of old (Begin job)) events ≡ (now, act)
   pub first_is : FailsFirstAt (next_of old (Begin job)) events first
 

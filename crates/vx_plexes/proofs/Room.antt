@@ -1,7 +1,8 @@
 -- Strips that lie in public regions of disks.
-use Rattle.std.proofs.Common.{◌≡◌, ◌≢◌, ℕ, ◌<◌, Bool, true, List, [], ◌∷◌, length, map, refl, sym, ap, subst, ◌∙◌, arith}
+use Rattle.std.proofs.Common.{◌≡◌, ◌≢◌, ℕ, ◌<◌, ◌≤◌, Bool, true, false, List, [], ◌∷◌, length, map, refl, sym, ap, subst, ◌∙◌, arith}
 use Rattle.std.specs.Prelude.{◌==◌, ◌&&◌, ◌||◌, ◌+◌, nat_le, slice_index_or}
 use Rattle.std.specs.List.{All, list_all}
+use Rattle.std.proofs.lemmas.Bool.{le-leb}
 use Rattle.std.proofs.lemmas.List.Elements.{All-map}
 use Rattle.vx_piece.specs.Seen.{Seen}
 use Rattle.vx_layout.specs.declared.strip.Strip.{Strip}
@@ -15,9 +16,21 @@ use Rattle.vx_plexes.specs.Lies.{is_on_disk, are_on_disks, columns_of}
 use Rattle.vx_plexes.specs.Room.{public_of, AreLayoutsOf}
 use Rattle.vx_plexes.proofs.Apart.{plexes_apart}
 
+and_true : (b : Bool) → (b && true) ≡ b
+and_true true = refl
+and_true false = refl
+
+same_one : (d : Disk) (strip : Strip) → ((d.slot == strip.disk && nat_le 0 strip.start) && nat_le (strip.start + strip.count) (0 + d.publen)) ≡ (d.slot == strip.disk && nat_le (strip.start + strip.count) d.publen)
+same_one d strip =
+    let whole : 0 + d.publen ≡ d.publen = omega arith in
+    ap (λ b. (d.slot == strip.disk && b) && nat_le (strip.start + strip.count) (0 + d.publen)) (le-leb 0 strip.start (omega arith))
+    ∙ ap (λ b. b && nat_le (strip.start + strip.count) (0 + d.publen)) (and_true (d.slot == strip.disk))
+    ∙ ap (λ n. d.slot == strip.disk && nat_le (strip.start + strip.count) n) whole
+
 same_test : (disks : List Disk) (strip : Strip) → lies_in (map public_of disks) strip ≡ is_on_disk disks strip
 same_test [] strip = refl
-same_test (d ∷ disks) strip = ap (λ b. (d.slot == strip.disk && nat_le (strip.start + strip.count) d.publen) || b) (same_test disks strip)
+same_test (d ∷ disks) strip =
+    ap (λ b. b || lies_in (map public_of disks) strip) (same_one d strip) ∙ ap (λ b. (d.slot == strip.disk && nat_le (strip.start + strip.count) d.publen) || b) (same_test disks strip)
 
 same_strips : (disks : List Disk) (strips : List Strip) → list_all (lies_in (map public_of disks)) strips ≡ list_all (is_on_disk disks) strips
 same_strips disks [] = refl

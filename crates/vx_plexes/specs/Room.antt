@@ -22,7 +22,7 @@ PlexesHaveRoom =
     EachStrip (HasNumber numbers) columns × EachStrip (IsFreeStrip numbers ps) columns
 
 -- The layouts are those of the plexes, in their order.
-record AreLayoutsOf (c : Config) (plexes : List Plex) (layouts : List Layout) : Type 0 where
+pub record AreLayoutsOf (c : Config) (plexes : List Plex) (layouts : List Layout) : Type 0 where
   pub long : length layouts ≡ length plexes
   pub each : (k : ℕ) (p : Plex) (d : Layout) → k < length layouts → (slice_index_or layouts k d).columns ≡ columns_of c (slice_index_or plexes k p)
 

@@ -13,3 +13,5 @@ pub mod Stepped
 pub mod Working
 pub mod Writing
 pub mod Written
+pub mod Called
+pub mod Taking

@@ -2,7 +2,8 @@
 use Rattle.std.proofs.Common.{◌≡◌, ℕ, refl, sym, subst, List, Option, Some, None, Result, Ok, Err}
 use Rattle.std.specs.Prelude.{IsSome}
 use Rattle.vx_core.specs.declared.stage.Event.{Event}
-use Rattle.vx_core.specs.declared.stage.Event.TheVariants.{Wrote, Got, Cut}
+use Rattle.vx_core.specs.declared.stage.Event.TheVariants.{Wrote, WriteFailed, Got, ReadFailed, Cut}
+use Rattle.vx_core.specs.declared.stage.Act.{Act}
 use Rattle.vx_core.specs.Follow.{IsFailure}
 use Rattle.vx_marks.specs.Log.{LogSeen}
 use Rattle.vx_runs.specs.declared.run.RunFault.{RunFault}
@@ -11,7 +12,7 @@ use Rattle.vx_cell.specs.declared.fault.Place.{Place}
 use Rattle.vx_cell.specs.declared.fault.Place.TheVariants.{Data}
 use Rattle.vx_cell.specs.declared.acts.Answered.{Answered}
 use Rattle.vx_cell.specs.Plexes.{PlexSeen, ChangesPlex, RoseAt}
-use Rattle.vx_cell.specs.Acts.{IsPlexWritten, IsPlexRead, IsPlaced, HasPlace, HasRisen, write_event, read_event, event_of}
+use Rattle.vx_cell.specs.Acts.{IsPlexWritten, IsPlexRead, IsPlaced, FailsAt, FitsPlace, HasPlace, HasRisen, write_event, read_event, event_of}
 use Rattle.vx_cell.proofs.Changes.{change_rose, failed_rose}
 
 pub some_same : {X : Type 0} {x y : X} → Some x ≡ Some y → x ≡ y
@@ -30,25 +31,32 @@ read_rose k at piece device into ps qs c =
 risen : (place found : Option Place) (ps qs : List PlexSeen) (log log' : LogSeen) → place ≡ found → HasRisen found ps log qs log' → HasRisen place ps log qs log'
 risen place found ps qs log log' e h = subst (λ (x : Option Place). HasRisen x ps log qs log') (sym e) h
 
-not_failure : (event found : Event) (place : Option Place) → event ≡ found → (IsFailure found → ⊥) → IsFailure event → IsSome place
-not_failure event found place e never fails = absurd (never (subst (λ (x : Event). IsFailure x) e fails))
+-- the place of an event that is no failure
+fits_none : (act : Act) (event found : Event) (place : Option Place) → event ≡ found → (IsFailure found → ⊥) → place ≡ None → FitsPlace act event place
+fits_none act event found place e never none = subst (λ (x : Option Place). FitsPlace act event x) (sym none) (λ fails. never (subst (λ (x : Event). IsFailure x) e fails))
 
-is_some : (place : Option Place) (x : Place) → place ≡ Some x → IsSome place
-is_some None x e = cc
-is_some (Some y) x e = refl
+-- .. and of one that is
+fits_some : (act : Act) (event found : Event) (place : Option Place) (x : Place) → event ≡ found → FailsAt act found x → place ≡ Some x → FitsPlace act event place
+fits_some act event found place x e fails is = subst (λ (y : Option Place). FitsPlace act event y) (sym is) (subst (λ (y : Event). FailsAt act y x) (sym e) fails)
 
-pub placed_write : (k at : ℕ) (bytes : List ℕ) (result : Result (Unit {0}) RunFault) (answer : Option Answered) (ps qs : List PlexSeen) (log log' : LogSeen) →
-    event_of answer ≡ Some (write_event result) → HasPlace k result answer → ChangesPlex k (IsPlexWritten at bytes result) ps qs → IsPlaced answer ps log qs log'
-placed_write k at bytes result None ps qs log log' e place c = tt
-placed_write k at bytes (Ok u) (Some answer) ps qs log log' e place c = (risen answer.place None ps qs log log' place tt, not_failure answer.event Wrote answer.place (some_same e) (λ h. h))
-placed_write k at bytes (Err PowerLost) (Some answer) ps qs log log' e place c = (risen answer.place None ps qs log log' place tt, not_failure answer.event Cut answer.place (some_same e) (λ h. h))
-placed_write k at bytes (Err (Failed piece device)) (Some answer) ps qs log log' e place c =
-    (risen answer.place (Some (Data k piece device)) ps qs log log' place (write_rose k at piece device bytes ps qs c), λ fails. is_some answer.place (Data k piece device) place)
+pub some_from_fits : (act : Act) (event : Event) (place : Option Place) → FitsPlace act event place → IsFailure event → IsSome place
+some_from_fits act event None fits fails = absurd (fits fails)
+some_from_fits act event (Some x) fits fails = refl
 
-pub placed_read : (k at : ℕ) (into : List ℕ) (result : Result (Unit {0}) RunFault) (answer : Option Answered) (ps qs : List PlexSeen) (log log' : LogSeen) →
-    event_of answer ≡ Some (read_event k result) → HasPlace k result answer → ChangesPlex k (IsPlexRead at into result) ps qs → IsPlaced answer ps log qs log'
-placed_read k at into result None ps qs log log' e place c = tt
-placed_read k at into (Ok u) (Some answer) ps qs log log' e place c = (risen answer.place None ps qs log log' place tt, not_failure answer.event Got answer.place (some_same e) (λ h. h))
-placed_read k at into (Err PowerLost) (Some answer) ps qs log log' e place c = (risen answer.place None ps qs log log' place tt, not_failure answer.event Cut answer.place (some_same e) (λ h. h))
-placed_read k at into (Err (Failed piece device)) (Some answer) ps qs log log' e place c =
-    (risen answer.place (Some (Data k piece device)) ps qs log log' place (read_rose k at piece device into ps qs c), λ fails. is_some answer.place (Data k piece device) place)
+pub placed_write : (act : Act) (k at : ℕ) (bytes : List ℕ) (result : Result (Unit {0}) RunFault) (answer : Option Answered) (ps qs : List PlexSeen) (log log' : LogSeen) →
+    ((piece device : ℕ) → FailsAt act WriteFailed (Data k piece device)) →
+    event_of answer ≡ Some (write_event result) → HasPlace k result answer → ChangesPlex k (IsPlexWritten at bytes result) ps qs → IsPlaced act answer ps log qs log'
+placed_write act k at bytes result None ps qs log log' own e place c = tt
+placed_write act k at bytes (Ok u) (Some answer) ps qs log log' own e place c = (risen answer.place None ps qs log log' place tt, fits_none act answer.event Wrote answer.place (some_same e) (λ h. h) place)
+placed_write act k at bytes (Err PowerLost) (Some answer) ps qs log log' own e place c = (risen answer.place None ps qs log log' place tt, fits_none act answer.event Cut answer.place (some_same e) (λ h. h) place)
+placed_write act k at bytes (Err (Failed piece device)) (Some answer) ps qs log log' own e place c =
+    (risen answer.place (Some (Data k piece device)) ps qs log log' place (write_rose k at piece device bytes ps qs c), fits_some act answer.event WriteFailed answer.place (Data k piece device) (some_same e) (own piece device) place)
+
+pub placed_read : (act : Act) (k at : ℕ) (into : List ℕ) (result : Result (Unit {0}) RunFault) (answer : Option Answered) (ps qs : List PlexSeen) (log log' : LogSeen) →
+    ((piece device : ℕ) → FailsAt act (ReadFailed k) (Data k piece device)) →
+    event_of answer ≡ Some (read_event k result) → HasPlace k result answer → ChangesPlex k (IsPlexRead at into result) ps qs → IsPlaced act answer ps log qs log'
+placed_read act k at into result None ps qs log log' own e place c = tt
+placed_read act k at into (Ok u) (Some answer) ps qs log log' own e place c = (risen answer.place None ps qs log log' place tt, fits_none act answer.event Got answer.place (some_same e) (λ h. h) place)
+placed_read act k at into (Err PowerLost) (Some answer) ps qs log log' own e place c = (risen answer.place None ps qs log log' place tt, fits_none act answer.event Cut answer.place (some_same e) (λ h. h) place)
+placed_read act k at into (Err (Failed piece device)) (Some answer) ps qs log log' own e place c =
+    (risen answer.place (Some (Data k piece device)) ps qs log log' place (read_rose k at piece device into ps qs c), fits_some act answer.event (ReadFailed k) answer.place (Data k piece device) (some_same e) (own piece device) place)

@@ -1,14 +1,20 @@
 -- What regions stand for after a call.
-use Rattle.std.proofs.Common.{◌≢◌, ℕ, subst, Option, Some, None}
+use Rattle.std.proofs.Common.{◌≢◌, ℕ, refl, subst, [], ◌∷◌, Option, Some, None}
 use Rattle.vx_mask.specs.Marks.{Marks, MayTidy}
-use Rattle.vx_core.specs.Region.{RegionState}
+use Rattle.vx_core.specs.declared.stage.Phase.{Phase}
+use Rattle.vx_core.specs.declared.stage.Stage.{Stage}
+use Rattle.vx_core.specs.declared.stage.Event.TheVariants.{Cut}
+use Rattle.vx_core.specs.declared.stage.Phase.TheVariants.{Settled, Unsettled, Dead, Busy}
+use Rattle.vx_core.specs.History.{NoCall}
+use Rattle.vx_core.specs.Schedule.{IsIdle, Comes}
+use Rattle.vx_core.specs.Region.{Around, FitsIn, RegionState}
 use Rattle.vx_core.proofs.ScheduleLaws.{kept_elsewhere}
 use Rattle.vx_core_laws.specs.Course.{IsKeptState}
 use Rattle.vx_core_laws.proofs.Courses.{course_keeps}
 use Rattle.vx_marks.specs.Log.{OnMarks}
-use Rattle.vx_cell.specs.Region.{Tells, TidiesOthers, marks_or, state_of}
+use Rattle.vx_cell.specs.Region.{Tells, TidiesOthers, disks_of, marks_or, state_of}
 use Rattle.vx_cell.specs.Running.{call_of, start_last, start_call}
-use Rattle.vx_cell.specs.Laws.{EachCallStands, EachOtherStands}
+use Rattle.vx_cell.specs.Laws.{EachCallStands, EachKillStands, EachOtherStands}
 
 pub call_stands : (T : Type 0) → EachCallStands T
 call_stands T job io io' old new result ended told who fixed entries allows kept =
@@ -24,3 +30,13 @@ tidied region n (Some a) (Some b) apart tells h = h n apart
 pub other_stands : EachOtherStands
 other_stands region other log fixed entries call apart tells others stood =
     kept_elsewhere other.stage other.stage.phase (state_of other fixed entries call other.number).around (marks_or log.told other.region) stood (tidied region other.region other.log.told log.told apart tells others)
+
+cut_fits : (s : Stage) (phase : Phase) (a : Around) → IsIdle phase → FitsIn s phase a Cut a.disks NoCall (λ i. [])
+cut_fits s Settled a idle = refl
+cut_fits s Unsettled a idle = refl
+cut_fits s Dead a idle = refl
+cut_fits s (Busy w) a idle = absurd idle
+
+pub kill_stands : EachKillStands
+kill_stands r fixed entries idle stood =
+    course_keeps (state_of r fixed entries NoCall r.number) (Comes Cut (disks_of r) NoCall (λ i. []) ∷ []) stood (cut_fits r.stage r.stage.phase (state_of r fixed entries NoCall r.number).around idle, tt)

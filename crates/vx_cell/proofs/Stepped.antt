@@ -44,6 +44,8 @@ use Rattle.vx_cell.proofs.Blocks.{read_same, read_blocks}
 use Rattle.vx_cell.proofs.Carried.{carried_answers, carried_gives, Fit}
 use Rattle.vx_cell.proofs.Kept.{log_same, log_more, others_same, others_more, carried_plexes, carried_log, carried_others, carried_tells, carried_may, carried_shows, with_failures, has_failed, or_cases}
 use Rattle.vx_cell.proofs.Measure.{phase_steps}
+use Rattle.vx_cell.proofs.Called.{called_none, called_more}
+use Rattle.vx_cell.proofs.Placed.{some_from_fits}
 use Rattle.vx_cell.specs.Running.{settles_in, MayWrite, IsQuiet}
 use Rattle.vx_cell.proofs.Written.{same_writes, more_writes, carried_writes, stays_quiet, quiet_work as quiet_step, form_work, standing_quiet}
 use Rattle.vx_cell.proofs.Scratch.{got_ok, scratch_after}
@@ -199,6 +201,7 @@ module _ (s : Stage) (region start size number epoch : ℕ) (ps : List PlexSeen)
         cut = λ lost. absurd (not_lost_begun s s.phase job x fresh may follows names lost);
         quiet = λ quiet. begun_quiet s s.phase job x fresh may follows quiet;
         writes = same_writes (MayWrite job (settles_in s.phase)) ps;
+        calls = called_none s job x table;
         rose = tt;
         blames = no_blame x.1 None (λ fault. absurd (fails (holds ps) whole.formed come fault));
         gives = λ done is told. absurd (no_read_begun s s.phase job x fresh may reads is done);
@@ -287,6 +290,7 @@ module _ (s : Stage) (region start size number epoch : ℕ) (ps : List PlexSeen)
         cut = λ lost. absurd (not_an_end w Lost can lost);
         quiet = λ quiet. standing_quiet s.phase quiet;
         writes = same_writes (MayWrite job (settles_in s.phase)) ps;
+        calls = called_none s job (s, act_at s w w.step) (sym (named_again w job is));
         rose = tt;
         blames = no_blame (act_at s w w.step) None (λ fault. absurd (not_an_end w Fault can fault));
         gives = λ done read told. absurd (not_an_end w Done can done);
@@ -483,7 +487,7 @@ module _ (job : Job) (io0 : Bytes) (old : RegionSeen) (s : Stage) (region start 
   next_region = record { stage = x.0; region = region; start = start; size = size; number = number; epoch = epoch; plexes = qs; log = log' }
 
   pub running_goes_on : s.phase ≡ Busy w → IsRunning job io0 old now first act io → IsCallable size job io0 → length io0.scratch ≡ 512 * size →
-      Carries region act (Some answer.event) io ps log io' qs log' → IsPlaced (Some answer) ps log qs log' → SameBytes io io' →
+      Carries region act (Some answer.event) io ps log io' qs log' → IsPlaced act (Some answer) ps log qs log' → SameBytes io io' →
       NamesAct x → KeepsForm s answer.event x → AsksPossible s answer.event x → CausesFrom s s.phase answer.event x → FollowsFrom s s.phase answer.event x → FailsFrom s answer.event x → ReadsFrom s s.phase answer.event x → x ≡ next_of s answer.event →
       IsRunning job io0 old next_region (earlier first answer.place) x.1 io'
   running_goes_on is run callable scratch carries placed same names form possible causes follows fails reads table =
@@ -593,8 +597,9 @@ module _ (job : Job) (io0 : Bytes) (old : RegionSeen) (s : Stage) (region start 
             more_writes (MayWrite job (settles_in old.stage.phase)) old.plexes ps qs run.kept.plexes run.writes
             (carried_writes job (settles_in old.stage.phase) s w (holds ps) region ps qs log log' io io' act (Some event) runs.0 (form_work s s.phase w is run.whole.formed.step)
             (λ began. quiet_step s.phase w is (run.quiet began)) at_step can_job carries);
+        calls = called_more old.stage job s act first answer.place event x run.calls may placed.1 table;
         rose = risen_first first answer.place old.plexes ps qs old.log log log' run.kept.plexes run.kept.log kept_plexes kept_log run.rose placed.0;
-        blames = no_blame x.1 (earlier first answer.place) (λ fault. some_earlier first answer.place (placed.1 (fails (holds ps) run.whole.formed come fault)));
+        blames = no_blame x.1 (earlier first answer.place) (λ fault. some_earlier first answer.place (some_from_fits act event answer.place placed.1 (fails (holds ps) run.whole.formed come fault)));
         gives = λ done read told.
             let fact = reads_work s s.phase w act event x (holds ps) is run.named may run.whole.formed reads (runs.0 ∙ read) done in
             let at_read : act ≡ ReadCall w.left = at_step ∙ ap (λ (st : Step). act_at s w st) fact.step ∙ ap (λ (j : Job). read_act w j) (runs.0 ∙ read) in
@@ -618,7 +623,7 @@ module _ (job : Job) (io0 : Bytes) (old : RegionSeen) (s : Stage) (region start 
 
   -- the same, with the call as it lay in the region at the start
   pub running_next : s.phase ≡ Busy w → IsRunning job io0 old now first act io → IsCallable old.size job io0 → length io0.scratch ≡ 512 * old.size →
-      Carries region act (Some answer.event) io ps log io' qs log' → IsPlaced (Some answer) ps log qs log' → SameBytes io io' →
+      Carries region act (Some answer.event) io ps log io' qs log' → IsPlaced act (Some answer) ps log qs log' → SameBytes io io' →
       NamesAct x → KeepsForm s answer.event x → AsksPossible s answer.event x → CausesFrom s s.phase answer.event x → FollowsFrom s s.phase answer.event x → FailsFrom s answer.event x → ReadsFrom s s.phase answer.event x → x ≡ next_of s answer.event →
       (place : Option Place) → place ≡ earlier first answer.place → IsRunning job io0 old next_region place x.1 io'
   running_next is run callable scratch carries placed same names form possible causes follows fails reads table place e =

@@ -111,10 +111,10 @@ clear_goes io b c io' result settled ended told who =
 
 -- a write that was not done, or of a region without a log
 pub written_alone : (io : Bytes) (old new : RegionSeen) (io' : Bytes) (result : Result ℕ CellFault) → old.log.lent ≡ false → HasEnded WriteJob io old new io' result → HasWritten io old new io' result
-written_alone io old new io' (Ok n) own h = record { whole = h.whole; kept = h.kept; number = h.number; masks = h.masks; tells = h.tells; goes = h.goes; phase = inl h.phase; cause = h.cause }
-written_alone io old new io' (Err (Fault place)) own h = record { whole = h.whole; kept = h.kept; number = h.number; masks = h.masks; tells = h.tells; goes = h.goes; phase = h.phase; cause = h.cause }
+written_alone io old new io' (Ok n) own h = record { whole = h.whole; kept = h.kept; number = h.number; masks = h.masks; tells = h.tells; goes = h.goes; phase = inl h.phase; cause = h.cause; calls = tt }
+written_alone io old new io' (Err (Fault place)) own h = record { whole = h.whole; kept = h.kept; number = h.number; masks = h.masks; tells = h.tells; goes = h.goes; phase = h.phase; cause = h.cause; calls = h.calls }
 written_alone io old new io' (Err PowerLost) own h =
-    record { whole = h.whole; kept = h.kept; number = h.number; masks = h.masks; tells = h.tells; goes = λ told who. let g = h.goes told who in (g.0, inl g.1); phase = h.phase; cause = h.cause }
+    record { whole = h.whole; kept = h.kept; number = h.number; masks = h.masks; tells = h.tells; goes = λ told who. let g = h.goes told who in (g.0, inl g.1); phase = h.phase; cause = h.cause; calls = tt }
 written_alone io old new io' (Err Held) own h = let e = h.cause in cc
 written_alone io old new io' (Err (Only map)) own h = absurd h.cause
 
@@ -142,6 +142,7 @@ module _ (n : ℕ) (io : Bytes) (old mid new : RegionSeen) (io' : Bytes) (scratc
         goes = both io2 io2' cleared k;
         phase = settled;
         cause = tt;
+        calls = tt;
       }
 
   after_clear : (io2 io2' : Bytes) (cleared : Result (Unit {0}) CellFault) → mid.log.lent ≡ false → HasEnded Clear io2 mid new io2' cleared → HasWritten io old new last (answer_after n cleared)
@@ -157,6 +158,7 @@ module _ (n : ℕ) (io : Bytes) (old mid new : RegionSeen) (io' : Bytes) (scratc
         goes = λ told who. let g = both io2 io2' (Err PowerLost) k told who in (g.0, inr g.1);
         phase = k.phase;
         cause = k.cause;
+        calls = tt;
       }
   after_clear io2 io2' (Err Held) own k = let e = k.cause in cc
   after_clear io2 io2' (Err (Only map)) own k = absurd k.cause

@@ -1,5 +1,5 @@
 -- What one device call is, and what it does to the plexes and the log.
-use Rattle.std.specs.Prelude.{◌≡◌, ◌≢◌, ℕ, ◌+◌, ◌/◌, ◌%◌, ◌≤◌, ◌<◌, IsTrue, true, List, Option, Some, None, IsSome, Result, Ok, Err}
+use Rattle.std.specs.Prelude.{◌≡◌, ◌≢◌, ℕ, ◌+◌, ◌/◌, ◌%◌, ◌≤◌, ◌<◌, IsTrue, true, List, Option, Some, None, Result, Ok, Err}
 use Rattle.vx_base.specs.Counts.{Rose}
 use Rattle.vx_mask.specs.Mask.{has}
 use Rattle.vx_mask.specs.Marks.{Marks, AllGain, AllLose, MayGain, MayLose}
@@ -57,10 +57,25 @@ abbrev pub HasRisen : Option Place → List PlexSeen → LogSeen → List PlexSe
 HasRisen None ps log qs log' = Unit {0}
 HasRisen (Some place) ps log qs log' = PlaceRose place ps log qs log'
 
--- a failure has a place, and the count there has risen
-abbrev pub IsPlaced : Option Answered → List PlexSeen → LogSeen → List PlexSeen → LogSeen → Type 0
-IsPlaced None ps log qs log' = Unit {0}
-IsPlaced (Some answer) ps log qs log' = HasRisen answer.place ps log qs log' × (IsFailure answer.event → IsSome answer.place)
+-- the call that carries out this act fails so at this place
+abbrev pub FailsAt : Act → Event → Place → Type 0
+FailsAt (WriteCall k) WriteFailed (Data map piece device) = map ≡ k
+FailsAt (WriteRegion k) WriteFailed (Data map piece device) = map ≡ k
+FailsAt (ReadCall offered) (ReadFailed k) (Data map piece device) = map ≡ k
+FailsAt (ReadRegion k) (ReadFailed j) (Data map piece device) = map ≡ j
+FailsAt (Mark b) MarkFailed (Log copy device) = Unit {0}
+FailsAt (Unmark b) UnmarkFailed (Log copy device) = Unit {0}
+FailsAt _ _ _ = ⊥
+
+-- a call has a place exactly where it fails
+abbrev pub FitsPlace : Act → Event → Option Place → Type 0
+FitsPlace act event None = IsFailure event → ⊥
+FitsPlace act event (Some place) = FailsAt act event place
+
+-- the place is that of the call's failure, and the count there has risen
+abbrev pub IsPlaced : Act → Option Answered → List PlexSeen → LogSeen → List PlexSeen → LogSeen → Type 0
+IsPlaced act None ps log qs log' = Unit {0}
+IsPlaced act (Some answer) ps log qs log' = HasRisen answer.place ps log qs log' × FitsPlace act answer.event answer.place
 
 -- the earlier of two places
 abbrev pub earlier : Option Place → Option Place → Option Place

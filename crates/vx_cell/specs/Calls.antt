@@ -1,13 +1,16 @@
 -- What the calls on a cell say.
-use Rattle.std.specs.Prelude.{◌≡◌, ◌⊎◌, ℕ, ◌+◌, ◌-◌, ◌≤◌, true, List, Option, Some, None, Result, Ok, Err, IfOk}
+use Rattle.std.specs.Prelude.{◌≡◌, ◌⊎◌, ◌&&◌, ℕ, ◌+◌, ◌-◌, ◌≤◌, Bool, true, false, if◌then◌else◌, List, Option, Some, None, Result, Ok, Err, IfOk}
 use Rattle.vx_base.specs.Blocks.{Contents}
 use Rattle.vx_life.specs.Entry.{Entry}
 use Rattle.vx_core.specs.declared.stage.Job.{Job}
 use Rattle.vx_core.specs.declared.stage.Act.{Act}
+use Rattle.vx_core.specs.declared.stage.Stage.{Stage}
 use Rattle.vx_core.specs.declared.stage.Phase.{Phase}
 use Rattle.vx_core.specs.declared.stage.Job.TheVariants.{Read as ReadJob, Write as WriteJob, Copy as CopyJob, Settle, Clear}
 use Rattle.vx_core.specs.declared.stage.Act.TheVariants.{Done, Skipped, Fault as FaultAct, Lost}
 use Rattle.vx_core.specs.declared.stage.Phase.TheVariants.{Settled, Unsettled, Dead, Busy}
+use Rattle.vx_mask.specs.Mask.{has, without}
+use Rattle.vx_core.specs.Table.{freed_by}
 use Rattle.vx_core.specs.History.{Pending, NoCall}
 use Rattle.vx_core.specs.Region.{Fixed, entries_after}
 use Rattle.vx_core.specs.Schedule.{Happening, IsIdle}
@@ -22,7 +25,7 @@ use Rattle.vx_cell.specs.declared.fault.CellFault.TheVariants.{Fault, PowerLost,
 use Rattle.vx_cell.specs.Plexes.{plexes_seen, WritesOnly}
 use Rattle.vx_cell.specs.Acts.{Bytes, IsRange, PlaceRose}
 use Rattle.vx_cell.specs.Region.{RegionSeen, IsWhole, IsTold, KeepsRegion, AllFailed, IsCut}
-use Rattle.vx_cell.specs.Running.{Caller, call_of, values_at, GoesBy, start_last, start_call, Allows, IsMarking, Begins, IsCallable, settles_in, MayWrite, IsRunning}
+use Rattle.vx_cell.specs.Running.{Caller, call_of, values_at, GoesBy, start_last, start_call, Allows, IsMarking, Begins, IsCallable, settles_in, MayWrite, HasCalled, IsRunning}
 
 -- the region of a cell, with the log that its calls are given
 abbrev pub region_of : {P : Type 0} → (P → Seen) → Cell P → LogSeen → RegionSeen
@@ -101,6 +104,28 @@ CallHasCause job old new (Err PowerLost) = IsCut new
 CallHasCause job old new (Err Held) = old.log.lent ≡ true
 CallHasCause job old new (Err (Only map)) = ⊥
 
+-- the act that a call's answer tells as the last of its job; a call that is held has not ended
+abbrev pub TellsAct : {T : Type 0} → Result T CellFault → Act → Type 0
+TellsAct (Ok n) act = (act ≡ Done) ⊎ (act ≡ Skipped)
+TellsAct (Err (Fault place)) act = act ≡ FaultAct
+TellsAct (Err PowerLost) act = act ≡ Lost
+TellsAct (Err Held) act = Unit {0}
+TellsAct (Err (Only map)) act = ⊥
+
+-- a fault tells this place
+abbrev pub TellsPlace : {T : Type 0} → Result T CellFault → Option Place → Type 0
+TellsPlace (Err (Fault place)) first = first ≡ Some place
+TellsPlace result first = Unit {0}
+
+-- The call's answer is by the last act to which its device calls have brought the job; the place of a fault is that of the
+-- first of them that failed.
+pub record AnswersLast {T : Type 0} (job : Job) (old new : Stage) (result : Result T CellFault) : Type 0 where
+  pub act : Act
+  pub first : Option Place
+  pub calls : HasCalled old job new act first
+  pub last : TellsAct result act
+  pub blames : TellsPlace result first
+
 -- How a job's call ends. The contents are spoken of where the devices tell them: whatever the region's history is, the region
 -- goes by a course of events, of which this call's entry is the outcome.
 pub record HasEnded {T : Type 0} (job : Job) (io : Bytes) (old new : RegionSeen) (io' : Bytes) (result : Result T CellFault) : Type 0 where
@@ -114,8 +139,42 @@ pub record HasEnded {T : Type 0} (job : Job) (io : Bytes) (old new : RegionSeen)
       new (call_left result (call_of job io old who)) (entries_by result (call_of job io old who) (values_at (old.start + io'.at) io'.into))
   pub phase : LeavesPhase result new.stage.phase
   pub cause : CallHasCause job old new result
+  pub calls : AnswersLast job old.stage new.stage result
   -- the counts of writes rise on these plexes alone
   pub writes : WritesOnly (MayWrite job (settles_in old.stage.phase)) old.plexes new.plexes
+
+-- ---- what a copy and a clear leave of the marks
+
+-- whether the job has a mark to take away: a copy that of its plex, where that is on, and a clear the dirty bit
+abbrev pub takes : Job → ℕ → ℕ → Bool
+takes (CopyJob k) on marks = has on k && has marks k
+takes Clear on marks = has marks 30
+takes ReadJob on marks = false
+takes WriteJob on marks = false
+takes Settle on marks = false
+
+-- the marks of the region once it was settled: those that it had, and where it was not settled also those of plexes that the
+-- settling missed
+pub record HasMarks (old : Stage) (marks : ℕ) : Type 0 where
+  pub settled : old.phase ≡ Settled → marks ≡ old.bits
+  pub more : (j : ℕ) → has old.bits j ≡ true → has marks j ≡ true
+
+-- the job found a mark to take away, and has taken it and no other; or it found none
+pub record LeavesMarks (job : Job) (old new : Stage) (found : Bool) : Type 0 where
+  pub marks : ℕ
+  pub were : HasMarks old marks
+  pub is_found : takes job new.on marks ≡ found
+  pub left : new.bits ≡ (if found then without marks (freed_by job) else marks)
+
+-- a copy tells whether its plex was on and, once the region was settled, marked
+abbrev pub CopyLeaves : ℕ → Stage → Stage → Result Bool CellFault → Type 0
+CopyLeaves k old new (Ok copied) = LeavesMarks (CopyJob k) old new copied
+CopyLeaves k old new (Err fault) = Unit {0}
+
+-- after a clear the region is not dirty
+abbrev pub ClearLeaves : Stage → Stage → Result (Unit {0}) CellFault → Type 0
+ClearLeaves old new (Ok u) = (found : Bool) × LeavesMarks Clear old new found × (has new.bits 30 ≡ false)
+ClearLeaves old new (Err fault) = Unit {0}
 
 -- the region once a call of this job has drawn its number
 abbrev pub numbered : Job → RegionSeen → RegionSeen
@@ -188,6 +247,14 @@ abbrev pub WriteLeaves : Result ℕ CellFault → Phase → Type 0
 WriteLeaves (Ok n) phase = (phase ≡ Settled) ⊎ (phase ≡ Unsettled)
 WriteLeaves result phase = LeavesPhase result phase
 
+abbrev pub fault_of : Place → Result ℕ CellFault
+fault_of place = Err (Fault place)
+
+-- a fault of it is one of the write, before the clear
+abbrev pub WriteCalls : Result ℕ CellFault → Stage → Stage → Type 0
+WriteCalls (Err (Fault place)) old new = AnswersLast WriteJob old new (fault_of place)
+WriteCalls result old new = Unit {0}
+
 -- How a write ends that clears the region once it is done. Where the power goes in the clear, the write was done and is told
 -- as torn all the same: what it stands for as done it stands for as torn.
 pub record HasWritten (io : Bytes) (old new : RegionSeen) (io' : Bytes) (result : Result ℕ CellFault) : Type 0 where
@@ -201,6 +268,7 @@ pub record HasWritten (io : Bytes) (old new : RegionSeen) (io' : Bytes) (result 
       (start_call old.stage.phase (call_of WriteJob io old who)) new (call_of WriteJob io old who) (values_at (old.start + io'.at) io'.into)
   pub phase : WriteLeaves result new.stage.phase
   pub cause : CallHasCause WriteJob old new result
+  pub calls : WriteCalls result old.stage new.stage
 
 -- a write on a cell that is not under way
 pub record WriteEnds (io : Bytes) (old new : RegionSeen) (io' : Bytes) (result : Result ℕ CellFault) : Type 0 where

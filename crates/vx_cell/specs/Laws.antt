@@ -2,7 +2,10 @@
 use Rattle.std.specs.Prelude.{◌≢◌, ℕ, ◌+◌, List, Result}
 use Rattle.vx_life.specs.Entry.{Entry}
 use Rattle.vx_core.specs.declared.stage.Job.{Job}
-use Rattle.vx_core.specs.History.{Pending}
+use Rattle.vx_core.specs.declared.stage.Event.TheVariants.{Cut}
+use Rattle.vx_core.specs.Table.{next_of}
+use Rattle.vx_core.specs.Schedule.{IsIdle}
+use Rattle.vx_core.specs.History.{Pending, NoCall}
 use Rattle.vx_core.specs.Region.{Fixed}
 use Rattle.vx_core_laws.specs.Course.{IsKeptState}
 use Rattle.vx_marks.specs.Log.{LogSeen, OnMarks}
@@ -27,3 +30,8 @@ EachOtherStands =
     (region : ℕ) (other : RegionSeen) (log : LogSeen) (fixed : Fixed) (entries : List Entry) (call : Pending) →
     other.region ≢ region → Tells other.log.told → OnMarks (TidiesOthers region) other.log.told log.told →
     StandsFor other fixed entries call → StandsFor (record other { log = log }) fixed entries call
+
+-- Each history that an idle region stood for, it stands for once its cell is killed.
+abbrev pub EachKillStands : Type 0
+EachKillStands =
+    (r : RegionSeen) (fixed : Fixed) (entries : List Entry) → IsIdle r.stage.phase → StandsFor r fixed entries NoCall → StandsFor (record r { stage = (next_of r.stage Cut).0 }) fixed entries NoCall

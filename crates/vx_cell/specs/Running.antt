@@ -1,5 +1,5 @@
 -- How a job on a region runs, and what has become of the region so far.
-use Rattle.std.specs.Prelude.{◌≡◌, ℕ, ◌+◌, ◌-◌, ◌<◌, ◌==◌, Bool, true, false, List, [], ◌∷◌, length, Option, None}
+use Rattle.std.specs.Prelude.{◌≡◌, ℕ, ◌+◌, ◌-◌, ◌<◌, ◌==◌, Bool, true, false, List, [], ◌∷◌, length, Option, Some, None, ◌⊎◌}
 use Rattle.vx_base.specs.Blocks.{Contents, blocks_in, block_at}
 use Rattle.vx_life.specs.Entry.{Entry}
 use Rattle.vx_mask.specs.Mask.{has}
@@ -10,13 +10,13 @@ use Rattle.vx_core.specs.declared.stage.Phase.{Phase}
 use Rattle.vx_core.specs.declared.stage.Step.{Step}
 use Rattle.vx_core.specs.declared.stage.Stage.{Stage}
 use Rattle.vx_core.specs.declared.stage.Job.TheVariants.{Read as ReadJob, Write as WriteJob, Copy as CopyJob, Settle, Clear}
-use Rattle.vx_core.specs.declared.stage.Event.TheVariants.{MarkFailed, UnmarkFailed, WriteFailed, ReadFailed, Cut}
+use Rattle.vx_core.specs.declared.stage.Event.TheVariants.{Begin, MarkFailed, UnmarkFailed, WriteFailed, ReadFailed, Cut}
 use Rattle.vx_core.specs.declared.stage.Act.TheVariants.{Mark, Unmark, WriteCall, WriteRegion, ReadCall, ReadRegion, Done, Fault, Lost}
 use Rattle.vx_core.specs.declared.stage.Step.TheVariants.{Mark as AtMark, MarkFailed as AtMarkFailed, Unmark as AtUnmark}
 use Rattle.vx_core.specs.declared.stage.Phase.TheVariants.{Settled, Unsettled, Dead, Busy}
 use Rattle.vx_core.specs.Table.{current, act_at, next_of, IsNamed}
 use Rattle.vx_core.specs.History.{Call, Pending, NoCall, Reads, Writes, MayBegin}
-use Rattle.vx_core.specs.Region.{Fixed, entries_after, pending_after}
+use Rattle.vx_core.specs.Region.{Fixed, MayAnswer, entries_after, pending_after}
 use Rattle.vx_core.specs.Schedule.{Happening, Comes, Elsewhere}
 use Rattle.vx_core.specs.Recovery.{region_after}
 use Rattle.vx_core.specs.Follow.{SameMasks, Rewrites, EndsSettled, PossibleIn, settles}
@@ -24,7 +24,7 @@ use Rattle.vx_core.specs.Causes.{Faults, IsPlain, Blames}
 use Rattle.vx_core_laws.specs.Course.{EachFits}
 use Rattle.vx_cell.specs.declared.fault.Place.{Place}
 use Rattle.vx_cell.specs.Plexes.{PlexSeen, holds, contents_of, PlexRose, WritesOnly}
-use Rattle.vx_cell.specs.Acts.{Bytes, IsRange, HasRisen}
+use Rattle.vx_cell.specs.Acts.{Bytes, IsRange, HasRisen, FailsAt, FitsPlace}
 use Rattle.vx_cell.specs.Region.{RegionSeen, IsWhole, IsTold, KeepsRegion, LogRose, IsCut, state_of}
 
 -- ---- calls
@@ -104,6 +104,33 @@ pub record GoesBy (allows : Fixed → List Entry → Type 0) (course : List Happ
   pub fits : (fixed : Fixed) (entries : List Entry) → allows fixed entries → EachFits course (state_of old fixed entries call last)
   pub ends : (fixed : Fixed) (entries : List Entry) → region_after course (state_of old fixed entries call last) ≡ state_of new fixed (more entries) call' new.number
   pub backed : AreBacked course old.stage old new
+
+-- ---- the device calls
+
+-- what a job has come to once its device calls were answered so, the first one first
+abbrev pub answered_by : Stage × Act → List Event → Stage × Act
+answered_by x [] = x
+answered_by x (event ∷ events) = answered_by (next_of x.0 event) events
+
+-- each of them may answer the act that was named then
+abbrev pub AreAnswers : Stage × Act → List Event → Type 0
+AreAnswers x [] = Unit {0}
+AreAnswers x (event ∷ events) = MayAnswer x.1 event × AreAnswers (next_of x.0 event) events
+
+-- the first of the calls that failed has failed at this place; or none has failed, and there is no place
+abbrev pub FailsFirstAt : Stage × Act → List Event → Option Place → Type 0
+FailsFirstAt x [] None = Unit {0}
+FailsFirstAt x [] (Some place) = ⊥
+FailsFirstAt x (event ∷ events) None = FitsPlace x.1 event None × FailsFirstAt (next_of x.0 event) events None
+FailsFirstAt x (event ∷ events) (Some place) = FailsAt x.1 event place ⊎ (FitsPlace x.1 event None × FailsFirstAt (next_of x.0 event) events (Some place))
+
+-- The job has come from the one stage to the other, where it waits for this act, or has ended with it: these answers of device
+-- calls, each a call that the stage named then, brought it there. A job that stands before an act begins with it.
+pub record HasCalled (old : Stage) (job : Job) (now : Stage) (act : Act) (first : Option Place) : Type 0 where
+  pub events : List Event
+  pub answers : AreAnswers (next_of old (Begin job)) events
+  pub comes : answered_by (next_of old (Begin job)) events ≡ (now, act)
+  pub first_is : FailsFirstAt (next_of old (Begin job)) events first
 
 -- ---- how a job starts: it begins in an idle region, or goes on where it stands
 
@@ -222,6 +249,7 @@ pub record IsRunning (job : Job) (io : Bytes) (old now : RegionSeen) (first : Op
   pub cut : act ≡ Lost → IsCut now
   pub quiet : settles_in old.stage.phase ≡ false → IsQuiet now.stage.phase
   pub writes : WritesOnly (MayWrite job (settles_in old.stage.phase)) old.plexes now.plexes
+  pub calls : HasCalled old.stage job now.stage act first
   pub rose : HasRisen first old.plexes old.log now.plexes now.log
   pub blames : HasBlame act first
   pub gives : act ≡ Done → job ≡ ReadJob → IsTold old → GivesCurrent now io'.at io'.into

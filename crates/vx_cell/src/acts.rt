@@ -43,7 +43,7 @@ fn mark<M: Marker>(log: &mut M, region: u64, bits: u64) -> Option<Answered>
     requires there { (M.log log.old).there ≡ true }
     requires askable { IsMarkable (M.log log.old) region bits }
     ensures is { IsMarkOf region (Mark bits) (MarksBy bits) (event_of result) (M.log log.old) (M.log log.new) }
-    ensures place { IsPlaced result [] (M.log log.old) [] (M.log log.new) }
+    ensures place { IsPlaced (Mark bits) result [] (M.log log.old) [] (M.log log.new) }
     ensures follows { M.follows log.old log.new }
 {
     match log.mark(region, bits) {
@@ -61,7 +61,7 @@ fn unmark<M: Marker>(log: &mut M, region: u64, bits: u64) -> Option<Answered>
     requires there { (M.log log.old).there ≡ true }
     requires askable { IsMarkable (M.log log.old) region bits }
     ensures is { IsMarkOf region (Unmark bits) (UnmarksBy bits) (event_of result) (M.log log.old) (M.log log.new) }
-    ensures place { IsPlaced result [] (M.log log.old) [] (M.log log.new) }
+    ensures place { IsPlaced (Unmark bits) result [] (M.log log.old) [] (M.log log.new) }
     ensures follows { M.follows log.old log.new }
 {
     match log.unmark(region, bits) {
@@ -136,7 +136,7 @@ pub fn carry_out<P: Piece, M: Marker, F: Fn(u64, u64) -> u32>(
     ensures carries { Carries region act (event_of result)
         (record { at = at; into = into.old; from = from.now; scratch = scratch.old }) (plexes_seen P.seen plexes.old.items) (M.log log.old)
         (record { at = at; into = into.new; from = from.now; scratch = scratch.new }) (plexes_seen P.seen plexes.new.items) (M.log log.new) }
-    ensures placed { IsPlaced result (plexes_seen P.seen plexes.old.items) (M.log log.old) (plexes_seen P.seen plexes.new.items) (M.log log.new) }
+    ensures placed { IsPlaced act result (plexes_seen P.seen plexes.old.items) (M.log log.old) (plexes_seen P.seen plexes.new.items) (M.log log.new) }
     ensures into { length into.new ≡ length into.old }
     ensures scratch { length scratch.new ≡ length scratch.old }
     ensures follows { M.follows log.old log.new }

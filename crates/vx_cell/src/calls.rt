@@ -9,7 +9,7 @@ ghost use Rattle.vx_picker.specs.Picks.{PicksMember};
 ghost use Rattle.vx_cell.specs.Acts.{Bytes};
 ghost use Rattle.vx_cell.specs.Region.{IsTold, IsWhole};
 ghost use Rattle.vx_cell.specs.Running.{GivesCurrent};
-ghost use Rattle.vx_cell.specs.Calls.{CallEnds, HasCleared, IsInSpan, IsResumable, ResumeEnds, Stands, WriteEnds, answer_of, done_of, region_of, skipped_of};
+ghost use Rattle.vx_cell.specs.Calls.{CallEnds, ClearLeaves, CopyLeaves, HasCleared, IsInSpan, IsResumable, ResumeEnds, Stands, WriteEnds, answer_of, done_of, region_of, skipped_of};
 
 use crate::cell::Cell;
 use crate::fault::CellFault;
@@ -195,6 +195,8 @@ impl<P: Piece> Cell<P> {
         ensures ended { CallEnds (Copy map)
             (record { at = 0; into = []; from = []; scratch = scratch.old }) (region_of P.seen self.old (M.log log.old))
             (region_of P.seen self.new (M.log log.new)) (record { at = 0; into = []; from = []; scratch = scratch.new }) result }
+        // It answers false exactly where the plex was not on or, once the region was settled, not marked.
+        ensures marks { CopyLeaves map self.old.stage self.new.stage result }
         ensures scratch { length scratch.new ≡ length scratch.old }
         ensures follows { M.follows log.old log.new }
     {
@@ -227,6 +229,7 @@ impl<P: Piece> Cell<P> {
         ensures ended { CallEnds Clear
             (record { at = 0; into = []; from = []; scratch = scratch.old }) (region_of P.seen self.old (M.log log.old))
             (region_of P.seen self.new (M.log log.new)) (record { at = 0; into = []; from = []; scratch = scratch.new }) result }
+        ensures marks { ClearLeaves self.old.stage self.new.stage result }
         ensures scratch { length scratch.new ≡ length scratch.old }
         ensures follows { M.follows log.old log.new }
     {

@@ -1,6 +1,8 @@
 ghost use Rattle.std.specs.Prelude.{◌≡◌, ◌≤◌, ◌<◌, ◌++◌, ◌∷◌, [], true, false, map as map_of, if◌then◌else◌, ℕ, IfOk, IfErr, OnErr, OnOk, MatchResult};
 ghost use Rattle.std.specs.Vec.{vec_capacity, vec_len};
+ghost use Rattle.vx_core.specs.declared.stage.Event.TheVariants.{Cut};
 ghost use Rattle.vx_core.specs.declared.stage.Phase.TheVariants.{Dead};
+ghost use Rattle.vx_core.specs.Table.{next_of};
 ghost use Rattle.vx_core.specs.Plexes.{put_in};
 ghost use Rattle.vx_cell.specs.Plexes.{holds, plexes_seen};
 ghost use Rattle.vx_cell.specs.Changes.{CellArmed, HasRoom, IsSet, Leaves, cell_seen, has_other};
@@ -101,9 +103,10 @@ impl<P: Piece> Cell<P> {
         self.epoch = epoch;
     }
 
-    /// Kills the cell, as a cut would: each later call answers that the power is gone.
+    /// Kills the cell, as the event of a cut does without a device call: each later call answers that the power is gone.
     pub fn kill(&mut self)
-        ensures { cell_seen P.seen self.new ≡ record (cell_seen P.seen self.old) { stage = record (cell_seen P.seen self.old).stage { phase = Dead } } }
+        ensures cut { cell_seen P.seen self.new ≡ record (cell_seen P.seen self.old) { stage = (next_of (cell_seen P.seen self.old).stage Cut).0 } }
+        ensures dead { (cell_seen P.seen self.new).stage.phase ≡ Dead }
     {
         self.stage = vx_core::next(&self.stage, Event::Cut).0;
     }

@@ -10,13 +10,13 @@ use Rattle.vx_core.specs.declared.stage.Stage.{Stage}
 use Rattle.vx_core.specs.Form.{AreMasks, IsFormed}
 use Rattle.vx_core.specs.Schedule.{IsIdle}
 use Rattle.vx_runs.specs.Run.{run_sectors}
-use Rattle.vx_cell.specs.Plexes.{PlexSeen, plex_seen, plexes_seen}
+use Rattle.vx_cell.specs.Plexes.{PlexSeen, holds, plex_seen, plexes_seen}
 use Rattle.vx_cell.specs.declared.plex.Plex.{Plex}
 use Rattle.vx_cell.specs.Region.{RegionSeen, IsWhole}
 use Rattle.vx_cell.specs.Changes.{CellSeen, cell_seen}
 use Rattle.vx_cell.specs.declared.cell.Cell.{Cell}
-use Rattle.vx_piece.specs.MemPiece.{mem_seen}
-use Rattle.vx_piece.specs.declared.mem_piece.MemPiece.{MemPiece}
+use Rattle.vx_cell_rows.specs.Piece.{row_seen}
+use Rattle.vx_cell_rows.specs.declared.piece.RowPiece.{RowPiece}
 use Rattle.vx_cell_rows.specs.Ready.{IsReady}
 use Rattle.vx_cell_rows.specs.declared.notes.Notes.{Notes}
 use Rattle.vx_cell_rows.specs.Notes.{notes_log}
@@ -79,16 +79,21 @@ masks bits first second fits e f = record {
   unlogged = λ e. cc;
 }
 
-formed : (bits first second : ℕ) (phase : Phase) → bits < 2 ^ 64 → has bits 0 ≡ false → first ≡ 0 → second ≡ 1 → IsIdle phase → IsFormed (stage_of bits phase) phase (held first second)
-formed bits first second Settled fits free e f idle = record { stage = masks bits first second fits e f; readable = (0, both_has 0 (inl refl), free, refl); step = tt; marked = tt }
-formed bits first second Unsettled fits free e f idle = record { stage = masks bits first second fits e f; readable = (0, both_has 0 (inl refl), free, refl); step = tt; marked = tt }
-formed bits first second Dead fits free e f idle = record { stage = masks bits first second fits e f; readable = (0, both_has 0 (inl refl), free, refl); step = tt; marked = tt }
+-- a plex that is unmarked can be read
+one_readable : (bits : ℕ) → (has bits 0 ≡ false) ⊎ (has bits 1 ≡ false) → (k : ℕ) × (has both k ≡ true) × (has bits k ≡ false) × (false ≡ false)
+one_readable bits (inl zeroth) = (0, both_has 0 (inl refl), zeroth, refl)
+one_readable bits (inr other) = (1, both_has 1 (inr refl), other, refl)
+
+formed : (bits first second : ℕ) (phase : Phase) → bits < 2 ^ 64 → (has bits 0 ≡ false) ⊎ (has bits 1 ≡ false) → first ≡ 0 → second ≡ 1 → IsIdle phase → IsFormed (stage_of bits phase) phase (held first second)
+formed bits first second Settled fits free e f idle = record { stage = masks bits first second fits e f; readable = one_readable bits free; step = tt; marked = tt }
+formed bits first second Unsettled fits free e f idle = record { stage = masks bits first second fits e f; readable = one_readable bits free; step = tt; marked = tt }
+formed bits first second Dead fits free e f idle = record { stage = masks bits first second fits e f; readable = one_readable bits free; step = tt; marked = tt }
 formed bits first second (Busy w) fits free e f idle = elim idle [ ]
 
 small : (k : ℕ) → has (union (union both 0) 0) k ≡ true → k < 64
 small k h = has-lt (union (union both 0) 0) k (union-lt (union both 0) 0 (union-lt both 0 both_fits (omega arith)) (omega arith)) h
 
-pub mirror_whole : (bits : ℕ) (phase : Phase) (first second : PlexSeen) (log : Notes) → bits < 2 ^ 64 → has bits 0 ≡ false → IsIdle phase →
+pub mirror_whole : (bits : ℕ) (phase : Phase) (first second : PlexSeen) (log : Notes) → bits < 2 ^ 64 → (has bits 0 ≡ false) ⊎ (has bits 1 ≡ false) → IsIdle phase →
     first.map ≡ 0 → second.map ≡ 1 → run_sectors first.pieces ≡ 2 → run_sectors second.pieces ≡ 2 →
     IsWhole (record { stage = stage_of bits phase; region = 0; start = 0; size = 2; number = 0; epoch = 0; plexes = first ∷ second ∷ []; log = notes_log log })
 mirror_whole bits phase first second log fits free idle e f covers covers' = record {
@@ -104,14 +109,15 @@ mirror_whole bits phase first second log fits free idle e f covers covers' = rec
 abbrev pub region_from : CellSeen → Notes → RegionSeen
 region_from seen log = record { stage = seen.stage; region = seen.region; start = seen.start; size = seen.size; number = seen.number; epoch = seen.epoch; plexes = seen.plexes; log = notes_log log }
 
-pub mirror_ready : (cell : Cell MemPiece) (bits on : ℕ) (phase : Phase) (first second : Plex MemPiece) (items : List (Plex MemPiece)) (log : Notes) → bits < 2 ^ 64 → has bits 0 ≡ false → IsIdle phase →
-    first.map ≡ 0 → second.map ≡ 1 → run_sectors (map_of mem_seen first.pieces.items) ≡ 2 → run_sectors (map_of mem_seen second.pieces.items) ≡ 2 → on ≡ both → items ≡ first ∷ second ∷ [] →
-    cell_seen mem_seen cell ≡ record { stage = record { on = on; off = 0; snaps = 0; bits = bits; logged = true; phase = phase }; region = 0; start = 0; size = 2; number = 0; epoch = 0; plexes = plexes_seen mem_seen items } →
+pub mirror_ready : (cell : Cell RowPiece) (bits on : ℕ) (phase : Phase) (first second : Plex RowPiece) (items : List (Plex RowPiece)) (log : Notes) → bits < 2 ^ 64 → (has bits 0 ≡ false) ⊎ (has bits 1 ≡ false) → IsIdle phase →
+    first.map ≡ 0 → second.map ≡ 1 → run_sectors (map_of row_seen first.pieces.items) ≡ 2 → run_sectors (map_of row_seen second.pieces.items) ≡ 2 → on ≡ both → items ≡ first ∷ second ∷ [] →
+    cell_seen row_seen cell ≡ record { stage = record { on = on; off = 0; snaps = 0; bits = bits; logged = true; phase = phase }; region = 0; start = 0; size = 2; number = 0; epoch = 0; plexes = plexes_seen row_seen items } →
     IsReady cell log
 mirror_ready cell bits on phase first second items log fits free idle e f covers covers' same are seen = record {
-  whole = subst (λ (s : CellSeen). IsWhole (region_from s log)) (sym seen) (rw (same, are) (mirror_whole bits phase (plex_seen mem_seen first) (plex_seen mem_seen second) log fits free idle e f covers covers'));
+  whole = subst (λ (s : CellSeen). IsWhole (region_from s log)) (sym seen) (rw (same, are) (mirror_whole bits phase (plex_seen row_seen first) (plex_seen row_seen second) log fits free idle e f covers covers'));
   idle = subst (λ (s : CellSeen). IsIdle s.stage.phase) (sym seen) idle;
   start = ap (λ (s : CellSeen). s.start) seen;
   size = ap (λ (s : CellSeen). s.size) seen;
   number = ap (λ (s : CellSeen). s.number) seen;
+  second = subst (λ (s : CellSeen). holds s.plexes 1 ≡ true) (sym seen) (rw are (on_held first.map second.map 1 e f (inr refl)));
 }

@@ -5,52 +5,63 @@
 //! hand from the rules.
 #![tactic(auto)]
 
-use build::{Failing, bytes, mirror, plex};
+use build::{Start, Trouble, bytes, mirror, plex};
 use call::{Call, perform};
 use notes::{Fate, Notes};
+use piece::RowPiece;
 use shown::{Shown, phase_name};
 use std::alloc::Global;
 use std::io;
 use vx_cell::{CellFault, Plex};
 use vx_core::Stage;
-use vx_piece::MemPiece;
 
 mod build;
 mod call;
 mod notes;
+mod piece;
 mod shown;
+mod sweep;
 
 /// A region, what fails of it, and the call.
 #[derive(Clone, Copy)]
 struct Case {
     bits: u64,
-    unsettled: bool,
-    first: Failing,
-    second: Failing,
+    start: Start,
+    first: Trouble,
+    second: Trouble,
     fates: [Fate; 2],
     call: Call,
 }
 
-const GOOD: Failing = Failing {
+const GOOD: Trouble = Trouble {
     reads: false,
     writes: false,
+    skip: 0,
+    times: 9,
+    cut: None,
 };
 
-const NO_READS: Failing = Failing {
+const NO_READS: Trouble = Trouble {
     reads: true,
-    writes: false,
+    ..GOOD
 };
 
-const NO_WRITES: Failing = Failing {
-    reads: false,
+const NO_WRITES: Trouble = Trouble {
     writes: true,
+    ..GOOD
+};
+
+/// The power goes at the first call on the plex.
+const CUT: Trouble = Trouble {
+    cut: Some(0),
+    ..GOOD
 };
 
 /// The call on a settled mirror without marks, of which nothing fails.
 fn settled(call: Call) -> Case {
     Case {
         bits: 0,
-        unsettled: false,
+        start: Start::Settled,
         first: GOOD,
         second: GOOD,
         fates: [Fate::Good, Fate::Good],
@@ -62,7 +73,7 @@ fn settled(call: Call) -> Case {
 fn crashed(call: Call) -> Case {
     Case {
         bits: vx_mask::of(vx_mask::DIRTY),
-        unsettled: true,
+        start: Start::Unsettled,
         ..settled(call)
     }
 }
@@ -83,7 +94,7 @@ struct Outcome {
     byte: u8,
     stage: Stage,
     log: Notes,
-    plexes: Vec<Plex<MemPiece>>,
+    plexes: Vec<Plex<RowPiece>>,
 }
 
 fn make(alloc: Global, case: Case) -> Option<Outcome> {
@@ -99,7 +110,7 @@ fn make(alloc: Global, case: Case) -> Option<Outcome> {
     };
     let first = plex(alloc, 0, 1, case.first)?;
     let second = plex(alloc, 1, 2, case.second)?;
-    let mut cell = mirror(alloc, case.bits, case.unsettled, first, second)?;
+    let mut cell = mirror(alloc, case.bits, case.start, first, second)?;
     let answer = perform(&mut cell, case.call, &mut buffer, &mut scratch, &mut log);
     let (stage, _, _, plexes) = cell.into_parts();
     Some(Outcome {
@@ -142,7 +153,7 @@ fn show_log(rt: &HostRuntime, log: &Notes) -> io::Result<()> {
     )
 }
 
-fn show_plex(rt: &HostRuntime, plex: &Plex<MemPiece>) -> io::Result<()> {
+fn show_plex(rt: &HostRuntime, plex: &Plex<RowPiece>) -> io::Result<()> {
     for piece in &plex.pieces {
         let counts = piece.counts();
         print!(rt; "  plex {}", plex.map)?;
@@ -150,8 +161,11 @@ fn show_plex(rt: &HostRuntime, plex: &Plex<MemPiece>) -> io::Result<()> {
             print!(rt; " {byte}")?;
         }
         println!(rt;
-            ", reads {} writes {} faults {}",
-            counts.reads, counts.writes, counts.faults
+            ", reads {} writes {} faults {}{}",
+            counts.reads,
+            counts.writes,
+            counts.faults,
+            if piece.is_cut() { ", cut" } else { "" }
         )?;
     }
     Ok(())
@@ -261,7 +275,7 @@ fn copies(rt: &HostRuntime) -> io::Result<()> {
 
 fn clears(rt: &HostRuntime) -> io::Result<()> {
     let dirty = Case {
-        unsettled: false,
+        start: Start::Settled,
         ..crashed(Call::Clear)
     };
     let kept = Case {
@@ -291,11 +305,94 @@ fn cuts(rt: &HostRuntime) -> io::Result<()> {
     row(rt, "a write that is cut in its clear", second)
 }
 
+/// Where the power goes at a call on one device, the others hold what was written before it.
+fn orders(rt: &HostRuntime) -> io::Result<()> {
+    let write = settled(Call::Write);
+    let settling = crashed(Call::Settle);
+    let copy = marked(Call::Copy(1));
+    let unmark = Case {
+        fates: [Fate::Cuts, Fate::Good],
+        ..copy
+    };
+    row(rt, "a write that is cut at plex 0", cut_first(write))?;
+    row(rt, "a write that is cut at plex 1", cut_second(write))?;
+    row(
+        rt,
+        "a settling that is cut at its read",
+        cut_first(settling),
+    )?;
+    row(
+        rt,
+        "a settling that is cut at its write",
+        cut_second(settling),
+    )?;
+    row(rt, "a copy that is cut at its read", cut_first(copy))?;
+    row(rt, "a copy that is cut at its write", cut_second(copy))?;
+    row(rt, "a copy that is cut at its unmark", unmark)?;
+    row(rt, "a read that is cut", cut_first(settled(Call::Read)))
+}
+
+fn cut_first(case: Case) -> Case {
+    Case { first: CUT, ..case }
+}
+
+fn cut_second(case: Case) -> Case {
+    Case {
+        second: CUT,
+        ..case
+    }
+}
+
+/// Without power each call is answered so, and makes no device call.
+fn dead(rt: &HostRuntime) -> io::Result<()> {
+    row(rt, "a cell that is killed", settled(Call::Kill))?;
+    for call in [
+        Call::Read,
+        Call::Write,
+        Call::Settle,
+        Call::Copy(1),
+        Call::Clear,
+    ] {
+        let case = Case {
+            start: Start::Dead,
+            ..marked(call)
+        };
+        row(rt, "a call on a dead cell", case)?;
+    }
+    Ok(())
+}
+
+/// A write of a region that is dirty needs no mark; and the last plex that is on and unmarked stays so.
+fn marks(rt: &HostRuntime) -> io::Result<()> {
+    let dirty = Case {
+        start: Start::Settled,
+        ..crashed(Call::WriteDirty)
+    };
+    row(rt, "a write of a dirty region", dirty)?;
+    row(
+        rt,
+        "a write that leaves the region dirty",
+        settled(Call::WriteDirty),
+    )?;
+    row(rt, "plex 0 is set off", settled(Call::Off(0)))?;
+    row(
+        rt,
+        "plex 0 is set off beside a marked plex",
+        marked(Call::Off(0)),
+    )?;
+    row(rt, "the marked plex is set off", marked(Call::Off(1)))?;
+    row(rt, "plex 1 is taken out", settled(Call::Take))
+}
+
 fn main(rt: HostRuntime) -> io::Result<()> {
     reads(&rt)?;
     settlings(&rt)?;
     writes(&rt)?;
     copies(&rt)?;
     clears(&rt)?;
-    cuts(&rt)
+    cuts(&rt)?;
+    orders(&rt)?;
+    dead(&rt)?;
+    marks(&rt)?;
+    sweep::show(&rt)
 }

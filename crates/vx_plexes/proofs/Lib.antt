@@ -6,3 +6,4 @@ mod Walks
 pub mod Plexes
 mod Apart
 pub mod Lying
+pub mod Room

@@ -1,0 +1,5 @@
+use Rattle.vx_cell.proofs.Standing.{kill_stands}
+use Rattle.vx_cell.proofs.laws.each_kill_stands.Goals as goal
+
+pub returns : goal.returns
+returns c = kill_stands

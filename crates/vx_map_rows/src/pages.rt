@@ -1,9 +1,10 @@
 //! A page of 100 regions on two copies in memory. The pieces of copy 0 lie on device 1; those of copy 1 on device 2, and
 //! from map 4 on on device 3.
 
-ghost use Rattle.std.specs.Prelude.{◌≡◌, true, IfOk};
+ghost use Rattle.std.specs.Prelude.{◌≡◌, true, is_some, IfOk};
 ghost use Rattle.vx_piece.specs.MemPiece.{mem_seen};
 ghost use Rattle.vx_maps.specs.Pages.{page_seen};
+ghost use Rattle.vx_maps.specs.Sectors.{sector_seen};
 
 use std::alloc::{AllocError, Global};
 use vx_maps::{MapSector, Page, create_sector, empty_page};
@@ -50,11 +51,9 @@ fn piece(alloc: Global, copy: u8, map: u32, fault: Option<Fault>) -> Result<MemP
     Ok(piece)
 }
 
-fn sector(
-    alloc: Global,
-    map: u32,
-    fault: Option<Fault>,
-) -> Result<MapSector<MemPiece>, AllocError> {
+fn sector(alloc: Global, map: u32, fault: Option<Fault>) -> Result<MapSector<MemPiece>, AllocError>
+    ensures { IfOk result (λ sector. is_some (sector_seen mem_seen sector).copies.second ≡ true) }
+{
     let first = piece(alloc, 0, map, fault)?;
     let second = piece(alloc, 1, map, fault)?;
     let (Ok(sure), Ok(loose)) = (empty_page(alloc), empty_page(alloc)) else {

@@ -1,10 +1,16 @@
 -- What contracts see of a page.
+use Rattle.std.specs.Prelude.{List, map}
 use Rattle.vx_piece.specs.Seen.{Seen}
 use Rattle.vx_maps.specs.declared.local_piece.LocalPiece.{Ghosts}
 use Rattle.vx_marks.specs.Log.{LogSeen}
 use Rattle.vx_maps.specs.declared.page.Page.{Page}
+use Rattle.vx_maps.specs.Sector.{SectorSeen}
 use Rattle.vx_maps.specs.Page.{page_log, sectors_seen}
 
 -- the page as a log of marks
 abbrev pub page_seen : {P : Type 0} {ghosts : Ghosts P} → (P → Seen) → Page P ghosts → LogSeen
 page_seen seen page = page_log page.index page.regions (sectors_seen seen page.sectors.items)
+
+-- the sectors of each page
+abbrev pub grid_seen : {P : Type 0} {ghosts : Ghosts P} → (P → Seen) → List (Page P ghosts) → List (List SectorSeen)
+grid_seen seen pages = map (λ page. sectors_seen seen page.sectors.items) pages

@@ -9,7 +9,9 @@ use Rattle.vx_marks.specs.declared.marker.MarkFault.{MarkFault}
 use Rattle.vx_maps.specs.Firm.{FirmsStore}
 use Rattle.vx_maps.specs.declared.page.Page.{Page}
 use Rattle.vx_maps.specs.Items.{item_at, EachItem}
-use Rattle.vx_maps.specs.Page.{has_region}
+use Rattle.vx_maps.specs.Page.{has_region, page_log}
+use Rattle.vx_maps.specs.Sector.{SectorSeen}
+use Rattle.vx_maps.specs.Slots.{AreAll, ArePaired, row_at}
 use Rattle.vx_maps.specs.Pages.{page_seen}
 
 abbrev pub pages_seen : {P : Type 0} {ghosts : Ghosts P} → (P → Seen) → List (Page P ghosts) → List LogSeen
@@ -89,3 +91,15 @@ pub record PageGoes (fact : (ℕ → Marks) → (ℕ → Marks) → Type 0) (old
 abbrev pub ArePagesFirmed : {T : Type 0} → Result T MarkFault → List LogSeen → List LogSeen → Type 0
 ArePagesFirmed (Ok u) old new = EachItem no_page (λ index. PageGoes (FirmsStore {T = Unit {0}} (Ok tt))) old new
 ArePagesFirmed (Err fault) old new = EachItem no_page (λ index. PageGoes (FirmsStore {T = Unit {0}} (Err fault))) old new
+
+-- each page has its sectors on so many copies
+abbrev pub AreOnCopies : ℕ → List LogSeen → Type 0
+AreOnCopies copies pages = (i : ℕ) → i < length pages → (page_at pages i).copies ≡ copies
+
+-- These are logs of pages of these sectors, in order, and of each sector this holds. All have a second copy, or none has.
+pub record AreLogsOf (regions : ℕ) (pair : Bool) (fact : SectorSeen → Type 0) (grid : List (List SectorSeen)) (logs : List LogSeen) : Type 0 where
+  pub count : length logs ≡ length grid
+  pub each : (i : ℕ) → i < length grid → page_at logs i ≡ page_log i regions (row_at grid i)
+  pub rows : (i : ℕ) → i < length grid → length (row_at grid i) ≡ 32
+  pub pairs : (i : ℕ) → i < length grid → ArePaired pair (row_at grid i)
+  pub facts : (i : ℕ) → i < length grid → AreAll fact (row_at grid i)

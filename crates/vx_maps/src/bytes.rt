@@ -4,7 +4,7 @@ ghost use Rattle.std.specs.Prelude.{◌≡◌, ℕ, ◌<◌, ◌==◌, length, i
 ghost use Rattle.vx_mapfmt.specs.Bits.{bit_in};
 ghost use Rattle.vx_mask.specs.Mask.{has};
 ghost use Rattle.vx_sector.specs.Fields.{zeros};
-ghost use Rattle.vx_maps.specs.Bytes.{same_place};
+ghost use Rattle.vx_maps.specs.Bytes.{full, same_place};
 
 use std::alloc::Global;
 use vx_base::OutOfMemory;
@@ -39,6 +39,15 @@ pub fn empty_page(alloc: Global) -> Result<Vec<u8>, OutOfMemory>
     ensures length { IfOk result (λ page. length page.items ≡ 512) }
 {
     let page = vec![in alloc; 0; 512]?;
+    Ok(page)
+}
+
+/// The memory of a page with every bit.
+#[tactic(auto, unfolding(crate::specs::Bytes::full))]
+pub fn full_page(alloc: Global) -> Result<Vec<u8>, OutOfMemory>
+    ensures all { IfOk result (λ page. page.items ≡ full 512) }
+{
+    let page = vec![in alloc; 255; 512]?;
     Ok(page)
 }
 

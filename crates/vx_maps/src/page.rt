@@ -1,4 +1,6 @@
 ghost use Rattle.std.specs.Prelude.{◌≡◌, ℕ, true, length};
+ghost use Rattle.vx_maps.specs.Page.{sectors_seen};
+ghost use Rattle.vx_maps.specs.Slots.{ArePairedAlike};
 
 use crate::local_piece::LocalPiece;
 use crate::sector::MapSector;
@@ -13,18 +15,21 @@ pub struct Page<P: LocalPiece> {
     regions: u64,
     sectors: Vec<MapSector<P>>,
     ghost maps: { length sectors.items ≡ 32 },
+    ghost paired: { ArePairedAlike (sectors_seen P.seen sectors.items) },
 }
 
 impl<P: LocalPiece> Page<P> {
     ghost use Rattle.vx_marks.specs.Log.{KeepsLog, MarkHasCause, OnMarks};
-    ghost use Rattle.vx_maps.specs.Page.{page_log, sectors_seen};
+    ghost use Rattle.vx_maps.specs.Page.{page_log};
     ghost use Rattle.vx_maps.specs.Pages.{page_seen};
     ghost use Rattle.vx_maps.specs.Firm.{FirmsAll};
 
     /// A page of a volume of so many regions, by its index, of its sectors in the order of the maps.
     pub fn of(index: u64, regions: u64, sectors: Vec<MapSector<P>>) -> Page<P>
-        requires { length sectors.items ≡ 32 }
-        ensures { page_seen P.seen result ≡ page_log index regions (sectors_seen P.seen sectors.items) }
+        requires maps { length sectors.items ≡ 32 }
+        requires paired { ArePairedAlike (sectors_seen P.seen sectors.items) }
+        ensures log { page_seen P.seen result ≡ page_log index regions (sectors_seen P.seen sectors.items) }
+        ensures sectors { result.sectors.items ≡ sectors.items }
     {
         Page {
             index,
@@ -35,7 +40,9 @@ impl<P: LocalPiece> Page<P> {
 
     /// Its sectors, in the order of the maps.
     pub fn into_sectors(self) -> Vec<MapSector<P>>
-        ensures { length result.items ≡ 32 }
+        ensures maps { length result.items ≡ 32 }
+        ensures paired { ArePairedAlike (sectors_seen P.seen result.items) }
+        ensures same { result.items ≡ self.sectors.items }
     {
         self.sectors
     }

@@ -1,35 +1,36 @@
 ghost use Rattle.std.specs.Prelude.{◌≡◌, ℕ};
 ghost use Rattle.vx_maps.specs.Sector.{HasCause};
-ghost use Rattle.vx_maps.specs.Store.{ArePages, ArePagesFirmed, pages_cut, pages_faults, pages_seen};
+ghost use Rattle.std.specs.Prelude.{◌/◌};
+ghost use Rattle.vx_mapfmt.specs.Sizes.{page_count};
+ghost use Rattle.vx_maps.specs.Store.{AreOnCopies, ArePages, ArePagesFirmed, pages_cut, pages_faults, pages_seen};
+ghost use Rattle.vx_maps.specs.Sheets.{sheets_seen};
+ghost use Rattle.vx_maps.specs.Slots.{IsLaid, copies_in};
 
+use crate::assembly::join_whole;
+use crate::joining::{Spares, spares_of};
 use crate::local_piece::LocalPiece;
 use crate::page::Page;
+use crate::slots::Sheets;
+use std::alloc::Global;
+use vx_base::OutOfMemory;
 use vx_mapfmt::DcoShape;
 use vx_marks::{MarkFault, Marker};
 
 /// What a store keeps beside its pages: its shape, and for each copy the pieces between the pages, in order.
 #[derive(Drop)]
 pub struct Base<P: LocalPiece> {
-    shape: DcoShape,
-    between: Vec<Vec<P>>,
+    pub(crate) shape: DcoShape,
+    pub(crate) sheets: Sheets<P>,
+    ghost laid: { IsLaid (shape.map_bytes / 512) (page_count shape.regions) (sheets_seen P.seen sheets) },
 }
 
 /// The change maps of a volume, kept as pages.
 #[derive(Drop)]
 pub struct MapStore<P: LocalPiece> {
-    base: Base<P>,
-    pages: Vec<Page<P>>,
+    pub(crate) base: Base<P>,
+    pub(crate) pages: Vec<Page<P>>,
     ghost paged: { ArePages base.shape.regions (pages_seen P.seen pages.items) },
-}
-
-impl<P: LocalPiece> Base<P> {
-    /// A base of this shape.
-    pub fn of(shape: DcoShape, between: Vec<Vec<P>>) -> Base<P>
-        ensures shape { result.shape ≡ shape }
-        ensures between { result.between.items ≡ between.items }
-    {
-        Base { shape, between }
-    }
+    ghost copied: { AreOnCopies (copies_in (sheets_seen P.seen base.sheets)) (pages_seen P.seen pages.items) },
 }
 
 impl<P: LocalPiece> MapStore<P> {
@@ -38,7 +39,8 @@ impl<P: LocalPiece> MapStore<P> {
 
     /// The store of these pages: one for each 4,096 regions of the base's shape, in order.
     pub fn from_pages(base: Base<P>, pages: Vec<Page<P>>) -> MapStore<P>
-        requires { ArePages base.shape.regions (pages_seen P.seen pages.items) }
+        requires pages { ArePages base.shape.regions (pages_seen P.seen pages.items) }
+        requires copies { AreOnCopies (copies_in (sheets_seen P.seen base.sheets)) (pages_seen P.seen pages.items) }
         ensures { store_seen P.seen result ≡ store_log base.shape.regions (pages_seen P.seen pages.items) }
     {
         MapStore { base, pages }
@@ -47,6 +49,7 @@ impl<P: LocalPiece> MapStore<P> {
     /// Its base and its pages. Takes no memory.
     pub fn into_pages(self) -> (Base<P>, Vec<Page<P>>)
         ensures pages { ArePages result.0.shape.regions (pages_seen P.seen result.1.items) }
+        ensures copies { AreOnCopies (copies_in (sheets_seen P.seen result.0.sheets)) (pages_seen P.seen result.1.items) }
         ensures log { store_seen P.seen self ≡ store_log result.0.shape.regions (pages_seen P.seen result.1.items) }
     {
         let MapStore { base, pages } = self;
@@ -79,6 +82,7 @@ impl<P: LocalPiece> MapStore<P> {
         ensures told { OnMarks (FirmsStore result) (store_seen P.seen self.old).told (store_seen P.seen self.new).told }
         ensures claims { (region map : ℕ) → (store_seen P.seen self.new).claims region map ≡ (store_seen P.seen self.old).claims region map }
         ensures cause { MarkHasCause (store_seen P.seen self.old) (store_seen P.seen self.new) result }
+        ensures base { self.new.base ≡ self.old.base }
     {
         firm_pages(&mut self.pages)
     }
@@ -108,4 +112,36 @@ impl<P: LocalPiece> Marker for MapStore<P> {
     ghost follows_same = { λ x. tt };
 
     ghost follows_on = { λ x y z first then. tt };
+}
+
+impl<P: LocalPiece + Drop> MapStore<P> {
+    ghost use Rattle.std.specs.Prelude.{IfOk, IfErr};
+    ghost use Rattle.vx_maps.specs.Spares.{copies_seen, HasRoom};
+    ghost use Rattle.vx_maps.specs.Wholes.{copy_faults, store_copies, store_faults};
+    ghost use Rattle.std.specs.Prelude.{true};
+    ghost use Rattle.vx_maps.specs.Creating.{copies_cut};
+    ghost use Rattle.vx_maps.specs.Cutness.{store_cut};
+
+    /// The pieces of each copy, in order. Where there is no memory for the lists the store comes back.
+    pub fn into_copies(self, alloc: Global) -> Result<Vec<Vec<P>>, (MapStore<P>, OutOfMemory)>
+        ensures copies { IfOk result (λ copies. copies_seen P.seen copies.items ≡ store_copies P.seen self) }
+        ensures kept { IfErr result (λ x. x.0 ≡ self) }
+    {
+        match spares_of(alloc, &self.base.sheets) {
+            Ok(spares) => Ok(self.into_copies_in(spares)),
+            Err(_) => Err((self, OutOfMemory)),
+        }
+    }
+
+    /// The same, in lists that have room for it.
+    pub(crate) fn into_copies_in(self, spares: Spares<P>) -> Vec<Vec<P>>
+        requires { HasRoom (sheets_seen P.seen self.base.sheets) spares }
+        ensures copies { copies_seen P.seen result.items ≡ store_copies P.seen self }
+        ensures faults { (copy device : ℕ) → copy_faults (copies_seen P.seen result.items) copy device ≡ store_faults P.seen self copy device }
+        ensures cut { store_cut P.seen self ≡ true → copies_cut (copies_seen P.seen result.items) ≡ true }
+    {
+        let MapStore { base, pages } = self;
+        let Base { shape, sheets } = base;
+        join_whole(&shape, sheets, pages, spares)
+    }
 }

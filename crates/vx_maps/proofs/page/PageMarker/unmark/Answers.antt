@@ -3,6 +3,7 @@ use Rattle.std.proofs.lemmas.List.{length-map}
 use Rattle.vx_maps.specs.Sectors.{sector_seen}
 use Rattle.vx_maps.proofs.Marking.{unmark_kept, unmark_told, unmark_claims, page_cause}
 use Rattle.vx_maps.proofs.page.PageMarker.unmark.Goals as goal
+use Rattle.vx_maps.proofs.Pairs.{unmark_paired}
 
 pub returns-clause-kept : goal.returns-clause-kept
 returns-clause-kept g c =
@@ -21,3 +22,6 @@ returns-clause-claims g c there =
 
 pub returns-clause-cause : goal.returns-clause-cause
 returns-clause-cause g c = page_cause c.args.self.now.index c.args.self.now.regions _ _ c.unmark_all.result c.unmark_all.ensures.cause
+
+pub invariant_of-self-clause-paired : goal.invariant_of-self-clause-paired
+invariant_of-self-clause-paired g c = unmark_paired c.args.bits c.args.region _ _ c.unmark_all.result c.unmark_all.ensures.each c.args.self.now.paired

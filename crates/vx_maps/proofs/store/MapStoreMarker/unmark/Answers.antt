@@ -2,6 +2,7 @@ use Rattle.std.proofs.Common.{◌∙◌, sym, ◌<◌, length, ◌/◌}
 use Rattle.vx_marks.specs.Log.{IsUnmarkedAs, IsUnclaimedAs}
 use Rattle.vx_maps.specs.Pages.{page_seen}
 use Rattle.vx_maps.proofs.Storing.{has_page, size_seen, askable, there_is, paged_still, store_kept, store_told, store_claims, store_cause}
+use Rattle.vx_maps.proofs.Pairs.{copies_still}
 use Rattle.vx_maps.proofs.store.MapStoreMarker.unmark.Goals as goal
 
 pub unmark-requires : goal.unmark-requires
@@ -12,7 +13,10 @@ unmark-requires g c =
 pub invariant_of-self : goal.invariant_of-self
 invariant_of-self g c =
     let lt : c.args.region / 4096 < length c.args.self.now.pages.items = has_page c.args.self.now.base.shape.regions c.args.region _ (sym (size_seen (page_seen g.P.LocalPiece.seen) c.args.self.now.pages.items) ∙ c.args.self.now.paged.count) c.requires.known in
-    record { paged = paged_still (page_seen g.P.LocalPiece.seen) c.args.self.now.base.shape.regions c.args.region c.args.self.now.pages.items c.index_mut-page.result.now c.args.self.now.paged lt c.index_mut-page.ensures.value c.unmark.new.self c.unmark.ensures.kept }
+    record {
+      paged = paged_still (page_seen g.P.LocalPiece.seen) c.args.self.now.base.shape.regions c.args.region c.args.self.now.pages.items c.index_mut-page.result.now c.args.self.now.paged lt c.index_mut-page.ensures.value c.unmark.new.self c.unmark.ensures.kept;
+      copied = copies_still (page_seen g.P.LocalPiece.seen) _ c.args.self.now.pages.items (c.args.region / 4096) c.index_mut-page.result.now c.unmark.new.self lt c.index_mut-page.ensures.value c.unmark.ensures.kept c.args.self.now.copied;
+    }
 
 pub returns-clause-kept : goal.returns-clause-kept
 returns-clause-kept g c =

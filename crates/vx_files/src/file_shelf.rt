@@ -15,8 +15,9 @@ use vx_names::Name;
 use vx_shelf::{Shelf, ShelfFault, in_order};
 
 /// The files of a folder as devices: each whose name is one and which has at least one whole sector. Of several names of
-/// one file the first is the device. Bytes behind the last whole sector are not touched. Where a file cannot be looked at, neither it nor the names are told. A device that
-/// could not be made whole is removed again; where that fails too, its file is left as it is.
+/// one file the first is the device. Bytes behind the last whole sector are not touched. Where a file cannot be looked
+/// at, neither it nor the names are told. A device that could not be made whole is removed again; where that fails too,
+/// its file is left as it is.
 #[derive(Drop)]
 pub struct FileShelf<R> {
     rt: R,
@@ -81,7 +82,7 @@ where
             return Err(ShelfFault::OutOfMemory);
         };
         let bytes = BLOCK as u64 * sectors;
-        match self.folder.create(&self.rt, path.as_str(), bytes) {
+        match self.folder.create(&self.rt, name, path.as_str(), bytes) {
             Ok(()) => Ok(()),
             Err(e) if e.kind() == ErrorKind::AlreadyExists => Err(ShelfFault::Exists),
             Err(_) => Err(failed(&mut self.faults)),

@@ -18,6 +18,8 @@ pub struct Folder {
     path: String,
     /// The names that are no devices since an earlier one leads to their file; None before the files were listed.
     twins: Option<BTreeSet<Name>>,
+    /// The names of the devices, with those that were made since; None where a file could not be looked at.
+    names: Option<BTreeSet<Name>>,
 }
 
 /// The files of a folder that are devices, by their names, each with what the system knows it by.
@@ -28,6 +30,7 @@ impl Folder {
         Ok(Folder {
             path: String::from_str(alloc, path)?,
             twins: None,
+            names: None,
         })
     }
 
@@ -44,16 +47,25 @@ impl Folder {
         Ok(path)
     }
 
-    /// The names of the devices. It fails where a file cannot be looked at.
+    /// The names of the devices, in the order of their bytes. It fails where a file cannot be looked at. The files are
+    /// listed once; what is made later is added.
     pub fn names<R: Files + AllocGlobal + Clone + Drop>(
         &mut self,
         rt: &R,
         alloc: Global,
     ) -> io::Result<Vec<Name>> {
-        match self.find(rt, alloc)? {
-            (names, None) => Ok(names),
-            (_, Some(e)) => Err(e),
+        if self.names.is_none() {
+            if let Some(e) = self.find(rt, alloc)? {
+                return Err(e);
+            }
         }
+        let mut names = Vec::new(alloc);
+        if let Some(listed) = &self.names {
+            for name in listed {
+                names.push(*name)?;
+            }
+        }
+        Ok(names)
     }
 
     /// The whole sectors of the device of that name, whose file is at the path; 0 where the name is that of no device.
@@ -90,17 +102,18 @@ impl Folder {
         }
     }
 
-    /// Lists the files and keeps which names are no devices. It answers the others, and why a file could not be looked at.
+    /// Lists the files, and keeps which names are devices and which are none. It answers why a file could not be looked at.
     fn find<R: Files + AllocGlobal + Clone + Drop>(
         &mut self,
         rt: &R,
         alloc: Global,
-    ) -> io::Result<(Vec<Name>, Option<io::Error>)> {
+    ) -> io::Result<Option<io::Error>> {
         let mut images = BTreeMap::new(alloc);
         let failed = self.list(rt, &mut images)?;
-        let mut names = Vec::new(alloc);
+        let mut names = BTreeSet::new(alloc);
         self.twins = Some(apart(alloc, &images, &mut names)?);
-        Ok((names, failed))
+        self.names = if failed.is_none() { Some(names) } else { None };
+        Ok(failed)
     }
 
     /// Puts the files that are devices into the map, and answers why one could not be looked at. Files whose names are not
@@ -128,16 +141,36 @@ impl Folder {
         Ok(failed)
     }
 
-    /// Makes the file with so many zero bytes, and answers once it and its name are on the medium. Where that fails the
-    /// file is removed again, if it can be.
-    pub fn create<R: Files>(&self, rt: &R, path: &str, bytes: u64) -> io::Result<()> {
+    /// Makes the file of the name with so many zero bytes at the path, and answers once it and its name are on the medium.
+    /// Where that fails the file is removed again, if it can be.
+    pub fn create<R: Files>(
+        &mut self,
+        rt: &R,
+        name: &Name,
+        path: &str,
+        bytes: u64,
+    ) -> io::Result<()> {
         let file = File::create_new(rt, path)?;
         match self.fill(rt, &file, bytes) {
-            Ok(()) => Ok(()),
+            Ok(()) => {
+                self.add(name);
+                Ok(())
+            }
             Err(e) => {
                 let _ = fs::remove_file(rt, path);
                 Err(e)
             }
+        }
+    }
+
+    /// Adds a device to those that were listed; where there is no memory for it they are to be listed anew.
+    fn add(&mut self, name: &Name) {
+        let added = match &mut self.names {
+            Some(names) => names.insert(*name).is_ok(),
+            None => true,
+        };
+        if !added {
+            self.names = None;
         }
     }
 
@@ -165,13 +198,13 @@ fn put_device<R: Files + AllocGlobal>(
     Ok(())
 }
 
-/// Appends the first name of each file to `names`, in the order of their bytes, and answers the others.
-fn apart(alloc: Global, images: &Images, names: &mut Vec<Name>) -> io::Result<BTreeSet<Name>> {
+/// Puts the first name of each file into `names`, and answers the others.
+fn apart(alloc: Global, images: &Images, names: &mut BTreeSet<Name>) -> io::Result<BTreeSet<Name>> {
     let mut files = BTreeSet::new(alloc);
     let mut twins = BTreeSet::new(alloc);
     for (name, file) in images {
         if files.insert(*file)? {
-            names.push(*name)?;
+            names.insert(*name)?;
         } else {
             twins.insert(*name)?;
         }

@@ -1,0 +1,27 @@
+-- What is left when started volumes and the group leave the world.
+use Rattle.std.specs.Prelude.{◌≡◌, ◌⊎◌, Option, Some, None, MatchOption}
+use Rattle.vx_base.specs.Named.{Word}
+use Rattle.vx_life.specs.Candidates.{IsChosen}
+use Rattle.vx_moments.specs.World.{World, Device, Volume, Lies, OnDevice, OnPlexes}
+use Rattle.vx_moments.specs.Holding.{IsLent}
+
+-- the device stands for the volume that lay on it: each block is among its candidates
+pub record DeviceStands (v : Volume) (device : Device) : Type 0 where
+  pub sectors : device.sectors ≡ v.length
+  pub contents : IsChosen v.length v.life.candidates device.contents
+
+-- the device that a bare volume lies on stands for it
+abbrev pub IsLeftBy : Volume → Lies → (Word → Option Device) → Type 0
+IsLeftBy v (OnDevice name) devices = (device : Device) × (devices name ≡ Some device) × DeviceStands v device
+IsLeftBy v (OnPlexes plexes) devices = Unit {0}
+
+-- The power is gone: no volume and no group is left, and each device has what it had, or stands for the volume on it.
+pub record PowerGoes (old new : World) : Type 0 where
+  pub volumes : (vol : Word) → new.volumes vol ≡ None
+  pub no_group : new.group ≡ None
+  pub stand : (vol : Word) (v : Volume) → old.volumes vol ≡ Some v → IsLeftBy v v.lies new.devices
+  pub others : (name : Word) → (IsLent old name → ⊥) → new.devices name ≡ old.devices name
+
+-- the group leaves, and its devices have what they had
+abbrev pub group_gone : World → World
+group_gone w = record w { group = None }

@@ -1,0 +1,213 @@
+-- Where nothing failed and the power stayed, a plan is done, or a test has refused it.
+use Rattle.std.proofs.Common.{◌≡◌, ◌≢◌, ◌⊎◌, ℕ, Bool, true, false, List, [], ◌∷◌, ◌++◌, Option, Some, None, refl, sym, ◌∙◌, ap, subst, inl, inr}
+use Rattle.vx_base.specs.Named.{Word}
+use Rattle.vx_script_forms.specs.declared.form.Form.{Form}
+use Rattle.vx_script_forms.specs.declared.form.Form.TheVariants as form
+use Rattle.vx_script_forms.specs.declared.form.WordPolicy.{WordPolicy}
+use Rattle.vx_script_forms.specs.declared.form.WordPolicy.TheVariants as words
+use Rattle.vx_script_words.specs.declared.value.DiskAt.{DiskAt}
+use Rattle.vx_answers.specs.declared.answer.End.{End}
+use Rattle.vx_answers.specs.declared.answer.View.{View}
+use Rattle.vx_answers.specs.declared.refusal.Refusal.{Refusal}
+use Rattle.vx_moments.specs.Commit.{Writing, IsStopped, is_written_slot, parties}
+use Rattle.vx_moments.specs.Moment.{Moment, Counts, AreLater, HasFailed, ShelfHasFailed}
+use Rattle.vx_moments.specs.World.{World, Member}
+use Rattle.vx_plans.specs.Laws.{WentWell, IsDoneOrRefused, HasCarriers}
+use Rattle.vx_plans.specs.Plans.{plan_of, disks_of}
+use Rattle.vx_plans.specs.Records.{devices_of}
+use Rattle.vx_plans.specs.Stages.{IsDone, Stops, DeviceEnds, FailsAt, ShelfFailsAt, ShelfEnds, TakingStops, LookingStops, EditsStop, StopsBy, OnlyDisk}
+use Rattle.vx_plans.specs.Steps.{Runs, done}
+use Rattle.vx_plans.specs.declared.stages.Finish.{Finish}
+use Rattle.vx_plans.specs.declared.stages.Plan.{Plan}
+use Rattle.vx_plans.specs.declared.stage.Stage.{Stage}
+use Rattle.vx_plans.specs.declared.stage.Stage.TheVariants as stage
+use Rattle.vx_plans.proofs.Calm.{calm, shelf_calm, powered, none_of, nowhere, later_self, later_on, well_after}
+use Rattle.vx_plans.proofs.Carriers.{HasCarrier, IsAlive, NamesSlots, by_group, by_words, by_devices}
+
+-- there is a disk to be written at this stage
+abbrev IsCarried : Stage → List DiskAt → World → Type 0
+IsCarried (stage.Create dg) disks w = disks ≢ []
+IsCarried (stage.Gate test) disks w = IsAlive w × NamesSlots w
+IsCarried (stage.Take name) disks w = IsAlive w × NamesSlots w
+IsCarried stage.TakeDisks disks w = IsAlive w × NamesSlots w
+IsCarried (stage.LookBlank name) disks w = IsAlive w × NamesSlots w
+IsCarried stage.LookDisks disks w = IsAlive w × NamesSlots w
+IsCarried (stage.LookHeaded name) disks w = IsAlive w × NamesSlots w
+IsCarried (stage.Search dg) disks w = IsAlive w × NamesSlots w
+IsCarried (stage.MakeImage name sectors) disks w = IsAlive w × NamesSlots w
+IsCarried (stage.Wipe name) disks w = IsAlive w × NamesSlots w
+IsCarried (stage.StartBare vol name) disks w = IsAlive w × NamesSlots w
+IsCarried (stage.Change change) disks w = IsAlive w × NamesSlots w
+IsCarried stage.Join disks w = IsAlive w × NamesSlots w
+IsCarried (stage.Import dg) disks w = IsAlive w × NamesSlots w
+IsCarried stage.LetGo disks w = IsAlive w × NamesSlots w
+
+module _ (old new : Moment) (well : WentWell old new) where
+  at_device : (name : Word) (end : End) → FailsAt name old end new → IsDoneOrRefused end
+  at_device name end (inl (is, inl failed)) = absurd (calm old new well name failed)
+  at_device name end (inl (is, inr failed)) = absurd (shelf_calm old new well failed)
+  at_device name end (inr (is, cut)) = absurd (powered old new well name cut)
+
+  at_hand : (name : Word) (end : End) → DeviceEnds name old end new → IsDoneOrRefused end
+  at_hand name end (inl (is, failed)) = absurd (calm old new well name failed)
+  at_hand name end (inr (is, cut)) = absurd (powered old new well name cut)
+
+  taking : (taken names : List Word) (end : End) → TakingStops taken names old end new → IsDoneOrRefused end
+  taking taken [] end stops = absurd stops
+  taking taken (name ∷ names) end (inl (inl (r, away, ends))) = inr (r, ends.0)
+  taking taken (name ∷ names) end (inl (inr fails)) = absurd (shelf_calm old new well fails.3)
+  taking taken (name ∷ names) end (inr more) = taking (taken ++ name ∷ []) names end more.1
+
+  looking : (names : List Word) (end : End) → LookingStops names old end new → IsDoneOrRefused end
+  looking [] end stops = absurd stops
+  looking (name ∷ names) end (inl (inl headed)) = inr (_, headed.1)
+  looking (name ∷ names) end (inl (inr fails)) = at_hand name end fails
+  looking (name ∷ names) end (inr more) = looking names end more.1
+
+  stopping : (x : Writing) (end : End) → HasCarrier x → IsStopped x old end new → IsDoneOrRefused end
+  stopping x end some stopped = elim stopped.ends [
+    | inl l ↦ absurd (none_of (λ m. is_written_slot x m.slot ≡ true → HasFailed old.counts new.counts m.device) (λ m. is_written_slot x m.slot ≡ true) x.carriers (λ m fails is. calm old new well m.device (fails is)) l.1 some)
+    | inr r ↦ absurd (nowhere (λ m. new.counts.cut m.device ≡ true) (parties x) (λ m gone. powered old new well m.device gone) r.1)
+  ]
+
+-- a stage that is stopped was refused
+stops_well : (s : Stage) (disks : List DiskAt) (old new : Moment) (end : End) → WentWell old new → IsCarried s disks old.world → Stops s disks old end new → IsDoneOrRefused end
+stops_well (stage.Gate test) disks old new end well carried (r, fails, is, same) = inr (r, is)
+stops_well (stage.Take name) disks old new end well carried stops = taking old new well [] (name ∷ []) end stops
+stops_well stage.TakeDisks disks old new end well carried stops = taking old new well [] (devices_of disks) end stops
+stops_well (stage.LookBlank name) disks old new end well carried (reads, looks) = looking old new well (name ∷ []) end looks
+stops_well stage.LookDisks disks old new end well carried (reads, looks) = looking old new well (devices_of disks) end looks
+stops_well (stage.LookHeaded name) disks old new end well carried (reads, inl (blank, is)) = inr (_, is)
+stops_well (stage.LookHeaded name) disks old new end well carried (reads, inr fails) = at_hand old new well name end fails
+stops_well (stage.Search dg) disks old new end well carried (reads, inl (name, free, inl (names, is))) = inr (_, is)
+stops_well (stage.Search dg) disks old new end well carried (reads, inl (name, free, inr fails)) = at_device old new well name end fails
+stops_well (stage.Search dg) disks old new end well carried (reads, inr shelf) = absurd (shelf_calm old new well shelf.1)
+stops_well (stage.MakeImage name sectors) disks old new end well carried (inl (some, ends)) = inr (_, ends.0)
+stops_well (stage.MakeImage name sectors) disks old new end well carried (inr fails) = absurd (shelf_calm old new well fails.3)
+stops_well (stage.Wipe name) disks old new end well carried (has, calls, ends) = at_hand old new well name end ends
+stops_well (stage.StartBare vol name) disks old new end well carried (is, ends) = inr (_, ends.0)
+stops_well (stage.Change change) disks old new end well carried (inl (none, ends)) = inr (_, ends.0)
+stops_well (stage.Change change) disks old new end well carried (inr (inl ((g, here, inl (r, e, is)), rests))) = inr (r, is)
+stops_well (stage.Change change) disks old new end well carried (inr (inl ((g, here, inr (config, edited, (text, printed, long, is))), rests))) = inr (_, is)
+stops_well (stage.Change change) disks old new end well carried (inr (inr (x, writing, stopped))) = stopping old new well x end (by_group old.world x writing.group writing.carriers carried.0) stopped
+stops_well stage.Join [] old new end well carried stops = absurd stops
+stops_well stage.Join (p ∷ q ∷ ps) old new end well carried stops = absurd stops
+stops_well stage.Join (p ∷ []) old new end well carried (inl (none, ends)) = inr (_, ends.0)
+stops_well stage.Join (p ∷ []) old new end well carried (inr (inl ((g, here, inl (r, e, is)), rests))) = inr (r, is)
+stops_well stage.Join (p ∷ []) old new end well carried (inr (inl ((g, here, inr (config, edited, (text, printed, long, is))), rests))) = inr (_, is)
+stops_well stage.Join (p ∷ []) old new end well carried (inr (inr (x, writing, stopped))) = stopping old new well x end (by_group old.world x writing.group writing.carriers carried.0) stopped
+stops_well (stage.Create dg) disks old new end well carried (inl (g, here, ends)) = inr (_, ends.0)
+stops_well (stage.Create dg) disks old new end well carried (inr (x, writing, stopped)) = stopping old new well x end (by_words dg disks old.world x writing carried) stopped
+stops_well (stage.Import dg) disks old new end well carried (inl (g, here, ends)) = inr (_, ends.0)
+stops_well (stage.Import dg) disks old new end well carried (inr (inl (reads, inl denied))) = inr (denied.why, denied.end_is)
+stops_well (stage.Import dg) disks old new end well carried (inr (inl (reads, inr (inl shelf)))) = absurd (shelf_calm old new well shelf.1)
+stops_well (stage.Import dg) disks old new end well carried (inr (inl (reads, inr (inr (is, (name, cut)))))) = absurd (powered old new well name cut)
+stops_well (stage.Import dg) disks old new end well carried (inr (inr (mid, between, (x, writing, stopped)))) =
+    stopping mid new (well_after old mid new between.first between.rest well) x end (by_devices dg old.world x old.counts mid.counts writing carried.1) stopped
+stops_well stage.LetGo disks old new end well carried stops = absurd stops
+
+-- the stage changes nothing of the world
+abbrev keeps_world : Stage → Bool
+keeps_world (stage.Gate test) = true
+keeps_world (stage.Take name) = true
+keeps_world stage.TakeDisks = true
+keeps_world (stage.LookBlank name) = true
+keeps_world stage.LookDisks = true
+keeps_world (stage.LookHeaded name) = true
+keeps_world (stage.Search dg) = true
+keeps_world other = false
+
+kept_world : (s : Stage) (disks : List DiskAt) (old mid : Moment) → keeps_world s ≡ true → IsDone s disks old mid → mid.world ≡ old.world
+kept_world (stage.Gate test) disks old mid keeps (holds, same) = ap (λ (m : Moment). m.world) same
+kept_world (stage.Take name) disks old mid keeps (free, rests) = rests.stays.world
+kept_world stage.TakeDisks disks old mid keeps (free, rests) = rests.stays.world
+kept_world (stage.LookBlank name) disks old mid keeps done = done.1
+kept_world stage.LookDisks disks old mid keeps done = done.1
+kept_world (stage.LookHeaded name) disks old mid keeps done = done.1
+kept_world (stage.Search dg) disks old mid keeps done = done.1
+kept_world (stage.MakeImage name sectors) disks old mid keeps done = cc
+kept_world (stage.Wipe name) disks old mid keeps done = cc
+kept_world (stage.StartBare vol name) disks old mid keeps done = cc
+kept_world (stage.Change change) disks old mid keeps done = cc
+kept_world stage.Join disks old mid keeps done = cc
+kept_world (stage.Create dg) disks old mid keeps done = cc
+kept_world (stage.Import dg) disks old mid keeps done = cc
+kept_world stage.LetGo disks old mid keeps done = cc
+
+-- all stages but the last keep the world, and each finds a disk to be written
+abbrev IsShaped : List Stage → List DiskAt → World → Type 0
+IsShaped [] disks w = Unit {0}
+IsShaped (s ∷ []) disks w = IsCarried s disks w
+IsShaped (s ∷ t ∷ ss) disks w = IsCarried s disks w × (keeps_world s ≡ true) × IsShaped (t ∷ ss) disks w
+
+runs_later : (disks : List DiskAt) (stages : List Stage) (finish : Finish) (old : Moment) (views : List View) (end : End) (new : Moment) → Runs disks stages finish old views end new → AreLater old.counts new.counts
+runs_later disks [] finish old views end new (shows, is, same) = subst (λ (m : Moment). AreLater old.counts m.counts) (sym same) (later_self old.counts)
+runs_later disks (s ∷ ss) finish old views end new (inl (mid, later, is, rest)) = later_on old.counts mid.counts new.counts later (runs_later disks ss finish mid views end new rest)
+runs_later disks (s ∷ ss) finish old views end new (inr (none, later, stops)) = later
+
+runs_well : (disks : List DiskAt) (stages : List Stage) (finish : Finish) (old : Moment) (views : List View) (end : End) (new : Moment)
+    → IsShaped stages disks old.world → Runs disks stages finish old views end new → WentWell old new → IsDoneOrRefused end
+runs_well disks [] finish old views end new shaped (shows, is, same) well = inl is
+runs_well disks (s ∷ []) finish old views end new shaped (inl (mid, later, is, (shows, over, same))) well = inl over
+runs_well disks (s ∷ []) finish old views end new shaped (inr (none, later, stops)) well = stops_well s disks old new end well shaped stops
+runs_well disks (s ∷ t ∷ ss) finish old views end new shaped (inl (mid, later, is, rest)) well =
+    let same = kept_world s disks old mid shaped.1 is in
+    runs_well disks (t ∷ ss) finish mid views end new
+    (subst (λ (w : World). IsShaped (t ∷ ss) disks w) (sym same) shaped.2)
+    rest
+    (well_after old mid new later (runs_later disks (t ∷ ss) finish mid views end new rest) well)
+runs_well disks (s ∷ t ∷ ss) finish old views end new shaped (inr (none, later, stops)) well = stops_well s disks old new end well shaped.0 stops
+
+-- each plan has this shape
+abbrev IsPlanShaped : Option Plan → List DiskAt → World → Type 0
+IsPlanShaped None disks w = Unit {0}
+IsPlanShaped (Some plan) disks w = IsShaped plan.stages disks w
+
+policy_shaped : (dg : Option Word) (vol : Word) (how : WordPolicy) (w : World) → IsAlive w × NamesSlots w → IsPlanShaped (plan_of dg (form.Rdpol vol how)) [] w
+unfolding plan_of
+policy_shaped dg vol words.Round w c = (c, refl, (c, refl, c))
+policy_shaped dg vol words.Select w c = (c, refl, (c, refl, c))
+policy_shaped dg vol (words.Prefer plex) w c = (c, refl, (c, refl, (c, refl, c)))
+
+print_shaped : (dg vol : Option Word) (w : World) → IsAlive w × NamesSlots w → IsPlanShaped (plan_of dg (form.PrintM vol)) [] w
+unfolding plan_of
+print_shaped dg None w c = c
+print_shaped dg (Some vol) w c = (c, refl, c)
+
+plan_shaped : (dg : Option Word) (f : Form) (w : World) → HasCarriers f w → IsPlanShaped (plan_of dg f) (disks_of f) w
+unfolding plan_of
+plan_shaped dg (form.MkImage device length) w has = (has.group, has.masks)
+plan_shaped dg (form.Bare vol device) w has = let c : IsAlive w × NamesSlots w = (has.group, has.masks) in (c, refl, (c, refl, (c, refl, c)))
+plan_shaped dg (form.DgInit name disks) w has = let c : IsAlive w × NamesSlots w = (has.group, has.masks) in (c, refl, (c, refl, (c, refl, (c, refl, (c, refl, (c, refl, has.named))))))
+plan_shaped dg (form.DgAddDisk name disk) w has = let c : IsAlive w × NamesSlots w = (has.group, has.masks) in (c, refl, (c, refl, (c, refl, (c, refl, (c, refl, c)))))
+plan_shaped dg (form.DgImport name) w has = (has.group, has.masks)
+plan_shaped dg (form.DgDeport name) w has = let c : IsAlive w × NamesSlots w = (has.group, has.masks) in (c, refl, (c, refl, c))
+plan_shaped dg (form.DiskUnsetup device) w has = let c : IsAlive w × NamesSlots w = (has.group, has.masks) in (c, refl, (c, refl, c))
+plan_shaped dg (form.PrintM vol) w has = print_shaped dg vol w (has.group, has.masks)
+plan_shaped dg (form.Rdpol vol how) w has = policy_shaped dg vol how w (has.group, has.masks)
+plan_shaped dg (form.RemoveVolume vol) w has = let c : IsAlive w × NamesSlots w = (has.group, has.masks) in (c, refl, (c, refl, (c, refl, (c, refl, c))))
+plan_shaped dg (form.VxMake text) w has = tt
+plan_shaped dg (form.PrintHt vol) w has = tt
+plan_shaped dg (form.AssistMake vol length attrs disks) w has = tt
+plan_shaped dg (form.Mirror vol disks) w has = tt
+plan_shaped dg (form.Start vol) w has = tt
+plan_shaped dg (form.Stop vol) w has = tt
+plan_shaped dg (form.PlexDis plex rm) w has = tt
+plan_shaped dg (form.Prepare vol ndcomirs region) w has = tt
+plan_shaped dg (form.Unprepare vol) w has = tt
+plan_shaped dg (form.AddMir vol disks) w has = tt
+plan_shaped dg (form.Dis snap) w has = tt
+plan_shaped dg (form.Split snap) w has = tt
+plan_shaped dg (form.PrintSnaps vol) w has = tt
+plan_shaped dg (form.Recover vol) w has = tt
+plan_shaped dg (form.Acting act) w has = tt
+plan_shaped dg (form.Calling call) w has = tt
+plan_shaped dg (form.Sessions block) w has = tt
+
+pub each_plan_is_complete : (dg : Option Word) (f : Form) (plan : Plan) (old : Moment) (views : List View) (end : End) (new : Moment)
+    → plan_of dg f ≡ Some plan → Runs (disks_of f) plan.stages plan.finish old views end new
+    → WentWell old new → HasCarriers f old.world → IsDoneOrRefused end
+each_plan_is_complete dg f plan old views end new is runs well has =
+    runs_well (disks_of f) plan.stages plan.finish old views end new
+    (subst (λ (o : Option Plan). IsPlanShaped o (disks_of f) old.world) is (plan_shaped dg f old.world has))
+    runs well

@@ -1,0 +1,3 @@
+mod Calm
+mod Carriers
+mod Complete

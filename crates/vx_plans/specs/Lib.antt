@@ -1,0 +1,9 @@
+pub mod Refusals
+pub mod Records
+pub mod Tests
+pub mod Finding
+pub mod Stages
+pub mod Plans
+pub mod Calls
+pub mod Steps
+pub mod Laws

@@ -1,0 +1,86 @@
+-- The plan of each command: its stages in order, and what it shows at the end.
+use Rattle.std.specs.Prelude.{Option, Some, None, List, [], ◌∷◌}
+use Rattle.vx_base.specs.Named.{Word}
+use Rattle.vx_parts.specs.declared.vol.PolicyName.TheVariants as policy
+use Rattle.vx_script_words.specs.declared.value.DiskAt.{DiskAt}
+use Rattle.vx_script_forms.specs.declared.form.Form.{Form}
+use Rattle.vx_script_forms.specs.declared.form.Form.TheVariants as form
+use Rattle.vx_script_forms.specs.declared.form.WordPolicy.{WordPolicy}
+use Rattle.vx_script_forms.specs.declared.form.WordPolicy.TheVariants as words
+use Rattle.vx_plans.specs.declared.stages.Finish.{Finish}
+use Rattle.vx_plans.specs.declared.stages.Finish.TheVariants.{Nothing, Records}
+use Rattle.vx_plans.specs.declared.stages.Plan.{Plan}
+use Rattle.vx_plans.specs.declared.stage.Change.TheVariants as changes
+use Rattle.vx_plans.specs.declared.stage.Stage.{Stage}
+use Rattle.vx_plans.specs.declared.stage.Stage.TheVariants as stage
+use Rattle.vx_plans.specs.declared.test.Test.TheVariants as tests
+
+-- the stages of a command, and what it shows
+abbrev pub ending : List Stage → Finish → Option Plan
+ending stages finish = Some (record { stages = stages; finish = finish })
+
+-- the stages of a command that shows nothing
+abbrev pub doing : List Stage → Option Plan
+doing stages = ending stages Nothing
+
+-- `bare VOL DEV`
+abbrev pub plan_bare : Word → Word → List Stage
+plan_bare vol device =
+    stage.Take device ∷ stage.LookBlank device ∷ stage.Gate (tests.Sized device) ∷ stage.StartBare vol device ∷ []
+
+-- `vxdg init DG (DM=DEV)+`
+abbrev pub plan_init : Word → List Stage
+plan_init dg =
+    stage.TakeDisks ∷ stage.LookDisks ∷ stage.Gate tests.NoGroup ∷ stage.Gate (tests.GroupLimits dg) ∷ stage.Search dg
+    ∷ stage.Gate (tests.GroupRecords dg) ∷ stage.Create dg ∷ []
+
+-- `vxdg -g DG adddisk DM=DEV`
+abbrev pub plan_add : Word → List Stage
+plan_add dg =
+    stage.TakeDisks ∷ stage.Gate (tests.GroupIs (Some dg)) ∷ stage.LookDisks ∷ stage.Gate tests.JoinLimits ∷ stage.Search dg ∷ stage.Join ∷ []
+
+-- `vxdg deport DG`
+abbrev pub plan_deport : Word → List Stage
+plan_deport dg = stage.Gate (tests.GroupIs (Some dg)) ∷ stage.Gate tests.NoneStarted ∷ stage.LetGo ∷ []
+
+-- `vxdiskunsetup DEV`
+abbrev pub plan_unsetup : Word → List Stage
+plan_unsetup device = stage.Take device ∷ stage.LookHeaded device ∷ stage.Wipe device ∷ []
+
+-- `vxvol rdpol`: the plex that is preferred is one of the volume
+abbrev pub plan_rdpol : Option Word → Word → WordPolicy → List Stage
+plan_rdpol dg vol words.Round = stage.Gate (tests.GroupIs dg) ∷ stage.Gate (tests.HasVolume vol) ∷ stage.Change (changes.Policy vol policy.Round) ∷ []
+plan_rdpol dg vol words.Select = stage.Gate (tests.GroupIs dg) ∷ stage.Gate (tests.HasVolume vol) ∷ stage.Change (changes.Policy vol policy.Select) ∷ []
+plan_rdpol dg vol (words.Prefer plex) =
+    stage.Gate (tests.GroupIs dg) ∷ stage.Gate (tests.HasVolume vol) ∷ stage.Gate (tests.HasPlex vol plex) ∷ stage.Change (changes.Policy vol (policy.Prefer plex)) ∷ []
+
+-- `vxassist remove volume VOL`
+abbrev pub plan_remove : Option Word → Word → List Stage
+plan_remove dg vol =
+    stage.Gate (tests.GroupIs dg) ∷ stage.Gate (tests.HasVolume vol) ∷ stage.Gate (tests.Stopped vol) ∷ stage.Gate (tests.Unrelated vol)
+    ∷ stage.Change (changes.Remove vol) ∷ []
+
+-- `vxprint -m [VOL]`
+abbrev pub plan_print : Option Word → Option Word → List Stage
+plan_print dg None = stage.Gate (tests.GroupIs dg) ∷ []
+plan_print dg (Some vol) = stage.Gate (tests.GroupIs dg) ∷ stage.Gate (tests.HasVolume vol) ∷ []
+
+-- the plan of a form, where it is built as one; the word is that of `-g`
+unfoldable pub plan_of : Option Word → Form → Option Plan
+plan_of dg (form.MkImage device length) = doing (stage.MakeImage device length ∷ [])
+plan_of dg (form.Bare vol device) = doing (plan_bare vol device)
+plan_of dg (form.DgInit name disks) = doing (plan_init name)
+plan_of dg (form.DgAddDisk name disk) = doing (plan_add name)
+plan_of dg (form.DgImport name) = doing (stage.Import name ∷ [])
+plan_of dg (form.DgDeport name) = doing (plan_deport name)
+plan_of dg (form.DiskUnsetup device) = doing (plan_unsetup device)
+plan_of dg (form.PrintM vol) = ending (plan_print dg vol) (Records vol)
+plan_of dg (form.Rdpol vol words) = doing (plan_rdpol dg vol words)
+plan_of dg (form.RemoveVolume vol) = doing (plan_remove dg vol)
+plan_of dg other = None
+
+-- the disks that a form names
+abbrev pub disks_of : Form → List DiskAt
+disks_of (form.DgInit name disks) = disks
+disks_of (form.DgAddDisk name disk) = disk ∷ []
+disks_of other = []

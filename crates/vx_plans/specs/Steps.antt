@@ -1,0 +1,97 @@
+-- A command from one moment to the next, and a run of commands.
+use Rattle.std.specs.Prelude.{◌≡◌, ◌⊎◌, ℕ, ◌+◌, Option, Some, None, List, [], ◌∷◌, MatchOption}
+use Rattle.vx_base.specs.Named.{Word}
+use Rattle.vx_objects.specs.Config.{objects_of}
+use Rattle.vx_print.specs.Shown.{IsPrinted}
+use Rattle.vx_script_forms.specs.declared.call.Call.{Call}
+use Rattle.vx_script_forms.specs.declared.call.Call.TheVariants as said
+use Rattle.vx_script_forms.specs.declared.form.Form.{Form}
+use Rattle.vx_script_forms.specs.declared.form.Form.TheVariants as form
+use Rattle.vx_script.specs.declared.command.Command.{Command}
+use Rattle.vx_answers.specs.declared.answer.Answer.{Answer}
+use Rattle.vx_answers.specs.declared.answer.Answer.TheVariants.{One, Block}
+use Rattle.vx_answers.specs.declared.answer.End.{End}
+use Rattle.vx_answers.specs.declared.answer.End.TheVariants as ends
+use Rattle.vx_answers.specs.declared.answer.View.{View}
+use Rattle.vx_answers.specs.declared.answer.View.TheVariants.{Text}
+use Rattle.vx_answers.specs.declared.refusal.Refusal.TheVariants.{NotBuilt}
+use Rattle.vx_moments.specs.World.{World, Group}
+use Rattle.vx_moments.specs.Moment.{Moment, AreLater, Rests}
+use Rattle.vx_moments.specs.Leaving.{PowerGoes, group_gone}
+use Rattle.vx_plans.specs.Calls.{CallRuns}
+use Rattle.vx_plans.specs.Plans.{plan_of, disks_of}
+use Rattle.vx_plans.specs.Stages.{IsDone, Stops}
+use Rattle.vx_plans.specs.declared.stages.Finish.{Finish}
+use Rattle.vx_plans.specs.declared.stages.Finish.TheVariants.{Nothing, Records}
+use Rattle.vx_plans.specs.declared.stages.Plan.{Plan}
+use Rattle.vx_plans.specs.declared.stage.Stage.{Stage}
+use Rattle.vx_script_words.specs.declared.value.DiskAt.{DiskAt}
+
+-- all was done, and nothing is told beside
+abbrev pub done : End
+done = ends.Done None [] []
+
+-- what is shown at the end
+abbrev pub Shows : Finish → World → List View → Type 0
+Shows Nothing w views = views ≡ []
+Shows (Records vol) w views = MatchOption w.group ⊥ (λ g. (text : List ℕ) × (views ≡ Text text ∷ []) × IsPrinted vol (objects_of g.config) [] text)
+
+-- The stages are done one after the other, and the rest of the command follows; or one of them ends it.
+abbrev pub Runs : List DiskAt → List Stage → Finish → Moment → List View → End → Moment → Type 0
+Runs disks [] finish old views end new = Shows finish old.world views × (end ≡ done) × (new ≡ old)
+Runs disks (s ∷ ss) finish old views end new =
+    ((mid : Moment) × AreLater old.counts mid.counts × IsDone s disks old mid × Runs disks ss finish mid views end new)
+    ⊎ ((views ≡ []) × AreLater old.counts new.counts × Stops s disks old end new)
+
+-- A command that is over: where it was refused the world is as it began, and where the group or the power was lost they go.
+abbrev pub Leaves : End → World → World → World → Type 0
+Leaves (ends.Done copied parts blocks) began w left = left ≡ w
+Leaves (ends.Refused refusal) began w left = left ≡ began
+Leaves (ends.Fault told device parts) began w left = left ≡ w
+Leaves ends.ShelfFailed began w left = left ≡ w
+Leaves ends.GroupLost began w left = left ≡ group_gone w
+Leaves (ends.Lost parts) began w left = PowerGoes w left
+
+-- from one moment to the next, by what the command does and what is left then
+pub record Serves (Does : Moment → List View → End → Moment → Type 0) (old : Moment) (answer : Answer) (new : Moment) : Type 0 where
+  pub views : List View
+  pub end : End
+  pub told : answer ≡ One views end
+  pub over : Moment
+  pub does : Does old views end over
+  pub leaves : Leaves end old.world over.world new.world
+  pub counts : new.counts ≡ over.counts
+
+-- a command that is not built is refused before all else
+abbrev pub IsNotBuilt : Moment → List View → End → Moment → Type 0
+IsNotBuilt old views end new = (views ≡ []) × (end ≡ ends.Refused NotBuilt) × (new ≡ old)
+
+abbrev pub DoesPlan : List DiskAt → Option Plan → Moment → List View → End → Moment → Type 0
+DoesPlan disks None old views end new = IsNotBuilt old views end new
+DoesPlan disks (Some plan) old views end new = Runs disks plan.stages plan.finish old views end new
+
+-- the calls that are built
+abbrev pub DoesCall : ℕ → Call → Moment → List View → End → Moment → Type 0
+DoesCall place (said.Read vol start count) old views end new = (views ≡ []) × AreLater old.counts new.counts × CallRuns place (said.Read vol start count) old end new
+DoesCall place (said.Fill vol start count byte) old views end new = (views ≡ []) × AreLater old.counts new.counts × CallRuns place (said.Fill vol start count byte) old end new
+DoesCall place (said.Data vol start blocks) old views end new = IsNotBuilt old views end new
+
+-- what a form does
+abbrev pub DoesForm : ℕ → Option Word → Form → Moment → List View → End → Moment → Type 0
+DoesForm place dg (form.Calling call) old views end new = DoesCall place call old views end new
+DoesForm place dg other old views end new = DoesPlan (disks_of other) (plan_of dg other) old views end new
+
+-- what a command does; one with a word `cut=N` is not built
+abbrev pub Does : ℕ → Command → Moment → List View → End → Moment → Type 0
+Does place c old views end new = MatchOption c.cut (DoesForm place c.group c.form old views end new) (λ n. IsNotBuilt old views end new)
+
+-- the command at this place of the script may have this answer
+abbrev pub Step : ℕ → Command → Moment → Answer → Moment → Type 0
+Step place c old answer new = Serves (Does place c) old answer new
+
+-- the commands from this place on may have these answers, one after the other
+abbrev pub IsTranscript : ℕ → Moment → List Command → List Answer → Moment → Type 0
+IsTranscript place old [] [] new = new ≡ old
+IsTranscript place old (c ∷ cs) (a ∷ rest) new = (mid : Moment) × Step place c old a mid × IsTranscript (place + 1) mid cs rest new
+IsTranscript place old [] (a ∷ rest) new = ⊥
+IsTranscript place old (c ∷ cs) [] new = ⊥

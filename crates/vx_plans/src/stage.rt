@@ -1,0 +1,46 @@
+use crate::Test;
+use vx_names::Name;
+use vx_parts::PolicyName;
+
+/// A change of the group's configuration.
+#[derive(Clone, Copy)]
+pub enum Change {
+    /// The volume gets the policy.
+    Policy { vol: Name, policy: PolicyName },
+    /// The volume goes, with its plexes, their subdisks and its DCO.
+    Remove(Name),
+}
+
+/// A stage of a command. Disks and devices of a list are those of the command's words.
+#[derive(Clone, Copy)]
+pub enum Stage {
+    Gate(Test),
+    /// The device is free, and the shelf hands it over.
+    Take(Name),
+    /// Each device of the list is free, one after the other, and the shelf hands it over.
+    TakeDisks,
+    /// The device's header is read, and there is none.
+    LookBlank(Name),
+    /// The headers of the devices of the list are read, one after the other, and there is none.
+    LookDisks,
+    /// The device's header is read, and there is one.
+    LookHeaded(Name),
+    /// The headers of all free devices that are not taken are read, and none names the group.
+    Search(Name),
+    /// No device has the name, and one of so many sectors of zeros is made.
+    MakeImage { device: Name, sectors: u64 },
+    /// Zeros are written over the device's header.
+    Wipe(Name),
+    /// No volume has the name, started or recorded, and the device becomes one that is started, of its blocks.
+    StartBare { vol: Name, device: Name },
+    /// The configuration of the imported group is changed, and committed.
+    Change(Change),
+    /// The only disk of the list joins the group.
+    Join,
+    /// No group is imported, and one of the name is made of the disks of the list.
+    Create(Name),
+    /// No group is imported; the one of the name is searched for, and its configuration is committed.
+    Import(Name),
+    /// The group leaves, and its devices with it.
+    LetGo,
+}

@@ -1,5 +1,5 @@
 -- A commit: a text is written to the good disks of a group, of which some may join by it.
-use Rattle.std.specs.Prelude.{◌≡◌, ◌⊎◌, ℕ, ◌+◌, ◌*◌, ◌-◌, ◌<◌, ◌≤◌, ◌||◌, ◌==◌, Bool, true, false, List, [], ◌∷◌, ◌++◌, length, Option, Some, None, MatchOption}
+use Rattle.std.specs.Prelude.{◌≡◌, ◌⊎◌, ℕ, ◌+◌, ◌*◌, ◌-◌, ◌<◌, ◌≤◌, ◌||◌, ◌==◌, Bool, true, false, List, [], ◌++◌, length, Some, MatchOption}
 use Rattle.std.specs.List.{list_any}
 use Rattle.vx_base.specs.Counts.{later_count}
 use Rattle.vx_base.specs.Named.{Word}

@@ -1,10 +1,10 @@
 -- Who holds a device, and what a name stands for.
-use Rattle.std.specs.Prelude.{◌≡◌, ◌⊎◌, Bool, false, Option, Some, None, ◌||◌, List}
+use Rattle.std.specs.Prelude.{◌≡◌, ◌⊎◌, Bool, false, Option, Some, None, List}
 use Rattle.std.specs.List.{list_any}
 use Rattle.std.specs.Str.{bytes_eq}
 use Rattle.vx_base.specs.Named.{Word}
 use Rattle.vx_copies.specs.Lists.{AnyOf}
-use Rattle.vx_moments.specs.World.{World, Volume, Group, Member, Lies, OnDevice, OnPlexes}
+use Rattle.vx_moments.specs.World.{World, Volume, Group, Lies, OnDevice, OnPlexes}
 
 -- the volume has the whole device
 abbrev pub HasDevice : Lies → Word → Type 0

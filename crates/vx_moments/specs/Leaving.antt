@@ -1,5 +1,5 @@
 -- What is left when started volumes and the group leave the world.
-use Rattle.std.specs.Prelude.{◌≡◌, ◌⊎◌, Option, Some, None, MatchOption}
+use Rattle.std.specs.Prelude.{◌≡◌, Option, Some, None}
 use Rattle.vx_base.specs.Named.{Word}
 use Rattle.vx_life.specs.Candidates.{IsChosen}
 use Rattle.vx_moments.specs.World.{World, Device, Volume, Lies, OnDevice, OnPlexes}

@@ -1,9 +1,9 @@
 -- Counts that are as they were: never stage can have failed.
-use Rattle.std.proofs.Common.{◌≡◌, ◌⊎◌, ℕ, ◌+◌, ◌-◌, ◌^◌, ◌≤◌, min, Bool, true, false, IsTrue, List, [], ◌∷◌, refl, sym, ◌∙◌, ap, subst, inl, inr, arith}
-use Rattle.vx_base.specs.Counts.{Rose, later_count}
+use Rattle.std.proofs.Common.{◌≡◌, ℕ, ◌≤◌, true, false, List, [], ◌∷◌, inl, inr, arith}
+use Rattle.vx_base.specs.Counts.{Rose}
 use Rattle.vx_base.specs.Named.{Word}
 use Rattle.vx_copies.specs.Lists.{AllOf, AnyOf}
-use Rattle.vx_moments.specs.Moment.{Moment, Counts, AreLater, HasFailed, ShelfHasFailed, IsQuiet}
+use Rattle.vx_moments.specs.Moment.{Moment, Counts, AreLater, HasFailed, ShelfHasFailed}
 use Rattle.vx_plans.specs.Laws.{WentWell}
 
 -- a count that is as it was has not risen

@@ -1,7 +1,7 @@
 -- The disks that carry a commit: there is one, where the command's world has one.
 use Rattle.std.proofs.Common.{◌≡◌, ◌≢◌, ◌⊎◌, ℕ, zero, suc, ◌+◌, ◌<◌, ◌≤◌, ◌==◌, ◌&&◌, ◌||◌, not, Bool, true, false, cond, List, [], ◌∷◌, map, Option, Some, None, refl, sym, ◌∙◌, ap, subst, inl, inr, arith, MatchOption, MatchBool, nat_lt, is_some, ◌^◌}
 use Rattle.std.proofs.lemmas.Bool.{cases_lt, eqb-true}
-use Rattle.std.specs.List.{list_any, filter}
+use Rattle.std.specs.List.{list_any}
 use Rattle.vx_base.specs.Named.{Word}
 use Rattle.vx_mask.specs.Mask.{has}
 use Rattle.vx_copies.specs.Image.{Offer, offer_in, highest, higher}
@@ -14,9 +14,9 @@ use Rattle.vx_moments.specs.Commit.{Writing, is_written_slot, is_slot_of}
 use Rattle.vx_moments.specs.Moment.{Counts}
 use Rattle.vx_moments.specs.World.{World, Device, Member, Group}
 use Rattle.std.specs.Str.{bytes_eq}
-use Rattle.vx_plans.specs.Finding.{is_recorded, IsDamage, IsDiskOf, Candidate, IsCandidate, Found, Finds, FindsOffer, FindsAll, FindsText, FindsConfig, offers_of, first_that, is_damaged_one, is_taken_of, missing_from, good_ones, members_of, member_of, group_found, import_records}
+use Rattle.vx_plans.specs.Finding.{is_recorded, IsDamage, IsDiskOf, Candidate, IsCandidate, Finds, FindsOffer, FindsAll, FindsText, offers_of, first_that, is_damaged_one, is_taken_of, missing_from, good_ones, members_of, member_of, group_found, import_records}
 use Rattle.vx_plans.specs.Records.{new_members, member_at}
-use Rattle.vx_plans.specs.Stages.{IsChange, IsJoining, IsCreating, IsImporting}
+use Rattle.vx_plans.specs.Stages.{IsCreating, IsImporting}
 use Rattle.vx_plans.proofs.Calm.{any_map}
 
 -- a member that is written carries the commit

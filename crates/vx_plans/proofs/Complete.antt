@@ -1,5 +1,5 @@
 -- Where nothing failed and the power stayed, a plan is done, or a test has refused it.
-use Rattle.std.proofs.Common.{◌≡◌, ◌≢◌, ◌⊎◌, ℕ, Bool, true, false, List, [], ◌∷◌, ◌++◌, Option, Some, None, refl, sym, ◌∙◌, ap, subst, inl, inr}
+use Rattle.std.proofs.Common.{◌≡◌, ◌≢◌, Bool, true, false, List, [], ◌∷◌, ◌++◌, Option, Some, None, refl, sym, ap, subst, inl, inr}
 use Rattle.vx_base.specs.Named.{Word}
 use Rattle.vx_script_forms.specs.declared.form.Form.{Form}
 use Rattle.vx_script_forms.specs.declared.form.Form.TheVariants as form
@@ -8,14 +8,13 @@ use Rattle.vx_script_forms.specs.declared.form.WordPolicy.TheVariants as words
 use Rattle.vx_script_words.specs.declared.value.DiskAt.{DiskAt}
 use Rattle.vx_answers.specs.declared.answer.End.{End}
 use Rattle.vx_answers.specs.declared.answer.View.{View}
-use Rattle.vx_answers.specs.declared.refusal.Refusal.{Refusal}
 use Rattle.vx_moments.specs.Commit.{Writing, IsStopped, is_written_slot, parties}
-use Rattle.vx_moments.specs.Moment.{Moment, Counts, AreLater, HasFailed, ShelfHasFailed}
-use Rattle.vx_moments.specs.World.{World, Member}
+use Rattle.vx_moments.specs.Moment.{Moment, AreLater, HasFailed}
+use Rattle.vx_moments.specs.World.{World}
 use Rattle.vx_plans.specs.Laws.{WentWell, IsDoneOrRefused, HasCarriers}
 use Rattle.vx_plans.specs.Plans.{plan_of, disks_of}
 use Rattle.vx_plans.specs.Records.{devices_of}
-use Rattle.vx_plans.specs.Stages.{IsDone, Stops, DeviceEnds, FailsAt, ShelfFailsAt, ShelfEnds, TakingStops, LookingStops, EditsStop, StopsBy, OnlyDisk}
+use Rattle.vx_plans.specs.Stages.{IsDone, Stops, DeviceEnds, FailsAt, TakingStops, LookingStops}
 use Rattle.vx_plans.specs.Steps.{Runs, done}
 use Rattle.vx_plans.specs.declared.stages.Finish.{Finish}
 use Rattle.vx_plans.specs.declared.stages.Plan.{Plan}

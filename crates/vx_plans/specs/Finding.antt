@@ -1,5 +1,5 @@
 -- `vxdg import`: which devices count, and what their configuration must be.
-use Rattle.std.specs.Prelude.{◌≡◌, ◌≢◌, ◌⊎◌, ℕ, zero, suc, ◌+◌, ◌-◌, ◌<◌, ◌≤◌, ◌^◌, ◌==◌, Bool, true, false, nat_lt, not, ◌&&◌, ◌||◌, if◌then◌else◌, is_some, is_none, replicate, Option, Some, None, List, [], ◌∷◌, length, map, MatchBool, MatchOption, codes, decimal}
+use Rattle.std.specs.Prelude.{◌≡◌, ◌≢◌, ◌⊎◌, ℕ, zero, suc, ◌+◌, ◌-◌, ◌<◌, ◌≤◌, ◌^◌, ◌==◌, Bool, true, false, nat_lt, not, ◌&&◌, if◌then◌else◌, is_some, is_none, replicate, Option, Some, None, List, [], ◌∷◌, length, map, MatchBool, MatchOption, codes, decimal}
 use Rattle.std.specs.List.{list_any, filter}
 use Rattle.std.specs.Str.{bytes_eq}
 use Rattle.std.specs.Cmp.Lexicographic.{slice_cmp}
@@ -20,10 +20,9 @@ use Rattle.vx_record.specs.declared.kind.Kind.{Kind}
 use Rattle.vx_record.specs.declared.kind.Kind.TheVariants as kinds
 use Rattle.vx_names.specs.declared.attr.Attr.{Attr}
 use Rattle.vx_parts.specs.declared.object.Object.{Object}
-use Rattle.vx_parts.specs.declared.object.Object.TheVariants.{GroupRecord, DiskRecord, SubdiskRecord, PlexRecord, VolRecord, DcoRecord, SnapRecord}
+use Rattle.vx_parts.specs.declared.object.Object.TheVariants.{VolRecord}
 use Rattle.vx_parts.specs.declared.state.VolState.{VolState}
 use Rattle.vx_parts.specs.declared.state.VolState.TheVariants as states
-use Rattle.vx_parts.specs.declared.fault.ObjectFault.{ObjectFault}
 use Rattle.vx_rules.specs.Rules.{first_broken}
 use Rattle.vx_objects.specs.declared.config.Config.{Config}
 use Rattle.vx_objects.specs.Config.{objects_of}

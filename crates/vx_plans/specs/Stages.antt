@@ -1,6 +1,6 @@
 -- The stages of commands: what each does where it is done, and how it may end the command. The disks are those that the
 -- command names.
-use Rattle.std.specs.Prelude.{◌≡◌, ◌⊎◌, ℕ, ◌+◌, ◌-◌, ◌<◌, ◌≤◌, Bool, true, false, if◌then◌else◌, replicate, Option, Some, None, IsSome, IsTrue, List, [], ◌∷◌, ◌++◌, length, map, MatchOption}
+use Rattle.std.specs.Prelude.{◌≡◌, ◌⊎◌, ℕ, ◌+◌, ◌<◌, ◌≤◌, true, false, replicate, Option, Some, None, IsSome, List, [], ◌∷◌, ◌++◌, length}
 use Rattle.std.specs.Str.{bytes_eq}
 use Rattle.vx_base.specs.Blocks.{Contents, written, IsTorn}
 use Rattle.vx_base.specs.Counts.{later_count}
@@ -8,7 +8,6 @@ use Rattle.vx_base.specs.Named.{Word, put}
 use Rattle.vx_header.specs.Named.{header_of}
 use Rattle.vx_life.specs.Life.{begun}
 use Rattle.vx_copies.specs.Image.{names_group}
-use Rattle.vx_parts.specs.declared.object.Object.{Object}
 use Rattle.vx_parts.specs.declared.vol.Vol.{Vol}
 use Rattle.vx_rules.specs.Rules.{first_broken}
 use Rattle.vx_objects.specs.declared.config.Config.{Config}
@@ -22,7 +21,7 @@ use Rattle.vx_answers.specs.declared.answer.End.{End}
 use Rattle.vx_answers.specs.declared.answer.End.TheVariants as ends
 use Rattle.vx_answers.specs.declared.refusal.Refusal.{Refusal}
 use Rattle.vx_answers.specs.declared.refusal.Refusal.TheVariants as refusal
-use Rattle.vx_moments.specs.World.{World, Device, Volume, Member, Group, Lies, OnDevice}
+use Rattle.vx_moments.specs.World.{World, Device, Volume, Group, OnDevice}
 use Rattle.vx_moments.specs.Moment.{Moment, Counts, AreLater, Rests, HasFailed, ShelfHasFailed, HasFailedOrShelf, IsQuiet, WritesNone, CallsNone}
 use Rattle.vx_moments.specs.Holding.{IsHeld, is_among}
 use Rattle.vx_moments.specs.Leaving.{group_gone}

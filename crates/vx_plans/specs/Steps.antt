@@ -9,14 +9,14 @@ use Rattle.vx_script_forms.specs.declared.form.Form.{Form}
 use Rattle.vx_script_forms.specs.declared.form.Form.TheVariants as form
 use Rattle.vx_script.specs.declared.command.Command.{Command}
 use Rattle.vx_answers.specs.declared.answer.Answer.{Answer}
-use Rattle.vx_answers.specs.declared.answer.Answer.TheVariants.{One, Block}
+use Rattle.vx_answers.specs.declared.answer.Answer.TheVariants.{One}
 use Rattle.vx_answers.specs.declared.answer.End.{End}
 use Rattle.vx_answers.specs.declared.answer.End.TheVariants as ends
 use Rattle.vx_answers.specs.declared.answer.View.{View}
 use Rattle.vx_answers.specs.declared.answer.View.TheVariants.{Text}
 use Rattle.vx_answers.specs.declared.refusal.Refusal.TheVariants.{NotBuilt}
-use Rattle.vx_moments.specs.World.{World, Group}
-use Rattle.vx_moments.specs.Moment.{Moment, AreLater, Rests}
+use Rattle.vx_moments.specs.World.{World}
+use Rattle.vx_moments.specs.Moment.{Moment, AreLater}
 use Rattle.vx_moments.specs.Leaving.{PowerGoes, group_gone}
 use Rattle.vx_plans.specs.Calls.{CallRuns}
 use Rattle.vx_plans.specs.Plans.{plan_of, disks_of}

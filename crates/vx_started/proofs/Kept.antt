@@ -1,7 +1,6 @@
 -- What calls of a piece keep, one after the other.
-use Rattle.std.proofs.Common.{◌≡◌, ◌∙◌, ℕ, ◌+◌, ◌≤◌, Bool, true, false, List, refl, subst, sym, arith, Result, Ok, Err, OnOk}
+use Rattle.std.proofs.Common.{◌≡◌, ◌∙◌, ℕ, ◌+◌, ◌≤◌, Bool, true, false, List, refl, arith, Result, Ok, Err, OnOk}
 use Rattle.vx_base.specs.Blocks.{blocks_in}
-use Rattle.vx_base.specs.Counts.{later_count}
 use Rattle.vx_piece.specs.Seen.{Seen, Keeps, IsRead, CountsRead, IsWritten, HasCause, count_after}
 use Rattle.vx_started.specs.Stands.{CallsAtMost}
 use Rattle.vx_piece.specs.declared.piece.PieceFault.{PieceFault}

@@ -6,8 +6,6 @@ use Rattle.vx_base.specs.Named.{Word}
 use Rattle.vx_block.specs.declared.geometry.Span.{Span}
 use Rattle.vx_block.specs.declared.geometry.Geometry.{Geometry}
 use Rattle.vx_piece.specs.Seen.{Seen}
-use Rattle.vx_piece.specs.declared.piece.PieceFault.{PieceFault}
-use Rattle.vx_piece.specs.declared.piece.PieceFault.TheVariants.{Failed, PowerLost}
 use Rattle.vx_life.specs.declared.Part.{Part}
 use Rattle.vx_life.specs.declared.EntryKind.{EntryKind}
 use Rattle.vx_life.specs.Candidates.{Candidates, IsChosen}

@@ -1,4 +1,4 @@
-use Rattle.std.proofs.Common.{◌≡◌, ◌*◌, arith, ap, ◌∙◌, replicate}
+use Rattle.std.proofs.Common.{◌≡◌, ◌*◌, arith, ap, ◌∙◌}
 use Rattle.std.proofs.lemmas.List.{length-replicate}
 use Rattle.vx_base.specs.Blocks.{blocks_in}
 use Rattle.vx_started.proofs.Kept.{one_write}

@@ -4,7 +4,8 @@ use Rattle.vx_base.specs.Blocks.{Contents}
 use Rattle.vx_base.specs.Named.{Word}
 use Rattle.vx_header.specs.Named.{Label, header_of}
 use Rattle.vx_copies.specs.Image.{toggle_at}
-use Rattle.vx_copies.specs.Written.{Holds, HalfStays, OldOrText, in_both}
+use Rattle.vx_copies.specs.Written.{Holds, HalfStays, OldOrText}
+use Rattle.vx_confdb.specs.Enlisted.{BehindOldOrText}
 use Rattle.vx_objects.specs.declared.config.Config.{Config}
 use Rattle.vx_objects.specs.Config.{objects_of}
 use Rattle.vx_print.specs.Shown.{IsPrinted}
@@ -33,10 +34,6 @@ pub record IsTurned (first last : ℕ) (IsMask : ℕ → Type 0) (text : List �
   pub masks : IsMask mask
   pub says : toggle_at new ≡ Some (record { sequence = sequence; half = half; length = length text; good = mask })
   pub holds : Holds text half new
-
--- each sector behind the header and the toggle is as it was, or in a half the one of the text
-abbrev pub BehindOldOrText : List ℕ → Contents → Contents → Type 0
-BehindOldOrText text old new = (k : ℕ) → 2 ≤ k → (new k ≡ old k) ⊎ (new k ≡ in_both text old k)
 
 -- what a commit may leave of a good disk, at whichever device call it is stopped: only the half that is spare is written
 pub record IsStruck (first last : ℕ) (IsMask : ℕ → Type 0) (text : List ℕ) (old new : Contents) : Type 0 where

@@ -1,4 +1,4 @@
--- Who holds a device, and what a name stands for.
+-- Who holds a device, and which volumes are recorded.
 use Rattle.std.specs.Prelude.{◌≡◌, ◌⊎◌, Bool, false, Option, Some, None, List}
 use Rattle.std.specs.List.{list_any}
 use Rattle.std.specs.Str.{bytes_eq}
@@ -23,10 +23,6 @@ IsMemberDevice (Some g) name = AnyOf (λ m. m.device ≡ name) g.members
 -- a started volume or the group holds the device
 abbrev pub IsHeld : World → Word → Type 0
 IsHeld w name = IsLent w name ⊎ IsMemberDevice w.group name
-
--- a volume of the name is started
-abbrev pub IsStarted : World → Word → Type 0
-IsStarted w name = (v : Volume) × (w.volumes name ≡ Some v)
 
 -- the group records a volume of the name
 abbrev pub has_volume : Option Group → Word → Bool

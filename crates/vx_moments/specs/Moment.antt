@@ -55,11 +55,7 @@ pub record CallsNone (old new : Counts) : Type 0 where
   pub reads : (name : Word) → new.reads name ≡ old.reads name
   pub writes : WritesNone old new
 
--- the power of some device is gone
-abbrev pub IsCutSomewhere : Counts → Type 0
-IsCutSomewhere counts = (name : Word) × IsTrue (counts.cut name)
-
--- what each stage of a command keeps, and one that changes nothing
+-- the world is as it was, and no count has fallen
 pub record Stays (old new : Moment) : Type 0 where
   pub world : new.world ≡ old.world
   pub later : AreLater old.counts new.counts

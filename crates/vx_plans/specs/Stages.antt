@@ -194,15 +194,6 @@ pub record IsBetween (old mid new : Moment) : Type 0 where
   pub first : AreLater old.counts mid.counts
   pub rest : AreLater mid.counts new.counts
 
--- the devices that the command has in hand after a stage that is done
-abbrev pub hand_after : Stage → List DiskAt → List Word → List Word
-hand_after (stage.Take name) disks hand = hand ++ name ∷ []
-hand_after stage.TakeDisks disks hand = hand ++ devices_of disks
-hand_after (stage.StartBare vol name) disks hand = []
-hand_after stage.Join disks hand = []
-hand_after (stage.Create dg) disks hand = []
-hand_after other disks hand = hand
-
 -- a disk is the only one of the list
 abbrev pub OnlyDisk : List DiskAt → (DiskAt → Type 0) → Type 0
 OnlyDisk [] Holds = ⊥

@@ -85,7 +85,7 @@ begins_enters label text (Some t) (Some u) (inr (inl still), rest) = (inr (inl s
 begins_enters label text (Some t) (Some u) (inr (inr headed), rest) = (inr (inr (headed.0, inl headed.1)), rest)
 
 pub prepares_joins : (group : Word) (text : List ℕ) (a b : Held) → Prepares group a b → Joins group text a b
-prepares_joins group text a b is = record { slot = is.slot; name = is.name; size = is.size; kept = is.kept; good = is.good; told = begins_enters (label_in group a) text a.seen.told b.seen.told is.told }
+prepares_joins group text a b is = record { slot = is.slot; name = is.name; device = is.device; size = is.size; kept = is.kept; good = is.good; told = begins_enters (label_in group a) text a.seen.told b.seen.told is.told }
 
 new_text_of : (f l : ℕ) (text : List ℕ) (o : Option Offer) → IsNew f l text o → MatchOption o ⊥ (λ x. x.text ≡ text)
 new_text_of f l text None is = absurd is
@@ -105,6 +105,7 @@ pub written_joins : (group : Word) (f l : ℕ) (text : List ℕ) (a b c : Held) 
 written_joins group f l text a b c p prepared q = record {
   slot = q.slot ∙ p.slot;
   name = q.name ∙ p.name;
+  device = q.device ∙ p.device;
   size = q.size ∙ p.size;
   kept = keeps_trans _ _ _ p.kept q.kept;
   good = drops_trans a.good b.good c.good a.seen b.seen c.seen p.kept q.kept p.good q.good;

@@ -204,6 +204,7 @@ pub prepares_trans : (group : Word) (a b c : Held) → Prepares group a b → Pr
 prepares_trans group a b c p q = record {
   slot = q.slot ∙ p.slot;
   name = q.name ∙ p.name;
+  device = q.device ∙ p.device;
   size = q.size ∙ p.size;
   half = q.half ∙ p.half;
   kept = keeps_trans _ _ _ p.kept q.kept;
@@ -212,7 +213,7 @@ prepares_trans group a b c p q = record {
 }
 
 pub prepares_refl : (group : Word) (a : Held) → Prepares group a a
-prepares_refl group a = record { slot = refl; name = refl; size = refl; half = refl; kept = keeps_refl a.seen; good = drops_refl a.good a.seen; told = begins_refl (label_in group a) a.seen.told }
+prepares_refl group a = record { slot = refl; name = refl; device = refl; size = refl; half = refl; kept = keeps_refl a.seen; good = drops_refl a.good a.seen; told = begins_refl (label_in group a) a.seen.told }
 
 -- disks of the list
 pub fresh_at : {P : Type 0} (see : P → Seen) (group : Word) (ds : List (Disk P)) (i : ℕ) (d : Disk P) → i < length ds → AllOf (IsFresh see group) (drop i ds) → IsFresh see group (get_or ds i d)

@@ -35,6 +35,7 @@ Enters label text (Some old) (Some new) =
 pub record Joins (group : Word) (text : List ℕ) (old new : Held) : Type 0 where
   pub slot : new.slot ≡ old.slot
   pub name : new.name ≡ old.name
+  pub device : new.device ≡ old.device
   pub size : new.sectors ≡ old.sectors
   pub kept : Keeps old.seen new.seen
   pub good : Drops old.good new.good old.seen new.seen

@@ -65,6 +65,7 @@ pub record Fronts (most : ℕ) (old new : Held) : Type 0 where
 pub record Prepares (group : Word) (old new : Held) : Type 0 where
   pub slot : new.slot ≡ old.slot
   pub name : new.name ≡ old.name
+  pub device : new.device ≡ old.device
   pub size : new.sectors ≡ old.sectors
   pub half : new.half ≡ old.half
   pub kept : Keeps old.seen new.seen

@@ -111,6 +111,7 @@ pub goes_trans : (f l : ℕ) (text : List ℕ) (a b c : Held) → Goes f l text 
 goes_trans f l text a b c p q = record {
   slot = q.slot ∙ p.slot;
   name = q.name ∙ p.name;
+  device = q.device ∙ p.device;
   size = q.size ∙ p.size;
   kept = keeps_trans _ _ _ p.kept q.kept;
   good = drops_trans a.good b.good c.good a.seen b.seen c.seen p.kept q.kept p.good q.good;
@@ -119,13 +120,13 @@ goes_trans f l text a b c p q = record {
 }
 
 pub goes_wider : (f f' l l' : ℕ) (text : List ℕ) (a b : Held) → f' ≤ f → l ≤ l' → Goes f l text a b → Goes f' l' text a b
-goes_wider f f' l l' text a b p q is = record { slot = is.slot; name = is.name; size = is.size; kept = is.kept; good = is.good; offers = offers_wider f f' l l' text _ _ p q is.offers; idle = is.idle }
+goes_wider f f' l l' text a b p q is = record { slot = is.slot; name = is.name; device = is.device; size = is.size; kept = is.kept; good = is.good; offers = offers_wider f f' l l' text _ _ p q is.offers; idle = is.idle }
 
 pub stays_goes : (f l : ℕ) (text : List ℕ) (a b : Held) → Stays a b → Goes f l text a b
-stays_goes f l text a b is = record { slot = is.slot; name = is.name; size = is.size; kept = is.kept; good = is.good; offers = stays_offers f l text _ _ is.told; idle = is.idle }
+stays_goes f l text a b is = record { slot = is.slot; name = is.name; device = is.device; size = is.size; kept = is.kept; good = is.good; offers = stays_offers f l text _ _ is.told; idle = is.idle }
 
 goes_refl : (f l : ℕ) (text : List ℕ) (a : Held) → Goes f l text a a
-goes_refl f l text a = record { slot = refl; name = refl; size = refl; kept = keeps_refl a.seen; good = drops_refl a.good a.seen; offers = offers_refl f l text a.seen.told; idle = λ e. refl }
+goes_refl f l text a = record { slot = refl; name = refl; device = refl; size = refl; kept = keeps_refl a.seen; good = drops_refl a.good a.seen; offers = offers_refl f l text a.seen.told; idle = λ e. refl }
 
 -- a disk that stays
 told_trans : (a b c : Option Contents) → StaysTold a b → StaysTold b c → StaysTold a c
@@ -144,6 +145,7 @@ pub stays_trans : (a b c : Held) → Stays a b → Stays b c → Stays a c
 stays_trans a b c p q = record {
   slot = q.slot ∙ p.slot;
   name = q.name ∙ p.name;
+  device = q.device ∙ p.device;
   size = q.size ∙ p.size;
   half = q.half ∙ p.half;
   kept = keeps_trans _ _ _ p.kept q.kept;
@@ -153,7 +155,7 @@ stays_trans a b c p q = record {
 }
 
 pub stays_refl : (a : Held) → Stays a a
-stays_refl a = record { slot = refl; name = refl; size = refl; half = refl; kept = keeps_refl a.seen; good = drops_refl a.good a.seen; told = told_refl a.seen.told; idle = λ e. refl }
+stays_refl a = record { slot = refl; name = refl; device = refl; size = refl; half = refl; kept = keeps_refl a.seen; good = drops_refl a.good a.seen; told = told_refl a.seen.told; idle = λ e. refl }
 
 -- a disk that may get a toggle
 was_good : (x y : Bool) (a b : Seen) → Drops x y a b → IsTrue y → IsTrue x
@@ -193,6 +195,7 @@ pub stamps_trans : (s m : ℕ) (text : List ℕ) (a b c : Held) → Stamps s m t
 stamps_trans s m text a b c p q = record {
   slot = q.slot ∙ p.slot;
   name = q.name ∙ p.name;
+  device = q.device ∙ p.device;
   size = q.size ∙ p.size;
   kept = keeps_trans _ _ _ p.kept q.kept;
   good = drops_trans a.good b.good c.good a.seen b.seen c.seen p.kept q.kept p.good q.good;
@@ -201,10 +204,10 @@ stamps_trans s m text a b c p q = record {
 }
 
 pub stamps_refl : (s m : ℕ) (text : List ℕ) (a : Held) → Stamps s m text a a
-stamps_refl s m text a = record { slot = refl; name = refl; size = refl; kept = keeps_refl a.seen; good = drops_refl a.good a.seen; offers = just_refl s m text a.good a.seen.told; idle = λ e. refl }
+stamps_refl s m text a = record { slot = refl; name = refl; device = refl; size = refl; kept = keeps_refl a.seen; good = drops_refl a.good a.seen; offers = just_refl s m text a.good a.seen.told; idle = λ e. refl }
 
 pub stamps_goes : (s m : ℕ) (text : List ℕ) (a b : Held) → Stamps s m text a b → Goes s s text a b
-stamps_goes s m text a b is = record { slot = is.slot; name = is.name; size = is.size; kept = is.kept; good = is.good; offers = just_offers s m text a.good _ _ is.offers; idle = is.idle }
+stamps_goes s m text a b is = record { slot = is.slot; name = is.name; device = is.device; size = is.size; kept = is.kept; good = is.good; offers = just_offers s m text a.good _ _ is.offers; idle = is.idle }
 
 -- a disk that stays good, or not good
 pub same_refl : (a : Held) → a.good ≡ a.good

@@ -12,6 +12,8 @@ use Rattle.vx_copies.specs.declared.disk.Disk.{Disk}
 -- a disk with what is seen of its piece
 pub record Held : Type 0 where
   pub name : Word
+  -- the device that it lies on
+  pub device : Word
   pub slot : ℕ
   pub sectors : ℕ
   pub good : Bool
@@ -19,7 +21,7 @@ pub record Held : Type 0 where
   pub seen : Seen
 
 abbrev pub held : {P : Type 0} → (P → Seen) → Disk P → Held
-held see d = record { name = d.name; slot = d.slot; sectors = d.sectors; good = d.good; half = d.half; seen = see d.piece }
+held see d = record { name = d.name; device = d.device; slot = d.slot; sectors = d.sectors; good = d.good; half = d.half; seen = see d.piece }
 
 -- the power is gone
 abbrev pub IsCut : Held → Type 0
@@ -106,6 +108,7 @@ Drops true false before now = Rose before.faults now.faults
 pub record Goes (first last : ℕ) (text : List ℕ) (old new : Held) : Type 0 where
   pub slot : new.slot ≡ old.slot
   pub name : new.name ≡ old.name
+  pub device : new.device ≡ old.device
   pub size : new.sectors ≡ old.sectors
   pub kept : Keeps old.seen new.seen
   pub good : Drops old.good new.good old.seen new.seen
@@ -117,6 +120,7 @@ pub record Goes (first last : ℕ) (text : List ℕ) (old new : Held) : Type 0 w
 pub record Stamps (sequence mask : ℕ) (text : List ℕ) (old new : Held) : Type 0 where
   pub slot : new.slot ≡ old.slot
   pub name : new.name ≡ old.name
+  pub device : new.device ≡ old.device
   pub size : new.sectors ≡ old.sectors
   pub kept : Keeps old.seen new.seen
   pub good : Drops old.good new.good old.seen new.seen
@@ -135,6 +139,7 @@ StaysTold (Some old) (Some new) = (new 0 ≡ old 0) × SameOffer old new × Rest
 pub record Stays (old new : Held) : Type 0 where
   pub slot : new.slot ≡ old.slot
   pub name : new.name ≡ old.name
+  pub device : new.device ≡ old.device
   pub size : new.sectors ≡ old.sectors
   pub half : new.half ≡ old.half
   pub kept : Keeps old.seen new.seen

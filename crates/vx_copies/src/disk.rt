@@ -17,6 +17,8 @@ const HALF: u64 = 1020;
 pub struct Disk<P> {
     /// Its name in the group, of at most 24 characters.
     pub name: Name,
+    /// The name of the device that it lies on.
+    pub device: Name,
     /// The slot, below 32.
     pub slot: u8,
     /// The sectors of the whole device, 2,049 to 2^40.

@@ -13,7 +13,7 @@ use Rattle.vx_groups.specs.declared.growing.Grown.TheVariants as grown
 
 -- the device as a disk that nothing was written to
 abbrev pub disk_for : {P : Type 0} → (P → Seen) → DiskAt → ℕ → P → Disk P
-disk_for see pair slot piece = record { name = pair.disk; slot = slot; sectors = (see piece).sectors; good = true; half = 0; piece = piece }
+disk_for see pair slot piece = record { name = pair.disk; device = pair.device; slot = slot; sectors = (see piece).sectors; good = true; half = 0; piece = piece }
 
 -- the same group, though it may have taken room
 pub record IsStill {P : Type 0} (old new : Imported P) : Type 0 where

@@ -97,11 +97,12 @@ fn imported<P>(config: Config, base: Group<P>, devices: Vec<Name>) -> Imported<P
 
 /// The device as a disk that nothing was written to.
 fn disk_for<P: Piece>(pair: &DiskAt, slot: u8, piece: P) -> Disk<P>
-    ensures { result ≡ record { name = pair.now.disk; slot = slot; sectors = (P.seen piece).sectors; good = true; half = 0; piece = piece } }
+    ensures { result ≡ record { name = pair.now.disk; device = pair.now.device; slot = slot; sectors = (P.seen piece).sectors; good = true; half = 0; piece = piece } }
 {
     let sectors = piece.sectors();
     Disk {
         name: pair.disk,
+        device: pair.device,
         slot,
         sectors,
         good: true,
@@ -115,6 +116,7 @@ fn piece_of<P>(disk: Disk<P>) -> P
 {
     let Disk {
         name: _,
+        device: _,
         slot: _,
         sectors: _,
         good: _,

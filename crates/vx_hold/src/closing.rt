@@ -96,6 +96,7 @@ fn give_disk<S: Shelf>(device: &Name, disk: Disk<S::P>, shelf: &mut S)
 {
     let Disk {
         name: _,
+        device: _,
         slot: _,
         sectors: _,
         good: _,

@@ -87,9 +87,9 @@ module _ {P : Type 0} (see : P → Seen) (group : Word) (f : Found P) (private :
   pub offer_kept : offer_told group private.told ≡ offer_told group (see f.piece).told
   offer_kept = told_same group (see f.piece).told private.told front
 
-  module _ (of : IsOf group (looked see f)) (read : HasReading (looked see f)) (readable : f.readable ≡ true) (good : Bool) where
+  module _ (of : IsOf group (looked see f)) (read : HasReading (looked see f)) (readable : f.readable ≡ true) (good : Bool) (device : Word) where
     -- it can take part in a commit
-    pub ready : IsReady (disk_of good (looked see f) private)
+    pub ready : IsReady (disk_of good device (looked see f) private)
     ready = record {
       slot = f.header.slot_below;
       half = half_below f.reading;
@@ -98,11 +98,11 @@ module _ {P : Type 0} (see : P → Seen) (group : Word) (f : Found P) (private :
     }
 
     -- its header says what the disk says
-    pub member_of : IsMemberOf group (disk_of good (looked see f) private)
+    pub member_of : IsMemberOf group (disk_of good device (looked see f) private)
     member_of = λ is. subst (λ g. Says (record { group = g; disk = f.header.disk; slot = f.header.slot; sectors = f.header.sectors }) private.told) of.group_is (says_label (label_of f.header) (see f.piece).told private.told of.headed front)
 
     -- it offers nothing above what was chosen
-    pub below : (last : ℕ) → IfToggle (λ n. n ≤ last) (looked see f) → IsBelow group last (disk_of good (looked see f) private)
+    pub below : (last : ℕ) → IfToggle (λ n. n ≤ last) (looked see f) → IsBelow group last (disk_of good device (looked see f) private)
     below last is = subst (λ (x : Option Offer). MatchOption x (Unit {0}) (λ o. o.sequence ≤ last)) (sym offer_kept) (by (see f.piece).told refl)
       where
         by : (o : Option Contents) → (see f.piece).told ≡ o → MatchOption (offer_told group (see f.piece).told) (Unit {0}) (λ o. o.sequence ≤ last)

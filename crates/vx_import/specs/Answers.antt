@@ -124,5 +124,5 @@ abbrev pub IsNewestOf : Word → ℕ → List Looked → Type 0
 IsNewestOf group sequence fs = (missing : ℕ) (others : List Copy) → AllOf Tells fs → AreApart missing fs → AllOf (IsElsewhere fs) others → IsChained missing (copies_with group others fs) → AllUpTo sequence (copies_with group others fs)
 
 -- the disk that a device becomes, with the private region that was split off
-abbrev pub disk_of : Bool → Looked → Seen → Held
-disk_of good f private = record { name = f.label.disk; slot = f.label.slot; sectors = f.label.sectors; good = good; half = half_in f.reading; seen = private }
+abbrev pub disk_of : Bool → Word → Looked → Seen → Held
+disk_of good device f private = record { name = f.label.disk; device = device; slot = f.label.slot; sectors = f.label.sectors; good = good; half = half_in f.reading; seen = private }

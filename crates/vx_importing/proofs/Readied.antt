@@ -119,15 +119,15 @@ disk_slots (f ∷ fs) = ap (λ ns. f.looked.label.slot ∷ ns) (disk_slots fs)
 module _ {P : Type 0} (see : P → Seen) (dg : Word) (last : ℕ) where
   -- a device that can be read is ready as a disk, and offers nothing above the highest sequence
   abbrev Commits : Looked → Type 0
-  Commits l = l.readable ≡ true → IsReady (disk_of true l l.seen) × IsMemberOf dg (disk_of true l l.seen) × IsBelow dg last (disk_of true l l.seen)
+  Commits l = l.readable ≡ true → (device : Word) → IsReady (disk_of true device l l.seen) × IsMemberOf dg (disk_of true device l l.seen) × IsBelow dg last (disk_of true device l l.seen)
 
   all_commit : (fs : List (Found P)) → AllOf IsPrivate (map (looked see) fs) → AllOf (IsOf dg) (map (looked see) fs) → AllOf HasReading (map (looked see) fs) → AllOf (IfToggle (λ n. n ≤ last)) (map (looked see) fs) → AllOf Commits (map (looked see) fs)
   all_commit [] private of read up = tt
   all_commit (f ∷ fs) private of read up = (
-    λ readable. (
-      ready see dg f (see f.piece) private.0 (own_front (see f.piece).told) of.0 read.0 readable true,
-      member_of see dg f (see f.piece) private.0 (own_front (see f.piece).told) of.0 read.0 readable true,
-      below see dg f (see f.piece) private.0 (own_front (see f.piece).told) of.0 read.0 readable true last up.0,
+    λ readable device. (
+      ready see dg f (see f.piece) private.0 (own_front (see f.piece).told) of.0 read.0 readable true device,
+      member_of see dg f (see f.piece) private.0 (own_front (see f.piece).told) of.0 read.0 readable true device,
+      below see dg f (see f.piece) private.0 (own_front (see f.piece).told) of.0 read.0 readable true device last up.0,
     ),
     all_commit fs private.1 of.1 read.1 up.1,
   )
@@ -172,10 +172,10 @@ module _ {P : Type 0} (see : P → Seen) (dg : Word) (finds : Finds P) (looks : 
 
   -- it can take the commit as a disk
   abbrev Three : Find → Type 0
-  Three f = IsReady (disk_of true f.looked f.looked.seen) × IsMemberOf dg (disk_of true f.looked f.looked.seen) × IsBelow dg given.sequence (disk_of true f.looked f.looked.seen)
+  Three f = IsReady (disk_of true f.name f.looked f.looked.seen) × IsMemberOf dg (disk_of true f.name f.looked f.looked.seen) × IsBelow dg given.sequence (disk_of true f.name f.looked f.looked.seen)
 
   good_commits : AllOf Three goods
-  good_commits = all_two (λ f. f.looked.readable ≡ true) (λ f. Commits see dg given.sequence f.looked) Three (λ f can on. on can) goods readable (all_good given.good (λ f. Commits see dg given.sequence f.looked) fs commits)
+  good_commits = all_two (λ f. f.looked.readable ≡ true) (λ f. Commits see dg given.sequence f.looked) Three (λ f can on. on can f.name) goods readable (all_good given.good (λ f. Commits see dg given.sequence f.looked) fs commits)
 
   -- a record with each good slot
   module _ (after : Config) (text : List ℕ) (set : IsReadied dg given.good (labels_of finds.found.items) after text) where
@@ -193,16 +193,16 @@ module _ {P : Type 0} (see : P → Seen) (dg : Word) (finds : Finds P) (looks : 
     -- the disks that were made of them
     pub committable : (c : Chosen P) → chosen_seen see c ≡ disks_in goods → AreCommittable see dg given.sequence after c
     committable c same = record {
-      ready = on IsReady (all_each Three (λ f. IsReady (disk_of true f.looked f.looked.seen)) (λ f h. h.0) goods good_commits);
-      headed = on (IsMemberOf dg) (all_each Three (λ f. IsMemberOf dg (disk_of true f.looked f.looked.seen)) (λ f h. h.1) goods good_commits);
-      below = on (IsBelow dg given.sequence) (all_each Three (λ f. IsBelow dg given.sequence (disk_of true f.looked f.looked.seen)) (λ f h. h.2) goods good_commits);
+      ready = on IsReady (all_each Three (λ f. IsReady (disk_of true f.name f.looked f.looked.seen)) (λ f h. h.0) goods good_commits);
+      headed = on (IsMemberOf dg) (all_each Three (λ f. IsMemberOf dg (disk_of true f.name f.looked f.looked.seen)) (λ f h. h.1) goods good_commits);
+      below = on (IsBelow dg given.sequence) (all_each Three (λ f. IsBelow dg given.sequence (disk_of true f.name f.looked f.looked.seen)) (λ f h. h.2) goods good_commits);
       sized = all_unmapped (λ h. h.seen.sectors ≡ h.sectors) (disk_held see) c.disks.items (on (λ h. h.seen.sectors ≡ h.sectors) (all_each (IsOfGroup dg) (λ f. f.looked.seen.sectors ≡ f.looked.label.sectors) (λ f of. sym of.size) goods (all_good given.good (IsOfGroup dg) fs looks.each)));
       slots = slots_differ see c.disks.items (subst ArePlaced (sym (ap (map (λ h. h.slot)) same ∙ disk_slots goods)) (good_placed given.good fs placed));
       recorded = all_unmapped (λ h. IsRecorded after.disks h.slot) (disk_held see) c.disks.items (on (λ h. IsRecorded after.disks h.slot) recorded);
     }
       where
-        on : (Q : DiskHeld → Type 0) → AllOf (λ f. Q (disk_of true f.looked f.looked.seen)) goods → AllOf Q (chosen_seen see c)
-        on Q all = subst (AllOf Q) (sym same) (all_mapped Q (λ f. disk_of true f.looked f.looked.seen) goods all)
+        on : (Q : DiskHeld → Type 0) → AllOf (λ f. Q (disk_of true f.name f.looked f.looked.seen)) goods → AllOf Q (chosen_seen see c)
+        on Q all = subst (AllOf Q) (sym same) (all_mapped Q (λ f. disk_of true f.name f.looked f.looked.seen) goods all)
 
 pub made_long : {P : Type 0} (see : P → Seen) (gs : List Find) (ds : List (Disk P)) → map (disk_held see) ds ≡ disks_in gs → length ds ≡ length gs
 made_long see [] [] is = refl

@@ -26,7 +26,7 @@ names_of fs = map (λ f. f.name) fs
 
 -- what a device is as a good disk
 abbrev pub disk_in : Find → DiskHeld
-disk_in f = disk_of true f.looked f.looked.seen
+disk_in f = disk_of true f.name f.looked f.looked.seen
 
 abbrev pub disks_in : List Find → List DiskHeld
 disks_in fs = map disk_in fs
@@ -44,7 +44,7 @@ pub record IsChosenFirst {P : Type 0} (see : P → Seen) (name : Word) (f : Look
   pub disk : Disk P
   pub devices_are : new.devices.items ≡ name ∷ old.devices.items
   pub disks_are : new.disks.items ≡ disk ∷ old.disks.items
-  pub disk_is : disk_held see disk ≡ disk_of true f f.seen
+  pub disk_is : disk_held see disk ≡ disk_of true name f f.seen
   pub held_is : held' ≡ held
   pub free_is : free' ≡ free
 

@@ -105,6 +105,7 @@ fn sort_one<S: Shelf>(
     } = one;
     let disk = Disk {
         name: header.disk,
+        device,
         slot: header.slot,
         sectors: header.sectors,
         good: true,

@@ -120,6 +120,7 @@ fn put<P: Piece>(taken: &mut Taken<P>, pair: &DiskAt, piece: P, headed: bool)
     taken.devices.push_reserved(pair.device);
     taken.disks.push_reserved(Disk {
         name: pair.disk,
+        device: pair.device,
         slot,
         sectors,
         good: true,

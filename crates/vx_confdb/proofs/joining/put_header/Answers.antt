@@ -13,6 +13,7 @@ returns-in-Ok-clause-prepares g c =
     record {
       slot = refl;
       name = refl;
+      device = refl;
       size = refl;
       half = refl;
       kept = c.write.ensures.kept;
@@ -27,6 +28,7 @@ returns-in-Err-Failed-clause-prepares g c =
     record {
       slot = refl;
       name = refl;
+      device = refl;
       size = refl;
       half = refl;
       kept = c.write.ensures.kept;
@@ -41,6 +43,7 @@ returns-in-Err-PowerLost-clause-prepares g c =
     record {
       slot = refl;
       name = refl;
+      device = refl;
       size = refl;
       half = refl;
       kept = c.write.ensures.kept;
@@ -60,13 +63,13 @@ returns-in-Ok-clause-ends g c =
     }
 
 pub returns-in-Ok-clause-fronts : goal.returns-in-Ok-clause-fronts
-returns-in-Ok-clause-fronts g c = front_write c.put.new.out 0 (held g.P.Piece.seen c.args.disk.now) (record { name = c.args.disk.now.name; slot = c.args.disk.now.slot; sectors = c.args.disk.now.sectors; good = c.args.disk.now.good; half = c.args.disk.now.half; seen = g.P.Piece.seen c.write.new.self }) c.write.result (c.put.auto.out ∙ c.requires.size) (omega arith) c.write.ensures.told
+returns-in-Ok-clause-fronts g c = front_write c.put.new.out 0 (held g.P.Piece.seen c.args.disk.now) (record { name = c.args.disk.now.name; device = c.args.disk.now.device; slot = c.args.disk.now.slot; sectors = c.args.disk.now.sectors; good = c.args.disk.now.good; half = c.args.disk.now.half; seen = g.P.Piece.seen c.write.new.self }) c.write.result (c.put.auto.out ∙ c.requires.size) (omega arith) c.write.ensures.told
 
 pub returns-in-Err-Failed-clause-fronts : goal.returns-in-Err-Failed-clause-fronts
-returns-in-Err-Failed-clause-fronts g c = front_write c.put.new.out 0 (held g.P.Piece.seen c.args.disk.now) (record { name = c.args.disk.now.name; slot = c.args.disk.now.slot; sectors = c.args.disk.now.sectors; good = false; half = c.args.disk.now.half; seen = g.P.Piece.seen c.write.new.self }) c.write.result (c.put.auto.out ∙ c.requires.size) (omega arith) c.write.ensures.told
+returns-in-Err-Failed-clause-fronts g c = front_write c.put.new.out 0 (held g.P.Piece.seen c.args.disk.now) (record { name = c.args.disk.now.name; device = c.args.disk.now.device; slot = c.args.disk.now.slot; sectors = c.args.disk.now.sectors; good = false; half = c.args.disk.now.half; seen = g.P.Piece.seen c.write.new.self }) c.write.result (c.put.auto.out ∙ c.requires.size) (omega arith) c.write.ensures.told
 
 pub returns-in-Err-PowerLost-clause-fronts : goal.returns-in-Err-PowerLost-clause-fronts
-returns-in-Err-PowerLost-clause-fronts g c = front_write c.put.new.out 0 (held g.P.Piece.seen c.args.disk.now) (record { name = c.args.disk.now.name; slot = c.args.disk.now.slot; sectors = c.args.disk.now.sectors; good = c.args.disk.now.good; half = c.args.disk.now.half; seen = g.P.Piece.seen c.write.new.self }) c.write.result (c.put.auto.out ∙ c.requires.size) (omega arith) c.write.ensures.told
+returns-in-Err-PowerLost-clause-fronts g c = front_write c.put.new.out 0 (held g.P.Piece.seen c.args.disk.now) (record { name = c.args.disk.now.name; device = c.args.disk.now.device; slot = c.args.disk.now.slot; sectors = c.args.disk.now.sectors; good = c.args.disk.now.good; half = c.args.disk.now.half; seen = g.P.Piece.seen c.write.new.self }) c.write.result (c.put.auto.out ∙ c.requires.size) (omega arith) c.write.ensures.told
 
 pub returns-in-Ok-clause-just : goal.returns-in-Ok-clause-just
-returns-in-Ok-clause-just g c = λ done good. front_just c.put.new.out 0 (held g.P.Piece.seen c.args.disk.now) (record { name = c.args.disk.now.name; slot = c.args.disk.now.slot; sectors = c.args.disk.now.sectors; good = c.args.disk.now.good; half = c.args.disk.now.half; seen = g.P.Piece.seen c.write.new.self }) c.write.result c.in-Ok.field-0 (c.put.auto.out ∙ c.requires.size) c.in-Ok.is c.write.ensures.off c.write.ensures.told
+returns-in-Ok-clause-just g c = λ done good. front_just c.put.new.out 0 (held g.P.Piece.seen c.args.disk.now) (record { name = c.args.disk.now.name; device = c.args.disk.now.device; slot = c.args.disk.now.slot; sectors = c.args.disk.now.sectors; good = c.args.disk.now.good; half = c.args.disk.now.half; seen = g.P.Piece.seen c.write.new.self }) c.write.result c.in-Ok.field-0 (c.put.auto.out ∙ c.requires.size) c.in-Ok.is c.write.ensures.off c.write.ensures.told

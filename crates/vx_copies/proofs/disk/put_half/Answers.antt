@@ -10,6 +10,7 @@ pub returns-in-Ok-clause-stays : goal.returns-in-Ok-clause-stays
 returns-in-Ok-clause-stays g c = record {
   slot = refl;
   name = refl;
+  device = refl;
   size = refl;
   half = refl;
   kept = c.write.ensures.kept;
@@ -30,6 +31,7 @@ pub returns-in-Err-Failed-clause-stays : goal.returns-in-Err-Failed-clause-stays
 returns-in-Err-Failed-clause-stays g c = record {
   slot = refl;
   name = refl;
+  device = refl;
   size = refl;
   half = refl;
   kept = c.write.ensures.kept;
@@ -42,6 +44,7 @@ pub returns-in-Err-PowerLost-clause-stays : goal.returns-in-Err-PowerLost-clause
 returns-in-Err-PowerLost-clause-stays g c = record {
   slot = refl;
   name = refl;
+  device = refl;
   size = refl;
   half = refl;
   kept = c.write.ensures.kept;

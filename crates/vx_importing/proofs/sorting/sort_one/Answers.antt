@@ -11,10 +11,10 @@ returns-clause-sorted g c =
     (g.S.Shelf.held c.args.shelf.now) (g.S.Shelf.held c.args.shelf.now) (g.S.Shelf.free c.args.shelf.now) (g.S.Shelf.free c.args.shelf.now)
     (sym c.contains.ensures ∙ c.if-not-contains.false)
     (record {
-      disk = record { name = c.args.one.header.disk; slot = c.args.one.header.slot; sectors = c.args.one.header.sectors; good = true; half = c.half_of-half.result; piece = c.args.one.piece };
+      disk = record { name = c.args.one.header.disk; device = c.args.device; slot = c.args.one.header.slot; sectors = c.args.one.header.sectors; good = true; half = c.half_of-half.result; piece = c.args.one.piece };
       devices_are = c.put_first.ensures.devices;
       disks_are = c.put_first.ensures.disks;
-      disk_is = ap (λ (h : ℕ). (let x : Held = record { name = c.args.one.header.disk; slot = c.args.one.header.slot; sectors = c.args.one.header.sectors; good = true; half = h; seen = g.S.P.Piece.seen c.args.one.piece } in x)) c.half_of-half.ensures.names;
+      disk_is = ap (λ (h : ℕ). (let x : Held = record { name = c.args.one.header.disk; device = c.args.device; slot = c.args.one.header.slot; sectors = c.args.one.header.sectors; good = true; half = h; seen = g.S.P.Piece.seen c.args.one.piece } in x)) c.half_of-half.ensures.names;
       held_is = refl;
       free_is = refl;
     })

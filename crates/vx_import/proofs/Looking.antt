@@ -16,10 +16,11 @@ use Rattle.vx_import.specs.declared.found.Found.{Found}
 use Rattle.vx_import.specs.declared.found.Reading.{Reading}
 
 pub reads_refl : (a : Looked) → Reads a a
-reads_refl a = record { label = refl; reading = refl; kept = keeps_refl a.seen; same = record { told = refl; writes = refl }; readable = drops_refl a.readable a.seen }
+reads_refl a = record { device = refl; label = refl; reading = refl; kept = keeps_refl a.seen; same = record { told = refl; writes = refl }; readable = drops_refl a.readable a.seen }
 
 pub reads_trans : (a b c : Looked) → Reads a b → Reads b c → Reads a c
 reads_trans a b c p q = record {
+  device = q.device ∙ p.device;
   label = q.label ∙ p.label;
   reading = q.reading ∙ p.reading;
   kept = keeps_trans _ _ _ p.kept q.kept;

@@ -18,10 +18,11 @@ use Rattle.vx_import.specs.declared.found.Found.{Found}
 use Rattle.vx_import.specs.declared.found.Reading.{Reading}
 
 pub inspects_refl : (a : Looked) → Inspects a a
-inspects_refl a = record { label = refl; kept = keeps_refl a.seen; same = record { told = refl; writes = refl }; readable = drops_refl a.readable a.seen }
+inspects_refl a = record { device = refl; label = refl; kept = keeps_refl a.seen; same = record { told = refl; writes = refl }; readable = drops_refl a.readable a.seen }
 
 pub inspects_trans : (a b c : Looked) → Inspects a b → Inspects b c → Inspects a c
 inspects_trans a b c p q = record {
+  device = q.device ∙ p.device;
   label = q.label ∙ p.label;
   kept = keeps_trans _ _ _ p.kept q.kept;
   same = record { told = q.same.told ∙ p.same.told; writes = q.same.writes ∙ p.same.writes };
@@ -29,7 +30,7 @@ inspects_trans a b c p q = record {
 }
 
 pub inspects_by : (a b : Looked) → Reads a b → Inspects a b
-inspects_by a b is = record { label = is.label; kept = is.kept; same = is.same; readable = is.readable }
+inspects_by a b is = record { device = is.device; label = is.label; kept = is.kept; same = is.same; readable = is.readable }
 
 module _ (Q : Looked → Type 0) (on : (a b : Looked) → Inspects a b → Q a → Q b) where
   pub all_over : (xs ys : List Looked) → Each Inspects xs ys → AllOf Q xs → AllOf Q ys

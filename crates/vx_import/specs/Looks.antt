@@ -37,13 +37,14 @@ pub record IsReading (reading : Reading) (sector : List ℕ) : Type 0 where
 
 -- a device with what was read of it
 pub record Looked : Type 0 where
+  pub device : Word
   pub label : Label
   pub readable : Bool
   pub reading : Reading
   pub seen : Seen
 
 abbrev pub looked : {P : Type 0} → (P → Seen) → Found P → Looked
-looked see f = record { label = label_of f.header; readable = f.readable; reading = f.reading; seen = see f.piece }
+looked see f = record { device = f.device; label = label_of f.header; readable = f.readable; reading = f.reading; seen = see f.piece }
 
 -- the device has a private region
 abbrev pub IsPrivate : Looked → Type 0
@@ -65,6 +66,7 @@ toggle_read f = if f.readable then said_in f.reading else None
 
 -- what reading does to a device: it can be read until a read fails
 pub record Reads (old new : Looked) : Type 0 where
+  pub device : new.device ≡ old.device
   pub label : new.label ≡ old.label
   pub reading : new.reading ≡ old.reading
   pub kept : Keeps old.seen new.seen

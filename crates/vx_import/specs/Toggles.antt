@@ -11,6 +11,7 @@ use Rattle.vx_import.specs.declared.toggles.Passed.TheVariants.{Done, Cut}
 
 -- what an inspection does to a device: nothing is written, and it can be read until a read fails
 pub record Inspects (old new : Looked) : Type 0 where
+  pub device : new.device ≡ old.device
   pub label : new.label ≡ old.label
   pub kept : Keeps old.seen new.seen
   pub same : IsRead old.seen new.seen

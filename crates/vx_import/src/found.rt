@@ -2,6 +2,7 @@ ghost use Rattle.std.specs.Prelude.{◌≡◌, ◌<◌};
 ghost use Rattle.vx_import.specs.Looks.{half_in};
 
 use vx_header::{Header, Toggle};
+use vx_names::Name;
 
 /// What the second sector of a private region says.
 #[derive(Clone, Copy)]
@@ -16,6 +17,8 @@ pub enum Reading {
 /// A device that counts for a group, and what was read of it.
 #[derive(Drop)]
 pub struct Found<P> {
+    /// Its name.
+    pub device: Name,
     pub header: Header,
     /// Whether no read of it has failed.
     pub readable: bool,

@@ -140,6 +140,7 @@ fn keep<S: Shelf>(
         None => shelf.give(name, piece),
         Some(place) => {
             let found = Found {
+                device: *name,
                 header,
                 readable: true,
                 reading: Reading::Blank,

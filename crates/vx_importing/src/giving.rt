@@ -38,6 +38,7 @@ pub(crate) fn give_found<S: Shelf>(device: &Name, found: Found<S::P>, shelf: &mu
     ensures later { S.faults shelf.old ≤ S.faults shelf.new }
 {
     let Found {
+        device: _,
         header: _,
         readable: _,
         reading: _,

@@ -98,6 +98,7 @@ fn sort_one<S: Shelf>(
     }
     let half = half_of(&one.reading);
     let Found {
+        device: _,
         header,
         readable: _,
         reading: _,

@@ -11,7 +11,7 @@ use Rattle.vx_objects.specs.declared.config.Config.{Config}
 use Rattle.vx_answers.specs.declared.answer.End.{End}
 use Rattle.vx_answers.specs.declared.answer.End.TheVariants.{GroupLost, Lost}
 use Rattle.vx_moments.specs.World.{World, Device, Member, Group}
-use Rattle.vx_moments.specs.Moment.{Moment, Counts, HasFailed, IsQuiet}
+use Rattle.vx_moments.specs.Moment.{Moment, Counts, HasFailed}
 use Rattle.vx_moments.specs.Copies.{IsTextOf, label_of, IsStruck, IsEntered, IsCurrent}
 
 -- a group that is to be written, and the members that join by it
@@ -66,6 +66,10 @@ IsNoDeviceOf members name = AnyOf (λ m. m.device ≡ name) members → ⊥
 abbrev pub sectors_of : List ℕ → ℕ
 sectors_of text = sectors_for (length text) + 1
 
+-- no device has failed
+abbrev pub NoneFailed : Counts → Counts → Type 0
+NoneFailed old new = (name : Word) → HasFailed old new name → ⊥
+
 -- What a commit leaves, at whichever device call it ends, with the number of its last attempt.
 pub record IsCommitting (x : Writing) (last : ℕ) (old new : Moment) : Type 0 where
   pub text_is : IsTextOf x.config x.text
@@ -73,7 +77,7 @@ pub record IsCommitting (x : Writing) (last : ℕ) (old new : Moment) : Type 0 w
   pub from : x.group.sequence ≤ last
   pub up_to : last ≤ x.group.sequence + 32
   -- a second attempt follows a failure alone
-  pub once : IsQuiet old.counts new.counts → last ≤ x.group.sequence + 1
+  pub once : NoneFailed old.counts new.counts → last ≤ x.group.sequence + 1
   pub members : AllOf (MemberGoes x last old new) x.group.members
   pub joiners : AllOf (JoinerGoes x last old new) x.joiners
   pub others : (name : Word) → IsNoDeviceOf (parties x) name → new.world.devices name ≡ old.world.devices name
@@ -109,7 +113,7 @@ pub record IsCommitted (x : Writing) (old new : Moment) : Type 0 where
   pub some : AnyOf (λ m. has good m.slot ≡ true) x.carriers
   pub carrying : AllOf (IsCarrying x last good new.world) (parties x)
   pub headed : AllOf (IsHeaded x good new.world) x.joiners
-  pub exact : IsQuiet old.counts new.counts → AllOf (WritesOnce (sectors_of x.text) good old.counts new.counts) x.group.members × AllOf (WritesOnce (sectors_of x.text + 2) good old.counts new.counts) x.joiners
+  pub exact : NoneFailed old.counts new.counts → AllOf (WritesOnce (sectors_of x.text) good old.counts new.counts) x.group.members × AllOf (WritesOnce (sectors_of x.text + 2) good old.counts new.counts) x.joiners
 
 -- each carrier that was written has failed
 abbrev pub CarriersFailed : Writing → Counts → Counts → Type 0

@@ -21,11 +21,9 @@ pub record Moment : Type 0 where
   pub world : World
   pub counts : Counts
 
--- no count falls, and the power does not come back
+-- no count of faults falls, and the power does not come back
 pub record AreLater (old new : Counts) : Type 0 where
   pub faults : (name : Word) → old.faults name ≤ new.faults name
-  pub reads : (name : Word) → old.reads name ≤ new.reads name
-  pub writes : (name : Word) → old.writes name ≤ new.writes name
   pub cut : (name : Word) → IsTrue (old.cut name) → IsTrue (new.cut name)
   pub shelf : old.shelf ≤ new.shelf
 

@@ -14,7 +14,7 @@ between : (a b c : ℕ) → a ≤ b → b ≤ c → c ≡ a → c ≡ b
 between a b c low high same = omega arith
 
 pub later_self : (c : Counts) → AreLater c c
-later_self c = record { faults = λ name. omega arith; reads = λ name. omega arith; writes = λ name. omega arith; cut = λ name is. is; shelf = omega arith }
+later_self c = record { faults = λ name. omega arith; cut = λ name is. is; shelf = omega arith }
 
 through : (a b c : ℕ) → a ≤ b → b ≤ c → a ≤ c
 through a b c first next = omega arith
@@ -22,8 +22,6 @@ through a b c first next = omega arith
 pub later_on : (a b c : Counts) → AreLater a b → AreLater b c → AreLater a c
 later_on a b c first next = record {
   faults = λ name. through (a.faults name) (b.faults name) (c.faults name) (first.faults name) (next.faults name);
-  reads = λ name. through (a.reads name) (b.reads name) (c.reads name) (first.reads name) (next.reads name);
-  writes = λ name. through (a.writes name) (b.writes name) (c.writes name) (first.writes name) (next.writes name);
   cut = λ name is. next.cut name (first.cut name is);
   shelf = through a.shelf b.shelf c.shelf first.shelf next.shelf;
 }

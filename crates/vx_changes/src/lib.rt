@@ -1,0 +1,15 @@
+//! The stages that commit to the imported group: a change of its configuration, a disk that joins it, a group that is made.
+#![tactic(auto)]
+
+mod changing;
+mod committing;
+mod creating;
+mod founding;
+mod handing;
+mod joining;
+mod planning;
+mod slots;
+
+pub use changing::change;
+pub use creating::create;
+pub use joining::join;

@@ -1,0 +1,59 @@
+-- A call of one of the started volumes, by its tests.
+use Rattle.std.proofs.Common.{◌≡◌, ◌∙◌, ◌+◌, ◌<◌, ◌≤◌, Bool, true, false, cond, List, [], ◌∷◌, ◌++◌, Option, Some, refl, sym, ap, subst}
+use Rattle.std.specs.BTreeMap.{BTreeMap, get}
+use Rattle.std.specs.Cmp.Lexicographic.{slice_cmp}
+use Rattle.std.specs.Map.{lookup, set_value}
+use Rattle.std.specs.Ordering.{nat_cmp, is_eq}
+use Rattle.std.specs.Prelude.{MatchBool, Result, Ok, Err, IfOk}
+use Rattle.std.proofs.lemmas.Bool.{le-ltb, lt-ltb}
+use Rattle.std.proofs.lemmas.Map.Text.{is_eq-slice_cmp}
+use Rattle.vx_base.specs.Named.{Word, put, SameUnder}
+use Rattle.vx_piece.specs.Seen.{Seen}
+use Rattle.vx_script_forms.specs.declared.call.Call.{Call}
+use Rattle.vx_answers.specs.declared.answer.End.{End}
+use Rattle.vx_answers.specs.declared.answer.End.TheVariants.{Refused}
+use Rattle.vx_answers.specs.declared.refusal.Refusal.TheVariants.{Range}
+use Rattle.vx_plans.specs.Calls.{start_of, count_of}
+use Rattle.vx_started.specs.declared.started.Started.{Started}
+use Rattle.vx_engine.specs.Calling.{IsServedAmong, ServesAmong}
+
+module _ {P : Type 0} (see : P → Seen) (call : Call) (found : Option (Started P)) (b : Started P) (is : found ≡ Some b) (old new : BTreeMap Word (Started P)) where
+  pub past_among : b.geometry.length < start_of call + count_of call → new.entries ≡ old.entries → ServesAmong see call found old new (Refused Range)
+  past_among past same =
+      subst (λ o. ServesAmong see call o old new (Refused Range)) (sym is)
+      (subst (λ t. MatchBool t ((Refused Range ≡ Refused Range) × (new.entries ≡ old.entries)) (IsServedAmong see call b (Refused Range) old new)) (sym (lt-ltb b.geometry.length (start_of call + count_of call) past)) (refl, same))
+
+  pub served_among : (end : End) → start_of call + count_of call ≤ b.geometry.length → IsServedAmong see call b end old new → ServesAmong see call found old new end
+  served_among end within served =
+      subst (λ o. ServesAmong see call o old new end) (sym is)
+      (subst (λ t. MatchBool t ((end ≡ Refused Range) × (new.entries ≡ old.entries)) (IsServedAmong see call b end old new)) (sym (le-ltb b.geometry.length (start_of call + count_of call) within)) served)
+
+-- two things that are so of what was answered
+pub both_ok : {T E : Type 0} (r : Result T E) (P Q R : T → Type 0) → ((x : T) → P x → Q x → R x) → IfOk r P → IfOk r Q → IfOk r R
+both_ok (Ok x) P Q R f p q = f x p q
+both_ok (Err e) P Q R f p q = tt
+
+pub one_ok : {T E : Type 0} (r : Result T E) (P R : T → Type 0) → ((x : T) → P x → R x) → IfOk r P → IfOk r R
+one_ok (Ok x) P R f p = f x p
+one_ok (Err e) P R f p = tt
+
+-- what stands under each name once one is put
+pub puts_as : {X : Type 0} (old new : BTreeMap Word X) (key : Word) (x : X) → ((q : Word) → get (slice_cmp nat_cmp) new q ≡ cond (is_eq (slice_cmp nat_cmp key q)) (Some x) (get (slice_cmp nat_cmp) old q)) → SameUnder (put key (Some x) (get (slice_cmp nat_cmp) old)) (get (slice_cmp nat_cmp) new)
+puts_as old new key x puts q = puts q ∙ ap (λ b. cond b (Some x) (get (slice_cmp nat_cmp) old q)) (is_eq-slice_cmp key q)
+
+-- the entry of a key that was found, once it has another value
+pub record IsSetAt {X : Type 0} (es es' : List (Word × X)) (old new : X) : Type 0 where
+  pub key : Word
+  pub before : List (Word × X)
+  pub behind : List (Word × X)
+  pub was : es ≡ before ++ (key, old) ∷ behind
+  pub is : es' ≡ before ++ (key, new) ∷ behind
+
+module _ {X : Type 0} (test : Word → Bool) (old new : X) where
+  set_by : (b : Bool) (e : Word × X) (es : List (Word × X)) → (lookup test es ≡ Some old → IsSetAt es (set_value test es new) old new) → cond b (Some e.1) (lookup test es) ≡ Some old → IsSetAt (e ∷ es) (cond b ((e.0, new) ∷ es) (e ∷ set_value test es new)) old new
+  set_by true e es more found = let same : e.1 ≡ old = cc in record { key = e.0; before = []; behind = es; was = ap (λ (x : X). (e.0, x) ∷ es) same; is = refl }
+  set_by false e es more found = let m = more found in record { key = m.key; before = e ∷ m.before; behind = m.behind; was = ap (λ xs. e ∷ xs) m.was; is = ap (λ xs. e ∷ xs) m.is }
+
+  pub set_at : (es : List (Word × X)) → lookup test es ≡ Some old → IsSetAt es (set_value test es new) old new
+  set_at [] found = cc
+  set_at (e ∷ es) found = set_by (test e.0) e es (set_at es) found

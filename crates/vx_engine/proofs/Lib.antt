@@ -1,0 +1,11 @@
+pub mod Same
+pub mod Judged
+pub mod Sound
+pub mod Kept
+pub mod Chained
+pub mod Over
+pub mod Among
+pub mod Lived
+pub mod Called
+pub mod Staged
+pub mod Said

@@ -1,0 +1,74 @@
+-- What is asked of calls and forms holds of a command of a script.
+use Rattle.std.proofs.Common.{◌≡◌, ◌<◌, ◌≤◌, ◌^◌, ℕ, nat_lt, nat_le, true, false, ◌&&◌, List, Option, Some, None, refl, sym, subst}
+use Rattle.std.specs.Prelude.{is_some, MatchOption}
+use Rattle.std.proofs.lemmas.Bool.{and_parts, leb-true, ltb-true}
+use Rattle.vx_base.specs.Named.{Word}
+use Rattle.vx_script_forms.specs.declared.call.Call.{Call}
+use Rattle.vx_script_forms.specs.declared.call.Call.TheVariants as calls
+use Rattle.vx_script_forms.specs.declared.form.Form.{Form}
+use Rattle.vx_script_forms.specs.declared.form.Form.TheVariants as form
+use Rattle.vx_script.specs.Kept.{is_said}
+use Rattle.vx_script.specs.declared.command.Command.{Command}
+use Rattle.vx_script.proofs.Calls.{read_range, fill_range}
+use Rattle.vx_answers.specs.declared.answer.End.{End}
+use Rattle.vx_answers.specs.declared.answer.View.{View}
+use Rattle.vx_moments.specs.Moment.{Moment}
+use Rattle.vx_plans.specs.Plans.{plan_of, disks_of}
+use Rattle.vx_plans.specs.Steps.{Does, DoesForm, DoesPlan, IsNotBuilt}
+use Rattle.vx_engine.specs.Calling.{IsCallIfBuilt}
+
+in_range : (start count : ℕ) → (nat_lt start (2 ^ 40) && nat_lt 0 count && nat_le count 2048) ≡ true → (start < 2 ^ 40) × (0 < count) × (count ≤ 2048)
+in_range start count e =
+    let p = and_parts (nat_lt start (2 ^ 40) && nat_lt 0 count) _ e in
+    let q = and_parts (nat_lt start (2 ^ 40)) _ p.0 in
+    (ltb-true start (2 ^ 40) q.0, ltb-true 0 count q.1, leb-true count 2048 p.1)
+
+pub call_within : (group : Option Word) (f : Form) (call : Call) → f ≡ form.Calling call → is_said group f ≡ true → IsCallIfBuilt call
+call_within group f call is said = by call (subst (λ x. is_said group x ≡ true) is said)
+  where
+    by : (c : Call) → is_said group (form.Calling c) ≡ true → IsCallIfBuilt c
+    by (calls.Read vol start count) said = in_range start count (read_range group vol start count said)
+    by (calls.Fill vol start count byte) said = in_range start count (fill_range group vol start count byte said)
+    by (calls.Data vol start blocks) said = tt
+
+-- how a command goes from one moment to the next
+abbrev Goings : Type 1
+Goings = Moment → List View → End → Moment → Type 0
+
+-- a form that is no call does what its plan does
+pub other_form : (Q : Goings → Type 0) (place : ℕ) (dg : Option Word) (x : Form) → ((call : Call) → x ≡ form.Calling call → ⊥) → Q (DoesPlan (disks_of x) (plan_of dg x)) → Q (DoesForm place dg x)
+other_form Q place dg (form.Calling call) none q = absurd (none call refl)
+other_form Q place dg (form.MkImage a b) none q = q
+other_form Q place dg (form.Bare a b) none q = q
+other_form Q place dg (form.DgInit a b) none q = q
+other_form Q place dg (form.DgAddDisk a b) none q = q
+other_form Q place dg (form.DgImport a) none q = q
+other_form Q place dg (form.DgDeport a) none q = q
+other_form Q place dg (form.DiskUnsetup a) none q = q
+other_form Q place dg (form.PrintM a) none q = q
+other_form Q place dg (form.VxMake a) none q = q
+other_form Q place dg (form.PrintHt a) none q = q
+other_form Q place dg (form.AssistMake a b d e) none q = q
+other_form Q place dg (form.Mirror a b) none q = q
+other_form Q place dg (form.RemoveVolume a) none q = q
+other_form Q place dg (form.Start a) none q = q
+other_form Q place dg (form.Stop a) none q = q
+other_form Q place dg (form.Rdpol a b) none q = q
+other_form Q place dg (form.PlexDis a b) none q = q
+other_form Q place dg (form.Prepare a b d) none q = q
+other_form Q place dg (form.Unprepare a) none q = q
+other_form Q place dg (form.AddMir a b) none q = q
+other_form Q place dg (form.Dis a) none q = q
+other_form Q place dg (form.Split a) none q = q
+other_form Q place dg (form.PrintSnaps a) none q = q
+other_form Q place dg (form.Recover a) none q = q
+other_form Q place dg (form.Acting a) none q = q
+other_form Q place dg (form.Sessions a) none q = q
+
+-- a command without a word `cut=N` does what its form does
+pub uncut_form : (Q : Goings → Type 0) (place : ℕ) (c : Command) (x : Form) → c.form ≡ x → is_some c.cut ≡ false → Q (DoesForm place c.group x) → Q (Does place c)
+uncut_form Q place c x is none q = by c.cut none
+  where
+    by : (o : Option ℕ) → is_some o ≡ false → Q (λ m views end n. MatchOption o (DoesForm place c.group c.form m views end n) (λ k. IsNotBuilt m views end n))
+    by None e = subst (λ f. Q (DoesForm place c.group f)) (sym is) q
+    by (Some n) e = cc

@@ -1,0 +1,38 @@
+use Rattle.vx_house.specs.Scene.{shelved}
+use Rattle.vx_engine.proofs.stages.run_stage.Goals as goal
+
+pub returns-in-LookBlank : goal.returns-in-LookBlank
+returns-in-LookBlank g c = record { goes = rw c.in-LookBlank.is (c.look_blank.ensures.goes c.in-LookBlank.field-0 c.args.disks.now (shelved g.S.Shelf.free g.S.Shelf.held g.S.Shelf.counted g.S.Shelf.faults c.args.shelf.now) (rw c.in-LookBlank.is at c.requires.ready) c.requires.keeps.devices) }
+
+pub returns-in-LookDisks : goal.returns-in-LookDisks
+returns-in-LookDisks g c = record { goes = rw c.in-LookDisks.is (c.look_disks.ensures.goes c.args.disks.now (shelved g.S.Shelf.free g.S.Shelf.held g.S.Shelf.counted g.S.Shelf.faults c.args.shelf.now) (rw c.in-LookDisks.is at c.requires.ready) c.requires.keeps.devices) }
+
+pub returns-in-LookHeaded : goal.returns-in-LookHeaded
+returns-in-LookHeaded g c = record { goes = rw c.in-LookHeaded.is (c.look_headed.ensures.goes (shelved g.S.Shelf.free g.S.Shelf.held g.S.Shelf.counted g.S.Shelf.faults c.args.shelf.now) c.requires.keeps.devices) }
+
+pub returns-in-MakeImage : goal.returns-in-MakeImage
+returns-in-MakeImage g c = record { goes = rw c.in-MakeImage.is (c.make_image.ensures.goes c.args.disks.now) }
+
+pub returns-in-Wipe : goal.returns-in-Wipe
+returns-in-Wipe g c = record { goes = rw c.in-Wipe.is (c.wipe.ensures.goes (shelved g.S.Shelf.free g.S.Shelf.held g.S.Shelf.counted g.S.Shelf.faults c.args.shelf.now) c.requires.keeps.devices) }
+
+pub returns-in-StartBare : goal.returns-in-StartBare
+returns-in-StartBare g c = record { goes = rw c.in-StartBare.is (c.start_bare.ensures.goes (shelved g.S.Shelf.free g.S.Shelf.held g.S.Shelf.counted g.S.Shelf.faults c.args.shelf.now) c.requires.keeps.devices) }
+
+pub returns-in-Change : goal.returns-in-Change
+returns-in-Change g c = record { goes = rw c.in-Change.is (c.change.ensures.goes c.args.disks.now (shelved g.S.Shelf.free g.S.Shelf.held g.S.Shelf.counted g.S.Shelf.faults c.args.shelf.now) (rw c.in-Change.is at c.requires.ready) c.requires.keeps.devices) }
+
+pub returns-in-Gate : goal.returns-in-Gate
+returns-in-Gate g c = record { goes = rw c.in-Gate.is (c.pass.ensures.goes (shelved g.S.Shelf.free g.S.Shelf.held g.S.Shelf.counted g.S.Shelf.faults c.args.shelf.now) c.requires.keeps) }
+
+pub returns-in-LetGo : goal.returns-in-LetGo
+returns-in-LetGo g c = record { goes = rw c.in-LetGo.is (c.let_go.ensures.goes c.args.disks.now) }
+
+pub returns-in-Take : goal.returns-in-Take
+returns-in-Take g c = record { goes = rw c.in-Take.is (c.take.ensures.goes c.args.disks.now (rw c.in-Take.is at c.requires.ready)) }
+
+pub returns-in-Join : goal.returns-in-Join
+returns-in-Join g c = record { goes = rw c.in-Join.is (c.join.ensures.goes (shelved g.S.Shelf.free g.S.Shelf.held g.S.Shelf.counted g.S.Shelf.faults c.args.shelf.now) c.requires.keeps.devices) }
+
+pub returns-in-Create : goal.returns-in-Create
+returns-in-Create g c = record { goes = rw c.in-Create.is (c.create.ensures.goes (shelved g.S.Shelf.free g.S.Shelf.held g.S.Shelf.counted g.S.Shelf.faults c.args.shelf.now) c.requires.keeps.devices) }

@@ -1,0 +1,48 @@
+-- Plans whose stages find what they need.
+use Rattle.std.specs.Prelude.{◌≡◌, ◌≤◌, ◌^◌, Bool, true, false, Option, Some, None, List, [], ◌∷◌, ◌++◌}
+use Rattle.vx_base.specs.Named.{Word}
+use Rattle.vx_copies.specs.Lists.{AllOf, AnyOf}
+use Rattle.vx_plans.specs.declared.stage.Stage.{Stage}
+use Rattle.vx_plans.specs.declared.stage.Stage.TheVariants as stage
+use Rattle.vx_plans.specs.declared.stages.Finish.{Finish}
+use Rattle.vx_plans.specs.declared.stages.Finish.TheVariants.{Nothing, Records}
+use Rattle.vx_plans.specs.declared.test.Test.TheVariants as tests
+use Rattle.vx_house.specs.Goes.{wanted, is_first}
+
+-- the stage is among these
+abbrev pub IsAmong : List Stage → Stage → Type 0
+IsAmong done s = AnyOf (λ d. d ≡ s) done
+
+-- each stage finds those done that it needs, and those that begin with an empty hand come first
+abbrev pub AreFed : List Stage → List Stage → Type 0
+AreFed done [] = Unit {0}
+AreFed done (s ∷ ss) = ((is_first s ≡ true → done ≡ []) × AllOf (IsAmong done) (wanted s)) × AreFed (done ++ s ∷ []) ss
+
+-- the stage changes nothing of the world
+abbrev pub keeps_world : Stage → Bool
+keeps_world (stage.Gate test) = true
+keeps_world (stage.Take name) = true
+keeps_world stage.TakeDisks = true
+keeps_world (stage.LookBlank name) = true
+keeps_world stage.LookDisks = true
+keeps_world (stage.LookHeaded name) = true
+keeps_world (stage.Search dg) = true
+keeps_world other = false
+
+-- each stage but the last keeps the world; where something is shown at the end, the last does too
+abbrev pub AreOrdered : List Stage → Finish → Type 0
+AreOrdered [] finish = Unit {0}
+AreOrdered (s ∷ []) Nothing = Unit {0}
+AreOrdered (s ∷ []) (Records vol) = keeps_world s ≡ true
+AreOrdered (s ∷ t ∷ ss) finish = (keeps_world s ≡ true) × AreOrdered (t ∷ ss) finish
+
+-- a device is made of a size that the shelf takes
+abbrev pub HasSize : Stage → Type 0
+HasSize (stage.MakeImage name sectors) = (1 ≤ sectors) × (sectors ≤ 2 ^ 40)
+HasSize other = Unit {0}
+
+-- the group is there by then, and the volume whose records are shown
+abbrev pub ShowsAfter : List Stage → Finish → Type 0
+ShowsAfter done Nothing = Unit {0}
+ShowsAfter done (Records None) = (dg : Option Word) × IsAmong done (stage.Gate (tests.GroupIs dg))
+ShowsAfter done (Records (Some vol)) = ((dg : Option Word) × IsAmong done (stage.Gate (tests.GroupIs dg))) × IsAmong done (stage.Gate (tests.HasVolume vol))

@@ -1,0 +1,23 @@
+-- What is asked of a plan.
+use Rattle.std.specs.Prelude.{◌≤◌, ◌^◌, Option, Some, None, []}
+use Rattle.vx_copies.specs.Lists.{AllOf}
+use Rattle.vx_script_forms.specs.declared.form.Form.{Form}
+use Rattle.vx_script_forms.specs.declared.form.Form.TheVariants as form
+use Rattle.vx_plans.specs.declared.stages.Plan.{Plan}
+use Rattle.vx_engine.specs.Fed.{AreFed, AreOrdered, HasSize, ShowsAfter}
+
+-- Its stages find what they need, only the last changes the world, and what is shown is there.
+pub record IsSound (plan : Plan) : Type 0 where
+  pub fed : AreFed [] plan.stages
+  pub ordered : AreOrdered plan.stages plan.finish
+  pub sized : AllOf HasSize plan.stages
+  pub shows : ShowsAfter plan.stages plan.finish
+
+abbrev pub IsSoundIfAny : Option Plan → Type 0
+IsSoundIfAny None = Unit {0}
+IsSoundIfAny (Some plan) = IsSound plan
+
+-- a device that a command is to make has a size that the shelf takes
+abbrev pub HasFormSize : Form → Type 0
+HasFormSize (form.MkImage device length) = (1 ≤ length) × (length ≤ 2 ^ 40)
+HasFormSize other = Unit {0}

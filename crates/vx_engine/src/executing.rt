@@ -1,0 +1,114 @@
+//! A command of a script.
+ghost use Rattle.std.specs.Prelude.{◌≡◌, ℕ, [], IsTrue, IfOk};
+ghost use Rattle.vx_answers.specs.declared.answer.Answer.TheVariants.{One};
+ghost use Rattle.vx_answers.specs.declared.answer.End.TheVariants as ends;
+ghost use Rattle.vx_answers.specs.declared.refusal.Refusal.TheVariants.{NotBuilt};
+ghost use Rattle.vx_engine.specs.Calling.{IsCallIfBuilt};
+ghost use Rattle.vx_engine.specs.Serving.{CommandGoes};
+ghost use Rattle.vx_engine.specs.Sound.{HasFormSize};
+ghost use Rattle.vx_house.specs.Scene.{shelved};
+ghost use Rattle.vx_house.specs.View.{Keeps, at};
+ghost use Rattle.vx_plans.specs.Plans.{disks_of, plan_of};
+ghost use Rattle.vx_plans.specs.Steps.{Does, DoesCall, DoesPlan};
+ghost use Rattle.vx_script.specs.Kept.{is_command};
+
+use crate::calling::serve_call;
+use crate::planning::serve_plan;
+use std::alloc::Global;
+use vx_answers::{Answer, End, Refusal, Views};
+use vx_base::OutOfMemory;
+use vx_house::House;
+use vx_names::Name;
+use vx_plans::plan;
+use vx_script::Command;
+use vx_script_forms::{Call, Form, name_in};
+use vx_script_words::DiskAt;
+use vx_shelf::Shelf;
+
+/// Serves a command. After a refusal of memory the world is as before.
+pub fn execute<S: Shelf>(
+    alloc: Global,
+    house: &mut House<S::P>,
+    shelf: &mut S,
+    command: &Command,
+) -> Result<Answer, OutOfMemory>
+    requires kept { IsTrue (is_command command.now) }
+    requires keeps { Keeps S.P.seen (at (shelved S.free S.held S.counted S.faults shelf.old) house.old) }
+    requires empty { house.old.hand.items ≡ [] }
+    ensures goes { (place : ℕ) → CommandGoes S.P.seen (Does place command.now) result
+        (at (shelved S.free S.held S.counted S.faults shelf.old) house.old) (at (shelved S.free S.held S.counted S.faults shelf.new) house.new) }
+{
+    if command.cut.is_some() {
+        return Ok(not_built(alloc));
+    }
+    match &command.form {
+        Form::Calling(call) => serve_said(alloc, house, shelf, call),
+        form => serve_form(alloc, house, shelf, name_in(&command.group), form),
+    }
+}
+
+/// Serves a call, where it is built.
+fn serve_said<S: Shelf>(
+    alloc: Global,
+    house: &mut House<S::P>,
+    shelf: &mut S,
+    call: &Call,
+) -> Result<Answer, OutOfMemory>
+    requires keeps { Keeps S.P.seen (at (shelved S.free S.held S.counted S.faults shelf.old) house.old) }
+    requires empty { house.old.hand.items ≡ [] }
+    requires within { IsCallIfBuilt call.now }
+    ensures goes { (place : ℕ) → CommandGoes S.P.seen (DoesCall place call.now) result
+        (at (shelved S.free S.held S.counted S.faults shelf.old) house.old) (at (shelved S.free S.held S.counted S.faults shelf.new) house.new) }
+{
+    match call {
+        Call::Data { .. } => Ok(not_built(alloc)),
+        call => serve_call(alloc, house, shelf, call),
+    }
+}
+
+/// Serves a form by its plan, where it has one.
+fn serve_form<S: Shelf>(
+    alloc: Global,
+    house: &mut House<S::P>,
+    shelf: &mut S,
+    group: Option<Name>,
+    form: &Form,
+) -> Result<Answer, OutOfMemory>
+    requires keeps { Keeps S.P.seen (at (shelved S.free S.held S.counted S.faults shelf.old) house.old) }
+    requires empty { house.old.hand.items ≡ [] }
+    requires sized { HasFormSize form.now }
+    ensures goes { CommandGoes S.P.seen (DoesPlan (disks_of form.now) (plan_of group form.now)) result
+        (at (shelved S.free S.held S.counted S.faults shelf.old) house.old) (at (shelved S.free S.held S.counted S.faults shelf.new) house.new) }
+{
+    let Ok(found) = plan(alloc, group, form) else {
+        return Err(OutOfMemory);
+    };
+    let Some(plan) = found else {
+        return Ok(not_built(alloc));
+    };
+    match disks_of(alloc, form) {
+        Ok(disks) => serve_plan(alloc, house, shelf, &plan, disks.as_slice()),
+        Err(refused) => Err(refused),
+    }
+}
+
+/// The disks that a form names.
+fn disks_of(alloc: Global, form: &Form) -> Result<Vec<DiskAt>, OutOfMemory>
+    ensures { IfOk result (λ disks. disks.items ≡ disks_of form.now) }
+{
+    match form {
+        Form::DgInit { disks, .. } => disks.to_vec(alloc),
+        Form::DgAddDisk { disk, .. } => Ok(Vec::from_slice(alloc, &[*disk.get()])?),
+        _ => Ok(Vec::new(alloc)),
+    }
+}
+
+/// A command that is not built.
+fn not_built(alloc: Global) -> Answer
+    ensures { result ≡ One [] (ends.Refused NotBuilt) }
+{
+    Answer::One {
+        views: Views::from_vec(Vec::new(alloc)),
+        end: End::Refused(Refusal::NotBuilt),
+    }
+}

@@ -1,0 +1,11 @@
+//! The engine of plans: the stages of a command are run one after the other over a house and its shelf.
+#![tactic(auto)]
+
+mod calling;
+mod executing;
+mod planning;
+mod running;
+mod showing;
+mod stages;
+
+pub use executing::execute;

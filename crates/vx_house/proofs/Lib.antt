@@ -1,0 +1,11 @@
+pub mod Held
+pub mod Listed
+pub mod Scenes
+pub mod Moments
+pub mod Ended
+pub mod Free
+pub mod Called
+pub mod Takes
+pub mod Returned
+pub mod Leaves
+pub mod Gone

@@ -1,0 +1,6 @@
+use Rattle.vx_house.specs.Holders.{hand_holder}
+use Rattle.vx_house.proofs.Returned.{gives_one}
+use Rattle.vx_house.proofs.giving.give_taken.Goals as goal
+
+pub returns-clause-back : goal.returns-clause-back
+returns-clause-back g c = gives_one (hand_holder g.S.P.Piece.seen c.args.taken) _ _ c.give.ensures.given c.give.ensures.back c.give.ensures.quiet c.give.ensures.counts

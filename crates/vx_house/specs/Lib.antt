@@ -1,0 +1,9 @@
+pub mod Holders
+pub mod Scene
+pub mod View
+pub mod Plain
+pub mod Goes
+pub mod Closing
+pub mod Unmoved
+pub mod Takes
+pub mod Leaves

@@ -1,0 +1,27 @@
+-- What a house itself tells of the world: enough for the tests of commands.
+use Rattle.std.specs.Prelude.{◌≡◌, ◌∷◌, [], List, map, Option, Some, None, option_map}
+use Rattle.vx_base.specs.Named.{Word}
+use Rattle.vx_piece.specs.Seen.{Seen}
+use Rattle.vx_copies.specs.Lists.{AllOf, Each}
+use Rattle.vx_started.specs.declared.started.Started.{Started}
+use Rattle.vx_moments.specs.World.{World, Device, Volume}
+use Rattle.vx_plans.specs.Stages.{bare_volume}
+use Rattle.vx_house.specs.Holders.{Holder, hand_holder, held_as, volume_at}
+use Rattle.vx_house.specs.View.{group_of}
+use Rattle.vx_house.specs.declared.house.House.{House}
+
+-- a device of which the sectors alone are told
+abbrev pub sized_device : Seen → Device
+sized_device seen = record { sectors = seen.sectors; contents = λ k. [] }
+
+-- a volume of which only that it is started is told
+abbrev pub some_volume : {P : Type 0} → Started P → Volume
+some_volume b = bare_volume b.device (record { sectors = b.geometry.length; contents = λ k. [] })
+
+-- the devices in hand with their sectors, which volumes are started, and the group
+abbrev pub plain : {P : Type 0} → (P → Seen) → House P → World
+plain see h = record {
+  devices = λ name. option_map sized_device (held_as (map (hand_holder see) h.hand.items) name);
+  volumes = λ vol. option_map some_volume (volume_at h vol);
+  group = group_of see h.group;
+}

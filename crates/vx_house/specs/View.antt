@@ -1,0 +1,134 @@
+-- The moments of the world that a shelf and a house are.
+use Rattle.std.specs.Prelude.{◌≡◌, ◌≢◌, ◌==◌, ◌<◌, ◌≤◌, ℕ, Bool, true, false, List, [], ◌∷◌, map, Option, Some, None, IsSome, IfSome}
+use Rattle.std.specs.List.{list_any}
+use Rattle.std.specs.Str.{bytes_eq}
+use Rattle.std.specs.BTreeMap.{IsOrdered}
+use Rattle.std.specs.Cmp.Lexicographic.{slice_cmp}
+use Rattle.std.specs.Ordering.{nat_cmp}
+use Rattle.vx_base.specs.Named.{Word}
+use Rattle.vx_piece.specs.Seen.{Seen}
+use Rattle.vx_copies.specs.Disks.{good_mask}
+use Rattle.vx_copies.specs.Lists.{AllOf}
+use Rattle.vx_copies.specs.declared.disk.Disk.{Disk}
+use Rattle.vx_confdb.specs.Groups.{members, CarriesText}
+use Rattle.vx_confdb.specs.Texts.{text_of}
+use Rattle.vx_objects.specs.declared.config.Config.{Config}
+use Rattle.vx_started.specs.Stands.{IsSized, StandsFor}
+use Rattle.vx_started.specs.declared.started.Started.{Started}
+use Rattle.vx_moments.specs.World.{World, Device, Volume, Member, Group, OnDevice}
+use Rattle.vx_moments.specs.Moment.{Moment}
+use Rattle.vx_moments.specs.Copies.{IsTextOf}
+use Rattle.vx_house.specs.Holders.{Holder, holders, volume_at, AreHeld}
+use Rattle.vx_house.specs.Scene.{Shelved, Scene, seen_at, AreCountsOf}
+use Rattle.vx_house.specs.declared.house.House.{House}
+use Rattle.vx_house.specs.declared.house.Imported.{Imported}
+
+-- a shelf and a house
+pub record View (P : Type 0) : Type 0 where
+  pub shelf : Shelved
+  pub house : House P
+
+abbrev pub at : {P : Type 0} → Shelved → House P → View P
+at shelf house = record { shelf = shelf; house = house }
+
+-- what is seen of all devices
+abbrev pub scene : {P : Type 0} → (P → Seen) → View P → Scene
+scene see v = record { shelf = v.shelf; taken = holders see v.house }
+
+-- a started volume has the device
+abbrev pub is_lent : {P : Type 0} → House P → Word → Bool
+is_lent h name = list_any (λ e. bytes_eq e.1.device name) h.volumes.entries
+
+-- what is seen under a name is the world's device; of one that a started volume has the sectors alone
+abbrev pub IsDeviceOf : Bool → Option Seen → Option Device → Type 0
+IsDeviceOf lent None None = Unit {0}
+IsDeviceOf lent None (Some d) = ⊥
+IsDeviceOf lent (Some seen) None = ⊥
+IsDeviceOf lent (Some seen) (Some d) = (d.sectors ≡ seen.sectors) × (lent ≡ false → seen.told ≡ Some d.contents)
+
+-- a started volume is the world's
+pub record IsVolumeOf {P : Type 0} (see : P → Seen) (b : Started P) (v : Volume) : Type 0 where
+  pub lies : v.lies ≡ OnDevice b.device
+  pub length_is : v.length ≡ b.geometry.length
+  pub region_is : v.region ≡ b.geometry.region
+  pub stands : StandsFor v.length (see b.piece) b.numbers.items v.life
+
+abbrev pub IsAtVolume : {P : Type 0} → (P → Seen) → Option (Started P) → Option Volume → Type 0
+IsAtVolume see None None = Unit {0}
+IsAtVolume see None (Some v) = ⊥
+IsAtVolume see (Some b) None = ⊥
+IsAtVolume see (Some b) (Some v) = IsVolumeOf see b v
+
+abbrev pub member_of : {P : Type 0} → Disk P → Member
+member_of d = record { device = d.device; disk = d.name; slot = d.slot }
+
+-- the imported group, as the world has it
+abbrev pub group_of : {P : Type 0} → (P → Seen) → Option (Imported P) → Option Group
+group_of see None = None
+group_of see (Some g) = Some (record {
+  config = g.config;
+  good = good_mask (members see g.base);
+  members = map member_of g.base.disks.items;
+  sequence = g.base.sequence;
+})
+
+-- What is seen of all devices, by a shelf that tells its devices, and a house are this moment.
+pub record IsMomentIn {P : Type 0} (see : P → Seen) (s : Scene) (h : House P) (m : Moment) : Type 0 where
+  pub told : IsSome s.shelf.free
+  pub devices_are : (name : Word) → IsDeviceOf (is_lent h name) (seen_at s name) (m.world.devices name)
+  pub volumes_are : (vol : Word) → IsAtVolume see (volume_at h vol) (m.world.volumes vol)
+  pub group_is : m.world.group ≡ group_of see h.group
+  pub counts : AreCountsOf s m.counts
+
+-- a house with its shelf is this moment
+abbrev pub IsMoment : {P : Type 0} → (P → Seen) → View P → Moment → Type 0
+IsMoment see v m = IsMomentIn see (scene see v) v.house m
+
+-- the device has the size that its disk says
+abbrev pub AreSized : {P : Type 0} → (P → Seen) → List (Disk P) → Type 0
+AreSized see ds = AllOf (λ d. (see d.piece).sectors ≡ d.sectors) ds
+
+-- the slots differ
+abbrev pub HaveSlots : {P : Type 0} → List (Disk P) → Type 0
+HaveSlots [] = Unit {0}
+HaveSlots (d ∷ ds) = AllOf (λ e. e.slot ≢ d.slot) ds × HaveSlots ds
+
+-- the configuration has a disk of each slot
+abbrev pub AreRecorded : {P : Type 0} → Config → List (Disk P) → Type 0
+AreRecorded config ds = AllOf (λ d. list_any (λ r. r.slot == d.slot) config.disks ≡ true) ds
+
+-- The good disks of the group carry the text of its configuration.
+pub record IsGroupKept {P : Type 0} (see : P → Seen) (g : Imported P) : Type 0 where
+  pub named : g.base.name ≡ g.config.group
+  pub text : IsTextOf g.config (text_of g.base.text)
+  pub first : ℕ
+  pub carries : CarriesText see first (text_of g.base.text) g.base
+  pub sized : AreSized see g.base.disks.items
+  pub slots : HaveSlots g.base.disks.items
+  pub recorded : AreRecorded g.config g.base.disks.items
+
+-- What a house keeps: its volumes stand in the order of their names, its devices have their sizes, and its group carries its text.
+pub record KeepsHouse {P : Type 0} (see : P → Seen) (h : House P) : Type 0 where
+  pub ordered : IsOrdered (slice_cmp nat_cmp) h.volumes
+  pub hand : AllOf (λ t. 0 < (see t.piece).sectors) h.hand.items
+  pub volumes : (vol : Word) (b : Started P) → volume_at h vol ≡ Some b → IsSized (see b.piece) b.geometry.length
+  pub group : IfSome h.group (IsGroupKept see)
+
+-- what a house with its shelf keeps: beside that it holds all devices that were taken
+pub record Keeps {P : Type 0} (see : P → Seen) (v : View P) : Type 0 where
+  pub devices : AreHeld v.shelf.held (holders see v.house)
+  pub house : KeepsHouse see v.house
+
+-- a house with its shelf is this moment, but for the group
+pub record IsMomentButGroup {P : Type 0} (see : P → Seen) (v : View P) (m : Moment) : Type 0 where
+  pub told : IsSome v.shelf.free
+  pub devices_are : (name : Word) → IsDeviceOf (is_lent v.house name) (seen_at (scene see v) name) (m.world.devices name)
+  pub volumes_are : (vol : Word) → IsAtVolume see (volume_at v.house vol) (m.world.volumes vol)
+  pub counts : AreCountsOf (scene see v) m.counts
+
+-- what is kept where the group or the power was lost: all but what the group carries
+pub record KeepsButGroup {P : Type 0} (see : P → Seen) (v : View P) : Type 0 where
+  pub devices : AreHeld v.shelf.held (holders see v.house)
+  pub ordered : IsOrdered (slice_cmp nat_cmp) v.house.volumes
+  pub hand : AllOf (λ t. 0 < (see t.piece).sectors) v.house.hand.items
+  pub volumes : (vol : Word) (b : Started P) → volume_at v.house vol ≡ Some b → IsSized (see b.piece) b.geometry.length

@@ -1,0 +1,99 @@
+//! Devices that go back to the shelf, without a device call.
+ghost use Rattle.std.specs.Prelude.{◌≡◌, ◌∷◌, [], map};
+ghost use Rattle.vx_base.specs.Named.{Word};
+ghost use Rattle.vx_copies.specs.Lists.{AllOf};
+ghost use Rattle.vx_shelf.specs.Shelf.{IsWhole, IsOut, IsGiven};
+ghost use Rattle.vx_house.specs.Closing.{GivesBack, GivesHand, GivesGroup, GivesVolumes};
+ghost use Rattle.vx_house.specs.Holders.{AreHeld, AreApart, IsTakenFrom, holders, disk_holder, hand_holder, volume_holder};
+ghost use Rattle.vx_house.specs.Scene.{shelved};
+
+use crate::{House, Taken};
+use vx_copies::Disk;
+use vx_shelf::Shelf;
+use vx_started::Started;
+
+/// Gives the devices in hand back, each under its name.
+pub fn give_hand<S: Shelf>(house: &mut House<S::P>, shelf: &mut S)
+    requires held { AreHeld (S.held shelf.old) (holders S.P.seen house.old) }
+    ensures gives { GivesHand S.P.seen (shelved S.free S.held S.counted S.faults shelf.old) house.old (shelved S.free S.held S.counted S.faults shelf.new) house.new }
+{
+    while let Some(taken) = house.hand.pop() {
+        give_taken(taken, shelf);
+    }
+}
+
+fn give_taken<S: Shelf>(taken: Taken<S::P>, shelf: &mut S)
+    requires whole { IsWhole (S.P.seen taken.piece) }
+    requires out { IsOut (S.held shelf.old taken.device) (S.P.seen taken.piece) }
+    ensures given { IsGiven taken.device (S.held shelf.old) (S.held shelf.new) }
+    ensures back { GivesBack (hand_holder S.P.seen taken ∷ []) (shelved S.free S.held S.counted S.faults shelf.old) (shelved S.free S.held S.counted S.faults shelf.new) }
+{
+    let Taken { device, piece } = taken;
+    shelf.give(&device, piece);
+}
+
+/// Gives the devices of the group back, each under its name; the group leaves.
+pub fn give_group<S: Shelf>(house: &mut House<S::P>, shelf: &mut S)
+    requires held { AreHeld (S.held shelf.old) (holders S.P.seen house.old) }
+    ensures gives { GivesGroup S.P.seen (shelved S.free S.held S.counted S.faults shelf.old) house.old (shelved S.free S.held S.counted S.faults shelf.new) house.new }
+{
+    if let Some(group) = house.group.take() {
+        give_disks(group.base.deport(), shelf);
+    }
+}
+
+/// Gives the devices of disks back, each under its name.
+pub fn give_disks<S: Shelf>(disks: Vec<Disk<S::P>>, shelf: &mut S)
+    requires each { AllOf (IsTakenFrom (S.held shelf.old)) (map (disk_holder S.P.seen) disks.items) }
+    requires apart { AreApart (map (disk_holder S.P.seen) disks.items) }
+    ensures back { GivesBack (map (disk_holder S.P.seen) disks.items) (shelved S.free S.held S.counted S.faults shelf.old) (shelved S.free S.held S.counted S.faults shelf.new) }
+{
+    let mut disks = disks;
+    while let Some(disk) = disks.pop() {
+        give_disk(disk, shelf);
+    }
+}
+
+fn give_disk<S: Shelf>(disk: Disk<S::P>, shelf: &mut S)
+    requires whole { IsWhole (S.P.seen disk.piece) }
+    requires out { IsOut (S.held shelf.old disk.device) (S.P.seen disk.piece) }
+    ensures given { IsGiven disk.device (S.held shelf.old) (S.held shelf.new) }
+    ensures back { GivesBack (disk_holder S.P.seen disk ∷ []) (shelved S.free S.held S.counted S.faults shelf.old) (shelved S.free S.held S.counted S.faults shelf.new) }
+{
+    let Disk {
+        name: _,
+        device,
+        slot: _,
+        sectors: _,
+        good: _,
+        half: _,
+        piece,
+    } = disk;
+    shelf.give(&device, piece);
+}
+
+/// Gives the devices of all started volumes back, each under its name.
+pub fn give_volumes<S: Shelf>(house: &mut House<S::P>, shelf: &mut S)
+    requires held { AreHeld (S.held shelf.old) (holders S.P.seen house.old) }
+    ensures gives { GivesVolumes S.P.seen (shelved S.free S.held S.counted S.faults shelf.old) house.old (shelved S.free S.held S.counted S.faults shelf.new) house.new }
+{
+    while let Some((_, started)) = house.volumes.pop_first() {
+        give_volume(started, shelf);
+    }
+}
+
+fn give_volume<S: Shelf>(started: Started<S::P>, shelf: &mut S)
+    requires whole { IsWhole (S.P.seen started.piece) }
+    requires out { IsOut (S.held shelf.old started.device) (S.P.seen started.piece) }
+    ensures given { IsGiven started.device (S.held shelf.old) (S.held shelf.new) }
+    ensures back { (name : Word) → GivesBack (volume_holder S.P.seen (name, started) ∷ []) (shelved S.free S.held S.counted S.faults shelf.old) (shelved S.free S.held S.counted S.faults shelf.new) }
+{
+    let Started {
+        device,
+        piece,
+        geometry: _,
+        numbers: _,
+        most: _,
+    } = started;
+    shelf.give(&device, piece);
+}

@@ -1,0 +1,15 @@
+pub mod Passes
+pub mod Steps
+pub mod Hands
+pub mod Readings
+pub mod Blanks
+pub mod One
+pub mod Headed
+pub mod Wiped
+pub mod Imaged
+pub mod Entries
+pub mod Bared
+pub mod Sought
+pub mod Searched
+pub mod Ends
+pub mod Sectors

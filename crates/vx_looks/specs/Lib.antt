@@ -1,0 +1,4 @@
+pub mod Looks
+pub mod Wipes
+pub mod Starts
+pub mod Seeks

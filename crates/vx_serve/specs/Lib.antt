@@ -1,0 +1,3 @@
+pub mod Fine
+pub mod Run
+pub mod Ends

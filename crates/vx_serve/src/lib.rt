@@ -1,0 +1,8 @@
+//! Serves the commands of a script on a shelf of devices, one after the other, and writes the line of each answer.
+#![tactic(auto)]
+
+mod fine;
+mod lines;
+
+pub use fine::is_fine;
+pub use lines::{Stop, run_commands};

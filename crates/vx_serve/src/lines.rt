@@ -1,0 +1,151 @@
+//! Commands with the lines of their answers.
+ghost use Rattle.std.specs.Prelude.{◌≡◌, ◌+◌, ◌≤◌, ◌++◌, ℕ, List, length, IsTrue, ◌&&◌, IfOk, OnOk, OnErr, IsErrOf, Some, ◌∷◌, [], take};
+ghost use Rattle.vx_base.specs.Counts.{Rose};
+ghost use Rattle.vx_script.specs.Kept.{is_command, is_kept};
+ghost use Rattle.vx_answers.specs.Lines.{lines_of};
+ghost use Rattle.vx_house.specs.Closing.{NoneHeld};
+ghost use Rattle.vx_answers.specs.declared.answer.End.TheVariants as ends;
+ghost use Rattle.vx_house.specs.Leaves.{IsLeft};
+ghost use Rattle.vx_house.specs.Scene.{shelved};
+ghost use Rattle.vx_house.specs.View.{Keeps, at};
+ghost use Rattle.vx_serve.specs.Fine.{is_fine};
+ghost use Rattle.vx_serve.specs.Run.{HasRun, HasRunPartly};
+ghost use Rattle.vx_serve.specs.Ends.{CarriesOut, StopsShort};
+ghost use Rattle.vx_serve.specs.declared.lines.Stop.TheVariants as stops;
+
+use crate::fine::is_fine;
+use std::alloc::Global;
+use vx_answers::{Answer, End, Parts, put_answer};
+use vx_base::OutOfMemory;
+use vx_engine::execute;
+use vx_flow::Sink;
+use vx_house::{House, leave};
+use vx_script::Command;
+use vx_shelf::Shelf;
+
+/// Why a run ends before its last command.
+#[derive(Clone, Copy, Debug, PartialEq, Eq)]
+pub enum Stop {
+    OutOfMemory,
+    /// The sink failed, and its count of faults rose.
+    SinkFailed,
+}
+
+impl From<OutOfMemory> for Stop {
+    ghost from_gives = { λ _ e. e ≡ stops.OutOfMemory };
+
+    fn from(_refused: OutOfMemory) -> Stop {
+        Stop::OutOfMemory
+    }
+}
+
+/// Writes the line of an answer, and tells whether it is fine.
+fn write_line<B: Sink>(alloc: Global, sink: &mut B, answer: &Answer) -> Result<bool, Stop>
+    ensures written { OnOk result ((text : List ℕ) → B.taken sink.old ≡ Some text → B.taken sink.new ≡ Some (text ++ lines_of answer.now)) }
+    ensures partly { OnErr result ((text : List ℕ) → B.taken sink.old ≡ Some text → (n : ℕ) × (B.taken sink.new ≡ Some (text ++ take n (lines_of answer.now)))) }
+    ensures fine { IfOk result (λ fine. fine ≡ is_fine answer.now) }
+    ensures cause { IsErrOf result Stop.SinkFailed → Rose (B.faults sink.old) (B.faults sink.new) }
+    ensures later { B.faults sink.old ≤ B.faults sink.new }
+{
+    let mut line = Vec::new(alloc);
+    put_answer(answer, &mut line)?;
+    match sink.write(&line) {
+        Ok(()) => Ok(is_fine(answer)),
+        Err(_) => Err(Stop::SinkFailed),
+    }
+}
+
+/// Serves a command, and writes the line of its answer.
+fn one_line<S: Shelf, B: Sink>(
+    alloc: Global,
+    house: &mut House<S::P>,
+    shelf: &mut S,
+    sink: &mut B,
+    command: &Command,
+) -> Result<bool, Stop>
+    requires kept { IsTrue (is_command command.now) }
+    requires keeps { Keeps S.P.seen (at (shelved S.free S.held S.counted S.faults shelf.old) house.old) }
+    requires empty { house.old.hand.items ≡ [] }
+    ensures keeps { Keeps S.P.seen (at (shelved S.free S.held S.counted S.faults shelf.new) house.new) }
+    ensures empty { house.new.hand.items ≡ [] }
+    ensures run { IfOk result (λ fine. (place : ℕ) → HasRun S.P.seen place (command.now ∷ [])
+        (at (shelved S.free S.held S.counted S.faults shelf.old) house.old) (B.taken sink.old)
+        (at (shelved S.free S.held S.counted S.faults shelf.new) house.new) (B.taken sink.new) fine) }
+    ensures partly { OnErr result ((place : ℕ) → HasRunPartly S.P.seen place (command.now ∷ [])
+        (at (shelved S.free S.held S.counted S.faults shelf.old) house.old) (B.taken sink.old)
+        (at (shelved S.free S.held S.counted S.faults shelf.new) house.new) (B.taken sink.new)) }
+    ensures cause { IsErrOf result Stop.SinkFailed → Rose (B.faults sink.old) (B.faults sink.new) }
+    ensures later { B.faults sink.old ≤ B.faults sink.new }
+{
+    let answer = execute(alloc, house, shelf, command)?;
+    write_line(alloc, sink, &answer)
+}
+
+fn both(one: bool, other: bool) -> bool
+    ensures { result ≡ (one && other) }
+{
+    one && other
+}
+
+/// Serves all commands of a script, one after the other.
+fn all_lines<S: Shelf, B: Sink>(
+    alloc: Global,
+    house: &mut House<S::P>,
+    shelf: &mut S,
+    sink: &mut B,
+    commands: &[Command],
+) -> Result<bool, Stop>
+    requires kept { IsTrue (is_kept commands.now) }
+    requires keeps { Keeps S.P.seen (at (shelved S.free S.held S.counted S.faults shelf.old) house.old) }
+    requires empty { house.old.hand.items ≡ [] }
+    ensures keeps { Keeps S.P.seen (at (shelved S.free S.held S.counted S.faults shelf.new) house.new) }
+    ensures run { IfOk result (λ fine. HasRun S.P.seen 0 commands.now
+        (at (shelved S.free S.held S.counted S.faults shelf.old) house.old) (B.taken sink.old)
+        (at (shelved S.free S.held S.counted S.faults shelf.new) house.new) (B.taken sink.new) fine) }
+    ensures partly { OnErr result (HasRunPartly S.P.seen 0 commands.now
+        (at (shelved S.free S.held S.counted S.faults shelf.old) house.old) (B.taken sink.old)
+        (at (shelved S.free S.held S.counted S.faults shelf.new) house.new) (B.taken sink.new)) }
+    ensures cause { IsErrOf result Stop.SinkFailed → Rose (B.faults sink.old) (B.faults sink.new) }
+    ensures later { B.faults sink.old ≤ B.faults sink.new }
+{
+    let mut fine = true;
+    for command in commands {
+        let this = one_line(alloc, house, shelf, sink, command)?;
+        fine = both(fine, this);
+    }
+    Ok(fine)
+}
+
+/// The power goes: all devices are given back.
+fn close<S: Shelf>(alloc: Global, house: &mut House<S::P>, shelf: &mut S)
+    requires keeps { Keeps S.P.seen (at (shelved S.free S.held S.counted S.faults shelf.old) house.old) }
+    ensures gone { IsLeft S.P.seen (ends.Lost []) (at (shelved S.free S.held S.counted S.faults shelf.old) house.old) (at (shelved S.free S.held S.counted S.faults shelf.new) house.new) }
+{
+    let parts = Parts::from_vec(Vec::new(alloc));
+    leave(house, shelf, &End::Lost { parts });
+}
+
+/// Serves the commands of a script, and gives all devices back at the end. It tells whether all answers were fine.
+pub fn run_commands<S: Shelf, B: Sink>(
+    alloc: Global,
+    shelf: &mut S,
+    sink: &mut B,
+    commands: &[Command],
+) -> Result<bool, Stop>
+    requires kept { IsTrue (is_kept commands.now) }
+    requires here { NoneHeld (S.held shelf.old) }
+    ensures run { IfOk result (λ fine. CarriesOut commands.now
+        (shelved S.free S.held S.counted S.faults shelf.old) (B.taken sink.old)
+        (shelved S.free S.held S.counted S.faults shelf.new) (B.taken sink.new) fine) }
+    ensures partly { OnErr result (StopsShort commands.now
+        (shelved S.free S.held S.counted S.faults shelf.old) (B.taken sink.old)
+        (shelved S.free S.held S.counted S.faults shelf.new) (B.taken sink.new)) }
+    ensures back { NoneHeld (S.held shelf.new) }
+    ensures cause { IsErrOf result Stop.SinkFailed → Rose (B.faults sink.old) (B.faults sink.new) }
+    ensures later { B.faults sink.old ≤ B.faults sink.new }
+{
+    let mut house = House::new(alloc);
+    let outcome = all_lines(alloc, &mut house, shelf, sink, commands);
+    close(alloc, &mut house, shelf);
+    outcome
+}

@@ -37,6 +37,7 @@ IsCarried (stage.MakeImage name sectors) disks w = IsAlive w × NamesSlots w
 IsCarried (stage.Wipe name) disks w = IsAlive w × NamesSlots w
 IsCarried (stage.StartBare vol name) disks w = IsAlive w × NamesSlots w
 IsCarried (stage.Change change) disks w = IsAlive w × NamesSlots w
+IsCarried (stage.Make text) disks w = IsAlive w × NamesSlots w
 IsCarried stage.Join disks w = IsAlive w × NamesSlots w
 IsCarried (stage.Import dg) disks w = IsAlive w × NamesSlots w
 IsCarried stage.LetGo disks w = IsAlive w × NamesSlots w
@@ -89,6 +90,12 @@ stops_well (stage.Change change) disks old new end well carried (inl (none, ends
 stops_well (stage.Change change) disks old new end well carried (inr (inl ((g, here, inl (r, e, is)), rests))) = inr (r, is)
 stops_well (stage.Change change) disks old new end well carried (inr (inl ((g, here, inr (config, edited, (text, printed, long, is))), rests))) = inr (_, is)
 stops_well (stage.Change change) disks old new end well carried (inr (inr (x, writing, stopped))) = stopping old new well x end (by_group old.world x writing.group writing.carriers carried.0) stopped
+stops_well (stage.Make text) disks old new end well carried (inl (none, ends)) = inr (_, ends.0)
+stops_well (stage.Make text) disks old new end well carried (inr (inl ((g, here, inl (line, bad, is)), rests))) = inr (_, is)
+stops_well (stage.Make text) disks old new end well carried (inr (inl ((g, here, inr (added, adds, inl (r, e, is))), rests))) = inr (r, is)
+stops_well (stage.Make text) disks old new end well carried (inr (inl ((g, here, inr (added, adds, inr (fine, inl (r, e, is)))), rests))) = inr (r, is)
+stops_well (stage.Make text) disks old new end well carried (inr (inl ((g, here, inr (added, adds, inr (fine, inr (config, edited, (printed, text_is, long, is))))), rests))) = inr (_, is)
+stops_well (stage.Make text) disks old new end well carried (inr (inr (x, making, stopped))) = stopping old new well x end (by_group old.world x making.change.group making.change.carriers carried.0) stopped
 stops_well stage.Join [] old new end well carried stops = absurd stops
 stops_well stage.Join (p ∷ q ∷ ps) old new end well carried stops = absurd stops
 stops_well stage.Join (p ∷ []) old new end well carried (inl (none, ends)) = inr (_, ends.0)
@@ -128,6 +135,7 @@ kept_world (stage.MakeImage name sectors) disks old mid keeps done = cc
 kept_world (stage.Wipe name) disks old mid keeps done = cc
 kept_world (stage.StartBare vol name) disks old mid keeps done = cc
 kept_world (stage.Change change) disks old mid keeps done = cc
+kept_world (stage.Make text) disks old mid keeps done = cc
 kept_world stage.Join disks old mid keeps done = cc
 kept_world (stage.Create dg) disks old mid keeps done = cc
 kept_world (stage.Import dg) disks old mid keeps done = cc
@@ -185,7 +193,7 @@ plan_shaped dg (form.DiskUnsetup device) w has = let c : IsAlive w × NamesSlots
 plan_shaped dg (form.PrintM vol) w has = print_shaped dg vol w (has.group, has.masks)
 plan_shaped dg (form.Rdpol vol how) w has = policy_shaped dg vol how w (has.group, has.masks)
 plan_shaped dg (form.RemoveVolume vol) w has = let c : IsAlive w × NamesSlots w = (has.group, has.masks) in (c, refl, (c, refl, (c, refl, (c, refl, c))))
-plan_shaped dg (form.VxMake text) w has = tt
+plan_shaped dg (form.VxMake text) w has = let c : IsAlive w × NamesSlots w = (has.group, has.masks) in (c, refl, c)
 plan_shaped dg (form.PrintHt vol) w has = tt
 plan_shaped dg (form.AssistMake vol length attrs disks) w has = tt
 plan_shaped dg (form.Mirror vol disks) w has = tt

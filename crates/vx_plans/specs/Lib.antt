@@ -1,6 +1,7 @@
 pub mod Refusals
 pub mod Records
 pub mod Tests
+pub mod Making
 pub mod Finding
 pub mod Stages
 pub mod Plans

@@ -1,5 +1,5 @@
 -- The plan of each command: its stages in order, and what it shows at the end.
-use Rattle.std.specs.Prelude.{Option, Some, None, List, [], ◌∷◌}
+use Rattle.std.specs.Prelude.{ℕ, Option, Some, None, List, [], ◌∷◌}
 use Rattle.vx_base.specs.Named.{Word}
 use Rattle.vx_parts.specs.declared.vol.PolicyName.TheVariants as policy
 use Rattle.vx_script_words.specs.declared.value.DiskAt.{DiskAt}
@@ -54,6 +54,10 @@ plan_rdpol dg vol words.Select = stage.Gate (tests.GroupIs dg) ∷ stage.Gate (t
 plan_rdpol dg vol (words.Prefer plex) =
     stage.Gate (tests.GroupIs dg) ∷ stage.Gate (tests.HasVolume vol) ∷ stage.Gate (tests.HasPlex vol plex) ∷ stage.Change (changes.Policy vol (policy.Prefer plex)) ∷ []
 
+-- `vxmake -d`
+abbrev pub plan_make : Option Word → List ℕ → List Stage
+plan_make dg text = stage.Gate (tests.GroupIs dg) ∷ stage.Make text ∷ []
+
 -- `vxassist remove volume VOL`
 abbrev pub plan_remove : Option Word → Word → List Stage
 plan_remove dg vol =
@@ -75,6 +79,7 @@ plan_of dg (form.DgImport name) = doing (stage.Import name ∷ [])
 plan_of dg (form.DgDeport name) = doing (plan_deport name)
 plan_of dg (form.DiskUnsetup device) = doing (plan_unsetup device)
 plan_of dg (form.PrintM vol) = ending (plan_print dg vol) (Records vol)
+plan_of dg (form.VxMake text) = doing (plan_make dg text)
 plan_of dg (form.Rdpol vol words) = doing (plan_rdpol dg vol words)
 plan_of dg (form.RemoveVolume vol) = doing (plan_remove dg vol)
 plan_of dg other = None

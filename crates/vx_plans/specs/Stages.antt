@@ -8,11 +8,13 @@ use Rattle.vx_base.specs.Named.{Word, put}
 use Rattle.vx_header.specs.Named.{header_of}
 use Rattle.vx_life.specs.Life.{begun}
 use Rattle.vx_copies.specs.Image.{names_group}
+use Rattle.vx_parts.specs.declared.object.Object.{Object}
 use Rattle.vx_parts.specs.declared.vol.Vol.{Vol}
+use Rattle.vx_record.specs.Grammar.{IsBadLine}
 use Rattle.vx_rules.specs.Rules.{first_broken}
 use Rattle.vx_objects.specs.declared.config.Config.{Config}
 use Rattle.vx_objects.specs.declared.edit.Edit.{Edit}
-use Rattle.vx_objects.specs.declared.edit.Edit.TheVariants.{AddDisk, SetVol, RemoveVol}
+use Rattle.vx_objects.specs.declared.edit.Edit.TheVariants.{AddDisk, Make, SetVol, RemoveVol}
 use Rattle.vx_objects.specs.Applied.{IsEdited}
 use Rattle.vx_objects.specs.Config.{objects_of}
 use Rattle.vx_objects.specs.Edits.{refusal_of}
@@ -28,6 +30,7 @@ use Rattle.vx_moments.specs.Leaving.{group_gone}
 use Rattle.vx_moments.specs.Copies.{IsTextOf}
 use Rattle.vx_moments.specs.Commit.{Writing, IsCommitted, IsStopped}
 use Rattle.vx_plans.specs.Finding.{Found, Finds, group_found, import_records}
+use Rattle.vx_plans.specs.Making.{Adds, adding_refusal, is_started}
 use Rattle.vx_plans.specs.Records.{devices_of, sectors_at, disk_record, member_at, next_slot, new_records, new_members}
 use Rattle.vx_plans.specs.Refusals.{refusal_from}
 use Rattle.vx_plans.specs.Tests.{fails, is_volume, recorded}
@@ -145,6 +148,31 @@ pub record IsChange (edits : List Edit) (w : World) (x : Writing) : Type 0 where
   pub joiners : x.joiners ≡ []
   pub carriers : x.carriers ≡ x.group.members
 
+-- the text of the configuration is too long by so many bytes
+abbrev pub RefusedAsLong : Config → End → Type 0
+RefusedAsLong config end = (text : List ℕ) × IsTextOf config text × (522240 < length text) × (end ≡ refused (refusal.TooLong (length text)))
+
+-- the edits break a rule, or their text is too long
+abbrev pub EditsRefused : List Edit → Group → End → Type 0
+EditsRefused edits g end =
+    ((r : Refusal) × (refusal_from (refusal_of edits (objects_of g.config)) ≡ Some r) × (end ≡ refused r))
+    ⊎ ((config : Config) × IsEdited edits g.config config × RefusedAsLong config end)
+
+-- the imported group, and what is to be written to it once the records of the text are added, which no test refuses
+pub record IsMaking (text : List ℕ) (w : World) (x : Writing) : Type 0 where
+  pub added : List Object
+  pub adds : Adds text added
+  pub fine : adding_refusal (is_started w) (objects_of x.group.config) added ≡ None
+  pub change : IsChange (Make added ∷ []) w x
+
+-- the records of the text are refused: a line is none, or a test refuses them, or their text would be too long
+abbrev pub MakingRefused : List ℕ → World → Group → End → Type 0
+MakingRefused text w g end =
+    ((line : ℕ) × IsBadLine text line × (end ≡ refused (refusal.BadRecord line)))
+    ⊎ ((added : List Object) × Adds text added × (
+    ((r : Refusal) × (adding_refusal (is_started w) (objects_of g.config) added ≡ Some r) × (end ≡ refused r))
+    ⊎ ((adding_refusal (is_started w) (objects_of g.config) added ≡ None) × EditsRefused (Make added ∷ []) g end)))
+
 -- the edit by which a disk joins
 abbrev pub joining_edit : DiskAt → World → Group → Edit
 joining_edit p w g = AddDisk (disk_record p (next_slot g.config) (sectors_at w p.device))
@@ -162,16 +190,6 @@ pub record IsCreating (dg : Word) (pairs : List DiskAt) (w : World) (x : Writing
   pub group : x.group ≡ record { config = x.config; good = 0; members = []; sequence = 0 }
   pub joiners : x.joiners ≡ new_members 0 pairs
   pub carriers : x.carriers ≡ x.joiners
-
--- the text of the configuration is too long by so many bytes
-abbrev pub RefusedAsLong : Config → End → Type 0
-RefusedAsLong config end = (text : List ℕ) × IsTextOf config text × (522240 < length text) × (end ≡ refused (refusal.TooLong (length text)))
-
--- the edits break a rule, or their text is too long
-abbrev pub EditsRefused : List Edit → Group → End → Type 0
-EditsRefused edits g end =
-    ((r : Refusal) × (refusal_from (refusal_of edits (objects_of g.config)) ≡ Some r) × (end ≡ refused r))
-    ⊎ ((config : Config) × IsEdited edits g.config config × RefusedAsLong config end)
 
 -- what was found is written
 pub record IsImporting (dg : Word) (w : World) (x : Writing) (old new : Counts) : Type 0 where
@@ -227,6 +245,7 @@ IsDone (stage.MakeImage name sectors) disks old new = (old.world.devices name �
 IsDone (stage.Wipe name) disks old new = HasContents name (λ c d. (k : ℕ) → d k ≡ written 0 (replicate 512 0) c k) old.world new.world × WritesOne name old.counts new.counts
 IsDone (stage.StartBare vol name) disks old new = (is_volume vol old.world ≡ false) × IsBare vol name old.world new.world × (new.counts ≡ old.counts)
 IsDone (stage.Change change) disks old new = CommitsBy (λ x. IsChange (edits_of change old.world.group) old.world x) old new
+IsDone (stage.Make text) disks old new = CommitsBy (λ x. IsMaking text old.world x) old new
 IsDone stage.Join disks old new = OnlyDisk disks (λ p. CommitsBy (λ x. IsJoining p old.world x) old new)
 IsDone (stage.Create dg) disks old new = (old.world.group ≡ None) × CommitsBy (λ x. IsCreating dg disks old.world x) old new
 IsDone (stage.Import dg) disks old new = (old.world.group ≡ None) × (mid : Moment) × IsBetween old mid new × CommitsBy (λ x. IsImporting dg old.world x old.counts mid.counts) mid new
@@ -300,6 +319,9 @@ Stops (stage.MakeImage name sectors) disks old end new = (IsSome (old.world.devi
 Stops (stage.Wipe name) disks old end new = HasContents name (IsTorn 0 (replicate 512 0)) old.world new.world × WritesAtMost name old.counts new.counts × DeviceEnds name old end new
 Stops (stage.StartBare vol name) disks old end new = (is_volume vol old.world ≡ true) × EndsIn (refusal.Exists vol) old end new
 Stops (stage.Change change) disks old end new = EditsStop (λ g. edits_of change (Some g)) (λ x. IsChange (edits_of change old.world.group) old.world x) old end new
+Stops (stage.Make text) disks old end new =
+    ((old.world.group ≡ None) × EndsIn (refusal.NoGroup None) old end new)
+    ⊎ ((((g : Group) × (old.world.group ≡ Some g) × MakingRefused text old.world g end) × Rests old new) ⊎ StopsBy (λ x. IsMaking text old.world x) old end new)
 Stops stage.Join disks old end new = OnlyDisk disks (λ p. EditsStop (λ g. joining_edit p old.world g ∷ []) (λ x. IsJoining p old.world x) old end new)
 Stops (stage.Create dg) disks old end new = GroupStops old end new ⊎ StopsBy (λ x. IsCreating dg disks old.world x) old end new
 Stops (stage.Import dg) disks old end new =

@@ -1,6 +1,6 @@
 //! The plan of each form.
 ghost use Rattle.std.specs.Prelude.{◌≡◌, IfOk};
-ghost use Rattle.vx_plans.specs.Plans.{doing, ending, plan_add, plan_bare, plan_deport, plan_init, plan_of, plan_print, plan_rdpol, plan_remove, plan_unsetup};
+ghost use Rattle.vx_plans.specs.Plans.{doing, ending, plan_add, plan_bare, plan_deport, plan_init, plan_make, plan_of, plan_print, plan_rdpol, plan_remove, plan_unsetup};
 ghost use Rattle.vx_plans.specs.declared.stages.Finish.TheVariants.{Records};
 ghost use Rattle.vx_plans.specs.declared.stage.Change.TheVariants as changes;
 ghost use Rattle.vx_plans.specs.declared.stage.Stage.TheVariants as stages;
@@ -11,6 +11,7 @@ use vx_base::OutOfMemory;
 use vx_names::Name;
 use vx_parts::PolicyName;
 use vx_script_forms::{Form, WordPolicy};
+use vx_script_words::Bytes;
 
 /// The plan of a form, where it is built as one. The group is the word of `-g`.
 #[tactic(auto, unfolding(crate::specs::Plans::plan_of))]
@@ -21,15 +22,16 @@ pub fn plan(alloc: Global, group: Option<Name>, form: &Form) -> Result<Option<Pl
         Form::MkImage { device, length } => {
             let device = *device;
             let sectors = *length;
-            doing(alloc, &[Stage::MakeImage { device, sectors }])
+            doing(alloc, [Stage::MakeImage { device, sectors }])
         }
         Form::Bare { vol, device } => bare(alloc, *vol, *device),
         Form::DgInit { dg, disks: _ } => init(alloc, *dg),
         Form::DgAddDisk { dg, disk: _ } => add_disk(alloc, *dg),
-        Form::DgImport { dg } => doing(alloc, &[Stage::Import(*dg)]),
+        Form::DgImport { dg } => doing(alloc, [Stage::Import(*dg)]),
         Form::DgDeport { dg } => deport(alloc, *dg),
         Form::DiskUnsetup { device } => unsetup(alloc, *device),
         Form::PrintM { vol } => print(alloc, group, vol),
+        Form::VxMake { text } => make(alloc, group, text.as_slice()),
         Form::Rdpol { vol, policy } => rdpol(alloc, group, *vol, *policy),
         Form::RemoveVolume { vol } => remove(alloc, group, *vol),
         _ => Ok(None),
@@ -37,16 +39,23 @@ pub fn plan(alloc: Global, group: Option<Name>, form: &Form) -> Result<Option<Pl
 }
 
 /// A plan of these stages that shows nothing.
-fn doing(alloc: Global, stages: &[Stage]) -> Result<Option<Plan>, OutOfMemory>
-    ensures { IfOk result (λ plan. plan ≡ doing stages.now) }
+fn doing<const N: usize>(
+    alloc: Global,
+    stages: [Stage; N],
+) -> Result<Option<Plan>, OutOfMemory>
+    ensures { IfOk result (λ plan. plan ≡ doing stages) }
 {
     ending(alloc, stages, Finish::Nothing)
 }
 
-fn ending(alloc: Global, stages: &[Stage], finish: Finish) -> Result<Option<Plan>, OutOfMemory>
-    ensures { IfOk result (λ plan. plan ≡ ending stages.now finish) }
+fn ending<const N: usize>(
+    alloc: Global,
+    stages: [Stage; N],
+    finish: Finish,
+) -> Result<Option<Plan>, OutOfMemory>
+    ensures { IfOk result (λ plan. plan ≡ ending stages finish) }
 {
-    let stages = Stages::from_vec(Vec::from_slice(alloc, stages)?);
+    let stages = Stages::from_vec(Vec::from_array(alloc, stages)?);
     Ok(Some(Plan { stages, finish }))
 }
 
@@ -55,7 +64,7 @@ fn bare(alloc: Global, vol: Name, device: Name) -> Result<Option<Plan>, OutOfMem
 {
     doing(
         alloc,
-        &[
+        [
             Stage::Take(device),
             Stage::LookBlank(device),
             Stage::Gate(Test::Sized(device)),
@@ -69,7 +78,7 @@ fn init(alloc: Global, dg: Name) -> Result<Option<Plan>, OutOfMemory>
 {
     doing(
         alloc,
-        &[
+        [
             Stage::TakeDisks,
             Stage::LookDisks,
             Stage::Gate(Test::NoGroup),
@@ -86,7 +95,7 @@ fn add_disk(alloc: Global, dg: Name) -> Result<Option<Plan>, OutOfMemory>
 {
     doing(
         alloc,
-        &[
+        [
             Stage::TakeDisks,
             Stage::Gate(Test::GroupIs(Some(dg))),
             Stage::LookDisks,
@@ -102,7 +111,7 @@ fn deport(alloc: Global, dg: Name) -> Result<Option<Plan>, OutOfMemory>
 {
     doing(
         alloc,
-        &[
+        [
             Stage::Gate(Test::GroupIs(Some(dg))),
             Stage::Gate(Test::NoneStarted),
             Stage::LetGo,
@@ -115,7 +124,7 @@ fn unsetup(alloc: Global, device: Name) -> Result<Option<Plan>, OutOfMemory>
 {
     doing(
         alloc,
-        &[
+        [
             Stage::Take(device),
             Stage::LookHeaded(device),
             Stage::Wipe(device),
@@ -133,8 +142,8 @@ fn print(
     let finish = Finish::Records(*vol);
     let here = Stage::Gate(Test::GroupIs(group));
     match vol {
-        None => ending(alloc, &[here], finish),
-        Some(name) => ending(alloc, &[here, Stage::Gate(Test::HasVolume(*name))], finish),
+        None => ending(alloc, [here], finish),
+        Some(name) => ending(alloc, [here, Stage::Gate(Test::HasVolume(*name))], finish),
     }
 }
 
@@ -149,11 +158,11 @@ fn rdpol(
     let here = Stage::Gate(Test::GroupIs(group));
     let recorded = Stage::Gate(Test::HasVolume(vol));
     match words {
-        WordPolicy::Round => doing(alloc, &[here, recorded, policy(vol, PolicyName::Round)]),
-        WordPolicy::Select => doing(alloc, &[here, recorded, policy(vol, PolicyName::Select)]),
+        WordPolicy::Round => doing(alloc, [here, recorded, policy(vol, PolicyName::Round)]),
+        WordPolicy::Select => doing(alloc, [here, recorded, policy(vol, PolicyName::Select)]),
         WordPolicy::Prefer(plex) => doing(
             alloc,
-            &[
+            [
                 here,
                 recorded,
                 Stage::Gate(Test::HasPlex { vol, plex }),
@@ -169,12 +178,22 @@ fn policy(vol: Name, policy: PolicyName) -> Stage
     Stage::Change(Change::Policy { vol, policy })
 }
 
+fn make(alloc: Global, group: Option<Name>, text: &[u8]) -> Result<Option<Plan>, OutOfMemory>
+    ensures { IfOk result (λ plan. plan ≡ doing (plan_make group text.now)) }
+{
+    let text = Bytes::from_vec(Vec::from_slice(alloc, text)?);
+    doing(
+        alloc,
+        [Stage::Gate(Test::GroupIs(group)), Stage::Make(text)],
+    )
+}
+
 fn remove(alloc: Global, group: Option<Name>, vol: Name) -> Result<Option<Plan>, OutOfMemory>
     ensures { IfOk result (λ plan. plan ≡ doing (plan_remove group vol)) }
 {
     doing(
         alloc,
-        &[
+        [
             Stage::Gate(Test::GroupIs(group)),
             Stage::Gate(Test::HasVolume(vol)),
             Stage::Gate(Test::Stopped(vol)),

@@ -1,6 +1,7 @@
 use crate::Test;
 use vx_names::Name;
 use vx_parts::PolicyName;
+use vx_script_words::Bytes;
 
 /// A change of the group's configuration.
 #[derive(Clone, Copy)]
@@ -12,7 +13,7 @@ pub enum Change {
 }
 
 /// A stage of a command. Disks and devices of a list are those of the command's words.
-#[derive(Clone, Copy)]
+#[derive(Drop)]
 pub enum Stage {
     Gate(Test),
     /// The device is free, and the shelf hands it over.
@@ -35,6 +36,8 @@ pub enum Stage {
     StartBare { vol: Name, device: Name },
     /// The configuration of the imported group is changed, and committed.
     Change(Change),
+    /// The records of the text are added to the configuration of the imported group, and this is committed.
+    Make(Bytes),
     /// The only disk of the list joins the group.
     Join,
     /// No group is imported, and one of the name is made of the disks of the list.

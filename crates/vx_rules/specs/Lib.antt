@@ -7,3 +7,4 @@ pub mod Whole
 pub mod Maps
 pub mod Relations
 pub mod Rules
+pub mod Adding

@@ -55,7 +55,7 @@ pub fn first_broken(alloc: Global, all: &[Object]) -> Result<Option<ObjectFault>
     }
 }
 
-fn first_broken_of(
+pub(crate) fn first_broken_of(
     alloc: Global,
     rules: &[Rule],
     index: &Index,

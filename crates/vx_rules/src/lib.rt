@@ -1,6 +1,7 @@
 //! The rules that a valid configuration keeps, and the refusal that a broken rule answers.
 #![tactic(auto)]
 
+mod adding;
 mod check;
 mod index;
 mod limits;
@@ -12,5 +13,6 @@ mod space;
 mod uses;
 mod whole;
 
+pub use adding::{first_broken_among, first_had, firsts, repeated};
 pub use check::first_broken;
 pub use rule::Rule;

@@ -15,7 +15,7 @@ pub use config::Config;
 pub use edit::Edit;
 pub use lists::Listed;
 pub use printed::record_of;
-pub use records::records_of;
+pub use records::{objects_of, records_of};
 pub use vx_parts::{
     Dco, Disk, Group, Limit, Object, ObjectFault, Plex, PlexKind, PlexLayout, PlexState,
     PolicyKind, PolicyName, Snap, Subdisk, Vol, VolState,

@@ -35,7 +35,8 @@ impl Config {
     }
 }
 
-fn objects_of(alloc: Global, records: &[Record]) -> Result<Vec<Object>, OutOfMemory>
+/// The objects that the records say; a number that its field cannot hold is the field's greatest.
+pub fn objects_of(alloc: Global, records: &[Record]) -> Result<Vec<Object>, OutOfMemory>
     ensures { IfOk result (λ all. AreReadAs records.now all.items) }
 {
     let mut all = Vec::new(alloc);

@@ -25,7 +25,8 @@ use Rattle.vx_objects.specs.declared.config.Config.{Config}
 use Rattle.vx_objects.specs.Config.{objects_of}
 use Rattle.vx_plexes.specs.Lies.{strips_from, columns_from, columns_of, HoldsItsVolume}
 use Rattle.vx_plexes.proofs.Members.{IsIn, one_in, one_named, subdisk_of, subdisk_any, vol_any}
-use Rattle.vx_plexes.proofs.Valid.{names_differ, numbers_are, plex_whole}
+use Rattle.vx_rules.proofs.InOrder.{names_differ}
+use Rattle.vx_plexes.proofs.Valid.{numbers_are, plex_whole}
 use Rattle.vx_plexes.proofs.Plexes.{IsValid, and3, and4, filled, column_end, column_sum, column_short}
 use Rattle.vx_plexes.proofs.Apart.{strips_good, apart_columns}
 

@@ -26,7 +26,8 @@ use Rattle.vx_plexes.specs.Once.{HasSector}
 use Rattle.vx_plexes.specs.Lies.{slot_of, strip_of, strips_from}
 use Rattle.vx_plexes.proofs.Members.{IsIn, in_one, all_in, count_one, one_named, subdisk_in, subdisk_of, disk_in, disk_of, subdisk_any, disk_any, same_subdisk, same_disk}
 use Rattle.vx_plexes.proofs.Once.{valid_once}
-use Rattle.vx_plexes.proofs.Valid.{names_differ, slot_own, numbers_are, is_inside}
+use Rattle.vx_rules.proofs.InOrder.{names_differ}
+use Rattle.vx_plexes.proofs.Valid.{slot_own, numbers_are, is_inside}
 use Rattle.vx_plexes.proofs.Chain.{IsPiece, IsWhole, IsEnd, chain_sum}
 
 -- no rule is broken

@@ -10,7 +10,6 @@ use Rattle.vx_rules.specs.declared.rule.Rule.{Rule}
 use Rattle.vx_rules.specs.declared.rule.Rule.TheVariants as rule
 use Rattle.vx_rules.specs.Faults.{first_of}
 use Rattle.vx_rules.specs.Limits.{numbers_fit, slot_is_own}
-use Rattle.vx_rules.specs.References.{repeated_after}
 use Rattle.vx_rules.specs.Space.{lies_inside}
 use Rattle.vx_rules.specs.Whole.{is_whole}
 use Rattle.vx_rules.specs.Rules.{fault_in, fault_over, fault_of, rules, first_broken_of, first_broken}
@@ -32,10 +31,6 @@ pub over_rule : (r : Rule) (all : List Object) → fault_of r all ≡ None → f
 unfolding fault_of
 over_rule r all e = first_none (fault_over r all) (first_of (fault_in r all) all) e
 
-names_rule : (all : List Object) → first_broken all ≡ None → fault_of rule.NamesDiffer all ≡ None
-unfolding first_broken
-names_rule all e = one_rule (take 1 rules) rule.NamesDiffer (drop 2 rules) all e
-
 slots_rule : (all : List Object) → first_broken all ≡ None → fault_of rule.SlotsDiffer all ≡ None
 unfolding first_broken
 slots_rule all e = one_rule (take 3 rules) rule.SlotsDiffer (drop 4 rules) all e
@@ -51,13 +46,6 @@ whole_rule all e = one_rule (take 11 rules) rule.PlexesAreWhole (drop 12 rules) 
 numbers_rule : (all : List Object) → first_broken all ≡ None → fault_of rule.NumbersFit all ≡ None
 unfolding first_broken
 numbers_rule all e = one_rule (take 18 rules) rule.NumbersFit (drop 19 rules) all e
-
-differ_over : (all : List Object) → fault_over rule.NamesDiffer all ≡ None → repeated_after [] all ≡ None
-unfolding fault_over
-differ_over all e = e
-
-pub names_differ : (all : List Object) → first_broken all ≡ None → repeated_after [] all ≡ None
-names_differ all e = differ_over all (over_rule rule.NamesDiffer all (names_rule all e))
 
 slot_in : (all : List Object) (o : Object) → fault_in rule.SlotsDiffer all o ≡ None → slot_is_own all o ≡ true
 unfolding fault_in

@@ -14,6 +14,7 @@ use Rattle.vx_parts.specs.Objects.{name_of}
 use Rattle.vx_rules.specs.Adding.{firsts_after}
 use Rattle.vx_rules.specs.Faults.{first_some, unless}
 use Rattle.vx_rules.specs.References.{has_name, repeated_after}
+use Rattle.vx_rules.proofs.Lookups.{first_none, second_none}
 
 -- with the record behind, unless its name is there already
 abbrev pub pushed_unless : Bool → Object → List Object → List Object
@@ -24,14 +25,6 @@ pushed is_there o out new none is = rw none is
 
 pub passed : (is_there : Bool) (o : Object) (out new : List Object) → is_there ≡ true → new ≡ out → new ≡ pushed_unless is_there o out
 passed is_there o out new some is = rw some is
-
-first_none : {A : Type 0} (a b : Option A) → first_some a b ≡ None → a ≡ None
-first_none None b e = refl
-first_none (Some x) b e = cc
-
-second_none : {A : Type 0} (a b : Option A) → first_some a b ≡ None → b ≡ None
-second_none None b e = e
-second_none (Some x) b e = cc
 
 -- names differ still behind a record of a new name
 repeated_push : (before xs : List Object) (o : Object) → repeated_after before xs ≡ None → has_name (name_of o) (before ++ xs) ≡ false → repeated_after before (xs ++ o ∷ []) ≡ None

@@ -9,6 +9,7 @@ use Rattle.vx_rules.specs.Faults.{first_some, unless, first_of}
 use Rattle.vx_rules.specs.Limits.{has_one_group}
 use Rattle.vx_rules.specs.References.{repeated_after}
 use Rattle.vx_rules.specs.Rules.{fault_in, fault_over, fault_of, first_broken}
+use Rattle.vx_rules.proofs.Lookups.{first_none, second_none}
 
 none_first : {A : Type 0} (f : Option A) → first_some f None ≡ f
 none_first None = refl
@@ -55,3 +56,8 @@ broken_group all holds found repeated fault group is e some = sym (by_group all 
 
 pub broken_name : (all : List Object) (holds : Bool) (found : Option ObjectFault) (repeated : ObjectFault) → holds ≡ has_one_group all → found ≡ unless holds (Limit limit.Group) → repeated_after [] all ≡ Some repeated → found ≡ None → Some repeated ≡ first_broken all
 broken_name all holds found repeated group is e none = sym (by_group all holds found repeated group is e ∙ rw none refl)
+
+-- where no rule is broken names differ
+pub names_differ : (all : List Object) → first_broken all ≡ None → repeated_after [] all ≡ None
+unfolding first_broken
+names_differ all e = sym (names_of all) ∙ first_none (fault_of rule.NamesDiffer all) _ (second_none (fault_of rule.OneGroup all) _ e)

@@ -39,11 +39,11 @@ abbrev HasName : Word → Option Object → Type 0
 HasName name None = Unit {0}
 HasName name (Some o) = bytes_eq (name_of o) name ≡ true
 
-first_none : {A : Type 0} (a b : Option A) → first_some a b ≡ None → a ≡ None
+pub first_none : {A : Type 0} (a b : Option A) → first_some a b ≡ None → a ≡ None
 first_none None b e = refl
 first_none (Some x) b e = cc
 
-second_none : {A : Type 0} (a b : Option A) → first_some a b ≡ None → b ≡ None
+pub second_none : {A : Type 0} (a b : Option A) → first_some a b ≡ None → b ≡ None
 second_none None b e = e
 second_none (Some x) b e = cc
 

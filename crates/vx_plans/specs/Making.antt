@@ -1,5 +1,5 @@
 -- `vxmake -d`: records of a text that are added to a group.
-use Rattle.std.specs.Prelude.{◌≡◌, ℕ, Bool, if◌then◌else◌, is_some, Option, Some, None, List, [], ◌∷◌, ◌++◌, map}
+use Rattle.std.specs.Prelude.{◌≡◌, ℕ, Bool, if◌then◌else◌, is_some, Option, Some, None, List, [], ◌∷◌, ◌++◌}
 use Rattle.std.specs.List.{filter_map}
 use Rattle.vx_base.specs.Named.{Word}
 use Rattle.vx_record.specs.Content.{Content}
@@ -26,7 +26,7 @@ use Rattle.vx_plans.specs.Refusals.{refusal_from}
 -- a log that waits for a snapshot goes on waiting; every other plex is empty
 abbrev pub made_state : PlexKind → PlexState → PlexState
 made_state plex_kind.Log plex_state.DcoSnp = plex_state.DcoSnp
-made_state kind state = plex_state.Empty
+made_state _ _ = plex_state.Empty
 
 -- what becomes of a record: those of groups, disks and relations are passed over
 abbrev pub made : Object → Option Object

@@ -39,11 +39,8 @@ pub fn plan(alloc: Global, group: Option<Name>, form: &Form) -> Result<Option<Pl
 }
 
 /// A plan of these stages that shows nothing.
-fn doing<const N: usize>(
-    alloc: Global,
-    stages: [Stage; N],
-) -> Result<Option<Plan>, OutOfMemory>
-    ensures { IfOk result (λ plan. plan ≡ doing stages) }
+fn doing<const N: usize>(alloc: Global, stages: [Stage; N]) -> Result<Option<Plan>, OutOfMemory>
+    ensures { IfOk result (λ plan. plan ≡ doing stages.entry) }
 {
     ending(alloc, stages, Finish::Nothing)
 }
@@ -53,7 +50,7 @@ fn ending<const N: usize>(
     stages: [Stage; N],
     finish: Finish,
 ) -> Result<Option<Plan>, OutOfMemory>
-    ensures { IfOk result (λ plan. plan ≡ ending stages finish) }
+    ensures { IfOk result (λ plan. plan ≡ ending stages.entry finish) }
 {
     let stages = Stages::from_vec(Vec::from_array(alloc, stages)?);
     Ok(Some(Plan { stages, finish }))

@@ -93,6 +93,7 @@ module _ {P : Type 0} (see : P → Seen) (disks : List DiskAt) where
       by (stage.Wipe name) keeps first still = cc
       by (stage.StartBare vol name) keeps first still = cc
       by (stage.Change change) keeps first still = cc
+      by (stage.Make text) keeps first still = cc
       by stage.Join keeps first still = cc
       by (stage.Create dg) keeps first still = cc
       by (stage.Import dg) keeps first still = cc

@@ -30,7 +30,7 @@ pub(crate) fn run_stages<S: Shelf>(
     ensures go { StagesGo S.P.seen disks.now stages.now result (at (shelved S.free S.held S.counted S.faults shelf.old) house.old) (at (shelved S.free S.held S.counted S.faults shelf.new) house.new) }
 {
     for stage in stages {
-        if let Err(stop) = run_stage(alloc, house, shelf, *stage, disks) {
+        if let Err(stop) = run_stage(alloc, house, shelf, stage, disks) {
             return Err(stop);
         }
     }

@@ -13,6 +13,7 @@ use vx_finding::import;
 use vx_gates::failing;
 use vx_house::{House, Stop, give_group, refused, take, take_disks};
 use vx_looks::{look_blank, look_disks, look_headed, make_image, search, start_bare, wipe};
+use vx_making::make;
 use vx_piece::Piece;
 use vx_plans::{Stage, Test};
 use vx_script_words::DiskAt;
@@ -23,30 +24,31 @@ pub(crate) fn run_stage<S: Shelf>(
     alloc: Global,
     house: &mut House<S::P>,
     shelf: &mut S,
-    stage: Stage,
+    stage: &Stage,
     disks: &[DiskAt],
 ) -> Result<(), Stop>
     requires keeps { Keeps S.P.seen (at (shelved S.free S.held S.counted S.faults shelf.old) house.old) }
-    requires ready { IsReady S.P.seen stage disks.now house.old }
-    requires sized { HasSize stage }
-    ensures goes { StageGoes S.P.seen stage disks.now result (at (shelved S.free S.held S.counted S.faults shelf.old) house.old) (at (shelved S.free S.held S.counted S.faults shelf.new) house.new) }
+    requires ready { IsReady S.P.seen stage.now disks.now house.old }
+    requires sized { HasSize stage.now }
+    ensures goes { StageGoes S.P.seen stage.now disks.now result (at (shelved S.free S.held S.counted S.faults shelf.old) house.old) (at (shelved S.free S.held S.counted S.faults shelf.new) house.new) }
 {
     match stage {
-        Stage::Gate(test) => pass(alloc, house, test, disks),
-        Stage::Take(device) => take(alloc, house, shelf, &device),
+        Stage::Gate(test) => pass(alloc, house, *test, disks),
+        Stage::Take(device) => take(alloc, house, shelf, device),
         Stage::TakeDisks => take_disks(alloc, house, shelf, disks),
         Stage::LookBlank(_) => look_blank(alloc, house),
         Stage::LookDisks => look_disks(alloc, house),
-        Stage::LookHeaded(device) => look_headed(alloc, house, &device, disks),
-        Stage::Search(dg) => search(alloc, house, shelf, &dg, disks),
-        Stage::MakeImage { device, sectors } => make_image(alloc, house, shelf, &device, sectors),
-        Stage::Wipe(device) => wipe(alloc, house, &device, disks),
-        Stage::StartBare { vol, device } => start_bare(alloc, house, &vol, &device, disks),
-        Stage::Change(edit) => change(alloc, house, edit),
-        Stage::Import(dg) => import(alloc, house, shelf, &dg, disks),
+        Stage::LookHeaded(device) => look_headed(alloc, house, device, disks),
+        Stage::Search(dg) => search(alloc, house, shelf, dg, disks),
+        Stage::MakeImage { device, sectors } => make_image(alloc, house, shelf, device, *sectors),
+        Stage::Wipe(device) => wipe(alloc, house, device, disks),
+        Stage::StartBare { vol, device } => start_bare(alloc, house, vol, device, disks),
+        Stage::Change(edit) => change(alloc, house, *edit),
+        Stage::Make(text) => make(alloc, house, text.as_slice()),
+        Stage::Import(dg) => import(alloc, house, shelf, dg, disks),
         Stage::LetGo => let_go(house, shelf),
         Stage::Join => join(alloc, house, disks),
-        Stage::Create(dg) => create(alloc, house, &dg, disks),
+        Stage::Create(dg) => create(alloc, house, dg, disks),
     }
 }
 

@@ -14,7 +14,7 @@ use crate::planning::{NextConfig, edits_of, planned};
 use std::alloc::Global;
 use vx_answers::Refusal;
 use vx_house::{House, Imported, Stop, refused};
-use vx_objects::Config;
+use vx_objects::Edit;
 use vx_piece::Piece;
 use vx_plans::Change;
 
@@ -33,19 +33,23 @@ fn change_in<P: Piece>(alloc: Global, group: &mut Imported<P>, change: Change) -
     requires kept { IsGroupKept P.seen group.old }
     ensures ends { ChangeEnds P.seen (change_edits change group.old.config) result group.old group.new }
 {
-    let NextConfig { config, text } = plan(alloc, &group.config, change)?;
+    let Ok(edits) = edits_of(alloc, change, &group.config) else {
+        return Err(Stop::OutOfMemory);
+    };
+    commit_edits(alloc, group, &edits)
+}
+
+/// Applies the edits to the configuration of a group, and commits it.
+pub fn commit_edits<P: Piece>(
+    alloc: Global,
+    group: &mut Imported<P>,
+    edits: &[Edit],
+) -> Result<(), Stop>
+    requires kept { IsGroupKept P.seen group.old }
+    ensures ends { ChangeEnds P.seen edits.now result group.old group.new }
+{
+    let NextConfig { config, text } = planned(alloc, &group.config, edits)?;
     commit(alloc, &mut group.base, &text)?;
     group.config = config;
     Ok(())
-}
-
-/// What is to be committed.
-fn plan(alloc: Global, config: &Config, change: Change) -> Result<NextConfig, Stop>
-    ensures planned { IfOk result (IsPlanned (change_edits change config.now) config.now) }
-    ensures unplanned { IfErr result (IsUnplanned (change_edits change config.now) config.now) }
-{
-    match edits_of(alloc, change, config) {
-        Ok(edits) => planned(alloc, config, &edits),
-        Err(_) => Err(Stop::OutOfMemory),
-    }
 }

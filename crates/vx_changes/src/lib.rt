@@ -10,6 +10,6 @@ mod joining;
 mod planning;
 mod slots;
 
-pub use changing::change;
+pub use changing::{change, commit_edits};
 pub use creating::create;
 pub use joining::join;

@@ -21,8 +21,9 @@ use vx_header::PRIVATE_SECTORS;
 use vx_house::{House, Imported, Taken};
 use vx_names::Name;
 use vx_objects::{Group, Object};
-use vx_parts::{Disk, Limit, ObjectFault, same};
+use vx_parts::{Disk, Limit, same};
 use vx_piece::Piece;
+use vx_plans::refusal_by;
 use vx_rules::first_broken;
 use vx_script_words::DiskAt;
 
@@ -153,24 +154,6 @@ pub(crate) fn has_group_records<P: Piece>(
     match first_broken(alloc, &records)? {
         None => Ok(None),
         Some(fault) => refusal_by(&fault),
-    }
-}
-
-/// Why a broken rule refuses a command.
-fn refusal_by(fault: &ObjectFault) -> Result<Option<Refusal>, OutOfMemory>
-    ensures { IfOk result (λ refusal. refusal ≡ refusal_from (Some fault.now)) }
-{
-    match fault {
-        ObjectFault::Exists(name) => Ok(Some(Refusal::Exists(*name))),
-        ObjectFault::NoObject(name) => Ok(Some(Refusal::NoObject(*name))),
-        ObjectFault::InUse(name) => Ok(Some(Refusal::InUse(*name))),
-        ObjectFault::Overlap(name) => Ok(Some(Refusal::Overlap(*name))),
-        ObjectFault::Outside(name) => Ok(Some(Refusal::Outside(*name))),
-        ObjectFault::NoMap(name) => Ok(Some(Refusal::NoMap(*name))),
-        ObjectFault::Limit(which) => Ok(Some(Refusal::Limit(*which))),
-        ObjectFault::NotWhole(name) => Ok(Some(Refusal::NotWhole(*name))),
-        ObjectFault::NoLog(name) => Ok(Some(Refusal::NoLog(*name))),
-        ObjectFault::OutOfMemory => Err(OutOfMemory),
     }
 }
 

@@ -11,10 +11,8 @@ use Rattle.vx_parts.specs.declared.plex.PlexKind.TheVariants as plex_kind
 use Rattle.vx_parts.specs.declared.state.PlexState.{PlexState}
 use Rattle.vx_parts.specs.declared.state.PlexState.TheVariants as plex_state
 use Rattle.vx_parts.specs.declared.state.VolState.TheVariants as vol_state
-use Rattle.vx_rules.specs.Adding.{firsts, had_fault}
+use Rattle.vx_rules.specs.Adding.{first_broken_by, firsts, had_fault}
 use Rattle.vx_rules.specs.Faults.{first_some, first_of}
-use Rattle.vx_rules.specs.References.{repeated_after}
-use Rattle.vx_rules.specs.Rules.{first_broken_of}
 use Rattle.vx_rules.specs.declared.rule.Rule.{Rule}
 use Rattle.vx_rules.specs.declared.rule.Rule.TheVariants as rule
 use Rattle.vx_objects.specs.Printed.{AreReadAs}
@@ -42,7 +40,7 @@ made (SnapRecord s) = None
 abbrev pub Adds : List ℕ → List Object → Type 0
 Adds text added = (rs : List Content) × (all : List Object) × Spells text rs × AreReadAs rs all × (added ≡ filter_map made all)
 
--- the rules of a configuration by what they answer: what is referred to is there, limits, space and logs
+-- the rules of a configuration by what they answer: what is referred to is there; limits; names, space and logs
 abbrev pub reference_rules : List Rule
 reference_rules = rule.ReferencesAreThere ∷ rule.PreferredPlexIsThere ∷ []
 
@@ -53,11 +51,11 @@ limit_rules =
 
 abbrev pub space_rules : List Rule
 space_rules =
-    rule.SubdisksDoNotOverlap ∷ rule.SubdisksLieInside ∷ rule.PlexesAreWhole ∷ rule.LogsAreGood ∷ rule.RelatedVolumesHaveLogs ∷ rule.MapsAreGood ∷ []
+    rule.NamesDiffer ∷ rule.SubdisksDoNotOverlap ∷ rule.SubdisksLieInside ∷ rule.PlexesAreWhole ∷ rule.LogsAreGood ∷ rule.RelatedVolumesHaveLogs ∷ rule.MapsAreGood ∷ []
 
--- the first of these rules that is broken by the first records of each name
+-- The first of these rules that is broken. A name that two records have is that of the first.
 abbrev pub broken : List Rule → List Object → List Object → Option Refusal
-broken rules group added = refusal_from (first_broken_of rules (firsts (group ++ added)))
+broken rules group added = refusal_from (first_broken_by rules (firsts (group ++ added)) (group ++ added))
 
 -- the first volume that has the name of a started one
 abbrev pub started_name : (Word → Bool) → List Object → Option Refusal
@@ -73,8 +71,7 @@ adding_refusal is_started group added =
     (first_some (refusal_from (first_of (had_fault group) added))
     (first_some (broken limit_rules group added)
     (first_some (started_name is_started added)
-    (first_some (refusal_from (repeated_after [] (group ++ added)))
-    (broken space_rules group added)))))
+    (broken space_rules group added))))
 
 -- a volume of the name is started
 abbrev pub is_started : World → Word → Bool

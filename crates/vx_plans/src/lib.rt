@@ -4,12 +4,14 @@
 
 mod laws;
 mod planning;
+mod refusals;
 mod stage;
 mod stages;
 mod test;
 
 pub use laws::each_plan_is_complete;
 pub use planning::plan;
+pub use refusals::refusal_by;
 pub use stage::{Change, Stage};
 pub use stages::{Finish, Plan, Stages};
 pub use test::Test;

@@ -12,7 +12,7 @@ use Rattle.vx_parts.specs.declared.object.Object.{Object}
 use Rattle.vx_parts.specs.declared.fault.ObjectFault.TheVariants.{Exists}
 use Rattle.vx_parts.specs.Objects.{name_of}
 use Rattle.vx_rules.specs.Adding.{firsts_after}
-use Rattle.vx_rules.specs.Faults.{first_some, unless}
+use Rattle.vx_rules.specs.Faults.{unless}
 use Rattle.vx_rules.specs.References.{has_name, repeated_after}
 use Rattle.vx_rules.proofs.Lookups.{first_none, second_none}
 

@@ -6,9 +6,11 @@ use Rattle.vx_parts.specs.declared.object.Object.TheVariants.{GroupRecord, DiskR
 use Rattle.vx_parts.specs.declared.fault.ObjectFault.{ObjectFault}
 use Rattle.vx_parts.specs.declared.fault.ObjectFault.TheVariants.{InUse}
 use Rattle.vx_parts.specs.Objects.{name_of}
-use Rattle.vx_rules.specs.Faults.{first_some}
+use Rattle.vx_rules.specs.declared.rule.Rule.{Rule}
+use Rattle.vx_rules.specs.Faults.{first_some, first_of}
 use Rattle.vx_rules.specs.Named.{first_named, as_plex, as_vol, as_dco}
 use Rattle.vx_rules.specs.References.{has_name}
+use Rattle.vx_rules.specs.Rules.{fault_in, fault_over}
 
 -- of records whose names are not among those before, the first of each name
 abbrev pub firsts_after : List Object → List Object → List Object
@@ -18,6 +20,15 @@ firsts_after before (o ∷ os) = if has_name (name_of o) before then firsts_afte
 -- the first record of each name, in order
 unfoldable pub firsts : List Object → List Object
 firsts all = firsts_after [] all
+
+-- the fault under a rule of records, where what they refer to is looked up among those that are known
+abbrev pub fault_by : Rule → List Object → List Object → Option ObjectFault
+fault_by r known all = first_some (fault_over r all) (first_of (fault_in r known) all)
+
+-- the fault under the first of the rules that is broken
+abbrev pub first_broken_by : List Rule → List Object → List Object → Option ObjectFault
+first_broken_by [] known all = None
+first_broken_by (r ∷ rs) known all = first_some (fault_by r known all) (first_broken_by rs known all)
 
 -- the record is a plex, a volume or a DCO
 abbrev pub is_had_as : Option Object → Bool

@@ -1,19 +1,21 @@
 //! Records that are to be added to those of a group.
 ghost use Rattle.std.specs.Prelude.{◌≡◌, [], None, Some, IfOk};
-ghost use Rattle.vx_rules.specs.Adding.{firsts, is_had_as, is_had, had, had_fault};
+ghost use Rattle.vx_rules.specs.Adding.{fault_by, first_broken_by, firsts, is_had_as, is_had, had, had_fault};
 ghost use Rattle.vx_rules.specs.Faults.{first_of};
 ghost use Rattle.vx_rules.specs.Named.{first_named};
 ghost use Rattle.vx_rules.specs.References.{repeated_after};
-ghost use Rattle.vx_rules.specs.Rules.{first_broken_of};
+ghost use Rattle.vx_rules.specs.Rules.{fault_over};
 
 use crate::Rule;
-use crate::check::first_broken_of;
+use crate::check::{first_in, limit_unless};
 use crate::index::Index;
+use crate::limits::{has_one_group, volumes_are_few};
 use std::alloc::Global;
 use std::collections::BTreeMap;
 use vx_base::OutOfMemory;
+use vx_extents::overlap_fault;
 use vx_names::Name;
-use vx_parts::{Object, ObjectFault};
+use vx_parts::{Limit, Object, ObjectFault};
 
 /// The first record of each name, in order.
 pub fn firsts(alloc: Global, all: &[Object]) -> Result<Vec<Object>, OutOfMemory>
@@ -34,7 +36,7 @@ pub fn firsts(alloc: Global, all: &[Object]) -> Result<Vec<Object>, OutOfMemory>
 }
 
 /// The fault of the first record whose name an earlier one has.
-pub fn repeated(alloc: Global, all: &[Object]) -> Result<Option<ObjectFault>, OutOfMemory>
+fn repeated(alloc: Global, all: &[Object]) -> Result<Option<ObjectFault>, OutOfMemory>
     ensures { IfOk result (λ fault. fault ≡ repeated_after [] all.now) }
 {
     match Index::new(alloc, all)? {
@@ -46,18 +48,68 @@ pub fn repeated(alloc: Global, all: &[Object]) -> Result<Option<ObjectFault>, Ou
     }
 }
 
-/// The first of these rules that is broken by records whose names differ, with the first record that breaks it.
-pub fn first_broken_among(
+/// The first of these rules that the records break, with the first record that breaks it. What they refer to is looked up
+/// among those that are known, whose names differ.
+pub fn first_broken_by(
     alloc: Global,
     rules: &[Rule],
+    known: &[Object],
     all: &[Object],
 ) -> Result<Option<ObjectFault>, OutOfMemory>
-    requires differ { repeated_after [] all.now ≡ None }
-    ensures { IfOk result (λ fault. fault ≡ first_broken_of rules.now all.now) }
+    requires differ { repeated_after [] known.now ≡ None }
+    ensures { IfOk result (λ fault. fault ≡ first_broken_by rules.now known.now all.now) }
 {
-    match Index::new(alloc, all)? {
-        Ok(index) => first_broken_of(alloc, rules, &index),
+    match Index::new(alloc, known)? {
+        Ok(index) => first_broken_in(alloc, rules, &index, all),
         Err(_) => unreachable!(),
+    }
+}
+
+fn first_broken_in(
+    alloc: Global,
+    rules: &[Rule],
+    index: &Index,
+    all: &[Object],
+) -> Result<Option<ObjectFault>, OutOfMemory>
+    ensures { IfOk result (λ fault. fault ≡ first_broken_by rules.now index.now.all.now all.now) }
+{
+    for rule in rules {
+        if let Some(fault) = fault_by(alloc, *rule, index, all)? {
+            return Ok(Some(fault));
+        }
+    }
+    Ok(None)
+}
+
+fn fault_by(
+    alloc: Global,
+    rule: Rule,
+    index: &Index,
+    all: &[Object],
+) -> Result<Option<ObjectFault>, OutOfMemory>
+    ensures { IfOk result (λ fault. fault ≡ fault_by rule index.now.all.now all.now) }
+{
+    match fault_over_any(alloc, rule, all)? {
+        Some(fault) => Ok(Some(fault)),
+        None => Ok(first_in(rule, index, all)),
+    }
+}
+
+/// The fault under a rule on the records together, whether their names differ or not.
+#[tactic(auto, unfolding(crate::specs::Rules::fault_over))]
+fn fault_over_any(
+    alloc: Global,
+    rule: Rule,
+    all: &[Object],
+) -> Result<Option<ObjectFault>, OutOfMemory>
+    ensures { IfOk result (λ fault. fault ≡ fault_over rule all.now) }
+{
+    match rule {
+        Rule::OneGroup => Ok(limit_unless(has_one_group(all), Limit::Group)),
+        Rule::NamesDiffer => repeated(alloc, all),
+        Rule::VolumesAreFew => Ok(limit_unless(volumes_are_few(all), Limit::Volumes)),
+        Rule::SubdisksDoNotOverlap => overlap_fault(alloc, all),
+        _ => Ok(None),
     }
 }
 

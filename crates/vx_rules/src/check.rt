@@ -55,7 +55,7 @@ pub fn first_broken(alloc: Global, all: &[Object]) -> Result<Option<ObjectFault>
     }
 }
 
-pub(crate) fn first_broken_of(
+fn first_broken_of(
     alloc: Global,
     rules: &[Rule],
     index: &Index,
@@ -76,7 +76,7 @@ fn fault_of(alloc: Global, rule: Rule, index: &Index) -> Result<Option<ObjectFau
 {
     match fault_over(alloc, rule, index)? {
         Some(fault) => Ok(Some(fault)),
-        None => Ok(first_in(rule, index)),
+        None => Ok(first_in(rule, index, index.all)),
     }
 }
 
@@ -93,10 +93,11 @@ fn fault_over(alloc: Global, rule: Rule, index: &Index) -> Result<Option<ObjectF
     }
 }
 
-fn first_in(rule: Rule, index: &Index) -> Option<ObjectFault>
-    ensures { result ≡ first_of (fault_in rule index.now.all.now) index.now.all.now }
+/// The fault of the first of these records that breaks the rule.
+pub(crate) fn first_in(rule: Rule, index: &Index, objects: &[Object]) -> Option<ObjectFault>
+    ensures { result ≡ first_of (fault_in rule index.now.all.now) objects.now }
 {
-    for object in index.all {
+    for object in objects {
         if let Some(fault) = fault_in(rule, index, object) {
             return Some(fault);
         }
@@ -129,7 +130,7 @@ fn fault_in(rule: Rule, index: &Index, object: &Object) -> Option<ObjectFault>
     }
 }
 
-fn limit_unless(holds: bool, limit: Limit) -> Option<ObjectFault>
+pub(crate) fn limit_unless(holds: bool, limit: Limit) -> Option<ObjectFault>
     ensures { result ≡ unless holds (ObjectFault.Limit limit) }
 {
     if holds {

@@ -13,6 +13,6 @@ mod space;
 mod uses;
 mod whole;
 
-pub use adding::{first_broken_among, first_had, firsts, repeated};
+pub use adding::{first_broken_by, first_had, firsts};
 pub use check::first_broken;
 pub use rule::Rule;

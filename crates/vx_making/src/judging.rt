@@ -1,19 +1,19 @@
 //! The tests of records that are to be added, in the order of the documentation.
 ghost use Rattle.std.specs.Prelude.{◌≡◌, ◌++◌, [], None, IfOk, IfErr};
 ghost use Rattle.vx_objects.specs.Config.{objects_of};
-ghost use Rattle.vx_plans.specs.Making.{adding_refusal, broken, limit_rules, reference_rules, space_rules, started_name};
+ghost use Rattle.vx_plans.specs.Making.{adding_refusal, started_name};
 ghost use Rattle.vx_plans.specs.Refusals.{refusal_from};
 ghost use Rattle.vx_rules.specs.Adding.{first_broken_by, firsts, had_fault};
 ghost use Rattle.vx_rules.specs.Faults.{first_of};
 ghost use Rattle.vx_rules.specs.References.{repeated_after};
-ghost use Rattle.vx_making.specs.Judging.{is_running, IsReady, IsUnready};
+ghost use Rattle.vx_making.specs.Judging.{behind_limits, behind_references, behind_uses, is_running, refusal_of, IsReady, IsUnready};
 
 use crate::adding::added_by;
 use std::alloc::Global;
 use std::collections::BTreeMap;
-use vx_answers::Refusal;
+use vx_answers::{End, Refusal};
 use vx_base::OutOfMemory;
-use vx_house::{Stop, refused};
+use vx_house::Stop;
 use vx_names::Name;
 use vx_objects::{Config, Object, Rule};
 use vx_plans::refusal_by;
@@ -64,7 +64,7 @@ pub(crate) fn judge<P>(
     };
     match refusal {
         None => Ok(added),
-        Some(refusal) => refused(refusal),
+        Some(refusal) => Err(Stop::Ended(End::Refused(refusal))),
     }
 }
 
@@ -80,19 +80,90 @@ fn refusal_in<P>(
     let group = config.objects(alloc)?;
     let all = behind(alloc, &group, added)?;
     let known = firsts(alloc, &all)?;
-    if let Some(refusal) = broken(alloc, &REFERENCES, &known, &all)? {
-        return Ok(Some(refusal));
+    refusal_among(alloc, volumes, &group, added, &known, &all)
+}
+
+fn refusal_among<P>(
+    alloc: Global,
+    volumes: &BTreeMap<Name, Started<P>>,
+    group: &[Object],
+    added: &[Object],
+    known: &[Object],
+    all: &[Object],
+) -> Result<Option<Refusal>, OutOfMemory>
+    requires group { repeated_after [] group.now ≡ None }
+    requires differ { repeated_after [] known.now ≡ None }
+    ensures { IfOk result (λ refusal. refusal ≡ refusal_of (is_running volumes.now) group.now added.now known.now all.now) }
+{
+    match broken(alloc, &REFERENCES, known, all)? {
+        Some(refusal) => Ok(Some(refusal)),
+        None => behind_references(alloc, volumes, group, added, known, all),
     }
-    if let Some(fault) = first_had(alloc, &group, added)? {
-        return refusal_by(&fault);
+}
+
+fn behind_references<P>(
+    alloc: Global,
+    volumes: &BTreeMap<Name, Started<P>>,
+    group: &[Object],
+    added: &[Object],
+    known: &[Object],
+    all: &[Object],
+) -> Result<Option<Refusal>, OutOfMemory>
+    requires group { repeated_after [] group.now ≡ None }
+    requires differ { repeated_after [] known.now ≡ None }
+    ensures { IfOk result (λ refusal. refusal ≡ behind_references (is_running volumes.now) group.now added.now known.now all.now) }
+{
+    match had(alloc, group, added)? {
+        Some(refusal) => Ok(Some(refusal)),
+        None => behind_uses(alloc, volumes, added, known, all),
     }
-    if let Some(refusal) = broken(alloc, &LIMITS, &known, &all)? {
-        return Ok(Some(refusal));
+}
+
+/// The refusal of the first record that refers to what the group has already.
+fn had(
+    alloc: Global,
+    group: &[Object],
+    added: &[Object],
+) -> Result<Option<Refusal>, OutOfMemory>
+    requires group { repeated_after [] group.now ≡ None }
+    ensures { IfOk result (λ refusal. refusal ≡ refusal_from (first_of (had_fault group.now) added.now)) }
+{
+    match first_had(alloc, group, added)? {
+        None => Ok(None),
+        Some(fault) => refusal_by(&fault),
     }
-    if let Some(refusal) = started_name(volumes, added) {
-        return Ok(Some(refusal));
+}
+
+fn behind_uses<P>(
+    alloc: Global,
+    volumes: &BTreeMap<Name, Started<P>>,
+    added: &[Object],
+    known: &[Object],
+    all: &[Object],
+) -> Result<Option<Refusal>, OutOfMemory>
+    requires differ { repeated_after [] known.now ≡ None }
+    ensures { IfOk result (λ refusal. refusal ≡ behind_uses (is_running volumes.now) added.now known.now all.now) }
+{
+    match broken(alloc, &LIMITS, known, all)? {
+        Some(refusal) => Ok(Some(refusal)),
+        None => behind_limits(alloc, volumes, added, known, all),
     }
-    broken(alloc, &SPACE, &known, &all)
+}
+
+fn behind_limits<P>(
+    alloc: Global,
+    volumes: &BTreeMap<Name, Started<P>>,
+    added: &[Object],
+    known: &[Object],
+    all: &[Object],
+) -> Result<Option<Refusal>, OutOfMemory>
+    requires differ { repeated_after [] known.now ≡ None }
+    ensures { IfOk result (λ refusal. refusal ≡ behind_limits (is_running volumes.now) added.now known.now all.now) }
+{
+    match started_name(volumes, added) {
+        Some(refusal) => Ok(Some(refusal)),
+        None => broken(alloc, &SPACE, known, all),
+    }
 }
 
 /// The records of the group, and behind them those that are to be added.

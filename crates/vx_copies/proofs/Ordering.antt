@@ -49,8 +49,8 @@ module _ (group : Word) (before : ℕ) where
   pub in_order : (last : ℕ) (hs : List Held) → IsOrdered group before last hs → AreInOrder group before hs
   in_order last hs is = all_pair _ _ (λ a b beside o p f g. (beside o f).order p g) hs is.beside
 
-  pub order_later : (last later : ℕ) (hs : List Held) → last ≤ later → IsOrdered group before last hs → IsOrdered group before later hs
-  order_later last later hs le is = record { up_to = all_one _ _ (λ h up o since. let u = up o since in omega (arith, u, le)) hs is.up_to; beside = is.beside }
+  pub none_newer : (hs : List Held) → AllOf (IsBelow group before) hs → AreInOrder group before hs
+  none_newer hs below = in_order before hs (order_below before hs below)
 
 module _ (group : Word) (sequence mask : ℕ) (text : List ℕ) where
   -- the disk offers what it did, or it was good and offers this

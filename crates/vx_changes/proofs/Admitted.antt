@@ -30,7 +30,6 @@ use Rattle.vx_commits.proofs.Alone.{touched_by, called_by, went_by, low_by}
 use Rattle.vx_commits.proofs.Called.{holder_in, IsCalled}
 use Rattle.vx_commits.proofs.Holders.{mapped_holders, world_group, group_before}
 use Rattle.vx_commits.proofs.Joined.{IsWent, AreCalled, AreWritten}
-use Rattle.vx_commits.proofs.Lists.{each_append, each_long}
 use Rattle.vx_commits.proofs.Members.{member_in, writing}
 use Rattle.vx_commits.proofs.Slotted.{AreSlotted, slotted}
 use Rattle.vx_changes.specs.Joining.{disk_for, IsJoin, IsInHand}
@@ -38,6 +37,7 @@ use Rattle.vx_changes.proofs.Configs.{joined_group}
 use Rattle.vx_changes.proofs.Entered.{take_front, drop_back, held_long, holders_before, joins_called, joins_went, joins_enlisted}
 use Rattle.vx_changes.proofs.Room.{unrecorded}
 use Rattle.vx_changes.proofs.Unjoined.{hand_sectors}
+use Rattle.vx_house.proofs.Lists.{each_append, each_long}
 
 -- one more disk, whose slot is none of theirs
 slots_more : (h : Held) (hs : List Held) → AllOf (λ e. e.slot ≢ h.slot) hs → AreSlotted hs → AreSlotted (hs ++ h ∷ [])

@@ -52,8 +52,8 @@ use Rattle.vx_commits.proofs.Alone.{low_by}
 use Rattle.vx_commits.proofs.Done.{any_good}
 use Rattle.vx_commits.proofs.Joined.{AreDone, joiners_lost_on, power_lost_on, joiners_committed_on}
 use Rattle.vx_commits.proofs.Staged.{volumes_kept, group_lost_stage, power_lost_stage, done_stage}
-use Rattle.vx_commits.proofs.Lists.{all_over}
 use Rattle.vx_commits.proofs.Members.{member_in}
+use Rattle.vx_copies.proofs.Ordering.{each_all}
 
 -- where none of a kind is there, there is none
 pub none_of : {X : Type 0} (o : Option X) → ((y : X) → o ≡ Some y → ⊥) → o ≡ None
@@ -217,7 +217,7 @@ module _ {P : Type 0} (see : P → Seen) (dg : Word) (pairs : List DiskAt) (shel
 
           hand_kept : AllOf (λ u. 0 < (see u.piece).sectors) now.hand.items
           hand_kept = subst (AllOf (λ u. 0 < (see u.piece).sectors)) (sym hand)
-              (disks_some see back (all_over (λ h. 0 < h.seen.sectors) (Joins dg text) (λ a b joins some. subst (λ n. 0 < n) (sym joins.kept.sectors) some) hs ks is_begun.joins (hand_some see 0 old.hand.items pairs keeps.hand)))
+              (disks_some see back (each_all (Joins dg text) (λ h. 0 < h.seen.sectors) (λ h. 0 < h.seen.sectors) (λ a b joins some. subst (λ n. 0 < n) (sym joins.kept.sectors) some) hs ks is_begun.joins (hand_some see 0 old.hand.items pairs keeps.hand)))
 
           group_lost : Each HasRisen hs ks → StageGoes {T = Unit {0}} see (stage.Create dg) pairs (Err (stops.Ended ends.GroupLost)) (at shelf old) (at shelf now)
           group_lost risen = group_lost_stage (calls begun_of) (stage.Create dg) pairs keeps hand_kept (λ m is. inr (

@@ -26,13 +26,13 @@ use Rattle.vx_house.proofs.Ended.{moment_but_group}
 use Rattle.vx_house.proofs.Listed.{all_each}
 use Rattle.vx_commits.proofs.Called.{holder_in}
 use Rattle.vx_commits.proofs.Joined.{AreCalled, AreWritten, moment_on, back_gone}
-use Rattle.vx_commits.proofs.Lists.{all_of_pairs}
 use Rattle.vx_commits.proofs.Members.{member_in, writing, IsGone}
 use Rattle.vx_commits.proofs.Slotted.{slotted}
 use Rattle.vx_changes.specs.Creating.{disks_from, IsDrawn}
 use Rattle.vx_changes.proofs.Drawn.{named_so}
 use Rattle.vx_changes.proofs.Enlisted.{names_in, all_good, have_slots, hand_held, members_from, records_from}
 use Rattle.vx_changes.proofs.Entered.{IsWhole, joins_called, joins_went, joins_enlisted}
+use Rattle.vx_house.proofs.Lists.{all_of_pairs}
 
 -- A house whose devices in hand were to become a group, with this configuration, and as their disks are now.
 pub record IsBegunOf {P : Type 0} (see : P → Seen) (dg : Word) (pairs : List DiskAt) (shelf : Shelved) (old now : House P) (text : List ℕ) (config : Config) (last : ℕ) (ks : List Held) : Type 0 where

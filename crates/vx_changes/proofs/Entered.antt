@@ -17,8 +17,9 @@ use Rattle.vx_house.specs.declared.house.Taken.{Taken}
 use Rattle.vx_commits.proofs.Called.{holder_in, IsCalled}
 use Rattle.vx_commits.proofs.Holders.{mapped_holders, both_tell}
 use Rattle.vx_commits.proofs.Joined.{IsWent, IsNamedAs, IsEnlisted}
-use Rattle.vx_commits.proofs.Lists.{each_imp, each_two, each_first}
 use Rattle.vx_commits.proofs.Members.{member_in}
+use Rattle.vx_copies.proofs.Going.{each_map}
+use Rattle.vx_house.proofs.Lists.{each_two, each_first}
 
 pub take_front : {X : Type 0} (n : ℕ) (xs ys : List X) → n ≡ length xs → take n (xs ++ ys) ≡ xs
 take_front n [] ys e = subst (λ k. take k ys ≡ []) (sym e) refl
@@ -43,7 +44,7 @@ module _ (group : Word) (first last : ℕ) (text : List ℕ) (Masks : ℕ → Ty
       (λ a b joins enlists. record { device = joins.device; kept = joins.kept; reads = enlists.reads; tells = both_tell (Comes (label_in group a) first last text Masks) a.seen.told b.seen.told enlists.comes }) js ks joins enlists
 
   pub joins_went : Each IsWent js ks
-  joins_went = each_imp (Joins group text) IsWent (λ a b joins. record { slot = joins.slot; good = joins.good }) js ks joins
+  joins_went = each_map (Joins group text) IsWent (λ a b joins. record { slot = joins.slot; good = joins.good }) js ks joins
 
   pub joins_enlisted : (name : Word) → name ≡ group → AllOf IsWhole js → Each (Enlists group first last text Masks) js ks → Each (IsEnlisted name first last text Masks) js ks
   joins_enlisted name same whole enlists =

@@ -21,8 +21,9 @@ use Rattle.vx_house.proofs.Listed.{all_append, all_mapped, all_unmapped}
 use Rattle.vx_changes.proofs.Admitted.{IsAdmitted, hs, js, bs, ks, whole, kept, same_name, admitted}
 use Rattle.vx_changes.proofs.Configs.{joined_disks}
 use Rattle.vx_commits.proofs.Joined.{IsWent}
-use Rattle.vx_commits.proofs.Lists.{each_imp, all_over}
 use Rattle.vx_commits.proofs.Slotted.{AreSlotted, slots_kept}
+use Rattle.vx_copies.proofs.Going.{each_map}
+use Rattle.vx_copies.proofs.Ordering.{each_all}
 
 unslotted : {P : Type 0} (see : P → Seen) (ds : List (Disk P)) → AreSlotted (map (held see) ds) → HaveSlots ds
 unslotted see [] slots = tt
@@ -54,7 +55,7 @@ module _ {P : Type 0} {see : P → Seen} {shelf : Shelved} {pair : DiskAt} {old 
   -- what holds of the disks before holds of those now
   over : (Q : Held → Type 0) → ((a b : Held) → Goes (g.base.sequence + 1) g'.base.sequence text a b → Q a → Q b) → ((a b : Held) → Joins g.base.name text a b → Q a → Q b) → AllOf Q (hs a) → AllOf Q (js a) → AllOf Q (members see g'.base)
   over Q goes joins one two =
-      subst (AllOf Q) (whole a) (all_append Q (bs a) (ks a) (all_over Q (Goes (g.base.sequence + 1) g'.base.sequence text) goes (hs a) (bs a) a.taken.goes one) (all_over Q (Joins g.base.name text) joins (js a) (ks a) a.taken.joins two))
+      subst (AllOf Q) (whole a) (all_append Q (bs a) (ks a) (each_all (Goes (g.base.sequence + 1) g'.base.sequence text) Q Q goes (hs a) (bs a) a.taken.goes one) (each_all (Joins g.base.name text) Q Q joins (js a) (ks a) a.taken.joins two))
 
   pub kept_joined : IsGroupKept see g'
   kept_joined = record {
@@ -65,7 +66,7 @@ module _ {P : Type 0} {see : P → Seen} {shelf : Shelved} {pair : DiskAt} {old 
     sized = all_unmapped (λ h. h.seen.sectors ≡ h.sectors) (held see) g'.base.disks.items
         (over (λ h. h.seen.sectors ≡ h.sectors) (λ a b goes same. goes.kept.sectors ∙ same ∙ sym goes.size) (λ a b joins same. joins.kept.sectors ∙ same ∙ sym joins.size)
         (all_mapped (λ h. h.seen.sectors ≡ h.sectors) (held see) g.base.disks.items (kept a).sized) (refl, tt));
-    slots = unslotted see g'.base.disks.items (subst AreSlotted (whole a) (slots_kept (hs a ++ js a) (bs a ++ ks a) (each_imp IsWent (λ a b. b.slot ≡ a.slot) (λ a b went. went.slot) (hs a ++ js a) (bs a ++ ks a) (admitted a).went) (admitted a).slots));
+    slots = unslotted see g'.base.disks.items (subst AreSlotted (whole a) (slots_kept (hs a ++ js a) (bs a ++ ks a) (each_map IsWent (λ a b. b.slot ≡ a.slot) (λ a b went. went.slot) (hs a ++ js a) (bs a ++ ks a) (admitted a).went) (admitted a).slots));
     recorded = all_unmapped (λ h. list_any (λ r. r.slot == h.slot) g'.config.disks ≡ true) (held see) g'.base.disks.items
         (over (λ h. list_any (λ r. r.slot == h.slot) g'.config.disks ≡ true) (λ a b goes is. ap (λ n. list_any (λ r. r.slot == n) g'.config.disks) goes.slot ∙ is) (λ a b joins is. ap (λ n. list_any (λ r. r.slot == n) g'.config.disks) joins.slot ∙ is)
         (all_mapped (λ h. list_any (λ r. r.slot == h.slot) g'.config.disks ≡ true) (held see) g.base.disks.items (first_recorded g.base.disks.items (kept a).recorded))

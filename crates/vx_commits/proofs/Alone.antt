@@ -27,9 +27,10 @@ use Rattle.vx_commits.proofs.Called.{holder_in, IsCalled}
 use Rattle.vx_commits.proofs.Done.{any_good}
 use Rattle.vx_commits.proofs.Holders.{mapped_holders, same_members, world_group, group_is, both_tell}
 use Rattle.vx_commits.proofs.Joined.{IsWent, IsTouched, AreCalled, AreWritten, AreDone, held_on, faults_on, moment_on, group_lost_on, power_lost_on, group_committed_on}
-use Rattle.vx_commits.proofs.Lists.{each_imp, each_two, each_first, each_append, each_front, each_long}
 use Rattle.vx_commits.proofs.Members.{member_in, writing}
 use Rattle.vx_commits.proofs.Slotted.{AreSlotted, slotted}
+use Rattle.vx_copies.proofs.Going.{each_map}
+use Rattle.vx_house.proofs.Lists.{each_two, each_first, each_append, each_front, each_long}
 
 any_take : {X : Type 0} (Q : X → Type 0) (n : ℕ) (xs : List X) → AnyOf Q (take n xs) → AnyOf Q xs
 any_take Q zero xs any = absurd any
@@ -50,7 +51,7 @@ called_by first last text Masks hs bs goes touches =
     (λ a b goes touches. record { device = goes.device; kept = goes.kept; reads = touches.reads; tells = both_tell (Turns first last text Masks a b) a.seen.told b.seen.told touches.turns }) hs bs goes touches
 
 pub went_by : (first last : ℕ) (text : List ℕ) (hs bs : List Held) → Each (Goes first last text) hs bs → Each IsWent hs bs
-went_by first last text hs bs goes = each_imp (Goes first last text) IsWent (λ a b goes. record { slot = goes.slot; good = goes.good }) hs bs goes
+went_by first last text hs bs goes = each_map (Goes first last text) IsWent (λ a b goes. record { slot = goes.slot; good = goes.good }) hs bs goes
 
 pub low_by : (hs : List Held) → AllOf IsReady hs → AllOf HasSlot hs
 low_by hs ready = all_each IsReady HasSlot (λ h is. is.slot) hs ready

@@ -17,7 +17,8 @@ use Rattle.vx_house.specs.Scene.{Shelved, Scene, seen_in, seen_at, faults_in, fa
 use Rattle.vx_house.specs.View.{IsDeviceOf}
 use Rattle.vx_house.proofs.Held.{IsLater, later_apart}
 use Rattle.vx_house.proofs.Listed.{all_front, all_back, all_unmapped, held_each}
-use Rattle.vx_commits.proofs.Lists.{each_imp, each_two, each_first, each_second, each_append, each_self, each_mapped, apart_front, apart_back, held_around}
+use Rattle.vx_copies.proofs.Going.{each_refl}
+use Rattle.vx_house.proofs.Lists.{each_two, each_first, each_second, each_append, each_mapped, apart_front, apart_back, held_around}
 
 -- a disk as a holder of its device
 abbrev pub holder_in : Held → Holder
@@ -105,9 +106,9 @@ module _ (shelf : Shelved) (vs os : List Holder) (hs bs : List Held) where
     -- the devices go on
     pub goes_later : Each IsLater holders_then holders_now
     goes_later =
-        let self : (ks : List Holder) → Each IsLater ks ks = each_self IsLater (λ k. record { name = refl; kept = record { device = refl; start = refl; sectors = refl; stop = refl; faults = omega arith; cut = λ c. c } }) in
+        let self : (ks : List Holder) → Each IsLater ks ks = each_refl IsLater (λ k. record { name = refl; kept = record { device = refl; start = refl; sectors = refl; stop = refl; faults = omega arith; cut = λ c. c } }) in
         each_append IsLater vs vs (map holder_in hs ++ os) (map holder_in bs ++ os) (self vs)
-        (each_append IsLater (map holder_in hs) (map holder_in bs) os os (each_mapped IsLater holder_in hs bs (each_imp IsCalled (λ a b. IsLater (holder_in a) (holder_in b)) (λ a b is. record { name = is.device; kept = is.kept }) hs bs called)) (self os))
+        (each_append IsLater (map holder_in hs) (map holder_in bs) os os (each_mapped IsCalled IsLater holder_in (λ a b is. record { name = is.device; kept = is.kept }) hs bs called) (self os))
 
     module _ (apart : AreApart holders_then) where
       pub apart_now : AreApart holders_now

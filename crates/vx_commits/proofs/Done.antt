@@ -22,9 +22,10 @@ use Rattle.vx_moments.specs.World.{Member, Group}
 use Rattle.vx_moments.specs.Moment.{Moment, HasFailed}
 use Rattle.vx_moments.specs.Copies.{IsCurrent, label_of}
 use Rattle.vx_moments.specs.Commit.{Writing, parties, is_written_slot, IsMaskOf, NoneFailed, IsCarrying, IsHeaded, WritesOnce}
-use Rattle.vx_commits.proofs.Lists.{each_imp, each_two, each_first, each_second, all_of_each, any_of_each}
 use Rattle.vx_commits.proofs.Slotted.{AreSlotted, mask_names, mask_tells, slots_kept}
 use Rattle.vx_commits.proofs.Members.{member_in, IsGone, writing, same_mask, rose_one}
+use Rattle.vx_copies.proofs.Going.{each_map}
+use Rattle.vx_house.proofs.Lists.{each_two, each_first, each_second, all_of_each, any_of_each}
 
 was_good : (old new : Bool) (a b : Seen) → Drops old new a b → new ≡ true → old ≡ true
 was_good old true a b drops e = drops
@@ -75,7 +76,7 @@ number_rose group first number text m n hs bs gone headed any gives = new_number
 
 -- no device has failed, so no disk has
 pub all_quiet : (m n : Moment) (hs bs : List Held) → NoneFailed m.counts n.counts → Each (IsGone m n) hs bs → Each IsQuiet hs bs
-all_quiet m n hs bs none gone = each_imp (IsGone m n) IsQuiet (λ a b is rose. none a.device (subst (λ x. Rose x (n.counts.faults a.device)) (sym is.pair.faults) (subst (Rose a.seen.faults) (sym is.pair.faults') rose))) hs bs gone
+all_quiet m n hs bs none gone = each_map (IsGone m n) IsQuiet (λ a b is rose. none a.device (subst (λ x. Rose x (n.counts.faults a.device)) (sym is.pair.faults) (subst (Rose a.seen.faults) (sym is.pair.faults') rose))) hs bs gone
 
 module _ (group : Group) (config : Config) (text : List ℕ) (carriers : List Member) (hs bs js ks : List Held)
     (low : AllOf HasSlot hs) (sound : AllOf (λ j. j.good ≡ true) js) (slots : AreSlotted (hs ++ js)) (m n : Moment) (gone : Each (IsGone m n) (hs ++ js) (bs ++ ks)) where
@@ -107,12 +108,12 @@ module _ (group : Group) (config : Config) (text : List ℕ) (carriers : List Me
     pub known : Each IsKnown (hs ++ js) (bs ++ ks)
     known =
         each_second (λ b. has good b.slot ≡ b.good) (IsGone m n) IsKnown (λ a b t is. (is, ap (has good) (sym is.slot) ∙ t)) (hs ++ js) (bs ++ ks)
-        (mask_tells (bs ++ ks) low' (slots_kept (hs ++ js) (bs ++ ks) (each_imp (IsGone m n) (λ a b. b.slot ≡ a.slot) (λ a b is. is.slot) (hs ++ js) (bs ++ ks) gone) slots)) gone
+        (mask_tells (bs ++ ks) low' (slots_kept (hs ++ js) (bs ++ ks) (each_map (IsGone m n) (λ a b. b.slot ≡ a.slot) (λ a b is. is.slot) (hs ++ js) (bs ++ ks) gone) slots)) gone
 
     pub new_mask : IsMaskOf here m.counts n.counts good
     new_mask = same_mask group config text carriers hs bs js ks low sound slots m n good gone (record {
       good = λ slot e. old_slot m n slot (hs ++ js) (bs ++ ks) gone (sym (mask_names (bs ++ ks) low' slot) ∙ e);
-      lacks = each_imp IsKnown (λ a b. IsTrue a.good → has good a.slot ≡ false → Rose a.seen.faults b.seen.faults) (λ a b is was lacks. rose_one a.good b.good a.seen b.seen is.0.good was (sym is.1 ∙ lacks)) (hs ++ js) (bs ++ ks) known;
+      lacks = each_map IsKnown (λ a b. IsTrue a.good → has good a.slot ≡ false → Rose a.seen.faults b.seen.faults) (λ a b is was lacks. rose_one a.good b.good a.seen b.seen is.0.good was (sym is.1 ∙ lacks)) (hs ++ js) (bs ++ ks) known;
     })
 
     carries_one : (a b : Held) → IsKnown a b → CarriesIfGood last good text b → IsCarrying here last good n.world (member_in a)

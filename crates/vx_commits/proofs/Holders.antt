@@ -1,26 +1,20 @@
 -- A group's disks as holders of their devices, and as members of the world's group.
-use Rattle.std.proofs.Common.{◌≡◌, ◌∙◌, ℕ, Bool, false, ◌||◌, List, [], ◌∷◌, ◌++◌, map, Option, Some, refl, ap}
-use Rattle.std.specs.List.{list_any}
-use Rattle.std.specs.Str.{bytes_eq}
-use Rattle.vx_base.specs.Named.{Word}
+use Rattle.std.proofs.Common.{◌≡◌, ◌∙◌, ℕ, List, [], ◌∷◌, map, Option, Some, refl, ap}
 use Rattle.vx_base.specs.Blocks.{Contents}
 use Rattle.vx_piece.specs.Seen.{Seen}
 use Rattle.vx_copies.specs.Disks.{Held, held, Goes, good_mask}
-use Rattle.vx_copies.specs.Lists.{AllOf, Each}
+use Rattle.vx_copies.specs.Lists.{Each}
 use Rattle.vx_copies.specs.Written.{BothTell}
 use Rattle.vx_copies.specs.declared.disk.Disk.{Disk}
 use Rattle.vx_copies.proofs.Only.{tell_map}
 use Rattle.vx_confdb.specs.Groups.{members}
-use Rattle.vx_started.specs.declared.started.Started.{Started}
 use Rattle.vx_moments.specs.World.{Group}
 use Rattle.vx_moments.specs.Moment.{Moment}
-use Rattle.vx_house.specs.Holders.{Holder, disk_holder, volume_holder, AreApart}
+use Rattle.vx_house.specs.Holders.{disk_holder}
 use Rattle.vx_house.specs.Scene.{Shelved}
 use Rattle.vx_house.specs.View.{at, member_of, group_of, IsMoment}
 use Rattle.vx_house.specs.declared.house.House.{House}
 use Rattle.vx_house.specs.declared.house.Imported.{Imported}
-use Rattle.vx_house.proofs.Held.{IsApart}
-use Rattle.vx_house.proofs.Listed.{all_back}
 use Rattle.vx_commits.proofs.Called.{holder_in}
 use Rattle.vx_commits.proofs.Members.{member_in}
 
@@ -44,19 +38,6 @@ same_members first last text (a ∷ hs) (b ∷ bs) e =
     let device = e.0.device in
     let one : member_in b ≡ member_in a = cc in
     let rest = same_members first last text hs bs e.1 in cc
-
--- a started volume has none of the devices that others hold
-pub not_lent : {P : Type 0} (see : P → Seen) (es : List (Word × Started P)) (ys : List Holder) → AreApart (map (volume_holder see) es ++ ys) → AllOf (λ y. list_any (λ e. bytes_eq e.1.device y.name) es ≡ false) ys
-not_lent see [] [] apart = tt
-not_lent see [] (y ∷ ys) apart = (refl, not_lent see [] ys apart.1)
-not_lent see (e ∷ es) ys apart = both ys (all_back (IsApart (volume_holder see e)) (map (volume_holder see) es) ys apart.0) (not_lent see es ys apart.1)
-  where
-    here : (x y : Bool) → x ≡ false → y ≡ false → (x || y) ≡ false
-    here x y p q = rw (p, q) refl
-
-    both : (zs : List Holder) → AllOf (IsApart (volume_holder see e)) zs → AllOf (λ y. list_any (λ f. bytes_eq f.1.device y.name) es ≡ false) zs → AllOf (λ y. list_any (λ f. bytes_eq f.1.device y.name) (e ∷ es) ≡ false) zs
-    both [] p q = tt
-    both (z ∷ zs) p q = (here (bytes_eq e.1.device z.name) (list_any (λ f. bytes_eq f.1.device z.name) es) p.0 q.0, both zs p.1 q.1)
 
 -- the imported group as the world's
 abbrev pub world_group : {P : Type 0} → (P → Seen) → Imported P → Group

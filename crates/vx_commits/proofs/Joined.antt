@@ -25,15 +25,15 @@ use Rattle.vx_house.specs.Holders.{Holder, holders, volume_holder, volume_at, Ar
 use Rattle.vx_house.specs.Scene.{Shelved, seen_at, AreCountsOf, FaultsGoOn}
 use Rattle.vx_house.specs.View.{at, scene, is_lent, IsDeviceOf, IsAtVolume, IsMomentButGroup}
 use Rattle.vx_house.specs.declared.house.House.{House}
+use Rattle.vx_house.proofs.Hands.{volumes_apart}
 use Rattle.vx_house.proofs.Held.{later_held}
 use Rattle.vx_house.proofs.Listed.{all_front, all_back, all_unmapped}
 use Rattle.vx_house.proofs.Moments.{counts_own}
 use Rattle.vx_commits.proofs.Called.{holder_in, IsCalled, IsPair, holders_then, holders_now, scene_then, scene_now, goes_later, faults_go_on, next, pairs, devices_are_now, reads_same, shelf_same, left, later}
 use Rattle.vx_commits.proofs.Done.{all_quiet, risen_failed, cut_one, known, new_mask, all_carry, one_good, writes_once, headed_one, number_rose}
-use Rattle.vx_commits.proofs.Holders.{not_lent}
-use Rattle.vx_commits.proofs.Lists.{each_two, each_second, each_front, each_back, all_of_each, any_front, any_back}
 use Rattle.vx_commits.proofs.Members.{member_in, IsGone, IsMemberWritten, IsJoinerWritten, writing, same_mask, written_good, is_committing}
 use Rattle.vx_commits.proofs.Slotted.{AreSlotted}
+use Rattle.vx_house.proofs.Lists.{each_two, each_second, each_front, each_back, all_of_each, any_front, any_back}
 
 -- a disk keeps its slot, and is good unless it has failed
 pub record IsWent (a b : Held) : Type 0 where
@@ -119,7 +119,7 @@ module _ {P : Type 0} {see : P → Seen} {shelf : Shelved} {old new : House P} {
       (subst (λ l. FaultsGoOn (scene_then shelf vs os (hs ++ js) (bs ++ ks)) (record { shelf = shelf; taken = l })) (sym s.is) (faults_go_on shelf vs os (hs ++ js) (bs ++ ks) s.called apart))
 
   own : AllOf (λ h. is_lent old h.device ≡ false) (hs ++ js)
-  own = all_unmapped (λ y. is_lent old y.name ≡ false) holder_in (hs ++ js) (all_front (λ y. is_lent old y.name ≡ false) (map holder_in (hs ++ js)) os (not_lent see old.volumes.entries (map holder_in (hs ++ js) ++ os) apart))
+  own = all_unmapped (λ y. is_lent old y.name ≡ false) holder_in (hs ++ js) (all_front (λ y. is_lent old y.name ≡ false) (map holder_in (hs ++ js)) os (volumes_apart see old.volumes.entries (map holder_in (hs ++ js) ++ os) apart))
 
   -- the moment that it comes to, with this group
   abbrev pub moment_on : Moment → Option Group → Moment

@@ -1,4 +1,3 @@
-pub mod Lists
 pub mod Called
 pub mod Slotted
 pub mod Struck

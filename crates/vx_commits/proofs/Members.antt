@@ -24,9 +24,9 @@ use Rattle.vx_moments.specs.Copies.{IsTextOf, IsEntered, label_of}
 use Rattle.vx_moments.specs.Commit.{Writing, parties, is_slot_of, is_written_slot, IsMaskOf, NoneFailed, MemberGoes, JoinerGoes, IsNoDeviceOf, sectors_of, OffersSince, IsInOrder, AreInOrder, IsCommitting}
 use Rattle.vx_house.proofs.Listed.{all_front}
 use Rattle.vx_commits.proofs.Called.{IsPair}
-use Rattle.vx_commits.proofs.Lists.{each_two, each_first, all_of_each, all_before, any_mapped}
 use Rattle.vx_commits.proofs.Slotted.{AreSlotted, mask_names, good_slots}
 use Rattle.vx_commits.proofs.Struck.{struck, entered}
+use Rattle.vx_house.proofs.Lists.{each_two, each_first, all_of_each, all_before, any_mapped}
 
 -- a disk as the world's member
 abbrev pub member_in : Held → Member

@@ -7,12 +7,6 @@ use Rattle.vx_house.specs.Holders.{Holder, held_as, AreApart}
 use Rattle.vx_house.proofs.Held.{IsApart}
 use Rattle.vx_house.proofs.Listed.{all_front}
 
-pub each_imp : {X : Type 0} (R S : X → X → Type 0) → ((a b : X) → R a b → S a b) → (xs ys : List X) → Each R xs ys → Each S xs ys
-each_imp R S f [] [] e = tt
-each_imp R S f [] (y ∷ ys) e = absurd e
-each_imp R S f (x ∷ xs) [] e = absurd e
-each_imp R S f (x ∷ xs) (y ∷ ys) e = (f x y e.0, each_imp R S f xs ys e.1)
-
 pub each_two : {X : Type 0} (R S T : X → X → Type 0) → ((a b : X) → R a b → S a b → T a b) → (xs ys : List X) → Each R xs ys → Each S xs ys → Each T xs ys
 each_two R S T f [] [] e d = tt
 each_two R S T f [] (y ∷ ys) e d = absurd e
@@ -38,16 +32,12 @@ each_append R [] (y ∷ ys) us vs e d = absurd e
 each_append R (x ∷ xs) [] us vs e d = absurd e
 each_append R (x ∷ xs) (y ∷ ys) us vs e d = (e.0, each_append R xs ys us vs e.1 d)
 
-pub each_self : {X : Type 0} (R : X → X → Type 0) → ((x : X) → R x x) → (xs : List X) → Each R xs xs
-each_self R f [] = tt
-each_self R f (x ∷ xs) = (f x, each_self R f xs)
-
 -- of what becomes of the members of two lists
-pub each_mapped : {X Y : Type 0} (R : Y → Y → Type 0) (f : X → Y) (xs ys : List X) → Each (λ a b. R (f a) (f b)) xs ys → Each R (map f xs) (map f ys)
-each_mapped R f [] [] e = tt
-each_mapped R f [] (y ∷ ys) e = absurd e
-each_mapped R f (x ∷ xs) [] e = absurd e
-each_mapped R f (x ∷ xs) (y ∷ ys) e = (e.0, each_mapped R f xs ys e.1)
+pub each_mapped : {X Y : Type 0} (R : X → X → Type 0) (S : Y → Y → Type 0) (f : X → Y) → ((x y : X) → R x y → S (f x) (f y)) → (xs ys : List X) → Each R xs ys → Each S (map f xs) (map f ys)
+each_mapped R S f g [] [] each = tt
+each_mapped R S f g [] (y ∷ ys) each = absurd each
+each_mapped R S f g (x ∷ xs) [] each = absurd each
+each_mapped R S f g (x ∷ xs) (y ∷ ys) each = (g x y each.0, each_mapped R S f g xs ys each.1)
 
 pub all_of_each : {X Y : Type 0} (R : X → X → Type 0) (Q : Y → Type 0) (f : X → Y) → ((a b : X) → R a b → Q (f a)) → (xs ys : List X) → Each R xs ys → AllOf Q (map f xs)
 all_of_each R Q f g [] [] e = tt
@@ -67,13 +57,6 @@ pub all_of_pairs : {X : Type 0} (R : X → X → Type 0) (Q : X → Type 0) → 
 all_of_pairs R Q f [] ys e = tt
 all_of_pairs R Q f (x ∷ xs) [] e = absurd e
 all_of_pairs R Q f (x ∷ xs) (y ∷ ys) e = (f x y e.0, all_of_pairs R Q f xs ys e.1)
-
--- a fact of the first ones that goes over to the second ones
-pub all_over : {X : Type 0} (Q : X → Type 0) (R : X → X → Type 0) → ((a b : X) → R a b → Q a → Q b) → (xs ys : List X) → Each R xs ys → AllOf Q xs → AllOf Q ys
-all_over Q R f [] [] e all = tt
-all_over Q R f [] (y ∷ ys) e all = absurd e
-all_over Q R f (x ∷ xs) [] e all = absurd e
-all_over Q R f (x ∷ xs) (y ∷ ys) e all = (f x y e.0 all.0, all_over Q R f xs ys e.1 all.1)
 
 -- of each two of a list, the first ones or the others
 pub each_front : {X : Type 0} (R : X → X → Type 0) (xs ys us vs : List X) → length xs ≡ length ys → Each R (xs ++ us) (ys ++ vs) → Each R xs ys

@@ -20,8 +20,8 @@ use Rattle.vx_house.specs.View.{AreSized, HaveSlots, AreRecorded}
 use Rattle.vx_house.specs.declared.house.Taken.{Taken}
 use Rattle.vx_house.specs.declared.stop.Stop.{Stop}
 use Rattle.vx_changes.specs.Creating.{disks_from, taken_of, record_of, IsUnwritten, IsUnfounded}
-use Rattle.vx_changes.proofs.Called.{holder_in}
-use Rattle.vx_changes.proofs.Members.{member_in}
+use Rattle.vx_commits.proofs.Called.{holder_in}
+use Rattle.vx_commits.proofs.Members.{member_in}
 
 abbrev pub names_in : {P : Type 0} → List (Taken P) → List Word
 names_in ts = map (λ t. t.device) ts

@@ -11,8 +11,7 @@ use Rattle.vx_house.specs.declared.house.House.{House}
 use Rattle.vx_house.specs.declared.house.Imported.{Imported}
 use Rattle.vx_house.specs.declared.stop.Stop.{Stop}
 use Rattle.vx_changes.specs.Joining.{HandEnds}
-use Rattle.vx_changes.proofs.Joins.{joined_stage}
-use Rattle.vx_changes.proofs.Lost.{lost_stage}
+use Rattle.vx_changes.proofs.Joins.{joined_stage, lost_stage}
 use Rattle.vx_changes.proofs.Unjoined.{back_stage}
 
 -- a list of one

@@ -1,15 +1,6 @@
-pub mod Lists
-pub mod Called
-pub mod Slotted
-pub mod Struck
-pub mod Members
-pub mod Done
 pub mod Texts
 pub mod Configs
-pub mod Grouped
-pub mod Changed
 pub mod Staged
-pub mod Joined
 pub mod Lowest
 pub mod Short
 pub mod Room
@@ -17,7 +8,6 @@ pub mod Entered
 pub mod Admitted
 pub mod Gained
 pub mod Joins
-pub mod Lost
 pub mod Unjoined
 pub mod Handed
 pub mod Drawn

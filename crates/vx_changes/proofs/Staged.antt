@@ -1,11 +1,7 @@
 -- A change of the configuration as a stage.
-use Rattle.std.proofs.Common.{◌≡◌, ◌≢◌, ◌∙◌, inl, inr, ℕ, ◌+◌, ◌==◌, List, [], ◌∷◌, map, length, Some, None, Result, Ok, Err, refl, sym, ap, subst}
+use Rattle.std.proofs.Common.{◌≡◌, ◌∙◌, inl, inr, ℕ, ◌+◌, List, [], length, Some, None, Result, Ok, Err, refl, sym, ap, subst}
 use Rattle.std.specs.Prelude.{IfSome}
-use Rattle.std.specs.List.{list_any}
 use Rattle.vx_piece.specs.Seen.{Seen}
-use Rattle.vx_copies.specs.Disks.{held, Goes}
-use Rattle.vx_copies.specs.Lists.{AllOf, Each}
-use Rattle.vx_copies.specs.declared.disk.Disk.{Disk}
 use Rattle.vx_confdb.specs.Groups.{CarriesText}
 use Rattle.vx_objects.specs.declared.config.Config.{Config}
 use Rattle.vx_objects.specs.declared.edit.Edit.{Edit}
@@ -25,51 +21,22 @@ use Rattle.vx_plans.specs.declared.stage.Stage.TheVariants as stage
 use Rattle.vx_house.specs.Goes.{StageGoes}
 use Rattle.vx_house.specs.Holders.{holders, AreHeld}
 use Rattle.vx_house.specs.Scene.{Shelved}
-use Rattle.vx_house.specs.View.{at, scene, group_of, IsMoment, IsGroupKept, KeepsHouse, KeepsButGroup, AreSized, HaveSlots, AreRecorded}
+use Rattle.vx_house.specs.View.{at, scene, group_of, IsMoment, IsGroupKept, KeepsHouse}
 use Rattle.vx_house.specs.declared.house.House.{House}
 use Rattle.vx_house.specs.declared.house.Imported.{Imported}
 use Rattle.vx_house.specs.declared.stop.Stop.{Stop}
 use Rattle.vx_house.specs.declared.stop.Stop.TheVariants as stops
 use Rattle.vx_house.proofs.Moments.{later_refl, faults_refl}
 use Rattle.vx_house.proofs.Takes.{rests_self}
+use Rattle.vx_house.proofs.Ended.{moment_but_group}
+use Rattle.vx_commits.proofs.Alone.{IsWrittenIn, alone, x_alone, lost_alone, cut_alone, committed_alone}
+use Rattle.vx_commits.proofs.Holders.{world_group, group_before}
+use Rattle.vx_commits.proofs.Kept.{sized_now, slots_now, recorded_now}
+use Rattle.vx_commits.proofs.Staged.{done_stage, group_lost_stage, power_lost_stage}
 use Rattle.vx_changes.specs.Changing.{IsMeant, ChangeEnds}
-use Rattle.vx_changes.specs.Committing.{IsTried, IsFinished, CommitEnds}
+use Rattle.vx_commits.specs.Committing.{IsTried, IsFinished, CommitEnds}
 use Rattle.vx_changes.specs.Planning.{change_edits, IsUnplanned}
-use Rattle.vx_changes.proofs.Changed.{moment_done, x_done, is_committed, moment_lost, x_lost, stopped_lost, stopped_cut}
 use Rattle.vx_changes.proofs.Configs.{disks_kept, group_kept}
-use Rattle.vx_changes.proofs.Grouped.{held_now, faults_on, before, group_before, after_later, after_but_group}
-
--- the group's disks after a commit
-module _ (first last : ℕ) (text : List ℕ) {P : Type 0} (see : P → Seen) where
-  abbrev pub AllGo : List (Disk P) → List (Disk P) → Type 0
-  AllGo ds es = Each (Goes first last text) (map (held see) ds) (map (held see) es)
-
-  pub sized_now : (ds es : List (Disk P)) → AllGo ds es → AreSized see ds → AreSized see es
-  sized_now [] [] goes sized = tt
-  sized_now [] (e ∷ es) goes sized = absurd goes
-  sized_now (d ∷ ds) [] goes sized = absurd goes
-  sized_now (d ∷ ds) (e ∷ es) goes sized = (goes.0.kept.sectors ∙ sized.0 ∙ sym goes.0.size, sized_now ds es goes.1 sized.1)
-
-  pub slots_now : (ds es : List (Disk P)) → AllGo ds es → HaveSlots ds → HaveSlots es
-  slots_now [] [] goes slots = tt
-  slots_now [] (e ∷ es) goes slots = absurd goes
-  slots_now (d ∷ ds) [] goes slots = absurd goes
-  slots_now (d ∷ ds) (e ∷ es) goes slots = (all ds es goes.1 slots.0, slots_now ds es goes.1 slots.1)
-    where
-      all : (xs ys : List (Disk P)) → AllGo xs ys → AllOf (λ x. x.slot ≢ d.slot) xs → AllOf (λ y. y.slot ≢ e.slot) ys
-      all [] [] on other = tt
-      all [] (y ∷ ys) on other = absurd on
-      all (x ∷ xs) [] on other = absurd on
-      all (x ∷ xs) (y ∷ ys) on other = ((λ same. other.0 (sym on.0.slot ∙ same ∙ goes.0.slot)), all xs ys on.1 other.1)
-
-  pub recorded_now : (config next : Config) → next.disks ≡ config.disks → (ds es : List (Disk P)) → AllGo ds es → AreRecorded config ds → AreRecorded next es
-  recorded_now config next same [] [] goes recorded = tt
-  recorded_now config next same [] (e ∷ es) goes recorded = absurd goes
-  recorded_now config next same (d ∷ ds) [] goes recorded = absurd goes
-  recorded_now config next same (d ∷ ds) (e ∷ es) goes recorded = (
-    ap (λ l. list_any (λ r. r.slot == e.slot) l) same ∙ ap (λ n. list_any (λ r. r.slot == n) config.disks) goes.0.slot ∙ recorded.0,
-    recorded_now config next same ds es goes.1 recorded.1,
-  )
 
 -- the edits of a change go by the configuration alone
 edits_same : (c : Change) (w : Group) → edits_of c (Some w) ≡ change_edits c w.config
@@ -152,10 +119,14 @@ module _ {P : Type 0} (see : P → Seen) (c : Change) (disks : List DiskAt) (she
         let here = group_at m at_m in
         inr (inl ((here.0, here.1, subst (λ es. EditsRefused es here.0 (ends.Refused why.0)) (sym (edits_at here.0 here.2)) (subst (λ k. EditsRefused (change_edits c g.config) (record { config = k; good = here.0.good; members = here.0.members; sequence = here.0.sequence }) (ends.Refused why.0)) (sym here.2) (subst (EditsRefused (change_edits c g.config) w) why.1 why.2))), rests_self m))))
 
-    is_change : (text : List ℕ) (g' : Imported P) (tried : IsTried see text g.base g'.base) (m : Moment) (is : IsMoment see (at shelf old) m) (next : Config) → IsEdited (change_edits c g.config) g.config next
-        → IsEdited (edits_of c m.world.group) g.config next
-    is_change text g' tried m is next edited =
-        subst (λ es. IsEdited es g.config next) (sym (ap (edits_of c) (group_before see shelf old g g' text has are_held kept tried m is) ∙ edits_same c (before see shelf old g g' text has are_held kept tried m is))) edited
+    same_name : (next : Config) → IsEdited (change_edits c g.config) g.config next → next.group ≡ g.base.name
+    same_name next edited = group_kept c g.config next edited ∙ sym kept.named
+
+    is_change : (m : Moment) → IsMoment see (at shelf old) m → (next : Config) → IsEdited (change_edits c g.config) g.config next → IsEdited (edits_of c m.world.group) g.config next
+    is_change m is next edited = subst (λ es. IsEdited es g.config next) (sym (ap (edits_of c) (group_before see shelf old g has m is) ∙ edits_same c (world_group see g))) edited
+
+    written : (g' : Imported P) (text : List ℕ) → IsTried see text g.base g'.base → IsWrittenIn see shelf old g g' text
+    written g' text tried = record { has = has; held = are_held; writable = record { slots = kept.slots; ready = kept.carries.alive.ready }; tried = tried }
 
     kept_after : (g' : Imported P) (text : List ℕ) → IsMeant (change_edits c g.config) g.config g'.config text → IsFinished see text g.base g'.base → IsGroupKept see g'
     kept_after g' text meant finished = record {
@@ -168,73 +139,30 @@ module _ {P : Type 0} (see : P → Seen) (c : Change) (disks : List DiskAt) (she
       recorded = recorded_now (g.base.sequence + 1) g'.base.sequence text see g.config g'.config (disks_kept c g.config g'.config meant.edited) g.base.disks.items g'.base.disks.items finished.tried.committed.goes kept.recorded;
     }
 
-    but_group : (g' : Imported P) (text : List ℕ) → IsTried see text g.base g'.base → KeepsButGroup see (at shelf (house g'))
-    but_group g' text tried = record {
-      devices = held_now see shelf old g g' text has are_held kept tried;
-      ordered = keeps.ordered;
-      hand = keeps.hand;
-      volumes = keeps.volumes;
-    }
-
     pub change_goes : (result : Result (Unit {0}) Stop) (g' : Imported P) → ChangeEnds see (change_edits c g.config) result g g' → StageGoes see (stage.Change c) disks result (at shelf old) (at shelf (house g'))
-    change_goes (Ok u) g' (text, meant, finished) = record {
-      keeps = record {
-        devices = held_now see shelf old g g' text has are_held kept finished.tried;
-        house = record { ordered = keeps.ordered; hand = keeps.hand; volumes = keeps.volumes; group = kept_after g' text meant finished };
-      };
-      goes = λ m is.
-          let n = moment_done see shelf old g g' text has are_held kept finished m is meant.printed.0 meant.printed.1 in
-          let there = after_but_group see shelf old g g' text has are_held kept finished.tried m is (group_of see (Some g')) in (
-            n,
-            record { told = there.told; devices_are = there.devices_are; volumes_are = there.volumes_are; group_is = refl; counts = there.counts },
-            after_later see shelf old g g' text has are_held kept finished.tried m is (group_of see (Some g')),
-            (
-              x_done see shelf old g g' text has are_held kept finished m is meant.printed.0 meant.printed.1,
-              record { group = group_before see shelf old g g' text has are_held kept finished.tried m is; edited = is_change text g' finished.tried m is g'.config meant.edited; joiners = refl; carriers = refl },
-              is_committed see shelf old g g' text has are_held kept finished m is meant.printed.0 meant.printed.1,
-            ),
-          );
-      gives = tt;
-      still = λ is. cc;
-      faults = faults_on see shelf old g g' text has are_held kept finished.tried;
-      blamed = tt;
-    }
+    change_goes (Ok u) g' (text, meant, finished) =
+        let w = written g' text finished.tried in
+        done_stage (alone w) (stage.Change c) disks keeps (record { ordered = keeps.ordered; hand = keeps.hand; volumes = keeps.volumes; group = kept_after g' text meant finished }) tt refl (λ m is. (
+          x_alone w g'.config,
+          record { group = group_before see shelf old g has m is; edited = is_change m is g'.config meant.edited; joiners = refl; carriers = refl },
+          committed_alone w m (moment_but_group see (at shelf old) m is) finished meant.printed.0 meant.printed.1 (same_name g'.config meant.edited),
+        ))
     change_goes (Err stops.OutOfMemory) g' same = subst (λ h. StageGoes {T = Unit {0}} see (stage.Change c) disks (Err stops.OutOfMemory) (at shelf old) (at shelf h)) (same_house g' same) unchanged
-    change_goes (Err (stops.Ended ends.GroupLost)) g' (next, text, meant, tried, risen) = record {
-      keeps = but_group g' text tried;
-      goes = λ m is. (
-        moment_lost see shelf old g g' text has are_held kept tried m is next meant.printed.0 meant.printed.1,
-        after_but_group see shelf old g g' text has are_held kept tried m is m.world.group,
-        after_later see shelf old g g' text has are_held kept tried m is m.world.group,
-        inr (inr (
-          x_lost see shelf old g g' text has are_held kept tried m is next meant.printed.0 meant.printed.1,
-          record { group = group_before see shelf old g g' text has are_held kept tried m is; edited = is_change text g' tried m is next meant.edited; joiners = refl; carriers = refl },
-          stopped_lost see shelf old g g' text has are_held kept tried m is next meant.printed.0 meant.printed.1 risen,
-        )),
-      );
-      gives = tt;
-      still = λ is. cc;
-      faults = faults_on see shelf old g g' text has are_held kept tried;
-      blamed = tt;
-    }
+    change_goes (Err (stops.Ended ends.GroupLost)) g' (next, text, meant, tried, risen) =
+        let w = written g' text tried in
+        group_lost_stage (alone w) (stage.Change c) disks keeps keeps.hand (λ m is. inr (inr (
+          x_alone w next,
+          record { group = group_before see shelf old g has m is; edited = is_change m is next meant.edited; joiners = refl; carriers = refl },
+          lost_alone w m (moment_but_group see (at shelf old) m is) next meant.printed.0 meant.printed.1 (same_name next meant.edited) risen,
+        )))
     change_goes (Err (stops.Ended (ends.Lost parts))) g' (none, (next, text, meant, tried, cut)) =
-        subst (λ p. StageGoes {T = Unit {0}} see (stage.Change c) disks (Err (stops.Ended (ends.Lost p))) (at shelf old) (at shelf (house g'))) (sym none) (record {
-          keeps = but_group g' text tried;
-          goes = λ m is. (
-            moment_lost see shelf old g g' text has are_held kept tried m is next meant.printed.0 meant.printed.1,
-            after_but_group see shelf old g g' text has are_held kept tried m is m.world.group,
-            after_later see shelf old g g' text has are_held kept tried m is m.world.group,
-            inr (inr (
-              x_lost see shelf old g g' text has are_held kept tried m is next meant.printed.0 meant.printed.1,
-              record { group = group_before see shelf old g g' text has are_held kept tried m is; edited = is_change text g' tried m is next meant.edited; joiners = refl; carriers = refl },
-              stopped_cut see shelf old g g' text has are_held kept tried m is next meant.printed.0 meant.printed.1 cut,
-            )),
-          );
-          gives = tt;
-          still = λ is. cc;
-          faults = faults_on see shelf old g g' text has are_held kept tried;
-          blamed = tt;
-        })
+        let w = written g' text tried in
+        subst (λ p. StageGoes {T = Unit {0}} see (stage.Change c) disks (Err (stops.Ended (ends.Lost p))) (at shelf old) (at shelf (house g'))) (sym none)
+        (power_lost_stage (alone w) (stage.Change c) disks keeps keeps.hand (λ m is. inr (inr (
+          x_alone w next,
+          record { group = group_before see shelf old g has m is; edited = is_change m is next meant.edited; joiners = refl; carriers = refl },
+          cut_alone w m (moment_but_group see (at shelf old) m is) next meant.printed.0 meant.printed.1 (same_name next meant.edited) cut,
+        ))))
     change_goes (Err (stops.Ended (ends.Done copied parts blocks))) g' (same, why) = subst (λ h. StageGoes {T = Unit {0}} see (stage.Change c) disks (Err (stops.Ended (ends.Done copied parts blocks))) (at shelf old) (at shelf h)) (same_house g' same) (refused_by (ends.Done copied parts blocks) why)
     change_goes (Err (stops.Ended (ends.Refused r))) g' (same, why) = subst (λ h. StageGoes {T = Unit {0}} see (stage.Change c) disks (Err (stops.Ended (ends.Refused r))) (at shelf old) (at shelf h)) (same_house g' same) (refused_by (ends.Refused r) why)
     change_goes (Err (stops.Ended (ends.Fault told device parts))) g' (same, why) = subst (λ h. StageGoes {T = Unit {0}} see (stage.Change c) disks (Err (stops.Ended (ends.Fault told device parts))) (at shelf old) (at shelf h)) (same_house g' same) (refused_by (ends.Fault told device parts) why)

@@ -46,7 +46,7 @@ sectors_seen lent seen None is = absurd is
 sectors_seen lent seen (Some d) is = is.0
 
 -- a device in hand is the world's, with its sectors
-hand_sectors : {P : Type 0} (see : P → Seen) (shelf : Shelved) (h : House P) (t : Taken P) → h.hand.items ≡ t ∷ [] → AreApart (holders see h) → (m : Moment) → IsMoment see (at shelf h) m → sectors_at m.world t.device ≡ (see t.piece).sectors
+pub hand_sectors : {P : Type 0} (see : P → Seen) (shelf : Shelved) (h : House P) (t : Taken P) → h.hand.items ≡ t ∷ [] → AreApart (holders see h) → (m : Moment) → IsMoment see (at shelf h) m → sectors_at m.world t.device ≡ (see t.piece).sectors
 hand_sectors see shelf h t only apart m is =
     let before : List Holder = before_hand see h [] in
     let split : holders see h ≡ before ++ hand_holder see t ∷ [] = hand_split see h [] t [] only in

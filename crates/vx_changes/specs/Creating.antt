@@ -22,7 +22,7 @@ use Rattle.vx_house.specs.declared.house.Imported.{Imported}
 use Rattle.vx_house.specs.declared.house.Taken.{Taken}
 use Rattle.vx_house.specs.declared.stop.Stop.{Stop}
 use Rattle.vx_house.specs.declared.stop.Stop.TheVariants as stops
-use Rattle.vx_changes.specs.Committing.{stop_of}
+use Rattle.vx_commits.specs.Committing.{stop_of}
 use Rattle.vx_changes.specs.Joining.{disk_for}
 use Rattle.vx_changes.specs.Planning.{IsShortText}
 use Rattle.vx_changes.specs.declared.founding.Unfounded.{Unfounded}

@@ -9,10 +9,10 @@ ghost use Rattle.vx_script_words.specs.declared.value.DiskAt.{DiskAt};
 ghost use Rattle.vx_changes.specs.Changing.{ChangeEnds};
 ghost use Rattle.vx_changes.specs.Planning.{change_edits, IsPlanned, IsUnplanned};
 
-use crate::committing::commit;
 use crate::planning::{NextConfig, edits_of, planned};
 use std::alloc::Global;
 use vx_answers::Refusal;
+use vx_commits::commit;
 use vx_house::{House, Imported, Stop, refused};
 use vx_objects::Edit;
 use vx_piece::Piece;

@@ -4,11 +4,11 @@ ghost use Rattle.std.specs.List.{list_all};
 ghost use Rattle.vx_copies.specs.Lists.{AllOf};
 ghost use Rattle.vx_changes.specs.Creating.{record_of, group_records, is_fit, are_fit, IsUnwritten, IsDrawn, FoundEnds};
 
-use crate::committing::stop_of;
 use crate::joining::{MOST_SECTORS, is_short_name};
 use crate::planning::{NextConfig, text_of};
 use std::alloc::Global;
 use vx_base::OutOfMemory;
+use vx_commits::stop_of;
 use vx_confdb::{Refused, create};
 use vx_copies::Disk;
 use vx_header::PRIVATE_SECTORS;

@@ -2,7 +2,6 @@
 #![tactic(auto)]
 
 mod changing;
-mod committing;
 mod creating;
 mod founding;
 mod handing;

@@ -9,6 +9,7 @@ use Rattle.vx_copies.specs.Lists.{Each, AnyOf}
 use Rattle.vx_copies.specs.Image.{Offer, offer_of}
 use Rattle.vx_copies.specs.Disks.{Held, held, Drops, IsCut, RestStays}
 use Rattle.vx_copies.specs.Config.{configuration}
+use Rattle.vx_copies.specs.Chain.{AreInOrder}
 use Rattle.vx_copies.specs.Commit.{HasRisen}
 use Rattle.vx_copies.specs.declared.disk.Disk.{Disk}
 use Rattle.vx_confdb.specs.Prepare.{label_in}
@@ -49,6 +50,7 @@ GivesNoneOrText name text hs = (readable : ℕ → Bool) → (configuration name
 pub record IsBegun (name : Word) (text : List ℕ) (old new : List Held) : Type 0 where
   pub joins : Each (Joins name text) old new
   pub none_or_text : GivesNoneOrText name text new
+  pub order : AreInOrder name 0 new
 
 abbrev pub RefusedBy : {P : Type 0} → (P → Seen) → GroupFault → Word → List ℕ → List (Disk P) → List (Disk P) → Type 0
 RefusedBy see fault.OutOfMemory name text old new = new ≡ old

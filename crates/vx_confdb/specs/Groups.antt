@@ -5,6 +5,7 @@ use Rattle.vx_piece.specs.Seen.{Seen}
 use Rattle.vx_copies.specs.Lists.{Each, AllOf, AnyOf}
 use Rattle.vx_copies.specs.Disks.{Held, held, HasSlot, IsCut, IsReady, IsBelow, Goes}
 use Rattle.vx_copies.specs.Config.{GivesOldOrNew, GivesNew}
+use Rattle.vx_copies.specs.Chain.{AreInOrder}
 use Rattle.vx_copies.specs.Commit.{AllOffer, HasRisen}
 use Rattle.vx_copies.specs.Written.{Recorded, IsDone, IsQuiet, WritesJust, sectors_of}
 use Rattle.vx_copies.specs.declared.writing.Lost.TheVariants as lost
@@ -38,6 +39,7 @@ pub record IsCommitted {P : Type 0} (see : P → Seen) (text : List ℕ) (old ne
   pub name : new.name ≡ old.name
   pub goes : Each (Goes (old.sequence + 1) new.sequence text) (members see old) (members see new)
   pub old_or_new : GivesOldOrNew old.name (old.sequence + 1) new.sequence text (members see old) (members see new)
+  pub order : AreInOrder old.name old.sequence (members see new)
   pub few : new.sequence ≤ old.sequence + 32
 
 -- all good disks carry the text

@@ -154,11 +154,11 @@ module _ (old : List Copy) (last sequence mask : ℕ) (text : List ℕ) (later :
     newest_after bs names (c ∷ cs) (d ∷ ds) is low = (newest_one bs names c d is.0 low.0, newest_after bs names cs ds is.1 low.1)
 
 -- members that stay: their copies are the same, and no more of them are good
-was_good : (x y : Bool) (a b : Seen) → Drops x y a b → IsTrue y → IsTrue x
+pub was_good : (x y : Bool) (a b : Seen) → Drops x y a b → IsTrue y → IsTrue x
 was_good x true a b d is = d
 was_good x false a b d is = cc
 
-told_same : (group : Word) (a b : Option Contents) → StaysTold a b → offer_told group b ≡ offer_told group a
+pub told_same : (group : Word) (a b : Option Contents) → StaysTold a b → offer_told group b ≡ offer_told group a
 told_same group None None is = refl
 told_same group None (Some b) is = absurd is
 told_same group (Some a) None is = absurd is

@@ -8,6 +8,7 @@ pub mod Stopped
 pub mod Masks
 pub mod Turning
 pub mod Chained
+pub mod Ordering
 pub mod Tried
 pub mod Chosen
 pub mod Left

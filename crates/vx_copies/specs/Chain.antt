@@ -55,3 +55,27 @@ pub record IsSound (group : Word) (missing : ℕ) (others : List Copy) (last car
   pub agree : AllAgree (others ++ map (copy_of group) disks)
   pub newest : AllOf (λ c. MatchOption c.offer (Unit {0}) (λ o. AllUpTo o.sequence (others ++ map (copy_of group) disks) → NamesGood o (take carriers disks))) (others ++ map (copy_of group) disks)
   pub up_to : AllUpTo last (others ++ map (copy_of group) disks)
+
+-- what a disk offers of the group, where it is newer than this
+pub record OffersSince (group : Word) (before : ℕ) (h : Held) (o : Offer) : Type 0 where
+  pub is : offer_told group h.seen.told ≡ Some o
+  pub newer : before < o.sequence
+
+-- an offer that is older than another, or of the same attempt, names its slot; those of one attempt have one mask
+pub record IsInOrder (o p : Offer) (slot : ℕ) : Type 0 where
+  pub names : o.sequence ≤ p.sequence → has o.good slot ≡ true
+  pub one : o.sequence ≡ p.sequence → o.good ≡ p.good
+
+-- so are any two offers of the disks that are newer than this
+abbrev pub AreInOrder : Word → ℕ → List Held → Type 0
+AreInOrder group before disks = AllOf (λ a. AllOf (λ b. (o p : Offer) → OffersSince group before a o → OffersSince group before b p → IsInOrder o p b.slot) disks) disks
+
+-- beside a disk the offer goes on: it names the disk where it is good, and is in order with what the disk offers
+pub record GoesOnBeside (group : Word) (before : ℕ) (o : Offer) (h : Held) : Type 0 where
+  pub names : IsTrue h.good → has o.good h.slot ≡ true
+  pub order : (p : Offer) → OffersSince group before h p → IsInOrder o p h.slot
+
+-- what a commit keeps from one attempt to the next: the newer offers are of the attempts so far, and each goes on beside each disk
+pub record IsOrdered (group : Word) (before last : ℕ) (disks : List Held) : Type 0 where
+  pub up_to : AllOf (λ h. (o : Offer) → OffersSince group before h o → o.sequence ≤ last) disks
+  pub beside : AllOf (λ a. AllOf (λ b. (o : Offer) → OffersSince group before a o → GoesOnBeside group before o b) disks) disks

@@ -16,14 +16,6 @@ pub mod Ending
 pub mod Since
 pub mod Goods
 pub mod Readied
-pub mod Lists
-pub mod Slots
-pub mod Struck
-pub mod Called
-pub mod Members
-pub mod Done
-pub mod Grouped
-pub mod Bridged
 pub mod Told
 pub mod Masked
 pub mod Taken

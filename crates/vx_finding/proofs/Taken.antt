@@ -1,12 +1,11 @@
 -- Disks that are taken in as those of the group: the step from the moment before the search to the moment now.
-use Rattle.std.proofs.Common.{◌≡◌, ◌≢◌, ◌∙◌, ◌+◌, ◌≤◌, ◌==◌, ℕ, Option, Some, None, Vec, List, [], ◌∷◌, ◌++◌, map, length, Result, Ok, Err, refl, sym, ap, subst, inr, arith}
+use Rattle.std.proofs.Common.{◌≡◌, ◌∙◌, ◌+◌, ◌≤◌, ℕ, Option, Some, None, Vec, List, [], ◌∷◌, ◌++◌, map, length, Result, Ok, Err, refl, sym, ap, subst, inr, arith}
 use Rattle.std.specs.declared.alloc.Global.{Global}
-use Rattle.std.specs.List.{list_any}
 use Rattle.std.proofs.lemmas.List.{append-nil}
 use Rattle.vx_base.specs.Named.{Word}
 use Rattle.vx_piece.specs.Seen.{Seen}
 use Rattle.vx_copies.specs.Commit.{HasRisen}
-use Rattle.vx_copies.specs.Disks.{held, Goes, HasSlot, IsReady, IsCut, good_mask}
+use Rattle.vx_copies.specs.Disks.{HasSlot, IsReady, IsCut, good_mask}
 use Rattle.vx_copies.specs.Disks.{Held as DiskHeld}
 use Rattle.vx_copies.specs.Image.{Offer}
 use Rattle.vx_copies.specs.Lists.{AllOf, AnyOf, Each}
@@ -20,20 +19,21 @@ use Rattle.vx_import.specs.declared.found.Found.{Found}
 use Rattle.vx_import.specs.declared.judging.Given.{Given}
 use Rattle.vx_objects.specs.declared.config.Config.{Config}
 use Rattle.vx_objects.specs.Config.{objects_of}
+use Rattle.vx_answers.specs.declared.answer.End.{End}
 use Rattle.vx_answers.specs.declared.answer.End.TheVariants as ends
 use Rattle.vx_script_words.specs.declared.value.DiskAt.{DiskAt}
 use Rattle.vx_moments.specs.World.{World, Group}
 use Rattle.vx_moments.specs.Moment.{Moment, AreLater}
 use Rattle.vx_moments.specs.Copies.{IsTextOf}
-use Rattle.vx_moments.specs.Commit.{Writing}
+use Rattle.vx_moments.specs.Commit.{Writing, IsStopped}
 use Rattle.vx_plans.specs.Finding.{members_of, member_of, group_found, import_records}
 use Rattle.vx_plans.specs.Finding.{Found as Findings}
-use Rattle.vx_plans.specs.Stages.{IsImporting, IsBetween}
+use Rattle.vx_plans.specs.Stages.{IsImporting, IsBetween, Stops}
 use Rattle.vx_plans.specs.declared.stage.Stage.TheVariants as stage
 use Rattle.vx_house.specs.Goes.{StageGoes}
-use Rattle.vx_house.specs.Holders.{Holder, holders, volume_holder, group_holders, hand_holder, volume_at, AreApart, AreHeld}
+use Rattle.vx_house.specs.Holders.{Holder, holders, volume_holder, group_holders, hand_holder, volume_at, AreHeld}
 use Rattle.vx_house.specs.Scene.{Shelved, Scene, seen_at, counts_of, FaultsGoOn}
-use Rattle.vx_house.specs.View.{at, scene, is_lent, group_of, IsMoment, IsGroupKept, KeepsButGroup, AreSized, HaveSlots, AreRecorded}
+use Rattle.vx_house.specs.View.{at, scene, is_lent, group_of, IsMoment, IsMomentButGroup, IsGroupKept, KeepsButGroup}
 use Rattle.vx_house.specs.declared.house.House.{House}
 use Rattle.vx_house.specs.declared.house.Imported.{Imported}
 use Rattle.vx_house.specs.declared.stop.Stop.{Stop}
@@ -41,7 +41,11 @@ use Rattle.vx_house.specs.declared.stop.Stop.TheVariants as stops
 use Rattle.vx_house.proofs.Listed.{all_each}
 use Rattle.vx_house.proofs.Moments.{counts_own, counts_later, later_trans, faults_trans}
 use Rattle.vx_house.proofs.Scenes.{scene_of}
-use Rattle.vx_finding.specs.Committing.{IsTried, IsFinished, IsWritable, CommitEnds}
+use Rattle.vx_commits.proofs.Alone.{IsWrittenIn, alone, x_alone, lost_alone, cut_alone, committed_alone}
+use Rattle.vx_commits.proofs.Joined.{held_on, faults_on, moment_on, later_on, but_group_on}
+use Rattle.vx_commits.proofs.Kept.{sized_now, slots_now, recorded_now}
+use Rattle.vx_commits.proofs.Members.{member_in}
+use Rattle.vx_commits.specs.Committing.{IsTried, IsFinished, IsWritable, CommitEnds}
 use Rattle.vx_finding.specs.Finds.{beside, OnlyRead, IsOfGroup, AreLooked, candidate_of, candidates_of}
 use Rattle.vx_finding.specs.Giving.{IsBack, good_looks, disks_in, seen_disks, disk_holders}
 use Rattle.vx_finding.specs.Importing.{IsSince}
@@ -50,22 +54,15 @@ use Rattle.vx_header.specs.Named.{label_of}
 use Rattle.vx_finding.specs.Readying.{IsReadied, AreCommittable}
 use Rattle.vx_finding.specs.Taking.{group_with, TakesIn, IsTakenIn, IsTurnedAway}
 use Rattle.vx_finding.specs.declared.judging.Judged.TheVariants.{Ready}
-use Rattle.vx_finding.proofs.Bridged.{with_group, moment_done, x_done, is_committed, moment_lost, x_lost, stopped_lost, stopped_cut}
 use Rattle.vx_finding.proofs.Counting.{unread_by, found_of, all_linked}
 use Rattle.vx_finding.proofs.Ending.{stays_device, stays_place, stays_writes, starves}
 use Rattle.vx_finding.proofs.Goods.{good_candidates}
-use Rattle.vx_finding.proofs.Grouped.{held_now, faults_on, after_later, after_but_group}
 use Rattle.vx_finding.proofs.Linking.{IsLinked}
 use Rattle.vx_finding.proofs.Masked.{mask_is}
-use Rattle.vx_finding.proofs.Members.{member_in}
 use Rattle.vx_finding.proofs.Readied.{committable, named, recorded_disks}
 use Rattle.vx_finding.proofs.Stays.{only_trans, only_unmoved}
 use Rattle.vx_finding.proofs.Told.{started_same, ready_of, ready_finds, given_finds}
 use Rattle.vx_finding.proofs.Texts.{labels_in}
-
-pub apart_back : (xs ys : List Holder) → AreApart (xs ++ ys) → AreApart ys
-apart_back [] ys apart = apart
-apart_back (x ∷ xs) ys apart = apart_back xs ys apart.1
 
 -- the disks beside a house without a group and with an empty hand are held as those of its group
 pub holders_taken : {P : Type 0} (see : P → Seen) (h : House P) (g : Imported P) → h.hand.items ≡ [] → h.group ≡ None → holders see h ++ disk_holders see g.base.disks.items ≡ holders see (record { volumes = h.volumes; group = Some g; hand = h.hand })
@@ -86,38 +83,6 @@ holders_taken {P = P} see h g ready none =
 
     empty : map (hand_holder see) h.hand.items ≡ []
     empty = ap (map (hand_holder see)) ready
-
--- the group's disks after a commit
-module _ (first last : ℕ) (text : List ℕ) {P : Type 0} (see : P → Seen) where
-  abbrev pub AllGo : List (Disk P) → List (Disk P) → Type 0
-  AllGo ds es = Each (Goes first last text) (map (held see) ds) (map (held see) es)
-
-  pub sized_now : (ds es : List (Disk P)) → AllGo ds es → AreSized see ds → AreSized see es
-  sized_now [] [] goes sized = tt
-  sized_now [] (e ∷ es) goes sized = absurd goes
-  sized_now (d ∷ ds) [] goes sized = absurd goes
-  sized_now (d ∷ ds) (e ∷ es) goes sized = (goes.0.kept.sectors ∙ sized.0 ∙ sym goes.0.size, sized_now ds es goes.1 sized.1)
-
-  pub slots_now : (ds es : List (Disk P)) → AllGo ds es → HaveSlots ds → HaveSlots es
-  slots_now [] [] goes slots = tt
-  slots_now [] (e ∷ es) goes slots = absurd goes
-  slots_now (d ∷ ds) [] goes slots = absurd goes
-  slots_now (d ∷ ds) (e ∷ es) goes slots = (all ds es goes.1 slots.0, slots_now ds es goes.1 slots.1)
-    where
-      all : (xs ys : List (Disk P)) → AllGo xs ys → AllOf (λ x. x.slot ≢ d.slot) xs → AllOf (λ y. y.slot ≢ e.slot) ys
-      all [] [] on other = tt
-      all [] (y ∷ ys) on other = absurd on
-      all (x ∷ xs) [] on other = absurd on
-      all (x ∷ xs) (y ∷ ys) on other = ((λ same. other.0 (sym on.0.slot ∙ same ∙ goes.0.slot)), all xs ys on.1 other.1)
-
-  pub recorded_now : (config next : Config) → next.disks ≡ config.disks → (ds es : List (Disk P)) → AllGo ds es → AreRecorded config ds → AreRecorded next es
-  recorded_now config next same [] [] goes recorded = tt
-  recorded_now config next same [] (e ∷ es) goes recorded = absurd goes
-  recorded_now config next same (d ∷ ds) [] goes recorded = absurd goes
-  recorded_now config next same (d ∷ ds) (e ∷ es) goes recorded = (
-    ap (λ l. list_any (λ r. r.slot == e.slot) l) same ∙ ap (λ n. list_any (λ r. r.slot == n) config.disks) goes.0.slot ∙ recorded.0,
-    recorded_now config next same ds es goes.1 recorded.1,
-  )
 
 -- the labels of devices, as candidates and as they were found
 pub candidate_labels : (gs : List Looked) → labels_in (candidates_of gs) ≡ map (λ f. f.label) gs
@@ -185,16 +150,15 @@ module _ {P : Type 0} (see : P → Seen) (dg : Word) (names : List Word) (disks 
   read = only_trans start (beside now (holders see h) fs) taken since.reads moved
 
   module _ (m : Moment) (is : IsMoment see (at first h) m) where
-    -- the moment before the commit, as if the group were imported
-    abbrev pub found_moment : Moment
-    found_moment = record { world = record { devices = m.world.devices; volumes = m.world.volumes; group = group_of see (Some found_group) }; counts = counts_of taken }
+    -- the moment before the commit
+    abbrev pub middle : Moment
+    middle = record { world = record { devices = m.world.devices; volumes = m.world.volumes; group = None }; counts = counts_of taken }
 
-    pub is_found : IsMoment see (at mid found_house) found_moment
+    pub is_found : IsMomentButGroup see (at mid found_house) middle
     is_found = record {
       told = read.told is.told;
       devices_are = λ name. stays_device (is_lent h name) (seen_at start name) (seen_at taken name) (m.world.devices name) (read.seen is.told name) (is.devices_are name);
       volumes_are = is.volumes_are;
-      group_is = refl;
       counts = counts_own taken;
     }
 
@@ -203,9 +167,6 @@ module _ {P : Type 0} (see : P → Seen) (dg : Word) (names : List Word) (disks 
 
     none_then : m.world.group ≡ None
     none_then = is.group_is ∙ ap (group_of see) since.none
-
-    abbrev middle : Moment
-    middle = with_group found_moment None
 
     pub is_between : (n : Moment) → AreLater (counts_of taken) n.counts → IsBetween m middle n
     is_between n later = record {
@@ -259,20 +220,26 @@ module _ {P : Type 0} (see : P → Seen) (dg : Word) (names : List Word) (disks 
     short : length text ≤ 522240
     short = let f = ready.fits in let e = ap length text_is in omega (arith, f, e)
 
-    on_faults : (tried : IsTried see text found_group.base base) → FaultsGoOn start (scene see (at mid taken_house))
-    on_faults tried = faults_trans start taken (scene see (at mid taken_house)) read.faults (faults_on see mid found_house found_group g' text refl are_held writable tried)
+    in_name : after.group ≡ dg
+    in_name = named see dg ds looks given given_is after v.items ready_labels
+
+    written_in : IsTried see text found_group.base base → IsWrittenIn see mid found_house found_group g' text
+    written_in tried = record { has = refl; held = are_held; writable = writable; tried = tried }
 
     but_group : IsTried see text found_group.base base → KeepsButGroup see (at mid taken_house)
     but_group tried = record {
-      devices = held_now see mid found_house found_group g' text refl are_held writable tried;
+      devices = held_on (alone (written_in tried));
       ordered = since.keeps.house.ordered;
       hand = since.keeps.house.hand;
       volumes = since.keeps.house.volumes;
     }
 
+    on_faults : IsTried see text found_group.base base → FaultsGoOn start (scene see (at mid taken_house))
+    on_faults tried = faults_trans start taken (scene see (at mid taken_house)) read.faults (faults_on (alone (written_in tried)))
+
     kept_now : IsFinished see text found_group.base base → IsGroupKept see g'
     kept_now finished = record {
-      named = finished.tried.committed.name ∙ sym (named see dg ds looks given given_is after v.items ready_labels);
+      named = finished.tried.committed.name ∙ sym in_name;
       text = subst (IsTextOf after) (sym finished.carries.holds) printed;
       first = given.sequence + 1;
       carries = subst (λ t. CarriesText see (given.sequence + 1) t base) (sym finished.carries.holds) finished.carries;
@@ -284,20 +251,20 @@ module _ {P : Type 0} (see : P → Seen) (dg : Word) (names : List Word) (disks 
     taken_done : IsFinished see text found_group.base base → StageGoes {T = Unit {0}} see (stage.Import dg) disks (Ok tt) (at first h) (at mid taken_house)
     taken_done finished = record {
       keeps = record {
-        devices = held_now see mid found_house found_group g' text refl are_held writable finished.tried;
+        devices = held_on (alone (written_in finished.tried));
         house = record { ordered = since.keeps.house.ordered; hand = since.keeps.house.hand; volumes = since.keeps.house.volumes; group = kept_now finished };
       };
       goes = λ m is.
-          let k = found_moment m is in
+          let w = written_in finished.tried in
+          let k = middle m is in
           let at_k = is_found m is in
-          let there = after_but_group see mid found_house found_group g' text refl are_held writable finished.tried k at_k (group_of see (Some g')) in
-          let later = after_later see mid found_house found_group g' text refl are_held writable finished.tried k at_k (group_of see (Some g')) in
-          let x = x_done see mid found_house found_group g' text refl are_held writable finished k at_k printed short in
-          let n = moment_done see mid found_house found_group g' text refl are_held writable finished k at_k printed short in (
+          let n = moment_on (alone w) k (group_of see (Some g')) in
+          let there = but_group_on (alone w) k at_k (group_of see (Some g')) in
+          let later = later_on (alone w) k at_k (group_of see (Some g')) in (
             n,
             record { told = there.told; devices_are = there.devices_are; volumes_are = there.volumes_are; group_is = refl; counts = there.counts },
             later_trans m.counts (counts_of taken) n.counts (later_found m is) later,
-            (none_then m is, with_group k None, is_between m is n later, (x, importing m is x refl refl refl refl, is_committed see mid found_house found_group g' text refl are_held writable finished k at_k printed short None)),
+            (none_then m is, k, is_between m is n later, (x_alone w after, importing m is (x_alone w after) refl refl refl refl, committed_alone w k at_k finished printed short in_name)),
           );
       gives = tt;
       still = λ e. cc;
@@ -305,20 +272,27 @@ module _ {P : Type 0} (see : P → Seen) (dg : Word) (names : List Word) (disks 
       blamed = tt;
     }
 
+    -- the commit is stopped
+    module _ (tried : IsTried see text found_group.base base) (m : Moment) (is : IsMoment see (at first h) m) where
+      abbrev w : IsWrittenIn see mid found_house found_group g' text
+      w = written_in tried
+
+      abbrev stopped_at : Moment
+      stopped_at = moment_on (alone w) (middle m is) None
+
+      stops_at : (end : End) → IsStopped (x_alone w after) (middle m is) end stopped_at → (n : Moment) × IsMomentButGroup see (at mid taken_house) n × AreLater m.counts n.counts × Stops (stage.Import dg) disks m end n
+      stops_at end stopped =
+          let later = later_on (alone w) (middle m is) (is_found m is) None in (
+            stopped_at,
+            but_group_on (alone w) (middle m is) (is_found m is) None,
+            later_trans m.counts (counts_of taken) stopped_at.counts (later_found m is) later,
+            inr (inr (middle m is, is_between m is stopped_at later, (x_alone w after, importing m is (x_alone w after) refl refl refl refl, stopped))),
+          )
+
     taken_lost : (tried : IsTried see text found_group.base base) → Each HasRisen (members see found_group.base) (members see base) → StageGoes {T = Unit {0}} see (stage.Import dg) disks (Err (stops.Ended ends.GroupLost)) (at first h) (at mid taken_house)
     taken_lost tried risen = record {
       keeps = but_group tried;
-      goes = λ m is.
-          let k = found_moment m is in
-          let at_k = is_found m is in
-          let later = after_later see mid found_house found_group g' text refl are_held writable tried k at_k None in
-          let x = x_lost see mid found_house found_group g' text refl are_held writable tried k at_k None after printed short in
-          let n = moment_lost see mid found_house found_group g' text refl are_held writable tried k at_k None after printed short in (
-            n,
-            after_but_group see mid found_house found_group g' text refl are_held writable tried k at_k None,
-            later_trans m.counts (counts_of taken) n.counts (later_found m is) later,
-            inr (inr (with_group k None, is_between m is n later, (x, importing m is x refl refl refl refl, stopped_lost see mid found_house found_group g' text refl are_held writable tried k at_k None after printed short risen))),
-          );
+      goes = λ m is. stops_at tried m is ends.GroupLost (lost_alone (w tried m is) (middle m is) (is_found m is) after printed short in_name risen);
       gives = tt;
       still = λ e. cc;
       faults = on_faults tried;
@@ -328,17 +302,7 @@ module _ {P : Type 0} (see : P → Seen) (dg : Word) (names : List Word) (disks 
     taken_cut : (tried : IsTried see text found_group.base base) → AnyOf IsCut (members see base) → StageGoes {T = Unit {0}} see (stage.Import dg) disks (Err (stops.Ended (ends.Lost []))) (at first h) (at mid taken_house)
     taken_cut tried cut = record {
       keeps = but_group tried;
-      goes = λ m is.
-          let k = found_moment m is in
-          let at_k = is_found m is in
-          let later = after_later see mid found_house found_group g' text refl are_held writable tried k at_k None in
-          let x = x_lost see mid found_house found_group g' text refl are_held writable tried k at_k None after printed short in
-          let n = moment_lost see mid found_house found_group g' text refl are_held writable tried k at_k None after printed short in (
-            n,
-            after_but_group see mid found_house found_group g' text refl are_held writable tried k at_k None,
-            later_trans m.counts (counts_of taken) n.counts (later_found m is) later,
-            inr (inr (with_group k None, is_between m is n later, (x, importing m is x refl refl refl refl, stopped_cut see mid found_house found_group g' text refl are_held writable tried k at_k None after printed short cut))),
-          );
+      goes = λ m is. stops_at tried m is (ends.Lost []) (cut_alone (w tried m is) (middle m is) (is_found m is) after printed short in_name cut);
       gives = tt;
       still = λ e. cc;
       faults = on_faults tried;

@@ -4,6 +4,5 @@ pub mod Finds
 pub mod Gathering
 pub mod Giving
 pub mod Importing
-pub mod Committing
 pub mod Readying
 pub mod Taking

@@ -12,7 +12,7 @@ use Rattle.vx_house.specs.Scene.{Shelved}
 use Rattle.vx_house.specs.declared.house.House.{House}
 use Rattle.vx_house.specs.declared.stop.Stop.{Stop}
 use Rattle.vx_house.specs.declared.stop.Stop.TheVariants as stops
-use Rattle.vx_finding.specs.Committing.{CommitEnds}
+use Rattle.vx_commits.specs.Committing.{CommitEnds}
 use Rattle.vx_finding.specs.Giving.{disk_holders}
 
 -- the group of the disks, with the text that they give

@@ -20,8 +20,8 @@ ghost use Rattle.vx_finding.specs.Taking.{TakesIn};
 
 use crate::giving::give_finds;
 use crate::sorting::sort_out;
-use crate::trying::commit;
 use std::alloc::Global;
+use vx_commits::commit;
 use vx_confdb::Group;
 use vx_copies::Disk;
 use vx_house::{House, Imported, Stop, give_disks};

@@ -12,7 +12,6 @@ mod naming;
 mod placing;
 mod searching;
 mod sorting;
-mod trying;
 
 pub use checking::{first_started, first_stray};
 pub use gathering::{Passed, gather};

@@ -1,13 +1,11 @@
 -- A stage that ended the command and keeps all there is to keep, however it ended.
-use Rattle.std.proofs.Common.{◌≡◌, List}
-use Rattle.std.specs.Prelude.{Result, Err}
+use Rattle.std.specs.Prelude.{Err}
 use Rattle.vx_piece.specs.Seen.{Seen}
 use Rattle.vx_answers.specs.declared.answer.End.{End}
 use Rattle.vx_answers.specs.declared.answer.End.TheVariants as ends
 use Rattle.vx_moments.specs.Moment.{Moment}
 use Rattle.vx_house.specs.Goes.{Goes, GoesOff, GoesBy, KeepsBy}
 use Rattle.vx_house.specs.View.{View, Keeps, KeepsButGroup, IsMoment, IsMomentButGroup}
-use Rattle.vx_house.specs.declared.stop.Stop.{Stop}
 use Rattle.vx_house.specs.declared.stop.Stop.TheVariants as stops
 
 module _ {P : Type 0} (see : P → Seen) where

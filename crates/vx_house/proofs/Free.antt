@@ -1,26 +1,25 @@
 -- Which devices are free, as the shelf tells it and as the world has it.
 use Rattle.std.proofs.Common.{◌≡◌, ◌∙◌, ◌⊎◌, Bool, true, false, cond, ◌||◌, List, [], ◌∷◌, ◌++◌, map, Option, Some, None, refl, sym, ap, subst, inl, inr}
 use Rattle.std.specs.Prelude.{IsSome}
-use Rattle.std.specs.List.{list_any}
 use Rattle.std.specs.Str.{bytes_eq}
 use Rattle.vx_base.specs.Named.{Word}
-use Rattle.vx_base.proofs.NamedLemmas.{bytes_eq_self, bytes_eq_same}
+use Rattle.vx_base.proofs.NamedLemmas.{bytes_eq_same}
 use Rattle.vx_piece.specs.Seen.{Seen}
 use Rattle.vx_shelf.specs.Shelf.{Held, IsNowhere}
 use Rattle.vx_shelf.specs.Shelf.{held_as as held_of}
 use Rattle.vx_copies.specs.Lists.{AllOf, AnyOf}
 use Rattle.vx_copies.specs.declared.disk.Disk.{Disk}
 use Rattle.vx_started.specs.declared.started.Started.{Started}
-use Rattle.vx_moments.specs.World.{World, Device, Volume, Member, Group, Lies, OnDevice, OnPlexes}
+use Rattle.vx_moments.specs.World.{World, Device, Volume, Member, Lies, OnDevice}
 use Rattle.vx_moments.specs.Holding.{IsHeld, IsLent, IsMemberDevice, HasDevice, is_among}
 use Rattle.vx_plans.specs.Stages.{IsFree}
 use Rattle.vx_house.specs.Holders.{Holder, holders, volume_holder, disk_holder, hand_holder, group_holders, hand_names, volume_at, held_as, AreHeld, IsTakenFrom}
 use Rattle.vx_house.specs.Scene.{Scene, seen_in, seen_at}
-use Rattle.vx_house.specs.View.{IsDeviceOf, IsVolumeOf, IsAtVolume, member_of, group_of, is_lent, IsMomentIn, KeepsHouse}
+use Rattle.vx_house.specs.View.{IsDeviceOf, IsVolumeOf, IsAtVolume, member_of, group_of, is_lent, KeepsHouse}
 use Rattle.vx_house.specs.declared.house.House.{House}
 use Rattle.vx_house.specs.declared.house.Imported.{Imported}
 use Rattle.vx_house.specs.declared.house.Taken.{Taken}
-use Rattle.vx_house.proofs.Listed.{all_front, all_back, all_unmapped, held_by_one, found_by_one, found_each, all_two}
+use Rattle.vx_house.proofs.Listed.{all_front, all_back, all_unmapped, held_by_one, found_by_one, found_each}
 
 -- an entry that passes both, in a list where each that passes the first passes the other
 gone : (o : Option Held) (h : Held) → o ≡ None → o ≡ Some h → ⊥

@@ -1,38 +1,32 @@
 -- The moments behind a command: the same where nothing was lost; without the group; or without the group and all volumes.
-use Rattle.std.proofs.Common.{◌≡◌, ◌∙◌, ◌≤◌, ℕ, Bool, true, false, cond, ◌||◌, List, [], ◌∷◌, ◌++◌, map, Option, Some, None, refl, sym, ap, subst, arith, inl, inr}
+use Rattle.std.proofs.Common.{◌≡◌, ◌∙◌, ℕ, Bool, true, false, ◌||◌, List, [], ◌∷◌, map, Option, Some, None, refl, sym, ap, subst}
 use Rattle.std.specs.Prelude.{IsSome}
 use Rattle.std.specs.List.{list_any}
 use Rattle.std.specs.Str.{bytes_eq}
-use Rattle.std.specs.BTreeMap.{BTreeMap, get, IsOrdered}
+use Rattle.std.specs.BTreeMap.{BTreeMap, get}
 use Rattle.std.specs.Cmp.Lexicographic.{slice_cmp}
 use Rattle.std.specs.Ordering.{nat_cmp}
-use Rattle.std.proofs.lemmas.Bool.{cond-true, cond-false}
 use Rattle.vx_base.specs.Blocks.{Contents}
 use Rattle.vx_base.specs.Named.{Word}
 use Rattle.vx_base.proofs.NamedLemmas.{bytes_eq_self, bytes_eq_same}
 use Rattle.vx_piece.specs.Seen.{Seen}
-use Rattle.vx_life.specs.declared.Part.{Part}
 use Rattle.vx_life.specs.Candidates.{Candidates, IsChosen}
 use Rattle.vx_copies.specs.Lists.{AllOf}
-use Rattle.vx_started.specs.Stands.{IsAmongTold, IsSized}
+use Rattle.vx_started.specs.Stands.{IsAmongTold}
 use Rattle.vx_started.specs.declared.started.Started.{Started}
-use Rattle.vx_answers.specs.declared.answer.End.{End}
 use Rattle.vx_answers.specs.declared.answer.End.TheVariants as ends
 use Rattle.vx_moments.specs.Holding.{IsLent, HasDevice}
-use Rattle.vx_moments.specs.Leaving.{PowerGoes, IsLeftBy, DeviceStands, group_gone}
+use Rattle.vx_moments.specs.Leaving.{PowerGoes, IsLeftBy, group_gone}
 use Rattle.vx_moments.specs.Moment.{Moment}
-use Rattle.vx_moments.specs.World.{World, Device, Volume, Lies, OnDevice}
-use Rattle.vx_plans.specs.Steps.{Leaves}
-use Rattle.vx_house.specs.Holders.{Holder, holders, held_as, volume_at, volume_holder, AreHeld, AreApart}
-use Rattle.vx_house.specs.Leaves.{IsLeft, IsLater}
-use Rattle.vx_house.specs.Scene.{Scene, seen_in, seen_at, AreCountsOf}
+use Rattle.vx_moments.specs.World.{World, Device, Volume}
+use Rattle.vx_house.specs.Holders.{holders, held_as, volume_at, volume_holder}
+use Rattle.vx_house.specs.Leaves.{IsLeft}
+use Rattle.vx_house.specs.Scene.{seen_in, seen_at}
 use Rattle.vx_house.specs.Unmoved.{Unmoved}
-use Rattle.vx_house.specs.View.{View, at, scene, is_lent, IsDeviceOf, IsVolumeOf, IsAtVolume, group_of, IsMoment, IsMomentButGroup, Keeps, KeepsHouse, KeepsButGroup}
+use Rattle.vx_house.specs.View.{View, scene, is_lent, IsDeviceOf, IsVolumeOf, IsAtVolume, group_of, IsMoment, IsMomentButGroup, KeepsButGroup}
 use Rattle.vx_house.specs.declared.house.House.{House}
-use Rattle.vx_house.specs.declared.house.Imported.{Imported}
 use Rattle.vx_house.proofs.Free.{at_world, at_house}
-use Rattle.vx_house.proofs.Held.{not_both}
-use Rattle.vx_house.proofs.Listed.{found_in, found_by_one, found_each, held_each, all_front, all_mapped}
+use Rattle.vx_house.proofs.Listed.{found_in, found_by_one, found_each, held_each, all_front}
 use Rattle.vx_house.proofs.Moments.{counts_moved}
 
 -- the contents that are told

@@ -5,7 +5,7 @@ use Rattle.std.proofs.lemmas.Bool.{cond-true, cond-false}
 use Rattle.vx_base.specs.Named.{Word, put}
 use Rattle.vx_base.proofs.NamedLemmas.{bytes_eq_self, bytes_eq_same}
 use Rattle.vx_piece.specs.Seen.{Seen, Keeps}
-use Rattle.vx_shelf.specs.Shelf.{Held, IsTaken, IsGiven, ComesToShelf}
+use Rattle.vx_shelf.specs.Shelf.{Held, IsTaken, IsGiven}
 use Rattle.vx_shelf.specs.Shelf.{held_as as held_of}
 use Rattle.vx_copies.specs.Lists.{AllOf, Each}
 use Rattle.vx_house.specs.Holders.{Holder, held_as, AreApart, IsTakenFrom, AreHeld}

@@ -1,5 +1,5 @@
 -- A house that gives back its hand, its group and its volumes.
-use Rattle.std.proofs.Common.{◌≡◌, ◌∙◌, List, [], ◌++◌, map, Option, None, refl, sym, ap, subst, append_assoc}
+use Rattle.std.proofs.Common.{◌≡◌, ◌∙◌, List, [], ◌++◌, map, refl, sym, ap, subst, append_assoc}
 use Rattle.std.proofs.lemmas.List.{append-nil}
 use Rattle.std.specs.BTreeMap.{BTreeMap}
 use Rattle.vx_base.specs.Named.{Word}
@@ -16,7 +16,6 @@ use Rattle.vx_house.specs.Unmoved.{Unmoved}
 use Rattle.vx_house.specs.View.{View, at, scene}
 use Rattle.vx_house.specs.declared.house.House.{House}
 use Rattle.vx_house.proofs.Scenes.{scene_of, unmoved_trans}
-use Rattle.vx_house.proofs.Takes.{same_holders}
 
 module _ {P : Type 0} (see : P → Seen) (old new : Shelved) (h k : House P) (are : AreHeld old.held (holders see h)) where
   abbrev vs : List Holder

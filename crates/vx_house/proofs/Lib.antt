@@ -9,3 +9,7 @@ pub mod Takes
 pub mod Returned
 pub mod Leaves
 pub mod Gone
+pub mod Lists
+pub mod Steps
+pub mod Hands
+pub mod One

@@ -1,12 +1,12 @@
 -- Moments that a house is, as devices are taken, given back and called.
-use Rattle.std.proofs.Common.{◌≡◌, ◌∙◌, ◌≤◌, ℕ, Bool, true, false, List, Option, Some, None, refl, sym, ap, subst, arith, inl, inr}
+use Rattle.std.proofs.Common.{◌≡◌, ◌∙◌, false, Option, Some, None, refl, sym, ap, subst, arith}
 use Rattle.std.specs.Prelude.{IsSome, IsTrue}
 use Rattle.vx_base.specs.Named.{Word}
 use Rattle.vx_piece.specs.Seen.{Seen}
-use Rattle.vx_moments.specs.World.{World, Device, Volume, Group}
-use Rattle.vx_moments.specs.Moment.{Moment, Counts, AreLater, IsQuiet}
+use Rattle.vx_moments.specs.World.{World}
+use Rattle.vx_moments.specs.Moment.{Moment, Counts, AreLater}
 use Rattle.vx_house.specs.Holders.{volume_at}
-use Rattle.vx_house.specs.Scene.{Scene, seen_at, faults_at, count_in, AreCountsOf, counts_of, FaultsGoOn}
+use Rattle.vx_house.specs.Scene.{Scene, seen_at, count_in, AreCountsOf, counts_of, FaultsGoOn}
 use Rattle.vx_house.specs.Unmoved.{Unmoved}
 use Rattle.vx_house.specs.View.{is_lent, IsDeviceOf, IsAtVolume, group_of, IsMomentIn}
 use Rattle.vx_house.specs.declared.house.House.{House}

@@ -1,17 +1,16 @@
 -- A device that is taken or given back leaves what is seen of all devices.
-use Rattle.std.proofs.Common.{◌≡◌, ◌∙◌, ◌≤◌, ℕ, Bool, true, false, cond, List, [], ◌∷◌, ◌++◌, Option, Some, None, refl, sym, ap, subst, arith}
+use Rattle.std.proofs.Common.{◌≡◌, ◌∙◌, ◌≤◌, ℕ, Bool, true, false, cond, List, ◌∷◌, ◌++◌, Option, Some, None, refl, sym, ap, subst, arith}
 use Rattle.std.specs.Prelude.{IsSome, IfSome}
 use Rattle.std.specs.Str.{bytes_eq}
 use Rattle.std.proofs.lemmas.Bool.{cond-true, cond-false}
-use Rattle.vx_base.specs.Named.{Word, put}
-use Rattle.vx_base.proofs.NamedLemmas.{bytes_eq_self, bytes_eq_same}
+use Rattle.vx_base.specs.Named.{Word}
+use Rattle.vx_base.proofs.NamedLemmas.{bytes_eq_same}
 use Rattle.vx_piece.specs.Seen.{Seen}
-use Rattle.vx_shelf.specs.Shelf.{Held, IsTaken, IsGiven, ComesToShelf, LeavesShelf, SameCounts, put_count, AreCounted}
-use Rattle.vx_copies.specs.Lists.{AllOf}
-use Rattle.vx_house.specs.Holders.{Holder, held_as, AreApart, IsTakenFrom, AreHeld}
-use Rattle.vx_house.specs.Scene.{Shelved, Scene, seen_in, seen_at, faults_in, faults_at}
+use Rattle.vx_shelf.specs.Shelf.{IsTaken, ComesToShelf, LeavesShelf, SameCounts, put_count, AreCounted}
+use Rattle.vx_house.specs.Holders.{Holder, held_as, AreApart}
+use Rattle.vx_house.specs.Scene.{Shelved, Scene, seen_in, faults_in}
 use Rattle.vx_house.specs.Unmoved.{Unmoved}
-use Rattle.vx_house.proofs.Held.{held_at, apart_here, none_of, put_seen, take_one, apart_from, IsApart}
+use Rattle.vx_house.proofs.Held.{held_at, apart_here, none_of, put_seen}
 
 abbrev pub scene_of : Shelved → List Holder → Scene
 scene_of shelf taken = record { shelf = shelf; taken = taken }

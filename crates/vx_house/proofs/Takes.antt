@@ -1,11 +1,11 @@
 -- Devices that are taken into the hand, one after the other.
-use Rattle.std.proofs.Common.{◌≡◌, ◌∙◌, ◌≤◌, ◌<◌, ◌⊎◌, ℕ, Bool, true, false, List, [], ◌∷◌, ◌++◌, ◌+◌, map, take, drop, Option, Some, None, refl, sym, ap, subst, arith, inl, inr, append_assoc}
+use Rattle.std.proofs.Common.{◌≡◌, ◌∙◌, ◌≤◌, ◌<◌, ◌⊎◌, ℕ, List, [], ◌∷◌, ◌++◌, ◌+◌, map, take, drop, Option, Some, None, refl, sym, ap, subst, arith, inl, inr, append_assoc}
 use Rattle.std.specs.Prelude.{◌↔◌, IsSome, IfSome}
 use Rattle.std.proofs.lemmas.List.{append-nil, map-append, take-append-drop}
 use Rattle.vx_base.specs.Named.{Word, SameUnder}
 use Rattle.vx_base.specs.Counts.{Rose}
 use Rattle.vx_piece.specs.Seen.{Seen}
-use Rattle.vx_shelf.specs.Shelf.{Held, IsTaken, LeavesShelf, IsNowhere, SameCounts, AreCounted}
+use Rattle.vx_shelf.specs.Shelf.{LeavesShelf, IsNowhere, SameCounts}
 use Rattle.vx_copies.specs.Lists.{AllOf}
 use Rattle.vx_script_words.specs.declared.value.DiskAt.{DiskAt}
 use Rattle.vx_answers.specs.declared.answer.End.{End}
@@ -18,11 +18,11 @@ use Rattle.vx_plans.specs.Records.{devices_of}
 use Rattle.vx_plans.specs.Stages.{IsFree, AreFree, IsAway, EndsIn, ShelfFailsAt, TakingStops, IsDone, Stops, fault_of, refused}
 use Rattle.vx_plans.specs.declared.stage.Stage.TheVariants as stage
 use Rattle.vx_house.specs.Goes.{Goes, StageGoes}
-use Rattle.vx_house.specs.Holders.{Holder, volume_holder, group_holders, hand_holder, holders, held_as, hand_names, AreHeld, IsTakenFrom}
+use Rattle.vx_house.specs.Holders.{Holder, volume_holder, group_holders, hand_holder, holders, held_as, hand_names, AreHeld}
 use Rattle.vx_house.specs.Scene.{Shelved, Scene, seen_in, seen_at, faults_in, faults_at, count_in, counts_of, FaultsGoOn, IsBlamed}
-use Rattle.vx_house.specs.Takes.{Rested, Took, IsUntaken, TakesEnd, TakeGives}
+use Rattle.vx_house.specs.Takes.{Rested, Took, TakesEnd, TakeGives}
 use Rattle.vx_house.specs.Unmoved.{Unmoved}
-use Rattle.vx_house.specs.View.{View, at, scene, Keeps, KeepsHouse, IsMoment, IsMomentIn, IsDeviceOf, IsAtVolume, is_lent, group_of}
+use Rattle.vx_house.specs.View.{View, at, scene, Keeps, KeepsHouse, IsMoment, IsDeviceOf, IsAtVolume, is_lent, group_of}
 use Rattle.std.specs.BTreeMap.{BTreeMap, get}
 use Rattle.std.specs.List.{list_any}
 use Rattle.std.specs.Str.{bytes_eq}
@@ -39,7 +39,7 @@ use Rattle.vx_house.proofs.Ended.{keeps_ended, goes_ended}
 use Rattle.vx_house.proofs.Free.{told_is_free, taken_is_held, nowhere_is_none}
 use Rattle.vx_house.proofs.Held.{take_one, same_held}
 use Rattle.vx_house.proofs.Listed.{all_append}
-use Rattle.vx_house.proofs.Moments.{later_refl, later_trans, faults_moved, faults_trans, moment_moved, counts_own, counts_later, place_refl, PlaceGoesOn, moment_at}
+use Rattle.vx_house.proofs.Moments.{later_refl, faults_moved, faults_trans, moment_moved, counts_own, counts_later, place_refl, PlaceGoesOn, moment_at}
 use Rattle.vx_house.proofs.Scenes.{scene_of, unmoved_refl, unmoved_trans, IsHanded, take_scene}
 
 -- nothing has happened

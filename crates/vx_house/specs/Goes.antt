@@ -1,6 +1,5 @@
 -- What a stage does to a house and its shelf, by its answer.
-use Rattle.std.specs.Prelude.{◌≡◌, ℕ, Bool, true, false, List, [], ◌∷◌, map, Option, None, IfSome, Result, Ok, Err, OnOk}
-use Rattle.vx_base.specs.Named.{Word}
+use Rattle.std.specs.Prelude.{◌≡◌, Bool, true, false, List, [], ◌∷◌, None, IfSome, Result, Ok, Err, OnOk}
 use Rattle.vx_header.specs.Named.{header_of}
 use Rattle.vx_piece.specs.Seen.{Seen}
 use Rattle.vx_copies.specs.Lists.{AllOf, Each}

@@ -1,5 +1,5 @@
 -- What is left of a house once a command is over.
-use Rattle.std.specs.Prelude.{◌≡◌, [], None, Option}
+use Rattle.std.specs.Prelude.{◌≡◌, [], None}
 use Rattle.vx_piece.specs.Seen.{Seen}
 use Rattle.vx_answers.specs.declared.answer.End.{End}
 use Rattle.vx_answers.specs.declared.answer.End.TheVariants as ends

@@ -1,12 +1,10 @@
 -- What a house itself tells of the world: enough for the tests of commands.
-use Rattle.std.specs.Prelude.{◌≡◌, ◌∷◌, [], List, map, Option, Some, None, option_map}
-use Rattle.vx_base.specs.Named.{Word}
+use Rattle.std.specs.Prelude.{[], map, option_map}
 use Rattle.vx_piece.specs.Seen.{Seen}
-use Rattle.vx_copies.specs.Lists.{AllOf, Each}
 use Rattle.vx_started.specs.declared.started.Started.{Started}
 use Rattle.vx_moments.specs.World.{World, Device, Volume}
 use Rattle.vx_plans.specs.Stages.{bare_volume}
-use Rattle.vx_house.specs.Holders.{Holder, hand_holder, held_as, volume_at}
+use Rattle.vx_house.specs.Holders.{hand_holder, held_as, volume_at}
 use Rattle.vx_house.specs.View.{group_of}
 use Rattle.vx_house.specs.declared.house.House.{House}
 

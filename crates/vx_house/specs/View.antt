@@ -1,5 +1,5 @@
 -- The moments of the world that a shelf and a house are.
-use Rattle.std.specs.Prelude.{◌≡◌, ◌≢◌, ◌==◌, ◌<◌, ◌≤◌, ℕ, Bool, true, false, List, [], ◌∷◌, map, Option, Some, None, IsSome, IfSome}
+use Rattle.std.specs.Prelude.{◌≡◌, ◌≢◌, ◌==◌, ◌<◌, ℕ, Bool, true, false, List, [], ◌∷◌, map, Option, Some, None, IsSome, IfSome}
 use Rattle.std.specs.List.{list_any}
 use Rattle.std.specs.Str.{bytes_eq}
 use Rattle.std.specs.BTreeMap.{IsOrdered}
@@ -15,10 +15,10 @@ use Rattle.vx_confdb.specs.Texts.{text_of}
 use Rattle.vx_objects.specs.declared.config.Config.{Config}
 use Rattle.vx_started.specs.Stands.{IsSized, StandsFor}
 use Rattle.vx_started.specs.declared.started.Started.{Started}
-use Rattle.vx_moments.specs.World.{World, Device, Volume, Member, Group, OnDevice}
+use Rattle.vx_moments.specs.World.{Device, Volume, Member, Group, OnDevice}
 use Rattle.vx_moments.specs.Moment.{Moment}
 use Rattle.vx_moments.specs.Copies.{IsTextOf}
-use Rattle.vx_house.specs.Holders.{Holder, holders, volume_at, AreHeld}
+use Rattle.vx_house.specs.Holders.{holders, volume_at, AreHeld}
 use Rattle.vx_house.specs.Scene.{Shelved, Scene, seen_at, AreCountsOf}
 use Rattle.vx_house.specs.declared.house.House.{House}
 use Rattle.vx_house.specs.declared.house.Imported.{Imported}

@@ -47,7 +47,7 @@ use Rattle.vx_house.proofs.Scenes.{unmoved_held}
 use Rattle.vx_house.proofs.Takes.{rests_self}
 use Rattle.vx_looks.specs.Starts.{is_recorded, is_named, CanStart, IsStarted, IsSameHouse, Starts}
 use Rattle.vx_looks.proofs.Entries.{IsPutAt, put_at, any_less}
-use Rattle.vx_looks.proofs.Hands.{IsInWorld, hand_in_world}
+use Rattle.vx_house.proofs.Hands.{IsInWorld, hand_in_world}
 
 -- the names of volumes
 recorded_same : {P : Type 0} (see : P → Seen) (o : Option (Imported P)) (vol : Word) → has_volume (group_of see o) vol ≡ is_recorded o vol

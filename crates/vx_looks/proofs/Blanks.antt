@@ -31,13 +31,11 @@ use Rattle.vx_house.proofs.Ended.{keeps_ended, goes_ended}
 use Rattle.vx_house.proofs.Moments.{moment_at}
 use Rattle.vx_house.proofs.Scenes.{scene_of}
 use Rattle.vx_looks.specs.Looks.{IsOnlyRead, IsReadOnce, IsReadBlank, IsHeadedSeen, EndsBy, HandStops, HandLooks}
-use Rattle.vx_looks.proofs.Steps.{IsStep, each_weaker, each_all}
-use Rattle.vx_looks.proofs.Hands.{IsInWorld, volumes_held, group_held, volumes_others, group_others, hand_held, hand_in_world, hand_steps, hand_keeps, hand_faults, hand_later, hand_moment}
 use Rattle.vx_looks.proofs.Readings.{IsReadOn, IsCounted, read_on, read_told, reads_self, reads_each, counted_on, counted_told, counted_self, counted_each, writes_none, reads_these, still_each}
-
--- the house with another hand
-abbrev pub after : {P : Type 0} → House P → House P → House P
-after h k = record { volumes = h.volumes; group = h.group; hand = k.hand }
+use Rattle.vx_house.proofs.Steps.{IsStep}
+use Rattle.vx_copies.proofs.Going.{each_map}
+use Rattle.vx_copies.proofs.Ordering.{each_all}
+use Rattle.vx_house.proofs.Hands.{after, IsInWorld, volumes_held, group_held, volumes_others, group_others, hand_held, hand_in_world, hand_steps, hand_keeps, hand_faults, hand_later, hand_moment}
 
 or_true : (a b : Bool) → b ≡ true → (a || b) ≡ true
 or_true true b e = refl
@@ -185,7 +183,7 @@ module _ {P : Type 0} (see : P → Seen) (h k : House P) (shelf : Shelved) (are 
 -- The stages.
 module _ {P : Type 0} (see : P → Seen) (h k : House P) (shelf : Shelved) (are : AreHeld shelf.held (holders see h)) (keeps : KeepsHouse see h) where
   only_once : Each (IsReadBlank see) h.hand.items k.hand.items → Each (IsReadOnce see) h.hand.items k.hand.items
-  only_once each = each_weaker (IsReadBlank see) (IsReadOnce see) (λ t u blank. blank.0) h.hand.items k.hand.items each
+  only_once each = each_map (IsReadBlank see) (IsReadOnce see) (λ t u blank. blank.0) h.hand.items k.hand.items each
 
   -- none had a header, and none has
   blank_now : Each (IsReadBlank see) h.hand.items k.hand.items → IsHandBlank see (after h k)

@@ -37,9 +37,9 @@ use Rattle.vx_house.proofs.Held.{same_held}
 use Rattle.vx_house.proofs.Moments.{moment_at, counts_own}
 use Rattle.vx_house.proofs.Takes.{some_of}
 use Rattle.vx_looks.specs.Seeks.{NamesSeen, IsSoughtOnce, IsPlaceSeen, ArePlacesSeen, IsPlaceSought, ArePlacesSought, IsOnlySought, Seeks, SeekCause, SeekEnds, SeeksThrough}
-use Rattle.vx_looks.proofs.Hands.{IsInWorld, in_world}
 use Rattle.vx_looks.proofs.Sought.{place_self}
 use Rattle.vx_looks.proofs.Searched.{seeks_only, seeks_then, only_then, ends_then}
+use Rattle.vx_house.proofs.Hands.{IsInWorld, in_world}
 
 -- what is seen of a place that was read at most
 seen_places : (o : Option Seen) (a b : Option (Word → Option Seen)) (name : Word) → ArePlacesSeen a b → IsPlaceSeen (seen_in o a name) (seen_in o b name)

@@ -23,7 +23,7 @@ use Rattle.vx_house.proofs.Free.{not_held, nowhere_is_none}
 use Rattle.vx_house.proofs.Held.{same_held}
 use Rattle.vx_house.proofs.Moments.{moment_at, counts_own, later_refl, faults_moved}
 use Rattle.vx_house.proofs.Takes.{some_of, rests_self, rested_moment, still_rested, failing_faults, failing_moment, failing_later, failing_calls}
-use Rattle.vx_looks.proofs.Steps.{each_name}
+use Rattle.vx_house.proofs.Steps.{each_name}
 
 told_zeros : (told : Option Contents) (count : ℕ) → IsSome told → IfSome told (λ c. (k : ℕ) → k < count → c k ≡ replicate 512 0) → (c : Contents) × (told ≡ Some c) × ((k : ℕ) → k < count → c k ≡ replicate 512 0)
 told_zeros None count is zeros = cc

@@ -1,9 +1,6 @@
 pub mod Passes
-pub mod Steps
-pub mod Hands
 pub mod Readings
 pub mod Blanks
-pub mod One
 pub mod Headed
 pub mod Wiped
 pub mod Imaged

@@ -14,8 +14,10 @@ use Rattle.vx_house.specs.View.{at, IsMoment}
 use Rattle.vx_house.specs.declared.house.House.{House}
 use Rattle.vx_house.specs.declared.house.Taken.{Taken}
 use Rattle.vx_looks.specs.Looks.{IsOnlyRead, IsReadOnce}
-use Rattle.vx_looks.proofs.Steps.{IsStep, kept_self, HeldStep, held_steps, place_by, faults_by, each_mapped, each_weaker}
-use Rattle.vx_looks.proofs.Hands.{none_in_hand}
+use Rattle.vx_house.proofs.Steps.{IsStep, HeldStep, held_steps, place_by, faults_by}
+use Rattle.vx_copies.proofs.Going.{keeps_refl, each_map}
+use Rattle.vx_house.proofs.Lists.{each_mapped}
+use Rattle.vx_house.proofs.Hands.{none_in_hand}
 
 -- a device that was read at most
 pub record IsReadOn (name : Word) (old new : Seen) : Type 0 where
@@ -29,7 +31,7 @@ pub read_told : (name : Word) (s t : Seen) → IsReadOn name s t → t.told ≡ 
 read_told name s t read = read.same.told
 
 read_self : (name : Word) (s : Seen) → IsReadOn name s s
-read_self name s = record { kept = kept_self s; same = record { told = refl; writes = refl } }
+read_self name s = record { kept = keeps_refl s; same = record { told = refl; writes = refl } }
 
 pub reads_self : (hs : List Holder) → AllOf (λ o. IsReadOn o.name o.seen o.seen) hs
 reads_self [] = tt
@@ -101,4 +103,4 @@ module _ {P : Type 0} (see : P → Seen) (h k : House P) (shelf : Shelved) (m : 
 
 -- the house is as before, but that its hand was read
 pub still_each : {P : Type 0} (see : P → Seen) (ts us : List (Taken P)) → Each (IsReadOnce see) ts us → Each (IsStill see) ts us
-still_each see ts us each = each_weaker (IsReadOnce see) (IsStill see) (λ t u read. record { device = read.read.device; sectors = read.read.kept.sectors; told = read.read.same.told }) ts us each
+still_each see ts us each = each_map (IsReadOnce see) (IsStill see) (λ t u read. record { device = read.read.device; sectors = read.read.kept.sectors; told = read.read.same.told }) ts us each

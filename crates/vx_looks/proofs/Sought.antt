@@ -15,10 +15,11 @@ use Rattle.vx_house.specs.Scene.{Shelved}
 use Rattle.vx_house.specs.declared.stop.Stop.{Stop}
 use Rattle.vx_house.specs.declared.stop.Stop.TheVariants.{Ended, OutOfMemory}
 use Rattle.vx_looks.specs.Seeks.{NamesSeen, IsSeenOnly, IsSoughtOnce, Claims, ClaimEnds, IsPlaceSeen, ArePlacesSeen, IsPlaceSought, ArePlacesSought, IsOnlySought, Seeks, SeekCause, SeekEnds, SeeksUnder}
-use Rattle.vx_looks.proofs.Steps.{kept_self, each_name}
+use Rattle.vx_copies.proofs.Going.{keeps_refl}
+use Rattle.vx_house.proofs.Steps.{each_name}
 
 seen_self : (s : Seen) → IsSeenOnly s s
-seen_self s = record { kept = kept_self s; same = record { told = refl; writes = refl } }
+seen_self s = record { kept = keeps_refl s; same = record { told = refl; writes = refl } }
 
 pub place_self : (o : Option Seen) → IsPlaceSeen o o
 place_self None = tt

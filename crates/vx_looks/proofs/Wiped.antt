@@ -22,9 +22,10 @@ use Rattle.vx_house.proofs.Ended.{keeps_ended, goes_ended}
 use Rattle.vx_house.proofs.Moments.{moment_at}
 use Rattle.vx_looks.specs.Looks.{EndsBy}
 use Rattle.vx_looks.specs.Wipes.{zero_sector, all_written, not_written, IsWiped, IsPartlyWiped, Wipes}
-use Rattle.vx_looks.proofs.One.{IsOneCalled, held_before, held_behind, one_keeps, one_faults, one_later, one_in_world, seen_before, seen_now, seen_other, faults_before, faults_now, faults_other, changed, changed_moment}
-use Rattle.vx_looks.proofs.Steps.{each_name}
-use Rattle.vx_looks.proofs.Blanks.{after, ends_counted, ends_blamed}
+use Rattle.vx_looks.proofs.Blanks.{ends_counted, ends_blamed}
+use Rattle.vx_house.proofs.One.{IsOneCalled, held_before, held_behind, one_keeps, one_faults, one_later, one_in_world, seen_before, seen_now, seen_other, faults_before, faults_now, faults_other, changed, changed_moment}
+use Rattle.vx_house.proofs.Steps.{each_name}
+use Rattle.vx_house.proofs.Hands.{after}
 
 -- with power all that was handed over is counted
 pub counted_with_power : (cut : Bool) (old new : ℕ) → (cut ≡ true → ⊥) → new ≡ count_after cut old zero_sector → new ≡ later_count old 1

@@ -6,7 +6,7 @@ use Rattle.vx_base.specs.Named.{Word}
 use Rattle.vx_mask.specs.Mask.{has}
 use Rattle.vx_header.specs.Named.{header_of}
 use Rattle.vx_copies.specs.Lists.{AllOf, AnyOf}
-use Rattle.vx_copies.specs.Image.{sectors_for}
+use Rattle.vx_copies.specs.Image.{Offer, offer_in, sectors_for}
 use Rattle.vx_objects.specs.declared.config.Config.{Config}
 use Rattle.vx_answers.specs.declared.answer.End.{End}
 use Rattle.vx_answers.specs.declared.answer.End.TheVariants.{GroupLost, Lost}
@@ -70,6 +70,22 @@ sectors_of text = sectors_for (length text) + 1
 abbrev pub NoneFailed : Counts → Counts → Type 0
 NoneFailed old new = (name : Word) → HasFailed old new name → ⊥
 
+-- what the device of a member offers of the group, where it is newer than what the group had
+pub record OffersSince (x : Writing) (w : World) (m : Member) (o : Offer) : Type 0 where
+  pub device : Device
+  pub is : w.devices m.device ≡ Some device
+  pub offers : offer_in x.config.group device.contents ≡ Some o
+  pub newer : x.group.sequence < o.sequence
+
+-- an offer that is older than another, or of the same attempt, names its slot; those of one attempt have one mask
+pub record IsInOrder (o p : Offer) (slot : ℕ) : Type 0 where
+  pub names : o.sequence ≤ p.sequence → has o.good slot ≡ true
+  pub one : o.sequence ≡ p.sequence → o.good ≡ p.good
+
+-- so are any two offers that the commit leaves
+abbrev pub AreInOrder : Writing → World → Type 0
+AreInOrder x w = AllOf (λ a. AllOf (λ b. (o p : Offer) → OffersSince x w a o → OffersSince x w b p → IsInOrder o p b.slot) (parties x)) (parties x)
+
 -- What a commit leaves, at whichever device call it ends, with the number of its last attempt.
 pub record IsCommitting (x : Writing) (last : ℕ) (old new : Moment) : Type 0 where
   pub text_is : IsTextOf x.config x.text
@@ -80,6 +96,7 @@ pub record IsCommitting (x : Writing) (last : ℕ) (old new : Moment) : Type 0 w
   pub once : NoneFailed old.counts new.counts → last ≤ x.group.sequence + 1
   pub members : AllOf (MemberGoes x last old new) x.group.members
   pub joiners : AllOf (JoinerGoes x last old new) x.joiners
+  pub order : AreInOrder x new.world
   pub others : (name : Word) → IsNoDeviceOf (parties x) name → new.world.devices name ≡ old.world.devices name
   pub volumes : new.world.volumes ≡ old.world.volumes
   pub reads : (name : Word) → new.counts.reads name ≡ old.counts.reads name

@@ -5,6 +5,7 @@ use Rattle.vx_confdb.specs.Prepare.{AllPrepared}
 use Rattle.vx_confdb.specs.declared.joining.Prepared.TheVariants.{Done, Cut}
 use Rattle.vx_confdb.specs.Texts.{text_of}
 use Rattle.vx_confdb.proofs.Grouped.{headed_stays}
+use Rattle.vx_copies.proofs.Ordering.{none_newer}
 use Rattle.vx_copies.specs.Written.{sectors_of}
 use Rattle.vx_confdb.proofs.Enlisting.{all_begun, all_enlisted, all_just, done_all}
 use Rattle.vx_confdb.proofs.Begun.{none_all, none_below, prepared_ready, prepared_headed, none_or_text, none_still, all_prepare, all_join, refused_by, tell_all, sound_none}
@@ -15,7 +16,8 @@ use Rattle.vx_confdb.proofs.founding.found.Goals as goal
 pub returns-in-Cut-clause-gives : goal.returns-in-Cut-clause-gives
 returns-in-Cut-clause-gives g c =
     let ends : AllPrepared Cut c.args.name (map (held g.P.Piece.seen) c.join_all.new.disks.items) = rw c.in-Cut.is at c.join_all.ensures.joined.ends in
-    (record { joins = all_prepare c.args.name (text_of c.args.text) _ _ c.join_all.ensures.joined.prepares; none_or_text = none_still c.args.name (text_of c.args.text) _ (none_all c.args.name _ _ c.join_all.ensures.joined.prepares c.requires.none) }, ends)
+    let none = none_all c.args.name _ _ c.join_all.ensures.joined.prepares c.requires.none in
+    (record { joins = all_prepare c.args.name (text_of c.args.text) _ _ c.join_all.ensures.joined.prepares; none_or_text = none_still c.args.name (text_of c.args.text) _ none; order = none_newer c.args.name 0 _ (none_below c.args.name 0 _ none) }, ends)
 
 pub write_all-requires-clause-ready : goal.write_all-requires-clause-ready
 write_all-requires-clause-ready g c κs within =
@@ -31,6 +33,7 @@ returns-in-Ok-clause-gives g c =
     let begun : IsBegun c.args.name (text_of c.args.text) (map (held g.P.Piece.seen) c.args.disks.items) (map (held g.P.Piece.seen) c.write_all.new.disks.items) = record {
       joins = all_join c.args.name 1 c.write_all.new.sequence (text_of c.args.text) _ _ _ c.join_all.ensures.joined.prepares prepared carried.goes;
       none_or_text = none_or_text c.args.name 1 c.write_all.new.sequence (text_of c.args.text) _ _ none (carried.old_or_new c.args.name below);
+      order = carried.order c.args.name 0 below;
     } in
     rw c.of.ensures (record {
       name_is = refl;
@@ -69,6 +72,7 @@ returns-in-Err-clause-gives g c =
     let begun : IsBegun c.args.name (text_of c.args.text) (map (held g.P.Piece.seen) c.args.disks.items) (map (held g.P.Piece.seen) c.write_all.new.disks.items) = record {
       joins = all_join c.args.name 1 c.write_all.new.sequence (text_of c.args.text) _ _ _ c.join_all.ensures.joined.prepares prepared carried.goes;
       none_or_text = none_or_text c.args.name 1 c.write_all.new.sequence (text_of c.args.text) _ _ none (carried.old_or_new c.args.name below);
+      order = carried.order c.args.name 0 below;
     } in
     let few : length (map (held g.P.Piece.seen) c.join_all.new.disks.items) ≤ c.len-carriers.result = omega (arith, length-map c.join_all.new.disks.items (held g.P.Piece.seen), c.join_all.new.disks.ok.0, c.len-carriers.ensures) in
     let few' : length (map (held g.P.Piece.seen) c.write_all.new.disks.items) ≤ c.len-carriers.result = omega (arith, few, length-map c.join_all.new.disks.items (held g.P.Piece.seen), length-map c.write_all.new.disks.items (held g.P.Piece.seen), c.write_all.ensures.long) in

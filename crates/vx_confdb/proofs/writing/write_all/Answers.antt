@@ -17,6 +17,7 @@ returns g c =
             ends = c.commit.ensures.ends;
             goes = c.commit.ensures.goes;
             sound = c.commit.ensures.sound;
+            order = c.commit.ensures.order;
             all = rw (length-map c.deref_mut.result.now (held g.P.Piece.seen)) c.commit.ensures.all;
             recorded = c.commit.ensures.recorded;
             done = c.commit.ensures.done;

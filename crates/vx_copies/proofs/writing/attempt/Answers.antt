@@ -7,6 +7,7 @@ use Rattle.vx_copies.specs.Pass.{HalvesEnd, TogglesEnd}
 use Rattle.vx_copies.specs.declared.disk.Pass.TheVariants.{Done}
 use Rattle.vx_copies.proofs.Going.{each_map, all_trans, each_first, stays_all, stamps_all, slots_stay}
 use Rattle.vx_copies.proofs.Chained.{sound_stays, sound_stamps, sound_turned, sound_later, still_named, stays_was}
+use Rattle.vx_copies.proofs.Ordering.{all_stay, all_attempted, order_on}
 use Rattle.vx_copies.proofs.Turning.{tells_if_good, first_done}
 use Rattle.vx_copies.proofs.Placed.{same_count, count_first}
 use Rattle.vx_copies.proofs.Masks.{good_named}
@@ -50,6 +51,7 @@ returns-in_default g c = record {
   goes = stays_all c.args.sequence c.args.sequence c.args.text.now _ _ c.put_halves.ensures.stays;
   sound = λ group missing others last carriers lt some sound. sound_later group missing others last c.args.sequence carriers _ (omega (arith, lt)) (sound_stays group missing others last carriers _ _ c.put_halves.ensures.stays sound);
   all = λ group missing others last carriers lt some sound done. absurd (c.in_default.not-Done done);
+  order = λ group before last lt ordered. order_on group c.args.sequence c.good_slots-mask.result c.args.text.now before last lt _ _ (all_stay group c.args.sequence c.good_slots-mask.result c.args.text.now _ _ c.put_halves.ensures.stays) (good_named c.good_slots-mask.result _ c.good_slots-mask.ensures.names) ordered;
   touches = all_half_touch c.args.sequence c.args.text.now _ _ _ c.put_halves.ensures.puts;
   done = λ is. absurd (c.in_default.not-Done is);
   ends = halves_tried c.put_halves.result c.args.sequence c.args.text.now _ _ c.in_default.not-Done c.put_halves.ensures.ends;
@@ -73,3 +75,9 @@ returns-in-Done-clause-done g c = λ done.
       all_once c.args.sequence c.args.text.now (IsMaskOf (map (held g.P.Piece.seen) c.args.disks.now) (map (held g.P.Piece.seen) c.put_toggles.new.disks)) c.good_slots-mask.result mask c.requires.padded.fits _ _ _ halves toggles,
       subst (λ m. AllOf (CarriesIfGood c.args.sequence m c.args.text.now) (map (held g.P.Piece.seen) c.put_toggles.new.disks)) just (all_carry c.args.sequence c.args.text.now (IsMaskOf (map (held g.P.Piece.seen) c.args.disks.now) (map (held g.P.Piece.seen) c.put_toggles.new.disks)) c.good_slots-mask.result mask c.requires.padded.fits _ _ _ halves toggles),
     )
+
+pub returns-in-Done-clause-order : goal.returns-in-Done-clause-order
+returns-in-Done-clause-order g c = λ group before last lt ordered.
+    order_on group c.args.sequence c.good_slots-mask.result c.args.text.now before last lt _ _
+    (all_attempted group c.args.sequence c.good_slots-mask.result c.args.text.now _ _ _ c.put_halves.ensures.stays c.put_toggles.ensures.stamps)
+    (good_named c.good_slots-mask.result _ c.good_slots-mask.ensures.names) ordered

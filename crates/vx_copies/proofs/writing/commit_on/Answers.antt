@@ -9,6 +9,7 @@ use Rattle.vx_copies.proofs.Placed.{count_first, same_count}
 use Rattle.vx_copies.specs.Written.{IsMaskOf, sectors_of, WritesJust}
 use Rattle.vx_copies.proofs.Touching.{touches_none, all_on}
 use Rattle.vx_copies.proofs.Recording.{Fades, goes_fade, mask_then, mask_before, quiet_before, quiet_count}
+use Rattle.vx_copies.proofs.Ordering.{order_below, in_order}
 use Rattle.vx_copies.proofs.Chosen.{below_all}
 use Rattle.vx_copies.proofs.Left.{older_all}
 use Rattle.vx_copies.proofs.Tried.{one_more, count_few}
@@ -17,7 +18,7 @@ use Rattle.vx_copies.proofs.writing.commit_on.Goals as goal
 pub again-init : goal.again-init
 again-init g c =
     let few = count_few g.P.Piece.seen c.args.disks.now in
-    record { size = c.requires.size; long = refl; later = omega arith; bound = omega (arith, few, c.requires.count); ready = c.requires.ready; goes = all_refl (c.args.sequence.now + 1) c.args.sequence.now c.args.text.now _; touches = each_refl _ (touches_none (c.args.sequence.now + 1) c.args.sequence.now c.args.text.now _) _; quiet = λ q. (refl, refl); sound = λ group missing others is. is }
+    record { size = c.requires.size; long = refl; later = omega arith; bound = omega (arith, few, c.requires.count); ready = c.requires.ready; goes = all_refl (c.args.sequence.now + 1) c.args.sequence.now c.args.text.now _; touches = each_refl _ (touches_none (c.args.sequence.now + 1) c.args.sequence.now c.args.text.now _) _; quiet = λ q. (refl, refl); sound = λ group missing others is. is; order = λ group before below. order_below group before c.args.sequence.now _ below }
 
 pub returns-in-Done-clause-goes : goal.returns-in-Done-clause-goes
 returns-in-Done-clause-goes g c = one_more (c.args.sequence.now + 1) c.again.sequence c.args.text.now _ _ _ (omega (arith, c.again.invariant.later)) c.again.invariant.goes c.attempt.ensures.goes
@@ -93,6 +94,7 @@ again-preserved g c =
       ready = ends.0;
       goes = one_more (c.args.sequence.now + 1) c.again.sequence c.args.text.now _ _ _ (omega (arith, c.again.invariant.later)) c.again.invariant.goes c.attempt.ensures.goes;
       sound = λ group missing others is. c.attempt.ensures.sound group missing others c.again.sequence c.args.carriers (omega arith) (omega (arith, some, there)) (c.again.invariant.sound group missing others is);
+      order = λ group before below. c.attempt.ensures.order group before c.again.sequence (omega arith) (c.again.invariant.order group before below);
     }
 
 pub returns-clause-ends : goal.returns-clause-ends
@@ -130,3 +132,12 @@ returns-in-Done-clause-exact g c =
 
 pub returns-clause-recorded : goal.returns-clause-recorded
 returns-clause-recorded g c = record { touches = c.again.invariant.touches; once = λ quiet. let same = (c.again.invariant.quiet quiet).1 in omega (arith, same) }
+
+pub returns-in-Done-clause-order : goal.returns-in-Done-clause-order
+returns-in-Done-clause-order g c = λ group before below. in_order group before (c.again.sequence + 1) _ (c.attempt.ensures.order group before c.again.sequence (omega arith) (c.again.invariant.order group before below))
+
+pub returns-in-Cut-clause-order : goal.returns-in-Cut-clause-order
+returns-in-Cut-clause-order g c = λ group before below. in_order group before (c.again.sequence + 1) _ (c.attempt.ensures.order group before c.again.sequence (omega arith) (c.again.invariant.order group before below))
+
+pub returns-clause-order : goal.returns-clause-order
+returns-clause-order g c = λ group before below. in_order group before c.again.sequence _ (c.again.invariant.order group before below)

@@ -1,8 +1,8 @@
 use Rattle.std.proofs.Common.{◌≡◌, ℕ, ◌+◌, ◌≤◌, List, length, map}
 use Rattle.vx_base.specs.Named.{Word}
 use Rattle.vx_copies.specs.Lists.{Each, AllOf}
-use Rattle.vx_copies.specs.Disks.{held, Goes, IsReady, good_count}
-use Rattle.vx_copies.specs.Chain.{Copy, IsSound}
+use Rattle.vx_copies.specs.Disks.{held, Goes, IsReady, IsBelow, good_count}
+use Rattle.vx_copies.specs.Chain.{Copy, IsOrdered, IsSound}
 use Rattle.vx_copies.specs.Written.{Touches, IsMaskOf, IsQuiet}
 use Rattle.vx_copies.proofs.writing.commit_on.Given as goal
 
@@ -17,6 +17,7 @@ invariant-again g l = record {
   touches : Each (Touches (l.fn.sequence + 1) l.sequence l.text (IsMaskOf (map (held g.P.Piece.seen) l.fn.disks) (map (held g.P.Piece.seen) l.disks))) (map (held g.P.Piece.seen) l.fn.disks) (map (held g.P.Piece.seen) l.disks);
   quiet : Each IsQuiet (map (held g.P.Piece.seen) l.fn.disks) (map (held g.P.Piece.seen) l.disks) → (map (held g.P.Piece.seen) l.disks ≡ map (held g.P.Piece.seen) l.fn.disks) × (l.sequence ≡ l.fn.sequence);
   sound : (group : Word) (missing : ℕ) (others : List Copy) → IsSound group missing others l.fn.sequence l.carriers (map (held g.P.Piece.seen) l.fn.disks) → IsSound group missing others l.sequence l.carriers (map (held g.P.Piece.seen) l.disks);
+  order : (group : Word) (before : ℕ) → AllOf (IsBelow group before) (map (held g.P.Piece.seen) l.fn.disks) → IsOrdered group before l.sequence (map (held g.P.Piece.seen) l.disks);
 }
 
 abbrev pub decreases-again : goal.decreases-again

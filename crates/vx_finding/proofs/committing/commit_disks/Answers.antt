@@ -2,8 +2,8 @@ use Rattle.std.proofs.Common.{◌≡◌, ◌∙◌, refl, ap}
 use Rattle.vx_house.specs.Holders.{IsTakenFrom, holders}
 use Rattle.vx_house.proofs.Listed.{all_back}
 use Rattle.vx_finding.specs.Giving.{disk_holders}
-use Rattle.vx_finding.proofs.Taken.{apart_back}
 use Rattle.vx_finding.proofs.committing.commit_disks.Goals as goal
+use Rattle.vx_house.proofs.Lists.{apart_back}
 
 pub give_disks-requires-clause-each : goal.give_disks-requires-clause-each
 give_disks-requires-clause-each g c κs within =

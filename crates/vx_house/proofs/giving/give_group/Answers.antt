@@ -1,4 +1,4 @@
-use Rattle.std.proofs.Common.{◌≡◌, ◌∙◌, Some, refl, sym}
+use Rattle.std.proofs.Common.{◌∙◌, sym}
 use Rattle.vx_house.proofs.Returned.{disks_each, disks_apart}
 use Rattle.vx_house.proofs.giving.give_group.Goals as goal
 

@@ -1,5 +1,4 @@
-use Rattle.std.proofs.Common.{refl}
-use Rattle.vx_house.proofs.Leaves.{hand_given, group_given, both_given, left_group, left_all, stays_both}
+use Rattle.vx_house.proofs.Leaves.{hand_given, both_given, left_group, left_all, stays_both}
 use Rattle.vx_house.proofs.leaving.leave.Goals as goal
 
 pub give_group-requires-clause-held : goal.give_group-requires-clause-held

@@ -1,4 +1,4 @@
-use Rattle.std.proofs.Common.{◌∙◌, refl, sym, rules}
+use Rattle.std.proofs.Common.{◌∙◌, refl, rules}
 use Rattle.vx_house.proofs.Takes.{took_one, still_rested, away_ends, held_away, none_away, shelf_ends}
 use Rattle.vx_house.proofs.taking.take_one.Goals as goal
 

@@ -3,9 +3,9 @@ use Rattle.std.specs.Vec.{with_item}
 use Rattle.vx_plans.specs.declared.stage.Stage.TheVariants.{Wipe}
 use Rattle.vx_house.specs.Goes.{StageGoes}
 use Rattle.vx_house.specs.View.{at}
-use Rattle.vx_looks.proofs.One.{only_one, only_set}
 use Rattle.vx_looks.proofs.Wiped.{wipe_stage}
 use Rattle.vx_looks.proofs.wiping.wipe.Goals as goal
+use Rattle.vx_house.proofs.One.{only_one, only_set}
 
 pub returns : goal.returns
 returns g c =

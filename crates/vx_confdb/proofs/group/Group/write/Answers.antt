@@ -13,6 +13,7 @@ returns-in-Ok-clause-written g c =
         name = refl;
         goes = carried.goes;
         old_or_new = carried.old_or_new c.args.self.now.name c.requires.alive.below;
+        order = carried.order c.args.self.now.name c.args.self.now.sequence c.requires.alive.below;
         few = carried.few;
       };
       ends = record {
@@ -46,6 +47,7 @@ returns-in-Err-clause-written g c =
         name = refl;
         goes = carried.goes;
         old_or_new = carried.old_or_new c.args.self.now.name c.requires.alive.below;
+        order = carried.order c.args.self.now.name c.args.self.now.sequence c.requires.alive.below;
         few = carried.few;
       };
       ends = rw c.fault_of.ensures (lost_by g.P.Piece.seen c.write_all.result c.in-Err.lost c.args.carriers c.write_all.new.sequence (text_of c.args.text) c.args.self.now _ c.in-Err.is refl carried.ends);

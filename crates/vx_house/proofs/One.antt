@@ -15,9 +15,9 @@ use Rattle.vx_house.specs.View.{at, scene, is_lent, IsDeviceOf, IsMoment, Keeps,
 use Rattle.vx_house.specs.declared.house.House.{House}
 use Rattle.vx_house.specs.declared.house.Taken.{Taken}
 use Rattle.vx_house.proofs.Moments.{moment_at, counts_own}
-use Rattle.vx_looks.proofs.Steps.{each_name, IsStep, kept_self, held_steps, place_by, faults_by}
-use Rattle.vx_looks.proofs.Hands.{IsInWorld, volumes_held, group_held, hand_held, hand_in_world, hand_steps, hand_keeps, hand_faults, hand_later}
-use Rattle.vx_looks.proofs.Blanks.{after}
+use Rattle.vx_house.proofs.Steps.{each_name, IsStep, held_steps, place_by, faults_by}
+use Rattle.vx_copies.proofs.Going.{keeps_refl}
+use Rattle.vx_house.proofs.Hands.{IsInWorld, volumes_held, group_held, hand_held, hand_in_world, hand_steps, hand_keeps, hand_faults, hand_later, after}
 
 -- the only one of a list of that name
 pub record IsOnly {P : Type 0} (ts : List (Taken P)) (name : Word) (t : Taken P) : Type 0 where
@@ -42,7 +42,7 @@ else_on one name s t e = e.kept
 
 else_self : (one : Word) (hs : List Holder) → AllOf (λ o. IsElse one o.name o.seen o.seen) hs
 else_self one [] = tt
-else_self one (h ∷ hs) = (record { kept = kept_self h.seen; other = λ e. refl }, else_self one hs)
+else_self one (h ∷ hs) = (record { kept = keeps_refl h.seen; other = λ e. refl }, else_self one hs)
 
 not_both : (b : Bool) → b ≡ true → b ≡ false → ⊥
 not_both b t f = cc

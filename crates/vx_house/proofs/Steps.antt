@@ -1,11 +1,12 @@
 -- Devices that are held, each of which goes on: what is held under a name, and what is seen there.
-use Rattle.std.proofs.Common.{◌≡◌, ℕ, Bool, true, false, cond, List, [], ◌∷◌, ◌++◌, map, Option, Some, None, refl, sym, ap, subst, arith}
+use Rattle.std.proofs.Common.{◌≡◌, ℕ, Bool, true, false, cond, List, [], ◌∷◌, Option, Some, None, refl, sym, ap, subst, arith}
 use Rattle.std.specs.Prelude.{IsTrue}
 use Rattle.std.specs.Str.{bytes_eq}
 use Rattle.vx_base.specs.Named.{Word}
 use Rattle.vx_base.proofs.NamedLemmas.{bytes_eq_same}
 use Rattle.vx_piece.specs.Seen.{Seen, Keeps}
-use Rattle.vx_copies.specs.Lists.{Each, AllOf}
+use Rattle.vx_copies.specs.Lists.{Each}
+use Rattle.vx_copies.proofs.Going.{each_map}
 use Rattle.vx_moments.specs.Moment.{Counts, AreLater}
 use Rattle.vx_house.specs.Holders.{Holder, held_as}
 use Rattle.vx_house.specs.Scene.{Shelved, seen_in, faults_in, count_in, AreCountsOf, counts_of, FaultsGoOn}
@@ -17,35 +18,6 @@ use Rattle.vx_house.proofs.Called.{later_faults}
 pub record IsStep (Q : Word → Seen → Seen → Type 0) (old new : Holder) : Type 0 where
   pub name : new.name ≡ old.name
   pub goes : Q old.name old.seen new.seen
-
-pub each_append : {X : Type 0} (R : X → X → Type 0) (xs ys us vs : List X) → Each R xs ys → Each R us vs → Each R (xs ++ us) (ys ++ vs)
-each_append R [] [] us vs one two = two
-each_append R [] (y ∷ ys) us vs one two = absurd one
-each_append R (x ∷ xs) [] us vs one two = absurd one
-each_append R (x ∷ xs) (y ∷ ys) us vs one two = (one.0, each_append R xs ys us vs one.1 two)
-
-pub each_same : {X : Type 0} (R : X → X → Type 0) (xs : List X) → AllOf (λ x. R x x) xs → Each R xs xs
-each_same R [] all = tt
-each_same R (x ∷ xs) all = (all.0, each_same R xs all.1)
-
-pub each_weaker : {X : Type 0} (R S : X → X → Type 0) → ((x y : X) → R x y → S x y) → (xs ys : List X) → Each R xs ys → Each S xs ys
-each_weaker R S f [] [] each = tt
-each_weaker R S f [] (y ∷ ys) each = absurd each
-each_weaker R S f (x ∷ xs) [] each = absurd each
-each_weaker R S f (x ∷ xs) (y ∷ ys) each = (f x y each.0, each_weaker R S f xs ys each.1)
-
-pub each_mapped : {X Y : Type 0} (R : X → X → Type 0) (S : Y → Y → Type 0) (f : X → Y) → ((x y : X) → R x y → S (f x) (f y)) → (xs ys : List X) → Each R xs ys → Each S (map f xs) (map f ys)
-each_mapped R S f g [] [] each = tt
-each_mapped R S f g [] (y ∷ ys) each = absurd each
-each_mapped R S f g (x ∷ xs) [] each = absurd each
-each_mapped R S f g (x ∷ xs) (y ∷ ys) each = (g x y each.0, each_mapped R S f g xs ys each.1)
-
--- what holds of each before, and is kept, holds of each after
-pub each_all : {X : Type 0} (R : X → X → Type 0) (A B : X → Type 0) → ((x y : X) → R x y → A x → B y) → (xs ys : List X) → Each R xs ys → AllOf A xs → AllOf B ys
-each_all R A B f [] [] each all = tt
-each_all R A B f [] (y ∷ ys) each all = absurd each
-each_all R A B f (x ∷ xs) [] each all = absurd each
-each_all R A B f (x ∷ xs) (y ∷ ys) each all = (f x y each.0 all.0, each_all R A B f xs ys each.1 all.1)
 
 -- what is held under a name goes on so
 abbrev pub HeldStep : (Seen → Seen → Type 0) → Option Seen → Option Seen → Type 0
@@ -80,16 +52,13 @@ faults_by Q R None (Some t) counted step none some = absurd step
 faults_by Q R (Some s) None counted step none some = absurd step
 faults_by Q R (Some s) (Some t) counted step none some = some s t step
 
-pub kept_self : (s : Seen) → Keeps s s
-kept_self s = record { device = refl; start = refl; sectors = refl; stop = refl; faults = omega arith; cut = λ t. t }
-
 -- the power of what is seen of a place does not come back
 abbrev pub StaysCut : Option Seen → Option Seen → Type 0
 StaysCut a b = IsTrue (count_in (λ seen. seen.cut) false a) → IsTrue (count_in (λ seen. seen.cut) false b)
 
 module _ (Q : Word → Seen → Seen → Type 0) (on : (name : Word) (s t : Seen) → Q name s t → Keeps s t) (hs ns : List Holder) (each : Each (IsStep Q) hs ns) where
   pub steps_later : Each IsLater hs ns
-  steps_later = each_weaker (IsStep Q) IsLater (λ o n step. record { name = step.name; kept = on o.name o.seen n.seen step.goes }) hs ns each
+  steps_later = each_map (IsStep Q) IsLater (λ o n step. record { name = step.name; kept = on o.name o.seen n.seen step.goes }) hs ns each
 
   pub steps_faults : (shelf : Shelved) → FaultsGoOn (scene_of shelf hs) (scene_of shelf ns)
   steps_faults shelf = later_faults shelf hs ns steps_later

@@ -17,7 +17,8 @@ use Rattle.vx_house.specs.Scene.{Shelved, Scene, seen_in, seen_at, faults_in, fa
 use Rattle.vx_house.specs.View.{IsDeviceOf}
 use Rattle.vx_house.proofs.Held.{IsLater, later_apart}
 use Rattle.vx_house.proofs.Listed.{all_front, all_back, all_unmapped, held_each}
-use Rattle.vx_finding.proofs.Lists.{each_imp, each_two, each_first, each_second, each_append, each_self, each_mapped, apart_front, apart_back, held_around}
+use Rattle.vx_copies.proofs.Going.{each_refl}
+use Rattle.vx_house.proofs.Lists.{each_two, each_first, each_second, each_append, each_mapped, apart_front, apart_back, held_around}
 
 -- a disk as a holder of its device
 abbrev pub holder_in : Held → Holder
@@ -80,6 +81,14 @@ goes_told R None u c both e = cc
 goes_told R (Some x) None c both e = absurd both
 goes_told R (Some x) (Some d) c both e = (d, refl)
 
+-- the devices of the world once these disks are seen so
+abbrev pub devices_now : List Held → (Word → Option Device) → Word → Option Device
+devices_now bs old name = now_device (held_as (map holder_in bs) name) (old name)
+
+-- the moment that these disks, and the others that are held, come to
+abbrev pub next : Shelved → List Holder → List Holder → List Held → Moment → Option Group → Moment
+next shelf vs os bs m group = record { world = record m.world { devices = devices_now bs m.world.devices; group = group }; counts = counts_of (record { shelf = shelf; taken = vs ++ (map holder_in bs ++ os) }) }
+
 module _ (shelf : Shelved) (vs os : List Holder) (hs bs : List Held) where
   abbrev pub holders_then : List Holder
   holders_then = vs ++ (map holder_in hs ++ os)
@@ -97,9 +106,9 @@ module _ (shelf : Shelved) (vs os : List Holder) (hs bs : List Held) where
     -- the devices go on
     pub goes_later : Each IsLater holders_then holders_now
     goes_later =
-        let self : (ks : List Holder) → Each IsLater ks ks = each_self IsLater (λ k. record { name = refl; kept = record { device = refl; start = refl; sectors = refl; stop = refl; faults = omega arith; cut = λ c. c } }) in
+        let self : (ks : List Holder) → Each IsLater ks ks = each_refl IsLater (λ k. record { name = refl; kept = record { device = refl; start = refl; sectors = refl; stop = refl; faults = omega arith; cut = λ c. c } }) in
         each_append IsLater vs vs (map holder_in hs ++ os) (map holder_in bs ++ os) (self vs)
-        (each_append IsLater (map holder_in hs) (map holder_in bs) os os (each_mapped IsLater holder_in hs bs (each_imp IsCalled (λ a b. IsLater (holder_in a) (holder_in b)) (λ a b is. record { name = is.device; kept = is.kept }) hs bs called)) (self os))
+        (each_append IsLater (map holder_in hs) (map holder_in bs) os os (each_mapped IsCalled IsLater holder_in (λ a b is. record { name = is.device; kept = is.kept }) hs bs called) (self os))
 
     module _ (apart : AreApart holders_then) where
       pub apart_now : AreApart holders_now
@@ -140,14 +149,11 @@ module _ (shelf : Shelved) (vs os : List Holder) (hs bs : List Held) where
 
       -- over a shelf that tells its devices
       module _ (lent : Word → Bool) (m : Moment) (devices_are : (name : Word) → IsDeviceOf (lent name) (seen_at scene_then name) (m.world.devices name)) (counts_are : AreCountsOf scene_then m.counts) (own : AllOf (λ h. lent h.device ≡ false) hs) where
-        abbrev pub devices_now : Word → Option Device
-        devices_now name = now_device (held_as (map holder_in bs) name) (m.world.devices name)
-
         module _ (group : Option Group) where
-          abbrev pub next : Moment
-          next = record { world = record m.world { devices = devices_now; group = group }; counts = counts_of scene_now }
+          abbrev after : Moment
+          after = next shelf vs os bs m group
 
-          one_pair : (a b : Held) → lent a.device ≡ false → IsPlaced a b → IsPair m next a b
+          one_pair : (a b : Held) → lent a.device ≡ false → IsPlaced a b → IsPair m after a b
           one_pair a b free is =
               let old : seen_at scene_then a.device ≡ Some a.seen = ap (λ o. seen_in o shelf.free a.device) is.then in
               let new : seen_at scene_now a.device ≡ Some b.seen = ap (λ o. seen_in o shelf.free a.device) is.now in
@@ -167,42 +173,42 @@ module _ (shelf : Shelved) (vs os : List Holder) (hs bs : List Held) where
                 cut' = ap (count_in (λ (seen : Seen). seen.cut) false) new;
               }
 
-          pub pairs : Each (IsPair m next) hs bs
-          pairs = each_first (λ h. lent h.device ≡ false) IsPlaced (IsPair m next) one_pair hs bs own are_placed
+          pub pairs : Each (IsPair m after) hs bs
+          pairs = each_first (λ h. lent h.device ≡ false) IsPlaced (IsPair m after) one_pair hs bs own are_placed
 
           seen_same : (name : Word) → held_as holders_now name ≡ held_as holders_then name → seen_at scene_now name ≡ seen_at scene_then name
           seen_same name same = ap (λ o. seen_in o shelf.free name) same
 
-          pub devices_are_now : (name : Word) → IsDeviceOf (lent name) (seen_at scene_now name) (devices_now name)
-          devices_are_now name = by (one_or_none (λ a b. IsPair m next a b × IsPlaced a b) (λ a b is. is.1.goes.device) name hs bs (each_two (IsPair m next) IsPlaced (λ a b. IsPair m next a b × IsPlaced a b) (λ a b p q. (p, q)) hs bs pairs are_placed))
+          pub devices_are_now : (name : Word) → IsDeviceOf (lent name) (seen_at scene_now name) (after.world.devices name)
+          devices_are_now name = by (one_or_none (λ a b. IsPair m after a b × IsPlaced a b) (λ a b is. is.1.goes.device) name hs bs (each_two (IsPair m after) IsPlaced (λ a b. IsPair m after a b × IsPlaced a b) (λ a b p q. (p, q)) hs bs pairs are_placed))
             where
-              by : IsOneOrNone (λ a b. IsPair m next a b × IsPlaced a b) name hs bs → IsDeviceOf (lent name) (seen_at scene_now name) (devices_now name)
+              by : IsOneOrNone (λ a b. IsPair m after a b × IsPlaced a b) name hs bs → IsDeviceOf (lent name) (seen_at scene_now name) (after.world.devices name)
               by (inl none) =
-                  subst (λ o. IsDeviceOf (lent name) o (devices_now name)) (sym (seen_same name (others_held name none.0 none.1)))
+                  subst (λ o. IsDeviceOf (lent name) o (after.world.devices name)) (sym (seen_same name (others_held name none.0 none.1)))
                   (subst (IsDeviceOf (lent name) (seen_at scene_then name)) (sym (ap (λ o. now_device o (m.world.devices name)) none.1)) (devices_are name))
               by (inr (a, b, at, is, any)) =
-                  subst (λ x. IsDeviceOf (lent x) (seen_at scene_now x) (devices_now x)) at
-                  (subst (λ o. IsDeviceOf (lent a.device) o (devices_now a.device)) (sym (ap (λ o. seen_in o shelf.free a.device) is.1.now))
+                  subst (λ x. IsDeviceOf (lent x) (seen_at scene_now x) (after.world.devices x)) at
+                  (subst (λ o. IsDeviceOf (lent a.device) o (after.world.devices a.device)) (sym (ap (λ o. seen_in o shelf.free a.device) is.1.now))
                   (subst (IsDeviceOf (lent a.device) (Some b.seen)) (sym is.0.is) (sym is.1.goes.kept.sectors, λ e. is.0.tells)))
 
-          pub reads_same : (name : Word) → next.counts.reads name ≡ m.counts.reads name
+          pub reads_same : (name : Word) → after.counts.reads name ≡ m.counts.reads name
           reads_same name = by (at_name name) ∙ sym (counts_are.reads name)
             where
-              by : IsOneOrNone IsPlaced name hs bs → next.counts.reads name ≡ count_in (λ (seen : Seen). seen.reads) 0 (seen_at scene_then name)
+              by : IsOneOrNone IsPlaced name hs bs → after.counts.reads name ≡ count_in (λ (seen : Seen). seen.reads) 0 (seen_at scene_then name)
               by (inl none) = ap (count_in (λ (seen : Seen). seen.reads) 0) (seen_same name (others_held name none.0 none.1))
               by (inr (a, b, at, is, any)) =
-                  subst (λ x. next.counts.reads x ≡ count_in (λ (seen : Seen). seen.reads) 0 (seen_at scene_then x)) at
+                  subst (λ x. after.counts.reads x ≡ count_in (λ (seen : Seen). seen.reads) 0 (seen_at scene_then x)) at
                   (ap (λ o. count_in (λ (seen : Seen). seen.reads) 0 (seen_in o shelf.free a.device)) is.now ∙ is.goes.reads ∙ sym (ap (λ o. count_in (λ (seen : Seen). seen.reads) 0 (seen_in o shelf.free a.device)) is.then))
 
-          pub shelf_same : next.counts.shelf ≡ m.counts.shelf
+          pub shelf_same : after.counts.shelf ≡ m.counts.shelf
           shelf_same = sym counts_are.shelf
 
           -- a device that is none of these is as it was
           pub record IsLeft (name : Word) : Type 0 where
-            pub device : next.world.devices name ≡ m.world.devices name
-            pub writes : next.counts.writes name ≡ m.counts.writes name
-            pub faults : next.counts.faults name ≡ m.counts.faults name
-            pub cut : next.counts.cut name ≡ m.counts.cut name
+            pub device : after.world.devices name ≡ m.world.devices name
+            pub writes : after.counts.writes name ≡ m.counts.writes name
+            pub faults : after.counts.faults name ≡ m.counts.faults name
+            pub cut : after.counts.cut name ≡ m.counts.cut name
 
           left_none : (name : Word) → held_as (map holder_in hs) name ≡ None → held_as (map holder_in bs) name ≡ None → IsLeft name
           left_none name p q =
@@ -221,16 +227,16 @@ module _ (shelf : Shelved) (vs os : List Holder) (hs bs : List Held) where
               by (inl (p, q)) = left_none name p q
               by (inr (a, b, at, is, any)) = absurd (none any)
 
-          pub later : AreLater m.counts next.counts
+          pub later : AreLater m.counts after.counts
           later = record {
             faults = λ name. let e = counts_are.faults name in let x = faults_go_on.devices name in omega (arith, e, x);
             cut = λ name. cut_by name (at_name name);
             shelf = let e = shelf_same in omega (arith, e);
           }
             where
-              cut_by : (name : Word) → IsOneOrNone IsPlaced name hs bs → IsTrue (m.counts.cut name) → IsTrue (next.counts.cut name)
+              cut_by : (name : Word) → IsOneOrNone IsPlaced name hs bs → IsTrue (m.counts.cut name) → IsTrue (after.counts.cut name)
               cut_by name (inl (p, q)) is_cut = subst IsTrue (sym (left_none name p q).cut) is_cut
               cut_by name (inr (a, b, at, is, any)) is_cut =
                   let old : m.counts.cut name ≡ a.seen.cut = counts_are.cut name ∙ ap (λ o. count_in (λ (seen : Seen). seen.cut) false (seen_in o shelf.free name)) (ap (held_as holders_then) (sym at) ∙ is.then) in
-                  let new : next.counts.cut name ≡ b.seen.cut = ap (λ o. count_in (λ (seen : Seen). seen.cut) false (seen_in o shelf.free name)) (ap (held_as holders_now) (sym at) ∙ is.now) in
+                  let new : after.counts.cut name ≡ b.seen.cut = ap (λ o. count_in (λ (seen : Seen). seen.cut) false (seen_in o shelf.free name)) (ap (held_as holders_now) (sym at) ∙ is.now) in
                   subst IsTrue (sym new) (is.goes.kept.cut (subst IsTrue old is_cut))

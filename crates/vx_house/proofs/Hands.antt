@@ -18,7 +18,8 @@ use Rattle.vx_house.specs.declared.house.Taken.{Taken}
 use Rattle.vx_house.proofs.Held.{IsApart, apart_turned, later_held}
 use Rattle.vx_house.proofs.Listed.{all_back, all_two, all_unmapped, held_each}
 use Rattle.vx_house.proofs.Moments.{moment_at, counts_own}
-use Rattle.vx_looks.proofs.Steps.{IsStep, each_append, held_steps, place_by, steps_later, steps_faults, steps_counts}
+use Rattle.vx_house.proofs.Steps.{IsStep, held_steps, place_by, steps_later, steps_faults, steps_counts}
+use Rattle.vx_house.proofs.Lists.{each_append}
 
 -- the world has the device as it is seen
 pub record IsInWorld (w : World) (name : Word) (seen : Seen) : Type 0 where
@@ -43,7 +44,7 @@ neither false b e f = f
 neither true b e f = cc
 
 -- no volume has the device of one behind them
-volumes_apart : {P : Type 0} (see : P → Seen) (es : List (Word × Started P)) (hs : List Holder) → AreApart (map (volume_holder see) es ++ hs) → AllOf (λ o. list_any (λ e. bytes_eq e.1.device o.name) es ≡ false) hs
+pub volumes_apart : {P : Type 0} (see : P → Seen) (es : List (Word × Started P)) (hs : List Holder) → AreApart (map (volume_holder see) es ++ hs) → AllOf (λ o. list_any (λ e. bytes_eq e.1.device o.name) es ≡ false) hs
 volumes_apart see [] hs apart = all_any (λ o. false ≡ false) (λ o. refl) hs
 volumes_apart see (e ∷ es) hs apart =
     all_two (IsApart (volume_holder see e)) (λ o. list_any (λ e. bytes_eq e.1.device o.name) es ≡ false) (λ o. list_any (λ e. bytes_eq e.1.device o.name) (e ∷ es) ≡ false)
@@ -144,19 +145,19 @@ module _ {P : Type 0} (see : P → Seen) (h : House P) where
           by_test true rest e = cc
           by_test false rest e = rest e
 
+-- a house whose hand is as in another, and all else stays
+abbrev pub after : {P : Type 0} → House P → House P → House P
+after h k = record { volumes = h.volumes; group = h.group; hand = k.hand }
+
 -- The devices in hand were called, and the volumes and the group are as they were.
 module _ {P : Type 0} (see : P → Seen) (h k : House P) (Q : Word → Seen → Seen → Type 0) (on : (name : Word) (s t : Seen) → Q name s t → StaysDevice s t)
     (volumes : AllOf (λ o. Q o.name o.seen o.seen) (volumes_held see h)) (group : AllOf (λ o. Q o.name o.seen o.seen) (group_held see h))
     (hand : Each (IsStep Q) (map (hand_holder see) h.hand.items) (map (hand_holder see) k.hand.items)) where
-  -- the house as it is now
-  abbrev pub now : House P
-  now = record { volumes = h.volumes; group = h.group; hand = k.hand }
-
   same_step : (hs : List Holder) → AllOf (λ o. Q o.name o.seen o.seen) hs → Each (IsStep Q) hs hs
   same_step [] all = tt
   same_step (x ∷ xs) all = (record { name = refl; goes = all.0 }, same_step xs all.1)
 
-  pub hand_steps : Each (IsStep Q) (holders see h) (holders see now)
+  pub hand_steps : Each (IsStep Q) (holders see h) (holders see (after h k))
   hand_steps = each_append (IsStep Q) (volumes_held see h) (volumes_held see h) (group_held see h ++ map (hand_holder see) h.hand.items) (group_held see h ++ map (hand_holder see) k.hand.items) (same_step (volumes_held see h) volumes)
       (each_append (IsStep Q) (group_held see h) (group_held see h) (map (hand_holder see) h.hand.items) (map (hand_holder see) k.hand.items) (same_step (group_held see h) group) hand)
 
@@ -166,31 +167,31 @@ module _ {P : Type 0} (see : P → Seen) (h k : House P) (Q : Word → Seen → 
   sized (t ∷ ts) [] each all = absurd each
   sized (t ∷ ts) (u ∷ us) each all = (let e = (on t.device (see t.piece) (see u.piece) each.0.goes).sectors in let x = all.0 in omega (arith, e, x), sized ts us each.1 all.1)
 
-  pub hand_keeps : (shelf : Shelved) → AreHeld shelf.held (holders see h) → KeepsHouse see h → Keeps see (at shelf now)
+  pub hand_keeps : (shelf : Shelved) → AreHeld shelf.held (holders see h) → KeepsHouse see h → Keeps see (at shelf (after h k))
   hand_keeps shelf are keeps = record {
-    devices = later_held shelf.held (holders see h) (holders see now) (steps_later Q on (holders see h) (holders see now) hand_steps) are;
+    devices = later_held shelf.held (holders see h) (holders see (after h k)) (steps_later Q on (holders see h) (holders see (after h k)) hand_steps) are;
     house = record { ordered = keeps.ordered; hand = sized h.hand.items k.hand.items hand keeps.hand; volumes = keeps.volumes; group = keeps.group };
   }
 
-  pub hand_faults : (shelf : Shelved) → FaultsGoOn (scene see (at shelf h)) (scene see (at shelf now))
-  hand_faults shelf = steps_faults Q on (holders see h) (holders see now) hand_steps shelf
+  pub hand_faults : (shelf : Shelved) → FaultsGoOn (scene see (at shelf h)) (scene see (at shelf (after h k)))
+  hand_faults shelf = steps_faults Q on (holders see h) (holders see (after h k)) hand_steps shelf
 
-  pub hand_later : (shelf : Shelved) (m : Moment) → IsMoment see (at shelf h) m → AreLater m.counts (counts_of (scene see (at shelf now)))
-  hand_later shelf m is = steps_counts Q on (holders see h) (holders see now) hand_steps shelf m.counts is.counts
+  pub hand_later : (shelf : Shelved) (m : Moment) → IsMoment see (at shelf h) m → AreLater m.counts (counts_of (scene see (at shelf (after h k))))
+  hand_later shelf m is = steps_counts Q on (holders see h) (holders see (after h k)) hand_steps shelf m.counts is.counts
 
   same_device : (lent : Bool) (s t : Seen) (d : Option Device) → t.sectors ≡ s.sectors → t.told ≡ s.told → IsDeviceOf lent (Some s) d → IsDeviceOf lent (Some t) d
   same_device lent s t None sectors told of = of
   same_device lent s t (Some d) sectors told of = (of.0 ∙ sym sectors, λ free. told ∙ of.1 free)
 
   -- the same world, where no contents have changed
-  pub hand_moment : ((name : Word) (s t : Seen) → Q name s t → t.told ≡ s.told) → (shelf : Shelved) (m : Moment) → IsMoment see (at shelf h) m → IsMoment see (at shelf now) (moment_at m.world (scene see (at shelf now)))
+  pub hand_moment : ((name : Word) (s t : Seen) → Q name s t → t.told ≡ s.told) → (shelf : Shelved) (m : Moment) → IsMoment see (at shelf h) m → IsMoment see (at shelf (after h k)) (moment_at m.world (scene see (at shelf (after h k))))
   hand_moment told shelf m is = record {
     told = is.told;
     devices_are = λ name. place_by (Q name) (λ a b. IsDeviceOf (is_lent h name) a (m.world.devices name) → IsDeviceOf (is_lent h name) b (m.world.devices name))
-        (held_as (holders see h) name) (held_as (holders see now) name) shelf.free name (held_steps Q (holders see h) (holders see now) name hand_steps)
+        (held_as (holders see h) name) (held_as (holders see (after h k)) name) shelf.free name (held_steps Q (holders see h) (holders see (after h k)) name hand_steps)
         (λ none o of. of) (λ s t q of. same_device (is_lent h name) s t (m.world.devices name) (on name s t q).sectors (told name s t q) of)
         (is.devices_are name);
     volumes_are = is.volumes_are;
     group_is = is.group_is;
-    counts = counts_own (scene see (at shelf now));
+    counts = counts_own (scene see (at shelf (after h k)));
   }

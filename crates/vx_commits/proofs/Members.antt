@@ -1,5 +1,5 @@
 -- What a commit leaves of a group's disks, as what it may leave of the world.
-use Rattle.std.proofs.Common.{◌≡◌, ◌∙◌, ℕ, ◌+◌, ◌-◌, ◌*◌, ◌≤◌, ◌==◌, ◌||◌, ◌&&◌, Bool, true, false, List, [], ◌∷◌, ◌++◌, map, length, Some, refl, sym, ap, subst, arith}
+use Rattle.std.proofs.Common.{◌≡◌, ◌∙◌, ◌⊎◌, inl, inr, ℕ, ◌+◌, ◌-◌, ◌*◌, ◌≤◌, ◌==◌, ◌||◌, ◌&&◌, Bool, true, false, List, [], ◌∷◌, ◌++◌, map, length, Some, refl, sym, ap, subst, arith}
 use Rattle.std.specs.Prelude.{IsTrue}
 use Rattle.std.proofs.Math.Nat.{mul-le-mul_right}
 use Rattle.std.proofs.lemmas.Bool.{eq-eqb}
@@ -10,6 +10,8 @@ use Rattle.vx_mask.specs.Mask.{has}
 use Rattle.vx_piece.specs.Seen.{Seen}
 use Rattle.vx_header.specs.Named.{Label}
 use Rattle.vx_copies.specs.Disks.{Held, NamesHalf, HasSlot, Drops, is_good_slot, good_mask}
+use Rattle.vx_copies.specs.Chain.{OffersSince as OffersSinceIn, IsInOrder as IsInOrderIn, AreInOrder as AreInOrderIn}
+use Rattle.vx_copies.specs.Image.{Offer, offer_in, offer_told}
 use Rattle.vx_copies.specs.Lists.{AllOf, AnyOf, Each}
 use Rattle.vx_copies.specs.Written.{Touches}
 use Rattle.vx_copies.specs.Written.{IsMaskOf as IsMaskIn}
@@ -19,12 +21,12 @@ use Rattle.vx_objects.specs.declared.config.Config.{Config}
 use Rattle.vx_moments.specs.World.{Device, Member, Group}
 use Rattle.vx_moments.specs.Moment.{Moment, HasFailed}
 use Rattle.vx_moments.specs.Copies.{IsTextOf, IsEntered, label_of}
-use Rattle.vx_moments.specs.Commit.{Writing, parties, is_slot_of, is_written_slot, IsMaskOf, NoneFailed, MemberGoes, JoinerGoes, IsNoDeviceOf, sectors_of, IsCommitting}
+use Rattle.vx_moments.specs.Commit.{Writing, parties, is_slot_of, is_written_slot, IsMaskOf, NoneFailed, MemberGoes, JoinerGoes, IsNoDeviceOf, sectors_of, OffersSince, IsInOrder, AreInOrder, IsCommitting}
 use Rattle.vx_house.proofs.Listed.{all_front}
-use Rattle.vx_finding.proofs.Called.{IsPair}
-use Rattle.vx_finding.proofs.Lists.{each_two, each_first, all_of_each, any_mapped}
-use Rattle.vx_finding.proofs.Slots.{AreSlotted, mask_names, good_slots}
-use Rattle.vx_finding.proofs.Struck.{struck, entered}
+use Rattle.vx_commits.proofs.Called.{IsPair}
+use Rattle.vx_commits.proofs.Slotted.{AreSlotted, mask_names, good_slots}
+use Rattle.vx_commits.proofs.Struck.{struck, entered}
+use Rattle.vx_house.proofs.Lists.{each_two, each_first, all_of_each, all_before, any_mapped}
 
 -- a disk as the world's member
 abbrev pub member_in : Held → Member
@@ -50,6 +52,10 @@ pub record IsJoinerWritten (group : Word) (first last : ℕ) (text : List ℕ) (
   pub sectors : a.sectors ≡ a.seen.sectors
   pub enlists : Enlists group first last text Masks a b
 
+or_split : (a b : Bool) → (a || b) ≡ true → (a ≡ true) ⊎ (b ≡ true)
+or_split true b e = inl refl
+or_split false b e = inr e
+
 or_assoc : (a b c : Bool) → ((a || b) || c) ≡ (a || (b || c))
 or_assoc true b c = refl
 or_assoc false b c = refl
@@ -72,29 +78,32 @@ rose_one true false a b drops p q = drops
 rose_one old true a b drops p q = cc
 rose_one false new a b drops p q = cc
 
+-- what is written
+abbrev pub writing : Group → Config → List ℕ → List Member → List Held → List Held → Writing
+writing group config text carriers hs js = record {
+  group = record { config = group.config; good = good_mask hs; members = map member_in hs; sequence = group.sequence };
+  joiners = map member_in js;
+  config = config;
+  text = text;
+  carriers = carriers;
+}
+
 module _ (group : Group) (config : Config) (text : List ℕ) (carriers : List Member) (hs bs js ks : List Held) where
-  -- what is written
-  abbrev pub writing : Writing
-  writing = record {
-    group = record { config = group.config; good = good_mask hs; members = map member_in hs; sequence = group.sequence };
-    joiners = map member_in js;
-    config = config;
-    text = text;
-    carriers = carriers;
-  }
+  abbrev here : Writing
+  here = writing group config text carriers hs js
 
   module _ (low : AllOf HasSlot hs) (sound : AllOf (λ j. j.good ≡ true) js) (slots : AreSlotted (hs ++ js)) where
-    pub written_slot : (slot : ℕ) → is_written_slot writing slot ≡ is_good_slot slot (hs ++ js)
+    pub written_slot : (slot : ℕ) → is_written_slot here slot ≡ is_good_slot slot (hs ++ js)
     written_slot slot =
         ap (λ b. b || is_slot_of (map member_in js) slot) (mask_names hs low slot)
         ∙ ap (λ b. is_good_slot slot hs || b) (joiner_slots slot js sound)
         ∙ sym (good_append slot hs js)
 
     -- a disk that is written was good
-    pub written_good : AllOf (λ a. is_written_slot writing a.slot ≡ true → a.good ≡ true) (hs ++ js)
+    pub written_good : AllOf (λ a. is_written_slot here a.slot ≡ true → a.good ≡ true) (hs ++ js)
     written_good = by (hs ++ js) (good_slots (hs ++ js) slots)
       where
-        by : (es : List Held) → AllOf (λ h. is_good_slot h.slot (hs ++ js) ≡ h.good) es → AllOf (λ a. is_written_slot writing a.slot ≡ true → a.good ≡ true) es
+        by : (es : List Held) → AllOf (λ h. is_good_slot h.slot (hs ++ js) ≡ h.good) es → AllOf (λ a. is_written_slot here a.slot ≡ true → a.good ≡ true) es
         by [] is = tt
         by (e ∷ es) is = ((λ w. sym is.0 ∙ sym (written_slot e.slot) ∙ w), by es is.1)
 
@@ -117,33 +126,58 @@ module _ (group : Group) (config : Config) (text : List ℕ) (carriers : List Me
         or_right true b e = refl
         or_right false b e = e
 
-        here : (e : Held) (es : List Held) (g t : Bool) → e.good ≡ g → (e.slot == e.slot) ≡ t → t ≡ true → ((slot : ℕ) → is_good_slot slot (e ∷ es) ≡ true → is_good_slot slot hs ≡ true) → has (good_mask hs) e.slot ≡ false → g ≡ false
-        here e es false t p q same f w = refl
-        here e es true t p q same f w =
+        at_slot : (e : Held) (es : List Held) (g t : Bool) → e.good ≡ g → (e.slot == e.slot) ≡ t → t ≡ true → ((slot : ℕ) → is_good_slot slot (e ∷ es) ≡ true → is_good_slot slot hs ≡ true) → has (good_mask hs) e.slot ≡ false → g ≡ false
+        at_slot e es false t p q same f w = refl
+        at_slot e es true t p q same f w =
             let on : (e.good && e.slot == e.slot) ≡ true = ap (λ x. x && e.slot == e.slot) p ∙ q ∙ same in
             let is : is_good_slot e.slot hs ≡ true = f e.slot (ap (λ x. x || is_good_slot e.slot es) on) in
             absurd (bool_false (has (good_mask hs) e.slot) (mask_names hs low e.slot ∙ is) w)
 
         by : (es : List Held) → ((slot : ℕ) → is_good_slot slot es ≡ true → is_good_slot slot hs ≡ true) → AllOf (λ a. has (good_mask hs) a.slot ≡ false → a.good ≡ false) es
         by [] f = tt
-        by (e ∷ es) f = (here e es e.good (e.slot == e.slot) refl refl (eq-eqb e.slot e.slot refl) f, by es (λ slot is. f slot (or_right (e.good && e.slot == slot) (is_good_slot slot es) is)))
+        by (e ∷ es) f = (at_slot e es e.good (e.slot == e.slot) refl refl (eq-eqb e.slot e.slot refl) f, by es (λ slot is. f slot (or_right (e.good && e.slot == slot) (is_good_slot slot es) is)))
 
     module _ (m n : Moment) where
       -- a mask of slots
-      pub same_mask : (mask : ℕ) → Each (IsGone m n) (hs ++ js) (bs ++ ks) → IsMaskIn (hs ++ js) (bs ++ ks) mask → IsMaskOf writing m.counts n.counts mask
+      pub same_mask : (mask : ℕ) → Each (IsGone m n) (hs ++ js) (bs ++ ks) → IsMaskIn (hs ++ js) (bs ++ ks) mask → IsMaskOf here m.counts n.counts mask
       same_mask mask gone is = record {
         few = λ slot e. written_slot slot ∙ is.good slot e;
-        lacks = subst (AllOf (λ p. is_written_slot writing p.slot ≡ true → has mask p.slot ≡ false → HasFailed m.counts n.counts p.device)) (map-append member_in hs js)
-            (all_of_each Lacks (λ p. is_written_slot writing p.slot ≡ true → has mask p.slot ≡ false → HasFailed m.counts n.counts p.device) member_in
+        lacks = subst (AllOf (λ p. is_written_slot here p.slot ≡ true → has mask p.slot ≡ false → HasFailed m.counts n.counts p.device)) (map-append member_in hs js)
+            (all_of_each Lacks (λ p. is_written_slot here p.slot ≡ true → has mask p.slot ≡ false → HasFailed m.counts n.counts p.device) member_in
             (λ a b facts w l. subst (λ x. Rose x (n.counts.faults a.device)) (sym facts.0.pair.faults) (subst (λ y. Rose a.seen.faults y) (sym facts.0.pair.faults') (facts.1 (facts.2 w) l))) (hs ++ js) (bs ++ ks)
-            (each_first (λ a. is_written_slot writing a.slot ≡ true → a.good ≡ true) (λ a b. IsGone m n a b × (IsTrue a.good → has mask a.slot ≡ false → Rose a.seen.faults b.seen.faults)) Lacks (λ a b w facts. (facts.0, facts.1, w)) (hs ++ js) (bs ++ ks) written_good
+            (each_first (λ a. is_written_slot here a.slot ≡ true → a.good ≡ true) (λ a b. IsGone m n a b × (IsTrue a.good → has mask a.slot ≡ false → Rose a.seen.faults b.seen.faults)) Lacks (λ a b w facts. (facts.0, facts.1, w)) (hs ++ js) (bs ++ ks) written_good
             (each_two (IsGone m n) (λ a b. IsTrue a.good → has mask a.slot ≡ false → Rose a.seen.faults b.seen.faults) (λ a b. IsGone m n a b × (IsTrue a.good → has mask a.slot ≡ false → Rose a.seen.faults b.seen.faults)) (λ a b p q. (p, q)) (hs ++ js) (bs ++ ks) gone is.lacks)));
       }
         where
           Lacks : Held → Held → Type 0
-          Lacks a b = IsGone m n a b × (IsTrue a.good → has mask a.slot ≡ false → Rose a.seen.faults b.seen.faults) × (is_written_slot writing a.slot ≡ true → a.good ≡ true)
+          Lacks a b = IsGone m n a b × (IsTrue a.good → has mask a.slot ≡ false → Rose a.seen.faults b.seen.faults) × (is_written_slot here a.slot ≡ true → a.good ≡ true)
 
-      module _ (last last' : ℕ) (up : last ≤ last') (least : group.sequence ≤ last') (MasksIn : ℕ → Type 0) (masks : (mask : ℕ) → MasksIn mask → IsMaskOf writing m.counts n.counts mask) where
+      -- what the device of a disk offers now is what is told of it
+      offers_since : (a b : Held) → IsGone m n a b → (o : Offer) → OffersSince here n.world (member_in a) o → OffersSinceIn config.group group.sequence b o
+      offers_since a b gone o since =
+          let same : Some since.device ≡ Some (record { sectors = a.seen.sectors; contents = gone.pair.now }) = sym since.is ∙ gone.pair.is in
+          let contents : since.device.contents ≡ gone.pair.now = cc in
+          record { is = ap (offer_told config.group) gone.pair.tells ∙ ap (offer_in config.group) (sym contents) ∙ since.offers; newer = since.newer }
+
+      abbrev TwoIn : Held → Held → Type 0
+      TwoIn a b = (o p : Offer) → OffersSinceIn config.group group.sequence a o → OffersSinceIn config.group group.sequence b p → IsInOrderIn o p b.slot
+
+      abbrev Two : Member → Member → Type 0
+      Two a b = (o p : Offer) → OffersSince here n.world a o → OffersSince here n.world b p → IsInOrder o p b.slot
+
+      two : (a b c d : Held) → IsGone m n a c → IsGone m n b d → TwoIn c d → Two (member_in a) (member_in b)
+      two a b c d first second in_order o p f g =
+          let is = in_order o p (offers_since a c first o f) (offers_since b d second p g) in
+          record { names = λ le. ap (has o.good) (sym second.slot) ∙ is.names le; one = is.one }
+
+      -- the offers of the disks are in order, and so are those of their devices
+      pub all_in_order : Each (IsGone m n) (hs ++ js) (bs ++ ks) → AreInOrderIn config.group group.sequence (bs ++ ks) → AreInOrder here n.world
+      all_in_order gone order =
+          subst (λ ps. AllOf (λ a. AllOf (Two a) ps) ps) (map-append member_in hs js)
+          (all_before (IsGone m n) (λ c. AllOf (TwoIn c) (bs ++ ks)) (λ a. AllOf (Two a) (map member_in (hs ++ js))) member_in
+          (λ a c first row. all_before (IsGone m n) (TwoIn c) (Two (member_in a)) member_in (λ b d. two a b c d first) (hs ++ js) (bs ++ ks) gone row) (hs ++ js) (bs ++ ks) gone order)
+
+      module _ (last last' : ℕ) (up : last ≤ last') (least : group.sequence ≤ last') (MasksIn : ℕ → Type 0) (masks : (mask : ℕ) → MasksIn mask → IsMaskOf here m.counts n.counts mask) where
         abbrev IsWrittenHere : Held → Held → Type 0
         IsWrittenHere a b = IsMemberWritten (group.sequence + 1) last text MasksIn m n a b
 
@@ -153,7 +187,7 @@ module _ (group : Group) (config : Config) (text : List ℕ) (carriers : List Me
         more_sectors : (last + 1 - (group.sequence + 1)) * sectors_of text ≤ (last' - group.sequence) * sectors_of text
         more_sectors = mul-le-mul_right (sectors_of text) (omega (arith, up))
 
-        member_goes : (a b : Held) → (has (good_mask hs) a.slot ≡ true → a.good ≡ true) → (has (good_mask hs) a.slot ≡ false → a.good ≡ false) → IsWrittenHere a b → MemberGoes writing last' m n (member_in a)
+        member_goes : (a b : Held) → (has (good_mask hs) a.slot ≡ true → a.good ≡ true) → (has (good_mask hs) a.slot ≡ false → a.good ≡ false) → IsWrittenHere a b → MemberGoes here last' m n (member_in a)
         member_goes a b good bad is = record {
           good = λ e. record {
             before = record { sectors = a.seen.sectors; contents = is.gone.pair.before };
@@ -161,7 +195,7 @@ module _ (group : Group) (config : Config) (text : List ℕ) (carriers : List Me
             was = is.gone.pair.was;
             is = is.gone.pair.is;
             sectors = refl;
-            goes = struck (group.sequence + 1) last last' up text MasksIn (IsMaskOf writing m.counts n.counts) masks a b is.gone.pair.before is.gone.pair.now is.touches is.gone.pair.told is.gone.pair.tells (is.names (good e));
+            goes = struck (group.sequence + 1) last last' up text MasksIn (IsMaskOf here m.counts n.counts) masks a b is.gone.pair.before is.gone.pair.now is.touches is.gone.pair.told is.gone.pair.tells (is.names (good e));
           };
           idle = λ e.
               let same : Some is.gone.pair.now ≡ Some is.gone.pair.before = sym is.gone.pair.tells ∙ ap (λ (s : Seen). s.told) (is.idle (bad e)) ∙ is.gone.pair.told in
@@ -169,7 +203,7 @@ module _ (group : Group) (config : Config) (text : List ℕ) (carriers : List Me
               is.gone.pair.is ∙ ap (λ c. Some (let d : Device = record { sectors = a.seen.sectors; contents = c } in d)) one ∙ sym is.gone.pair.was;
         }
 
-        joiner_goes : (a b : Held) → IsEnteredHere a b → JoinerGoes writing last' m n (member_in a)
+        joiner_goes : (a b : Held) → IsEnteredHere a b → JoinerGoes here last' m n (member_in a)
         joiner_goes a b is = record {
           before = record { sectors = a.seen.sectors; contents = is.gone.pair.before };
           after = record { sectors = a.seen.sectors; contents = is.gone.pair.now };
@@ -178,8 +212,8 @@ module _ (group : Group) (config : Config) (text : List ℕ) (carriers : List Me
           sectors = refl;
           goes =
               let same : label_in config.group a ≡ label_of config.group (member_in a) (record { sectors = a.seen.sectors; contents = is.gone.pair.before }) = ap (λ k. let l : Label = record { group = config.group; disk = a.name; slot = a.slot; sectors = k } in l) is.sectors in
-              subst (λ l. IsEntered l (group.sequence + 1) last' (IsMaskOf writing m.counts n.counts) text is.gone.pair.before is.gone.pair.now) same
-              (entered (group.sequence + 1) last last' up text MasksIn (IsMaskOf writing m.counts n.counts) masks config.group a b is.gone.pair.before is.gone.pair.now is.enlists is.gone.pair.told is.gone.pair.tells);
+              subst (λ l. IsEntered l (group.sequence + 1) last' (IsMaskOf here m.counts n.counts) text is.gone.pair.before is.gone.pair.now) same
+              (entered (group.sequence + 1) last last' up text MasksIn (IsMaskOf here m.counts n.counts) masks config.group a b is.gone.pair.before is.gone.pair.now is.enlists is.gone.pair.told is.gone.pair.tells);
         }
 
         writes_by : (a b : Held) (bound : ℕ) → IsPair m n a b → b.seen.writes ≤ a.seen.writes + bound → n.counts.writes a.device ≤ m.counts.writes a.device + bound
@@ -193,21 +227,22 @@ module _ (group : Group) (config : Config) (text : List ℕ) (carriers : List Me
           pub reads : (name : Word) → n.counts.reads name ≡ m.counts.reads name
           pub shelf : n.counts.shelf ≡ m.counts.shelf
 
-        none_of_parties : (name : Word) → IsNoDeviceOf (parties writing) name → AnyOf (λ h. h.device ≡ name) (hs ++ js) → ⊥
+        none_of_parties : (name : Word) → IsNoDeviceOf (parties here) name → AnyOf (λ h. h.device ≡ name) (hs ++ js) → ⊥
         none_of_parties name none any = none (subst (AnyOf (λ p. p.device ≡ name)) (map-append member_in hs js) (any_mapped (λ p. p.device ≡ name) member_in (hs ++ js) any))
 
         pub is_committing : IsTextOf config text → length text ≤ 522240 → last' ≤ group.sequence + 32 → (NoneFailed m.counts n.counts → last' ≤ group.sequence + 1)
-            → Each IsWrittenHere hs bs → Each IsEnteredHere js ks → IsBeside → IsCommitting writing last' m n
-        is_committing printed short few once written joined beside = record {
+            → Each IsWrittenHere hs bs → Each IsEnteredHere js ks → Each (IsGone m n) (hs ++ js) (bs ++ ks) → AreInOrderIn config.group group.sequence (bs ++ ks) → IsBeside → IsCommitting here last' m n
+        is_committing printed short few once written joined gone order beside = record {
           text_is = printed;
           short = short;
           from = least;
           up_to = few;
           once = once;
-          members = all_of_each Member_ (MemberGoes writing last' m n) member_in (λ a b facts. member_goes a b facts.0 facts.1 facts.2) hs bs
+          members = all_of_each Member_ (MemberGoes here last' m n) member_in (λ a b facts. member_goes a b facts.0 facts.1 facts.2) hs bs
               (each_first (λ a. has (good_mask hs) a.slot ≡ true → a.good ≡ true) (λ a b. (has (good_mask hs) a.slot ≡ false → a.good ≡ false) × IsWrittenHere a b) Member_ (λ a b p q. (p, q.0, q.1)) hs bs member_good
               (each_first (λ a. has (good_mask hs) a.slot ≡ false → a.good ≡ false) IsWrittenHere (λ a b. (has (good_mask hs) a.slot ≡ false → a.good ≡ false) × IsWrittenHere a b) (λ a b p q. (p, q)) hs bs member_bad written));
-          joiners = all_of_each IsEnteredHere (JoinerGoes writing last' m n) member_in joiner_goes js ks joined;
+          joiners = all_of_each IsEnteredHere (JoinerGoes here last' m n) member_in joiner_goes js ks joined;
+          order = all_in_order gone order;
           others = λ name none. beside.others name (none_of_parties name none);
           volumes = beside.volumes;
           reads = beside.reads;

@@ -1,17 +1,11 @@
 -- What holds of the members of lists, in twos and in parts.
-use Rattle.std.proofs.Common.{◌≡◌, ◌∙◌, inl, inr, List, [], ◌∷◌, ◌++◌, map, Some, None, Bool, true, false, cond, refl, sym, ap}
+use Rattle.std.proofs.Common.{◌≡◌, ◌∙◌, inl, inr, List, [], ◌∷◌, ◌++◌, map, length, suc, Some, None, Bool, true, false, cond, refl, sym, ap, arith}
 use Rattle.std.specs.Str.{bytes_eq}
 use Rattle.vx_base.specs.Named.{Word}
 use Rattle.vx_copies.specs.Lists.{AllOf, AnyOf, Each}
 use Rattle.vx_house.specs.Holders.{Holder, held_as, AreApart}
 use Rattle.vx_house.proofs.Held.{IsApart}
 use Rattle.vx_house.proofs.Listed.{all_front}
-
-pub each_imp : {X : Type 0} (R S : X → X → Type 0) → ((a b : X) → R a b → S a b) → (xs ys : List X) → Each R xs ys → Each S xs ys
-each_imp R S f [] [] e = tt
-each_imp R S f [] (y ∷ ys) e = absurd e
-each_imp R S f (x ∷ xs) [] e = absurd e
-each_imp R S f (x ∷ xs) (y ∷ ys) e = (f x y e.0, each_imp R S f xs ys e.1)
 
 pub each_two : {X : Type 0} (R S T : X → X → Type 0) → ((a b : X) → R a b → S a b → T a b) → (xs ys : List X) → Each R xs ys → Each S xs ys → Each T xs ys
 each_two R S T f [] [] e d = tt
@@ -38,22 +32,50 @@ each_append R [] (y ∷ ys) us vs e d = absurd e
 each_append R (x ∷ xs) [] us vs e d = absurd e
 each_append R (x ∷ xs) (y ∷ ys) us vs e d = (e.0, each_append R xs ys us vs e.1 d)
 
-pub each_self : {X : Type 0} (R : X → X → Type 0) → ((x : X) → R x x) → (xs : List X) → Each R xs xs
-each_self R f [] = tt
-each_self R f (x ∷ xs) = (f x, each_self R f xs)
-
 -- of what becomes of the members of two lists
-pub each_mapped : {X Y : Type 0} (R : Y → Y → Type 0) (f : X → Y) (xs ys : List X) → Each (λ a b. R (f a) (f b)) xs ys → Each R (map f xs) (map f ys)
-each_mapped R f [] [] e = tt
-each_mapped R f [] (y ∷ ys) e = absurd e
-each_mapped R f (x ∷ xs) [] e = absurd e
-each_mapped R f (x ∷ xs) (y ∷ ys) e = (e.0, each_mapped R f xs ys e.1)
+pub each_mapped : {X Y : Type 0} (R : X → X → Type 0) (S : Y → Y → Type 0) (f : X → Y) → ((x y : X) → R x y → S (f x) (f y)) → (xs ys : List X) → Each R xs ys → Each S (map f xs) (map f ys)
+each_mapped R S f g [] [] each = tt
+each_mapped R S f g [] (y ∷ ys) each = absurd each
+each_mapped R S f g (x ∷ xs) [] each = absurd each
+each_mapped R S f g (x ∷ xs) (y ∷ ys) each = (g x y each.0, each_mapped R S f g xs ys each.1)
 
 pub all_of_each : {X Y : Type 0} (R : X → X → Type 0) (Q : Y → Type 0) (f : X → Y) → ((a b : X) → R a b → Q (f a)) → (xs ys : List X) → Each R xs ys → AllOf Q (map f xs)
 all_of_each R Q f g [] [] e = tt
 all_of_each R Q f g [] (y ∷ ys) e = absurd e
 all_of_each R Q f g (x ∷ xs) [] e = absurd e
 all_of_each R Q f g (x ∷ xs) (y ∷ ys) e = (g x y e.0, all_of_each R Q f g xs ys e.1)
+
+-- what holds of each of the second ones, as it is of the first ones
+pub all_before : {X Y : Type 0} (R : X → X → Type 0) (P : X → Type 0) (Q : Y → Type 0) (f : X → Y) → ((a b : X) → R a b → P b → Q (f a)) → (xs ys : List X) → Each R xs ys → AllOf P ys → AllOf Q (map f xs)
+all_before R P Q f g [] [] e all = tt
+all_before R P Q f g [] (y ∷ ys) e all = absurd e
+all_before R P Q f g (x ∷ xs) [] e all = absurd e
+all_before R P Q f g (x ∷ xs) (y ∷ ys) e all = (g x y e.0 all.0, all_before R P Q f g xs ys e.1 all.1)
+
+-- what each two say of the first one
+pub all_of_pairs : {X : Type 0} (R : X → X → Type 0) (Q : X → Type 0) → ((a b : X) → R a b → Q a) → (xs ys : List X) → Each R xs ys → AllOf Q xs
+all_of_pairs R Q f [] ys e = tt
+all_of_pairs R Q f (x ∷ xs) [] e = absurd e
+all_of_pairs R Q f (x ∷ xs) (y ∷ ys) e = (f x y e.0, all_of_pairs R Q f xs ys e.1)
+
+-- of each two of a list, the first ones or the others
+pub each_front : {X : Type 0} (R : X → X → Type 0) (xs ys us vs : List X) → length xs ≡ length ys → Each R (xs ++ us) (ys ++ vs) → Each R xs ys
+each_front R [] [] us vs long e = tt
+each_front R [] (y ∷ ys) us vs long e = absurd (omega (arith, long))
+each_front R (x ∷ xs) [] us vs long e = absurd (omega (arith, long))
+each_front R (x ∷ xs) (y ∷ ys) us vs long e = (e.0, each_front R xs ys us vs (omega (arith, long)) e.1)
+
+pub each_back : {X : Type 0} (R : X → X → Type 0) (xs ys us vs : List X) → length xs ≡ length ys → Each R (xs ++ us) (ys ++ vs) → Each R us vs
+each_back R [] [] us vs long e = e
+each_back R [] (y ∷ ys) us vs long e = absurd (omega (arith, long))
+each_back R (x ∷ xs) [] us vs long e = absurd (omega (arith, long))
+each_back R (x ∷ xs) (y ∷ ys) us vs long e = each_back R xs ys us vs (omega (arith, long)) e.1
+
+pub each_long : {X : Type 0} (R : X → X → Type 0) (xs ys : List X) → Each R xs ys → length xs ≡ length ys
+each_long R [] [] e = refl
+each_long R [] (y ∷ ys) e = absurd e
+each_long R (x ∷ xs) [] e = absurd e
+each_long R (x ∷ xs) (y ∷ ys) e = ap suc (each_long R xs ys e.1)
 
 pub any_mapped : {X Y : Type 0} (Q : Y → Type 0) (f : X → Y) (xs : List X) → AnyOf (λ x. Q (f x)) xs → AnyOf Q (map f xs)
 any_mapped Q f [] any = any

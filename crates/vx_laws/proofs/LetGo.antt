@@ -1,68 +1,79 @@
--- A whole group that is let go is left on its devices, and no other device bears its name.
-use Rattle.std.proofs.Common.{◌≡◌, ◌⊎◌, ℕ, Bool, true, false, List, [], ◌∷◌, Option, Some, refl, sym, ◌∙◌, ap, subst, inl, inr}
-use Rattle.std.specs.Str.{bytes_eq}
+-- A whole group that is let go and imported comes back.
+use Rattle.std.proofs.Common.{◌≡◌, ℕ, ◌+◌, ◌≤◌, ◌^◌, Bool, true, List, [], ◌∷◌, Option, Some, None, refl, sym, ◌∙◌, ap, subst, inl, inr}
 use Rattle.vx_base.specs.Named.{Word}
-use Rattle.vx_base.proofs.NamedLemmas.{bytes_eq_self, bytes_eq_same}
-use Rattle.vx_mask.specs.Mask.{has}
-use Rattle.vx_header.specs.Named.{Label, header_of}
-use Rattle.vx_copies.specs.Lists.{AllOf, AnyOf}
-use Rattle.vx_world.specs.declared.answer.Answer.{Answer}
-use Rattle.vx_world.specs.World.{World, Device, Member, Group}
-use Rattle.vx_world.specs.Back.{label_of, AreDevicesOf}
-use Rattle.vx_world.specs.Groups.{is_meant, IsDeported, DeportStep}
-use Rattle.vx_world.specs.Tests.{IsMemberDevice}
-use Rattle.vx_laws.specs.Returning.{CanGoOn, HasNoStranger, IsLeftBehind, IsWhole, EachWholeGroupComesBack}
-use Rattle.vx_laws.proofs.Several.{at_found, at_test, clash, either, both_ways, any_all, all_all}
+use Rattle.vx_base.proofs.NamedLemmas.{bytes_eq_self}
+use Rattle.vx_parts.specs.declared.vol.Vol.{Vol}
+use Rattle.vx_script_forms.specs.declared.form.Form.TheVariants.{DgDeport}
+use Rattle.vx_script.specs.declared.command.Command.{Command}
+use Rattle.vx_answers.specs.declared.answer.Answer.{Answer}
+use Rattle.vx_answers.specs.declared.answer.Answer.TheVariants.{One}
+use Rattle.vx_answers.specs.declared.refusal.Refusal.{Refusal}
+use Rattle.vx_answers.specs.declared.refusal.Refusal.TheVariants.{NoGroup}
+use Rattle.vx_moments.specs.World.{World, Group}
+use Rattle.vx_moments.specs.Moment.{Moment, Counts}
+use Rattle.vx_moments.specs.Leaving.{group_gone}
+use Rattle.vx_plans.specs.Plans.{plan_of, plan_deport}
+use Rattle.vx_plans.specs.Tests.{fails, unless, is_here, in_use_by, started_of, first_started}
+use Rattle.vx_plans.specs.Steps.{Runs, Serves, Step, done}
+use Rattle.vx_plans.specs.Laws.{WentWell}
+use Rattle.vx_plans.specs.declared.stages.Finish.TheVariants.{Nothing}
+use Rattle.vx_plans.specs.declared.test.Test.TheVariants as tests
+use Rattle.vx_laws.specs.Returning.{IsLeftBehind, IsWhole, IsReturned, is_done, EachWholeGroupComesBack}
+use Rattle.vx_laws.proofs.Several.{clash}
+use Rattle.vx_laws.proofs.Well.{well_from}
+use Rattle.vx_laws.proofs.Runs.{served, left_so}
 use Rattle.vx_laws.proofs.Returned.{each_group_returns}
 
--- a member lies on the device, or none does
-on_or_off : (name : Word) (ms : List Member) → AnyOf (λ m. m.device ≡ name) ms ⊎ (AnyOf (λ m. m.device ≡ name) ms → ⊥)
-on_or_off name [] = inr (λ any. any)
-on_or_off name (m ∷ ms) = by (bytes_eq m.device name) refl (on_or_off name ms)
+-- ---- the tests of a deport
+
+pub is_meant_one : (g : Group) (w : World) → w.group ≡ Some g → fails (tests.GroupIs (Some g.config.group)) [] w ≡ None
+unfolding fails
+is_meant_one g w here =
+    ap (λ (o : Option Group). unless (is_here (Some g.config.group) o) (NoGroup (Some g.config.group))) here
+    ∙ ap (λ (b : Bool). unless b (NoGroup (Some g.config.group))) (bytes_eq_self g.config.group)
+
+none_started : (g : Group) (w : World) → w.group ≡ Some g → g.config.volumes ≡ [] → fails tests.NoneStarted [] w ≡ None
+unfolding fails
+none_started g w here none =
+    ap (λ (o : Option Group). in_use_by (started_of w.volumes o)) here
+    ∙ ap (λ (vs : List Vol). in_use_by (first_started w.volumes vs)) none
+
+-- ---- the command
+
+-- the deport is done, and the group has gone
+pub record IsLetGo (told : Answer) (old new : Moment) : Type 0 where
+  pub is : told ≡ is_done
+  pub gone : new.world ≡ group_gone old.world
+  pub counts : new.counts ≡ old.counts
+
+deport_done : (g : Group) (old new : Moment) (told : Answer) → IsWhole g old.world → Serves (Runs [] (plan_deport g.config.group) Nothing) old told new → IsLetGo told old new
+deport_done g old new told whole s = by s.does
   where
-    by : (b : Bool) → bytes_eq m.device name ≡ b → AnyOf (λ m. m.device ≡ name) ms ⊎ (AnyOf (λ m. m.device ≡ name) ms → ⊥) → AnyOf (λ m. m.device ≡ name) (m ∷ ms) ⊎ (AnyOf (λ m. m.device ≡ name) (m ∷ ms) → ⊥)
-    by true is rest = inl (inl (bytes_eq_same m.device name is))
-    by false is (inl rest) = inl (inr rest)
-    by false is (inr none) = inr (λ any. either (λ here. both_ways (bytes_eq m.device name) (subst (λ (x : Word). bytes_eq x name ≡ true) (sym here) (bytes_eq_self name)) is) none any)
+    started : (m : Moment) → m ≡ old → fails tests.NoneStarted [] m.world ≡ None
+    started m same = subst (λ (x : Moment). fails tests.NoneStarted [] x.world ≡ None) (sym same) (none_started g old.world whole.here whole.left.just_disks.volumes)
 
--- the header of a good member's device names it
-headers_name : (group : Word) (good : ℕ) (devices : Word → Option Device) (ms : List Member) (ds : List Device) → AreDevicesOf group good devices ms ds → AllOf (λ m. has good m.slot ≡ true → (d : Device) → devices m.device ≡ Some d → header_of (d.contents 0) ≡ Some (label_of group m)) ms
-headers_name group good devices [] ds here = tt
-headers_name group good devices (m ∷ ms) [] here = absurd here
-headers_name group good devices (m ∷ ms) (d ∷ ds) here = (
-  λ is x found.
-      let same : d ≡ x = let at = here.0 in cc in
-      subst (λ (y : Device). header_of (y.contents 0) ≡ Some (label_of group m)) same (here.1.header is),
-  headers_name group good devices ms ds here.2,
-)
-
-one_label : (o : Option Label) (a b : Label) → o ≡ Some a → o ≡ Some b → a ≡ b
-one_label o a b e f = cc
-
-module _ (g : Group) (before old : World) (told : Answer) (whole : IsWhole g before) (let_go : IsDeported g before told old) where
-  no_stranger : HasNoStranger g old
-  no_stranger = λ name d l here header claims size.
-      either
-      (λ any.
-      any_all (λ m. (d : Device) → old.devices m.device ≡ Some d → header_of (d.contents 0) ≡ Some (label_of g.config.group m)) (λ m. m.device ≡ name) (λ m. (m.device ≡ name) × (l ≡ label_of g.config.group m)) g.members
-      (λ m says on. (on, one_label (header_of (d.contents 0)) l (label_of g.config.group m) header (says d (ap (λ (n : Word). old.devices n) on ∙ here))))
-      (all_all (λ m. has g.good m.slot ≡ true) (λ m. has g.good m.slot ≡ true → (d : Device) → old.devices m.device ≡ Some d → header_of (d.contents 0) ≡ Some (label_of g.config.group m)) (λ m. (d : Device) → old.devices m.device ≡ Some d → header_of (d.contents 0) ≡ Some (label_of g.config.group m)) g.members (λ m is on. on is) whole.all_good (headers_name g.config.group g.good old.devices g.members let_go.back.back let_go.back.here))
-      any)
-      (λ none.
-      let same : old.devices name ≡ before.devices name = let_go.others name (λ is. none (subst (λ (x : Option Group). IsMemberDevice x name) whole.here is)) in
-      absurd (whole.unclaimed name d l (sym same ∙ here) header claims size))
-      (on_or_off name g.members)
-
-  left_behind : AllOf (CanGoOn g old) g.members → IsLeftBehind g old
-  left_behind going = record { no_group = let_go.no_group; well = whole.well; left = let_go.back; no_stranger = no_stranger; can_go_on = going }
-
-deported : (g : Group) (before old : World) (told : Answer) → before.group ≡ Some g → DeportStep g.config.group before told old → IsDeported g before told old
-deported g before old told is step =
-    at_found before.group (λ none k. clash before.group g none is)
-    (λ x here k.
-    let same : x ≡ g = cc in
-    at_test (is_meant (Some g.config.group) x) (λ meant l. subst (λ (y : Group). IsDeported y before told old) same l) (λ other l. both_ways (bytes_eq x.config.group g.config.group) (subst (λ (y : Group). bytes_eq y.config.group g.config.group ≡ true) (sym same) (bytes_eq_self g.config.group)) other) k) step
+    by : Runs [] (plan_deport g.config.group) Nothing old s.views s.end s.over → IsLetGo told old new
+    by (inl (a, later_a, meant, (inl (b, later_b, free, (inl (c, later_c, (gone, counts), (shows, is, same))))))) =
+        let over = left_so (Runs [] (plan_deport g.config.group) Nothing) old told new s is ∙ same in
+        let first : b ≡ old = free.1 ∙ meant.1 in record {
+          is = s.told ∙ (λ i. One (shows i) (is i));
+          gone = ap (λ (m : Moment). m.world) over ∙ gone ∙ ap (λ (m : Moment). group_gone m.world) first;
+          counts = ap (λ (m : Moment). m.counts) over ∙ counts ∙ ap (λ (m : Moment). m.counts) first;
+        }
+    by (inl (a, later_a, meant, (inl (b, later_b, free, (inr (none, later_c, stops)))))) = absurd stops
+    by (inl (a, later_a, meant, (inr (none, later_b, (r, denied, is, same))))) = clash (fails tests.NoneStarted [] a.world) r (started a meant.1) denied
+    by (inr (none, later_a, (r, denied, is, same))) = clash (fails (tests.GroupIs (Some g.config.group)) [] old.world) r (is_meant_one g old.world whole.here) denied
 
 pub each_whole_group_comes_back : EachWholeGroupComesBack
-each_whole_group_comes_back = λ f g before old new told answer none whole step going import.
-    each_group_returns f g old new answer none (left_behind g before old told whole (deported g before old told whole.here step) going) import
+unfolding plan_of
+each_whole_group_comes_back = λ place out back g old new told answer is_out is_back whole low steps well.
+    let mid = steps.0 in
+    let next = steps.2.0 in
+    let same : new ≡ next = steps.2.2 in
+    let let_go = deport_done g old mid told whole (served place out (DgDeport g.config.group) old told mid is_out steps.1) in
+    let rest : WentWell mid next = well_from old mid next let_go.counts (subst (λ (m : Moment). WentWell old m) same well) in
+    let left : IsLeftBehind g mid.world = subst (IsLeftBehind g) (sym let_go.gone) whole.left in
+    let got = each_group_returns (place + 1) back g mid next answer is_back left low steps.2.1 rest in
+    let returned : IsReturned g (group_gone old.world) new.world =
+    subst (λ (w : World). IsReturned g w new.world) let_go.gone (subst (λ (m : Moment). IsReturned g mid.world m.world) (sym same) got.1) in
+    (let_go.is, got.0, returned, returned.whole whole.full)

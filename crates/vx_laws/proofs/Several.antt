@@ -1,10 +1,10 @@
 -- Tests, and what holds of the members of a list.
-use Rattle.std.proofs.Common.{◌≡◌, ◌⊎◌, ℕ, ◌<◌, ◌≤◌, Bool, true, false, not, cond, ◌&&◌, ◌||◌, ◌==◌, List, [], ◌∷◌, Option, Some, None, refl, sym, ◌∙◌, ap, inl, inr, arith, nat_lt}
+use Rattle.std.proofs.Common.{◌≡◌, ◌⊎◌, ℕ, ◌<◌, ◌≤◌, Bool, true, false, not, cond, ◌&&◌, ◌||◌, ◌==◌, List, [], ◌∷◌, ◌++◌, map, Option, Some, None, refl, sym, ◌∙◌, ap, subst, inl, inr, arith, nat_lt}
 use Rattle.std.specs.Prelude.{MatchBool, MatchOption}
 use Rattle.std.specs.List.{list_any, filter}
 use Rattle.std.proofs.lemmas.Bool.Decides.{nat_tests}
 use Rattle.vx_copies.specs.Lists.{AllOf, AnyOf}
-use Rattle.vx_world.specs.Import.{first_that}
+use Rattle.vx_plans.specs.Finding.{first_that}
 
 -- ---- tests
 
@@ -124,6 +124,9 @@ module _ {X : Type 0} where
       put true here rest = (here refl, rest)
       put false here rest = rest
 
+  pub all_filtered : (test : X → Bool) (xs : List X) → AllOf (λ x. test x ≡ true) (filter test xs)
+  all_filtered test xs = all_filter test (λ x. test x ≡ true) xs (all_from (λ x. test x ≡ true → test x ≡ true) xs (λ x on. on))
+
   pub list_any_from : (test : X → Bool) (P : X → Type 0) (xs : List X) → ((x : X) → P x → test x ≡ true) → AnyOf P xs → list_any test xs ≡ true
   list_any_from test P [] on any = absurd any
   list_any_from test P (x ∷ xs) on (inl here) = or_first (test x) (list_any test xs) (on x here)
@@ -136,3 +139,50 @@ module _ {X : Type 0} where
   pub first_none : (test : X → Bool) (xs : List X) → AllOf (λ x. test x ≡ false) xs → first_that test xs ≡ None
   first_none test [] all = refl
   first_none test (x ∷ xs) all = ap (λ (b : Bool). cond b (Some x) (first_that test xs)) all.0 ∙ first_none test xs all.1
+
+  pub all_append : (P : X → Type 0) (xs ys : List X) → AllOf P xs → AllOf P ys → AllOf P (xs ++ ys)
+  all_append P [] ys all more = more
+  all_append P (x ∷ xs) ys all more = (all.0, all_append P xs ys all.1 more)
+
+  pub all_front : (P : X → Type 0) (xs ys : List X) → AllOf P (xs ++ ys) → AllOf P xs
+  all_front P [] ys all = tt
+  all_front P (x ∷ xs) ys all = (all.0, all_front P xs ys all.1)
+
+  pub all_behind : (P : X → Type 0) (xs ys : List X) → AllOf P (xs ++ ys) → AllOf P ys
+  all_behind P [] ys all = all
+  all_behind P (x ∷ xs) ys all = all_behind P xs ys all.1
+
+  pub any_front : (P : X → Type 0) (xs ys : List X) → AnyOf P xs → AnyOf P (xs ++ ys)
+  any_front P [] ys any = absurd any
+  any_front P (x ∷ xs) ys (inl here) = inl here
+  any_front P (x ∷ xs) ys (inr any) = inr (any_front P xs ys any)
+
+  pub any_behind : (P : X → Type 0) (xs ys : List X) → AnyOf P ys → AnyOf P (xs ++ ys)
+  any_behind P [] ys any = any
+  any_behind P (x ∷ xs) ys any = inr (any_behind P xs ys any)
+
+  pub any_filter : (test : X → Bool) (P : X → Type 0) (xs : List X) → ((x : X) → P x → test x ≡ true) → AnyOf P xs → AnyOf P (filter test xs)
+  any_filter test P [] on any = absurd any
+  any_filter test P (x ∷ xs) on (inl here) = subst (λ (b : Bool). AnyOf P (cond b (x ∷ filter test xs) (filter test xs))) (sym (on x here)) (inl here)
+  any_filter test P (x ∷ xs) on (inr any) = behind (test x) (any_filter test P xs on any)
+    where
+      behind : (b : Bool) → AnyOf P (filter test xs) → AnyOf P (cond b (x ∷ filter test xs) (filter test xs))
+      behind true h = inr h
+      behind false h = h
+
+  pub any_from_list : (test : X → Bool) (xs : List X) → list_any test xs ≡ true → AnyOf (λ x. test x ≡ true) xs
+  any_from_list test [] e = cc
+  any_from_list test (x ∷ xs) e = by (test x) refl (any_from_list test xs) e
+    where
+      by : (b : Bool) → test x ≡ b → (list_any test xs ≡ true → AnyOf (λ x. test x ≡ true) xs) → (b || list_any test xs) ≡ true → AnyOf (λ x. test x ≡ true) (x ∷ xs)
+      by true is more e = inl is
+      by false is more e = inr (more e)
+
+pub all_mapped : {X Y : Type 0} (made : X → Y) (P : Y → Type 0) (xs : List X) → AllOf (λ x. P (made x)) xs → AllOf P (map made xs)
+all_mapped made P [] all = tt
+all_mapped made P (x ∷ xs) all = (all.0, all_mapped made P xs all.1)
+
+pub any_mapped : {X Y : Type 0} (made : X → Y) (P : Y → Type 0) (xs : List X) → AnyOf (λ x. P (made x)) xs → AnyOf P (map made xs)
+any_mapped made P [] any = absurd any
+any_mapped made P (x ∷ xs) (inl here) = inl here
+any_mapped made P (x ∷ xs) (inr any) = inr (any_mapped made P xs any)

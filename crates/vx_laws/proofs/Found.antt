@@ -1,22 +1,20 @@
 -- What an import finds of a group that was left behind: its configuration, and its good members.
-use Rattle.std.proofs.Common.{◌≡◌, ◌⊎◌, ℕ, zero, suc, ◌+◌, ◌<◌, ◌≤◌, ◌^◌, Bool, true, false, cond, not, ◌&&◌, ◌==◌, nat_lt, List, [], ◌∷◌, ◌++◌, length, take, map, Option, Some, None, is_some, is_none, refl, sym, ◌∙◌, ap, subst, inl, inr, arith}
+use Rattle.std.proofs.Common.{◌≡◌, ◌⊎◌, ℕ, zero, suc, ◌+◌, ◌<◌, ◌≤◌, ◌^◌, Bool, true, false, cond, not, ◌==◌, nat_lt, List, [], ◌∷◌, length, take, map, Option, Some, None, is_some, is_none, refl, sym, ◌∙◌, ap, subst, inl, inr, arith}
 use Rattle.std.specs.Prelude.{replicate, if◌then◌else◌}
 use Rattle.std.specs.List.{list_all, filter}
 use Rattle.std.specs.List.Sorted.{IsPermutation}
 use Rattle.std.specs.Str.{bytes_eq}
 use Rattle.std.proofs.Math.Seq.{take-append_seam}
-use Rattle.std.proofs.lemmas.Bool.{and_parts}
-use Rattle.std.proofs.lemmas.Bool.Decides.{nat_tests}
+use Rattle.std.proofs.lemmas.Bool.{and_parts, lt-ltb, le-ltb}
 use Rattle.vx_base.specs.Blocks.{Contents}
 use Rattle.vx_base.specs.Named.{Word}
 use Rattle.vx_base.proofs.NamedLemmas.{bytes_eq_self}
 use Rattle.vx_mask.specs.Mask.{has}
-use Rattle.vx_sector.specs.Fields.{zeros}
 use Rattle.vx_header.specs.Named.{Label, header_of}
 use Rattle.vx_header.specs.Said.{Said, toggle_of}
 use Rattle.vx_header.proofs.Saying.{said_spells}
 use Rattle.vx_copies.specs.Lists.{AllOf, AnyOf}
-use Rattle.vx_copies.specs.Image.{Offer, offer_in, offer_of, offer_if, offer_by, toggle_at, names_group, text_in, sectors_for, higher, highest}
+use Rattle.vx_copies.specs.Image.{Offer, offer_in, offer_of, offer_if, offer_by, toggle_at, names_group, text_in, higher, highest}
 use Rattle.vx_record.specs.Content.{Content}
 use Rattle.vx_record.proofs.Stopped.{spells_one, not_bad}
 use Rattle.vx_parts.specs.declared.vol.Vol.{Vol}
@@ -28,11 +26,12 @@ use Rattle.vx_answers.specs.declared.refusal.Refusal.{Refusal}
 use Rattle.vx_moments.specs.World.{World, Device, Member, Group}
 use Rattle.vx_moments.specs.Copies.{label_of, IsCurrent}
 use Rattle.vx_plans.specs.Finding.{Candidate, IsCandidate, AreRising, AreCounted, IsUpTo, offers_of, is_damaged, is_damaged_one, first_that, missing_from, is_recorded, good_ones, member_of, members_of, IsBrokenBy, FindsConfig, FindsText, FindsAll, FindsOffer, Finds}
-use Rattle.vx_laws.specs.Returning.{SlotsRise, HasJustDisks, IsKeptOn, nobody, IsOfGood, IsOutdated, IsLeftBehind, good_members}
-use Rattle.vx_laws.proofs.Several.{at_found, at_test, clash, either, both_ways, is_equal, not_past, and_second, and_unless, guarded, any_with, any_map, any_all, all_map, all_all, all_filter, list_any_from, first_none, any_filter, all_mapped, any_mapped}
+use Rattle.vx_laws.specs.Returning.{SlotsRise, HasJustDisks, IsKeptOn, nobody, IsDeviceOf, IsOutdated, IsLeftBehind, good_members}
+use Rattle.vx_laws.proofs.Several.{at_found, at_test, clash, either, both_ways, is_equal, not_past, and_second, and_unless, guarded, any_gives, any_with, any_map, any_all, all_map, all_all, all_filter, all_filtered, list_any_from, first_none, any_filter, all_mapped, any_mapped}
 use Rattle.vx_laws.proofs.Orderless.{is_plain, all_permuted}
 use Rattle.vx_laws.proofs.Reread.{IsSpelled, all_with, spelled, none_broken, read_is}
 use Rattle.vx_laws.proofs.Recorded.{names_group as is_named, same_recorded, just_disks}
+use Rattle.vx_laws.proofs.Committed.{one_device}
 
 -- ---- what a device offers
 
@@ -61,37 +60,29 @@ current_short sequence good text contents current = (said_spells (contents 1) _ 
 abbrev IsUpToOffer : Offer → Option Offer → Type 0
 IsUpToOffer top o = (o ≡ Some top) ⊎ ((p : Offer) → o ≡ Some p → p.sequence < top.sequence)
 
-higher_up : (top : Offer) (a b : Option Offer) → IsUpToOffer top a → IsUpToOffer top b → IsUpToOffer top (higher a b)
-higher_up top None b up down = down
-higher_up top (Some x) None up down = up
-higher_up top (Some x) (Some y) up down = chosen (nat_lt x.sequence y.sequence)
-  where
-    chosen : (t : Bool) → IsUpToOffer top (if t then Some y else Some x)
-    chosen true = down
-    chosen false = up
-
-some_one : (a b : Offer) → Some a ≡ Some b → a ≡ b
-some_one a b e = cc
-
-not_below : (a b : ℕ) → a ≤ b → nat_lt b a ≡ false
-not_below a b h = grind (arith, nat_tests)
-
-is_less : (a b : ℕ) → a < b → nat_lt a b ≡ true
-is_less a b h = grind (arith, nat_tests)
-
 -- the top comes before what is no newer
 top_first : (top : Offer) (b : Option Offer) → IsUpToOffer top b → higher (Some top) b ≡ Some top
 top_first top None up = refl
-top_first top (Some y) up = ap (λ (t : Bool). if t then Some y else Some top) (not_below y.sequence top.sequence low)
-  where
-    low : y.sequence ≤ top.sequence
-    low = either (λ e. let s = ap (λ (o : Offer). o.sequence) (some_one y top e) in omega (arith, s)) (λ f. let s = f y refl in omega (arith, s)) up
+top_first top (Some y) up =
+    let low : y.sequence ≤ top.sequence = either (λ e. let same : y ≡ top = cc in let s = ap (λ (o : Offer). o.sequence) same in omega (arith, s)) (λ f. let s = f y refl in omega (arith, s)) up in
+    ap (λ (t : Bool). if t then Some y else Some top) (le-ltb top.sequence y.sequence low)
 
 -- and behind what is older
 top_behind : (top : Offer) (a : Option Offer) → IsUpToOffer top a → higher a (Some top) ≡ Some top
 top_behind top None up = refl
-top_behind top (Some x) (inl e) = ap (λ (o : Offer). higher (Some o) (Some top)) (some_one x top e) ∙ top_first top (Some top) (inl refl)
-top_behind top (Some x) (inr f) = ap (λ (t : Bool). if t then Some top else Some x) (is_less x.sequence top.sequence (f x refl))
+top_behind top (Some x) (inl e) = ap (λ (o : Option Offer). higher o (Some top)) e ∙ top_first top (Some top) (inl refl)
+top_behind top (Some x) (inr f) = ap (λ (t : Bool). if t then Some top else Some x) (lt-ltb x.sequence top.sequence (f x refl))
+
+higher_up : (top : Offer) (a b : Option Offer) → IsUpToOffer top a → IsUpToOffer top b → IsUpToOffer top (higher a b)
+higher_up top a b (inl e) up = inl (ap (λ (o : Option Offer). higher o b) e ∙ top_first top b up)
+higher_up top a b up (inl e) = inl (ap (λ (o : Option Offer). higher a o) e ∙ top_behind top a up)
+higher_up top None b up (inr f) = inr f
+higher_up top (Some x) None up down = up
+higher_up top (Some x) (Some y) (inr f) (inr g) = chosen (nat_lt x.sequence y.sequence)
+  where
+    chosen : (t : Bool) → IsUpToOffer top (if t then Some y else Some x)
+    chosen true = inr g
+    chosen false = inr f
 
 all_up : (top : Offer) (os : List (Option Offer)) → AllOf (IsUpToOffer top) os → IsUpToOffer top (highest os)
 all_up top [] all = inr (λ p e. cc)
@@ -104,22 +95,6 @@ highest_is top (o ∷ os) all (inr any) = ap (λ (x : Option Offer). higher o x)
 
 -- ---- members in the order of their slots
 
--- what holds of the one member of a slot, twice
-at_once : {R : Type 0} (P Q : Member → Type 0) (slot : ℕ) (ms : List Member) → SlotsRise ms → ((m : Member) → P m → m.slot ≡ slot) → ((m : Member) → Q m → m.slot ≡ slot) → ((m : Member) → P m → Q m → R) → AnyOf P ms → AnyOf Q ms → R
-at_once P Q slot [] rise here there on p q = absurd p
-at_once P Q slot (m ∷ ms) rise here there on (inl p) (inl q) = on m p q
-at_once P Q slot (m ∷ ms) rise here there on (inl p) (inr q) = any_with (λ n. m.slot < n.slot) Q ms (λ n lt is. let e = here m p in let f = there n is in absurd (omega (arith, lt, e, f))) rise.0 q
-at_once P Q slot (m ∷ ms) rise here there on (inr p) (inl q) = any_with (λ n. m.slot < n.slot) P ms (λ n lt is. let e = there m q in let f = here n is in absurd (omega (arith, lt, e, f))) rise.0 p
-at_once P Q slot (m ∷ ms) rise here there on (inr p) (inr q) = at_once P Q slot ms rise.1 here there on p q
-
-pub rise_filter : (test : Member → Bool) (ms : List Member) → SlotsRise ms → SlotsRise (filter test ms)
-rise_filter test [] rise = tt
-rise_filter test (m ∷ ms) rise = behind (test m) (rise_filter test ms rise.1)
-  where
-    behind : (b : Bool) → SlotsRise (filter test ms) → SlotsRise (cond b (m ∷ filter test ms) (filter test ms))
-    behind true rest = (all_filter test (λ n. m.slot < n.slot) ms (all_map (λ n. m.slot < n.slot) (λ n. test n ≡ true → m.slot < n.slot) ms (λ n lt on. lt) rise.0), rest)
-    behind false rest = rest
-
 -- the slots of some of the candidates rise where those of all do
 still_rise : (test : Candidate → Bool) (cs : List Candidate) → AreRising cs → SlotsRise (map member_of (filter test cs))
 still_rise test [] up = tt
@@ -130,80 +105,91 @@ still_rise test (c ∷ cs) up = behind (test c) (still_rise test cs up.1)
         (all_mapped member_of (λ n. c.label.slot < n.slot) (filter test cs) (all_filter test (λ x. c.label.slot < x.label.slot) cs (all_map (λ x. c.label.slot < x.label.slot) (λ x. test x ≡ true → c.label.slot < x.label.slot) cs (λ x lt on. lt) up.0)), rest)
     behind false rest = rest
 
--- all of these members are among those
+-- these members are among those, and have all their slots
 abbrev AreAmong : List Member → List Member → Type 0
 AreAmong ms ns = AllOf (λ m. AnyOf (λ n. m ≡ n) ns) ms
 
--- one that has a higher slot is among the others
-among_rest : (n : Member) (ms ns : List Member) → AllOf (λ m. n.slot < m.slot) ms → AreAmong ms (n ∷ ns) → AreAmong ms ns
-among_rest n ms ns low all =
-    all_all (λ m. n.slot < m.slot) (λ m. AnyOf (λ k. m ≡ k) (n ∷ ns)) (λ m. AnyOf (λ k. m ≡ k) ns) ms
-    (λ m lt any. either (λ e. let s = ap (λ (k : Member). k.slot) e in absurd (omega (arith, lt, s))) (λ rest. rest) any) low all
+abbrev HaveSlots : List Member → List Member → Type 0
+HaveSlots ms ns = AllOf (λ n. AnyOf (λ m. m.slot ≡ n.slot) ms) ns
 
--- none has a lower slot than the first
-first_low : (m : Member) (ms : List Member) (n : Member) → SlotsRise (m ∷ ms) → AnyOf (λ k. n ≡ k) (m ∷ ms) → m.slot ≤ n.slot
-first_low m ms n rise (inl e) = let s = ap (λ (k : Member). k.slot) e in omega (arith, s)
-first_low m ms n rise (inr any) = any_with (λ k. m.slot < k.slot) (λ k. n ≡ k) ms (λ k lt e. let s = ap (λ (j : Member). j.slot) e in omega (arith, lt, s)) rise.0 any
+-- the first of two such lists that rise is the same
+first_same : (m n : Member) (ms ns : List Member) → SlotsRise (m ∷ ms) → SlotsRise (n ∷ ns) → AnyOf (λ k. m ≡ k) (n ∷ ns) → AnyOf (λ k. k.slot ≡ n.slot) (m ∷ ms) → m ≡ n
+first_same m n ms ns up rise (inl e) back = e
+first_same m n ms ns up rise (inr any) back =
+    any_with (λ k. n.slot < k.slot) (λ k. m ≡ k) ns
+    (λ k lt e.
+    let s = ap (λ (j : Member). j.slot) e in
+    either (λ (f : m.slot ≡ n.slot). absurd (omega (arith, lt, s, f)))
+    (λ (rest : AnyOf (λ j. j.slot ≡ n.slot) ms). any_with (λ j. m.slot < j.slot) (λ j. j.slot ≡ n.slot) ms (λ j above f. absurd (omega (arith, lt, s, above, f))) up.0 rest) back)
+    rise.0 any
 
--- of two lists that rise and have the same members each is the other
-same_members : (ms ns : List Member) → SlotsRise ms → SlotsRise ns → AreAmong ms ns → AreAmong ns ms → ms ≡ ns
+-- and so are all
+same_members : (ms ns : List Member) → SlotsRise ms → SlotsRise ns → AreAmong ms ns → HaveSlots ms ns → ms ≡ ns
 same_members [] [] up rise there back = refl
 same_members [] (n ∷ ns) up rise there back = absurd back.0
 same_members (m ∷ ms) [] up rise there back = absurd there.0
 same_members (m ∷ ms) (n ∷ ns) up rise there back =
-    let low = first_low n ns m rise there.0 in
-    let high = first_low m ms n up back.0 in
-    let one : m ≡ n =
-    either (λ (e : m ≡ n). e)
-    (λ (any : AnyOf (λ k. m ≡ k) ns). any_with (λ k. n.slot < k.slot) (λ k. m ≡ k) ns (λ k lt e. let s = ap (λ (j : Member). j.slot) e in absurd (omega (arith, lt, s, high))) rise.0 any)
-    there.0 in
+    let one : m ≡ n = first_same m n ms ns up rise there.0 back.0 in
+    let s = ap (λ (k : Member). k.slot) one in
     let more : ms ≡ ns =
-    same_members ms ns up.1 rise.1 (among_rest n ms ns (subst (λ (k : Member). AllOf (λ j. k.slot < j.slot) ms) one up.0) there.1)
-    (among_rest m ns ms (subst (λ (k : Member). AllOf (λ j. k.slot < j.slot) ns) (sym one) rise.0) back.1) in
+    same_members ms ns up.1 rise.1
+    (all_all (λ k. m.slot < k.slot) (λ k. AnyOf (λ j. k ≡ j) (n ∷ ns)) (λ k. AnyOf (λ j. k ≡ j) ns) ms (λ k lt any. either (λ e. let t = ap (λ (j : Member). j.slot) e in absurd (omega (arith, lt, s, t))) (λ rest. rest) any) up.0 there.1)
+    (all_all (λ k. n.slot < k.slot) (λ k. AnyOf (λ j. j.slot ≡ k.slot) (m ∷ ms)) (λ k. AnyOf (λ j. j.slot ≡ k.slot) ms) ns (λ k lt any. either (λ e. absurd (omega (arith, lt, s, e))) (λ rest. rest) any) rise.0 back.1) in
     cc
 
 -- ---- the devices that count
 
--- the candidate is the member's device, on which the group is kept
-pub record IsDeviceOf (g : Group) (text : List ℕ) (c : Candidate) (m : Member) : Type 0 where
-  pub good : has g.good m.slot ≡ true
-  pub name : m.device ≡ c.name
-  pub label : c.label ≡ label_of g.config.group m c.device
-  pub recorded : is_recorded g.config c.label ≡ true
-  pub current : IsCurrent g.sequence g.good text c.device.contents
+-- the candidate is this member's device, on which the group is kept
+record IsKeptFor (g : Group) (text : List ℕ) (c : Candidate) (m : Member) : Type 0 where
+  member : member_of c ≡ m
+  recorded : is_recorded g.config c.label ≡ true
+  current : IsCurrent g.sequence g.good text c.device.contents
 
-one_device : (devices : Word → Option Device) (a b : Word) (c d : Device) → a ≡ b → devices a ≡ Some d → devices b ≡ Some c → d ≡ c
-one_device devices a b c d e f h = let same : devices a ≡ devices b = ap devices e in cc
+-- the candidate is a good member's device
+record IsMine (g : Group) (text : List ℕ) (c : Candidate) : Type 0 where
+  member : AnyOf (λ m. member_of c ≡ m) (good_members g)
+  recorded : is_recorded g.config c.label ≡ true
+  current : IsCurrent g.sequence g.good text c.device.contents
+
+-- it is, or it is outdated
+abbrev IsSorted : Group → List ℕ → Candidate → Type 0
+IsSorted g text c = IsMine g text c ⊎ IsOutdated g c
 
 one_label : (o : Option Label) (a b : Label) → o ≡ Some a → o ≡ Some b → a ≡ b
 one_label o a b e f = cc
 
-module _ (g : Group) (w : World) (left : IsLeftBehind g w) where
-  own_device : (c : Candidate) → IsCandidate g.config.group nobody w c → (m : Member) → has g.good m.slot ≡ true → m.device ≡ c.name → IsKeptOn g left.text w m → IsDeviceOf g left.text c m
-  own_device c is m on name k =
-      let same : k.device ≡ c.device = one_device w.devices m.device c.name c.device k.device name k.device_is is.device_is in
-      let header : header_of (c.device.contents 0) ≡ Some (label_of g.config.group m c.device) = subst (λ (d : Device). header_of (d.contents 0) ≡ Some (label_of g.config.group m d)) same k.header in
-      let label : c.label ≡ label_of g.config.group m c.device = one_label (header_of (c.device.contents 0)) c.label (label_of g.config.group m c.device) is.header header in
-      record {
-        good = on;
-        name = name;
-        label = label;
-        recorded = subst (λ (l : Label). is_recorded g.config l ≡ true) (sym label) (subst (λ (d : Device). is_recorded g.config (label_of g.config.group m d) ≡ true) same k.recorded);
-        current = subst (λ (d : Device). IsCurrent g.sequence g.good left.text d.contents) same k.current;
-      }
+kept_for : (g : Group) (w : World) (text : List ℕ) (c : Candidate) → IsCandidate g.config.group nobody w c → (m : Member) → IsKeptOn g text w m → m.device ≡ c.name → IsKeptFor g text c m
+kept_for g w text c is m k name =
+    let same : k.device ≡ c.device = one_device (w.devices c.name) k.device c.device (ap w.devices (sym name) ∙ k.device_is) is.device_is in
+    let label : c.label ≡ label_of g.config.group m k.device = one_label (header_of (k.device.contents 0)) c.label (label_of g.config.group m k.device) (ap (λ (d : Device). header_of (d.contents 0)) same ∙ is.header) k.header in
+    let slot = ap (λ (l : Label). l.slot) label in
+    let disk = ap (λ (l : Label). l.disk) label in
+    record {
+      member = λ i. record { device = sym name i; disk = disk i; slot = slot i };
+      recorded = subst (λ (l : Label). is_recorded g.config l ≡ true) (sym label) k.recorded;
+      current = subst (λ (d : Device). IsCurrent g.sequence g.good text d.contents) same k.current;
+    }
 
-  -- a candidate is a good member's device, or outdated
-  pub sorted : (c : Candidate) → IsCandidate g.config.group nobody w c → AnyOf (IsDeviceOf g left.text c) g.members ⊎ IsOutdated g c
+mine_by : (g : Group) (text : List ℕ) (c : Candidate) → AnyOf (IsKeptFor g text c) (good_members g) → IsMine g text c
+mine_by g text c any = record {
+  member = any_map (IsKeptFor g text c) (λ m. member_of c ≡ m) (good_members g) (λ m k. k.member) any;
+  recorded = any_gives (IsKeptFor g text c) (good_members g) (λ m k. k.recorded) any;
+  current = any_gives (IsKeptFor g text c) (good_members g) (λ m k. k.current) any;
+}
+
+-- one of a good slot is a good member's
+mine_if_good : (g : Group) (text : List ℕ) (c : Candidate) → IsSorted g text c → has g.good c.label.slot ≡ true → IsMine g text c
+mine_if_good g text c (inl mine) on = mine
+mine_if_good g text c (inr old) on = both_ways (has g.good c.label.slot) on old.slot
+
+module _ (g : Group) (w : World) (left : IsLeftBehind g w) where
+  sorted : (c : Candidate) → IsCandidate g.config.group nobody w c → IsSorted g left.text c
   sorted c is =
       either
-      (λ (any : IsOfGood g c).
-      inl (any_all (λ m. has g.good m.slot ≡ true → IsKeptOn g left.text w m) (λ m. (has g.good m.slot ≡ true) × (m.device ≡ c.name)) (IsDeviceOf g left.text c) g.members (λ m kept at. own_device c is m at.0 at.1 (kept at.0)) left.kept any))
+      (λ (any : IsDeviceOf (good_members g) c.name). inl (mine_by g left.text c (any_all (IsKeptOn g left.text w) (λ m. m.device ≡ c.name) (IsKeptFor g left.text c) (good_members g) (λ m k at. kept_for g w left.text c is m k at) left.kept any)))
       (λ (old : IsOutdated g c). inr old) (left.others c is)
 
-  -- one of a good slot is a good member's
-  good_is : (c : Candidate) → AnyOf (IsDeviceOf g left.text c) g.members ⊎ IsOutdated g c → has g.good c.label.slot ≡ true → AnyOf (IsDeviceOf g left.text c) g.members
-  good_is c (inl any) on = any
-  good_is c (inr old) on = both_ways (has g.good c.label.slot) on old.slot
+  -- ---- the configuration
 
   -- the text spells the records of the configuration
   pub in_text : IsSpelled g.config left.text
@@ -212,8 +198,8 @@ module _ (g : Group) (w : World) (left : IsLeftBehind g w) where
   pub same_objects : (config : Config) → objects_of config ≡ in_text.os → IsPermutation (objects_of g.config) (objects_of config)
   same_objects config e = subst (λ (os : List Object). IsPermutation (objects_of g.config) os) (sym e) in_text.are.same
 
-  plain_objects : (config : Config) → objects_of config ≡ in_text.os → list_all is_plain (objects_of config) ≡ true
-  plain_objects config e = subst (λ (os : List Object). list_all is_plain os ≡ true) (sym e) in_text.are.plain
+  pub disks_alone : (config : Config) → objects_of config ≡ in_text.os → HasJustDisks config
+  disks_alone config e = just_disks config (subst (λ (os : List Object). list_all is_plain os ≡ true) (sym e) in_text.are.plain)
 
   -- a configuration of the same records has the group's name
   pub named : (config : Config) → objects_of config ≡ in_text.os → bytes_eq config.group g.config.group ≡ true
@@ -222,29 +208,15 @@ module _ (g : Group) (w : World) (left : IsLeftBehind g w) where
       all_permuted (is_named g.config.group) (objects_of g.config) (objects_of config) (same_objects config e) (all_with g.config left.just_disks (is_named g.config.group) (bytes_eq_self g.config.group) (λ d. refl)) in
       (and_parts (bytes_eq config.group g.config.group) _ names).0
 
-  pub disks_alone : (config : Config) (e : objects_of config ≡ in_text.os) → HasJustDisks config
-  disks_alone config e = just_disks config (plain_objects config e)
-
-slot_of : (g : Group) (text : List ℕ) (c : Candidate) (m : Member) → IsDeviceOf g text c m → m.slot ≡ c.label.slot
-slot_of g text c m is = sym (ap (λ (l : Label). l.slot) is.label)
-
-member_is : (g : Group) (text : List ℕ) (c : Candidate) (m : Member) → IsDeviceOf g text c m → member_of c ≡ m
-member_is g text c m is =
-    let slot = ap (λ (l : Label). l.slot) is.label in
-    let disk = ap (λ (l : Label). l.disk) is.label in
-    let name = sym is.name in
-    λ i. record { device = name i; disk = disk i; slot = slot i }
-
 module _ (g : Group) (w : World) (left : IsLeftBehind g w) (cs : List Candidate) (count : AreCounted g.config.group nobody w cs) where
-  all_sorted : AllOf (λ c. AnyOf (IsDeviceOf g left.text c) g.members ⊎ IsOutdated g c) cs
-  all_sorted = all_map (IsCandidate g.config.group nobody w) (λ c. AnyOf (IsDeviceOf g left.text c) g.members ⊎ IsOutdated g c) cs (λ c is. sorted g w left c is) count.each
+  all_sorted : AllOf (IsSorted g left.text) cs
+  all_sorted = all_map (IsCandidate g.config.group nobody w) (IsSorted g left.text) cs (λ c is. sorted g w left c is) count.each
 
   -- each good member's slot has a candidate
-  each_counted : AllOf (λ m. has g.good m.slot ≡ true → AnyOf (λ c. c.label.slot ≡ m.slot) cs) g.members
+  each_counted : AllOf (λ m. AnyOf (λ c. c.label.slot ≡ m.slot) cs) (good_members g)
   each_counted =
-      all_map (λ m. has g.good m.slot ≡ true → IsKeptOn g left.text w m) (λ m. has g.good m.slot ≡ true → AnyOf (λ c. c.label.slot ≡ m.slot) cs) g.members
-      (λ m kept on.
-      let k = kept on in
+      all_map (IsKeptOn g left.text w) (λ m. AnyOf (λ c. c.label.slot ≡ m.slot) cs) (good_members g)
+      (λ m k.
       let own : Candidate = record { name = m.device; device = k.device; label = label_of g.config.group m k.device } in
       any_map (λ d. (d.label.slot ≡ m.slot) × IsUpTo d.name m.device) (λ c. c.label.slot ≡ m.slot) cs (λ c h. h.0)
       (count.first own (record { free = k.free; device_is = k.device_is; present = refl; header = k.header; group_is = refl; size = refl })))
@@ -252,70 +224,47 @@ module _ (g : Group) (w : World) (left : IsLeftBehind g w) (cs : List Candidate)
 
   slot_counted : (slot : ℕ) → has g.good slot ≡ true → AnyOf (λ c. c.label.slot ≡ slot) cs
   slot_counted slot is =
-      any_with (λ m. has g.good m.slot ≡ true → AnyOf (λ c. c.label.slot ≡ m.slot) cs) (λ m. m.slot ≡ slot) g.members
-      (λ m on e. subst (λ (s : ℕ). AnyOf (λ c. c.label.slot ≡ s) cs) e (on (subst (λ (s : ℕ). has g.good s ≡ true) (sym e) is)))
-      each_counted (left.placed slot is)
-
-  -- and this candidate is a good member's device
-  member_counted : (slot : ℕ) → has g.good slot ≡ true → AnyOf (λ c. (c.label.slot ≡ slot) × AnyOf (IsDeviceOf g left.text c) g.members) cs
-  member_counted slot is =
-      any_all (λ c. AnyOf (IsDeviceOf g left.text c) g.members ⊎ IsOutdated g c) (λ c. c.label.slot ≡ slot) (λ c. (c.label.slot ≡ slot) × AnyOf (IsDeviceOf g left.text c) g.members) cs
-      (λ c either_one e. (e, good_is g w left c either_one (subst (λ (s : ℕ). has g.good s ≡ true) (sym e) is)))
-      all_sorted (slot_counted slot is)
+      any_with (λ m. AnyOf (λ c. c.label.slot ≡ m.slot) cs) (λ m. m.slot ≡ slot) (good_members g)
+      (λ m any e. subst (λ (s : ℕ). AnyOf (λ c. c.label.slot ≡ s) cs) e any) each_counted (left.placed slot is)
 
   -- ---- the offer
 
   abbrev pub top : Offer
   top = record { sequence = g.sequence; good = g.good; text = left.text }
 
-  offers_top : (c : Candidate) → IsCandidate g.config.group nobody w c → AnyOf (IsDeviceOf g left.text c) g.members → offer_in g.config.group c.device.contents ≡ Some top
-  offers_top c is any =
-      any_with (λ m. Unit {0}) (IsDeviceOf g left.text c) g.members
-      (λ m u own. offer_is g.config.group g.sequence g.good left.text c.device.contents c.label is.header is.group_is own.current) (units g.members) any
-    where
-      units : (ms : List Member) → AllOf (λ m. Unit {0}) ms
-      units [] = tt
-      units (m ∷ ms) = (tt, units ms)
+  offers_top : (c : Candidate) → IsCandidate g.config.group nobody w c → IsMine g left.text c → offer_in g.config.group c.device.contents ≡ Some top
+  offers_top c is mine = offer_is g.config.group g.sequence g.good left.text c.device.contents c.label is.header is.group_is mine.current
 
-  up_to : (c : Candidate) → IsCandidate g.config.group nobody w c → AnyOf (IsDeviceOf g left.text c) g.members ⊎ IsOutdated g c → IsUpToOffer top (offer_in g.config.group c.device.contents)
-  up_to c is (inl any) = inl (offers_top c is any)
-  up_to c is (inr old) = inr (λ p e. old.older p e)
+  up_to : (c : Candidate) → IsCandidate g.config.group nobody w c → IsSorted g left.text c → IsUpToOffer top (offer_in g.config.group c.device.contents)
+  up_to c is (inl mine) = inl (offers_top c is mine)
+  up_to c is (inr old) = inr old.older
 
-  -- some slot is good
-  one_slot : (slot : ℕ) × (has g.good slot ≡ true)
-  one_slot = of g.members left.some_good
+  one_mine : AnyOf (IsMine g left.text) cs
+  one_mine = of (good_members g) left.some (all_filtered (λ m. has g.good m.slot) g.members)
     where
-      of : (ms : List Member) → AnyOf (λ m. has g.good m.slot ≡ true) ms → (slot : ℕ) × (has g.good slot ≡ true)
-      of [] any = absurd any
-      of (m ∷ ms) (inl here) = (m.slot, here)
-      of (m ∷ ms) (inr any) = of ms any
+      of : (ms : List Member) → (ms ≡ [] → ⊥) → AllOf (λ m. has g.good m.slot ≡ true) ms → AnyOf (IsMine g left.text) cs
+      of [] some good = absurd (some refl)
+      of (m ∷ ms) some good =
+          any_all (IsSorted g left.text) (λ c. c.label.slot ≡ m.slot) (IsMine g left.text) cs
+          (λ c sort e. mine_if_good g left.text c sort (subst (λ (s : ℕ). has g.good s ≡ true) (sym e) good.0)) all_sorted (slot_counted m.slot good.0)
 
   offered : highest (offers_of g.config.group nobody cs) ≡ Some top
   offered =
+      let Offers : Candidate → Option Offer = λ c. if nobody c.name then None else offer_in g.config.group c.device.contents in
       highest_is top (offers_of g.config.group nobody cs)
-      (all_mapped (λ c. if nobody c.name then None else offer_in g.config.group c.device.contents) (IsUpToOffer top) cs
-      (all_all (IsCandidate g.config.group nobody w) (λ c. AnyOf (IsDeviceOf g left.text c) g.members ⊎ IsOutdated g c) (λ c. IsUpToOffer top (offer_in g.config.group c.device.contents)) cs (λ c is one. up_to c is one) count.each all_sorted))
-      (any_mapped (λ c. if nobody c.name then None else offer_in g.config.group c.device.contents) (λ o. o ≡ Some top) cs
-      (any_all (IsCandidate g.config.group nobody w) (λ c. (c.label.slot ≡ one_slot.0) × AnyOf (IsDeviceOf g left.text c) g.members) (λ c. offer_in g.config.group c.device.contents ≡ Some top) cs (λ c is h. offers_top c is h.1) count.each (member_counted one_slot.0 one_slot.1)))
+      (all_mapped Offers (IsUpToOffer top) cs (all_all (IsCandidate g.config.group nobody w) (IsSorted g left.text) (λ c. IsUpToOffer top (Offers c)) cs (λ c is sort. up_to c is sort) count.each all_sorted))
+      (any_mapped Offers (λ o. o ≡ Some top) cs (any_all (IsCandidate g.config.group nobody w) (IsMine g left.text) (λ c. Offers c ≡ Some top) cs (λ c is mine. offers_top c is mine) count.each one_mine))
 
   -- ---- nothing is damaged, missing or not recorded
-
-  whole_one : (c : Candidate) → AnyOf (IsDeviceOf g left.text c) g.members ⊎ IsOutdated g c → is_damaged_one nobody (λ c. has g.good c.label.slot) c ≡ false
-  whole_one c one =
-      and_unless (is_damaged c.device) (has g.good c.label.slot)
-      (λ on.
-      and_second (not (bytes_eq (c.device.contents 1) (replicate 512 0))) (is_none (toggle_of (c.device.contents 1)))
-      (any_toggle g.members (good_is g w left c one on)))
-    where
-      any_toggle : (ms : List Member) → AnyOf (IsDeviceOf g left.text c) ms → is_none (toggle_of (c.device.contents 1)) ≡ false
-      any_toggle [] any = absurd any
-      any_toggle (m ∷ ms) (inl own) = has_toggle g.sequence g.good left.text c.device.contents own.current
-      any_toggle (m ∷ ms) (inr any) = any_toggle ms any
 
   undamaged : first_that (is_damaged_one nobody (λ c. has g.good c.label.slot)) cs ≡ None
   undamaged =
       first_none (is_damaged_one nobody (λ c. has g.good c.label.slot)) cs
-      (all_map (λ c. AnyOf (IsDeviceOf g left.text c) g.members ⊎ IsOutdated g c) (λ c. is_damaged_one nobody (λ c. has g.good c.label.slot) c ≡ false) cs (λ c one. whole_one c one) all_sorted)
+      (all_map (IsSorted g left.text) (λ c. is_damaged_one nobody (λ c. has g.good c.label.slot) c ≡ false) cs
+      (λ c sort.
+      and_unless (is_damaged c.device) (has g.good c.label.slot)
+      (λ on. and_second (not (bytes_eq (c.device.contents 1) (replicate 512 0))) (is_none (toggle_of (c.device.contents 1))) (has_toggle g.sequence g.good left.text c.device.contents (mine_if_good g left.text c sort on).current)))
+      all_sorted)
 
   none_missing : (n slot : ℕ) → missing_from n slot g.good nobody cs ≡ None
   none_missing zero slot = refl
@@ -324,52 +273,30 @@ module _ (g : Group) (w : World) (left : IsLeftBehind g w) (cs : List Candidate)
       (guarded (has g.good slot) _ (λ on. list_any_from (λ c. c.label.slot == slot) (λ c. c.label.slot ≡ slot) cs (λ c e. is_equal c.label.slot slot e) (slot_counted slot on)))
       ∙ none_missing n (slot + 1)
 
-  recorded_one : (config : Config) → IsPermutation (objects_of g.config) (objects_of config) → (c : Candidate) → AnyOf (IsDeviceOf g left.text c) g.members → is_recorded config c.label ≡ true
-  recorded_one config same c any = of g.members any
-    where
-      of : (ms : List Member) → AnyOf (IsDeviceOf g left.text c) ms → is_recorded config c.label ≡ true
-      of [] none = absurd none
-      of (m ∷ ms) (inl own) = same_recorded g.config config c.label same own.recorded
-      of (m ∷ ms) (inr rest) = of ms rest
-
   all_recorded : (config : Config) → IsPermutation (objects_of g.config) (objects_of config) → first_that (λ c. not (is_recorded config c.label)) (good_ones g.good cs) ≡ None
   all_recorded config same =
       first_none (λ c. not (is_recorded config c.label)) (good_ones g.good cs)
       (all_filter (λ c. has g.good c.label.slot) (λ c. not (is_recorded config c.label) ≡ false) cs
-      (all_map (λ c. AnyOf (IsDeviceOf g left.text c) g.members ⊎ IsOutdated g c) (λ c. has g.good c.label.slot ≡ true → not (is_recorded config c.label) ≡ false) cs (λ c one on. ap not (recorded_one config same c (good_is g w left c one on))) all_sorted))
+      (all_map (IsSorted g left.text) (λ c. has g.good c.label.slot ≡ true → not (is_recorded config c.label) ≡ false) cs (λ c sort on. ap not (same_recorded g.config config c.label same (mine_if_good g left.text c sort on).recorded)) all_sorted))
 
   -- ---- the good members
 
   pub members_back : members_of g.good cs ≡ good_members g
   members_back =
-      same_members (members_of g.good cs) (good_members g) (still_rise (λ c. has g.good c.label.slot) cs count.rising) (rise_filter (λ m. has g.good m.slot) g.members left.rising)
+      same_members (members_of g.good cs) (good_members g) (still_rise (λ c. has g.good c.label.slot) cs count.rising) left.rising
       (all_mapped member_of (λ m. AnyOf (λ n. m ≡ n) (good_members g)) (good_ones g.good cs)
       (all_filter (λ c. has g.good c.label.slot) (λ c. AnyOf (λ n. member_of c ≡ n) (good_members g)) cs
-      (all_map (λ c. AnyOf (IsDeviceOf g left.text c) g.members ⊎ IsOutdated g c) (λ c. has g.good c.label.slot ≡ true → AnyOf (λ n. member_of c ≡ n) (good_members g)) cs
-      (λ c one on.
-      any_map (IsDeviceOf g left.text c) (λ n. member_of c ≡ n) (good_members g) (λ n own. member_is g left.text c n own)
-      (any_filter (λ m. has g.good m.slot) (IsDeviceOf g left.text c) g.members (λ m own. own.good) (good_is g w left c one on))) all_sorted)))
-      (all_filter (λ m. has g.good m.slot) (λ m. AnyOf (λ n. m ≡ n) (members_of g.good cs)) g.members (each_back g.members (λ m any. any)))
-    where
-      mine : (m : Member) → AnyOf (λ n. n ≡ m) g.members → has g.good m.slot ≡ true → AnyOf (λ n. m ≡ n) (members_of g.good cs)
-      mine m among on =
-          any_mapped member_of (λ n. m ≡ n) (good_ones g.good cs)
-          (any_map (λ c. (has g.good c.label.slot ≡ true) × (m ≡ member_of c)) (λ c. m ≡ member_of c) (good_ones g.good cs) (λ c h. h.1)
-          (any_filter (λ c. has g.good c.label.slot) (λ c. (has g.good c.label.slot ≡ true) × (m ≡ member_of c)) cs (λ c h. h.0)
-          (any_map (λ c. (c.label.slot ≡ m.slot) × AnyOf (IsDeviceOf g left.text c) g.members) (λ c. (has g.good c.label.slot ≡ true) × (m ≡ member_of c)) cs
-          (λ c h.
-          (subst (λ (s : ℕ). has g.good s ≡ true) (sym h.0) on,
-          at_once (λ n. n ≡ m) (IsDeviceOf g left.text c) m.slot g.members left.rising (λ n e. ap (λ (k : Member). k.slot) e) (λ n own. slot_of g left.text c n own ∙ h.0) (λ n e own. sym e ∙ sym (member_is g left.text c n own)) among h.1))
-          (member_counted m.slot on))))
-
-      each_back : (ms : List Member) → ((m : Member) → AnyOf (λ n. n ≡ m) ms → AnyOf (λ n. n ≡ m) g.members) → AllOf (λ m. has g.good m.slot ≡ true → AnyOf (λ n. m ≡ n) (members_of g.good cs)) ms
-      each_back [] inside = tt
-      each_back (m ∷ ms) inside = (λ on. mine m (inside m (inl refl)) on, each_back ms (λ n any. inside n (inr any)))
+      (all_map (IsSorted g left.text) (λ c. has g.good c.label.slot ≡ true → AnyOf (λ n. member_of c ≡ n) (good_members g)) cs (λ c sort on. (mine_if_good g left.text c sort on).member) all_sorted)))
+      (all_map (λ m. has g.good m.slot ≡ true) (λ n. AnyOf (λ m. m.slot ≡ n.slot) (members_of g.good cs)) (good_members g)
+      (λ n on.
+      any_mapped member_of (λ m. m.slot ≡ n.slot) (good_ones g.good cs)
+      (any_filter (λ c. has g.good c.label.slot) (λ c. c.label.slot ≡ n.slot) cs (λ c e. subst (λ (s : ℕ). has g.good s ≡ true) (sym e) on) (slot_counted n.slot on)))
+      (all_filtered (λ m. has g.good m.slot) g.members))
 
   -- ---- what is found
 
   module _ (Refused : Refusal → Type 0) (Taken : Offer → Config → Type 0) where
-    -- the configuration is taken, of the same records
+    -- a configuration of the same records is taken
     abbrev pub IsTaken : Type 0
     IsTaken = (config : Config) × (objects_of config ≡ (in_text g w left).os) × Taken top config
 

@@ -1,5 +1,6 @@
--- A command of a plan that is done: each of its stages was.
-use Rattle.std.proofs.Common.{◌≡◌, ℕ, List, [], ◌∷◌, ◌++◌, Option, Some, None, MatchOption, sym, ◌∙◌, ap, subst, inl, inr}
+-- A command of a plan that is done: each of its stages was, and what went well as a whole went well in each.
+use Rattle.std.proofs.Common.{◌≡◌, ℕ, ◌≤◌, Bool, true, false, List, [], ◌∷◌, ◌++◌, Option, MatchOption, refl, sym, subst, inl, inr, arith}
+use Rattle.std.specs.Prelude.{IsTrue}
 use Rattle.vx_base.specs.Named.{Word}
 use Rattle.vx_script_words.specs.declared.value.DiskAt.{DiskAt}
 use Rattle.vx_script_forms.specs.declared.form.Form.{Form}
@@ -10,9 +11,8 @@ use Rattle.vx_answers.specs.declared.answer.End.{End}
 use Rattle.vx_answers.specs.declared.answer.End.TheVariants as ends
 use Rattle.vx_answers.specs.declared.answer.View.{View}
 use Rattle.vx_answers.specs.declared.refusal.Refusal.{Refusal}
-use Rattle.vx_moments.specs.Moment.{Moment, Counts}
-use Rattle.vx_moments.specs.World.{World}
-use Rattle.vx_moments.specs.Commit.{Writing, IsStopped}
+use Rattle.vx_moments.specs.Moment.{Moment, Counts, AreLater, IsQuiet}
+use Rattle.vx_moments.specs.Commit.{Writing, NoneFailed, IsStopped}
 use Rattle.vx_plans.specs.Laws.{WentWell}
 use Rattle.vx_plans.specs.Records.{devices_of}
 use Rattle.vx_plans.specs.Stages.{IsDone, Stops, DeviceEnds, FailsAt, TakingStops, LookingStops, fault_of, lost}
@@ -21,7 +21,7 @@ use Rattle.vx_plans.specs.declared.stages.Finish.{Finish}
 use Rattle.vx_plans.specs.declared.stages.Finish.TheVariants.{Nothing}
 use Rattle.vx_plans.specs.declared.stage.Stage.{Stage}
 use Rattle.vx_plans.specs.declared.stage.Stage.TheVariants as stage
-use Rattle.vx_plans.proofs.Calm.{well_after}
+use Rattle.vx_plans.proofs.Calm.{calm, well_after}
 use Rattle.vx_plans.proofs.Complete.{runs_later}
 use Rattle.vx_laws.specs.Returning.{IsOf, is_done}
 
@@ -132,3 +132,40 @@ pub served : (place : ℕ) (c : Command) (f : Form) (old : Moment) (answer : Ans
 served place c f old answer new is step =
     subst (λ (x : Form). Serves (DoesForm place c.group x) old answer new) is.form_is
     (subst (λ (o : Option ℕ). Serves (λ from views end to. MatchOption o (DoesForm place c.group c.form from views end to) (λ n. IsNotBuilt from views end to)) old answer new) is.uncut step)
+
+-- ---- what went well
+
+up_to : (a b c : ℕ) → a ≤ b → b ≤ c → c ≡ a → b ≡ a
+up_to a b c low high same = omega arith
+
+room : (b c top : ℕ) → b ≤ c → c ≤ top → b ≤ top
+room b c top low high = omega arith
+
+still_on : (b c : Bool) → (IsTrue b → IsTrue c) → c ≡ false → b ≡ false
+still_on false c goes off = refl
+still_on true true goes off = off
+still_on true false goes off = sym (goes refl)
+
+pub well_before : (old mid new : Moment) → AreLater old.counts mid.counts → AreLater mid.counts new.counts → WentWell old new → WentWell old mid
+well_before old mid new first next well = record {
+  quiet = record {
+    devices = λ name. up_to (old.counts.faults name) (mid.counts.faults name) (new.counts.faults name) (first.faults name) (next.faults name) (well.quiet.devices name);
+    shelf = up_to old.counts.shelf mid.counts.shelf new.counts.shelf first.shelf next.shelf well.quiet.shelf;
+  };
+  powered = λ name. still_on (mid.counts.cut name) (new.counts.cut name) (next.cut name) (well.powered name);
+  room = λ name. room (mid.counts.faults name) (new.counts.faults name) 18446744073709551614 (next.faults name) (well.room name);
+  shelf_room = room mid.counts.shelf new.counts.shelf 18446744073709551614 next.shelf well.shelf_room;
+}
+
+-- the world does not count
+pub same_well : (old mid new : Moment) → new.counts ≡ mid.counts → WentWell old new → WentWell old mid
+same_well old mid new same well =
+    let Well : Counts → Type 0 = λ c. WentWell old (record { world = mid.world; counts = c }) in
+    subst Well same (record { quiet = well.quiet; powered = well.powered; room = well.room; shelf_room = well.shelf_room })
+
+pub none_failed : (old new : Moment) → WentWell old new → NoneFailed old.counts new.counts
+none_failed old new well name failed = calm old new well name failed
+
+pub well_from : (old mid new : Moment) → mid.counts ≡ old.counts → WentWell old new → WentWell mid new
+well_from old mid new same well =
+    record { quiet = subst (λ (c : Counts). IsQuiet c new.counts) (sym same) well.quiet; powered = well.powered; room = well.room; shelf_room = well.shelf_room }

@@ -1,5 +1,5 @@
 -- Tests, and what holds of the members of a list.
-use Rattle.std.proofs.Common.{◌≡◌, ◌⊎◌, ℕ, ◌<◌, ◌≤◌, Bool, true, false, not, cond, ◌&&◌, ◌||◌, ◌==◌, List, [], ◌∷◌, ◌++◌, map, Option, Some, None, refl, sym, ◌∙◌, ap, subst, inl, inr, arith, nat_lt}
+use Rattle.std.proofs.Common.{◌≡◌, ◌⊎◌, ℕ, ◌≤◌, Bool, true, false, not, cond, ◌&&◌, ◌||◌, ◌==◌, List, [], ◌∷◌, ◌++◌, map, Option, Some, None, refl, sym, ◌∙◌, ap, subst, inl, inr, arith, nat_lt}
 use Rattle.std.specs.Prelude.{MatchBool, MatchOption}
 use Rattle.std.specs.List.{list_any, filter}
 use Rattle.std.proofs.lemmas.Bool.Decides.{nat_tests}
@@ -28,21 +28,11 @@ pub both_ways : {Q : Type 0} (b : Bool) → b ≡ true → b ≡ false → Q
 both_ways true p q = cc
 both_ways false p q = cc
 
-pub true_or_false : (b : Bool) → (b ≡ true) ⊎ (b ≡ false)
-true_or_false true = inl refl
-true_or_false false = inr refl
-
 pub is_equal : (a b : ℕ) → a ≡ b → (a == b) ≡ true
 is_equal a b h = grind (arith, nat_tests)
 
 pub equal_is : (a b : ℕ) → (a == b) ≡ true → a ≡ b
 equal_is a b h = grind (arith, nat_tests)
-
-pub is_below : (a b : ℕ) → a < b → (a == b) ≡ false
-is_below a b h = grind (arith, nat_tests)
-
-pub is_above : (a b : ℕ) → b < a → (a == b) ≡ false
-is_above a b h = grind (arith, nat_tests)
 
 pub not_past : (a b : ℕ) → b ≤ a → nat_lt a b ≡ false
 not_past a b h = grind (arith, nat_tests)
@@ -54,10 +44,6 @@ or_first false b e = cc
 pub or_second : (a b : Bool) → b ≡ true → (a || b) ≡ true
 or_second true b e = refl
 or_second false b e = e
-
-pub or_behind : (a b : Bool) → a ≡ false → (a || b) ≡ b
-or_behind true b e = cc
-or_behind false b e = refl
 
 pub or_neither : (a b : Bool) → a ≡ false → b ≡ false → (a || b) ≡ false
 or_neither true b e f = cc
@@ -76,10 +62,6 @@ pub guarded : (a b : Bool) → (a ≡ true → b ≡ true) → (a && not b) ≡ 
 guarded true b h = ap not (h refl)
 guarded false b h = refl
 
-pub not_so : (a b : Bool) → (a ≡ true → b ≡ true) → b ≡ false → a ≡ false
-not_so true b h e = both_ways b (h refl) e
-not_so false b h e = refl
-
 -- two tests that pass each where the other does
 pub alike : (a b : Bool) → (a ≡ true → b ≡ true) → (b ≡ true → a ≡ true) → a ≡ b
 alike true b h k = sym (h refl)
@@ -93,6 +75,11 @@ module _ {X : Type 0} where
   any_with P Q [] on all any = absurd any
   any_with P Q (x ∷ xs) on all (inl here) = on x all.0 here
   any_with P Q (x ∷ xs) on all (inr any) = any_with P Q xs on all.1 any
+
+  pub any_gives : {R : Type 0} (P : X → Type 0) (xs : List X) → ((x : X) → P x → R) → AnyOf P xs → R
+  any_gives P [] on any = absurd any
+  any_gives P (x ∷ xs) on (inl here) = on x here
+  any_gives P (x ∷ xs) on (inr any) = any_gives P xs on any
 
   pub any_map : (P Q : X → Type 0) (xs : List X) → ((x : X) → P x → Q x) → AnyOf P xs → AnyOf Q xs
   any_map P Q [] on any = absurd any
@@ -116,6 +103,11 @@ module _ {X : Type 0} where
   all_from P [] on = tt
   all_from P (x ∷ xs) on = (on x, all_from P xs on)
 
+  -- where all of some are so, one is
+  pub all_any : (P : X → Type 0) (xs : List X) → (xs ≡ [] → ⊥) → AllOf P xs → AnyOf P xs
+  all_any P [] some all = absurd (some refl)
+  all_any P (x ∷ xs) some all = inl all.0
+
   pub all_filter : (test : X → Bool) (P : X → Type 0) (xs : List X) → AllOf (λ x. test x ≡ true → P x) xs → AllOf P (filter test xs)
   all_filter test P [] all = tt
   all_filter test P (x ∷ xs) all = put (test x) all.0 (all_filter test P xs all.1)
@@ -123,6 +115,11 @@ module _ {X : Type 0} where
       put : (b : Bool) → (b ≡ true → P x) → AllOf P (filter test xs) → AllOf P (cond b (x ∷ filter test xs) (filter test xs))
       put true here rest = (here refl, rest)
       put false here rest = rest
+
+  -- where all pass, a filter keeps all
+  pub all_pass : (test : X → Bool) (xs : List X) → AllOf (λ x. test x ≡ true) xs → filter test xs ≡ xs
+  all_pass test [] all = refl
+  all_pass test (x ∷ xs) all = ap (λ (b : Bool). cond b (x ∷ filter test xs) (filter test xs)) all.0 ∙ ap (λ (ys : List X). x ∷ ys) (all_pass test xs all.1)
 
   pub all_filtered : (test : X → Bool) (xs : List X) → AllOf (λ x. test x ≡ true) (filter test xs)
   all_filtered test xs = all_filter test (λ x. test x ≡ true) xs (all_from (λ x. test x ≡ true → test x ≡ true) xs (λ x on. on))

@@ -1,5 +1,5 @@
 -- A group that was let go comes back by an import.
-use Rattle.std.specs.Prelude.{◌≡◌, ◌⊎◌, ℕ, ◌+◌, ◌<◌, ◌≤◌, ◌^◌, Bool, true, false, Some, None, List, [], ◌∷◌}
+use Rattle.std.specs.Prelude.{◌≡◌, ◌≢◌, ◌⊎◌, ℕ, ◌+◌, ◌<◌, ◌≤◌, ◌^◌, Bool, true, false, Some, None, List, [], ◌∷◌}
 use Rattle.std.specs.List.{filter}
 use Rattle.std.specs.List.Sorted.{IsPermutation}
 use Rattle.vx_base.specs.Named.{Word}
@@ -49,38 +49,46 @@ pub record IsKeptOn (g : Group) (text : List ℕ) (w : World) (m : Member) : Typ
   pub recorded : is_recorded g.config (label_of g.config.group m device) ≡ true
   pub current : IsCurrent g.sequence g.good text device.contents
 
+-- the members that are good
+abbrev pub good_members : Group → List Member
+good_members g = filter (λ m. has g.good m.slot) g.members
+
 -- every device can be taken and read
 abbrev pub nobody : Word → Bool
 nobody name = false
 
--- the device is that of a good member
-abbrev pub IsOfGood : Group → Candidate → Type 0
-IsOfGood g c = AnyOf (λ m. (has g.good m.slot ≡ true) × (m.device ≡ c.name)) g.members
+-- one of the members lies on the device
+abbrev pub IsDeviceOf : List Member → Word → Type 0
+IsDeviceOf members name = AnyOf (λ m. m.device ≡ name) members
 
 -- the device's slot is not good, and it offers nothing as new as the group
 pub record IsOutdated (g : Group) (c : Candidate) : Type 0 where
   pub slot : has g.good c.label.slot ≡ false
   pub older : (o : Offer) → offer_in g.config.group c.device.contents ≡ Some o → o.sequence < g.sequence
 
--- The group is left on its devices: it has a good member, and is kept on each of these, whose slots rise and are all that
--- are good. Another free device whose header names the group is outdated.
-pub record IsLeftBehind (g : Group) (w : World) : Type 0 where
+-- The group is left on the devices of these members: there are some, their slots rise, and are all that are good; it has
+-- disks alone; and it is kept on each. Another free device whose header names the group is outdated.
+pub record IsLeftOn (g : Group) (members : List Member) (w : World) : Type 0 where
   pub no_group : w.group ≡ None
-  pub some_good : AnyOf (λ m. has g.good m.slot ≡ true) g.members
-  pub rising : SlotsRise g.members
-  pub placed : (slot : ℕ) → has g.good slot ≡ true → AnyOf (λ m. m.slot ≡ slot) g.members
+  pub some : members ≢ []
+  pub rising : SlotsRise members
+  pub placed : (slot : ℕ) → has g.good slot ≡ true → AnyOf (λ m. m.slot ≡ slot) members
   pub just_disks : HasJustDisks g.config
   pub text : List ℕ
   pub text_is : IsTextOf g.config text
-  pub kept : AllOf (λ m. has g.good m.slot ≡ true → IsKeptOn g text w m) g.members
-  pub others : (c : Candidate) → IsCandidate g.config.group nobody w c → IsOfGood g c ⊎ IsOutdated g c
+  pub kept : AllOf (IsKeptOn g text w) members
+  pub others : (c : Candidate) → IsCandidate g.config.group nobody w c → IsDeviceOf members c.name ⊎ IsOutdated g c
+
+-- the group is left on the devices of its good members
+abbrev pub IsLeftBehind : Group → World → Type 0
+IsLeftBehind g w = IsLeftOn g (good_members g) w
 
 -- every member is good, their slots are below the one that the next disk gets, and no other free device has a header that
 -- names the group
 pub record IsFull (g : Group) (w : World) : Type 0 where
   pub all_good : AllOf (λ m. has g.good m.slot ≡ true) g.members
   pub packed : AllOf (λ m. m.slot < next_slot g.config) g.members
-  pub alone : (c : Candidate) → IsCandidate g.config.group nobody w c → IsOfGood g c
+  pub alone : (c : Candidate) → IsCandidate g.config.group nobody w c → IsDeviceOf g.members c.name
 
 -- The group is imported; once it is let go, it is left on its devices, and full.
 pub record IsWhole (g : Group) (w : World) : Type 0 where
@@ -91,10 +99,6 @@ pub record IsWhole (g : Group) (w : World) : Type 0 where
 -- the public sectors are as they were
 abbrev pub HasSamePublic : Device → Device → Type 0
 HasSamePublic old new = (k : ℕ) → 2048 ≤ k → new.contents k ≡ old.contents k
-
--- the members that are good
-abbrev pub good_members : Group → List Member
-good_members g = filter (λ m. has g.good m.slot) g.members
 
 -- The group is imported: its configuration has the records that were left, and the same text; its good slots are those
 -- that were good, and its members the good ones, in their order, whose devices have the same public sectors. All other

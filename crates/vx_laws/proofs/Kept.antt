@@ -1,5 +1,7 @@
 -- Each transcript keeps the histories of all volumes: each stage does, and each call, and each command.
-use Rattle.std.proofs.Common.{◌≡◌, ℕ, ◌+◌, Bool, true, false, List, [], ◌∷◌, ◌++◌, Option, Some, None, MatchOption, MatchBool, nat_lt, refl, sym, ◌∙◌, ap, subst, inl, inr}
+use Rattle.std.proofs.Common.{◌≡◌, ◌&&◌, ℕ, ◌+◌, Bool, true, false, List, [], ◌∷◌, Option, Some, None, MatchOption, MatchBool, nat_lt, refl, sym, ◌∙◌, ap, subst, inl, inr}
+use Rattle.std.proofs.lemmas.Bool.{and_parts}
+use Rattle.vx_laws.proofs.Runs.{has_stopped, volumes_of}
 use Rattle.vx_base.specs.Named.{Word}
 use Rattle.vx_script_words.specs.declared.value.DiskAt.{DiskAt}
 use Rattle.vx_script_forms.specs.declared.call.Call.{Call}
@@ -9,8 +11,7 @@ use Rattle.vx_answers.specs.declared.refusal.Refusal.TheVariants.{NotStarted, Ra
 use Rattle.vx_moments.specs.World.{World, Device, Volume}
 use Rattle.vx_moments.specs.Moment.{Moment, Rests}
 use Rattle.vx_plans.specs.Calls.{CallRuns, IsServed, volume_of, start_of, count_of}
-use Rattle.vx_plans.specs.Records.{devices_of}
-use Rattle.vx_plans.specs.Stages.{IsDone, Stops, TakingStops, bare_volume}
+use Rattle.vx_plans.specs.Stages.{IsDone, bare_volume}
 use Rattle.vx_plans.specs.declared.stage.Stage.{Stage}
 use Rattle.vx_plans.specs.declared.stage.Stage.TheVariants as stage
 use Rattle.vx_plans.proofs.Complete.{kept_world, keeps_world}
@@ -20,7 +21,6 @@ use Rattle.vx_base.specs.Blocks.{Contents}
 use Rattle.vx_script_forms.specs.declared.call.Call.TheVariants as said
 use Rattle.vx_script_forms.specs.declared.form.Form.{Form}
 use Rattle.vx_script_forms.specs.declared.form.Form.TheVariants as form
-use Rattle.vx_script_forms.specs.declared.form.WordPolicy.{WordPolicy}
 use Rattle.vx_script_forms.specs.declared.form.WordPolicy.TheVariants as words
 use Rattle.vx_script.specs.declared.command.Command.{Command}
 use Rattle.vx_answers.specs.declared.answer.Answer.{Answer}
@@ -29,9 +29,6 @@ use Rattle.vx_plans.specs.Plans.{plan_of, disks_of}
 use Rattle.vx_plans.specs.Steps.{Runs, Leaves, IsNotBuilt, DoesPlan, DoesCall, DoesForm, Step, IsTranscript}
 use Rattle.vx_plans.specs.declared.stages.Finish.{Finish}
 use Rattle.vx_plans.specs.declared.stages.Plan.{Plan}
-
-volumes_of : (a b : World) → b ≡ a → b.volumes ≡ a.volumes
-volumes_of a b e = ap (λ (w : World). w.volumes) e
 
 -- what holds on each device may have been held
 abbrev pub AreThere : Holding → World → Type 0
@@ -46,14 +43,7 @@ module _ (Held : Holding) (old new : Moment) (all : HaveHistories Held old.world
   as_was : new.world.volumes ≡ old.world.volumes → HaveHistories Held new.world
   as_was e = same_volumes Held old.world new.world e all
 
-  pub stage_kept : (s : Stage) (disks : List DiskAt) → AreThere Held old.world → IsDone s disks old new → HaveHistories Held new.world
-  stage_kept (stage.Gate test) disks there is = same (kept_world (stage.Gate test) disks old new refl is)
-  stage_kept (stage.Take name) disks there is = same (kept_world (stage.Take name) disks old new refl is)
-  stage_kept stage.TakeDisks disks there is = same (kept_world stage.TakeDisks disks old new refl is)
-  stage_kept (stage.LookBlank name) disks there is = same (kept_world (stage.LookBlank name) disks old new refl is)
-  stage_kept stage.LookDisks disks there is = same (kept_world stage.LookDisks disks old new refl is)
-  stage_kept (stage.LookHeaded name) disks there is = same (kept_world (stage.LookHeaded name) disks old new refl is)
-  stage_kept (stage.Search dg) disks there is = same (kept_world (stage.Search dg) disks old new refl is)
+  stage_kept : (s : Stage) (disks : List DiskAt) → AreThere Held old.world → IsDone s disks old new → HaveHistories Held new.world
   stage_kept (stage.MakeImage name sectors) disks there (none, made, calls, quiet) = as_was (ap (λ (w : World). w.volumes) made.is)
   stage_kept (stage.Wipe name) disks there (has, calls) = as_was (ap (λ (w : World). w.volumes) has.is)
   stage_kept (stage.StartBare vol name) disks there (free, bare, counts) =
@@ -66,46 +56,7 @@ module _ (Held : Holding) (old new : Moment) (all : HaveHistories Held old.world
   stage_kept (stage.Create dg) disks there (none, (x, writing, committed)) = as_was committed.committing.volumes
   stage_kept (stage.Import dg) disks there (none, mid, between, (x, writing, committed)) = as_was (committed.committing.volumes ∙ volumes_of old.world mid.world between.world)
   stage_kept stage.LetGo disks there (gone, counts) = as_was (ap (λ (w : World). w.volumes) gone)
-
-module _ (old new : Moment) (end : End) where
-  by_rest : Rests old new → new.world.volumes ≡ old.world.volumes
-  by_rest rests = volumes_of old.world new.world rests.stays.world
-
-  taking : (taken names : List Word) → TakingStops taken names old end new → new.world.volumes ≡ old.world.volumes
-  taking taken [] stops = absurd stops
-  taking taken (name ∷ names) (inl (inl (r, away, ends))) = by_rest ends.1
-  taking taken (name ∷ names) (inl (inr fails)) = volumes_of old.world new.world fails.0
-  taking taken (name ∷ names) (inr more) = taking (taken ++ name ∷ []) names more.1
-
-  by_read : new.world ≡ old.world → new.world.volumes ≡ old.world.volumes
-  by_read e = volumes_of old.world new.world e
-
-  pub stop_kept : (s : Stage) (disks : List DiskAt) → Stops s disks old end new → new.world.volumes ≡ old.world.volumes
-  stop_kept (stage.Gate test) disks (r, fails, is, same) = ap (λ (m : Moment). m.world.volumes) same
-  stop_kept (stage.Take name) disks stops = taking [] (name ∷ []) stops
-  stop_kept stage.TakeDisks disks stops = taking [] (devices_of disks) stops
-  stop_kept (stage.LookBlank name) disks (reads, looks) = by_read reads.0
-  stop_kept stage.LookDisks disks (reads, looks) = by_read reads.0
-  stop_kept (stage.LookHeaded name) disks (reads, looks) = by_read reads.0
-  stop_kept (stage.Search dg) disks (reads, looks) = by_read reads.0
-  stop_kept (stage.MakeImage name sectors) disks (inl (some, ends)) = by_rest ends.1
-  stop_kept (stage.MakeImage name sectors) disks (inr fails) = by_read fails.0
-  stop_kept (stage.Wipe name) disks (has, calls, ends) = ap (λ (w : World). w.volumes) has.is
-  stop_kept (stage.StartBare vol name) disks (is, ends) = by_rest ends.1
-  stop_kept (stage.Change change) disks (inl (none, ends)) = by_rest ends.1
-  stop_kept (stage.Change change) disks (inr (inl (refused, rests))) = by_rest rests
-  stop_kept (stage.Change change) disks (inr (inr (x, writing, stopped))) = stopped.committing.volumes
-  stop_kept stage.Join [] stops = absurd stops
-  stop_kept stage.Join (p ∷ q ∷ ps) stops = absurd stops
-  stop_kept stage.Join (p ∷ []) (inl (none, ends)) = by_rest ends.1
-  stop_kept stage.Join (p ∷ []) (inr (inl (refused, rests))) = by_rest rests
-  stop_kept stage.Join (p ∷ []) (inr (inr (x, writing, stopped))) = stopped.committing.volumes
-  stop_kept (stage.Create dg) disks (inl (g, here, ends)) = by_rest ends.1
-  stop_kept (stage.Create dg) disks (inr (x, writing, stopped)) = stopped.committing.volumes
-  stop_kept (stage.Import dg) disks (inl (g, here, ends)) = by_rest ends.1
-  stop_kept (stage.Import dg) disks (inr (inl (reads, why))) = by_read reads.0
-  stop_kept (stage.Import dg) disks (inr (inr (mid, between, (x, writing, stopped)))) = stopped.committing.volumes ∙ volumes_of old.world mid.world between.world
-  stop_kept stage.LetGo disks stops = absurd stops
+  stage_kept other disks there is = same (kept_world other disks old new refl is)
 
 -- ---- calls
 
@@ -130,63 +81,47 @@ module _ (Held : Holding) (place : ℕ) (call : Call) (old new : Moment) (end : 
 -- ---- plans
 
 -- all stages but the last keep the world
-abbrev AllKeepButLast : List Stage → Type 0
-AllKeepButLast [] = Unit {0}
-AllKeepButLast (s ∷ []) = Unit {0}
-AllKeepButLast (s ∷ t ∷ ss) = (keeps_world s ≡ true) × AllKeepButLast (t ∷ ss)
+abbrev all_keep_but_last : List Stage → Bool
+all_keep_but_last [] = true
+all_keep_but_last (s ∷ []) = true
+all_keep_but_last (s ∷ t ∷ ss) = keeps_world s && all_keep_but_last (t ∷ ss)
 
-abbrev IsShaped : Option Plan → Type 0
-IsShaped None = Unit {0}
-IsShaped (Some plan) = AllKeepButLast plan.stages
+abbrev is_shaped : Option Plan → Bool
+is_shaped None = true
+is_shaped (Some plan) = all_keep_but_last plan.stages
 
-print_shaped : (dg vol : Option Word) → IsShaped (plan_of dg (form.PrintM vol))
+plan_shaped : (dg : Option Word) (f : Form) → is_shaped (plan_of dg f) ≡ true
 unfolding plan_of
-print_shaped dg None = tt
-print_shaped dg (Some vol) = (refl, tt)
-
-policy_shaped : (dg : Option Word) (vol : Word) (how : WordPolicy) → IsShaped (plan_of dg (form.Rdpol vol how))
-unfolding plan_of
-policy_shaped dg vol words.Round = (refl, (refl, tt))
-policy_shaped dg vol words.Select = (refl, (refl, tt))
-policy_shaped dg vol (words.Prefer plex) = (refl, (refl, (refl, tt)))
-
-plan_shaped : (dg : Option Word) (f : Form) → IsShaped (plan_of dg f)
-unfolding plan_of
-plan_shaped dg (form.MkImage device length) = tt
-plan_shaped dg (form.Bare vol device) = (refl, (refl, (refl, tt)))
-plan_shaped dg (form.DgInit name disks) = (refl, (refl, (refl, (refl, (refl, (refl, tt))))))
-plan_shaped dg (form.DgAddDisk name disk) = (refl, (refl, (refl, (refl, (refl, tt)))))
-plan_shaped dg (form.DgImport name) = tt
-plan_shaped dg (form.DgDeport name) = (refl, (refl, tt))
-plan_shaped dg (form.DiskUnsetup device) = (refl, (refl, tt))
-plan_shaped dg (form.PrintM vol) = print_shaped dg vol
-plan_shaped dg (form.Rdpol vol how) = policy_shaped dg vol how
-plan_shaped dg (form.RemoveVolume vol) = (refl, (refl, (refl, (refl, tt))))
-plan_shaped dg other = tt
+plan_shaped dg (form.PrintM None) = refl
+plan_shaped dg (form.PrintM (Some vol)) = refl
+plan_shaped dg (form.Rdpol vol words.Round) = refl
+plan_shaped dg (form.Rdpol vol words.Select) = refl
+plan_shaped dg (form.Rdpol vol (words.Prefer plex)) = refl
+plan_shaped dg other = refl
 
 module _ (Held : Holding) where
-  runs_kept : (disks : List DiskAt) (stages : List Stage) (finish : Finish) (old : Moment) (views : List View) (end : End) (new : Moment) → AllKeepButLast stages → AreThere Held old.world → HaveHistories Held old.world → Runs disks stages finish old views end new → HaveHistories Held new.world
+  runs_kept : (disks : List DiskAt) (stages : List Stage) (finish : Finish) (old : Moment) (views : List View) (end : End) (new : Moment) → all_keep_but_last stages ≡ true → AreThere Held old.world → HaveHistories Held old.world → Runs disks stages finish old views end new → HaveHistories Held new.world
   runs_kept disks [] finish old views end new shaped there all (shows, is, stays) = same Held old new all (ap (λ (m : Moment). m.world) stays)
   runs_kept disks (s ∷ []) finish old views end new shaped there all (inl (mid, later, is, (shows, over, stays))) = same Held mid new (stage_kept Held old mid all s disks there is) (ap (λ (m : Moment). m.world) stays)
-  runs_kept disks (s ∷ []) finish old views end new shaped there all (inr (none, later, stops)) = same_volumes Held old.world new.world (stop_kept old new end s disks stops) all
+  runs_kept disks (s ∷ []) finish old views end new shaped there all (inr (none, later, stops)) = same_volumes Held old.world new.world (has_stopped old new end s disks stops).volumes all
   runs_kept disks (s ∷ t ∷ ss) finish old views end new shaped there all (inl (mid, later, is, rest)) =
-      let stays = kept_world s disks old mid shaped.0 is in
-      runs_kept disks (t ∷ ss) finish mid views end new shaped.1 (subst (AreThere Held) (sym stays) there) (same Held old mid all stays) rest
-  runs_kept disks (s ∷ t ∷ ss) finish old views end new shaped there all (inr (none, later, stops)) = same_volumes Held old.world new.world (stop_kept old new end s disks stops) all
+      let shapes = and_parts (keeps_world s) (all_keep_but_last (t ∷ ss)) shaped in
+      let stays = kept_world s disks old mid shapes.0 is in
+      runs_kept disks (t ∷ ss) finish mid views end new shapes.1 (subst (AreThere Held) (sym stays) there) (same Held old mid all stays) rest
+  runs_kept disks (s ∷ t ∷ ss) finish old views end new shaped there all (inr (none, later, stops)) = same_volumes Held old.world new.world (has_stopped old new end s disks stops).volumes all
 
   not_built : (old : Moment) (views : List View) (end : End) (new : Moment) → HaveHistories Held old.world → IsNotBuilt old views end new → HaveHistories Held new.world
   not_built old views end new all (none, is, stays) = same Held old new all (ap (λ (m : Moment). m.world) stays)
 
-  plan_kept : (disks : List DiskAt) (plan : Option Plan) (old : Moment) (views : List View) (end : End) (new : Moment) → IsShaped plan → AreThere Held old.world → HaveHistories Held old.world → DoesPlan disks plan old views end new → HaveHistories Held new.world
+  plan_kept : (disks : List DiskAt) (plan : Option Plan) (old : Moment) (views : List View) (end : End) (new : Moment) → is_shaped plan ≡ true → AreThere Held old.world → HaveHistories Held old.world → DoesPlan disks plan old views end new → HaveHistories Held new.world
   plan_kept disks None old views end new shaped there all does = not_built old views end new all does
   plan_kept disks (Some plan) old views end new shaped there all does = runs_kept disks plan.stages plan.finish old views end new shaped there all does
 
   -- ---- commands
 
   calling_kept : (place : ℕ) (call : Call) (old : Moment) (views : List View) (end : End) (new : Moment) → HaveHistories Held old.world → DoesCall place call old views end new → HaveHistories Held new.world
-  calling_kept place (said.Read vol start count) old views end new all (none, later, runs) = call_kept Held place (said.Read vol start count) old new end all runs
-  calling_kept place (said.Fill vol start count byte) old views end new all (none, later, runs) = call_kept Held place (said.Fill vol start count byte) old new end all runs
   calling_kept place (said.Data vol start blocks) old views end new all does = not_built old views end new all does
+  calling_kept place other old views end new all (none, later, runs) = call_kept Held place other old new end all runs
 
   form_kept : (place : ℕ) (dg : Option Word) (f : Form) (old : Moment) (views : List View) (end : End) (new : Moment) → AreThere Held old.world → HaveHistories Held old.world → DoesForm place dg f old views end new → HaveHistories Held new.world
   form_kept place dg (form.Calling call) old views end new there all does = calling_kept place call old views end new all does
@@ -197,12 +132,10 @@ module _ (Held : Holding) where
   cut_kept place c (Some n) old views end new there all does = not_built old views end new all does
 
   left_kept : (end : End) (began over left : World) → HaveHistories Held began → HaveHistories Held over → Leaves end began over left → HaveHistories Held left
-  left_kept (ends.Done copied parts blocks) began over left first all is = subst (HaveHistories Held) (sym is) all
   left_kept (ends.Refused refusal) began over left first all is = subst (HaveHistories Held) (sym is) first
-  left_kept (ends.Fault told device parts) began over left first all is = subst (HaveHistories Held) (sym is) all
-  left_kept ends.ShelfFailed began over left first all is = subst (HaveHistories Held) (sym is) all
   left_kept ends.GroupLost began over left first all is = same_volumes Held over left (ap (λ (w : World). w.volumes) is) all
   left_kept (ends.Lost parts) began over left first all gone = from_nothing Held left gone.volumes
+  left_kept other began over left first all is = subst (HaveHistories Held) (sym is) all
 
   step_kept : (place : ℕ) (c : Command) (old : Moment) (answer : Answer) (new : Moment) → AreThere Held old.world → HaveHistories Held old.world → Step place c old answer new → HaveHistories Held new.world
   step_kept place c old answer new there all step = left_kept step.end old.world step.over.world new.world all (cut_kept place c c.cut old step.views step.end step.over there all step.does) step.leaves

@@ -1,5 +1,5 @@
 -- A command of a plan that is done: each of its stages was, and what went well as a whole went well in each.
-use Rattle.std.proofs.Common.{◌≡◌, ℕ, ◌≤◌, Bool, true, false, List, [], ◌∷◌, ◌++◌, Option, MatchOption, refl, sym, subst, inl, inr, arith}
+use Rattle.std.proofs.Common.{◌≡◌, ℕ, ◌≤◌, Bool, true, false, List, [], ◌∷◌, ◌++◌, Option, Some, MatchOption, refl, sym, ◌∙◌, ap, subst, inl, inr, arith}
 use Rattle.std.specs.Prelude.{IsTrue}
 use Rattle.vx_base.specs.Named.{Word}
 use Rattle.vx_script_words.specs.declared.value.DiskAt.{DiskAt}
@@ -15,7 +15,10 @@ use Rattle.vx_moments.specs.Moment.{Moment, Counts, AreLater, IsQuiet}
 use Rattle.vx_moments.specs.Commit.{Writing, NoneFailed, IsStopped}
 use Rattle.vx_plans.specs.Laws.{WentWell}
 use Rattle.vx_plans.specs.Records.{devices_of}
-use Rattle.vx_plans.specs.Stages.{IsDone, Stops, DeviceEnds, FailsAt, TakingStops, LookingStops, fault_of, lost}
+use Rattle.vx_plans.specs.Stages.{IsDone, Stops, DeviceEnds, EndsIn, IsChange, edits_of, IsJoining, joining_edit, TakingStops, LookingStops, EditsStop, fault_of, lost}
+use Rattle.vx_objects.specs.declared.edit.Edit.{Edit}
+use Rattle.vx_answers.specs.declared.refusal.Refusal.TheVariants as refusal
+use Rattle.vx_moments.specs.World.{World, Group}
 use Rattle.vx_plans.specs.Steps.{Runs, Serves, Step, Leaves, DoesForm, IsNotBuilt, done}
 use Rattle.vx_plans.specs.declared.stages.Finish.{Finish}
 use Rattle.vx_plans.specs.declared.stages.Finish.TheVariants.{Nothing}
@@ -25,81 +28,83 @@ use Rattle.vx_plans.proofs.Calm.{calm, well_after}
 use Rattle.vx_plans.proofs.Complete.{runs_later}
 use Rattle.vx_laws.specs.Returning.{IsOf, is_done}
 
--- ---- ends that are not those of a command that is done
+-- ---- a stage that ends the command
 
-refused_not : {Q : Type 0} (end : End) (r : Refusal) → end ≡ ends.Refused r → end ≡ done → Q
-refused_not end r is over = cc
+-- the command is not done
+abbrev IsNotDone : End → Type 0
+IsNotDone (ends.Done copied parts blocks) = ⊥
+IsNotDone other = Unit {0}
 
-fault_not : {Q : Type 0} (end : End) (name : Word) → end ≡ fault_of name → end ≡ done → Q
-fault_not end name is over = cc
+-- the command is not done, and starts and ends no volume
+pub record HasStopped (old : Moment) (end : End) (new : Moment) : Type 0 where
+  pub not_done : IsNotDone end
+  pub volumes : new.world.volumes ≡ old.world.volumes
 
-lost_not : {Q : Type 0} (end : End) → end ≡ lost → end ≡ done → Q
-lost_not end is over = cc
+pub volumes_of : (a b : World) → b ≡ a → b.volumes ≡ a.volumes
+volumes_of a b e = ap (λ (w : World). w.volumes) e
 
-shelf_not : {Q : Type 0} (end : End) → end ≡ ends.ShelfFailed → end ≡ done → Q
-shelf_not end is over = cc
+module _ (old new : Moment) (end : End) where
+  ended : (e : End) → IsNotDone e → end ≡ e → new.world.volumes ≡ old.world.volumes → HasStopped old end new
+  ended e other is same = record { not_done = subst IsNotDone (sym is) other; volumes = same }
 
-group_not : {Q : Type 0} (end : End) → end ≡ ends.GroupLost → end ≡ done → Q
-group_not end is over = cc
+  denied : (r : Refusal) → EndsIn r old end new → HasStopped old end new
+  denied r (is, rests) = ended (ends.Refused r) tt is (volumes_of old.world new.world rests.stays.world)
 
-module _ {Q : Type 0} (old new : Moment) (end : End) (over : end ≡ done) where
-  at_hand : (name : Word) → DeviceEnds name old end new → Q
-  at_hand name (inl (is, failed)) = fault_not end name is over
-  at_hand name (inr (is, cut)) = lost_not end is over
+  at_hand : (name : Word) → new.world.volumes ≡ old.world.volumes → DeviceEnds name old end new → HasStopped old end new
+  at_hand name same (inl (is, failed)) = ended (fault_of name) tt is same
+  at_hand name same (inr (is, cut)) = ended lost tt is same
 
-  at_device : (name : Word) → FailsAt name old end new → Q
-  at_device name (inl (is, failed)) = fault_not end name is over
-  at_device name (inr (is, cut)) = lost_not end is over
-
-  taking : (taken names : List Word) → TakingStops taken names old end new → Q
+  taking : (taken names : List Word) → TakingStops taken names old end new → HasStopped old end new
   taking taken [] stops = absurd stops
-  taking taken (name ∷ names) (inl (inl (r, away, ends))) = refused_not end r ends.0 over
-  taking taken (name ∷ names) (inl (inr fails)) = fault_not end name fails.2 over
+  taking taken (name ∷ names) (inl (inl (r, away, ends))) = denied r ends
+  taking taken (name ∷ names) (inl (inr (same, none, is, shelf))) = ended (fault_of name) tt is (volumes_of old.world new.world same)
   taking taken (name ∷ names) (inr more) = taking (taken ++ name ∷ []) names more.1
 
-  looking : (names : List Word) → LookingStops names old end new → Q
-  looking [] stops = absurd stops
-  looking (name ∷ names) (inl (inl headed)) = refused_not end _ headed.1 over
-  looking (name ∷ names) (inl (inr fails)) = at_hand name fails
-  looking (name ∷ names) (inr more) = looking names more.1
+  looking : (names : List Word) → new.world ≡ old.world → LookingStops names old end new → HasStopped old end new
+  looking [] same stops = absurd stops
+  looking (name ∷ names) same (inl (inl headed)) = ended (ends.Refused (refusal.InUse name)) tt headed.1 (volumes_of old.world new.world same)
+  looking (name ∷ names) same (inl (inr fails)) = at_hand name (volumes_of old.world new.world same) fails
+  looking (name ∷ names) same (inr more) = looking names same more.1
 
-  stopping : (x : Writing) (from : Moment) → IsStopped x from end new → Q
-  stopping x from stopped = elim stopped.ends [ inl l ↦ group_not end l.0 over | inr r ↦ lost_not end r.0 over ]
+  stopping : (x : Writing) (from : Moment) → from.world ≡ old.world → IsStopped x from end new → HasStopped old end new
+  stopping x from same stopped =
+      let volumes = stopped.committing.volumes ∙ volumes_of old.world from.world same in
+      elim stopped.ends [ inl l ↦ ended ends.GroupLost tt l.0 volumes | inr r ↦ ended lost tt r.0 volumes ]
 
--- a stage that ended the command has not left it done
-pub not_stopped : {Q : Type 0} (s : Stage) (disks : List DiskAt) (old new : Moment) (end : End) → Stops s disks old end new → end ≡ done → Q
-not_stopped (stage.Gate test) disks old new end (r, fails, is, same) over = refused_not end r is over
-not_stopped (stage.Take name) disks old new end stops over = taking old new end over [] (name ∷ []) stops
-not_stopped stage.TakeDisks disks old new end stops over = taking old new end over [] (devices_of disks) stops
-not_stopped (stage.LookBlank name) disks old new end (reads, looks) over = looking old new end over (name ∷ []) looks
-not_stopped stage.LookDisks disks old new end (reads, looks) over = looking old new end over (devices_of disks) looks
-not_stopped (stage.LookHeaded name) disks old new end (reads, inl (blank, is)) over = refused_not end _ is over
-not_stopped (stage.LookHeaded name) disks old new end (reads, inr fails) over = at_hand old new end over name fails
-not_stopped (stage.Search dg) disks old new end (reads, inl (name, free, inl (names, is))) over = refused_not end _ is over
-not_stopped (stage.Search dg) disks old new end (reads, inl (name, free, inr fails)) over = at_device old new end over name fails
-not_stopped (stage.Search dg) disks old new end (reads, inr shelf) over = shelf_not end shelf.0 over
-not_stopped (stage.MakeImage name sectors) disks old new end (inl (some, ends)) over = refused_not end _ ends.0 over
-not_stopped (stage.MakeImage name sectors) disks old new end (inr fails) over = fault_not end name fails.2 over
-not_stopped (stage.Wipe name) disks old new end (has, calls, ends) over = at_hand old new end over name ends
-not_stopped (stage.StartBare vol name) disks old new end (is, ends) over = refused_not end _ ends.0 over
-not_stopped (stage.Change change) disks old new end (inl (none, ends)) over = refused_not end _ ends.0 over
-not_stopped (stage.Change change) disks old new end (inr (inl ((g, here, inl (r, e, is)), rests))) over = refused_not end r is over
-not_stopped (stage.Change change) disks old new end (inr (inl ((g, here, inr (config, edited, (text, printed, long, is))), rests))) over = refused_not end _ is over
-not_stopped (stage.Change change) disks old new end (inr (inr (x, writing, stopped))) over = stopping old new end over x old stopped
-not_stopped stage.Join [] old new end stops over = absurd stops
-not_stopped stage.Join (p ∷ q ∷ ps) old new end stops over = absurd stops
-not_stopped stage.Join (p ∷ []) old new end (inl (none, ends)) over = refused_not end _ ends.0 over
-not_stopped stage.Join (p ∷ []) old new end (inr (inl ((g, here, inl (r, e, is)), rests))) over = refused_not end r is over
-not_stopped stage.Join (p ∷ []) old new end (inr (inl ((g, here, inr (config, edited, (text, printed, long, is))), rests))) over = refused_not end _ is over
-not_stopped stage.Join (p ∷ []) old new end (inr (inr (x, writing, stopped))) over = stopping old new end over x old stopped
-not_stopped (stage.Create dg) disks old new end (inl (g, here, ends)) over = refused_not end _ ends.0 over
-not_stopped (stage.Create dg) disks old new end (inr (x, writing, stopped)) over = stopping old new end over x old stopped
-not_stopped (stage.Import dg) disks old new end (inl (g, here, ends)) over = refused_not end _ ends.0 over
-not_stopped (stage.Import dg) disks old new end (inr (inl (reads, inl denied))) over = refused_not end denied.why denied.end_is over
-not_stopped (stage.Import dg) disks old new end (inr (inl (reads, inr (inl shelf)))) over = shelf_not end shelf.0 over
-not_stopped (stage.Import dg) disks old new end (inr (inl (reads, inr (inr (is, cut))))) over = lost_not end is over
-not_stopped (stage.Import dg) disks old new end (inr (inr (mid, between, (x, writing, stopped)))) over = stopping old new end over x mid stopped
-not_stopped stage.LetGo disks old new end stops over = absurd stops
+  editing : (edits : Group → List Edit) (IsWriting : Writing → Type 0) → EditsStop edits IsWriting old end new → HasStopped old end new
+  editing edits IsWriting (inl (none, ends)) = denied _ ends
+  editing edits IsWriting (inr (inl ((g, here, inl (r, e, is)), rests))) = denied r (is, rests)
+  editing edits IsWriting (inr (inl ((g, here, inr (config, edited, (text, printed, long, is))), rests))) = denied _ (is, rests)
+  editing edits IsWriting (inr (inr (x, writing, stopped))) = stopping x old refl stopped
+
+  pub has_stopped : (s : Stage) (disks : List DiskAt) → Stops s disks old end new → HasStopped old end new
+  has_stopped (stage.Gate test) disks (r, fails, is, same) = ended (ends.Refused r) tt is (ap (λ (m : Moment). m.world.volumes) same)
+  has_stopped (stage.Take name) disks stops = taking [] (name ∷ []) stops
+  has_stopped stage.TakeDisks disks stops = taking [] (devices_of disks) stops
+  has_stopped (stage.LookBlank name) disks (reads, looks) = looking (name ∷ []) reads.0 looks
+  has_stopped stage.LookDisks disks (reads, looks) = looking (devices_of disks) reads.0 looks
+  has_stopped (stage.LookHeaded name) disks (reads, inl (blank, is)) = ended (ends.Refused (refusal.NotInitialised name)) tt is (volumes_of old.world new.world reads.0)
+  has_stopped (stage.LookHeaded name) disks (reads, inr fails) = at_hand name (volumes_of old.world new.world reads.0) fails
+  has_stopped (stage.Search dg) disks (reads, inl (name, free, inl (names, is))) = ended (ends.Refused (refusal.Exists dg)) tt is (volumes_of old.world new.world reads.0)
+  has_stopped (stage.Search dg) disks (reads, inl (name, free, inr (inl (is, failed)))) = ended (fault_of name) tt is (volumes_of old.world new.world reads.0)
+  has_stopped (stage.Search dg) disks (reads, inl (name, free, inr (inr (is, cut)))) = ended lost tt is (volumes_of old.world new.world reads.0)
+  has_stopped (stage.Search dg) disks (reads, inr (is, shelf)) = ended ends.ShelfFailed tt is (volumes_of old.world new.world reads.0)
+  has_stopped (stage.MakeImage name sectors) disks (inl (some, ends)) = denied _ ends
+  has_stopped (stage.MakeImage name sectors) disks (inr (same, none, is, shelf)) = ended (fault_of name) tt is (volumes_of old.world new.world same)
+  has_stopped (stage.Wipe name) disks (has, calls, ends) = at_hand name (ap (λ (w : World). w.volumes) has.is) ends
+  has_stopped (stage.StartBare vol name) disks (is, ends) = denied _ ends
+  has_stopped (stage.Change change) disks stops = editing (λ g. edits_of change (Some g)) (λ x. IsChange (edits_of change old.world.group) old.world x) stops
+  has_stopped stage.Join [] stops = absurd stops
+  has_stopped stage.Join (p ∷ q ∷ ps) stops = absurd stops
+  has_stopped stage.Join (p ∷ []) stops = editing (λ g. joining_edit p old.world g ∷ []) (λ x. IsJoining p old.world x) stops
+  has_stopped (stage.Create dg) disks (inl (g, here, ends)) = denied _ ends
+  has_stopped (stage.Create dg) disks (inr (x, writing, stopped)) = stopping x old refl stopped
+  has_stopped (stage.Import dg) disks (inl (g, here, ends)) = denied _ ends
+  has_stopped (stage.Import dg) disks (inr (inl (reads, inl turned))) = ended (ends.Refused turned.why) tt turned.end_is (volumes_of old.world new.world reads.0)
+  has_stopped (stage.Import dg) disks (inr (inl (reads, inr (inl (is, shelf))))) = ended ends.ShelfFailed tt is (volumes_of old.world new.world reads.0)
+  has_stopped (stage.Import dg) disks (inr (inl (reads, inr (inr (is, cut))))) = ended lost tt is (volumes_of old.world new.world reads.0)
+  has_stopped (stage.Import dg) disks (inr (inr (mid, between, (x, writing, stopped)))) = stopping x mid between.world stopped
+  has_stopped stage.LetGo disks stops = absurd stops
 
 -- ---- the stages of a command that is done
 
@@ -111,7 +116,7 @@ AllDone disks (s ∷ ss) old new = (mid : Moment) × WentWell old new × IsDone 
 all_done : (disks : List DiskAt) (stages : List Stage) (finish : Finish) (old : Moment) (views : List View) (end : End) (new : Moment) → Runs disks stages finish old views end new → end ≡ done → WentWell old new → AllDone disks stages old new
 all_done disks [] finish old views end new (shows, is, same) over well = same
 all_done disks (s ∷ ss) finish old views end new (inl (mid, later, is, rest)) over well = (mid, well, is, all_done disks ss finish mid views end new rest over (well_after old mid new later (runs_later disks ss finish mid views end new rest) well))
-all_done disks (s ∷ ss) finish old views end new (inr (none, later, stops)) over well = not_stopped s disks old new end stops over
+all_done disks (s ∷ ss) finish old views end new (inr (none, later, stops)) over well = absurd (subst IsNotDone over (has_stopped old new end s disks stops).not_done)
 
 same_moment : (a b : Moment) → a.world ≡ b.world → a.counts ≡ b.counts → a ≡ b
 same_moment a b worlds counts = λ i. record { world = worlds i; counts = counts i }

@@ -79,32 +79,21 @@ public_stays text c d short only k far =
 found_as : (P : Device → Type 0) (o : Option Device) (d : Device) → o ≡ Some d → MatchOption o ⊥ P → P d
 found_as P o d is h = let Q : Option Device → Type 0 = λ x. MatchOption x ⊥ P in subst Q is h
 
+-- it goes so, too
+goes_so : {R S : Device → Device → Type 0} (name : Word) (old new : World) (g : Goes R name old new) → S g.before g.after → Goes S name old new
+goes_so name old new g goes = record { before = g.before; after = g.after; was = g.was; is = g.is; sectors = g.sectors; goes = goes }
+
 -- the member's device has its header, and offers the text
-record IsWritten (x : Writing) (last good : ℕ) (old new : World) (m : Member) : Type 0 where
-  before : Device
-  after : Device
-  was : old.devices m.device ≡ Some before
-  is : new.devices m.device ≡ Some after
-  sectors : after.sectors ≡ before.sectors
-  header : header_of (after.contents 0) ≡ Some (label_of x.config.group m after)
-  current : IsCurrent last good x.text after.contents
+abbrev IsWritten : Writing → ℕ → ℕ → World → World → Member → Type 0
+IsWritten x last good old new m = Goes (λ d e. (header_of (e.contents 0) ≡ Some (label_of x.config.group m e)) × IsCurrent last good x.text e.contents) m.device old new
 
 -- the device of the member has its header
 abbrev pub HasItsHeader : Writing → World → Member → Type 0
 HasItsHeader x w m = (d : Device) → w.devices m.device ≡ Some d → header_of (d.contents 0) ≡ Some (label_of x.config.group m d)
 
 module _ (x : Writing) (last good : ℕ) (old new : Moment) where
-  -- the member's device after a commit that has gone so, where it has its header
   written_by : {R : Device → Device → Type 0} (m : Member) → has good m.slot ≡ true → IsCarrying x last good new.world m → (g : Goes R m.device old.world new.world) → header_of (g.after.contents 0) ≡ Some (label_of x.config.group m g.after) → IsWritten x last good old.world new.world m
-  written_by m is carrying g header = record {
-    before = g.before;
-    after = g.after;
-    was = g.was;
-    is = g.is;
-    sectors = g.sectors;
-    header = header;
-    current = found_as (λ d. IsCurrent last good x.text d.contents) (new.world.devices m.device) g.after g.is (carrying is);
-  }
+  written_by m is carrying g header = goes_so m.device old.world new.world g (header, found_as (λ d. IsCurrent last good x.text d.contents) (new.world.devices m.device) g.after g.is (carrying is))
 
   members_written : (ms : List Member) → AllOf (λ m. has x.group.good m.slot ≡ true) ms → AllOf (HasItsHeader x old.world) ms → AllOf (MemberGoes x last old new) ms → AllOf (λ m. has good m.slot ≡ true) ms → AllOf (IsCarrying x last good new.world) ms → AllOf (IsWritten x last good old.world new.world) ms
   members_written [] was headed goes is carrying = tt
@@ -125,7 +114,7 @@ module _ (x : Writing) (last good : ℕ) (old new : Moment) where
   public_kept [] short was goes = tt
   public_kept (m ∷ ms) short was goes =
       let g = goes.0.good was.0 in
-      (record { before = g.before; after = g.after; was = g.was; is = g.is; sectors = g.sectors; goes = λ k far. public_stays x.text g.before.contents g.after.contents short g.goes.only k far }, public_kept ms short was.1 goes.1)
+      (goes_so m.device old.world new.world g (λ k far. public_stays x.text g.before.contents g.after.contents short g.goes.only k far), public_kept ms short was.1 goes.1)
 
 -- ---- the group
 
@@ -194,9 +183,9 @@ module _ (x : Writing) (old new : Moment) (ready : CanBeWritten x old.world) (c 
     device = w.after;
     device_is = w.is;
     free = λ held. r.0 (same_lent old.world new.world m.device c.committing.volumes (just_lent new.world m.device held));
-    header = w.header;
+    header = w.goes.0;
     recorded = ap (λ (n : ℕ). is_recorded x.config (record { group = x.config.group; disk = m.disk; slot = m.slot; sectors = n })) w.sectors ∙ r.1 w.before w.was;
-    current = w.current;
+    current = w.goes.1;
   }
 
   -- a free device whose header names the group is that of a member, or it was so before

@@ -9,17 +9,14 @@ use Rattle.vx_base.specs.Named.{Word}
 use Rattle.vx_base.proofs.NamedLemmas.{bytes_eq_self, bytes_eq_same}
 use Rattle.vx_mask.specs.Mask.{has}
 use Rattle.vx_mask.proofs.MaskLemmas.{has-zero}
-use Rattle.vx_header.specs.Sectors.{is_short_name}
 use Rattle.vx_copies.specs.Lists.{AllOf, AnyOf}
 use Rattle.vx_copies.specs.Image.{names_group}
 use Rattle.vx_parts.specs.declared.disk.Disk.{Disk}
 use Rattle.vx_parts.specs.declared.object.Object.{Object}
 use Rattle.vx_parts.specs.declared.object.Object.TheVariants.{GroupRecord, DiskRecord}
-use Rattle.vx_parts.specs.declared.fault.Limit.TheVariants as limit
 use Rattle.vx_parts.specs.Objects.{is_disk}
 use Rattle.vx_script_words.specs.declared.value.DiskAt.{DiskAt}
 use Rattle.vx_script_forms.specs.declared.form.Form.TheVariants.{DgInit, DgAddDisk}
-use Rattle.vx_answers.specs.declared.refusal.Refusal.TheVariants.{DeviceLimit, Limit}
 use Rattle.vx_moments.specs.World.{World, Device, Member, Group}
 use Rattle.vx_moments.specs.Moment.{Moment}
 use Rattle.vx_moments.specs.Holding.{IsLent, IsMemberDevice, is_among}
@@ -143,14 +140,14 @@ own_slots (m ∷ ms) = (
 at_slot : (ms : List Member) (slot : ℕ) → is_slot_of ms slot ≡ true → AnyOf (λ m. m.slot ≡ slot) ms
 at_slot ms slot is = any_map (λ m. (m.slot == slot) ≡ true) (λ m. m.slot ≡ slot) ms (λ m e. equal_is m.slot slot e) (any_from_list (λ m. m.slot == slot) ms is)
 
+second_off : {A : Type 0} (a b : Bool) (x y : A) (o : Option A) → (if not a then Some x else (if b then Some y else o)) ≡ None → b ≡ false
+second_off false b x y o e = cc
+second_off true true x y o e = cc
+second_off true false x y o e = refl
+
 -- where the limits are kept, there are few disks
 few_disks : (count : ℕ) (names : List Word) (sized : Bool) → limit_passed count names sized ≡ None → count ≤ 32
-few_disks count names sized e = by sized (nat_lt 32 count) refl e
-  where
-    by : (a b : Bool) → nat_lt 32 count ≡ b → (if not a then Some DeviceLimit else (if b then Some (Limit limit.Disks) else (if list_all is_short_name names then None else Some (Limit limit.Name)))) ≡ None → count ≤ 32
-    by false b is e = cc
-    by true true is e = cc
-    by true false is e = grind (arith, nat_tests)
+few_disks count names sized e = let low : nat_lt 32 count ≡ false = second_off sized (nat_lt 32 count) _ _ _ e in grind (arith, nat_tests)
 
 -- ---- a group that is enlarged
 

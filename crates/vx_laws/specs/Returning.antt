@@ -1,4 +1,4 @@
--- A group that was let go comes back by an import.
+-- A group that was let go, or that was left as the power went, comes back by an import.
 use Rattle.std.specs.Prelude.{◌≡◌, ◌≢◌, ◌⊎◌, ℕ, ◌+◌, ◌<◌, ◌≤◌, ◌^◌, Bool, true, false, Some, None, List, [], ◌∷◌}
 use Rattle.std.specs.List.{filter}
 use Rattle.std.specs.List.Sorted.{IsPermutation}
@@ -17,8 +17,8 @@ use Rattle.vx_answers.specs.declared.answer.Answer.{Answer}
 use Rattle.vx_answers.specs.declared.answer.Answer.TheVariants.{One}
 use Rattle.vx_moments.specs.World.{World, Device, Member, Group}
 use Rattle.vx_moments.specs.Moment.{Moment}
-use Rattle.vx_moments.specs.Holding.{IsHeld}
-use Rattle.vx_moments.specs.Leaving.{group_gone}
+use Rattle.vx_moments.specs.Holding.{IsHeld, IsLent}
+use Rattle.vx_moments.specs.Leaving.{group_gone, PowerGoes}
 use Rattle.vx_moments.specs.Copies.{IsTextOf, label_of, IsCurrent}
 use Rattle.vx_moments.specs.Commit.{Goes, IsNoDeviceOf}
 use Rattle.vx_plans.specs.Finding.{Candidate, IsCandidate, is_recorded}
@@ -142,3 +142,8 @@ EachJoinedGroupIsWhole = (place : ℕ) (c : Command) (g : Group) (pair : DiskAt)
 -- A whole group that is let go and imported, nothing failing, comes back, and is whole again.
 abbrev pub EachWholeGroupComesBack : Type 0
 EachWholeGroupComesBack = (place : ℕ) (out back : Command) (g : Group) (old new : Moment) (told answer : Answer) → IsOf (DgDeport g.config.group) out → IsOf (DgImport g.config.group) back → IsWhole g old.world → g.sequence ≤ 2 ^ 63 → IsTranscript place old (out ∷ back ∷ []) (told ∷ answer ∷ []) new → WentWell old new → (told ≡ is_done) × (answer ≡ is_done) × (returned : IsReturned g (group_gone old.world) new.world) × IsWhole returned.now new.world
+
+-- A group that is left on its devices once it is let go is left on them where the power goes, if no started volume had a
+-- device whose header then names the group.
+abbrev pub EachGroupOutlivesPower : Type 0
+EachGroupOutlivesPower = (g : Group) (old new : World) → IsLeftBehind g (group_gone old) → PowerGoes old new → ((c : Candidate) → IsCandidate g.config.group nobody new c → IsLent old c.name → ⊥) → IsLeftBehind g new × (IsFull g (group_gone old) → IsFull g new)

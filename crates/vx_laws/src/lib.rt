@@ -2,7 +2,7 @@
 #![tactic(auto)]
 
 ghost use Rattle.vx_laws.specs.Histories.{EachVolumeHasAHistory};
-ghost use Rattle.vx_laws.specs.Returning.{EachGroupReturns, EachMadeGroupIsWhole, EachJoinedGroupIsWhole, EachWholeGroupComesBack};
+ghost use Rattle.vx_laws.specs.Returning.{EachGroupReturns, EachMadeGroupIsWhole, EachJoinedGroupIsWhole, EachWholeGroupComesBack, EachGroupOutlivesPower};
 
 /// In the last world of each transcript from devices alone, the entries of each started volume, in the order of their
 /// numbers, are a legal history from the blocks that its device held in the world before some command: each number of a
@@ -11,8 +11,8 @@ pub fn each_volume_has_a_history()
     ensures { EachVolumeHasAHistory }
 {}
 
-/// Where a group of disks is left on its devices, as by `vxdg deport` or at the end of a run, and nothing fails, an import
-/// is done and gives it back: the records of its configuration, the same good slots, and its good members on their devices.
+/// Where a group of disks is left on its devices, as by `vxdg deport` or as the power goes, and nothing fails, an import is
+/// done and gives it back: the records of its configuration, the same good slots, and its good members on their devices.
 pub fn each_group_returns()
     ensures { EachGroupReturns }
 {}
@@ -32,4 +32,10 @@ pub fn each_joined_group_is_whole()
 /// both commands are done.
 pub fn each_whole_group_comes_back()
     ensures { EachWholeGroupComesBack }
+{}
+
+/// Where the power goes, a group that could be let go is left on its devices as by `vxdg deport`, if no bare volume's device
+/// then has a header that names the group.
+pub fn each_group_outlives_power()
+    ensures { EachGroupOutlivesPower }
 {}

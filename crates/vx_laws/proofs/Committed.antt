@@ -44,6 +44,10 @@ pub just_lent : (w : World) (name : Word) → IsHeld (group_gone w) name → IsL
 just_lent w name (inl lent) = lent
 just_lent w name (inr none) = absurd none
 
+-- a free device whose header names a group is one in a world where it is free and as it was
+pub same_candidate : (group : Word) (a b : World) (d : Candidate) → (IsHeld b d.name → ⊥) → b.devices d.name ≡ a.devices d.name → IsCandidate group nobody a d → IsCandidate group nobody b d
+same_candidate group a b d free same is = record { free = free; device_is = same ∙ is.device_is; present = refl; header = is.header; group_is = is.group_is; size = is.size }
+
 pub one_device : (o : Option Device) (d e : Device) → o ≡ Some d → o ≡ Some e → d ≡ e
 one_device o d e f h = cc
 
@@ -193,14 +197,9 @@ module _ (x : Writing) (old new : Moment) (ready : CanBeWritten x old.world) (c 
   each_other {Other = Other} rest d is = either (λ (any : IsDeviceOf (parties x) d.name). inl any) (λ (off : IsNoDeviceOf (parties x) d.name). inr (rest d (was off) off)) (on_or_off d.name (parties x))
     where
       was : IsNoDeviceOf (parties x) d.name → IsCandidate x.config.group nobody (group_gone old.world) d
-      was off = record {
-        free = λ held. is.free (inl (same_lent new.world old.world d.name (sym c.committing.volumes) (just_lent old.world d.name held)));
-        device_is = sym (c.committing.others d.name off) ∙ is.device_is;
-        present = refl;
-        header = is.header;
-        group_is = is.group_is;
-        size = is.size;
-      }
+      was off =
+          same_candidate x.config.group (group_gone new.world) (group_gone old.world) d (λ held. is.free (inl (same_lent new.world old.world d.name (sym c.committing.volumes) (just_lent old.world d.name held))))
+          (sym (c.committing.others d.name off)) is
 
   -- once the group is let go it is left behind, if each other device whose header names it is outdated
   pub left_behind : ((d : Candidate) → IsCandidate x.config.group nobody (group_gone old.world) d → IsNoDeviceOf (parties x) d.name → IsOutdated group_now d) → IsLeftBehind group_now (group_gone new.world)

@@ -1,5 +1,5 @@
 -- A group that could be let go is left on its devices where the power goes.
-use Rattle.std.proofs.Common.{Option, refl, sym, ◌∙◌, subst, inl, inr}
+use Rattle.std.proofs.Common.{Option, sym, ◌∙◌, subst, inl, inr}
 use Rattle.vx_base.specs.Named.{Word}
 use Rattle.vx_moments.specs.World.{World, Member, Group}
 use Rattle.vx_moments.specs.Holding.{IsLent, IsHeld, IsMemberDevice}
@@ -7,7 +7,7 @@ use Rattle.vx_moments.specs.Leaving.{group_gone, PowerGoes}
 use Rattle.vx_plans.specs.Finding.{Candidate, IsCandidate}
 use Rattle.vx_laws.specs.Returning.{IsKeptOn, nobody, good_members, IsLeftBehind, IsFull, EachGroupOutlivesPower}
 use Rattle.vx_laws.proofs.Several.{clash, all_map}
-use Rattle.vx_laws.proofs.Committed.{just_lent}
+use Rattle.vx_laws.proofs.Committed.{just_lent, same_candidate}
 
 module _ (g : Group) (old new : World) (left : IsLeftBehind g (group_gone old)) (gone : PowerGoes old new) (apart : (c : Candidate) → IsCandidate g.config.group nobody new c → IsLent old c.name → ⊥) where
   -- nobody holds anything
@@ -26,14 +26,7 @@ module _ (g : Group) (old new : World) (left : IsLeftBehind g (group_gone old)) 
   }
 
   was : (c : Candidate) → IsCandidate g.config.group nobody new c → IsCandidate g.config.group nobody (group_gone old) c
-  was c is = record {
-    free = λ held. apart c is (just_lent old c.name held);
-    device_is = sym (gone.others c.name (apart c is)) ∙ is.device_is;
-    present = refl;
-    header = is.header;
-    group_is = is.group_is;
-    size = is.size;
-  }
+  was c is = same_candidate g.config.group new (group_gone old) c (λ held. apart c is (just_lent old c.name held)) (sym (gone.others c.name (apart c is))) is
 
   left_still : IsLeftBehind g new
   left_still = record {

@@ -39,7 +39,7 @@ use Rattle.vx_laws.proofs.Slots.{next_kept}
 use Rattle.vx_laws.proofs.Recorded.{same_recorded}
 use Rattle.vx_laws.proofs.Runs.{served, left_so, well_before, same_well, none_failed, well_from}
 use Rattle.vx_laws.proofs.Found.{current_short, members_back, in_text, same_objects, named, disks_alone, finds_taken}
-use Rattle.vx_laws.proofs.Committed.{HasItsHeader, IsRecorded, CanBeWritten, can_be, kept_as, group_now, all_good, one_more, public_kept, each_other, left_behind}
+use Rattle.vx_laws.proofs.Committed.{same_candidate, HasItsHeader, IsRecorded, CanBeWritten, can_be, kept_as, group_now, all_good, one_more, public_kept, each_other, left_behind}
 use Rattle.vx_parts.specs.declared.vol.Vol.{Vol}
 use Rattle.vx_answers.specs.declared.refusal.Refusal.TheVariants.{NoGroup}
 use Rattle.vx_plans.specs.Tests.{fails, unless, is_here, in_use_by, started_of, first_started}
@@ -169,14 +169,8 @@ module _ (g : Group) (w : World) (left : IsLeftBehind g w) where
 
 -- a free device is free once the group is let go, too
 still_candidate : (group : Word) (w : World) (d : Candidate) → w.group ≡ None → IsCandidate group nobody (group_gone w) d → IsCandidate group nobody w d
-still_candidate group w d none is = record {
-  free = λ held. either (λ lent. is.free (inl lent)) (λ member. subst (λ (o : Option Group). IsMemberDevice o d.name) none member) held;
-  device_is = is.device_is;
-  present = refl;
-  header = is.header;
-  group_is = is.group_is;
-  size = is.size;
-}
+still_candidate group w d none is =
+    same_candidate group (group_gone w) w d (λ held. either (λ lent. is.free (inl lent)) (λ member. subst (λ (o : Option Group). IsMemberDevice o d.name) none member) held) refl is
 
 module _ (g : Group) (x : Writing) (old new : Moment) (left : IsLeftBehind g old.world) (same : IsSameGroup g (in_text g old.world left).os x) (c : IsCommitted x old new) (none : NoneFailed old.counts new.counts) where
   can : CanBeWritten x old.world

@@ -10,10 +10,8 @@ use Rattle.vx_life.specs.declared.EntryKind.TheVariants.{Read, Write, Torn, Miss
 use Rattle.vx_life.specs.Candidates.{Candidates, IsAmong, known}
 use Rattle.vx_life.specs.Entry.{Entry, values_after, candidates_of, ReadsAmong}
 use Rattle.vx_life.specs.Life.{Life, IsNext, life_after, GoesOn}
-use Rattle.vx_world.specs.declared.answer.Answer.{Answer}
-use Rattle.vx_world.specs.World.{World, Volume}
-use Rattle.vx_world.specs.Back.{IsCutOff, IsLost}
-use Rattle.vx_laws.specs.Histories.{CountsDown, HasHistory, HaveHistories}
+use Rattle.vx_moments.specs.World.{World, Volume}
+use Rattle.vx_laws.specs.Histories.{CountsDown, HasHistory, IsHistoried, HaveHistories}
 
 reads_as : (kind : EntryKind) (c d : Candidates) (e : Entry) → ((k : ℕ) → c k ≡ d k) → ReadsAmong kind c e → ReadsAmong kind d e
 reads_as Read c d e same reads = λ k h. subst (λ v. IsAmong v (e.values k)) (same k) (reads k h)
@@ -52,32 +50,17 @@ fresh_history contents = record { legal = tt; now = λ k. refl; numbers = λ reg
 abbrev pub Holding : Type 1
 Holding = Word → ℕ → Contents → Type 0
 
-abbrev pub Historied : Holding → Volume → Type 0
-Historied Held v = (first : Contents) × Held v.device v.length first × HasHistory first v.life
+module _ (Held : Holding) where
+  -- what is put has a history, and all others have theirs
+  pub put_history : (w : World) (vol : Word) (u : Volume) → IsHistoried Held u → HaveHistories Held w → (name : Word) (v : Volume) → put vol (Some u) w.volumes name ≡ Some v → IsHistoried Held v
+  put_history w vol u own all name v e = by_test (bytes_eq vol name) e
+    where
+      by_test : (b : Bool) → cond b (Some u) (w.volumes name) ≡ Some v → IsHistoried Held v
+      by_test true is = let same : u ≡ v = cc in subst (λ (x : Volume). IsHistoried Held x) same own
+      by_test false is = all name v is
 
--- what is put has a history, and all others have theirs
-pub put_history : (Held : Holding) (w : World) (vol : Word) (u : Volume) → Historied Held u → HaveHistories Held w → (name : Word) (v : Volume) → put vol (Some u) w.volumes name ≡ Some v → Historied Held v
-put_history Held w vol u own all name v e = by_test (bytes_eq vol name) e
-  where
-    by_test : (b : Bool) → cond b (Some u) (w.volumes name) ≡ Some v → Historied Held v
-    by_test true is = let same : u ≡ v = cc in subst (λ (x : Volume). Historied Held x) same own
-    by_test false is = all name v is
+  pub same_volumes : (old new : World) → new.volumes ≡ old.volumes → HaveHistories Held old → HaveHistories Held new
+  same_volumes old new same all = λ vol v is. all vol v (ap (λ (f : Word → Option Volume). f vol) (sym same) ∙ is)
 
-pub same_world : (Held : Holding) (old new : World) → new ≡ old → HaveHistories Held old → HaveHistories Held new
-same_world Held old new same all = subst (HaveHistories Held) (sym same) all
-
-pub same_volumes : (Held : Holding) (old new : World) → new.volumes ≡ old.volumes → HaveHistories Held old → HaveHistories Held new
-same_volumes Held old new same all = λ vol v is. all vol v (ap (λ (f : Word → Option Volume). f vol) (sym same) ∙ is)
-
-none_has : {Y : Type 0} (o : Option Volume) (v : Volume) → o ≡ None → o ≡ Some v → Y
-none_has o v none is = cc
-
-pub from_nothing : (Held : Holding) (w : World) → ((vol : Word) → w.volumes vol ≡ None) → HaveHistories Held w
-from_nothing Held w none vol v e = none_has (w.volumes vol) v (none vol) e
-
--- no volume is left where all is cut off
-pub cut_kept : (Held : Holding) (old new : World) → IsCutOff old new → HaveHistories Held new
-cut_kept Held old new cut = from_nothing Held new cut.volumes
-
-pub lost_kept : (Held : Holding) (old new : World) (answer : Answer) → IsLost old answer new → HaveHistories Held new
-lost_kept Held old new answer lost = cut_kept Held old new lost.cut
+  pub from_nothing : (w : World) → ((vol : Word) → w.volumes vol ≡ None) → HaveHistories Held w
+  from_nothing w none vol v e = let no : w.volumes vol ≡ None = none vol in cc

@@ -18,7 +18,6 @@ use Rattle.vx_record.specs.Grammar.{Spells, record_text}
 use Rattle.vx_parts.specs.declared.disk.Disk.{Disk}
 use Rattle.vx_parts.specs.declared.object.Object.{Object}
 use Rattle.vx_parts.specs.declared.object.Object.TheVariants.{GroupRecord, DiskRecord, SubdiskRecord, PlexRecord, VolRecord, DcoRecord, SnapRecord}
-use Rattle.vx_parts.specs.declared.fault.ObjectFault.{ObjectFault}
 use Rattle.vx_rules.specs.Limits.{is_short, fits_byte}
 use Rattle.vx_rules.specs.Rules.{first_broken}
 use Rattle.vx_objects.specs.declared.config.Config.{Config}
@@ -30,7 +29,9 @@ use Rattle.vx_objects.proofs.InKinds.{InOrder, stay}
 use Rattle.vx_objects.proofs.Numbers.{have_records, valid_none}
 use Rattle.vx_objects.proofs.OneSaid.{one_list}
 use Rattle.vx_print.specs.Shown.{IsPrinted, by_kind, is_shown}
-use Rattle.vx_world.specs.Import.{IsBrokenBy, needs_sync, import_records}
+use Rattle.vx_answers.specs.declared.refusal.Refusal.{Refusal}
+use Rattle.vx_plans.specs.Finding.{IsBrokenBy, needs_sync, import_records}
+use Rattle.vx_plans.specs.Refusals.{refusal_from}
 use Rattle.vx_laws.specs.Returning.{HasJustDisks}
 use Rattle.vx_laws.proofs.Orderless.{is_plain, all_permuted, still_valid}
 
@@ -177,10 +178,10 @@ module _ (config : Config) (os : List Object) (are : IsReordered config os) wher
   said_is said say = one_list said os say.1 are.said say.0
 
   -- they break no rule
-  pub none_broken : {Q : Type 0} (fault : ObjectFault) → IsBrokenBy (map record_of os) fault → Q
-  none_broken fault why =
+  pub none_broken : {Q : Type 0} (r : Refusal) → IsBrokenBy (map record_of os) r → Q
+  none_broken r why =
       let same : in_kinds (map cut why.0) ≡ os = ap (λ (xs : List Object). in_kinds (map cut xs)) (said_is why.0 why.1) ∙ ap (λ (xs : List Object). in_kinds xs) are.kept ∙ are.order in
-      let none : first_broken (in_kinds (map cut why.0)) ≡ None = ap (λ (xs : List Object). first_broken xs) same ∙ are.valid in
+      let none : refusal_from (first_broken (in_kinds (map cut why.0))) ≡ None = ap (λ (xs : List Object). refusal_from (first_broken xs)) same ∙ ap refusal_from are.valid in
       let some = why.2 in
       cc
 

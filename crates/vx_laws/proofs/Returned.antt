@@ -1,238 +1,339 @@
--- An import gives a group back that was left on its devices.
-use Rattle.std.proofs.Common.{◌≡◌, ℕ, ◌<◌, ◌^◌, Bool, true, false, not, ◌||◌, nat_lt, List, [], map, Option, Some, None, is_some, refl, sym, ◌∙◌, ap, subst, inl, inr, arith}
-use Rattle.std.specs.Prelude.{if◌then◌else◌}
-use Rattle.std.specs.List.{list_all, filter}
+-- An import gives a group back that was left on its devices, as by a deport.
+use Rattle.std.proofs.Common.{◌≡◌, ◌⊎◌, ℕ, ◌+◌, ◌<◌, ◌≤◌, ◌^◌, Bool, true, false, ◌||◌, List, [], ◌∷◌, ◌++◌, length, Option, Some, None, refl, sym, ◌∙◌, ap, subst, inl, inr, arith, append-nil}
 use Rattle.std.specs.List.Sorted.{IsPermutation}
-use Rattle.std.specs.Str.{bytes_eq}
-use Rattle.std.proofs.lemmas.Bool.{and_parts}
+use Rattle.vx_base.specs.Counts.{RoseBy}
 use Rattle.vx_base.specs.Named.{Word}
-use Rattle.vx_base.proofs.NamedLemmas.{bytes_eq_self, bytes_eq_same}
+use Rattle.vx_base.proofs.NamedLemmas.{bytes_eq_same, bytes_eq_self}
 use Rattle.vx_mask.specs.Mask.{has}
-use Rattle.vx_header.specs.Named.{Label, header_of}
-use Rattle.vx_copies.specs.Lists.{Each, AllOf, AnyOf}
-use Rattle.vx_copies.specs.Image.{Offer, highest}
-use Rattle.vx_record.specs.Content.{Content}
-use Rattle.vx_record.proofs.Stopped.{spells_one, not_bad}
-use Rattle.vx_parts.specs.declared.vol.Vol.{Vol}
+use Rattle.vx_copies.specs.Lists.{AllOf, AnyOf}
+use Rattle.vx_copies.specs.Image.{Offer, offer_in}
 use Rattle.vx_parts.specs.declared.object.Object.{Object}
 use Rattle.vx_rules.specs.Rules.{first_broken}
 use Rattle.vx_objects.specs.declared.config.Config.{Config}
 use Rattle.vx_objects.specs.Config.{objects_of}
-use Rattle.vx_objects.specs.Printed.{record_of, IsReadOf}
-use Rattle.vx_world.specs.declared.answer.Answer.{Answer}
-use Rattle.vx_world.specs.Failures.{Failures, HasFailed}
-use Rattle.vx_world.specs.World.{World, Device, Group}
-use Rattle.vx_world.specs.Back.{IsTextOf, label_of}
-use Rattle.vx_world.specs.Joining.{is_among, DropsFailed}
-use Rattle.vx_world.specs.Groups.{next_slot, without, was_good}
-use Rattle.vx_world.specs.Import.{IsBrokenBy, Candidate, IsCandidate, IsUpTo, AreCounted, offers_of as candidates_offer, first_that, is_recorded, good_ones, member_of, members_of, import_records, missing_from, is_damaged_one, IsImportTooLong, IsImported, IsUnimported, IsCommitted, IsConfigured, IsTextRead, IsComplete, IsTaken, Imports, IsImport}
-use Rattle.vx_laws.specs.Returning.{IsWell, IsSameMember, IsLeftBehind, NothingFails, AreAllGood, IsUnclaimed, IsReturnedOrNot, EachGroupReturns}
-use Rattle.vx_laws.proofs.Several.{at_found, at_test, clash, either, both_ways, alike, any_with, any_map, any_all, all_map, list_any_from, all_filter, all_all, first_none}
-use Rattle.vx_laws.proofs.Matched.{nobody, slot_among, IsOf, at_once, same_members}
-use Rattle.vx_laws.proofs.Offered.{IsGiven, all_of, found, picked, given}
-use Rattle.vx_laws.proofs.Orderless.{is_plain, all_permuted}
-use Rattle.vx_laws.proofs.Reread.{IsSpelled, all_with, spelled, none_broken, read_is, committed_is, same_print, same_length}
+use Rattle.vx_script_forms.specs.declared.form.Form.TheVariants.{DgImport, DgDeport}
+use Rattle.vx_answers.specs.declared.answer.Answer.{Answer}
+use Rattle.vx_answers.specs.declared.answer.Answer.TheVariants.{One}
+use Rattle.vx_answers.specs.declared.answer.End.{End}
+use Rattle.vx_answers.specs.declared.refusal.Refusal.{Refusal}
+use Rattle.vx_moments.specs.World.{World, Member, Group}
+use Rattle.vx_moments.specs.Moment.{Moment, HasFailed}
+use Rattle.vx_moments.specs.Holding.{IsMemberDevice, is_among}
+use Rattle.vx_moments.specs.Leaving.{group_gone}
+use Rattle.vx_moments.specs.Copies.{IsTextOf}
+use Rattle.vx_moments.specs.Commit.{Writing, parties, is_written_slot, is_slot_of, Goes, NoneFailed, IsCommitted}
+use Rattle.vx_plans.specs.Finding.{Candidate, IsCandidate, AreCounted, Found, Finds, group_found, import_records}
+use Rattle.vx_plans.specs.Plans.{plan_of, plan_deport}
+use Rattle.vx_plans.specs.Records.{next_slot}
+use Rattle.vx_plans.specs.Refusals.{refusal_from}
+use Rattle.vx_plans.specs.Stages.{Stops, IsBetween, IsImporting, ImportRefused, RefusedAsLong}
+use Rattle.vx_plans.specs.Steps.{Runs, Serves}
+use Rattle.vx_plans.specs.Laws.{WentWell}
+use Rattle.vx_plans.specs.declared.stages.Finish.TheVariants.{Nothing}
+use Rattle.vx_plans.specs.declared.stage.Stage.TheVariants.{Import}
+use Rattle.vx_plans.proofs.Calm.{calm, shelf_calm, powered, none_of, nowhere, well_after}
+use Rattle.vx_laws.specs.Returning.{HasSamePublic, IsKeptOn, nobody, IsOutdated, IsLeftBehind, IsFull, IsReturned, is_done, good_members, EachGroupReturns, IsWhole, EachWholeGroupComesBack, IsDeviceOf}
+use Rattle.vx_laws.proofs.Several.{clash, either, both_ways, alike, any_with, all_map, all_filtered, all_append, all_pass, all_any}
+use Rattle.vx_laws.proofs.Reread.{committed_is, same_print, same_length}
 use Rattle.vx_laws.proofs.Slots.{next_kept}
-use Rattle.vx_laws.proofs.Recorded.{each_all, names_group, same_recorded, just_disks, any_filter, each_any, all_mapped, any_mapped, still_rise, not_all_failed, none_dropped, not_away}
+use Rattle.vx_laws.proofs.Recorded.{same_recorded}
+use Rattle.vx_laws.proofs.Runs.{served, left_so, well_before, same_well, none_failed, well_from}
+use Rattle.vx_laws.proofs.Found.{current_short, members_back, in_text, same_objects, named, disks_alone, finds_taken}
+use Rattle.vx_laws.proofs.Committed.{same_candidate, HasItsHeader, IsRecorded, CanBeWritten, can_be, kept_as, group_now, all_good, one_more, public_kept, each_other, left_behind}
+use Rattle.vx_parts.specs.declared.vol.Vol.{Vol}
+use Rattle.vx_answers.specs.declared.refusal.Refusal.TheVariants.{NoGroup}
+use Rattle.vx_plans.specs.Tests.{fails, unless, is_here, in_use_by, started_of, first_started}
+use Rattle.vx_plans.specs.declared.test.Test.TheVariants as tests
 
--- ---- the import
+-- ---- all devices are found
 
-module _ (f : Failures) (none : NothingFails f) (g : Group) (old new : World) (answer : Answer) (left : IsLeftBehind g old) (cs : List Candidate) (count : AreCounted g.config.group nobody old cs) (o : Offer) (is : IsGiven g cs o) (text : IsSpelled g.config o.text) where
-  -- the good candidates are the good members
-  members_same : Each IsSameMember (was_good g) (members_of o.good cs)
-  members_same =
-      subst (λ (test : Candidate → Bool). Each IsSameMember (was_good g) (map member_of (filter test cs))) (λ i c. sym (is.is.good c.label.slot) i)
-      (same_members g.config.group g.good old.devices (λ s. slot_among s cs) g.members left.left.back cs left.left.here (found g old left cs count) (picked g old left cs count))
+none_excused : (names : List Word) (before now : ℕ) (name : Word) → now ≡ before → now ≤ 18446744073709551614 → RoseBy (length names) before now → is_among name names ≡ false
+none_excused [] before now name same room rose = refl
+none_excused (n ∷ names) before now name same room rose = absurd (omega (arith, same, room, rose))
 
-  some_member : AnyOf (λ m. has o.good m.slot ≡ true) (members_of o.good cs)
-  some_member =
-      each_any (λ m. has g.good m.slot ≡ true) (λ m. has o.good m.slot ≡ true) (was_good g) (members_of o.good cs) (λ m n same h. is.is.good n.slot ∙ ap (λ (s : ℕ). has g.good s) same.slot ∙ h) members_same
-      (any_filter (λ m. has g.good m.slot) (λ m. has g.good m.slot ≡ true) g.members (λ m h. h) left.well.some_good)
+never_so : (b : Bool) → (b ≡ true → ⊥) → b ≡ false
+never_so true never = absurd (never refl)
+never_so false never = refl
 
-  -- each good slot is that of a member
-  all_placed : (slot : ℕ) → has g.good slot ≡ true → AnyOf (λ m. m.slot ≡ slot) (members_of o.good cs)
-  all_placed slot h =
-      each_any (λ m. m.slot ≡ slot) (λ m. m.slot ≡ slot) (was_good g) (members_of o.good cs) (λ m n same e. same.slot ∙ e) members_same
-      (any_filter (λ m. has g.good m.slot) (λ m. m.slot ≡ slot) g.members (λ m e. ap (λ (s : ℕ). has g.good s) e ∙ h) (left.well.placed slot h))
+module _ (dg : Word) (w : World) (old mid : Moment) (well : WentWell old mid) (f : Found dg w old.counts mid.counts) where
+  all_there : (name : Word) → f.absent name ≡ false
+  all_there name =
+      never_so (f.absent name)
+      (λ is.
+      either (λ failed. calm old mid well name failed)
+      (λ among. both_ways (is_among name f.excused) among (none_excused f.excused old.counts.shelf mid.counts.shelf name well.quiet.shelf well.shelf_room f.shelf))
+      (f.gone name is))
 
-  slots_same : (good : ℕ) → ((slot : ℕ) → has good slot ≡ true → has o.good slot ≡ true) → DropsFailed f (members_of o.good cs) good → (slot : ℕ) → has good slot ≡ has g.good slot
-  slots_same good few drops slot =
-      alike (has good slot) (has g.good slot) (λ h. sym (is.is.good slot) ∙ few slot h)
-      (λ h. any_with (λ m. has good m.slot ≡ true) (λ m. m.slot ≡ slot) (members_of o.good cs) (λ m kept e. subst (λ (s : ℕ). has good s ≡ true) e kept) (none_dropped f none good (members_of o.good cs) drops) (all_placed slot h))
+  all_read : (name : Word) → f.unread name ≡ false
+  all_read name = never_so (f.unread name) (λ is. calm old mid well name (f.failed name is))
 
-  -- the configuration records each good candidate
-  each_recorded : (config : Config) → objects_of config ≡ text.os → AllOf (λ c. has o.good c.label.slot ≡ true → is_recorded config c.label ≡ true) cs
-  each_recorded config e =
-      let same : IsPermutation (objects_of g.config) (objects_of config) = subst (λ (os : List Object). IsPermutation (objects_of g.config) os) (sym e) text.are.same in
-      all_map (λ c. AnyOf (IsOf g.config.group c) g.members) (λ c. has o.good c.label.slot ≡ true → is_recorded config c.label ≡ true) cs
-      (λ c any good.
-      any_with (λ m. has g.good m.slot ≡ true → is_recorded g.config (label_of g.config.group m) ≡ true) (IsOf g.config.group c) g.members
-      (λ m on of.
-      let slot : has g.good m.slot ≡ true = ap (λ (l : Label). has g.good l.slot) (sym of.1) ∙ sym (is.is.good c.label.slot) ∙ good in
-      same_recorded g.config config c.label same (subst (λ (l : Label). is_recorded g.config l ≡ true) (sym of.1) (on slot)))
-      left.well.recorded any)
-      (all_of g old left cs count)
+  counted : AreCounted dg nobody w f.counted
+  counted = subst (λ (u : Word → Bool). AreCounted dg u w f.counted) (λ i name. all_there name i) f.count
 
-  -- the group that is imported can be found again
-  well_again : (after : Config) (good : ℕ) → objects_of after ≡ text.os → ((slot : ℕ) → has good slot ≡ has g.good slot) → IsWell (record { config = after; good = good; members = members_of o.good cs })
-  well_again after good e same = record {
-    some_good = any_map (λ m. has o.good m.slot ≡ true) (λ m. has good m.slot ≡ true) (members_of o.good cs) (λ m h. same m.slot ∙ sym (is.is.good m.slot) ∙ h) some_member;
-    rising = still_rise (λ c. has o.good c.label.slot) cs count.rising;
-    placed = λ slot h. all_placed slot (sym (same slot) ∙ h);
-    recorded =
-        all_mapped member_of (λ m. has good m.slot ≡ true → is_recorded after (label_of after.group m) ≡ true) (good_ones o.good cs)
-        (all_filter (λ c. has o.good c.label.slot) (λ c. has good c.label.slot ≡ true → is_recorded after (label_of after.group (member_of c)) ≡ true) cs
-        (all_all (IsCandidate g.config.group nobody old) (λ c. has o.good c.label.slot ≡ true → is_recorded after c.label ≡ true) (λ c. has o.good c.label.slot ≡ true → has good c.label.slot ≡ true → is_recorded after (label_of after.group (member_of c)) ≡ true) cs
-        (λ c own on in_offer h. ap (λ (n : ℕ). is_recorded after (record { group = after.group; disk = c.label.disk; slot = c.label.slot; sectors = n })) (sym own.size) ∙ on in_offer) count.each (each_recorded after e)));
-    just_disks = just_disks after (subst (λ (os : List Object). list_all is_plain os ≡ true) (sym e) text.are.plain);
+  finds_all : (Refused : Refusal → Type 0) (Taken : Offer → Config → Type 0) → Finds dg w f.unread f.counted Refused Taken → Finds dg w nobody f.counted Refused Taken
+  finds_all Refused Taken finds = subst (λ (u : Word → Bool). Finds dg w u f.counted Refused Taken) (λ i name. all_read name i) finds
+
+-- ---- what is written is the group
+
+-- the group is written as it was, but for its members that are not good
+pub record IsSameGroup (g : Group) (os : List Object) (x : Writing) : Type 0 where
+  pub good : x.group.good ≡ g.good
+  pub members : x.group.members ≡ good_members g
+  pub sequence : x.group.sequence ≡ g.sequence
+  pub objects : objects_of x.config ≡ os
+  pub carriers : x.carriers ≡ x.group.members
+  pub joiners : x.joiners ≡ []
+
+or_nothing : (b : Bool) → (b || false) ≡ b
+or_nothing true = refl
+or_nothing false = refl
+
+module _ (g : Group) (w : World) (left : IsLeftBehind g w) where
+  text_short : length left.text ≤ 522240
+  text_short = of (good_members g) left.some left.kept
+    where
+      of : (ms : List Member) → (ms ≡ [] → ⊥) → AllOf (IsKeptOn g left.text w) ms → length left.text ≤ 522240
+      of [] some kept = absurd (some refl)
+      of (m ∷ ms) some kept = current_short g.sequence g.good left.text kept.0.device.contents kept.0.current
+
+  -- what an import writes is the group
+  same_group : (x : Writing) (old mid : Moment) → WentWell old mid → g.sequence ≤ 2 ^ 63 → IsImporting g.config.group w x old.counts mid.counts → IsSameGroup g (in_text g w left).os x
+  same_group x old mid well low i =
+      let f = i.found in
+      let count = counted g.config.group w old mid well f in
+      let Taken : Offer → Config → Type 0 = λ o config. (x.group ≡ group_found o f.counted config) × (objects_of x.config ≡ import_records config) in
+      let found = finds_taken g w left f.counted count (λ r. ⊥) Taken low (finds_all g.config.group w old mid well f (λ r. ⊥) Taken i.finds) in
+      let group_is = found.2.0 in
+      record {
+        good = ap (λ (h : Group). h.good) group_is;
+        members = ap (λ (h : Group). h.members) group_is ∙ members_back g w left f.counted count;
+        sequence = ap (λ (h : Group). h.sequence) group_is;
+        objects = found.2.1 ∙ committed_is g.config (in_text g w left).os (in_text g w left).are found.0 found.1;
+        carriers = i.carriers;
+        joiners = i.joiners;
+      }
+
+  -- and it is not refused
+  not_refused : {Q : Type 0} (old new : Moment) (end : End) → WentWell old new → g.sequence ≤ 2 ^ 63 → ImportRefused g.config.group w end old.counts new.counts → Q
+  not_refused {Q = Q} old new end well low denied =
+      let f = denied.found in
+      let count = counted g.config.group w old new well f in
+      let Refused : Refusal → Type 0 = λ r. r ≡ denied.why in
+      let Taken : Offer → Config → Type 0 = λ o config. (refusal_from (first_broken (import_records config)) ≡ Some denied.why) ⊎ ((after : Config) × (objects_of after ≡ import_records config) × RefusedAsLong after end) in
+      let found = finds_taken g w left f.counted count Refused Taken low (finds_all g.config.group w old new well f Refused Taken denied.finds) in
+      let records = committed_is g.config (in_text g w left).os (in_text g w left).are found.0 found.1 in
+      either
+      (λ (broken : refusal_from (first_broken (import_records found.0)) ≡ Some denied.why).
+      let none : refusal_from (first_broken (import_records found.0)) ≡ None = ap (λ (os : List Object). refusal_from (first_broken os)) records ∙ ap refusal_from (in_text g w left).are.valid in
+      clash (refusal_from (first_broken (import_records found.0))) denied.why none broken)
+      (λ (long : (after : Config) × (objects_of after ≡ import_records found.0) × RefusedAsLong after end). not_long long.0 (long.1 ∙ records) end long.2) found.2
+    where
+      not_long : (after : Config) → objects_of after ≡ (in_text g w left).os → (e : End) → RefusedAsLong after e → Q
+      not_long after same e (text, printed, past, is) =
+          let again : IsTextOf after left.text = same_print (objects_of g.config) (objects_of after) [] left.text (same_objects g w left after same) left.text_is in
+          let lengths = same_length (objects_of after) left.text text again printed in
+          let short = text_short in
+          absurd (omega (arith, lengths, short, past))
+
+  module _ (x : Writing) (same : IsSameGroup g (in_text g w left).os x) where
+    pub written_is : (slot : ℕ) → is_written_slot x slot ≡ has g.good slot
+    written_is slot =
+        ap (λ (ms : List Member). has x.group.good slot || is_slot_of ms slot) same.joiners
+        ∙ or_nothing (has x.group.good slot)
+        ∙ ap (λ (good : ℕ). has good slot) same.good
+
+    pub parties_are : parties x ≡ good_members g
+    parties_are = ap (λ (ms : List Member). x.group.members ++ ms) same.joiners ∙ append-nil x.group.members ∙ same.members
+
+    pub name_is : x.config.group ≡ g.config.group
+    name_is = bytes_eq_same x.config.group g.config.group (named g w left x.config same.objects)
+
+    -- what is written can be found again
+    pub ready : CanBeWritten x w
+    ready =
+        let on : AllOf (λ m. has g.good m.slot ≡ true) (good_members g) = all_filtered (λ m. has g.good m.slot) g.members in
+        let kept = all_map (IsKeptOn g left.text w) (λ m. HasItsHeader x w m × IsRecorded x w m) (good_members g) (λ m k. kept_as g left.text w x m name_is (λ l is. same_recorded g.config x.config l (same_objects g w left x.config same.objects) is) k) left.kept in
+        can_be x (λ slot. has g.good slot) (good_members g) (good_members g) w written_is same.members parties_are
+        (record {
+          some = left.some;
+          written = on;
+          rising = left.rising;
+          placed = left.placed;
+          just_disks = disks_alone g w left x.config same.objects;
+          recorded = all_map (λ m. HasItsHeader x w m × IsRecorded x w m) (IsRecorded x w) (good_members g) (λ m h. h.1) kept;
+          good = subst (λ (good : ℕ). AllOf (λ m. has good m.slot ≡ true) (good_members g)) (sym same.good) on;
+          headed = all_map (λ m. HasItsHeader x w m × IsRecorded x w m) (HasItsHeader x w) (good_members g) (λ m h. h.0) kept;
+        })
+
+-- ---- the group that is imported
+
+-- a free device is free once the group is let go, too
+still_candidate : (group : Word) (w : World) (d : Candidate) → w.group ≡ None → IsCandidate group nobody (group_gone w) d → IsCandidate group nobody w d
+still_candidate group w d none is =
+    same_candidate group (group_gone w) w d (λ held. either (λ lent. is.free (inl lent)) (λ member. subst (λ (o : Option Group). IsMemberDevice o d.name) none member) held) refl is
+
+module _ (g : Group) (x : Writing) (old new : Moment) (left : IsLeftBehind g old.world) (same : IsSameGroup g (in_text g old.world left).os x) (c : IsCommitted x old new) (none : NoneFailed old.counts new.counts) where
+  can : CanBeWritten x old.world
+  can = ready g old.world left x same
+
+  are : parties x ≡ good_members g
+  are = parties_are g old.world left x same
+
+  own : x.config.group ≡ g.config.group
+  own = name_is g old.world left x same
+
+  records_same : IsPermutation (objects_of g.config) (objects_of x.config)
+  records_same = same_objects g old.world left x.config same.objects
+
+  was : (d : Candidate) → IsCandidate x.config.group nobody (group_gone old.world) d → IsCandidate g.config.group nobody old.world d
+  was d is = still_candidate g.config.group old.world d left.no_group (subst (λ (name : Word). IsCandidate name nobody (group_gone old.world) d) own is)
+
+  -- the good slots are the same
+  slots_same : (slot : ℕ) → has c.good slot ≡ has g.good slot
+  slots_same slot =
+      alike (has c.good slot) (has g.good slot)
+      (λ is. sym (written_is g old.world left x same slot) ∙ c.mask.few slot is)
+      (λ on. any_with (λ m. has c.good m.slot ≡ true) (λ m. m.slot ≡ slot) (parties x) (λ m is e. subst (λ (s : ℕ). has c.good s ≡ true) e is) (all_good x old new can c none) (can.placed slot (written_is g old.world left x same slot ∙ on)))
+
+  -- what was outdated still is
+  still_outdated : (d : Candidate) → IsOutdated g d → IsOutdated (group_now x old new can c none) d
+  still_outdated d was_old = record {
+    slot = slots_same d.label.slot ∙ was_old.slot;
+    older = λ o is.
+        let low = was_old.older o (subst (λ (name : Word). offer_in name d.device.contents ≡ Some o) own is) in
+        let rose = c.rose in
+        let from = same.sequence in
+        omega (arith, low, rose, from);
   }
 
-  -- the configuration has the group's name
-  named : (config : Config) → objects_of config ≡ text.os → bytes_eq config.group g.config.group ≡ true
-  named config e =
-      let same : IsPermutation (objects_of g.config) (objects_of config) = subst (λ (os : List Object). IsPermutation (objects_of g.config) os) (sym e) text.are.same in
-      let names : list_all (names_group g.config.group) (objects_of config) ≡ true = all_permuted (names_group g.config.group) (objects_of g.config) (objects_of config) same (all_with g.config left.well.just_disks (names_group g.config.group) (bytes_eq_self g.config.group) (λ d. refl)) in
-      (and_parts (bytes_eq config.group g.config.group) _ names).0
+  left_again : IsLeftBehind (group_now x old new can c none) (group_gone new.world)
+  left_again =
+      left_behind x old new can c none
+      (λ d is off. either (λ (mine : IsDeviceOf (good_members g) d.name). absurd (off (subst (λ (ms : List Member). IsDeviceOf ms d.name) (sym are) mine))) (λ (old_one : IsOutdated g d). still_outdated d old_one) (left.others d (was d is)))
 
-  -- a device that bears the group's name is among those that were taken, where all members are good
-  all_taken : AreAllGood g → (name : Word) (d : Device) (l : Label) → old.devices name ≡ Some d → header_of (d.contents 0) ≡ Some l → l.group ≡ g.config.group → l.sectors ≡ d.sectors → is_among name (map (λ c. c.name) (good_ones o.good cs)) ≡ true
-  all_taken good name d l free header group size =
-      let there = left.no_stranger name d l free header group size in
-      let first = count.first (record { name = name; device = d; label = l }) (record { free = free; present = refl; header = header; group_is = group; size = size }) in
-      let here : AnyOf (λ (c : Candidate). (has o.good c.label.slot ≡ true) × (c.name ≡ name)) cs =
-      any_all (λ c. AnyOf (IsOf g.config.group c) g.members) (λ c. (c.label.slot ≡ l.slot) × IsUpTo c.name name) (λ c. (has o.good c.label.slot ≡ true) × (c.name ≡ name)) cs
-      (λ c of slot.
-      at_once (IsOf g.config.group c) (λ m. (has g.good m.slot ≡ true) × (m.device ≡ name) × (l ≡ label_of g.config.group m)) l.slot g.members left.well.rising (λ m is. sym (ap (λ (x : Label). x.slot) is.1) ∙ slot.0) (λ m is. sym (ap (λ (x : Label). x.slot) is.2))
-      (λ m one two. (is.is.good c.label.slot ∙ ap (λ (x : Label). has g.good x.slot) one.1 ∙ two.0, sym one.0 ∙ two.1))
-      of
-      (any_all (λ m. has g.good m.slot ≡ true) (λ m. (m.device ≡ name) × (l ≡ label_of g.config.group m)) (λ m. (has g.good m.slot ≡ true) × (m.device ≡ name) × (l ≡ label_of g.config.group m)) g.members (λ m h k. (h, k.0, k.1)) good there))
-      (all_of g old left cs count) first in
-      list_any_from (λ n. bytes_eq n name) (λ n. n ≡ name) (map (λ c. c.name) (good_ones o.good cs)) (λ n e. subst (λ (x : Word). bytes_eq x name ≡ true) (sym e) (bytes_eq_self name))
-      (any_mapped (λ c. c.name) (λ n. n ≡ name) (good_ones o.good cs)
-      (any_map (λ c. (has o.good c.label.slot ≡ true) × (c.name ≡ name)) (λ c. c.name ≡ name) (good_ones o.good cs) (λ c h. h.1)
-      (any_filter (λ c. has o.good c.label.slot) (λ c. (has o.good c.label.slot ≡ true) × (c.name ≡ name)) cs (λ c h. h.0) here)))
+  full_again : IsFull g old.world → IsFull (group_now x old new can c none) (group_gone new.world)
+  full_again full =
+      let all : parties x ≡ g.members = are ∙ all_pass (λ m. has g.good m.slot) g.members full.all_good in
+      let up = next_kept g.config x.config records_same in
+      record {
+        all_good = all_good x old new can c none;
+        packed = subst (AllOf (λ m. m.slot < next_slot x.config)) (sym all) (all_map (λ m. m.slot < next_slot g.config) (λ m. m.slot < next_slot x.config) g.members (λ m lt. omega (arith, lt, up)) full.packed);
+        alone = λ d is.
+            either (λ mine. mine) (λ never. absurd never)
+            (each_other x old new can c none {Other = λ d. ⊥} (λ e was_one off. off (subst (λ (ms : List Member). IsDeviceOf ms e.name) (sym all) (full.alone e (was e was_one)))) d is);
+      }
 
-  -- no device that is left bears the group's name
-  unclaimed : (group : Word) → group ≡ g.config.group → new.devices ≡ (without (map (λ c. c.name) (good_ones o.good cs)) old).devices → AreAllGood g → IsUnclaimed group new
-  unclaimed group own world good = λ name d l here header claims size.
-      let was : (if is_among name (map (λ c. c.name) (good_ones o.good cs)) then None else old.devices name) ≡ Some d = ap (λ (devices : Word → Option Device). devices name) (sym world) ∙ here in
-      let free = not_away (is_among name (map (λ c. c.name) (good_ones o.good cs))) (old.devices name) d was in
-      both_ways (is_among name (map (λ c. c.name) (good_ones o.good cs))) (all_taken good name d l free.1 header (claims ∙ own) size) free.0
+  returned : IsReturned g old.world new.world
+  returned = record {
+    now = group_now x old new can c none;
+    here = c.group;
+    named = own;
+    records = records_same;
+    text = λ t printed. same_print (objects_of g.config) (objects_of x.config) [] t records_same printed;
+    good = slots_same;
+    members = are;
+    sequence = one_more x old new can c none ∙ ap (λ (n : ℕ). n + 1) same.sequence;
+    public = all_append (λ m. Goes HasSamePublic m.device old.world new.world) x.group.members x.joiners
+        (public_kept x c.last c.good old new x.group.members c.committing.short can.good c.committing.members)
+        (subst (AllOf (λ m. Goes HasSamePublic m.device old.world new.world)) (sym same.joiners) tt);
+    others = c.committing.others;
+    volumes = c.committing.volumes;
+    left = left_again;
+    whole = λ full. record { here = c.group; left = left_again; full = full_again full };
+  }
 
-  imported : (after : Config) → objects_of after ≡ text.os → IsImported f o cs after old answer new → IsReturnedOrNot g old answer new
-  imported after e i =
-      let same : IsPermutation (objects_of g.config) (objects_of after) = subst (λ (os : List Object). IsPermutation (objects_of g.config) os) (sym e) text.are.same in
-      let own : after.group ≡ g.config.group = bytes_eq_same after.group g.config.group (named after e) in
-      let here : new.group ≡ Some (record { config = after; good = i.good; members = members_of o.good cs }) = ap (λ (w : World). w.group) i.world in
-      let well = well_again after i.good e (slots_same i.good i.few i.others) in
-      inl (record {
-        told = i.told;
-        now = record { config = after; good = i.good; members = members_of o.good cs };
-        here = here;
-        named = own;
-        records = same;
-        text = λ t printed. same_print (objects_of g.config) (objects_of after) [] t same printed;
-        good = slots_same i.good i.few i.others;
-        members = members_same;
-        well = well;
-        whole = λ good packed. record {
-          here = here;
-          well = well;
-          packed =
-              each_all (λ m. m.slot < next_slot g.config) (λ m. m.slot < next_slot after) (was_good g) (members_of o.good cs)
-              (λ m n kept lt. let up = next_kept g.config after same in let e = kept.slot in omega (arith, lt, up, e))
-              members_same
-              (all_filter (λ m. has g.good m.slot) (λ m. m.slot < next_slot g.config) g.members (all_map (λ m. m.slot < next_slot g.config) (λ m. has g.good m.slot ≡ true → m.slot < next_slot g.config) g.members (λ m lt is. lt) packed));
-          all_good = none_dropped f none i.good (members_of o.good cs) i.others;
-          unclaimed = unclaimed after.group own (ap (λ (w : World). w.devices) i.world) good;
-        };
-      })
+-- ---- the command
 
-  unimported : (after : Config) → IsUnimported f o cs after old answer new → IsReturnedOrNot g old answer new
-  unimported after i = either (λ lost. not_all_failed f none o.good (members_of o.good cs) some_member lost.2) (λ cut. inr (inr cut.0)) i.ends
+done_at : (g : Group) (old from new : Moment) (left : IsLeftBehind g old.world) → g.sequence ≤ 2 ^ 63 → WentWell old new → IsBetween old from new → (x : Writing) → IsImporting g.config.group old.world x old.counts from.counts → IsCommitted x from new → IsReturned g old.world new.world
+done_at g old from new left low well between x writing committed =
+    let first = well_before old from new between.first between.rest well in
+    let rest = well_after old from new between.first between.rest well in
+    let Back : World → Type 0 = λ w. (l : IsLeftBehind g w) → IsSameGroup g (in_text g w l).os x → IsReturned g w new.world in
+    let back : Back from.world = λ l same. returned g x from new l same committed (none_failed from new rest) in
+    subst Back between.world back left (same_group g old.world left x old from first low writing)
 
-  -- the text was short enough, and is as long as before
-  not_long : {R : Type 0} (after : Config) → objects_of after ≡ text.os → (n : ℕ) → IsImportTooLong after n → R
-  not_long after e n long =
-      let same : IsPermutation (objects_of g.config) (objects_of after) = subst (λ (os : List Object). IsPermutation (objects_of g.config) os) (sym e) text.are.same in
-      let one : IsTextOf after o.text = same_print (objects_of g.config) (objects_of after) [] o.text same is.is.text in
-      let lengths = same_length (objects_of after) o.text long.0 one long.1 in
-      let short = is.short in
-      let counted = long.2 in
-      let past = long.3 in
-      absurd (omega (arith, lengths, short, counted, past))
+not_stopped : {Q : Type 0} (g : Group) (old new : Moment) (end : End) (left : IsLeftBehind g old.world) → g.sequence ≤ 2 ^ 63 → WentWell old new → Stops (Import g.config.group) [] old end new → Q
+not_stopped g old new end left low well (inl (h, here, ends)) = clash old.world.group h left.no_group here
+not_stopped g old new end left low well (inr (inl (reads, inl denied))) = not_refused g old.world left old new end well low denied
+not_stopped g old new end left low well (inr (inl (reads, inr (inl shelf)))) = absurd (shelf_calm old new well shelf.1)
+not_stopped g old new end left low well (inr (inl (reads, inr (inr (is, (name, cut)))))) = absurd (powered old new well name cut)
+not_stopped g old new end left low well (inr (inr (mid, between, (x, writing, stopped)))) =
+    let first = well_before old mid new between.first between.rest well in
+    let rest = well_after old mid new between.first between.rest well in
+    let same = same_group g old.world left x old mid first low writing in
+    let can = ready g old.world left x same in
+    let some : AnyOf (λ m. is_written_slot x m.slot ≡ true) (parties x) = all_any (λ m. is_written_slot x m.slot ≡ true) (parties x) can.some can.written in
+    let carried : AnyOf (λ m. is_written_slot x m.slot ≡ true) x.carriers = subst (AnyOf (λ m. is_written_slot x m.slot ≡ true)) (parties_are g old.world left x same ∙ sym same.members ∙ sym same.carriers) some in
+    either
+    (λ lost_all. absurd (none_of (λ m. is_written_slot x m.slot ≡ true → HasFailed mid.counts new.counts m.device) (λ m. is_written_slot x m.slot ≡ true) x.carriers (λ m fails on. calm mid new rest m.device (fails on)) lost_all.1 carried))
+    (λ gone. absurd (nowhere (λ m. new.counts.cut m.device ≡ true) (parties x) (λ m cut. powered mid new rest m.device cut) gone.1))
+    stopped.ends
 
-  committed : (config : Config) → objects_of config ≡ text.os → IsCommitted f o cs config old answer new → IsReturnedOrNot g old answer new
-  committed config e h =
-      let records = committed_is g.config text.os text.are config e in
-      let valid : first_broken (import_records config) ≡ None = ap (λ (os : List Object). first_broken os) records ∙ text.are.valid in
-      at_found (first_broken (import_records config))
-      (λ whole k.
-      let after : objects_of k.0 ≡ text.os = k.1 ∙ records in
-      either (λ long. not_long k.0 after long.0 long.1) (λ ends. either (λ i. imported k.0 after i) (λ i. unimported k.0 i) ends) k.2)
-      (λ fault broken k. clash (first_broken (import_records config)) fault valid broken) h
-
-  all_recorded : (config : Config) → objects_of config ≡ text.os → first_that (λ c. not (is_recorded config c.label)) (good_ones o.good cs) ≡ None
-  all_recorded config e =
-      first_none (λ c. not (is_recorded config c.label)) (good_ones o.good cs)
-      (all_filter (λ c. has o.good c.label.slot) (λ c. not (is_recorded config c.label) ≡ false) cs
-      (all_map (λ c. has o.good c.label.slot ≡ true → is_recorded config c.label ≡ true) (λ c. has o.good c.label.slot ≡ true → not (is_recorded config c.label) ≡ false) cs (λ c on good. ap not (on good)) (each_recorded config e)))
-
-  configured : (config : Config) → objects_of config ≡ text.os → IsConfigured f g.config.group o cs config old answer new → IsReturnedOrNot g old answer new
-  configured config e h =
-      let plain : list_all is_plain (objects_of config) ≡ true = subst (λ (os : List Object). list_all is_plain os ≡ true) (sym e) text.are.plain in
-      let free : first_that (λ v. is_some (old.volumes v.name)) config.volumes ≡ None = ap (λ (vs : List Vol). first_that (λ v. is_some (old.volumes v.name)) vs) (just_disks config plain).volumes in
-      at_test (bytes_eq config.group g.config.group)
-      (λ own k.
-      at_found (first_that (λ c. not (is_recorded config c.label)) (good_ones o.good cs))
-      (λ all l.
-      at_found (first_that (λ v. is_some (old.volumes v.name)) config.volumes) (λ no m. committed config e m) (λ v here m. clash (first_that (λ v. is_some (old.volumes v.name)) config.volumes) v free here) l)
-      (λ c here l. clash (first_that (λ c. not (is_recorded config c.label)) (good_ones o.good cs)) c (all_recorded config e) here) k)
-      (λ other k. both_ways (bytes_eq config.group g.config.group) (named config e) other) h
-
-  text_read : IsTextRead f g.config.group o cs old answer new → IsReturnedOrNot g old answer new
-  text_read (inl h) = absurd (not_bad o.text (map record_of text.os) h.0 text.spells h.1)
-  text_read (inr h) =
-      let same : h.0 ≡ map record_of text.os = spells_one o.text h.0 (map record_of text.os) h.1 text.spells in
-      either
-      (λ u. none_broken g.config text.os text.are u.0 (subst (λ (rs : List Content). IsBrokenBy rs u.0) same u.1))
-      (λ r. configured r.0 (read_is g.config text.os text.are r.0 (subst (λ (rs : List Content). IsReadOf rs r.0) same r.1)) r.2) h.2
-
-  complete : IsComplete f g.config.group nobody o cs old answer new → IsReturnedOrNot g old answer new
-  complete h = at_found (missing_from 32 0 o.good nobody cs) (λ all k. text_read k) (λ slot gone k. clash (missing_from 32 0 o.good nobody cs) slot is.here gone) h
-
-  taken : IsTaken f g.config.group nobody o cs old answer new → IsReturnedOrNot g old answer new
-  taken h =
-      at_test (nat_lt (2 ^ 63) o.sequence) (λ high k. both_ways (nat_lt (2 ^ 63) o.sequence) high is.low)
-      (λ low k. at_found (first_that (is_damaged_one nobody (λ c. has o.good c.label.slot)) cs) (λ whole l. complete l) (λ c hurt l. clash (first_that (is_damaged_one nobody (λ c. has o.good c.label.slot)) cs) c is.whole hurt) k) h
-
-  gives : Imports f g.config.group nobody cs old answer new → IsReturnedOrNot g old answer new
-  gives h =
-      at_found (highest (candidates_offer g.config.group nobody cs)) (λ nothing k. clash (highest (candidates_offer g.config.group nobody cs)) o nothing is.offered)
-      (λ p here k.
-      let same : p ≡ o = let known = is.offered in cc in
-      taken (subst (λ (x : Offer). IsTaken f g.config.group nobody x cs old answer new) same k)) h
-
--- neither can be
-clear : (a b : Bool) → ((a || b) ≡ true → ⊥) → (a ≡ false) × (b ≡ false)
-clear true b never = absurd (never refl)
-clear false true never = absurd (never refl)
-clear false false never = (refl, refl)
-
-all_clear : (f : Failures) (none : NothingFails f) (name : Word) → HasFailed f name → ⊥
-all_clear f none name (inl h) = both_ways (f.devices name) h (none.devices name)
-all_clear f none name (inr h) = both_ways f.shelf h none.shelfs
-
-import_gives : (f : Failures) (none : NothingFails f) (g : Group) (old new : World) (answer : Answer) (left : IsLeftBehind g old) (i : IsImport f g.config.group old answer new) → IsReturnedOrNot g old answer new
-import_gives f none g old new answer left i =
-    let calm : (name : Word) → (i.absent name ≡ false) × (i.unread name ≡ false) = λ name. clear (i.absent name) (i.unread name) (λ h. all_clear f none name (i.failed name h)) in
-    let count : AreCounted g.config.group nobody old i.counted = subst (λ (u : Word → Bool). AreCounted g.config.group u old i.counted) (λ k name. (calm name).0 k) i.count in
-    let imports : Imports f g.config.group nobody i.counted old answer new = subst (λ (u : Word → Bool). Imports f g.config.group u i.counted old answer new) (λ k name. (calm name).1 k) i.imports in
-    let offer = given g old left i.counted count in
-    gives f none g old new answer left i.counted count offer.0 offer.1 (spelled g.config left.well.just_disks offer.0.text offer.1.is.text) imports
+import_gives : (g : Group) (old new : Moment) (answer : Answer) → Serves (Runs [] (Import g.config.group ∷ []) Nothing) old answer new → IsLeftBehind g old.world → g.sequence ≤ 2 ^ 63 → WentWell old new → (answer ≡ is_done) × IsReturned g old.world new.world
+import_gives g old new answer s left low well = by s.does
+  where
+    by : Runs [] (Import g.config.group ∷ []) Nothing old s.views s.end s.over → (answer ≡ is_done) × IsReturned g old.world new.world
+    by (inl (mid, later, (free, from, between, (x, writing, committed)), (shows, is, same))) =
+        let over = left_so (Runs [] (Import g.config.group ∷ []) Nothing) old answer new s is ∙ same in (
+          s.told ∙ (λ i. One (shows i) (is i)),
+          subst (λ (m : Moment). IsReturned g old.world m.world) (sym over) (done_at g old from mid left low (subst (λ (m : Moment). WentWell old m) over well) between x writing committed),
+        )
+    by (inr (none, later, stops)) = not_stopped g old s.over s.end left low (same_well old s.over new s.counts well) stops
 
 pub each_group_returns : EachGroupReturns
-each_group_returns = λ f g old new answer none left step.
-    at_found old.group
-    (λ free k. either (λ i. import_gives f none g old new answer left i) (λ ends. either (λ h. inr (inl h)) (λ lost. inr (inr lost.told)) ends) k)
-    (λ there is k. clash old.group there left.no_group is) step
+unfolding plan_of
+each_group_returns = λ place c g old new answer is left low step well. import_gives g old new answer (served place c (DgImport g.config.group) old answer new is step) left low well
+
+-- ---- the tests of a deport
+
+pub is_meant_one : (g : Group) (w : World) → w.group ≡ Some g → fails (tests.GroupIs (Some g.config.group)) [] w ≡ None
+unfolding fails
+is_meant_one g w here =
+    ap (λ (o : Option Group). unless (is_here (Some g.config.group) o) (NoGroup (Some g.config.group))) here
+    ∙ ap (λ (b : Bool). unless b (NoGroup (Some g.config.group))) (bytes_eq_self g.config.group)
+
+none_started : (g : Group) (w : World) → w.group ≡ Some g → g.config.volumes ≡ [] → fails tests.NoneStarted [] w ≡ None
+unfolding fails
+none_started g w here none =
+    ap (λ (o : Option Group). in_use_by (started_of w.volumes o)) here
+    ∙ ap (λ (vs : List Vol). in_use_by (first_started w.volumes vs)) none
+
+-- ---- a deport, and an import
+
+-- the deport is done, and the group has gone
+pub record IsLetGo (told : Answer) (old new : Moment) : Type 0 where
+  pub is : told ≡ is_done
+  pub gone : new.world ≡ group_gone old.world
+  pub counts : new.counts ≡ old.counts
+
+deport_done : (g : Group) (old new : Moment) (told : Answer) → IsWhole g old.world → Serves (Runs [] (plan_deport g.config.group) Nothing) old told new → IsLetGo told old new
+deport_done g old new told whole s = by s.does
+  where
+    started : (m : Moment) → m ≡ old → fails tests.NoneStarted [] m.world ≡ None
+    started m same = subst (λ (x : Moment). fails tests.NoneStarted [] x.world ≡ None) (sym same) (none_started g old.world whole.here whole.left.just_disks.volumes)
+
+    by : Runs [] (plan_deport g.config.group) Nothing old s.views s.end s.over → IsLetGo told old new
+    by (inl (a, later_a, meant, (inl (b, later_b, free, (inl (c, later_c, (gone, counts), (shows, is, same))))))) =
+        let over = left_so (Runs [] (plan_deport g.config.group) Nothing) old told new s is ∙ same in
+        let first : b ≡ old = free.1 ∙ meant.1 in record {
+          is = s.told ∙ (λ i. One (shows i) (is i));
+          gone = ap (λ (m : Moment). m.world) over ∙ gone ∙ ap (λ (m : Moment). group_gone m.world) first;
+          counts = ap (λ (m : Moment). m.counts) over ∙ counts ∙ ap (λ (m : Moment). m.counts) first;
+        }
+    by (inl (a, later_a, meant, (inl (b, later_b, free, (inr (none, later_c, stops)))))) = absurd stops
+    by (inl (a, later_a, meant, (inr (none, later_b, (r, denied, is, same))))) = clash (fails tests.NoneStarted [] a.world) r (started a meant.1) denied
+    by (inr (none, later_a, (r, denied, is, same))) = clash (fails (tests.GroupIs (Some g.config.group)) [] old.world) r (is_meant_one g old.world whole.here) denied
+
+pub each_whole_group_comes_back : EachWholeGroupComesBack
+unfolding plan_of
+each_whole_group_comes_back = λ place out back g old new told answer is_out is_back whole low steps well.
+    let mid = steps.0 in
+    let next = steps.2.0 in
+    let same : new ≡ next = steps.2.2 in
+    let let_go = deport_done g old mid told whole (served place out (DgDeport g.config.group) old told mid is_out steps.1) in
+    let rest : WentWell mid next = well_from old mid next let_go.counts (subst (λ (m : Moment). WentWell old m) same well) in
+    let left : IsLeftBehind g mid.world = subst (IsLeftBehind g) (sym let_go.gone) whole.left in
+    let got = each_group_returns (place + 1) back g mid next answer is_back left low steps.2.1 rest in
+    let returned : IsReturned g (group_gone old.world) new.world =
+    subst (λ (w : World). IsReturned g w new.world) let_go.gone (subst (λ (m : Moment). IsReturned g mid.world m.world) (sym same) got.1) in
+    (let_go.is, got.0, returned, returned.whole whole.full)

@@ -1,10 +1,10 @@
 -- Tests, and what holds of the members of a list.
-use Rattle.std.proofs.Common.{◌≡◌, ◌⊎◌, ℕ, ◌<◌, ◌≤◌, Bool, true, false, not, cond, ◌&&◌, ◌||◌, ◌==◌, List, [], ◌∷◌, Option, Some, None, refl, sym, ◌∙◌, ap, inl, inr, arith, nat_lt}
+use Rattle.std.proofs.Common.{◌≡◌, ◌⊎◌, ℕ, ◌≤◌, Bool, true, false, not, cond, ◌&&◌, ◌||◌, ◌==◌, List, [], ◌∷◌, ◌++◌, map, Option, Some, None, refl, sym, ◌∙◌, ap, subst, inl, inr, arith, nat_lt}
 use Rattle.std.specs.Prelude.{MatchBool, MatchOption}
 use Rattle.std.specs.List.{list_any, filter}
 use Rattle.std.proofs.lemmas.Bool.Decides.{nat_tests}
 use Rattle.vx_copies.specs.Lists.{AllOf, AnyOf}
-use Rattle.vx_world.specs.Import.{first_that}
+use Rattle.vx_plans.specs.Finding.{first_that}
 
 -- ---- tests
 
@@ -28,21 +28,11 @@ pub both_ways : {Q : Type 0} (b : Bool) → b ≡ true → b ≡ false → Q
 both_ways true p q = cc
 both_ways false p q = cc
 
-pub true_or_false : (b : Bool) → (b ≡ true) ⊎ (b ≡ false)
-true_or_false true = inl refl
-true_or_false false = inr refl
-
 pub is_equal : (a b : ℕ) → a ≡ b → (a == b) ≡ true
 is_equal a b h = grind (arith, nat_tests)
 
 pub equal_is : (a b : ℕ) → (a == b) ≡ true → a ≡ b
 equal_is a b h = grind (arith, nat_tests)
-
-pub is_below : (a b : ℕ) → a < b → (a == b) ≡ false
-is_below a b h = grind (arith, nat_tests)
-
-pub is_above : (a b : ℕ) → b < a → (a == b) ≡ false
-is_above a b h = grind (arith, nat_tests)
 
 pub not_past : (a b : ℕ) → b ≤ a → nat_lt a b ≡ false
 not_past a b h = grind (arith, nat_tests)
@@ -54,10 +44,6 @@ or_first false b e = cc
 pub or_second : (a b : Bool) → b ≡ true → (a || b) ≡ true
 or_second true b e = refl
 or_second false b e = e
-
-pub or_behind : (a b : Bool) → a ≡ false → (a || b) ≡ b
-or_behind true b e = cc
-or_behind false b e = refl
 
 pub or_neither : (a b : Bool) → a ≡ false → b ≡ false → (a || b) ≡ false
 or_neither true b e f = cc
@@ -76,10 +62,6 @@ pub guarded : (a b : Bool) → (a ≡ true → b ≡ true) → (a && not b) ≡ 
 guarded true b h = ap not (h refl)
 guarded false b h = refl
 
-pub not_so : (a b : Bool) → (a ≡ true → b ≡ true) → b ≡ false → a ≡ false
-not_so true b h e = both_ways b (h refl) e
-not_so false b h e = refl
-
 -- two tests that pass each where the other does
 pub alike : (a b : Bool) → (a ≡ true → b ≡ true) → (b ≡ true → a ≡ true) → a ≡ b
 alike true b h k = sym (h refl)
@@ -93,6 +75,11 @@ module _ {X : Type 0} where
   any_with P Q [] on all any = absurd any
   any_with P Q (x ∷ xs) on all (inl here) = on x all.0 here
   any_with P Q (x ∷ xs) on all (inr any) = any_with P Q xs on all.1 any
+
+  pub any_gives : {R : Type 0} (P : X → Type 0) (xs : List X) → ((x : X) → P x → R) → AnyOf P xs → R
+  any_gives P [] on any = absurd any
+  any_gives P (x ∷ xs) on (inl here) = on x here
+  any_gives P (x ∷ xs) on (inr any) = any_gives P xs on any
 
   pub any_map : (P Q : X → Type 0) (xs : List X) → ((x : X) → P x → Q x) → AnyOf P xs → AnyOf Q xs
   any_map P Q [] on any = absurd any
@@ -116,6 +103,11 @@ module _ {X : Type 0} where
   all_from P [] on = tt
   all_from P (x ∷ xs) on = (on x, all_from P xs on)
 
+  -- where all of some are so, one is
+  pub all_any : (P : X → Type 0) (xs : List X) → (xs ≡ [] → ⊥) → AllOf P xs → AnyOf P xs
+  all_any P [] some all = absurd (some refl)
+  all_any P (x ∷ xs) some all = inl all.0
+
   pub all_filter : (test : X → Bool) (P : X → Type 0) (xs : List X) → AllOf (λ x. test x ≡ true → P x) xs → AllOf P (filter test xs)
   all_filter test P [] all = tt
   all_filter test P (x ∷ xs) all = put (test x) all.0 (all_filter test P xs all.1)
@@ -123,6 +115,14 @@ module _ {X : Type 0} where
       put : (b : Bool) → (b ≡ true → P x) → AllOf P (filter test xs) → AllOf P (cond b (x ∷ filter test xs) (filter test xs))
       put true here rest = (here refl, rest)
       put false here rest = rest
+
+  -- where all pass, a filter keeps all
+  pub all_pass : (test : X → Bool) (xs : List X) → AllOf (λ x. test x ≡ true) xs → filter test xs ≡ xs
+  all_pass test [] all = refl
+  all_pass test (x ∷ xs) all = ap (λ (b : Bool). cond b (x ∷ filter test xs) (filter test xs)) all.0 ∙ ap (λ (ys : List X). x ∷ ys) (all_pass test xs all.1)
+
+  pub all_filtered : (test : X → Bool) (xs : List X) → AllOf (λ x. test x ≡ true) (filter test xs)
+  all_filtered test xs = all_filter test (λ x. test x ≡ true) xs (all_from (λ x. test x ≡ true → test x ≡ true) xs (λ x on. on))
 
   pub list_any_from : (test : X → Bool) (P : X → Type 0) (xs : List X) → ((x : X) → P x → test x ≡ true) → AnyOf P xs → list_any test xs ≡ true
   list_any_from test P [] on any = absurd any
@@ -136,3 +136,50 @@ module _ {X : Type 0} where
   pub first_none : (test : X → Bool) (xs : List X) → AllOf (λ x. test x ≡ false) xs → first_that test xs ≡ None
   first_none test [] all = refl
   first_none test (x ∷ xs) all = ap (λ (b : Bool). cond b (Some x) (first_that test xs)) all.0 ∙ first_none test xs all.1
+
+  pub all_append : (P : X → Type 0) (xs ys : List X) → AllOf P xs → AllOf P ys → AllOf P (xs ++ ys)
+  all_append P [] ys all more = more
+  all_append P (x ∷ xs) ys all more = (all.0, all_append P xs ys all.1 more)
+
+  pub all_front : (P : X → Type 0) (xs ys : List X) → AllOf P (xs ++ ys) → AllOf P xs
+  all_front P [] ys all = tt
+  all_front P (x ∷ xs) ys all = (all.0, all_front P xs ys all.1)
+
+  pub all_behind : (P : X → Type 0) (xs ys : List X) → AllOf P (xs ++ ys) → AllOf P ys
+  all_behind P [] ys all = all
+  all_behind P (x ∷ xs) ys all = all_behind P xs ys all.1
+
+  pub any_front : (P : X → Type 0) (xs ys : List X) → AnyOf P xs → AnyOf P (xs ++ ys)
+  any_front P [] ys any = absurd any
+  any_front P (x ∷ xs) ys (inl here) = inl here
+  any_front P (x ∷ xs) ys (inr any) = inr (any_front P xs ys any)
+
+  pub any_behind : (P : X → Type 0) (xs ys : List X) → AnyOf P ys → AnyOf P (xs ++ ys)
+  any_behind P [] ys any = any
+  any_behind P (x ∷ xs) ys any = inr (any_behind P xs ys any)
+
+  pub any_filter : (test : X → Bool) (P : X → Type 0) (xs : List X) → ((x : X) → P x → test x ≡ true) → AnyOf P xs → AnyOf P (filter test xs)
+  any_filter test P [] on any = absurd any
+  any_filter test P (x ∷ xs) on (inl here) = subst (λ (b : Bool). AnyOf P (cond b (x ∷ filter test xs) (filter test xs))) (sym (on x here)) (inl here)
+  any_filter test P (x ∷ xs) on (inr any) = behind (test x) (any_filter test P xs on any)
+    where
+      behind : (b : Bool) → AnyOf P (filter test xs) → AnyOf P (cond b (x ∷ filter test xs) (filter test xs))
+      behind true h = inr h
+      behind false h = h
+
+  pub any_from_list : (test : X → Bool) (xs : List X) → list_any test xs ≡ true → AnyOf (λ x. test x ≡ true) xs
+  any_from_list test [] e = cc
+  any_from_list test (x ∷ xs) e = by (test x) refl (any_from_list test xs) e
+    where
+      by : (b : Bool) → test x ≡ b → (list_any test xs ≡ true → AnyOf (λ x. test x ≡ true) xs) → (b || list_any test xs) ≡ true → AnyOf (λ x. test x ≡ true) (x ∷ xs)
+      by true is more e = inl is
+      by false is more e = inr (more e)
+
+pub all_mapped : {X Y : Type 0} (made : X → Y) (P : Y → Type 0) (xs : List X) → AllOf (λ x. P (made x)) xs → AllOf P (map made xs)
+all_mapped made P [] all = tt
+all_mapped made P (x ∷ xs) all = (all.0, all_mapped made P xs all.1)
+
+pub any_mapped : {X Y : Type 0} (made : X → Y) (P : Y → Type 0) (xs : List X) → AnyOf (λ x. P (made x)) xs → AnyOf P (map made xs)
+any_mapped made P [] any = absurd any
+any_mapped made P (x ∷ xs) (inl here) = inl here
+any_mapped made P (x ∷ xs) (inr any) = inr (any_mapped made P xs any)

@@ -6,10 +6,11 @@ use Rattle.vx_life.specs.Candidates.{known}
 use Rattle.vx_life.specs.Entry.{Entry, candidates_of, IsHistory}
 use Rattle.vx_life.specs.Life.{Life}
 use Rattle.vx_script.specs.declared.command.Command.{Command}
-use Rattle.vx_world.specs.declared.answer.Answer.{Answer}
-use Rattle.vx_world.specs.Failures.{Failures}
-use Rattle.vx_world.specs.World.{World, Volume}
-use Rattle.vx_world.specs.Transcript.{IsTranscript}
+use Rattle.vx_answers.specs.declared.answer.Answer.{Answer}
+use Rattle.vx_moments.specs.World.{World, Volume}
+use Rattle.vx_moments.specs.Moment.{Moment}
+use Rattle.vx_moments.specs.Holding.{HasDevice}
+use Rattle.vx_plans.specs.Steps.{IsTranscript}
 
 -- the numbers of the region's entries, the newest first, are n down to 1
 abbrev pub CountsDown : ℕ → ℕ → List Entry → Type 0
@@ -23,24 +24,28 @@ pub record HasHistory (first : Contents) (life : Life) : Type 0 where
   pub numbers : (region : ℕ) → CountsDown region (life.last region) life.entries
 
 -- before some command of the transcript a device of this name and size was there, and held these blocks
-pub record WasThere (f : Failures) (place : ℕ) (old : World) (commands : List Command) (answers : List Answer) (name : Word) (sectors : ℕ) (blocks : Contents) : Type 0 where
+pub record WasThere (place : ℕ) (old : Moment) (commands : List Command) (answers : List Answer) (name : Word) (sectors : ℕ) (blocks : Contents) : Type 0 where
   pub before : List Command
   pub others : List Command
   pub commands_are : commands ≡ before ++ others
   pub told : List Answer
   pub later : List Answer
   pub answers_are : answers ≡ told ++ later
-  pub world : World
-  pub transcript : IsTranscript f place old before told world
-  pub here : world.devices name ≡ Some (record { sectors = sectors; contents = blocks })
+  pub moment : Moment
+  pub transcript : IsTranscript place old before told moment
+  pub here : moment.world.devices name ≡ Some (record { sectors = sectors; contents = blocks })
 
--- each started volume has a history from blocks that its device held
+-- the volume lies on a device, and has a history from blocks that the device held
+abbrev pub IsHistoried : (Word → ℕ → Contents → Type 0) → Volume → Type 0
+IsHistoried Held v = (name : Word) × HasDevice v.lies name × (first : Contents) × Held name v.length first × HasHistory first v.life
+
+-- each started volume has a history
 abbrev pub HaveHistories : (Word → ℕ → Contents → Type 0) → World → Type 0
-HaveHistories Held w = (vol : Word) (v : Volume) → w.volumes vol ≡ Some v → (first : Contents) × Held v.device v.length first × HasHistory first v.life
+HaveHistories Held w = (vol : Word) (v : Volume) → w.volumes vol ≡ Some v → IsHistoried Held v
 
 -- no volume is started
 abbrev pub NoneStarted : World → Type 0
 NoneStarted w = (vol : Word) → w.volumes vol ≡ None
 
 abbrev pub EachVolumeHasAHistory : Type 0
-EachVolumeHasAHistory = (f : Failures) (place : ℕ) (old new : World) (commands : List Command) (answers : List Answer) → NoneStarted old → IsTranscript f place old commands answers new → HaveHistories (WasThere f place old commands answers) new
+EachVolumeHasAHistory = (place : ℕ) (old new : Moment) (commands : List Command) (answers : List Answer) → NoneStarted old.world → IsTranscript place old commands answers new → HaveHistories (WasThere place old commands answers) new.world

@@ -1,8 +1,8 @@
-//! What follows from the definitions of the world: laws, as functions that do nothing and promise them.
+//! What follows from the definitions of moments and plans: laws, as functions that do nothing and promise them.
 #![tactic(auto)]
 
 ghost use Rattle.vx_laws.specs.Histories.{EachVolumeHasAHistory};
-ghost use Rattle.vx_laws.specs.Returning.{EachGroupReturns, EachMadeGroupIsWhole, EachJoinedGroupIsWhole, EachWholeGroupComesBack};
+ghost use Rattle.vx_laws.specs.Returning.{EachGroupReturns, EachMadeGroupIsWhole, EachJoinedGroupIsWhole, EachWholeGroupComesBack, EachGroupOutlivesPower};
 
 /// In the last world of each transcript from devices alone, the entries of each started volume, in the order of their
 /// numbers, are a legal history from the blocks that its device held in the world before some command: each number of a
@@ -11,15 +11,14 @@ pub fn each_volume_has_a_history()
     ensures { EachVolumeHasAHistory }
 {}
 
-/// Where a group of disks is left on its devices, as by `vxdg deport` or at the end of a run, and nothing fails, an import
-/// gives it back: the records of its configuration, the same good slots, and its good members on their devices. Otherwise
-/// the shelf could not tell its devices, or the power is lost.
+/// Where a group of disks is left on its devices, as by `vxdg deport` or as the power goes, and nothing fails, an import is
+/// done and gives it back: the records of its configuration, the same good slots, and its good members on their devices.
 pub fn each_group_returns()
     ensures { EachGroupReturns }
 {}
 
-/// A group that is made of some disks, nothing failing, is whole: all its disks are good, the configuration records each,
-/// their slots leave room for the next, and no free device bears its name.
+/// A group that is made of some disks, nothing failing, is whole: all its disks are good and offer its configuration, which
+/// records each, their slots leave room for the next, and no other free device bears its name.
 pub fn each_made_group_is_whole()
     ensures { EachMadeGroupIsWhole }
 {}
@@ -29,7 +28,14 @@ pub fn each_joined_group_is_whole()
     ensures { EachJoinedGroupIsWhole }
 {}
 
-/// A whole group that is let go and imported, nothing failing, comes back as in `each_group_returns`, and is whole again.
+/// A whole group that is let go and imported, nothing failing, comes back as in `each_group_returns`, and is whole again:
+/// both commands are done.
 pub fn each_whole_group_comes_back()
     ensures { EachWholeGroupComesBack }
+{}
+
+/// Where the power goes, a group that could be let go is left on its devices as by `vxdg deport`, if no bare volume's device
+/// then has a header that names the group.
+pub fn each_group_outlives_power()
+    ensures { EachGroupOutlivesPower }
 {}

@@ -113,7 +113,7 @@ stops_well (stage.Import dg) disks old new end well carried (inr (inr (mid, betw
 stops_well stage.LetGo disks old new end well carried stops = absurd stops
 
 -- the stage changes nothing of the world
-abbrev keeps_world : Stage → Bool
+abbrev pub keeps_world : Stage → Bool
 keeps_world (stage.Gate test) = true
 keeps_world (stage.Take name) = true
 keeps_world stage.TakeDisks = true
@@ -123,7 +123,7 @@ keeps_world (stage.LookHeaded name) = true
 keeps_world (stage.Search dg) = true
 keeps_world other = false
 
-kept_world : (s : Stage) (disks : List DiskAt) (old mid : Moment) → keeps_world s ≡ true → IsDone s disks old mid → mid.world ≡ old.world
+pub kept_world : (s : Stage) (disks : List DiskAt) (old mid : Moment) → keeps_world s ≡ true → IsDone s disks old mid → mid.world ≡ old.world
 kept_world (stage.Gate test) disks old mid keeps (holds, same) = ap (λ (m : Moment). m.world) same
 kept_world (stage.Take name) disks old mid keeps (free, rests) = rests.stays.world
 kept_world stage.TakeDisks disks old mid keeps (free, rests) = rests.stays.world
@@ -147,7 +147,7 @@ IsShaped [] disks w = Unit {0}
 IsShaped (s ∷ []) disks w = IsCarried s disks w
 IsShaped (s ∷ t ∷ ss) disks w = IsCarried s disks w × (keeps_world s ≡ true) × IsShaped (t ∷ ss) disks w
 
-runs_later : (disks : List DiskAt) (stages : List Stage) (finish : Finish) (old : Moment) (views : List View) (end : End) (new : Moment) → Runs disks stages finish old views end new → AreLater old.counts new.counts
+pub runs_later : (disks : List DiskAt) (stages : List Stage) (finish : Finish) (old : Moment) (views : List View) (end : End) (new : Moment) → Runs disks stages finish old views end new → AreLater old.counts new.counts
 runs_later disks [] finish old views end new (shows, is, same) = subst (λ (m : Moment). AreLater old.counts m.counts) (sym same) (later_self old.counts)
 runs_later disks (s ∷ ss) finish old views end new (inl (mid, later, is, rest)) = later_on old.counts mid.counts new.counts later (runs_later disks ss finish mid views end new rest)
 runs_later disks (s ∷ ss) finish old views end new (inr (none, later, stops)) = later

@@ -1,3 +1,3 @@
-mod Calm
-mod Carriers
-mod Complete
+pub mod Calm
+pub mod Carriers
+pub mod Complete

@@ -5,7 +5,8 @@ use Rattle.std.specs.Str.{bytes_eq}
 use Rattle.vx_base.specs.Counts.{Rose, later_count}
 use Rattle.vx_script.specs.Script.{Place, script_of}
 use Rattle.vx_script.specs.declared.command.Command.{Command}
-use Rattle.vx_commands.specs.Ends.{Shelved, CarriesOut, StopsShort}
+use Rattle.vx_house.specs.Scene.{Shelved}
+use Rattle.vx_serve.specs.Ends.{CarriesOut, StopsShort}
 
 -- the words are `--images` and a folder
 abbrev pub is_form : List (List ℕ) → Bool

@@ -1,5 +1,5 @@
 //! Reads a source to its end.
-ghost use Rattle.std.specs.Prelude.{◌≡◌, ◌+◌, ◌-◌, ◌<◌, ◌≤◌, IfOk, IsErrOf, vec_len};
+ghost use Rattle.std.specs.Prelude.{◌≡◌, ◌+◌, ◌-◌, ◌<◌, ◌≤◌, IfOk, IsErrOf, OnOk, vec_len};
 ghost use Rattle.vx_base.specs.Counts.{Rose, later_count};
 ghost use Rattle.vx_run.specs.Top.{IsReadToItsEnd, HasPassedMore, HasPassedFew, longest};
 ghost use Rattle.vx_run.specs.Source.{HasTaken};
@@ -34,6 +34,9 @@ pub fn read_all<A: Source>(alloc: Global, source: &mut A) -> Result<Vec<u8>, Unr
     ensures not_too_long_refused { IsErrOf result Unread.OutOfMemory → HasPassedFew (A.passed source.old) (A.passed source.new) }
     ensures one_past { A.passed source.new ≤ A.passed source.old + (longest + 1) }
     ensures later { A.faults source.old ≤ A.faults source.new }
+    ensures quiet { OnOk result (A.faults source.new ≡ A.faults source.old) }
+    ensures quiet_refused { IsErrOf result Unread.OutOfMemory → A.faults source.new ≡ A.faults source.old }
+    ensures quiet_long { IsErrOf result Unread.TooLong → A.faults source.new ≡ A.faults source.old }
 {
     let mut all = Vec::new(alloc);
     let Ok(mut buffer) = new_buffer(alloc) else {
@@ -79,6 +82,9 @@ fn read_some<A: Source>(
     ensures refused { IsErrOf result Unread.OutOfMemory → A.passed source.new ≤ A.passed source.old + (longest - vec_len all.old) }
     ensures most { A.passed source.new ≤ A.passed source.old + vec_len buffer.old }
     ensures later { A.faults source.old ≤ A.faults source.new }
+    ensures quiet { OnOk result (A.faults source.new ≡ A.faults source.old) }
+    ensures quiet_refused { IsErrOf result Unread.OutOfMemory → A.faults source.new ≡ A.faults source.old }
+    ensures quiet_long { IsErrOf result Unread.TooLong → A.faults source.new ≡ A.faults source.old }
 {
     match source.read(buffer) {
         Err(_) => Err(Unread::Failed),

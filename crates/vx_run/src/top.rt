@@ -1,16 +1,17 @@
 ghost use Rattle.std.specs.Prelude.{◌≡◌, ◌≢◌, ◌⊎◌, ◌↔◌, ◌+◌, ◌<◌, ◌≤◌, ℕ, List, true, false, Err, map, length, codes};
 ghost use Rattle.vx_base.specs.Counts.{Rose};
 ghost use Rattle.vx_script.specs.Script.{Place, script_of};
-ghost use Rattle.vx_hold.specs.Closing.{NoneHeld};
+ghost use Rattle.vx_house.specs.Closing.{NoneHeld};
+ghost use Rattle.vx_house.specs.Scene.{shelved};
 ghost use Rattle.vx_run.specs.Top.{is_form, longest, HasPassedMore, HasPassedFew, TellsLine, TellsPlace, TellsFault, IsSpelledRun, IsSpelledStop, IsCarriedThrough, IsCutOff};
 
 use crate::place::line_of_place;
 use crate::source::{Unread, read_all};
 use crate::words::folder_of;
 use std::alloc::Global;
-use vx_commands::{Stop, run_commands};
 use vx_flow::{Sink, Source};
 use vx_script::{ScriptFault, read};
+use vx_serve::{Stop, run_commands};
 use vx_shelf::Shelf;
 
 /// Runs the script of the source on the shelf, and writes the line of each answer to the sink. It answers the status:
@@ -30,20 +31,20 @@ pub fn run<S: Shelf, A: Source, B: Sink>(
     // written, the devices stand for its last world, and each fault or loss that it tells has its cause. At 0 all its
     // answers are fine, and at 5 they are not.
     ensures fine { result ≡ 0 → IsCarriedThrough (A.left source.old) (A.left source.new)
-        (record { free = S.free shelf.old; faults = S.faults shelf.old }) (B.taken sink.old)
-        (record { free = S.free shelf.new; faults = S.faults shelf.new }) (B.taken sink.new) true }
+        (shelved S.free S.held S.counted S.faults shelf.old) (B.taken sink.old)
+        (shelved S.free S.held S.counted S.faults shelf.new) (B.taken sink.new) true }
     ensures not_fine { result ≡ 5 → IsCarriedThrough (A.left source.old) (A.left source.new)
-        (record { free = S.free shelf.old; faults = S.faults shelf.old }) (B.taken sink.old)
-        (record { free = S.free shelf.new; faults = S.faults shelf.new }) (B.taken sink.new) false }
+        (shelved S.free S.held S.counted S.faults shelf.old) (B.taken sink.old)
+        (shelved S.free S.held S.counted S.faults shelf.new) (B.taken sink.new) false }
 
     // At 4 the same holds of the commands that were begun, and a front of their text was written; so it does at 6, or
     // nothing was begun.
     ensures sink_failed { result ≡ 4 → IsCutOff (A.left source.old) (A.left source.new)
-        (record { free = S.free shelf.old; faults = S.faults shelf.old }) (B.taken sink.old)
-        (record { free = S.free shelf.new; faults = S.faults shelf.new }) (B.taken sink.new) }
+        (shelved S.free S.held S.counted S.faults shelf.old) (B.taken sink.old)
+        (shelved S.free S.held S.counted S.faults shelf.new) (B.taken sink.new) }
     ensures no_memory { result ≡ 6 → ((shelf.new ≡ shelf.old) × (sink.new ≡ sink.old)) ⊎ IsCutOff (A.left source.old) (A.left source.new)
-        (record { free = S.free shelf.old; faults = S.faults shelf.old }) (B.taken sink.old)
-        (record { free = S.free shelf.new; faults = S.faults shelf.new }) (B.taken sink.new) }
+        (shelved S.free S.held S.counted S.faults shelf.old) (B.taken sink.old)
+        (shelved S.free S.held S.counted S.faults shelf.new) (B.taken sink.new) }
 
     // At 1 and 2 the line of the status was written, at 2 with the place where the bytes are no script, and at 3 and 7
     // nothing; no device was touched.
@@ -56,7 +57,9 @@ pub fn run<S: Shelf, A: Source, B: Sink>(
     ensures known { result ≤ 7 }
     ensures words { (result ≡ 1) ↔ (is_form (map (λ w. w.now) words.now) ≡ false) }
     ensures source { result ≡ 3 → Rose (A.faults source.old) (A.faults source.new) }
+    ensures source_fine { result ≢ 3 → A.faults source.new ≡ A.faults source.old }
     ensures sink { result ≡ 4 → Rose (B.faults sink.old) (B.faults sink.new) }
+    ensures sink_fine { (result ≡ 0) ⊎ ((result ≡ 5) ⊎ (result ≡ 6)) → B.faults sink.new ≡ B.faults sink.old }
     ensures too_long { result ≡ 7 → HasPassedMore (A.passed source.old) (A.passed source.new) }
     ensures not_too_long { result ≢ 7 → HasPassedFew (A.passed source.old) (A.passed source.new) }
     ensures one_past { A.passed source.new ≤ A.passed source.old + (longest + 1) }
@@ -86,22 +89,22 @@ fn tell<B: Sink>(sink: &mut B, line: &[u8])
 /// Runs the script that the bytes spell.
 fn run_bytes<S: Shelf, B: Sink>(alloc: Global, shelf: &mut S, sink: &mut B, bytes: &[u8]) -> u8
     requires here { NoneHeld (S.held shelf.old) }
-    requires few { length bytes.now ≤ longest }
     ensures fine { result ≡ 0 → IsSpelledRun bytes.now
-        (record { free = S.free shelf.old; faults = S.faults shelf.old }) (B.taken sink.old)
-        (record { free = S.free shelf.new; faults = S.faults shelf.new }) (B.taken sink.new) true }
+        (shelved S.free S.held S.counted S.faults shelf.old) (B.taken sink.old)
+        (shelved S.free S.held S.counted S.faults shelf.new) (B.taken sink.new) true }
     ensures not_fine { result ≡ 5 → IsSpelledRun bytes.now
-        (record { free = S.free shelf.old; faults = S.faults shelf.old }) (B.taken sink.old)
-        (record { free = S.free shelf.new; faults = S.faults shelf.new }) (B.taken sink.new) false }
+        (shelved S.free S.held S.counted S.faults shelf.old) (B.taken sink.old)
+        (shelved S.free S.held S.counted S.faults shelf.new) (B.taken sink.new) false }
     ensures sink_failed { result ≡ 4 → IsSpelledStop bytes.now
-        (record { free = S.free shelf.old; faults = S.faults shelf.old }) (B.taken sink.old)
-        (record { free = S.free shelf.new; faults = S.faults shelf.new }) (B.taken sink.new) }
+        (shelved S.free S.held S.counted S.faults shelf.old) (B.taken sink.old)
+        (shelved S.free S.held S.counted S.faults shelf.new) (B.taken sink.new) }
     ensures no_memory { result ≡ 6 → ((shelf.new ≡ shelf.old) × (sink.new ≡ sink.old)) ⊎ IsSpelledStop bytes.now
-        (record { free = S.free shelf.old; faults = S.faults shelf.old }) (B.taken sink.old)
-        (record { free = S.free shelf.new; faults = S.faults shelf.new }) (B.taken sink.new) }
+        (shelved S.free S.held S.counted S.faults shelf.old) (B.taken sink.old)
+        (shelved S.free S.held S.counted S.faults shelf.new) (B.taken sink.new) }
     ensures script { result ≡ 2 → (place : Place) × TellsPlace place (B.taken sink.old) (B.taken sink.new) (B.faults sink.old) (B.faults sink.new) × (script_of bytes.now ≡ Err place) × (shelf.new ≡ shelf.old) }
     ensures known { (result ≡ 0) ⊎ ((result ≡ 2) ⊎ ((result ≡ 4) ⊎ ((result ≡ 5) ⊎ (result ≡ 6)))) }
     ensures sink { result ≡ 4 → Rose (B.faults sink.old) (B.faults sink.new) }
+    ensures sink_fine { (result ≡ 0) ⊎ ((result ≡ 5) ⊎ (result ≡ 6)) → B.faults sink.new ≡ B.faults sink.old }
     ensures back { NoneHeld (S.held shelf.new) }
 {
     match read(alloc, bytes) {

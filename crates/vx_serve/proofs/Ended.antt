@@ -5,7 +5,6 @@ use Rattle.std.specs.List.{list_any}
 use Rattle.std.specs.List.Sorted.{IsStrictlySortedBy}
 use Rattle.std.specs.Map.{keys_of}
 use Rattle.std.specs.Str.{bytes_eq}
-use Rattle.std.specs.BTreeMap.{IsOrdered}
 use Rattle.std.specs.Cmp.Lexicographic.{slice_cmp}
 use Rattle.std.specs.Ordering.{nat_cmp}
 use Rattle.vx_base.specs.Named.{Word}
@@ -13,20 +12,17 @@ use Rattle.vx_piece.specs.Seen.{Seen}
 use Rattle.vx_shelf.specs.Shelf.{Held}
 use Rattle.vx_copies.specs.Lists.{AllOf}
 use Rattle.vx_script.specs.declared.command.Command.{Command}
-use Rattle.vx_started.specs.Stands.{IsSized}
-use Rattle.vx_started.specs.declared.started.Started.{Started}
 use Rattle.vx_answers.specs.declared.answer.Answer.{Answer}
 use Rattle.vx_answers.specs.declared.answer.End.TheVariants as ends
-use Rattle.vx_moments.specs.Moment.{Moment, AreLater}
+use Rattle.vx_moments.specs.Moment.{Moment}
 use Rattle.vx_plans.specs.Steps.{IsTranscript}
 use Rattle.vx_house.specs.Closing.{NoneHeld}
 use Rattle.vx_house.specs.Goes.{Goes}
-use Rattle.vx_house.specs.Holders.{Holder, AreHeld, holders, group_holders, hand_holder, volume_holder, volume_at}
+use Rattle.vx_house.specs.Holders.{AreHeld, holders, group_holders, hand_holder, volume_holder, volume_at}
 use Rattle.vx_house.specs.Leaves.{IsLeft}
-use Rattle.vx_house.specs.Scene.{Shelved, Scene, seen_in, seen_at, AreCountsOf, FaultsGoOn}
+use Rattle.vx_house.specs.Scene.{Shelved, Scene, seen_at, AreCountsOf, FaultsGoOn}
 use Rattle.vx_house.specs.View.{View, at, scene, is_lent, IsDeviceOf, IsAtVolume, group_of, IsMoment, Keeps, IsGroupKept}
 use Rattle.vx_house.specs.declared.house.House.{House}
-use Rattle.vx_house.specs.declared.house.Taken.{Taken}
 use Rattle.vx_house.proofs.Ended.{keeps_but_group, moment_but_group}
 use Rattle.vx_house.proofs.Gone.{all_gone, power_goes}
 use Rattle.vx_house.proofs.Gone.{left as left_world}

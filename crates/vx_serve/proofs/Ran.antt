@@ -1,18 +1,16 @@
 -- Runs of commands, one after the other.
-use Rattle.std.proofs.Common.{◌≡◌, ℕ, ◌+◌, Bool, true, false, List, [], ◌∷◌, ◌++◌, length, take, Option, Some, Result, Ok, Err, subst, sym, ap, ◌∙◌, refl, arith, append_assoc, zero-add, suc, inl, inr}
-use Rattle.std.specs.Prelude.{◌&&◌, ◌⊎◌, IfOk, OnOk, OnErr}
+use Rattle.std.proofs.Common.{◌≡◌, ℕ, ◌+◌, Bool, true, false, List, [], ◌∷◌, ◌++◌, length, take, Option, Some, Result, Ok, Err, subst, sym, ap, ◌∙◌, refl, arith, append_assoc, zero-add, suc}
+use Rattle.std.specs.Prelude.{◌&&◌, IfOk, OnOk, OnErr}
 use Rattle.std.proofs.lemmas.List.Concat.{flat_map-append}
 use Rattle.std.proofs.lemmas.List.Folds.{list_all-append}
 use Rattle.std.proofs.lemmas.List.{append-nil, length-append}
 use Rattle.vx_piece.specs.Seen.{Seen}
-use Rattle.vx_copies.specs.Lists.{AllOf}
 use Rattle.vx_script.specs.declared.command.Command.{Command}
 use Rattle.vx_answers.specs.Lines.{lines_of}
 use Rattle.vx_answers.specs.declared.answer.Answer.{Answer}
 use Rattle.vx_answers.specs.declared.answer.Answer.TheVariants.{One, Block}
-use Rattle.vx_moments.specs.Moment.{Moment, AreLater}
-use Rattle.vx_plans.specs.Steps.{IsTranscript, Step, Does}
-use Rattle.vx_house.specs.Goes.{Goes}
+use Rattle.vx_moments.specs.Moment.{Moment}
+use Rattle.vx_plans.specs.Steps.{IsTranscript, Does}
 use Rattle.vx_house.specs.Scene.{Scene, FaultsGoOn}
 use Rattle.vx_house.specs.View.{View, scene}
 use Rattle.vx_house.proofs.Moments.{later_refl, later_trans, faults_refl, faults_trans}
@@ -20,7 +18,7 @@ use Rattle.vx_house.proofs.Takes.{blamed_later}
 use Rattle.vx_engine.specs.Serving.{AnswerBlamed, CommandGoes}
 use Rattle.vx_engine.proofs.Over.{blamed_on}
 use Rattle.vx_serve.specs.Fine.{is_fine, are_fine}
-use Rattle.vx_serve.specs.Run.{AreBlamed, HasRun, HasRunPartly, HoldsButLast, IsTranscriptThen, WritesFront, text_of}
+use Rattle.vx_serve.specs.Run.{AreBlamed, HasRun, HasRunPartly, HoldsButLast, text_of}
 
 -- ---- transcripts
 

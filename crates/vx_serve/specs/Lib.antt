@@ -1,3 +1,4 @@
 pub mod Fine
 pub mod Run
 pub mod Ends
+pub mod Told

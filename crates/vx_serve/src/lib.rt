@@ -2,7 +2,9 @@
 #![tactic(auto)]
 
 mod fine;
+mod laws;
 mod lines;
 
 pub use fine::is_fine;
+pub use laws::each_told_shelf_is_a_moment;
 pub use lines::{Stop, run_commands};

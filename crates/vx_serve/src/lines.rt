@@ -45,6 +45,8 @@ fn write_line<B: Sink>(alloc: Global, sink: &mut B, answer: &Answer) -> Result<b
     ensures partly { OnErr result ((text : List ℕ) → B.taken sink.old ≡ Some text → (n : ℕ) × (B.taken sink.new ≡ Some (text ++ take n (lines_of answer.now)))) }
     ensures fine { IfOk result (λ fine. fine ≡ is_fine answer.now) }
     ensures cause { IsErrOf result Stop.SinkFailed → Rose (B.faults sink.old) (B.faults sink.new) }
+    ensures quiet { OnOk result (B.faults sink.new ≡ B.faults sink.old) }
+    ensures quiet_refused { IsErrOf result Stop.OutOfMemory → B.faults sink.new ≡ B.faults sink.old }
     ensures later { B.faults sink.old ≤ B.faults sink.new }
 {
     let mut line = Vec::new(alloc);
@@ -75,6 +77,8 @@ fn one_line<S: Shelf, B: Sink>(
         (at (shelved S.free S.held S.counted S.faults shelf.old) house.old) (B.taken sink.old)
         (at (shelved S.free S.held S.counted S.faults shelf.new) house.new) (B.taken sink.new)) }
     ensures cause { IsErrOf result Stop.SinkFailed → Rose (B.faults sink.old) (B.faults sink.new) }
+    ensures quiet { OnOk result (B.faults sink.new ≡ B.faults sink.old) }
+    ensures quiet_refused { IsErrOf result Stop.OutOfMemory → B.faults sink.new ≡ B.faults sink.old }
     ensures later { B.faults sink.old ≤ B.faults sink.new }
 {
     let answer = execute(alloc, house, shelf, command)?;
@@ -106,6 +110,8 @@ fn all_lines<S: Shelf, B: Sink>(
         (at (shelved S.free S.held S.counted S.faults shelf.old) house.old) (B.taken sink.old)
         (at (shelved S.free S.held S.counted S.faults shelf.new) house.new) (B.taken sink.new)) }
     ensures cause { IsErrOf result Stop.SinkFailed → Rose (B.faults sink.old) (B.faults sink.new) }
+    ensures quiet { OnOk result (B.faults sink.new ≡ B.faults sink.old) }
+    ensures quiet_refused { IsErrOf result Stop.OutOfMemory → B.faults sink.new ≡ B.faults sink.old }
     ensures later { B.faults sink.old ≤ B.faults sink.new }
 {
     let mut fine = true;
@@ -142,6 +148,8 @@ pub fn run_commands<S: Shelf, B: Sink>(
         (shelved S.free S.held S.counted S.faults shelf.new) (B.taken sink.new)) }
     ensures back { NoneHeld (S.held shelf.new) }
     ensures cause { IsErrOf result Stop.SinkFailed → Rose (B.faults sink.old) (B.faults sink.new) }
+    ensures quiet { OnOk result (B.faults sink.new ≡ B.faults sink.old) }
+    ensures quiet_refused { IsErrOf result Stop.OutOfMemory → B.faults sink.new ≡ B.faults sink.old }
     ensures later { B.faults sink.old ≤ B.faults sink.new }
 {
     let mut house = House::new(alloc);

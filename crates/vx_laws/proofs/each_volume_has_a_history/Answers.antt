@@ -4,4 +4,4 @@ use Rattle.vx_laws.specs.Histories.{WasThere}
 use Rattle.vx_laws.proofs.each_volume_has_a_history.Goals as goal
 
 pub returns : goal.returns
-returns c = λ f place old new commands answers none transcript. transcript_kept (WasThere f place old commands answers) f place old new commands answers (λ name sectors blocks was. was) (from_nothing (WasThere f place old commands answers) old none) transcript
+returns c = λ place old new commands answers none transcript. transcript_kept (WasThere place old commands answers) place old new commands answers (λ name sectors blocks was. was) (from_nothing (WasThere place old commands answers) old.world none) transcript

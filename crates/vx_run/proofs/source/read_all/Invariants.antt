@@ -12,6 +12,7 @@ invariant-reads g l = record {
   passed : g.A.Source.passed l.source ≤ g.A.Source.passed l.fn.source + vec_len l.all;
   passed_all : later_count (g.A.Source.passed l.fn.source) (vec_len l.all) ≤ g.A.Source.passed l.source;
   later : g.A.Source.faults l.fn.source ≤ g.A.Source.faults l.source;
+  quiet : g.A.Source.faults l.source ≡ g.A.Source.faults l.fn.source;
 }
 
 abbrev pub decreases-reads : goal.decreases-reads

@@ -15,6 +15,7 @@ loop-command-init g c = record {
   empty = c.requires.empty;
   run = none_run g.S.P.Piece.seen 0 _ (g.B.Sink.taken c.args.sink.now);
   later = search rules;
+  quiet = search rules;
 }
 
 pub one_line-requires-clause-kept : goal.one_line-requires-clause-kept
@@ -41,6 +42,7 @@ loop-command-preserved g c =
       empty = c.one_line.ensures.empty;
       run = rw (more, c.both-fine.ensures) (run_then g.S.P.Piece.seen 0 (take i cs) (c.command-item.result ∷ []) _ _ _ _ _ _ c.loop-command.fine c.in_ok-this.this c.loop-command.invariant.run (c.in_ok-this.ensures.run (0 + length (take i cs))));
       later = search rules;
+      quiet = search rules;
     }
 
 pub returns-clause-run : goal.returns-clause-run

@@ -11,4 +11,5 @@ invariant-loop-command g l = record {
   empty : l.house.hand.items ≡ [];
   run : HasRun g.S.P.Piece.seen 0 (take l.command-index l.commands) (at (shelved g.S.Shelf.free g.S.Shelf.held g.S.Shelf.counted g.S.Shelf.faults l.fn.shelf) l.fn.house) (g.B.Sink.taken l.fn.sink) (at (shelved g.S.Shelf.free g.S.Shelf.held g.S.Shelf.counted g.S.Shelf.faults l.shelf) l.house) (g.B.Sink.taken l.sink) l.fine;
   later : g.B.Sink.faults l.fn.sink ≤ g.B.Sink.faults l.sink;
+  quiet : g.B.Sink.faults l.sink ≡ g.B.Sink.faults l.fn.sink;
 }

@@ -1,9 +1,0 @@
-pub mod Among
-pub mod Entries
-pub mod Same
-pub mod Later
-pub mod Served
-pub mod Called
-pub mod PutBack
-pub mod Begun
-pub mod Bared

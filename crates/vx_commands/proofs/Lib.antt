@@ -1,3 +1,0 @@
-pub mod Blamed
-pub mod Ran
-pub mod Ended

@@ -1,6 +1,0 @@
-//! Serves the commands of a script on a shelf of devices, one after the other, and writes the line of each answer.
-#![tactic(auto)]
-
-mod lines;
-
-pub use lines::{Stop, run_commands};

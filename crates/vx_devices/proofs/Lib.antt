@@ -1,4 +1,0 @@
-pub mod Imaged
-pub mod Listing
-pub mod Used
-pub mod Wiped

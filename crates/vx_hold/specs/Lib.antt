@@ -1,6 +1,0 @@
-pub mod Holders
-pub mod Kept
-pub mod Stand
-pub mod Moves
-pub mod Closing
-pub mod Looks

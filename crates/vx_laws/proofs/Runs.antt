@@ -1,0 +1,176 @@
+-- A command of a plan that is done: each of its stages was, and what went well as a whole went well in each.
+use Rattle.std.proofs.Common.{◌≡◌, ℕ, ◌≤◌, Bool, true, false, List, [], ◌∷◌, ◌++◌, Option, Some, MatchOption, refl, sym, ◌∙◌, ap, subst, inl, inr, arith}
+use Rattle.std.specs.Prelude.{IsTrue}
+use Rattle.vx_base.specs.Named.{Word}
+use Rattle.vx_script_words.specs.declared.value.DiskAt.{DiskAt}
+use Rattle.vx_script_forms.specs.declared.form.Form.{Form}
+use Rattle.vx_script.specs.declared.command.Command.{Command}
+use Rattle.vx_answers.specs.declared.answer.Answer.{Answer}
+use Rattle.vx_answers.specs.declared.answer.Answer.TheVariants.{One}
+use Rattle.vx_answers.specs.declared.answer.End.{End}
+use Rattle.vx_answers.specs.declared.answer.End.TheVariants as ends
+use Rattle.vx_answers.specs.declared.answer.View.{View}
+use Rattle.vx_answers.specs.declared.refusal.Refusal.{Refusal}
+use Rattle.vx_moments.specs.Moment.{Moment, Counts, AreLater, IsQuiet}
+use Rattle.vx_moments.specs.Commit.{Writing, NoneFailed, IsStopped}
+use Rattle.vx_plans.specs.Laws.{WentWell}
+use Rattle.vx_plans.specs.Records.{devices_of}
+use Rattle.vx_plans.specs.Stages.{IsDone, Stops, DeviceEnds, EndsIn, IsChange, edits_of, IsJoining, joining_edit, TakingStops, LookingStops, EditsStop, fault_of, lost}
+use Rattle.vx_objects.specs.declared.edit.Edit.{Edit}
+use Rattle.vx_answers.specs.declared.refusal.Refusal.TheVariants as refusal
+use Rattle.vx_moments.specs.World.{World, Group}
+use Rattle.vx_plans.specs.Steps.{Runs, Serves, Step, Leaves, DoesForm, IsNotBuilt, done}
+use Rattle.vx_plans.specs.declared.stages.Finish.{Finish}
+use Rattle.vx_plans.specs.declared.stages.Finish.TheVariants.{Nothing}
+use Rattle.vx_plans.specs.declared.stage.Stage.{Stage}
+use Rattle.vx_plans.specs.declared.stage.Stage.TheVariants as stage
+use Rattle.vx_plans.proofs.Calm.{calm, well_after}
+use Rattle.vx_plans.proofs.Complete.{runs_later}
+use Rattle.vx_laws.specs.Returning.{IsOf, is_done}
+
+-- ---- a stage that ends the command
+
+-- the command is not done
+abbrev IsNotDone : End → Type 0
+IsNotDone (ends.Done copied parts blocks) = ⊥
+IsNotDone other = Unit {0}
+
+-- the command is not done, and starts and ends no volume
+pub record HasStopped (old : Moment) (end : End) (new : Moment) : Type 0 where
+  pub not_done : IsNotDone end
+  pub volumes : new.world.volumes ≡ old.world.volumes
+
+pub volumes_of : (a b : World) → b ≡ a → b.volumes ≡ a.volumes
+volumes_of a b e = ap (λ (w : World). w.volumes) e
+
+module _ (old new : Moment) (end : End) where
+  ended : (e : End) → IsNotDone e → end ≡ e → new.world.volumes ≡ old.world.volumes → HasStopped old end new
+  ended e other is same = record { not_done = subst IsNotDone (sym is) other; volumes = same }
+
+  denied : (r : Refusal) → EndsIn r old end new → HasStopped old end new
+  denied r (is, rests) = ended (ends.Refused r) tt is (volumes_of old.world new.world rests.stays.world)
+
+  at_hand : (name : Word) → new.world.volumes ≡ old.world.volumes → DeviceEnds name old end new → HasStopped old end new
+  at_hand name same (inl (is, failed)) = ended (fault_of name) tt is same
+  at_hand name same (inr (is, cut)) = ended lost tt is same
+
+  taking : (taken names : List Word) → TakingStops taken names old end new → HasStopped old end new
+  taking taken [] stops = absurd stops
+  taking taken (name ∷ names) (inl (inl (r, away, ends))) = denied r ends
+  taking taken (name ∷ names) (inl (inr (same, none, is, shelf))) = ended (fault_of name) tt is (volumes_of old.world new.world same)
+  taking taken (name ∷ names) (inr more) = taking (taken ++ name ∷ []) names more.1
+
+  looking : (names : List Word) → new.world ≡ old.world → LookingStops names old end new → HasStopped old end new
+  looking [] same stops = absurd stops
+  looking (name ∷ names) same (inl (inl headed)) = ended (ends.Refused (refusal.InUse name)) tt headed.1 (volumes_of old.world new.world same)
+  looking (name ∷ names) same (inl (inr fails)) = at_hand name (volumes_of old.world new.world same) fails
+  looking (name ∷ names) same (inr more) = looking names same more.1
+
+  stopping : (x : Writing) (from : Moment) → from.world ≡ old.world → IsStopped x from end new → HasStopped old end new
+  stopping x from same stopped =
+      let volumes = stopped.committing.volumes ∙ volumes_of old.world from.world same in
+      elim stopped.ends [ inl l ↦ ended ends.GroupLost tt l.0 volumes | inr r ↦ ended lost tt r.0 volumes ]
+
+  editing : (edits : Group → List Edit) (IsWriting : Writing → Type 0) → EditsStop edits IsWriting old end new → HasStopped old end new
+  editing edits IsWriting (inl (none, ends)) = denied _ ends
+  editing edits IsWriting (inr (inl ((g, here, inl (r, e, is)), rests))) = denied r (is, rests)
+  editing edits IsWriting (inr (inl ((g, here, inr (config, edited, (text, printed, long, is))), rests))) = denied _ (is, rests)
+  editing edits IsWriting (inr (inr (x, writing, stopped))) = stopping x old refl stopped
+
+  pub has_stopped : (s : Stage) (disks : List DiskAt) → Stops s disks old end new → HasStopped old end new
+  has_stopped (stage.Gate test) disks (r, fails, is, same) = ended (ends.Refused r) tt is (ap (λ (m : Moment). m.world.volumes) same)
+  has_stopped (stage.Take name) disks stops = taking [] (name ∷ []) stops
+  has_stopped stage.TakeDisks disks stops = taking [] (devices_of disks) stops
+  has_stopped (stage.LookBlank name) disks (reads, looks) = looking (name ∷ []) reads.0 looks
+  has_stopped stage.LookDisks disks (reads, looks) = looking (devices_of disks) reads.0 looks
+  has_stopped (stage.LookHeaded name) disks (reads, inl (blank, is)) = ended (ends.Refused (refusal.NotInitialised name)) tt is (volumes_of old.world new.world reads.0)
+  has_stopped (stage.LookHeaded name) disks (reads, inr fails) = at_hand name (volumes_of old.world new.world reads.0) fails
+  has_stopped (stage.Search dg) disks (reads, inl (name, free, inl (names, is))) = ended (ends.Refused (refusal.Exists dg)) tt is (volumes_of old.world new.world reads.0)
+  has_stopped (stage.Search dg) disks (reads, inl (name, free, inr (inl (is, failed)))) = ended (fault_of name) tt is (volumes_of old.world new.world reads.0)
+  has_stopped (stage.Search dg) disks (reads, inl (name, free, inr (inr (is, cut)))) = ended lost tt is (volumes_of old.world new.world reads.0)
+  has_stopped (stage.Search dg) disks (reads, inr (is, shelf)) = ended ends.ShelfFailed tt is (volumes_of old.world new.world reads.0)
+  has_stopped (stage.MakeImage name sectors) disks (inl (some, ends)) = denied _ ends
+  has_stopped (stage.MakeImage name sectors) disks (inr (same, none, is, shelf)) = ended (fault_of name) tt is (volumes_of old.world new.world same)
+  has_stopped (stage.Wipe name) disks (has, calls, ends) = at_hand name (ap (λ (w : World). w.volumes) has.is) ends
+  has_stopped (stage.StartBare vol name) disks (is, ends) = denied _ ends
+  has_stopped (stage.Change change) disks stops = editing (λ g. edits_of change (Some g)) (λ x. IsChange (edits_of change old.world.group) old.world x) stops
+  has_stopped stage.Join [] stops = absurd stops
+  has_stopped stage.Join (p ∷ q ∷ ps) stops = absurd stops
+  has_stopped stage.Join (p ∷ []) stops = editing (λ g. joining_edit p old.world g ∷ []) (λ x. IsJoining p old.world x) stops
+  has_stopped (stage.Create dg) disks (inl (g, here, ends)) = denied _ ends
+  has_stopped (stage.Create dg) disks (inr (x, writing, stopped)) = stopping x old refl stopped
+  has_stopped (stage.Import dg) disks (inl (g, here, ends)) = denied _ ends
+  has_stopped (stage.Import dg) disks (inr (inl (reads, inl turned))) = ended (ends.Refused turned.why) tt turned.end_is (volumes_of old.world new.world reads.0)
+  has_stopped (stage.Import dg) disks (inr (inl (reads, inr (inl (is, shelf))))) = ended ends.ShelfFailed tt is (volumes_of old.world new.world reads.0)
+  has_stopped (stage.Import dg) disks (inr (inl (reads, inr (inr (is, cut))))) = ended lost tt is (volumes_of old.world new.world reads.0)
+  has_stopped (stage.Import dg) disks (inr (inr (mid, between, (x, writing, stopped)))) = stopping x mid between.world stopped
+  has_stopped stage.LetGo disks stops = absurd stops
+
+-- ---- the stages of a command that is done
+
+-- the stages were done one after the other, and all went well
+abbrev pub AllDone : List DiskAt → List Stage → Moment → Moment → Type 0
+AllDone disks [] old new = new ≡ old
+AllDone disks (s ∷ ss) old new = (mid : Moment) × WentWell old new × IsDone s disks old mid × AllDone disks ss mid new
+
+all_done : (disks : List DiskAt) (stages : List Stage) (finish : Finish) (old : Moment) (views : List View) (end : End) (new : Moment) → Runs disks stages finish old views end new → end ≡ done → WentWell old new → AllDone disks stages old new
+all_done disks [] finish old views end new (shows, is, same) over well = same
+all_done disks (s ∷ ss) finish old views end new (inl (mid, later, is, rest)) over well = (mid, well, is, all_done disks ss finish mid views end new rest over (well_after old mid new later (runs_later disks ss finish mid views end new rest) well))
+all_done disks (s ∷ ss) finish old views end new (inr (none, later, stops)) over well = absurd (subst IsNotDone over (has_stopped old new end s disks stops).not_done)
+
+same_moment : (a b : Moment) → a.world ≡ b.world → a.counts ≡ b.counts → a ≡ b
+same_moment a b worlds counts = λ i. record { world = worlds i; counts = counts i }
+
+-- a command that is done leaves the moment at which it was over
+pub left_so : (Does : Moment → List View → End → Moment → Type 0) (old : Moment) (answer : Answer) (new : Moment) (s : Serves Does old answer new) → s.end ≡ done → new ≡ s.over
+left_so Does old answer new s is = same_moment new s.over (subst (λ (e : End). Leaves e old.world s.over.world new.world) is s.leaves) s.counts
+
+pub stages_done : (disks : List DiskAt) (stages : List Stage) (old new : Moment) → Serves (Runs disks stages Nothing) old is_done new → WentWell old new → AllDone disks stages old new
+stages_done disks stages old new s well =
+    let told : is_done ≡ One s.views s.end = s.told in
+    let is : s.end ≡ done = cc in
+    let same = left_so (Runs disks stages Nothing) old is_done new s is in
+    subst (λ (m : Moment). AllDone disks stages old m) (sym same) (all_done disks stages Nothing old s.views s.end s.over s.does is (subst (λ (m : Moment). WentWell old m) same well))
+
+-- what a command of this form does
+pub served : (place : ℕ) (c : Command) (f : Form) (old : Moment) (answer : Answer) (new : Moment) → IsOf f c → Step place c old answer new → Serves (DoesForm place c.group f) old answer new
+served place c f old answer new is step =
+    subst (λ (x : Form). Serves (DoesForm place c.group x) old answer new) is.form_is
+    (subst (λ (o : Option ℕ). Serves (λ from views end to. MatchOption o (DoesForm place c.group c.form from views end to) (λ n. IsNotBuilt from views end to)) old answer new) is.uncut step)
+
+-- ---- what went well
+
+up_to : (a b c : ℕ) → a ≤ b → b ≤ c → c ≡ a → b ≡ a
+up_to a b c low high same = omega arith
+
+room : (b c top : ℕ) → b ≤ c → c ≤ top → b ≤ top
+room b c top low high = omega arith
+
+still_on : (b c : Bool) → (IsTrue b → IsTrue c) → c ≡ false → b ≡ false
+still_on false c goes off = refl
+still_on true true goes off = off
+still_on true false goes off = sym (goes refl)
+
+pub well_before : (old mid new : Moment) → AreLater old.counts mid.counts → AreLater mid.counts new.counts → WentWell old new → WentWell old mid
+well_before old mid new first next well = record {
+  quiet = record {
+    devices = λ name. up_to (old.counts.faults name) (mid.counts.faults name) (new.counts.faults name) (first.faults name) (next.faults name) (well.quiet.devices name);
+    shelf = up_to old.counts.shelf mid.counts.shelf new.counts.shelf first.shelf next.shelf well.quiet.shelf;
+  };
+  powered = λ name. still_on (mid.counts.cut name) (new.counts.cut name) (next.cut name) (well.powered name);
+  room = λ name. room (mid.counts.faults name) (new.counts.faults name) 18446744073709551614 (next.faults name) (well.room name);
+  shelf_room = room mid.counts.shelf new.counts.shelf 18446744073709551614 next.shelf well.shelf_room;
+}
+
+-- the world does not count
+pub same_well : (old mid new : Moment) → new.counts ≡ mid.counts → WentWell old new → WentWell old mid
+same_well old mid new same well =
+    let Well : Counts → Type 0 = λ c. WentWell old (record { world = mid.world; counts = c }) in
+    subst Well same (record { quiet = well.quiet; powered = well.powered; room = well.room; shelf_room = well.shelf_room })
+
+pub none_failed : (old new : Moment) → WentWell old new → NoneFailed old.counts new.counts
+none_failed old new well name failed = calm old new well name failed
+
+pub well_from : (old mid new : Moment) → mid.counts ≡ old.counts → WentWell old new → WentWell mid new
+well_from old mid new same well =
+    record { quiet = subst (λ (c : Counts). IsQuiet c new.counts) (sym same) well.quiet; powered = well.powered; room = well.room; shelf_room = well.shelf_room }

@@ -1,6 +1,7 @@
 pub mod Texts
 pub mod Configs
-pub mod Staged
+pub mod Edited
+mod Staged
 pub mod Lowest
 pub mod Short
 pub mod Room

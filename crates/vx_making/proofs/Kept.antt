@@ -1,5 +1,5 @@
 -- Records that are added leave the group's name and its disks.
-use Rattle.std.proofs.Common.{◌≡◌, ◌∙◌, Option, Some, None, List, [], ◌∷◌, ◌++◌, map, refl, sym, ap}
+use Rattle.std.proofs.Common.{◌≡◌, ◌∙◌, Option, Some, None, List, [], ◌∷◌, ◌++◌, refl, sym, ap}
 use Rattle.std.specs.List.{filter_map}
 use Rattle.std.proofs.lemmas.List.{append-nil}
 use Rattle.std.proofs.lemmas.List.Elements.{filter_map-append}
@@ -30,13 +30,13 @@ no_disk (VolRecord v) = refl
 no_disk (DcoRecord d) = refl
 no_disk (SnapRecord s) = tt
 
+none_first : (o : Object) (os : List Object) (r : Option Object) → made o ≡ r → IsNoDisk r → filter_map as_disk (filter_map made os) ≡ [] → filter_map as_disk (filter_map made (o ∷ os)) ≡ []
+none_first o os None e none rest = rw e rest
+none_first o os (Some p) e none rest = rw (e, none) rest
+
 none_made : (os : List Object) → filter_map as_disk (filter_map made os) ≡ []
 none_made [] = refl
-none_made (o ∷ os) = by (made o) refl (no_disk o)
-  where
-    by : (r : Option Object) → made o ≡ r → IsNoDisk r → filter_map as_disk (filter_map made (o ∷ os)) ≡ []
-    by None e none = rw e (none_made os)
-    by (Some p) e none = rw (e, none) (none_made os)
+none_made (o ∷ os) = none_first o os (made o) refl (no_disk o) (none_made os)
 
 first_name : List Object → Word
 first_name [] = []

@@ -1,1 +1,3 @@
 mod Judged
+mod Kept
+mod Staged

@@ -1,6 +1,5 @@
 -- The records of a text that are added, as a stage.
 use Rattle.std.proofs.Common.{◌≡◌, ◌∙◌, inl, inr, Bool, List, [], ◌∷◌, ℕ, Some, None, Option, is_some, Result, Ok, Err, refl, sym, ap, subst}
-use Rattle.std.specs.List.{filter_map}
 use Rattle.vx_base.specs.Named.{Word}
 use Rattle.vx_piece.specs.Seen.{Seen}
 use Rattle.vx_parts.specs.declared.object.Object.{Object}
@@ -9,18 +8,17 @@ use Rattle.vx_objects.specs.declared.config.Config.{Config}
 use Rattle.vx_objects.specs.declared.edit.Edit.TheVariants.{Make}
 use Rattle.vx_objects.specs.Applied.{IsEdited}
 use Rattle.vx_objects.specs.Config.{objects_of}
-use Rattle.vx_rules.specs.Faults.{first_some}
 use Rattle.vx_answers.specs.declared.answer.End.{End}
 use Rattle.vx_answers.specs.declared.answer.End.TheVariants as ends
 use Rattle.vx_answers.specs.declared.refusal.Refusal.{Refusal}
 use Rattle.vx_answers.specs.declared.refusal.Refusal.TheVariants as refusal
 use Rattle.vx_script_words.specs.declared.value.DiskAt.{DiskAt}
 use Rattle.vx_started.specs.declared.started.Started.{Started}
-use Rattle.vx_moments.specs.World.{World, Volume, Group}
+use Rattle.vx_moments.specs.World.{Volume, Group}
 use Rattle.vx_moments.specs.Moment.{Moment}
 use Rattle.vx_moments.specs.Commit.{Writing}
-use Rattle.vx_plans.specs.Making.{Adds, adding_refusal, is_started, started_name}
-use Rattle.vx_plans.specs.Stages.{Stops, IsChange, IsMaking, MakingRefused, EditsRefused}
+use Rattle.vx_plans.specs.Making.{adding_refusal, is_started, started_name}
+use Rattle.vx_plans.specs.Stages.{Stops, IsChange, IsMaking, MakingRefused}
 use Rattle.vx_plans.specs.declared.stage.Stage.TheVariants as stage
 use Rattle.vx_house.specs.Goes.{StageGoes}
 use Rattle.vx_house.specs.Holders.{holders, volume_at, AreHeld}
@@ -31,9 +29,8 @@ use Rattle.vx_house.specs.declared.house.Imported.{Imported}
 use Rattle.vx_house.specs.declared.stop.Stop.{Stop}
 use Rattle.vx_house.specs.declared.stop.Stop.TheVariants as stops
 use Rattle.vx_house.proofs.Takes.{rests_self}
-use Rattle.vx_changes.specs.Changing.{ChangeEnds}
 use Rattle.vx_changes.proofs.Edited.{IsStage, unchanged, refused_here, house, same_house, group_at, edits_go}
-use Rattle.vx_making.specs.Judging.{is_running, IsReady, IsUnready, MakeEnds}
+use Rattle.vx_making.specs.Judging.{is_running, IsReady, MakeEnds}
 use Rattle.vx_making.proofs.Kept.{group_kept, disks_kept}
 
 -- names that are started alike refuse alike
@@ -56,6 +53,11 @@ same_some see None (Some v) is = absurd is
 same_some see (Some b) None is = absurd is
 same_some see (Some b) (Some v) is = refl
 
+-- the configuration of a group, or this one where there is none
+abbrev config_in : Config → Option Group → Config
+config_in none None = none
+config_in none (Some w) = w.config
+
 module _ {P : Type 0} (see : P → Seen) (text : List ℕ) (disks : List DiskAt) (shelf : Shelved) (old : House P) (keeps : KeepsHouse see old) (are_held : AreHeld shelf.held (holders see old)) where
   -- the same volumes are started in each moment
   same_started : (m : Moment) → IsMoment see (at shelf old) m → (vol : Word) → is_running old.volumes vol ≡ is_started m.world vol
@@ -76,28 +78,46 @@ module _ {P : Type 0} (see : P → Seen) (text : List ℕ) (disks : List DiskAt)
         let here = group_at see (stage.Make text) disks shelf old keeps are_held g has m is in
         inr (inl ((here.0, here.1, why here.0 here.2), rests_self m))
 
+    same_config : (added : List Object) (m : Moment) (x : Writing) → IsMoment see (at shelf old) m → IsChange (Make added ∷ []) m.world x → x.group.config ≡ g.config
+    same_config added m x is change = let here = group_at see (stage.Make text) disks shelf old keeps are_held g has m is in ap (config_in g.config) (sym change.group ∙ here.1) ∙ here.2
+
+    making : (added : List Object) → IsReady (is_running old.volumes) text (objects_of g.config) added → (m : Moment) (x : Writing) → IsMoment see (at shelf old) m → IsChange (Make added ∷ []) m.world x → IsMaking text m.world x
+    making added ready m x is change =
+        let here = group_at see (stage.Make text) disks shelf old keeps are_held g has m is in
+        record {
+          added = added;
+          adds = ready.adds;
+          fine = subst (λ k. adding_refusal (is_started m.world) (objects_of k) added ≡ None) (sym (same_config added m x is change)) (fine_at m is added None ready.fine);
+          change = change;
+        }
+
     is_stage : (added : List Object) → IsReady (is_running old.volumes) text (objects_of g.config) added → IsStage see (stage.Make text) disks shelf old g (Make added ∷ [])
     is_stage added ready =
-        let all = ready.adds.1 in
-        let made_is = ready.adds.2.2.1 in
+        let all : List Object = ready.adds.1 in
         record {
           writes = refl;
           gives = λ h. tt;
-          group = λ next edited. group_kept all g.config next (subst (λ os. IsEdited (Make os ∷ []) g.config next) ready.adds.2.2.2 edited);
-          keeps_disks = λ next edited. disks_kept all g.config next (subst (λ os. IsEdited (Make os ∷ []) g.config next) ready.adds.2.2.2 edited);
-          done = λ m n x is change committed. (x, making m x is change, committed);
-          stops = λ m n end x is change stopped. inr (inr (x, making m x is change, stopped));
+          group = λ next edited. group_kept all g.config next (subst (λ os. IsEdited (Make os ∷ []) g.config next) ready.adds.4 edited);
+          keeps_disks = λ next edited. disks_kept all g.config next (subst (λ os. IsEdited (Make os ∷ []) g.config next) ready.adds.4 edited);
+          done = λ m n x is change committed. (x, making added ready m x is change, committed);
+          stops = λ m n end x is change stopped. inr (inr (x, making added ready m x is change, stopped));
           refuses = λ m w r is here same refused. inr (inl ((w, here, inr (added, ready.adds, inr (subst (λ k. adding_refusal (is_started m.world) (objects_of k) added ≡ None) (sym same) (fine_at m is added None ready.fine), refused))), rests_self m));
         }
-      where
-        making : (m : Moment) (x : Writing) → IsMoment see (at shelf old) m → IsChange (Make added ∷ []) m.world x → IsMaking text m.world x
-        making m x is change =
-            let here = group_at see (stage.Make text) disks shelf old keeps are_held g has m is in
-            record {
-              added = added;
-              adds = ready.adds;
-              fine = subst (λ k. adding_refusal (is_started m.world) (objects_of k) added ≡ None) (sym (same_config m x is change)) (fine_at m is added None ready.fine);
-              change = change;
-            }
-        same_config : (m : Moment) (x : Writing) → IsMoment see (at shelf old) m → IsChange (Make added ∷ []) m.world x → x.group.config ≡ g.config
-        same_config m x is change = ?
+
+    -- the house is as before, with this refusal
+    refused_with : (r : Refusal) (end : End) (g' : Imported P) → g' ≡ g → end ≡ ends.Refused r → ((m : Moment) → IsMoment see (at shelf old) m → (w : Group) → w.config ≡ g.config → MakingRefused text m.world w (ends.Refused r))
+        → StageGoes {T = Unit {0}} see (stage.Make text) disks (Err (stops.Ended end)) (at shelf old) (at shelf (with g'))
+    refused_with r end g' same is why =
+        subst (λ e. StageGoes {T = Unit {0}} see (stage.Make text) disks (Err (stops.Ended e)) (at shelf old) (at shelf (with g'))) (sym is)
+        (subst (λ h. StageGoes {T = Unit {0}} see (stage.Make text) disks (Err (stops.Ended (ends.Refused r))) (at shelf old) (at shelf h)) (same_house see (stage.Make text) disks shelf old keeps are_held g has g' same)
+        (refused_here see (stage.Make text) disks shelf old keeps are_held r (λ m at_m. refuses_at m at_m r (why m at_m))))
+
+    pub make_goes : (result : Result (Unit {0}) Stop) (g' : Imported P) → MakeEnds see (is_running old.volumes) text result g g' → StageGoes see (stage.Make text) disks result (at shelf old) (at shelf (with g'))
+    make_goes (Ok u) g' (added, ready, ends) = edits_go see (stage.Make text) disks shelf old keeps are_held g has (Make added ∷ []) (is_stage added ready) (Ok u) g' ends
+    make_goes (Err stop) g' (inr (added, ready, ends)) = edits_go see (stage.Make text) disks shelf old keeps are_held g has (Make added ∷ []) (is_stage added ready) (Err stop) g' ends
+    make_goes (Err stops.OutOfMemory) g' (inl (same, why)) =
+        subst (λ h. StageGoes {T = Unit {0}} see (stage.Make text) disks (Err stops.OutOfMemory) (at shelf old) (at shelf h)) (same_house see (stage.Make text) disks shelf old keeps are_held g has g' same)
+        (unchanged see (stage.Make text) disks shelf old keeps are_held)
+    make_goes (Err (stops.Ended end)) g' (inl (same, inl (line, bad, is))) = refused_with (refusal.BadRecord line) end g' same is (λ m at_m w config. inl (line, bad, refl))
+    make_goes (Err (stops.Ended end)) g' (inl (same, inr (added, adds, r, e, is))) =
+        refused_with r end g' same is (λ m at_m w config. inr (added, adds, inl (r, subst (λ k. adding_refusal (is_started m.world) (objects_of k) added ≡ Some r) (sym config) (fine_at m at_m added (Some r) e), refl)))

@@ -120,11 +120,7 @@ fn behind_references<P>(
 }
 
 /// The refusal of the first record that refers to what the group has already.
-fn had(
-    alloc: Global,
-    group: &[Object],
-    added: &[Object],
-) -> Result<Option<Refusal>, OutOfMemory>
+fn had(alloc: Global, group: &[Object], added: &[Object]) -> Result<Option<Refusal>, OutOfMemory>
     requires group { repeated_after [] group.now ≡ None }
     ensures { IfOk result (λ refusal. refusal ≡ refusal_from (first_of (had_fault group.now) added.now)) }
 {
@@ -192,10 +188,7 @@ fn broken(
 }
 
 /// The refusal of the first volume that has the name of a started one.
-fn started_name<P>(
-    volumes: &BTreeMap<Name, Started<P>>,
-    added: &[Object],
-) -> Option<Refusal>
+fn started_name<P>(volumes: &BTreeMap<Name, Started<P>>, added: &[Object]) -> Option<Refusal>
     ensures { result ≡ started_name (is_running volumes.now) added.now }
 {
     match added {

@@ -6,5 +6,10 @@ use Rattle.vx_making.proofs.judging.judge.Goals as goal
 
 pub returns-in-Some-clause-unready : goal.returns-in-Some-clause-unready
 returns-in-Some-clause-unready g c =
-    inr (c.in_ok-added.added.items, c.in_ok-added.ensures.adds, c.in-Some.refusal,
-    subst (λ l. adding_refusal (is_running c.args.volumes.now) (objects_of c.args.config.now) l ≡ Some c.in-Some.refusal) c.deref.ensures.value (sym c.in-Ok.ensures ∙ c.in-Some.is), refl)
+    inr (
+      c.in_ok-added.added.items,
+      c.in_ok-added.ensures.adds,
+      c.in-Some.refusal,
+      subst (λ l. adding_refusal (is_running c.args.volumes.now) (objects_of c.args.config.now) l ≡ Some c.in-Some.refusal) c.deref.ensures.value (sym c.in-Ok.ensures ∙ c.in-Some.is),
+      refl,
+    )

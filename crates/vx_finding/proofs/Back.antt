@@ -14,8 +14,8 @@ use Rattle.vx_house.specs.Scene.{Shelved, Scene}
 use Rattle.vx_house.proofs.Held.{give_one, all_here}
 use Rattle.vx_house.proofs.Scenes.{scene_of, give_scene, unmoved_refl, unmoved_trans}
 use Rattle.vx_finding.specs.Finds.{holder_of, holders_of, beside}
-use Rattle.vx_finding.specs.Gathering.{IsReturned}
 use Rattle.vx_finding.specs.Giving.{IsBack, IsSorted, good_looks, disk_in, disks_in, seen_disks, disk_holders}
+use Rattle.vx_house.specs.Reading.{IsReturned}
 
 pub back_then : (a b c : Scene) → IsBack a b → IsBack b c → IsBack a c
 back_then a b c p q = record { held = q.held; moved = unmoved_trans a b c p.moved q.moved }

@@ -27,12 +27,13 @@ use Rattle.vx_house.proofs.Free.{held_out, held_in}
 use Rattle.vx_house.proofs.Held.{IsApart, apart_turned}
 use Rattle.vx_house.proofs.Listed.{all_back, all_two, all_unmapped, held_each}
 use Rattle.vx_finding.specs.Places.{ArePlaced}
-use Rattle.vx_finding.specs.Finds.{holder_of, holders_of, beside, contents_in, candidate_of, candidates_of, Stays, IsOfGroup, IsNaming}
+use Rattle.vx_finding.specs.Finds.{holder_of, holders_of, beside, contents_in, candidate_of, candidates_of, IsOfGroup, IsNaming}
 use Rattle.vx_finding.specs.Gathering.{IsMet}
 use Rattle.vx_finding.specs.Importing.{IsSince}
 use Rattle.vx_finding.proofs.Linking.{IsLinked}
 use Rattle.vx_finding.proofs.Passing.{self_up_to}
 use Rattle.vx_finding.proofs.Gathered.{or_true, or_first}
+use Rattle.vx_house.specs.Reading.{Stays}
 
 -- the name is that of one of them
 abbrev pub is_found : Word → List Looked → Bool

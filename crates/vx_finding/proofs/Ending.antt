@@ -1,5 +1,5 @@
 -- An import that ends with all devices back on the shelf.
-use Rattle.std.proofs.Common.{◌≡◌, ◌∙◌, Bool, true, false, Option, Some, None, List, [], refl, sym, ap, inl, inr, arith}
+use Rattle.std.proofs.Common.{◌≡◌, ◌∙◌, true, false, Some, List, [], refl, sym, ap, inl, inr, arith}
 use Rattle.std.specs.Prelude.{Err}
 use Rattle.vx_base.specs.Counts.{Rose}
 use Rattle.vx_base.specs.Named.{Word}
@@ -8,39 +8,20 @@ use Rattle.vx_script_words.specs.declared.value.DiskAt.{DiskAt}
 use Rattle.vx_answers.specs.declared.answer.End.{End}
 use Rattle.vx_answers.specs.declared.answer.End.TheVariants as ends
 use Rattle.vx_answers.specs.declared.refusal.Refusal.TheVariants.{InUse}
-use Rattle.vx_moments.specs.World.{Device}
 use Rattle.vx_moments.specs.Moment.{Moment, AreLater, Rests}
 use Rattle.vx_plans.specs.Stages.{IsDone, Stops, OnlyReads, ImportRefused, GroupStops}
 use Rattle.vx_plans.specs.declared.stage.Stage.TheVariants as stage
 use Rattle.vx_house.specs.Goes.{StageGoes}
 use Rattle.vx_house.specs.Scene.{Shelved, Scene, seen_at, count_in, counts_of, IsBlamed}
-use Rattle.vx_house.specs.View.{Keeps, IsMoment, IsDeviceOf, is_lent, at, scene, group_of}
+use Rattle.vx_house.specs.View.{Keeps, IsMoment, is_lent, at, scene, group_of}
 use Rattle.vx_house.specs.declared.house.House.{House}
 use Rattle.vx_house.specs.declared.house.Imported.{Imported}
 use Rattle.vx_house.specs.declared.stop.Stop.TheVariants as stops
 use Rattle.vx_house.proofs.Ended.{keeps_ended, goes_ended}
-use Rattle.vx_house.proofs.Moments.{PlaceGoesOn, counts_own, counts_later, later_refl, faults_refl, moment_at}
-use Rattle.vx_finding.specs.Finds.{Stays}
+use Rattle.vx_house.proofs.Moments.{counts_own, counts_later, later_refl, faults_refl, moment_at}
+use Rattle.vx_house.proofs.Reading.{stays_device, stays_place, stays_writes}
 use Rattle.vx_finding.specs.Gathering.{IsSomeCut}
-use Rattle.vx_finding.specs.Importing.{AreRead}
-
-pub stays_device : (lent : Bool) (a b : Option Seen) (d : Option Device) → Stays a b → IsDeviceOf lent a d → IsDeviceOf lent b d
-stays_device lent None None d stays of = of
-stays_device lent None (Some b) d stays of = absurd stays
-stays_device lent (Some a) None d stays of = absurd stays
-stays_device lent (Some a) (Some b) None stays of = absurd of
-stays_device lent (Some a) (Some b) (Some d) stays of = (of.0 ∙ sym stays.0.sectors, λ own. stays.1.told ∙ of.1 own)
-
-pub stays_place : (a b : Option Seen) → Stays a b → PlaceGoesOn a b
-stays_place None b stays = tt
-stays_place (Some a) None stays = absurd stays
-stays_place (Some a) (Some b) stays = stays.0.cut
-
-pub stays_writes : (a b : Option Seen) → Stays a b → count_in (λ (seen : Seen). seen.writes) 0 b ≡ count_in (λ (seen : Seen). seen.writes) 0 a
-stays_writes None None stays = refl
-stays_writes None (Some b) stays = absurd stays
-stays_writes (Some a) None stays = absurd stays
-stays_writes (Some a) (Some b) stays = stays.1.writes
+use Rattle.vx_house.specs.Reading.{AreRead}
 
 module _ {P : Type 0} (see : P → Seen) (group : Word) (disks : List DiskAt) (h : House P) (first new : Shelved) where
   abbrev pub before : Scene

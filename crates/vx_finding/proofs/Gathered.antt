@@ -19,11 +19,13 @@ use Rattle.vx_import.specs.declared.found.Found.{Found}
 use Rattle.vx_moments.specs.Holding.{is_among}
 use Rattle.vx_house.specs.Holders.{Holder, held_as, AreHeld}
 use Rattle.vx_house.specs.Scene.{Shelved, Scene, seen_at}
-use Rattle.vx_finding.specs.Finds.{holders_of, beside, Stays, OnlyRead, IsNaming, HasSlot, AllBefore}
+use Rattle.vx_finding.specs.Finds.{holders_of, beside, IsNaming, HasSlot, AllBefore}
 use Rattle.vx_finding.specs.Gathering.{IsMet, AreMet, GatherGoes, PassGoes}
 use Rattle.vx_finding.specs.declared.gathering.Passed.TheVariants.{Done, Cut, OutOfMemory}
-use Rattle.vx_finding.proofs.Passing.{none_before, told_free}
-use Rattle.vx_finding.proofs.Stays.{only_refl, only_trans}
+use Rattle.vx_finding.proofs.Passing.{none_before}
+use Rattle.vx_house.specs.Reading.{Stays, OnlyRead}
+use Rattle.vx_house.proofs.Reading.{only_refl, only_trans}
+use Rattle.vx_house.proofs.Asked.{told_free}
 
 -- of rising names each stands before those behind it
 pub rising_at : (names : List Word) (i j : ℕ) (d e : Word) → IsRising names → i < j → j < length names → slice_cmp nat_cmp (get_or names i d) (get_or names j e) ≡ Less

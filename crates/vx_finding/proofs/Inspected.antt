@@ -19,7 +19,8 @@ use Rattle.vx_house.proofs.Held.{later_held}
 use Rattle.vx_finding.specs.Places.{slots_of, ArePlaced}
 use Rattle.vx_finding.specs.Finds.{holders_of, HasSlot, IsFind, IsOfGroup, AreFinds, AreLooked}
 use Rattle.vx_finding.proofs.Placed.{all_low, few, slots_long}
-use Rattle.vx_finding.proofs.Stays.{IsReadOn, each_behind, each_later}
+use Rattle.vx_house.proofs.Steps.{IsStep}
+use Rattle.vx_house.proofs.Reading.{IsReadOn, each_behind, each_later}
 
 each_long : {P : Type 0} (see : P → Seen) (ds es : List (Found P)) → Each Inspects (map (looked see) ds) (map (looked see) es) → length ds ≡ length es
 each_long see [] [] each = refl
@@ -116,11 +117,11 @@ module _ {P : Type 0} (see : P → Seen) where
 pub few_looked : {P : Type 0} (see : P → Seen) (group : Word) (gs : List (Found P)) → AreLooked see group gs → length gs ≤ 32
 few_looked see group gs are = let a = few (slots_of gs) (all_low gs) are.rising in let b = slots_long gs in omega (arith, a, b)
 
-pub read_each : (fs gs : List Looked) → Each Inspects fs gs → Each IsReadOn (holders_of fs) (holders_of gs)
+pub read_each : (fs gs : List Looked) → Each Inspects fs gs → Each (IsStep IsReadOn) (holders_of fs) (holders_of gs)
 read_each [] [] each = tt
 read_each [] (g ∷ gs) each = absurd each
 read_each (f ∷ fs) [] each = absurd each
-read_each (f ∷ fs) (g ∷ gs) each = (record { name = each.0.device; kept = each.0.kept; same = each.0.same }, read_each fs gs each.1)
+read_each (f ∷ fs) (g ∷ gs) each = (record { name = each.0.device; goes = record { kept = each.0.kept; same = each.0.same } }, read_each fs gs each.1)
 
 pub slot_inspected : (fs gs : List Looked) → Each Inspects fs gs → (slot : ℕ) (name : Word) → HasSlot slot name fs → HasSlot slot name gs
 slot_inspected [] [] each slot name has = has

@@ -1,7 +1,5 @@
 pub mod Placed
 pub mod Verdicts
-pub mod Stays
-pub mod Took
 pub mod Kept
 pub mod Passing
 pub mod Gathered

@@ -1,6 +1,6 @@
 -- One device of the shelf is passed.
-use Rattle.std.proofs.Common.{◌≡◌, ◌∙◌, ◌≤◌, ℕ, true, false, List, [], ◌∷◌, ◌++◌, Option, Some, None, refl, sym, ap, subst, arith, inl, inr, append_assoc}
-use Rattle.std.specs.Prelude.{IsSome, IfSome, IsErrOf, Result, Err, ◌↔◌}
+use Rattle.std.proofs.Common.{◌≡◌, ◌∙◌, ◌≤◌, ℕ, true, false, List, [], ◌∷◌, ◌++◌, None, refl, sym, ap, subst, inl, inr, append_assoc}
+use Rattle.std.specs.Prelude.{IfSome}
 use Rattle.std.specs.Str.{bytes_eq}
 use Rattle.std.specs.Cmp.Lexicographic.{slice_cmp}
 use Rattle.std.specs.Ordering.{nat_cmp, is_eq}
@@ -13,23 +13,20 @@ use Rattle.vx_base.specs.Named.{Word, SameUnder}
 use Rattle.vx_base.proofs.NamedLemmas.{bytes_eq_self}
 use Rattle.vx_piece.specs.Seen.{Seen, Keeps, IsRead}
 use Rattle.vx_header.specs.Named.{Label}
-use Rattle.vx_shelf.specs.Shelf.{Held, IsNowhere, SameCounts}
-use Rattle.vx_shelf.specs.declared.shelf.ShelfFault.{ShelfFault}
-use Rattle.vx_shelf.specs.declared.shelf.ShelfFault.TheVariants.{NoDisk}
-use Rattle.vx_shelf.specs.declared.shelf.ShelfFault.TheVariants.{Held as ShelfHeld}
+use Rattle.vx_shelf.specs.Shelf.{SameCounts}
 use Rattle.vx_import.specs.Looks.{Looked}
 use Rattle.vx_plans.specs.Finding.{IsUpTo}
 use Rattle.vx_house.specs.Holders.{Holder, held_as, AreHeld}
-use Rattle.vx_house.specs.Scene.{Shelved, seen_in, faults_in}
-use Rattle.vx_house.proofs.Held.{same_held}
+use Rattle.vx_house.specs.Scene.{Shelved}
 use Rattle.vx_house.proofs.Scenes.{scene_of, IsHanded}
-use Rattle.vx_finding.specs.Finds.{holder_of, holders_of, beside, OnlyRead, IsNaming, HasSlot, AllBefore}
-use Rattle.vx_finding.specs.Gathering.{IsReturned, IsSlotUsed, WhyBack, IsFound, LookBy, PassedBy, PassGoes}
+use Rattle.vx_finding.specs.Finds.{holder_of, holders_of, beside, IsNaming, HasSlot, AllBefore}
+use Rattle.vx_finding.specs.Gathering.{IsSlotUsed, WhyBack, IsFound, LookBy, PassedBy, PassGoes}
 use Rattle.vx_finding.specs.declared.gathering.Passed.{Passed}
 use Rattle.vx_finding.specs.declared.gathering.Passed.TheVariants.{Done, Cut, OutOfMemory}
 use Rattle.vx_finding.proofs.Kept.{all_on_put, any_on_put, any_at_put}
-use Rattle.vx_finding.proofs.Stays.{stays_same}
-use Rattle.vx_finding.proofs.Took as took
+use Rattle.vx_house.proofs.Asked.{told_free, not_told, only_asked, held_asked}
+use Rattle.vx_house.proofs.Took as took
+use Rattle.vx_house.specs.Reading.{OnlyRead, IsReturned}
 
 pub holders_put : (xs ys : List Looked) → holders_of (xs ++ ys) ≡ holders_of xs ++ holders_of ys
 holders_put xs ys = map-append holder_of xs ys
@@ -56,32 +53,10 @@ has_slot slot name [] before used = absurd used
 has_slot slot name (f ∷ fs) before (inl is) = inl (is, less_up_to f.device name before.0)
 has_slot slot name (f ∷ fs) before (inr used) = inr (has_slot slot name fs before.1 used)
 
--- what is told of a device that nobody took is told by the shelf
-pub told_free : (o : Option Seen) (free : Option (Word → Option Seen)) (name : Word) (seen : Seen) → o ≡ None → seen_in o free name ≡ Some seen → IsSome free
-told_free None None name seen none is = cc
-told_free None (Some d) name seen none is = refl
-told_free (Some s) free name seen none is = cc
-
-not_told : (o : Option Seen) (free : Option (Word → Option Seen)) (name : Word) (seen : Seen) → IfSome free (λ d. d name ≡ None) → o ≡ None → seen_in o free name ≡ Some seen → ⊥
-not_told None None name seen gone none is = cc
-not_told None (Some d) name seen gone none is = cc
-not_told (Some s) free name seen gone none is = cc
-
 module _ (old new : Shelved) (same : SameUnder old.held new.held) (stays : new.free ≡ old.free) (counts : SameCounts old.counted new.counted) (later : old.faults ≤ new.faults) where
-  -- nothing was taken
-  pub only_asked : (hs : List Holder) → OnlyRead (scene_of old hs) (scene_of new hs)
-  only_asked hs = record {
-    told = λ told. subst IsSome (sym stays) told;
-    seen = λ told name. stays_same (seen_in (held_as hs name) old.free name) (seen_in (held_as hs name) new.free name) (ap (λ f. seen_in (held_as hs name) f name) stays);
-    faults = record { devices = λ name. let e = ap (faults_in (held_as hs name)) (counts name) in omega (arith, e); shelf = later };
-  }
-
-  pub held_asked : (hs : List Holder) → AreHeld old.held hs → AreHeld new.held hs
-  held_asked hs are = same_held old.held new.held hs same are
-
   module _ (group name : Word) (others : List Holder) (fs : List Looked) (are : AreHeld old.held (others ++ holders_of fs)) where
     missed : (result : Passed) → PassedBy result group name (beside old others fs) (beside new others fs) fs → PassGoes result group name (beside old others fs) (beside new others fs) fs
-    missed result ends = record { held = held_asked (others ++ holders_of fs) are; reads = only_asked (others ++ holders_of fs); ends = ends }
+    missed result ends = record { held = held_asked old new same stays counts later (others ++ holders_of fs) are; reads = only_asked old new same stays counts later (others ++ holders_of fs); ends = ends }
 
     pub pass_absent : IfSome old.free (λ d. d name ≡ None) → PassGoes Done group name (beside old others fs) (beside new others fs) fs
     pass_absent gone = missed Done (inr (λ seen label none is naming. absurd (not_told (held_as (others ++ holders_of fs) name) old.free name seen gone none is)))
@@ -91,14 +66,6 @@ module _ (old new : Shelved) (same : SameUnder old.held new.held) (stays : new.f
 
     pub pass_starved : PassGoes OutOfMemory group name (beside old others fs) (beside new others fs) fs
     pass_starved = missed OutOfMemory tt
-
-pub nowhere_gone : (name : Word) (free : Option (Word → Option Seen)) (held : Word → Option Held) {T : Type 0} (r : Result T ShelfFault) → r ≡ Err NoDisk → IfSome free (λ d. IsErrOf r NoDisk ↔ IsNowhere name d held) → IfSome free (λ d. d name ≡ None)
-nowhere_gone name None held r e is = tt
-nowhere_gone name (Some d) held r e is = (is.0 e).not_free
-
-pub held_gone : (name : Word) (free : Option (Word → Option Seen)) {T : Type 0} (r : Result T ShelfFault) → r ≡ Err ShelfHeld → IfSome free (λ d. IsErrOf r ShelfHeld → d name ≡ None) → IfSome free (λ d. d name ≡ None)
-held_gone name None r e is = tt
-held_gone name (Some d) r e is = is e
 
 module _ (group name : Word) (old mid new : Shelved) (fs fs' : List Looked) (seen after : Seen) (handed : IsHanded name seen old mid) (kept : Keeps seen after) (same : IsRead seen after) where
   module _ (others : List Holder) (are : AreHeld old.held (others ++ holders_of fs)) (before : AllBefore fs name) where

@@ -34,7 +34,7 @@ use Rattle.vx_house.proofs.Listed.{all_back, all_each, all_unmapped, held_each}
 use Rattle.vx_house.proofs.Moments.{faults_moved}
 use Rattle.vx_finding.specs.Finds.{holder_of, holders_of, beside, candidates_of, IsOfGroup, AreLooked}
 use Rattle.vx_finding.specs.Giving.{IsBack, good_looks, disks_in, seen_disks}
-use Rattle.vx_finding.specs.Importing.{AreRead, IsAsked, IsSince, EndIs, StopIs, SearchStops}
+use Rattle.vx_finding.specs.Importing.{IsAsked, IsSince, EndIs, StopIs, SearchStops}
 use Rattle.vx_finding.specs.Judging.{TextJudged, is_started, labels_of}
 use Rattle.vx_finding.specs.declared.judging.Judged.{Judged}
 use Rattle.vx_finding.specs.declared.judging.Judged.TheVariants as judged
@@ -46,6 +46,7 @@ use Rattle.vx_finding.proofs.Since.{since_back, asked_read}
 use Rattle.vx_finding.proofs.Taken.{found_labels}
 use Rattle.vx_finding.proofs.Texts.{labels_in}
 use Rattle.vx_finding.proofs.Told.{started_same, refused_finds, fault_finds, given_finds}
+use Rattle.vx_house.specs.Reading.{AreRead}
 
 -- as many disks at most as devices were found
 looks_long : {P : Type 0} (see : P → Seen) (ds : List (Found P)) → length (map (looked see) ds) ≡ length ds

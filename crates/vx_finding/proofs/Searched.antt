@@ -7,8 +7,8 @@ use Rattle.vx_finding.specs.Gathering.{IsSomeCut, GatherGoes}
 use Rattle.vx_finding.specs.declared.gathering.Passed.{Passed}
 use Rattle.vx_finding.specs.declared.gathering.Passed.TheVariants.{Cut}
 use Rattle.vx_finding.specs.Giving.{IsBack}
-use Rattle.vx_finding.specs.Importing.{AreRead}
-use Rattle.vx_finding.proofs.Stays.{only_trans, only_unmoved}
+use Rattle.vx_house.specs.Reading.{AreRead}
+use Rattle.vx_house.proofs.Reading.{only_trans, only_unmoved}
 
 pub read_back : (result : Passed) (group : Word) (names : List Word) (old mid new : Scene) (fs : List Looked) → GatherGoes result group names old mid fs → IsBack mid new → AreRead old new
 read_back result group names old mid new fs goes back = record { held = back.held; reads = only_trans old mid new goes.reads (only_unmoved mid new back.moved) }

@@ -19,15 +19,16 @@ use Rattle.vx_house.specs.declared.house.House.{House}
 use Rattle.vx_house.proofs.Held.{later_held}
 use Rattle.vx_house.proofs.Listed.{all_back, all_each, all_unmapped, held_each}
 use Rattle.vx_finding.specs.Places.{slots_of, ArePlaced}
-use Rattle.vx_finding.specs.Finds.{holder_of, holders_of, beside, Stays, OnlyRead, IsFind, IsOfGroup, AreFinds, AreLooked}
+use Rattle.vx_finding.specs.Finds.{holder_of, holders_of, beside, IsFind, IsOfGroup, AreFinds, AreLooked}
 use Rattle.vx_finding.specs.Gathering.{IsMet, GatherGoes}
 use Rattle.vx_finding.specs.Giving.{IsBack}
-use Rattle.vx_finding.specs.Importing.{AreRead, IsAsked, IsSince}
+use Rattle.vx_finding.specs.Importing.{IsAsked, IsSince}
 use Rattle.vx_finding.specs.declared.gathering.Passed.TheVariants.{Done}
 use Rattle.vx_finding.proofs.Gathered.{naming_on, stays_to, met_on}
 use Rattle.vx_finding.proofs.Inspected.{read_each, slot_inspected}
-use Rattle.vx_finding.proofs.Passing.{told_free, only_asked, held_asked}
-use Rattle.vx_finding.proofs.Stays.{only_trans, only_each, only_unmoved, each_behind, each_later}
+use Rattle.vx_house.specs.Reading.{Stays, OnlyRead, AreRead}
+use Rattle.vx_house.proofs.Reading.{only_trans, only_each, only_unmoved, each_behind, each_later}
+use Rattle.vx_house.proofs.Asked.{told_free, only_asked, held_asked}
 
 -- the names are told: nothing was taken
 pub names_asked : {P : Type 0} (see : P → Seen) (names : List Word) (first now : Shelved) (h : House P) → Keeps see (at first h) → h.hand.items ≡ [] → h.group ≡ None → IfSome first.free (λ devices. Lists names devices first.held)

@@ -46,7 +46,7 @@ use Rattle.vx_commits.proofs.Joined.{held_on, faults_on, moment_on, later_on, bu
 use Rattle.vx_commits.proofs.Kept.{sized_now, slots_now, recorded_now}
 use Rattle.vx_commits.proofs.Members.{member_in}
 use Rattle.vx_commits.specs.Committing.{IsTried, IsFinished, IsWritable, CommitEnds}
-use Rattle.vx_finding.specs.Finds.{beside, OnlyRead, IsOfGroup, AreLooked, candidate_of, candidates_of}
+use Rattle.vx_finding.specs.Finds.{beside, IsOfGroup, AreLooked, candidate_of, candidates_of}
 use Rattle.vx_finding.specs.Giving.{IsBack, good_looks, disks_in, seen_disks, disk_holders}
 use Rattle.vx_finding.specs.Importing.{IsSince}
 use Rattle.vx_finding.specs.Judging.{TextJudged, is_started, labels_of}
@@ -55,14 +55,15 @@ use Rattle.vx_finding.specs.Readying.{IsReadied, AreCommittable}
 use Rattle.vx_finding.specs.Taking.{group_with, TakesIn, IsTakenIn, IsTurnedAway}
 use Rattle.vx_finding.specs.declared.judging.Judged.TheVariants.{Ready}
 use Rattle.vx_finding.proofs.Counting.{unread_by, found_of, all_linked}
-use Rattle.vx_finding.proofs.Ending.{stays_device, stays_place, stays_writes, starves}
+use Rattle.vx_finding.proofs.Ending.{starves}
 use Rattle.vx_finding.proofs.Goods.{good_candidates}
 use Rattle.vx_finding.proofs.Linking.{IsLinked}
 use Rattle.vx_finding.proofs.Masked.{mask_is}
 use Rattle.vx_finding.proofs.Readied.{committable, named, recorded_disks}
-use Rattle.vx_finding.proofs.Stays.{only_trans, only_unmoved}
 use Rattle.vx_finding.proofs.Told.{started_same, ready_of, ready_finds, given_finds}
 use Rattle.vx_finding.proofs.Texts.{labels_in}
+use Rattle.vx_house.specs.Reading.{OnlyRead}
+use Rattle.vx_house.proofs.Reading.{stays_device, stays_place, stays_writes, only_trans, only_unmoved}
 
 -- the disks beside a house without a group and with an empty hand are held as those of its group
 pub holders_taken : {P : Type 0} (see : P → Seen) (h : House P) (g : Imported P) → h.hand.items ≡ [] → h.group ≡ None → holders see h ++ disk_holders see g.base.disks.items ≡ holders see (record { volumes = h.volumes; group = Some g; hand = h.hand })

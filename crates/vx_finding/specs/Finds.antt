@@ -1,19 +1,19 @@
 -- The devices that are found for a group.
-use Rattle.std.specs.Prelude.{◌≡◌, ℕ, ◌<◌, ◌≤◌, true, List, [], ◌++◌, map, Option, Some, None, IfSome, IsSome}
+use Rattle.std.specs.Prelude.{◌≡◌, ℕ, ◌<◌, ◌≤◌, true, List, [], ◌++◌, map, Option, Some, None, IfSome}
 use Rattle.std.specs.Cmp.Lexicographic.{slice_cmp}
 use Rattle.std.specs.Ordering.{nat_cmp}
 use Rattle.std.specs.declared.cmp.Ordering.TheVariants.{Less}
 use Rattle.vx_base.specs.Blocks.{Contents}
 use Rattle.vx_base.specs.Named.{Word}
 use Rattle.vx_header.specs.Named.{Label, header_of}
-use Rattle.vx_piece.specs.Seen.{Seen, Keeps, IsRead}
+use Rattle.vx_piece.specs.Seen.{Seen}
 use Rattle.vx_copies.specs.Lists.{AllOf, AnyOf}
 use Rattle.vx_import.specs.Looks.{Looked, looked}
 use Rattle.vx_import.specs.declared.found.Found.{Found}
 use Rattle.vx_moments.specs.World.{Device}
 use Rattle.vx_plans.specs.Finding.{Candidate, IsUpTo}
 use Rattle.vx_house.specs.Holders.{Holder}
-use Rattle.vx_house.specs.Scene.{Shelved, Scene, seen_at, FaultsGoOn}
+use Rattle.vx_house.specs.Scene.{Shelved, Scene}
 use Rattle.vx_finding.specs.Places.{slots_of, ArePlaced}
 
 -- a device that was found, as one that is held
@@ -44,19 +44,6 @@ candidates_of fs = map candidate_of fs
 -- a shelf, with devices that were found for a group beside others that are held
 abbrev pub beside : Shelved → List Holder → List Looked → Scene
 beside shelf others fs = record { shelf = shelf; taken = others ++ holders_of fs }
-
--- the device is still there, only read
-abbrev pub Stays : Option Seen → Option Seen → Type 0
-Stays None None = Unit {0}
-Stays None (Some new) = ⊥
-Stays (Some old) None = ⊥
-Stays (Some old) (Some new) = Keeps old new × IsRead old new
-
--- Devices were taken, read and given back: where the shelf tells its devices, each is still there.
-pub record OnlyRead (old new : Scene) : Type 0 where
-  pub told : IsSome old.shelf.free → IsSome new.shelf.free
-  pub seen : IsSome old.shelf.free → (name : Word) → Stays (seen_at old name) (seen_at new name)
-  pub faults : FaultsGoOn old new
 
 -- the header of a whole device that can be read names the group and the device's own size
 pub record IsFind (group : Word) (f : Looked) : Type 0 where

@@ -4,15 +4,15 @@ use Rattle.vx_base.specs.Counts.{Rose, RoseBy}
 use Rattle.vx_base.specs.Named.{Word}
 use Rattle.vx_header.specs.Named.{Label}
 use Rattle.vx_piece.specs.Seen.{Seen, Keeps, IsRead}
-use Rattle.vx_shelf.specs.Shelf.{IsGiven, ComesToShelf, SameCounts, put_count}
 use Rattle.vx_copies.specs.Lists.{AllOf, AnyOf}
 use Rattle.vx_import.specs.Looks.{Looked}
 use Rattle.vx_moments.specs.Holding.{is_among}
 use Rattle.vx_house.specs.Holders.{held_as, AreHeld}
 use Rattle.vx_house.specs.Scene.{Shelved, Scene, seen_at, faults_at}
-use Rattle.vx_finding.specs.Finds.{OnlyRead, IsFind, IsNaming, HasSlot}
+use Rattle.vx_finding.specs.Finds.{IsFind, IsNaming, HasSlot}
 use Rattle.vx_finding.specs.declared.gathering.Passed.{Passed}
 use Rattle.vx_finding.specs.declared.gathering.Passed.TheVariants.{Done, Cut, OutOfMemory}
+use Rattle.vx_house.specs.Reading.{OnlyRead, IsReturned}
 
 -- one was put among others
 pub record IsPut (find : Looked) (fs fs' : List Looked) : Type 0 where
@@ -20,13 +20,6 @@ pub record IsPut (find : Looked) (fs fs' : List Looked) : Type 0 where
   pub back : List Looked
   pub old : fs ≡ front ++ back
   pub new : fs' ≡ front ++ find ∷ back
-
--- the device is back on the shelf, as it is now
-pub record IsReturned (name : Word) (seen : Seen) (old new : Shelved) : Type 0 where
-  pub given : IsGiven name old.held new.held
-  pub back : ComesToShelf name seen old.free new.free
-  pub quiet : new.faults ≡ old.faults
-  pub counts : SameCounts (put_count name seen.faults old.counted) new.counted
 
 -- one of these has the slot
 abbrev pub IsSlotUsed : ℕ → List Looked → Type 0

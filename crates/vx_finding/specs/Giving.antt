@@ -10,7 +10,7 @@ use Rattle.vx_import.specs.Answers.{disk_of}
 use Rattle.vx_house.specs.Holders.{Holder, disk_holder, AreHeld}
 use Rattle.vx_house.specs.Scene.{Shelved, Scene}
 use Rattle.vx_house.specs.Unmoved.{Unmoved}
-use Rattle.vx_finding.specs.Gathering.{IsReturned}
+use Rattle.vx_house.specs.Reading.{IsReturned}
 
 -- all that is held is held as whole devices, and nothing is seen otherwise
 pub record IsBack (old new : Scene) : Type 0 where

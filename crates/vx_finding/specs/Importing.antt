@@ -20,13 +20,9 @@ use Rattle.vx_house.specs.declared.house.House.{House}
 use Rattle.vx_house.specs.declared.stop.Stop.{Stop}
 use Rattle.vx_house.specs.declared.stop.Stop.TheVariants as stops
 use Rattle.vx_finding.specs.Places.{ArePlaced}
-use Rattle.vx_finding.specs.Finds.{holders_of, beside, OnlyRead, IsOfGroup}
+use Rattle.vx_finding.specs.Finds.{holders_of, beside, IsOfGroup}
 use Rattle.vx_finding.specs.Gathering.{AreMet, IsSomeCut}
-
--- All devices that were looked at are back: nothing but what is held beside is taken, and each device was only read.
-pub record AreRead (old new : Scene) : Type 0 where
-  pub held : AreHeld new.shelf.held new.taken
-  pub reads : OnlyRead old new
+use Rattle.vx_house.specs.Reading.{OnlyRead, AreRead}
 
 -- how a search ended that found nothing: the power is gone, or memory is wanting
 abbrev pub SearchStops : Stop → Scene → Scene → Type 0

@@ -4,7 +4,7 @@ ghost use Rattle.vx_import.specs.Looks.{looked};
 ghost use Rattle.vx_house.specs.Holders.{Holder, AreHeld};
 ghost use Rattle.vx_house.specs.Scene.{shelved};
 ghost use Rattle.vx_finding.specs.Finds.{holders_of, beside};
-ghost use Rattle.vx_finding.specs.Gathering.{IsReturned};
+ghost use Rattle.vx_house.specs.Reading.{IsReturned};
 ghost use Rattle.vx_finding.specs.Giving.{IsBack};
 
 use vx_import::Found;

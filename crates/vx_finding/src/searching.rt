@@ -6,7 +6,8 @@ ghost use Rattle.vx_house.specs.Holders.{Holder, AreHeld};
 ghost use Rattle.vx_house.specs.Scene.{shelved};
 ghost use Rattle.vx_finding.specs.Finds.{beside, AreFinds};
 ghost use Rattle.vx_finding.specs.Gathering.{GatherGoes};
-ghost use Rattle.vx_finding.specs.Importing.{AreRead, SearchStops};
+ghost use Rattle.vx_finding.specs.Importing.{SearchStops};
+ghost use Rattle.vx_house.specs.Reading.{AreRead};
 ghost use Rattle.vx_finding.specs.declared.gathering.Passed.TheVariants as passed;
 
 use crate::gathering::{Passed, gather};

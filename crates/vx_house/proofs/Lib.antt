@@ -13,3 +13,6 @@ pub mod Lists
 pub mod Steps
 pub mod Hands
 pub mod One
+pub mod Reading
+pub mod Took
+pub mod Asked

@@ -6,7 +6,7 @@ use Rattle.vx_base.specs.Named.{Word}
 use Rattle.vx_base.proofs.NamedLemmas.{bytes_eq_same}
 use Rattle.vx_piece.specs.Seen.{Seen, Keeps}
 use Rattle.vx_copies.specs.Lists.{Each}
-use Rattle.vx_copies.proofs.Going.{each_map}
+use Rattle.vx_copies.proofs.Going.{each_refl, each_map}
 use Rattle.vx_moments.specs.Moment.{Counts, AreLater}
 use Rattle.vx_house.specs.Holders.{Holder, held_as}
 use Rattle.vx_house.specs.Scene.{Shelved, seen_in, faults_in, count_in, AreCountsOf, counts_of, FaultsGoOn}
@@ -18,6 +18,9 @@ use Rattle.vx_house.proofs.Called.{later_faults}
 pub record IsStep (Q : Word → Seen → Seen → Type 0) (old new : Holder) : Type 0 where
   pub name : new.name ≡ old.name
   pub goes : Q old.name old.seen new.seen
+
+pub steps_self : (Q : Word → Seen → Seen → Type 0) → ((name : Word) (s : Seen) → Q name s s) → (hs : List Holder) → Each (IsStep Q) hs hs
+steps_self Q self hs = each_refl (IsStep Q) (λ h. record { name = refl; goes = self h.name h.seen }) hs
 
 -- what is held under a name goes on so
 abbrev pub HeldStep : (Seen → Seen → Type 0) → Option Seen → Option Seen → Type 0

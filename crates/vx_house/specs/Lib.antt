@@ -7,3 +7,4 @@ pub mod Closing
 pub mod Unmoved
 pub mod Takes
 pub mod Leaves
+pub mod Reading

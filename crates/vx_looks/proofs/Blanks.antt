@@ -31,11 +31,12 @@ use Rattle.vx_house.proofs.Ended.{keeps_ended, goes_ended}
 use Rattle.vx_house.proofs.Moments.{moment_at}
 use Rattle.vx_house.proofs.Scenes.{scene_of}
 use Rattle.vx_looks.specs.Looks.{IsOnlyRead, IsReadOnce, IsReadBlank, IsHeadedSeen, EndsBy, HandStops, HandLooks}
-use Rattle.vx_looks.proofs.Readings.{IsReadOn, IsCounted, read_on, read_told, reads_self, reads_each, counted_on, counted_told, counted_self, counted_each, writes_none, reads_these, still_each}
+use Rattle.vx_looks.proofs.Readings.{reads_self, IsCounted, reads_each, counted_on, counted_told, counted_self, counted_each, writes_none, reads_these, still_each}
 use Rattle.vx_house.proofs.Steps.{IsStep}
 use Rattle.vx_copies.proofs.Going.{each_map}
 use Rattle.vx_copies.proofs.Ordering.{each_all}
 use Rattle.vx_house.proofs.Hands.{after, IsInWorld, volumes_held, group_held, volumes_others, group_others, hand_held, hand_in_world, hand_steps, hand_keeps, hand_faults, hand_later, hand_moment}
+use Rattle.vx_house.proofs.Reading.{IsReadOn, read_on, read_told}
 
 or_true : (a b : Bool) → b ≡ true → (a || b) ≡ true
 or_true true b e = refl

@@ -14,24 +14,11 @@ use Rattle.vx_house.specs.View.{at, IsMoment}
 use Rattle.vx_house.specs.declared.house.House.{House}
 use Rattle.vx_house.specs.declared.house.Taken.{Taken}
 use Rattle.vx_looks.specs.Looks.{IsOnlyRead, IsReadOnce}
+use Rattle.vx_house.proofs.Reading.{IsReadOn, read_self}
 use Rattle.vx_house.proofs.Steps.{IsStep, HeldStep, held_steps, place_by, faults_by}
-use Rattle.vx_copies.proofs.Going.{keeps_refl, each_map}
+use Rattle.vx_copies.proofs.Going.{each_map}
 use Rattle.vx_house.proofs.Lists.{each_mapped}
 use Rattle.vx_house.proofs.Hands.{none_in_hand}
-
--- a device that was read at most
-pub record IsReadOn (name : Word) (old new : Seen) : Type 0 where
-  pub kept : Keeps old new
-  pub same : IsRead old new
-
-pub read_on : (name : Word) (s t : Seen) → IsReadOn name s t → Keeps s t
-read_on name s t read = read.kept
-
-pub read_told : (name : Word) (s t : Seen) → IsReadOn name s t → t.told ≡ s.told
-read_told name s t read = read.same.told
-
-read_self : (name : Word) (s : Seen) → IsReadOn name s s
-read_self name s = record { kept = keeps_refl s; same = record { told = refl; writes = refl } }
 
 pub reads_self : (hs : List Holder) → AllOf (λ o. IsReadOn o.name o.seen o.seen) hs
 reads_self [] = tt

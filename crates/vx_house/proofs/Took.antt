@@ -12,9 +12,9 @@ use Rattle.vx_house.specs.Scene.{Shelved, seen_in, seen_at, faults_in, faults_at
 use Rattle.vx_house.specs.Unmoved.{Unmoved}
 use Rattle.vx_house.proofs.Held.{take_one, give_one, later_held, held_at, none_of, apart_here}
 use Rattle.vx_house.proofs.Scenes.{scene_of, IsHanded, take_scene, give_scene}
-use Rattle.vx_finding.specs.Finds.{OnlyRead}
-use Rattle.vx_finding.specs.Gathering.{IsReturned}
-use Rattle.vx_finding.proofs.Stays.{only_trans, only_unmoved, only_each, each_one, each_later, IsReadOn}
+use Rattle.vx_house.specs.Reading.{OnlyRead, IsReturned}
+use Rattle.vx_house.proofs.Reading.{only_trans, only_unmoved, only_each, each_one, each_later, IsReadOn}
+use Rattle.vx_house.proofs.Steps.{IsStep}
 
 module _ (old mid : Shelved) (xs ys : List Holder) (name : Word) (seen after : Seen) (are : AreHeld old.held (xs ++ ys)) (handed : IsHanded name seen old mid) (kept : Keeps seen after) (same : IsRead seen after) where
   abbrev pub before : Holder
@@ -29,8 +29,8 @@ module _ (old mid : Shelved) (xs ys : List Holder) (name : Word) (seen after : S
   moved_first : Unmoved (scene_of old (xs ++ ys)) (scene_of mid (xs ++ before ∷ ys))
   moved_first = take_scene old mid xs before ys held_first.apart handed
 
-  was_read : IsReadOn before now
-  was_read = record { name = refl; kept = kept; same = same }
+  was_read : IsStep IsReadOn before now
+  was_read = record { name = refl; goes = record { kept = kept; same = same } }
 
   -- it is kept
   pub held_now : AreHeld mid.held (xs ++ now ∷ ys)

@@ -1,0 +1,5 @@
+mod Headed
+mod Fewer
+mod Configs
+mod Lists
+mod Edited

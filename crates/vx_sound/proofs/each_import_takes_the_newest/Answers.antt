@@ -1,0 +1,4 @@
+use Rattle.vx_sound.proofs.each_import_takes_the_newest.Goals as goal
+
+pub returns : goal.returns
+returns c = ?

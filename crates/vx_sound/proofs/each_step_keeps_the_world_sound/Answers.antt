@@ -1,0 +1,4 @@
+use Rattle.vx_sound.proofs.each_step_keeps_the_world_sound.Goals as goal
+
+pub returns : goal.returns
+returns c = ?

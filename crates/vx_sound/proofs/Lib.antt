@@ -3,3 +3,6 @@ mod Fewer
 mod Configs
 mod Lists
 mod Edited
+mod Ready
+mod Fates
+mod Committing

@@ -1,5 +1,5 @@
 -- What holds of the members of a list.
-use Rattle.std.proofs.Common.{◌≡◌, ◌⊎◌, ◌||◌, Bool, true, false, List, [], ◌∷◌, ◌++◌, refl, inl, inr}
+use Rattle.std.proofs.Common.{◌≡◌, ◌⊎◌, ◌||◌, Bool, true, false, List, [], ◌∷◌, ◌++◌, refl, inl, inr, sym, subst}
 use Rattle.std.specs.List.{list_any}
 use Rattle.vx_mask.proofs.Tests.{or_cases, or_from_left, or_from_right}
 use Rattle.vx_copies.specs.Lists.{AllOf, AnyOf}
@@ -81,3 +81,19 @@ pub test_any : {X : Type 0} (test : X → Bool) (xs : List X) → AnyOf (λ x. t
 test_any test [] any = absurd any
 test_any test (x ∷ xs) (inl here) = or_from_left (test x) (list_any test xs) here
 test_any test (x ∷ xs) (inr there) = or_from_right (test x) (list_any test xs) (test_any test xs there)
+
+-- a member of the list has what all have
+pub all_at : {X : Type 0} (P : X → Type 0) (xs : List X) (m : X) → AllOf P xs → AnyOf (λ x. x ≡ m) xs → P m
+all_at P [] m all any = absurd any
+all_at P (x ∷ xs) m all (inl here) = subst P here all.0
+all_at P (x ∷ xs) m all (inr there) = all_at P xs m all.1 there
+
+pub listed_one : {X : Type 0} (P Q : X → Type 0) (xs : List X) → AllOf P xs → AnyOf Q xs → (x : X) × AnyOf (λ y. y ≡ x) xs × P x × Q x
+listed_one P Q [] all any = absurd any
+listed_one P Q (x ∷ xs) all (inl here) = (x, inl refl, all.0, here)
+listed_one P Q (x ∷ xs) all (inr there) = let more = listed_one P Q xs all.1 there in (more.0, inr more.1, more.2, more.3)
+
+pub any_at : {X : Type 0} (P : X → Type 0) (xs : List X) (m : X) → P m → AnyOf (λ x. x ≡ m) xs → AnyOf P xs
+any_at P [] m is any = any
+any_at P (x ∷ xs) m is (inl here) = inl (subst P (sym here) is)
+any_at P (x ∷ xs) m is (inr there) = inr (any_at P xs m is there)

@@ -101,11 +101,11 @@ module _ (x : Writing) (last : ℕ) (old new : Moment) (c : IsCommitting x last 
       by (inr (inl k)) = elim k.offers [ inl same ↦ inl (kept k same) | inr renewed ↦ inr renewed ]
       by (inr (inr j)) = joined j j.front
 
-  offers_back : (name : Word) (slot : ℕ) (o : Offer) → Offers dg new.world name slot o → Offers dg old.world name slot o ⊎ NewAt name
+  pub offers_back : (name : Word) (slot : ℕ) (o : Offer) → Offers dg new.world name slot o → Offers dg old.world name slot o ⊎ NewAt name
   offers_back name slot o h = elim (offers_fate name) [ inl back ↦ inl (back slot o h) | inr renewed ↦ inr renewed ]
 
   -- a header is there still
-  headed_fore : (name : Word) (slot : ℕ) (d : Device) → IsHeaded dg old.world name slot d → (e : Device) × IsHeaded dg new.world name slot e
+  pub headed_fore : (name : Word) (slot : ℕ) (d : Device) → IsHeaded dg old.world name slot d → (e : Device) × IsHeaded dg new.world name slot e
   headed_fore name slot d h = by (fate x last old new c r name)
     where
       by : Fate x last old new name → (e : Device) × IsHeaded dg new.world name slot e
@@ -141,7 +141,7 @@ module _ (x : Writing) (last : ℕ) (old new : Moment) (c : IsCommitting x last 
   new_offers name n = subst (λ (d : Word). Offers dg new.world d n.member.slot n.renewed.offer) n.at n.renewed.offers
 
   -- what such a device offers is that, in its member's slot
-  new_one : (name : Word) (n : NewAt name) (slot : ℕ) (o : Offer) → Offers dg new.world name slot o → o ≡ n.renewed.offer
+  pub new_one : (name : Word) (n : NewAt name) (slot : ℕ) (o : Offer) → Offers dg new.world name slot o → o ≡ n.renewed.offer
   new_one name n slot o h = one_offer dg new.world name slot n.member.slot o n.renewed.offer h (new_offers name n)
 
   new_slot : (name : Word) (n : NewAt name) (slot : ℕ) (d : Device) → IsHeaded dg new.world name slot d → slot ≡ n.member.slot

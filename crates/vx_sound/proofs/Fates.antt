@@ -47,7 +47,7 @@ pub blank_offer : (d : Contents) → d 1 ≡ replicate 512 0 → offer_of d ≡ 
 unfolding offer_of toggle_at zeros
 blank_offer d zero = ap (λ (t : Option Said). offer_by t d) (ap toggle_of zero ∙ zeros_say 512)
 
-header_stays : (text : List ℕ) (c d : Contents) → OldOrText text c d → d 0 ≡ c 0
+pub header_stays : (text : List ℕ) (c d : Contents) → OldOrText text c d → d 0 ≡ c 0
 header_stays text c d only = elim (only 0 (λ e. absurd (omega arith))) [ inl same ↦ same | inr put ↦ put ]
 
 -- ---- what becomes of a device

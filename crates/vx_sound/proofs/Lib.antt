@@ -6,3 +6,5 @@ mod Edited
 mod Ready
 mod Fates
 mod Committing
+mod Leading
+mod Led

@@ -1,3 +1,3 @@
 mod Calm
-mod Carriers
+pub mod Carriers
 mod Complete

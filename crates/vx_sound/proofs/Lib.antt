@@ -8,3 +8,4 @@ mod Fates
 mod Committing
 mod Leading
 mod Led
+mod Imported

@@ -1,6 +1,6 @@
 -- What holds of the members of a list.
-use Rattle.std.proofs.Common.{◌≡◌, ◌⊎◌, ◌||◌, Bool, true, false, List, [], ◌∷◌, ◌++◌, refl, inl, inr, sym, subst}
-use Rattle.std.specs.List.{list_any}
+use Rattle.std.proofs.Common.{◌≡◌, ◌⊎◌, ◌||◌, Bool, true, false, cond, List, [], ◌∷◌, ◌++◌, map, refl, inl, inr, sym, subst}
+use Rattle.std.specs.List.{list_any, filter}
 use Rattle.vx_mask.proofs.Tests.{or_cases, or_from_left, or_from_right}
 use Rattle.vx_copies.specs.Lists.{AllOf, AnyOf}
 
@@ -97,3 +97,15 @@ pub any_at : {X : Type 0} (P : X → Type 0) (xs : List X) (m : X) → P m → A
 any_at P [] m is any = any
 any_at P (x ∷ xs) m is (inl here) = inl (subst P (sym here) is)
 any_at P (x ∷ xs) m is (inr there) = inr (any_at P xs m is there)
+
+pub all_mapped : {X Y : Type 0} (P : Y → Type 0) (f : X → Y) (xs : List X) → AllOf (λ x. P (f x)) xs → AllOf P (map f xs)
+all_mapped P f [] all = tt
+all_mapped P f (x ∷ xs) all = (all.0, all_mapped P f xs all.1)
+
+pub all_filter : {X : Type 0} (P : X → Type 0) (test : X → Bool) (xs : List X) → AllOf P xs → AllOf P (filter test xs)
+all_filter P test [] all = tt
+all_filter P test (x ∷ xs) all = by (test x) (all_filter P test xs all.1)
+  where
+    by : (b : Bool) → AllOf P (filter test xs) → AllOf P (cond b (x ∷ filter test xs) (filter test xs))
+    by true rest = (all.0, rest)
+    by false rest = rest

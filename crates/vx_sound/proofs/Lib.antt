@@ -9,3 +9,6 @@ mod Committing
 mod Leading
 mod Led
 mod Imported
+mod Settled
+mod Devices
+mod Volumes

@@ -109,3 +109,8 @@ all_filter P test (x ∷ xs) all = by (test x) (all_filter P test xs all.1)
     by : (b : Bool) → AllOf P (filter test xs) → AllOf P (cond b (x ∷ filter test xs) (filter test xs))
     by true rest = (all.0, rest)
     by false rest = rest
+
+-- where none is such, each is not
+pub all_without : {X : Type 0} (P : X → Type 0) (xs : List X) → (AnyOf P xs → ⊥) → AllOf (λ x. P x → ⊥) xs
+all_without P [] none = tt
+all_without P (x ∷ xs) none = ((λ is. none (inl is)), all_without P xs (λ any. none (inr any)))

@@ -102,7 +102,7 @@ Fate x last old new name = (new.world.devices name ≡ old.world.devices name) �
 same_device : (d e : Device) → e.sectors ≡ d.sectors → ((k : ℕ) → e.contents k ≡ d.contents k) → e ≡ d
 same_device d e sectors same = λ i. record { sectors = sectors i; contents = λ k. same k i }
 
-same_or_not : (name other : Word) → (name ≡ other) ⊎ (name ≡ other → ⊥)
+pub same_or_not : (name other : Word) → (name ≡ other) ⊎ (name ≡ other → ⊥)
 same_or_not name other = elim (name_cases name other) [ inl same ↦ inl same | inr differ ↦ inr (λ same. not_both (ap (λ (n : Word). bytes_eq name n) (sym same) ∙ bytes_eq_self name) differ) ]
 
 module _ (x : Writing) (last : ℕ) (old new : Moment) (c : IsCommitting x last old new) where

@@ -12,3 +12,4 @@ mod Imported
 mod Settled
 mod Devices
 mod Volumes
+mod Joining

@@ -13,3 +13,4 @@ mod Settled
 mod Devices
 mod Volumes
 mod Joining
+mod Commits

@@ -14,3 +14,4 @@ mod Devices
 mod Volumes
 mod Joining
 mod Commits
+mod Runs

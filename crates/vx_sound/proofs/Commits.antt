@@ -1,6 +1,5 @@
 -- What each commit of a command leaves.
-use Rattle.std.proofs.Common.{◌≡◌, ◌⊎◌, ℕ, true, false, Bool, List, [], ◌∷◌, Option, Some, None, MatchOption, refl, sym, ◌∙◌, ap, subst, inl, inr}
-use Rattle.std.specs.Str.{bytes_eq}
+use Rattle.std.proofs.Common.{◌≡◌, ◌⊎◌, ℕ, [], Option, Some, MatchOption, sym, ◌∙◌, ap, subst, inl, inr}
 use Rattle.vx_base.specs.Named.{Word}
 use Rattle.vx_base.proofs.NamedLemmas.{bytes_eq_same}
 use Rattle.vx_copies.specs.Image.{Offer}
@@ -8,14 +7,13 @@ use Rattle.vx_objects.specs.declared.config.Config.{Config}
 use Rattle.vx_objects.specs.Config.{objects_of}
 use Rattle.vx_answers.specs.declared.answer.End.{End}
 use Rattle.vx_answers.specs.declared.answer.End.TheVariants as ends
-use Rattle.vx_moments.specs.World.{World, Device, Volume, Group}
+use Rattle.vx_moments.specs.World.{World, Volume, Group}
 use Rattle.vx_moments.specs.Moment.{Moment, Counts}
-use Rattle.vx_moments.specs.Commit.{Writing, parties, IsCommitting, IsCommitted, IsStopped}
-use Rattle.vx_plans.specs.Finding.{Candidate, group_found, import_records}
+use Rattle.vx_moments.specs.Commit.{Writing, IsCommitting, IsCommitted, IsStopped}
+use Rattle.vx_plans.specs.Finding.{group_found, import_records}
 use Rattle.vx_plans.specs.Stages.{IsChange, IsImporting, edits_of}
 use Rattle.vx_plans.specs.declared.stage.Change.{Change}
 use Rattle.vx_plans.proofs.Carriers.{FoundBy, found_by}
-use Rattle.vx_sound.specs.Sound.{IsChained}
 use Rattle.vx_sound.specs.Standing.{HoldsNoHeader, IsLeading, IsStanding}
 use Rattle.vx_sound.proofs.Edited.{IsGrown, change_grown, import_grown}
 use Rattle.vx_sound.proofs.Ready.{IsReady}
@@ -44,10 +42,13 @@ commit_done x old new s r d = record {
 }
 
 pub commit_stopped : (x : Writing) (old : Moment) (end : End) (new : Moment) → IsStanding old.world → IsReady x old.world → IsStopped x old end new → Ends end new.world
-commit_stopped x old end new s r d = inr (record {
-  copies = sound_on x d.last old new d.committing r s.copies;
-  volumes = volumes_on x d.last old new d.committing s;
-}, elim d.ends [ inl lost ↦ inl lost.0 | inr cut ↦ inr cut.0 ])
+commit_stopped x old end new s r d = inr (
+  record {
+    copies = sound_on x d.last old new d.committing r s.copies;
+    volumes = volumes_on x d.last old new d.committing s;
+  },
+  elim d.ends [ inl lost ↦ inl lost.0 | inr cut ↦ inr cut.0 ],
+)
 
 -- ---- what is written
 

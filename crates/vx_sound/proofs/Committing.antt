@@ -1,5 +1,5 @@
 -- A commit keeps the copies of its group chained, at whichever device call it ends.
-use Rattle.std.proofs.Common.{◌≡◌, ◌⊎◌, ℕ, ◌+◌, ◌<◌, ◌≤◌, ◌||◌, ◌==◌, true, false, Bool, List, [], ◌∷◌, ◌++◌, Option, Some, None, refl, sym, ◌∙◌, ap, subst, inl, inr, arith}
+use Rattle.std.proofs.Common.{◌≡◌, ◌⊎◌, ℕ, ◌<◌, ◌≤◌, ◌==◌, true, false, Bool, List, [], ◌∷◌, Option, Some, None, refl, sym, ◌∙◌, ap, subst, inl, inr, arith}
 use Rattle.std.proofs.lemmas.Bool.{cases_lt, eq-eqb}
 use Rattle.std.specs.Str.{bytes_eq}
 use Rattle.vx_base.specs.Named.{Word}
@@ -7,14 +7,13 @@ use Rattle.vx_mask.specs.Mask.{has}
 use Rattle.vx_mask.proofs.Tests.{true_or_false, not_both}
 use Rattle.vx_header.specs.Named.{Label, header_of}
 use Rattle.vx_copies.specs.Image.{Offer, offer_of, offer_in, names_group, offer_if}
-use Rattle.vx_copies.specs.Lists.{AllOf, AnyOf}
+use Rattle.vx_copies.specs.Lists.{AllOf}
 use Rattle.vx_copies.proofs.InGroup.{in_member}
 use Rattle.vx_base.proofs.NamedLemmas.{bytes_eq_self, bytes_eq_same, name_cases}
 use Rattle.vx_moments.specs.World.{World, Device, Member}
 use Rattle.vx_moments.specs.Moment.{Moment}
 use Rattle.vx_moments.specs.Copies.{label_of}
-use Rattle.vx_moments.specs.Commit.{Writing, parties, IsMaskOf, MemberGoes, OffersSince, OneOffersSince, IsInOrder, is_slot_of, is_written_slot, IsCommitting}
-use Rattle.vx_moments.specs.Holding.{IsLent}
+use Rattle.vx_moments.specs.Commit.{Writing, parties, MemberGoes, OffersSince, OneOffersSince, IsInOrder, is_slot_of, IsCommitting}
 use Rattle.vx_sound.specs.Offers.{IsHeaded, Offers}
 use Rattle.vx_sound.specs.Sound.{IsNewest, NamesNewer, NamesMissing, IsChained, RecordsSlot, AreSound}
 use Rattle.vx_sound.specs.Standing.{IsOwn}
@@ -23,7 +22,7 @@ use Rattle.vx_sound.proofs.Fewer.{HadEach, HasNone, HasOrNone, chained_fewer}
 use Rattle.vx_sound.proofs.Configs.{Records, text_records}
 use Rattle.vx_sound.proofs.Lists.{all_at, all_imp, all_two, listed_one, any_at, test_any}
 use Rattle.vx_sound.proofs.Ready.{IsReady, IsHeadedAs, IsNew}
-use Rattle.vx_sound.proofs.Fates.{Renewed, RenewedAt, KeepsHeader, Joins, JoinsAs, Fate, fate, lent_before, lent_after, headed_after}
+use Rattle.vx_sound.proofs.Fates.{RenewedAt, KeepsHeader, Joins, JoinsAs, Fate, fate, lent_before, lent_after, headed_after}
 
 -- a device of the group offers what its contents do
 pub offers_in : (dg : Word) (w : World) (name : Word) (slot : ℕ) (o : Offer) → (h : Offers dg w name slot o) → offer_in dg h.device.contents ≡ Some o
@@ -248,9 +247,9 @@ module _ (x : Writing) (last : ℕ) (old new : Moment) (c : IsCommitting x last 
   one_leads name n carriers =
       let some = c.lead (any_at (λ m. (o : Offer) × OffersSince x new.world m o) (parties x) n.member (n.renewed.offer, since_of name n) n.listed) in
       let found = listed_one (λ m. MemberGoes x last old new m × (IsOwn dg old.world m × (has x.group.good m.slot ≡ true → IsHeadedAs dg old.world m))) (λ m. (o : Offer) × OffersSince x new.world m o) x.group.members
-          (all_two (MemberGoes x last old new) (λ m. IsOwn dg old.world m × (has x.group.good m.slot ≡ true → IsHeadedAs dg old.world m)) (λ m. MemberGoes x last old new m × (IsOwn dg old.world m × (has x.group.good m.slot ≡ true → IsHeadedAs dg old.world m))) x.group.members (λ m a b. (a, b)) c.members
-          (all_two (IsOwn dg old.world) (λ m. has x.group.good m.slot ≡ true → IsHeadedAs dg old.world m) (λ m. IsOwn dg old.world m × (has x.group.good m.slot ≡ true → IsHeadedAs dg old.world m)) x.group.members (λ m a b. (a, b)) r.own r.good))
-          (subst (λ (ms : List Member). OneOffersSince x new.world ms) carriers some) in
+      (all_two (MemberGoes x last old new) (λ m. IsOwn dg old.world m × (has x.group.good m.slot ≡ true → IsHeadedAs dg old.world m)) (λ m. MemberGoes x last old new m × (IsOwn dg old.world m × (has x.group.good m.slot ≡ true → IsHeadedAs dg old.world m))) x.group.members (λ m a b. (a, b)) c.members
+      (all_two (IsOwn dg old.world) (λ m. has x.group.good m.slot ≡ true → IsHeadedAs dg old.world m) (λ m. IsOwn dg old.world m × (has x.group.good m.slot ≡ true → IsHeadedAs dg old.world m)) x.group.members (λ m a b. (a, b)) r.own r.good))
+      (subst (λ (ms : List Member). OneOffersSince x new.world ms) carriers some) in
       leads_by found.0 found.2.0 found.2.1.0 found.2.1.1 found.3.0 found.3.1
 
   -- ---- the chain
@@ -373,9 +372,10 @@ module _ (x : Writing) (last : ℕ) (old new : Moment) (c : IsCommitting x last 
         by (inr n) (inr i) =
             let a = new_one one n slot o h in
             let b = new_one other i place p k in
-            let one_attempt : sequence_at n ≡ sequence_at i = sym (ap (λ (q : Offer). q.sequence) a) ∙ same ∙ ap (λ (q : Offer). q.sequence) b in
-            (ap (λ (q : Offer). q.good) a ∙ (ordered one other n i).one one_attempt ∙ sym (ap (λ (q : Offer). q.good) b),
-            ap (λ (q : Offer). q.text) a ∙ n.renewed.text ∙ sym i.renewed.text ∙ sym (ap (λ (q : Offer). q.text) b))
+            let one_attempt : sequence_at n ≡ sequence_at i = sym (ap (λ (q : Offer). q.sequence) a) ∙ same ∙ ap (λ (q : Offer). q.sequence) b in (
+              ap (λ (q : Offer). q.good) a ∙ (ordered one other n i).one one_attempt ∙ sym (ap (λ (q : Offer). q.good) b),
+              ap (λ (q : Offer). q.text) a ∙ n.renewed.text ∙ sym i.renewed.text ∙ sym (ap (λ (q : Offer). q.text) b),
+            )
 
     -- what is offered is old, with an older one, or its text is the commit's
     later : (one other : Word) (slot place : ℕ) (o p : Offer) → Offers dg new.world one slot o → Offers dg new.world other place p → o.sequence ≤ p.sequence → (Offers dg old.world one slot o × Offers dg old.world other place p) ⊎ (p.text ≡ x.text)

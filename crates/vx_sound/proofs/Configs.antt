@@ -1,7 +1,7 @@
 -- What the text of a configuration records: the slots of its disks.
-use Rattle.std.proofs.Common.{◌≡◌, ◌⊎◌, ℕ, ◌<◌, ◌^◌, ◌==◌, ◌||◌, ◌&&◌, Bool, true, false, nat_lt, List, [], ◌∷◌, ◌++◌, map, Option, Some, None, refl, sym, ◌∙◌, ap, subst, inl, inr, arith}
+use Rattle.std.proofs.Common.{◌≡◌, ℕ, ◌<◌, ◌^◌, ◌==◌, ◌||◌, Bool, true, List, [], ◌∷◌, ◌++◌, map, refl, sym, ◌∙◌, ap, subst, inl, inr, arith}
 use Rattle.std.specs.Prelude.{decimal}
-use Rattle.std.specs.List.{list_any, list_all, filter, filter_map, cons_option}
+use Rattle.std.specs.List.{list_any, list_all, filter, filter_map}
 use Rattle.std.specs.List.Sorted.{IsPermutation}
 use Rattle.std.specs.Str.{bytes_eq}
 use Rattle.std.proofs.lemmas.Bool.{and_parts, eqb-true, ltb-true, eq-eqb}
@@ -9,8 +9,6 @@ use Rattle.std.proofs.lemmas.Bool.Decides.{nat_tests}
 use Rattle.std.proofs.lemmas.Fmt.{decimal_injective}
 use Rattle.std.proofs.lemmas.List.Elements.{filter_map-append}
 use Rattle.std.proofs.lemmas.List.Sorted.{list_any-IsPermutation}
-use Rattle.std.proofs.lemmas.Slice.Eq.{bytes_eq-Decides}
-use Rattle.vx_base.specs.Named.{Word}
 use Rattle.vx_base.proofs.NamedLemmas.{bytes_eq_self, bytes_eq_same}
 use Rattle.vx_mask.proofs.Tests.{or_cases, or_from_left, or_from_right}
 use Rattle.vx_record.specs.Content.{Content}
@@ -25,10 +23,9 @@ use Rattle.vx_rules.specs.Limits.{is_short, fits_byte}
 use Rattle.vx_objects.specs.declared.config.Config.{Config}
 use Rattle.vx_objects.specs.Config.{objects_of}
 use Rattle.vx_objects.specs.Parts.{as_group, as_disk, as_subdisk, as_plex, as_vol, as_dco, as_snap, in_kinds, sorted_below}
-use Rattle.vx_objects.specs.Printed.{record_of, has_record, can_be_said, IsReadOf}
+use Rattle.vx_objects.specs.Printed.{record_of, has_record, can_be_said}
 use Rattle.vx_objects.proofs.InKinds.{disks_below}
 use Rattle.vx_objects.proofs.Numbers.{have_records}
-use Rattle.vx_print.specs.Shown.{IsPrinted, is_shown}
 use Rattle.vx_moments.specs.Copies.{IsTextOf}
 use Rattle.vx_plans.specs.Finding.{has_slot}
 use Rattle.vx_sound.specs.Sound.{IsConfigOf, RecordsSlot}

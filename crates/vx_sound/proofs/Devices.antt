@@ -1,24 +1,22 @@
 -- A device that is made or wiped.
-use Rattle.std.proofs.Common.{◌≡◌, ◌⊎◌, ℕ, zero, suc, ◌<◌, ◌≤◌, true, false, List, Option, Some, None, MatchOption, refl, sym, ◌∙◌, ap, subst, inl, inr, arith}
+use Rattle.std.proofs.Common.{◌≡◌, ◌⊎◌, ℕ, zero, suc, ◌<◌, false, List, Option, Some, None, MatchOption, refl, sym, ◌∙◌, ap, subst, inl, inr, arith}
 use Rattle.std.specs.Prelude.{replicate}
 use Rattle.std.specs.Str.{bytes_eq}
-use Rattle.std.proofs.lemmas.Bool.{cases_lt}
 use Rattle.vx_base.specs.Blocks.{Contents, written, IsTorn}
 use Rattle.vx_base.specs.Named.{Word, put}
-use Rattle.vx_base.proofs.NamedLemmas.{bytes_eq_self, put_same, put_other, name_cases}
+use Rattle.vx_base.proofs.NamedLemmas.{put_same, put_other, name_cases}
 use Rattle.vx_base.proofs.BlockLemmas.{written_out, is_in-after}
-use Rattle.vx_mask.proofs.Tests.{not_both}
 use Rattle.vx_header.specs.Named.{Label, header_of}
 use Rattle.vx_copies.specs.Lists.{AllOf, AnyOf}
-use Rattle.vx_moments.specs.World.{World, Device, Volume, Member, Group}
-use Rattle.vx_moments.specs.Holding.{IsLent, IsMemberDevice}
+use Rattle.vx_moments.specs.World.{World, Device, Member, Group}
+use Rattle.vx_moments.specs.Holding.{IsMemberDevice}
 use Rattle.vx_plans.specs.Stages.{IsImageMade, HasContents}
 use Rattle.vx_sound.specs.Offers.{IsHeaded}
 use Rattle.vx_sound.specs.Standing.{IsOwn, IsLeading, IsStanding}
 use Rattle.vx_sound.proofs.Headed.{size_above, none_filled, never_some, some_same}
-use Rattle.vx_sound.proofs.Fewer.{HadEach, HasNone, HasOrNone}
+use Rattle.vx_sound.proofs.Fewer.{HadEach, HasOrNone}
 use Rattle.vx_sound.proofs.Lists.{all_imp, all_without, one_of}
-use Rattle.vx_sound.proofs.Settled.{MemberStays, IsLittle, standing_still}
+use Rattle.vx_sound.proofs.Settled.{MemberStays, standing_still}
 
 -- the device has no header that counts
 abbrev HasNoLabel : Device → Type 0

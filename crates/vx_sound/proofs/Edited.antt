@@ -1,5 +1,5 @@
 -- What commands make of a configuration: its group's name stays, and its disks.
-use Rattle.std.proofs.Common.{◌≡◌, ◌⊎◌, ℕ, ◌+◌, ◌-◌, ◌==◌, ◌||◌, ◌&&◌, not, Bool, true, false, List, [], ◌∷◌, ◌++◌, map, Option, Some, None, refl, sym, ◌∙◌, ap, subst, append-nil}
+use Rattle.std.proofs.Common.{◌≡◌, ℕ, ◌+◌, ◌==◌, ◌||◌, not, Bool, true, false, List, [], ◌∷◌, ◌++◌, map, Option, Some, None, refl, sym, ◌∙◌, ap, subst}
 use Rattle.std.specs.List.{list_any, filter_map, cons_option}
 use Rattle.std.specs.Str.{bytes_eq}
 use Rattle.std.proofs.lemmas.Bool.{eq-eqb}
@@ -24,9 +24,9 @@ use Rattle.vx_objects.specs.Config.{objects_of}
 use Rattle.vx_objects.specs.Edits.{change, added, edited, kept, names_plex_of}
 use Rattle.vx_objects.specs.Parts.{as_disk, in_kinds, records_below}
 use Rattle.vx_script_words.specs.declared.value.DiskAt.{DiskAt}
-use Rattle.vx_moments.specs.World.{World, Group, Member}
+use Rattle.vx_moments.specs.World.{World, Group}
 use Rattle.vx_plans.specs.Finding.{needs_sync, import_records}
-use Rattle.vx_plans.specs.Records.{disk_record, disk_records, new_records, new_members}
+use Rattle.vx_plans.specs.Records.{disk_records, new_records, new_members}
 use Rattle.vx_plans.specs.Stages.{edits_of, policy_edit}
 use Rattle.vx_plans.specs.Tests.{recorded}
 use Rattle.vx_plans.specs.declared.stage.Change.{Change}
@@ -176,10 +176,11 @@ module _ (dg : Word) (w : World) (pairs : List DiskAt) (config : Config) (made :
 
   recorded_from : (slot : ℕ) (ps : List DiskAt) → AllOf (λ m. list_any (λ d. d.slot == m.slot) (filter_map as_disk (disk_records slot w ps)) ≡ true) (new_members slot ps)
   recorded_from slot [] = tt
-  recorded_from slot (p ∷ ps) =
-      (or_from_left (slot == slot) (list_any (λ d. d.slot == slot) (filter_map as_disk (disk_records (slot + 1) w ps))) (eq-eqb slot slot refl),
-      all_imp (λ m. list_any (λ d. d.slot == m.slot) (filter_map as_disk (disk_records (slot + 1) w ps)) ≡ true) (λ m. ((slot == m.slot) || list_any (λ d. d.slot == m.slot) (filter_map as_disk (disk_records (slot + 1) w ps))) ≡ true)
-      (new_members (slot + 1) ps) (λ m h. or_from_right (slot == m.slot) (list_any (λ d. d.slot == m.slot) (filter_map as_disk (disk_records (slot + 1) w ps))) h) (recorded_from (slot + 1) ps))
+  recorded_from slot (p ∷ ps) = (
+    or_from_left (slot == slot) (list_any (λ d. d.slot == slot) (filter_map as_disk (disk_records (slot + 1) w ps))) (eq-eqb slot slot refl),
+    all_imp (λ m. list_any (λ d. d.slot == m.slot) (filter_map as_disk (disk_records (slot + 1) w ps)) ≡ true) (λ m. ((slot == m.slot) || list_any (λ d. d.slot == m.slot) (filter_map as_disk (disk_records (slot + 1) w ps))) ≡ true)
+        (new_members (slot + 1) ps) (λ m h. or_from_right (slot == m.slot) (list_any (λ d. d.slot == m.slot) (filter_map as_disk (disk_records (slot + 1) w ps))) h) (recorded_from (slot + 1) ps),
+  )
 
   pub new_recorded : AllOf (λ m. Records config m.slot) (new_members 0 pairs)
   new_recorded =

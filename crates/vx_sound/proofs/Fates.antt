@@ -1,5 +1,5 @@
 -- What a commit leaves of a device: it is as it was, or its header is and its offer may be new, or it was blank and joins.
-use Rattle.std.proofs.Common.{◌≡◌, ◌⊎◌, ℕ, ◌+◌, ◌-◌, ◌*◌, ◌<◌, ◌≤◌, true, false, Bool, List, [], ◌∷◌, ◌++◌, length, take, Option, Some, None, refl, sym, ◌∙◌, ap, subst, inl, inr, arith}
+use Rattle.std.proofs.Common.{◌≡◌, ◌⊎◌, ℕ, ◌+◌, ◌-◌, ◌*◌, ◌<◌, ◌≤◌, true, false, List, length, take, Option, Some, None, refl, sym, ◌∙◌, ap, subst, inl, inr, arith}
 use Rattle.std.specs.Prelude.{replicate, MatchOption}
 use Rattle.std.proofs.Math.Seq.{take-append_seam}
 use Rattle.std.specs.Str.{bytes_eq}
@@ -9,20 +9,20 @@ use Rattle.vx_base.proofs.NamedLemmas.{name_cases, bytes_eq_self}
 use Rattle.vx_mask.specs.Mask.{has}
 use Rattle.vx_mask.proofs.Tests.{not_both, true_or_false}
 use Rattle.vx_sector.specs.Fields.{zeros}
-use Rattle.vx_header.specs.Named.{Label, header_of}
+use Rattle.vx_header.specs.Named.{header_of}
 use Rattle.vx_header.specs.Said.{Said, toggle_of}
 use Rattle.vx_header.proofs.Saying.{zeros_say}
 use Rattle.vx_copies.specs.Image.{Offer, offer_by, offer_of, text_in, toggle_at, sectors_for}
-use Rattle.vx_copies.specs.Lists.{AllOf, AnyOf}
+use Rattle.vx_copies.specs.Lists.{AnyOf}
 use Rattle.vx_copies.specs.Written.{Holds, HalfStays, OldOrText}
 use Rattle.vx_copies.proofs.Halves.{offer_same}
-use Rattle.vx_moments.specs.World.{World, Device, Member, Volume}
+use Rattle.vx_moments.specs.World.{Device, Member, Volume}
 use Rattle.vx_moments.specs.Moment.{Moment}
-use Rattle.vx_moments.specs.Copies.{label_of, KeepsToggle, IsTurned, IsStruck, IsEntered}
+use Rattle.vx_moments.specs.Copies.{label_of, KeepsToggle, IsTurned, IsStruck}
 use Rattle.vx_moments.specs.Commit.{Writing, parties, IsMaskOf, Goes, MemberGoes, JoinerGoes, IsNoDeviceOf, IsCommitting}
 use Rattle.vx_moments.specs.Holding.{IsLent}
 use Rattle.vx_sound.specs.Offers.{IsHeaded, Offers}
-use Rattle.vx_sound.proofs.Headed.{some_same, never_some}
+use Rattle.vx_sound.proofs.Headed.{some_same}
 use Rattle.vx_sound.proofs.Lists.{listed_one, any_or_none, any_left, any_right, any_split, all_two}
 use Rattle.vx_sound.proofs.Ready.{IsReady, IsHeadedAs, IsBlank}
 
@@ -207,13 +207,13 @@ module _ (x : Writing) (last : ℕ) (old new : Moment) (c : IsCommitting x last 
       of_member : AnyOf (λ m. m.device ≡ name) x.group.members → Fate x last old new name
       of_member any =
           let found = listed_one (λ m. MemberGoes x last old new m × (has x.group.good m.slot ≡ true → IsHeadedAs x.config.group old.world m)) (λ m. m.device ≡ name) x.group.members
-              (all_two (MemberGoes x last old new) (λ m. has x.group.good m.slot ≡ true → IsHeadedAs x.config.group old.world m) (λ m. MemberGoes x last old new m × (has x.group.good m.slot ≡ true → IsHeadedAs x.config.group old.world m)) x.group.members (λ m goes good. (goes, good)) c.members r.good) any in
+          (all_two (MemberGoes x last old new) (λ m. has x.group.good m.slot ≡ true → IsHeadedAs x.config.group old.world m) (λ m. MemberGoes x last old new m × (has x.group.good m.slot ≡ true → IsHeadedAs x.config.group old.world m)) x.group.members (λ m goes good. (goes, good)) c.members r.good) any in
           subst (λ (n : Word). Fate x last old new n) found.3 (member_fate found.0 found.1 found.2.0 found.2.1)
 
       of_joiner : AnyOf (λ m. m.device ≡ name) x.joiners → Fate x last old new name
       of_joiner any =
           let found = listed_one (λ m. JoinerGoes x last old new m × IsBlank old.world m) (λ m. m.device ≡ name) x.joiners
-              (all_two (JoinerGoes x last old new) (IsBlank old.world) (λ m. JoinerGoes x last old new m × IsBlank old.world m) x.joiners (λ m goes blank. (goes, blank)) c.joiners r.blank) any in
+          (all_two (JoinerGoes x last old new) (IsBlank old.world) (λ m. JoinerGoes x last old new m × IsBlank old.world m) x.joiners (λ m goes blank. (goes, blank)) c.joiners r.blank) any in
           subst (λ (n : Word). Fate x last old new n) found.3 (joiner_fate found.0 found.1 found.2.0 found.2.1)
 
       by : AnyOf (λ m. m.device ≡ name) (parties x) ⊎ IsNoDeviceOf (parties x) name → Fate x last old new name

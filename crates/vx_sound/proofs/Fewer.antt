@@ -1,5 +1,5 @@
 -- Where devices of a group lose their headers, its copies stay chained.
-use Rattle.std.proofs.Common.{◌≡◌, ◌⊎◌, ℕ, true, inl, inr, subst}
+use Rattle.std.proofs.Common.{◌≡◌, ◌⊎◌, ℕ, inl, inr, subst}
 use Rattle.vx_base.specs.Named.{Word}
 use Rattle.vx_copies.specs.Image.{Offer}
 use Rattle.vx_moments.specs.World.{World, Device}

@@ -1,11 +1,11 @@
 -- Headers of devices, and what is known of a device by its header.
-use Rattle.std.proofs.Common.{◌≡◌, ℕ, ◌+◌, ◌<◌, ◌≤◌, ◌^◌, true, false, List, Option, Some, None, get_or, refl, sym, ◌∙◌, ap, subst, arith}
+use Rattle.std.proofs.Common.{◌≡◌, ℕ, ◌<◌, ◌^◌, List, Option, Some, None, get_or, refl, sym, ◌∙◌, ap, subst, arith}
 use Rattle.std.specs.Prelude.{replicate}
 use Rattle.vx_base.specs.Blocks.{Contents}
 use Rattle.vx_base.specs.Named.{Word}
 use Rattle.vx_header.specs.Named.{Label, header_of}
 use Rattle.vx_header.specs.Said.{Said, toggle_of}
-use Rattle.vx_header.proofs.Naming.{Fits, Spells, header_spells, unmarked_says}
+use Rattle.vx_header.proofs.Naming.{Fits, header_spells, unmarked_says}
 use Rattle.vx_header.proofs.Saying.{said_spells}
 use Rattle.vx_copies.specs.Image.{Offer, offer_by, offer_of, toggle_at}
 use Rattle.vx_moments.specs.World.{World, Device}

@@ -1,25 +1,21 @@
 -- What an import takes is the newest of all devices of the group, also of those that cannot be read.
-use Rattle.std.proofs.Common.{◌≡◌, ◌⊎◌, ℕ, ◌+◌, ◌-◌, ◌<◌, ◌≤◌, ◌^◌, ◌==◌, ◌&&◌, ◌||◌, not, true, false, Bool, cond, nat_lt, List, [], ◌∷◌, map, Option, Some, None, MatchOption, refl, sym, ◌∙◌, ap, subst, inl, inr, arith}
+use Rattle.std.proofs.Common.{◌≡◌, ◌⊎◌, ℕ, ◌-◌, ◌<◌, ◌≤◌, ◌^◌, ◌==◌, ◌&&◌, not, true, false, Bool, cond, nat_lt, List, [], ◌∷◌, Option, Some, None, MatchOption, refl, sym, ◌∙◌, ap, subst, inl, inr, arith}
 use Rattle.std.specs.Prelude.{if◌then◌else◌}
-use Rattle.std.specs.List.{list_any, filter}
 use Rattle.std.specs.Str.{bytes_eq}
 use Rattle.std.proofs.lemmas.Bool.{cases_lt, eqb-true, ltb-true}
 use Rattle.std.proofs.lemmas.Bool.Decides.{nat_tests}
 use Rattle.std.proofs.lemmas.Nat.Bits.{bit_at_above}
 use Rattle.vx_base.specs.Named.{Word}
-use Rattle.vx_base.proofs.NamedLemmas.{bytes_eq_self, bytes_eq_same}
+use Rattle.vx_base.proofs.NamedLemmas.{bytes_eq_self}
 use Rattle.vx_mask.specs.Mask.{has}
-use Rattle.vx_mask.proofs.Tests.{both_parts, not_both}
-use Rattle.vx_header.specs.Named.{Label, header_of}
+use Rattle.vx_mask.proofs.Tests.{both_parts}
 use Rattle.vx_copies.specs.Image.{Offer, offer_of, offer_in, names_group, highest, higher}
-use Rattle.vx_copies.specs.Lists.{AllOf, AnyOf}
+use Rattle.vx_copies.specs.Lists.{AllOf}
 use Rattle.vx_copies.proofs.InGroup.{in_member}
-use Rattle.vx_parts.specs.declared.disk.Disk.{Disk}
 use Rattle.vx_objects.specs.declared.config.Config.{Config}
-use Rattle.vx_moments.specs.World.{World, Device, Member, Group}
+use Rattle.vx_moments.specs.World.{World, Device}
 use Rattle.vx_moments.specs.Moment.{Counts}
-use Rattle.vx_moments.specs.Copies.{label_of}
-use Rattle.vx_plans.specs.Finding.{Candidate, IsCandidate, Found, Finds, offers_of, first_that, is_recorded, good_ones, member_of, members_of, group_found}
+use Rattle.vx_plans.specs.Finding.{Candidate, IsCandidate, Found, Finds, offers_of, first_that, is_recorded, good_ones, member_of, group_found}
 use Rattle.vx_plans.proofs.Carriers.{FoundBy, found_by, one_offers, one_there, is_there}
 use Rattle.vx_sound.specs.Offers.{IsHeaded, Offers}
 use Rattle.vx_sound.specs.Sound.{IsNewest, NamesNewer, NamesMissing, IsChained, IsConfigOf}
@@ -125,8 +121,8 @@ module _ (dg : Word) (w : World) (old new : Counts) (found : Found dg w old new)
   there : (slot : ℕ) → slot < 32 → has o.good slot ≡ true → IsThere dg unread w o.sequence slot
   there slot low names =
       let one = one_of (λ c. IsCandidate dg found.absent w c × HasUpTo dg unread o.sequence c) (λ c. is_there unread slot c ≡ true) cs
-          (all_two (IsCandidate dg found.absent w) (HasUpTo dg unread o.sequence) (λ c. IsCandidate dg found.absent w c × HasUpTo dg unread o.sequence c) cs (λ c a b. (a, b)) found.count.each all_low)
-          (any_test (is_there unread slot) cs (one_there 32 0 o.good slot unread cs by_all.none_missing (omega arith) low names)) in
+      (all_two (IsCandidate dg found.absent w) (HasUpTo dg unread o.sequence) (λ c. IsCandidate dg found.absent w c × HasUpTo dg unread o.sequence c) cs (λ c a b. (a, b)) found.count.each all_low)
+      (any_test (is_there unread slot) cs (one_there 32 0 o.good slot unread cs by_all.none_missing (omega arith) low names)) in
       let c = one.0 in
       let parts = both_parts (not (unread c.name)) (c.label.slot == slot) one.2 in
       let own : IsHeaded dg w c.name c.label.slot c.device = candidate_headed dg w found.absent c one.1.0 in

@@ -1,37 +1,36 @@
 -- A disk that joins, and a group that is made, are ready to be written: the search has found no other device of the group.
-use Rattle.std.proofs.Common.{◌≡◌, ◌⊎◌, ℕ, zero, suc, ◌+◌, ◌-◌, ◌<◌, ◌≤◌, ◌==◌, ◌||◌, ◌&&◌, not, nat_lt, true, false, Bool, cond, List, [], ◌∷◌, ◌++◌, map, length, Option, Some, None, refl, sym, ◌∙◌, ap, subst, inl, inr, arith}
+use Rattle.std.proofs.Common.{◌≡◌, ◌⊎◌, ℕ, zero, suc, ◌+◌, ◌<◌, ◌≤◌, ◌==◌, ◌||◌, not, nat_lt, true, false, Bool, List, [], ◌∷◌, ◌++◌, Option, Some, None, refl, sym, ◌∙◌, ap, subst, inl, inr, arith}
 use Rattle.std.specs.Prelude.{if◌then◌else◌, IsSome}
 use Rattle.std.specs.List.{list_any, list_all}
 use Rattle.std.specs.Str.{bytes_eq}
-use Rattle.std.proofs.lemmas.Bool.{cases_lt, eqb-true, eq-eqb, ltb-true}
+use Rattle.std.proofs.lemmas.Bool.{eqb-true}
 use Rattle.std.proofs.lemmas.Bool.Decides.{nat_tests}
 use Rattle.vx_base.specs.Named.{Word}
-use Rattle.vx_base.proofs.NamedLemmas.{bytes_eq_self, bytes_eq_same, name_cases}
+use Rattle.vx_base.proofs.NamedLemmas.{bytes_eq_self, bytes_eq_same}
 use Rattle.vx_mask.specs.Mask.{has}
 use Rattle.vx_mask.proofs.MaskLemmas.{has-zero}
 use Rattle.vx_mask.proofs.Tests.{not_both, or_cases, true_or_false}
 use Rattle.vx_header.specs.Named.{Label, header_of}
 use Rattle.vx_header.specs.Sectors.{is_short_name}
-use Rattle.vx_copies.specs.Image.{Offer, names_group}
+use Rattle.vx_copies.specs.Image.{names_group}
 use Rattle.vx_copies.specs.Lists.{AllOf, AnyOf}
-use Rattle.vx_parts.specs.declared.disk.Disk.{Disk}
 use Rattle.vx_objects.specs.declared.config.Config.{Config}
 use Rattle.vx_script_words.specs.declared.value.DiskAt.{DiskAt}
 use Rattle.vx_parts.specs.declared.fault.Limit.TheVariants as limit
 use Rattle.vx_answers.specs.declared.refusal.Refusal.TheVariants as refusal
 use Rattle.vx_moments.specs.World.{World, Device, Member, Group}
-use Rattle.vx_moments.specs.Commit.{Writing, parties, is_slot_of}
-use Rattle.vx_moments.specs.Holding.{IsHeld, IsLent, IsMemberDevice, is_among}
+use Rattle.vx_moments.specs.Commit.{Writing, is_slot_of}
+use Rattle.vx_moments.specs.Holding.{IsHeld, IsMemberDevice, is_among}
 use Rattle.vx_plans.specs.Records.{devices_of, names_of, disk_record, member_at, next_slot, free_slot_from, slot_or_last, slot_in, new_members, are_disk_sized, sectors_at}
 use Rattle.vx_plans.specs.Stages.{IsFree, AreFree, AreBlank, HasNoHeader, NamesGroup, IsJoining, IsCreating}
 use Rattle.vx_plans.specs.Tests.{fails, limit_passed, unless}
 use Rattle.vx_plans.specs.declared.test.Test.TheVariants as tests
-use Rattle.vx_sound.specs.Offers.{IsHeaded, Offers}
+use Rattle.vx_sound.specs.Offers.{IsHeaded}
 use Rattle.vx_sound.specs.Standing.{IsOwn}
 use Rattle.vx_sound.proofs.Headed.{never_some, some_same}
 use Rattle.vx_sound.proofs.Configs.{Records}
 use Rattle.vx_sound.proofs.Edited.{IsGrown, join_grown, join_records, new_group, new_recorded}
-use Rattle.vx_sound.proofs.Lists.{all_imp, all_two, all_from, all_join, one_of, any_test, any_or_none}
+use Rattle.vx_sound.proofs.Lists.{all_imp, all_two, all_join, one_of, any_test, any_or_none}
 use Rattle.vx_sound.proofs.Ready.{IsReady, IsBlank, IsVacant, IsNew, IsHeadedAs}
 use Rattle.vx_sound.proofs.Led.{IsLed, led_on}
 use Rattle.vx_sound.proofs.Fates.{same_or_not}
@@ -122,7 +121,7 @@ module _ (p : DiskAt) (dg : Word) (w : World) (x : Writing) (j : IsJoining p w x
       by : AnyOf (λ m. m.device ≡ name) x.group.members ⊎ (AnyOf (λ m. m.device ≡ name) x.group.members → ⊥) → ⊥
       by (inl any) =
           let one = one_of (λ m. IsOwn x.config.group w m × Records x.group.config m.slot) (λ m. m.device ≡ name) x.group.members
-              (all_two (IsOwn x.config.group w) (λ m. Records x.group.config m.slot) (λ m. IsOwn x.config.group w m × Records x.group.config m.slot) x.group.members (λ m a b. (a, b)) ready_led.own ready_led.recorded) any in
+          (all_two (IsOwn x.config.group w) (λ m. Records x.group.config m.slot) (λ m. IsOwn x.config.group w m × Records x.group.config m.slot) x.group.members (λ m a b. (a, b)) ready_led.own ready_led.recorded) any in
           let own = one.1.0 in
           let same : d ≡ own.device = some_same d own.device (sym h.device ∙ ap (λ (n : Word). w.devices n) (sym one.2) ∙ own.is) in
           let label = own.header h.label (ap (λ (e : Device). header_of (e.contents 0)) (sym same) ∙ h.header) in
@@ -190,9 +189,10 @@ each_single : (slot : ℕ) (ps : List DiskAt) → AllOf (λ m. AreSingle m (new_
 each_single slot [] = tt
 each_single slot (p ∷ ps) =
     let rest = new_members (slot + 1) ps in
-    let above : AllOf (λ m. slot + 1 ≤ m.slot) rest = slots_from (slot + 1) (slot + 1) ps (omega arith) in
-    (((λ same. refl), all_imp (λ m. slot + 1 ≤ m.slot) (λ n. slot ≡ n.slot → p.device ≡ n.device) rest (λ n low same. absurd (omega (arith, low, same))) above),
-    all_two (λ m. slot + 1 ≤ m.slot) (λ m. AreSingle m rest) (λ m. AreSingle m (member_at p slot ∷ rest)) rest (λ m low single. ((λ same. absurd (omega (arith, low, same))), single)) above (each_single (slot + 1) ps))
+    let above : AllOf (λ m. slot + 1 ≤ m.slot) rest = slots_from (slot + 1) (slot + 1) ps (omega arith) in (
+      ((λ same. refl), all_imp (λ m. slot + 1 ≤ m.slot) (λ n. slot ≡ n.slot → p.device ≡ n.device) rest (λ n low same. absurd (omega (arith, low, same))) above),
+      all_two (λ m. slot + 1 ≤ m.slot) (λ m. AreSingle m rest) (λ m. AreSingle m (member_at p slot ∷ rest)) rest (λ m low single. ((λ same. absurd (omega (arith, low, same))), single)) above (each_single (slot + 1) ps),
+    )
 
 module _ (dg : Word) (pairs : List DiskAt) (w : World) (x : Writing) (k : IsCreating dg pairs w x) (none : w.group ≡ None)
     (unheld : AllOf (λ n. IsHeld w n → ⊥) (devices_of pairs)) (blank : AllOf (HasNoHeader w) (devices_of pairs)) (searched : HasSearched dg w (devices_of pairs)) where

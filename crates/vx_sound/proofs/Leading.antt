@@ -1,5 +1,5 @@
 -- The group leads once its commit is done.
-use Rattle.std.proofs.Common.{◌≡◌, ◌⊎◌, ℕ, ◌+◌, ◌<◌, ◌≤◌, ◌==◌, ◌||◌, true, false, Bool, List, [], ◌∷◌, ◌++◌, Option, Some, None, refl, sym, ◌∙◌, ap, subst, inl, inr, arith}
+use Rattle.std.proofs.Common.{◌≡◌, ◌⊎◌, ℕ, ◌+◌, ◌≤◌, true, false, List, Option, Some, None, refl, sym, ◌∙◌, ap, subst, inl, inr, arith}
 use Rattle.std.specs.Prelude.{MatchOption, replicate}
 use Rattle.vx_base.specs.Named.{Word}
 use Rattle.vx_mask.specs.Mask.{has}
@@ -8,7 +8,7 @@ use Rattle.vx_header.specs.Named.{Label, header_of}
 use Rattle.vx_header.specs.Said.{Said}
 use Rattle.vx_copies.specs.Image.{Offer, offer_by, offer_of}
 use Rattle.vx_copies.specs.Lists.{AllOf, AnyOf}
-use Rattle.vx_moments.specs.World.{World, Device, Member, Group}
+use Rattle.vx_moments.specs.World.{Device, Member, Group}
 use Rattle.vx_moments.specs.Moment.{Moment}
 use Rattle.vx_moments.specs.Copies.{label_of, IsTurned, IsCurrent}
 use Rattle.vx_moments.specs.Commit.{Writing, parties, IsMaskOf, MemberGoes, JoinerGoes, is_slot_of, IsCommitting, IsCommitted, IsCarrying}
@@ -16,8 +16,8 @@ use Rattle.vx_moments.specs.Commit.{IsHeaded as IsLabelled}
 use Rattle.vx_sound.specs.Offers.{IsHeaded, Offers}
 use Rattle.vx_sound.specs.Standing.{IsOwn, Carries, IsLeading}
 use Rattle.vx_sound.proofs.Headed.{some_same, never_some}
-use Rattle.vx_sound.proofs.Lists.{all_imp, all_two, all_join, all_left, all_right, any_left, any_right}
-use Rattle.vx_sound.proofs.Ready.{IsReady, IsHeadedAs, IsBlank, IsNew}
+use Rattle.vx_sound.proofs.Lists.{all_two, all_join, all_left, all_right, any_left, any_right}
+use Rattle.vx_sound.proofs.Ready.{IsReady, IsHeadedAs, IsBlank}
 use Rattle.vx_sound.proofs.Fates.{lent_before, header_stays, text_back}
 use Rattle.vx_sound.proofs.Committing.{headed_fore, offers_back, new_one}
 

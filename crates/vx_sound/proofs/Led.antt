@@ -1,20 +1,19 @@
 -- A group that has the newest configuration of its devices is ready to be written.
-use Rattle.std.proofs.Common.{◌≡◌, ◌⊎◌, ℕ, ◌<◌, ◌≤◌, ◌==◌, ◌||◌, true, false, Bool, List, [], ◌∷◌, ◌++◌, Option, Some, None, refl, sym, ◌∙◌, ap, subst, inl, inr, arith, append-nil}
-use Rattle.std.specs.List.{list_any}
+use Rattle.std.proofs.Common.{◌≡◌, ℕ, ◌≤◌, true, false, List, [], sym, ap, subst, inl, inr, arith}
 use Rattle.vx_base.specs.Named.{Word}
 use Rattle.vx_mask.specs.Mask.{has}
 use Rattle.vx_mask.proofs.Tests.{not_both, or_cases}
 use Rattle.vx_copies.specs.Image.{Offer}
-use Rattle.vx_copies.specs.Lists.{AllOf, AnyOf}
-use Rattle.vx_moments.specs.World.{World, Device, Member, Group}
-use Rattle.vx_moments.specs.Commit.{Writing, parties, is_slot_of, is_written_slot}
-use Rattle.vx_sound.specs.Offers.{IsHeaded, Offers}
+use Rattle.vx_copies.specs.Lists.{AllOf}
+use Rattle.vx_moments.specs.World.{World, Member, Group}
+use Rattle.vx_moments.specs.Commit.{Writing, is_slot_of}
+use Rattle.vx_sound.specs.Offers.{Offers}
 use Rattle.vx_sound.specs.Sound.{IsNewest, IsChained}
 use Rattle.vx_sound.specs.Standing.{IsOwn, Carries, IsLeading}
 use Rattle.vx_sound.proofs.Configs.{Records}
 use Rattle.vx_sound.proofs.Edited.{IsGrown}
 use Rattle.vx_sound.proofs.Lists.{all_imp, all_from, all_join, one_of}
-use Rattle.vx_sound.proofs.Ready.{IsReady, IsHeadedAs, IsBlank, IsVacant}
+use Rattle.vx_sound.proofs.Ready.{IsReady, IsHeadedAs, IsBlank}
 
 -- the group has the newest configuration of its devices, and that records them all
 pub record IsLed (dg : Word) (w : World) (g : Group) : Type 0 where

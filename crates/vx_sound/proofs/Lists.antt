@@ -1,5 +1,5 @@
 -- What holds of the members of a list.
-use Rattle.std.proofs.Common.{◌≡◌, ◌⊎◌, ◌||◌, Bool, true, false, cond, List, [], ◌∷◌, ◌++◌, map, refl, inl, inr, sym, subst}
+use Rattle.std.proofs.Common.{◌≡◌, ◌⊎◌, Bool, true, false, cond, List, [], ◌∷◌, ◌++◌, map, refl, inl, inr, sym, subst}
 use Rattle.std.specs.List.{list_any, filter}
 use Rattle.vx_mask.proofs.Tests.{or_cases, or_from_left, or_from_right}
 use Rattle.vx_copies.specs.Lists.{AllOf, AnyOf}

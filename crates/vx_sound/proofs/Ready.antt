@@ -4,7 +4,7 @@ use Rattle.vx_base.specs.Named.{Word}
 use Rattle.vx_mask.specs.Mask.{has}
 use Rattle.vx_header.specs.Named.{header_of}
 use Rattle.vx_copies.specs.Image.{Offer}
-use Rattle.vx_copies.specs.Lists.{AllOf, AnyOf}
+use Rattle.vx_copies.specs.Lists.{AllOf}
 use Rattle.vx_moments.specs.World.{World, Device, Member}
 use Rattle.vx_moments.specs.Commit.{Writing, parties, is_slot_of, is_written_slot}
 use Rattle.vx_moments.specs.Holding.{IsLent}

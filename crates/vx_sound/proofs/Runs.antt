@@ -1,5 +1,5 @@
 -- The stages of a command: all but the last leave the world as it is, and tell the last what they have found.
-use Rattle.std.proofs.Common.{◌≡◌, ◌⊎◌, ℕ, true, false, Bool, List, [], ◌∷◌, ◌++◌, Option, Some, None, refl, sym, ◌∙◌, ap, subst, inl, inr}
+use Rattle.std.proofs.Common.{◌≡◌, ◌⊎◌, true, false, Bool, List, [], ◌∷◌, ◌++◌, None, refl, ◌∙◌, ap, subst, inl, inr}
 use Rattle.vx_base.specs.Named.{Word}
 use Rattle.vx_script_words.specs.declared.value.DiskAt.{DiskAt}
 use Rattle.vx_answers.specs.declared.answer.End.{End}
@@ -7,7 +7,7 @@ use Rattle.vx_answers.specs.declared.answer.View.{View}
 use Rattle.vx_moments.specs.World.{World}
 use Rattle.vx_moments.specs.Moment.{Moment}
 use Rattle.vx_plans.specs.Records.{devices_of}
-use Rattle.vx_plans.specs.Stages.{IsFree, AreFree, HasNoHeader, HasHeader, AreBlank, NamesGroup, IsDone, Stops, TakingStops}
+use Rattle.vx_plans.specs.Stages.{IsFree, AreFree, HasNoHeader, HasHeader, AreBlank, IsDone, Stops, TakingStops}
 use Rattle.vx_plans.specs.Steps.{Runs}
 use Rattle.vx_plans.specs.Tests.{fails}
 use Rattle.vx_plans.specs.declared.stages.Finish.{Finish}

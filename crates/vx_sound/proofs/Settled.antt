@@ -1,18 +1,17 @@
 -- What stays sound where the world changes little: headers stay or go, and the group's devices stay.
-use Rattle.std.proofs.Common.{◌≡◌, ◌⊎◌, ℕ, ◌<◌, ◌≤◌, true, false, List, Option, Some, None, MatchOption, refl, sym, ◌∙◌, ap, subst, inl, inr, arith}
+use Rattle.std.proofs.Common.{◌≡◌, ℕ, true, Option, Some, None, MatchOption, sym, ◌∙◌, ap, subst, inl, arith}
 use Rattle.vx_base.specs.Named.{Word}
 use Rattle.vx_mask.specs.Mask.{has}
-use Rattle.vx_header.specs.Named.{Label, header_of}
-use Rattle.vx_copies.specs.Image.{Offer}
+use Rattle.vx_header.specs.Named.{header_of}
 use Rattle.vx_copies.specs.Lists.{AllOf}
 use Rattle.vx_moments.specs.World.{World, Device, Volume, Member, Group, Lies, OnDevice, OnPlexes}
 use Rattle.vx_moments.specs.Holding.{IsLent, HasDevice}
-use Rattle.vx_moments.specs.Leaving.{PowerGoes, IsLeftBy, DeviceStands, group_gone}
-use Rattle.vx_sound.specs.Offers.{IsHeaded, Offers}
+use Rattle.vx_moments.specs.Leaving.{PowerGoes, IsLeftBy, group_gone}
+use Rattle.vx_sound.specs.Offers.{IsHeaded}
 use Rattle.vx_sound.specs.Sound.{AreSound}
 use Rattle.vx_sound.specs.Standing.{HoldsNoHeader, IsOwn, Carries, IsLeading, IsStanding}
 use Rattle.vx_sound.proofs.Headed.{size_above, never_some, some_same}
-use Rattle.vx_sound.proofs.Fewer.{HadEach, HasNone, HasOrNone, offered, chained_fewer}
+use Rattle.vx_sound.proofs.Fewer.{HadEach, HasOrNone, offered, chained_fewer}
 use Rattle.vx_sound.proofs.Lists.{all_two}
 
 -- the world is sound once its group leaves

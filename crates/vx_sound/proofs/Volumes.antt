@@ -1,33 +1,30 @@
 -- Volumes that are started, read and written hold no header.
-use Rattle.std.proofs.Common.{◌≡◌, ◌≢◌, ◌⊎◌, ℕ, ◌+◌, ◌<◌, ◌≤◌, nat_lt, true, false, Bool, cond, List, [], ◌∷◌, map, Option, Some, None, MatchOption, MatchBool, refl, sym, ◌∙◌, ap, subst, inl, inr, arith}
-use Rattle.std.specs.Prelude.{IsTrue, replicate}
-use Rattle.std.specs.Str.{bytes_eq}
+use Rattle.std.proofs.Common.{◌≡◌, ◌⊎◌, ℕ, ◌+◌, nat_lt, true, false, Bool, cond, List, [], ◌∷◌, Option, Some, None, MatchOption, MatchBool, refl, sym, ◌∙◌, ap, subst, inl, inr}
 use Rattle.vx_base.specs.Blocks.{Contents, is_in}
 use Rattle.vx_base.specs.Named.{Word, put}
-use Rattle.vx_base.proofs.NamedLemmas.{bytes_eq_self, put_same, put_other, name_cases}
-use Rattle.vx_header.specs.Named.{Label, header_of}
+use Rattle.vx_base.proofs.NamedLemmas.{put_same, put_other, name_cases}
+use Rattle.vx_header.specs.Named.{header_of}
 use Rattle.vx_life.specs.declared.EntryKind.{EntryKind}
 use Rattle.vx_life.specs.declared.EntryKind.TheVariants as kinds
 use Rattle.vx_life.specs.Candidates.{Values, Any, OneOf, IsAmong, or_also, Candidates}
 use Rattle.vx_life.specs.Entry.{Entry, values_after, candidates_after, ReadsAmong}
-use Rattle.vx_life.specs.Life.{Life, IsNext, life_after, GoesOn}
-use Rattle.vx_copies.specs.Lists.{AllOf, AnyOf}
+use Rattle.vx_life.specs.Life.{Life, life_after, GoesOn}
+use Rattle.vx_copies.specs.Lists.{AllOf}
 use Rattle.vx_script_forms.specs.declared.call.Call.{Call}
 use Rattle.vx_script_forms.specs.declared.call.Call.TheVariants as calls
 use Rattle.vx_answers.specs.declared.answer.End.{End}
 use Rattle.vx_answers.specs.declared.answer.End.TheVariants as ends
 use Rattle.vx_answers.specs.declared.refusal.Refusal.TheVariants.{NotStarted, Range}
-use Rattle.vx_moments.specs.World.{World, Device, Volume, Member, Group, Lies, OnDevice, OnPlexes}
+use Rattle.vx_moments.specs.World.{World, Device, Volume, Member, Group}
 use Rattle.vx_moments.specs.Moment.{Moment, Rests}
 use Rattle.vx_moments.specs.Holding.{IsLent, IsMemberDevice, HasDevice}
-use Rattle.vx_plans.specs.Calls.{volume_of, start_of, count_of, values_of, done_kind, failed_kind, IsOf, AreOf, Tells, Lives, IsServed, CallRuns}
+use Rattle.vx_plans.specs.Calls.{volume_of, start_of, count_of, values_of, done_kind, failed_kind, IsOf, AreOf, Tells, IsServed, CallRuns}
 use Rattle.vx_plans.specs.Stages.{IsBare, bare_volume, HasNoHeader}
-use Rattle.vx_sound.specs.Offers.{IsHeaded}
-use Rattle.vx_sound.specs.Standing.{HoldsNoHeader, IsLeading, IsStanding}
+use Rattle.vx_sound.specs.Standing.{HoldsNoHeader, IsStanding}
 use Rattle.vx_sound.proofs.Headed.{none_filled, never_some, some_same}
-use Rattle.vx_sound.proofs.Fewer.{HadEach, HasNone, HasOrNone}
+use Rattle.vx_sound.proofs.Fewer.{HadEach, HasOrNone}
 use Rattle.vx_sound.proofs.Lists.{all_from, all_imp, all_without}
-use Rattle.vx_sound.proofs.Settled.{MemberStays, IsLittle, standing_still}
+use Rattle.vx_sound.proofs.Settled.{MemberStays, standing_still}
 
 -- ---- a volume is started
 

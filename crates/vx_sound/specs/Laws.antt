@@ -1,5 +1,5 @@
 -- Laws of soundness.
-use Rattle.std.specs.Prelude.{◌≡◌, ℕ, List, [], ◌∷◌, None}
+use Rattle.std.specs.Prelude.{◌≡◌, ℕ, List, None}
 use Rattle.vx_base.specs.Blocks.{block_at}
 use Rattle.vx_base.specs.Named.{Word}
 use Rattle.vx_header.specs.Named.{header_of}
@@ -17,7 +17,7 @@ use Rattle.vx_moments.specs.Moment.{Moment, Counts}
 use Rattle.vx_moments.specs.Leaving.{PowerGoes}
 use Rattle.vx_plans.specs.Finding.{Found, Finds}
 use Rattle.vx_plans.specs.Steps.{Step, IsTranscript}
-use Rattle.vx_sound.specs.Sound.{IsNewest, IsChained, AreSound}
+use Rattle.vx_sound.specs.Sound.{IsNewest, IsChained}
 use Rattle.vx_sound.specs.Standing.{IsStanding}
 
 -- the call puts no header at the front of a volume; equal bytes are none

@@ -37,8 +37,9 @@ use Rattle.vx_plans.specs.declared.stage.Change.TheVariants as changes
 use Rattle.vx_plans.specs.declared.stage.Stage.{Stage}
 use Rattle.vx_plans.specs.declared.stage.Stage.TheVariants as stage
 use Rattle.vx_plans.specs.declared.test.Test.TheVariants as tests
-use Rattle.vx_sound.specs.Laws.{FormWritesNoHeader, WriteNoHeader}
-use Rattle.vx_sound.specs.Standing.{IsStanding}
+use Rattle.vx_sound.specs.Laws.{FormWritesNoHeader, WriteNoHeader, IsIdle}
+use Rattle.vx_sound.specs.Sound.{AreSound}
+use Rattle.vx_sound.specs.Standing.{IsLeading, IsStanding}
 use Rattle.vx_sound.proofs.Headed.{never_some}
 use Rattle.vx_sound.proofs.Commits.{Ends, commit_done, commit_stopped, change_ready, import_ready, imported_led}
 use Rattle.vx_sound.proofs.Devices.{standing_image, standing_torn, standing_wiped}
@@ -294,3 +295,15 @@ pub each_run_leaves_sound_devices : (place : ℕ) (old : Moment) (commands : Lis
     → WriteNoHeader commands → IsStanding old.world → IsTranscript place old commands answers last → PowerGoes last.world left → IsStanding left
 each_run_leaves_sound_devices place old commands answers last left none s is goes =
     standing_left last.world left goes (settled last.world (run_stands place old commands answers last none s is))
+
+sound_stands : (w : World) → IsIdle w → AreSound w → IsStanding w
+sound_stands w idle sound = record {
+  copies = sound;
+  group = subst (λ (g : Option Group). MatchOption g (Unit {0}) (IsLeading w)) (sym idle.group) tt;
+  volumes = λ vol v is. never_some (w.volumes vol) v (idle.volumes vol) is;
+}
+
+pub each_run_keeps_devices_sound : (place : ℕ) (old : Moment) (commands : List Command) (answers : List Answer) (last : Moment) (left : World)
+    → WriteNoHeader commands → IsIdle old.world → AreSound old.world → IsTranscript place old commands answers last → PowerGoes last.world left → AreSound left
+each_run_keeps_devices_sound place old commands answers last left none idle sound is goes =
+    (each_run_leaves_sound_devices place old commands answers last left none (sound_stands old.world idle sound) is goes).copies

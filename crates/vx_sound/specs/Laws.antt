@@ -17,7 +17,7 @@ use Rattle.vx_moments.specs.Moment.{Moment, Counts}
 use Rattle.vx_moments.specs.Leaving.{PowerGoes}
 use Rattle.vx_plans.specs.Finding.{Found, Finds}
 use Rattle.vx_plans.specs.Steps.{Step, IsTranscript}
-use Rattle.vx_sound.specs.Sound.{IsNewest, IsChained}
+use Rattle.vx_sound.specs.Sound.{IsNewest, IsChained, AreSound}
 use Rattle.vx_sound.specs.Standing.{IsStanding}
 
 -- the call puts no header at the front of a volume; equal bytes are none
@@ -53,3 +53,14 @@ abbrev pub EachRunLeavesSoundDevices : Type 0
 EachRunLeavesSoundDevices =
     (place : ℕ) (old : Moment) (commands : List Command) (answers : List Answer) (last : Moment) (left : World)
     → WriteNoHeader commands → IsStanding old.world → IsTranscript place old commands answers last → PowerGoes last.world left → IsStanding left
+
+-- no group is imported, and no volume is started
+pub record IsIdle (w : World) : Type 0 where
+  pub group : w.group ≡ None
+  pub volumes : (vol : Word) → w.volumes vol ≡ None
+
+-- so a run that begins with sound devices alone leaves sound devices
+abbrev pub EachRunKeepsDevicesSound : Type 0
+EachRunKeepsDevicesSound =
+    (place : ℕ) (old : Moment) (commands : List Command) (answers : List Answer) (last : Moment) (left : World)
+    → WriteNoHeader commands → IsIdle old.world → AreSound old.world → IsTranscript place old commands answers last → PowerGoes last.world left → AreSound left

@@ -6,8 +6,11 @@ use Rattle.vx_base.specs.Named.{Word}
 use Rattle.vx_mask.specs.Mask.{has}
 use Rattle.vx_copies.specs.Image.{Offer, offer_in, highest, higher}
 use Rattle.vx_copies.specs.Lists.{AllOf, AnyOf}
+use Rattle.vx_record.specs.Content.{Content}
+use Rattle.vx_record.specs.Grammar.{Spells}
 use Rattle.vx_objects.specs.declared.config.Config.{Config}
 use Rattle.vx_objects.specs.Config.{objects_of}
+use Rattle.vx_objects.specs.Printed.{IsReadOf}
 use Rattle.vx_script_words.specs.declared.value.DiskAt.{DiskAt}
 use Rattle.vx_answers.specs.declared.refusal.Refusal.{Refusal}
 use Rattle.vx_moments.specs.Commit.{Writing, is_written_slot, is_slot_of}
@@ -54,7 +57,7 @@ by_words dg (p ∷ ps) w x creating some =
     subst (λ (ms : List Member). AnyOf (λ m. is_written_slot x m.slot ≡ true) ms) (sym (creating.carriers ∙ joins)) (inl (or_right (has x.group.good 0) (is_slot_of x.joiners 0) first))
 
 -- the highest of the offers is that of one of the candidates
-one_offers : (dg : Word) (unread : Word → Bool) (cs : List Candidate) (o : Offer) → highest (offers_of dg unread cs) ≡ Some o → AnyOf (λ c. offer_in dg c.device.contents ≡ Some o) cs
+pub one_offers : (dg : Word) (unread : Word → Bool) (cs : List Candidate) (o : Offer) → highest (offers_of dg unread cs) ≡ Some o → AnyOf (λ c. offer_in dg c.device.contents ≡ Some o) cs
 one_offers dg unread [] o is = cc
 one_offers dg unread (c ∷ cs) o is = by (unread c.name) (offer_in dg c.device.contents) refl (highest (offers_of dg unread cs)) (λ top. one_offers dg unread cs o top) is
   where
@@ -69,7 +72,7 @@ one_offers dg unread (c ∷ cs) o is = by (unread c.name) (offer_in dg c.device.
     by false (Some a) mine (Some b) more top = of_two a b (nat_lt a.sequence b.sequence) mine more top
 
 -- a candidate of the slot that can be read
-abbrev is_there : (Word → Bool) → ℕ → Candidate → Bool
+abbrev pub is_there : (Word → Bool) → ℕ → Candidate → Bool
 is_there unread slot c = not (unread c.name) && c.label.slot == slot
 
 passed : (at : ℕ) (bad : Bool) (missing : Option ℕ) → cond bad (Some at) missing ≡ None → missing ≡ None
@@ -82,7 +85,7 @@ denied at true false missing is e = cc
 denied at false false missing is e = cc
 
 -- where no slot is missing, a good one has its candidate
-one_there : (n from good slot : ℕ) (unread : Word → Bool) (cs : List Candidate) → missing_from n from good unread cs ≡ None → from ≤ slot → slot < from + n → has good slot ≡ true → list_any (is_there unread slot) cs ≡ true
+pub one_there : (n from good slot : ℕ) (unread : Word → Bool) (cs : List Candidate) → missing_from n from good unread cs ≡ None → from ≤ slot → slot < from + n → has good slot ≡ true → list_any (is_there unread slot) cs ≡ true
 one_there zero from good slot unread cs none low high is = absurd (omega arith)
 one_there (suc n) from good slot unread cs none low high is =
     by_place (cases_lt from slot) (λ rest low' high'. one_there n (from + 1) good slot unread cs rest low' high' is)
@@ -115,8 +118,8 @@ one_member good slot unread (c ∷ cs) is any = by (has good c.label.slot) refl 
         cc
     by false g false t any more = more any
 
-of_three : {C V : Type 0} → (b : Bool) (x : Option C) (y : Option V) (T : Type 0) → MatchBool b (MatchOption x (MatchOption y T (λ v. ⊥)) (λ c. ⊥)) ⊥ → T
-of_three true None None T h = h
+of_three : {C V : Type 0} → (b : Bool) (x : Option C) (y : Option V) (T : Type 0) → MatchBool b (MatchOption x (MatchOption y T (λ v. ⊥)) (λ c. ⊥)) ⊥ → (b ≡ true) × (x ≡ None) × T
+of_three true None None T h = (refl, refl, h)
 of_three true None (Some v) T h = absurd h
 of_three true (Some c) y T h = absurd h
 of_three false x y T h = absurd h
@@ -136,25 +139,26 @@ of_offers None None T h = absurd h
 of_offers None (Some c) T h = absurd h.2
 of_offers (Some o) y T h = (o, refl, h)
 
--- what is found, where nothing is refused: the offer, and that no good slot is missing
+-- what is found, where nothing is refused: the offer, which no good slot is missing of, and the configuration that it is read as
 pub record FoundBy (dg : Word) (unread : Word → Bool) (cs : List Candidate) (F : Offer → Config → Type 0) : Type 0 where
   pub offer : Offer
   pub config : Config
   pub highest_is : highest (offers_of dg unread cs) ≡ Some offer
   pub none_missing : missing_from 32 0 offer.good unread cs ≡ None
+  pub records : List Content
+  pub spells : Spells offer.text records
+  pub read : IsReadOf records config
+  pub named : bytes_eq config.group dg ≡ true
+  pub recorded : first_that (λ c. not (is_recorded config c.label)) (good_ones offer.good cs) ≡ None
   pub holds : F offer config
 
 module _ (dg : Word) (w : World) (unread : Word → Bool) (cs : List Candidate) (F : Offer → Config → Type 0) where
   by_text : (o : Offer) → highest (offers_of dg unread cs) ≡ Some o → missing_from 32 0 o.good unread cs ≡ None → FindsText dg w o cs (λ r. ⊥) (F o) → FoundBy dg unread cs F
   by_text o top none (inl bad) = absurd bad.2
   by_text o top none (inr (rs, spells, inl broken)) = absurd broken.2
-  by_text o top none (inr (rs, spells, inr (config, read, h))) = record {
-    offer = o;
-    config = config;
-    highest_is = top;
-    none_missing = none;
-    holds = of_three (bytes_eq config.group dg) (first_that (λ c. not (is_recorded config c.label)) (good_ones o.good cs)) (first_that (λ v. is_some (w.volumes v.name)) config.volumes) (F o config) h;
-  }
+  by_text o top none (inr (rs, spells, inr (config, read, h))) =
+      let all = of_three (bytes_eq config.group dg) (first_that (λ c. not (is_recorded config c.label)) (good_ones o.good cs)) (first_that (λ v. is_some (w.volumes v.name)) config.volumes) (F o config) h in
+      record { offer = o; config = config; highest_is = top; none_missing = none; records = rs; spells = spells; read = read; named = all.0; recorded = all.1; holds = all.2 }
 
   by_offer : (o : Offer) → highest (offers_of dg unread cs) ≡ Some o → FindsOffer dg w unread o cs (λ r. ⊥) (F o) → FoundBy dg unread cs F
   by_offer o top h =
@@ -162,7 +166,7 @@ module _ (dg : Word) (w : World) (unread : Word → Bool) (cs : List Candidate) 
       let all = of_missing o.text (missing_from 32 0 o.good unread cs) (FindsText dg w o cs (λ r. ⊥) (F o)) whole in
       by_text o top all.0 all.1
 
-  found_by : Finds dg w unread cs (λ r. ⊥) F → FoundBy dg unread cs F
+  pub found_by : Finds dg w unread cs (λ r. ⊥) F → FoundBy dg unread cs F
   found_by h =
       let found = of_offers (highest (offers_of dg unread cs)) (first_that (is_damaged_one unread (λ c. true)) cs) (λ o. FindsOffer dg w unread o cs (λ r. ⊥) (F o)) h in
       by_offer found.0 found.1 found.2

@@ -1,0 +1,75 @@
+-- What each commit of a command leaves.
+use Rattle.std.proofs.Common.{◌≡◌, ◌⊎◌, ℕ, [], Option, Some, MatchOption, sym, ◌∙◌, ap, subst, inl, inr}
+use Rattle.vx_base.specs.Named.{Word}
+use Rattle.vx_base.proofs.NamedLemmas.{bytes_eq_same}
+use Rattle.vx_copies.specs.Image.{Offer}
+use Rattle.vx_objects.specs.declared.config.Config.{Config}
+use Rattle.vx_objects.specs.Config.{objects_of}
+use Rattle.vx_answers.specs.declared.answer.End.{End}
+use Rattle.vx_answers.specs.declared.answer.End.TheVariants as ends
+use Rattle.vx_moments.specs.World.{World, Volume, Group}
+use Rattle.vx_moments.specs.Moment.{Moment, Counts}
+use Rattle.vx_moments.specs.Commit.{Writing, IsCommitting, IsCommitted, IsStopped}
+use Rattle.vx_plans.specs.Finding.{group_found, import_records}
+use Rattle.vx_plans.specs.Stages.{IsChange, IsImporting, edits_of}
+use Rattle.vx_plans.specs.declared.stage.Change.{Change}
+use Rattle.vx_plans.proofs.Carriers.{FoundBy, found_by}
+use Rattle.vx_sound.specs.Standing.{HoldsNoHeader, IsLeading, IsStanding}
+use Rattle.vx_sound.proofs.Edited.{IsGrown, change_grown, import_grown}
+use Rattle.vx_sound.proofs.Ready.{IsReady}
+use Rattle.vx_sound.proofs.Led.{IsLed, led, ready_alone}
+use Rattle.vx_sound.proofs.Imported.{found_led}
+use Rattle.vx_sound.proofs.Committing.{sound_on}
+use Rattle.vx_sound.proofs.Leading.{leading_on}
+use Rattle.vx_sound.proofs.Settled.{IsSettled}
+
+-- the group goes by this end
+abbrev pub MustGo : End → Type 0
+MustGo end = (end ≡ ends.GroupLost) ⊎ (end ≡ ends.Lost [])
+
+-- the world is sound, or is so once its group has gone by this end
+abbrev pub Ends : End → World → Type 0
+Ends end w = IsStanding w ⊎ (IsSettled w × MustGo end)
+
+volumes_on : (x : Writing) (last : ℕ) (old new : Moment) → IsCommitting x last old new → IsStanding old.world → (vol : Word) (v : Volume) → new.world.volumes vol ≡ Some v → HoldsNoHeader v
+volumes_on x last old new c s vol v is = s.volumes vol v (sym (ap (λ (f : Word → Option Volume). f vol) c.volumes) ∙ is)
+
+pub commit_done : (x : Writing) (old new : Moment) → IsStanding old.world → IsReady x old.world → IsCommitted x old new → IsStanding new.world
+commit_done x old new s r d = record {
+  copies = sound_on x d.last old new d.committing r s.copies;
+  group = subst (λ (g : Option Group). MatchOption g (Unit {0}) (IsLeading new.world)) (sym d.group) (leading_on x old new d r);
+  volumes = volumes_on x d.last old new d.committing s;
+}
+
+pub commit_stopped : (x : Writing) (old : Moment) (end : End) (new : Moment) → IsStanding old.world → IsReady x old.world → IsStopped x old end new → Ends end new.world
+commit_stopped x old end new s r d = inr (
+  record {
+    copies = sound_on x d.last old new d.committing r s.copies;
+    volumes = volumes_on x d.last old new d.committing s;
+  },
+  elim d.ends [ inl lost ↦ inl lost.0 | inr cut ↦ inr cut.0 ],
+)
+
+-- ---- what is written
+
+-- the imported group
+pub imported_led : (w : World) (g : Group) → IsStanding w → w.group ≡ Some g → IsLed g.config.group w g
+imported_led w g s here =
+    led w g (subst (λ (o : Option Group). MatchOption o (Unit {0}) (IsLeading w)) here s.group) (s.copies g.config.group)
+
+pub change_ready : (change : Change) (w : World) (x : Writing) → IsStanding w → IsChange (edits_of change w.group) w x → IsReady x w
+change_ready change w x s is = ready_alone x w (imported_led w x.group s is.group) (change_grown change w.group x.group.config x.config is.edited) is.joiners is.carriers
+
+pub import_ready : (dg : Word) (w : World) (x : Writing) (old new : Counts) → IsStanding w → IsImporting dg w x old new → IsReady x w
+import_ready dg w x old new s is = by (found_by dg w is.found.unread is.found.counted F is.finds)
+  where
+    F : Offer → Config → Type 0
+    F o config = (x.group ≡ group_found o is.found.counted config) × (objects_of x.config ≡ import_records config)
+
+    by : FoundBy dg is.found.unread is.found.counted F → IsReady x w
+    by all =
+        let same : dg ≡ x.group.config.group = sym (bytes_eq_same all.config.group dg all.named) ∙ sym (ap (λ (g : Group). g.config.group) all.holds.0) in
+        let found : IsLed dg w (group_found all.offer is.found.counted all.config) = found_led dg w old new is.found F all (s.copies dg) in
+        let own : IsLed x.group.config.group w x.group = subst (λ (g : Word). IsLed g w x.group) same (subst (λ (g : Group). IsLed dg w g) (sym all.holds.0) found) in
+        let grown : IsGrown x.group.config x.config = import_grown x.group.config x.config (all.holds.1 ∙ sym (ap (λ (g : Group). import_records g.config) all.holds.0)) in
+        ready_alone x w own grown is.joiners is.carriers

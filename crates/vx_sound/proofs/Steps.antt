@@ -1,0 +1,309 @@
+-- Each command leaves the world sound, and so does each run.
+use Rattle.std.proofs.Common.{◌≡◌, ℕ, ◌+◌, true, false, Bool, List, [], ◌∷◌, ◌++◌, Option, Some, None, MatchOption, refl, sym, subst, inl, inr}
+use Rattle.std.specs.Prelude.{is_some}
+use Rattle.std.specs.Str.{bytes_eq}
+use Rattle.vx_base.specs.Named.{Word}
+use Rattle.vx_base.proofs.NamedLemmas.{bytes_eq_same}
+use Rattle.vx_mask.proofs.Tests.{or_neither}
+use Rattle.vx_parts.specs.declared.vol.PolicyName.TheVariants as policy
+use Rattle.vx_objects.specs.declared.edit.Edit.{Edit}
+use Rattle.vx_script_words.specs.declared.value.DiskAt.{DiskAt}
+use Rattle.vx_script_forms.specs.declared.call.Call.{Call}
+use Rattle.vx_script_forms.specs.declared.call.Call.TheVariants as calls
+use Rattle.vx_script_forms.specs.declared.form.Form.{Form}
+use Rattle.vx_script_forms.specs.declared.form.Form.TheVariants as form
+use Rattle.vx_script_forms.specs.declared.form.WordPolicy.{WordPolicy}
+use Rattle.vx_script_forms.specs.declared.form.WordPolicy.TheVariants as words
+use Rattle.vx_script.specs.declared.command.Command.{Command}
+use Rattle.vx_answers.specs.declared.answer.Answer.{Answer}
+use Rattle.vx_answers.specs.declared.answer.End.{End}
+use Rattle.vx_answers.specs.declared.answer.End.TheVariants as ends
+use Rattle.vx_answers.specs.declared.answer.View.{View}
+use Rattle.vx_answers.specs.declared.refusal.Refusal.TheVariants as refusal
+use Rattle.vx_moments.specs.World.{World, Volume, Group}
+use Rattle.vx_moments.specs.Moment.{Moment}
+use Rattle.vx_moments.specs.Leaving.{PowerGoes}
+use Rattle.vx_moments.specs.Holding.{has_volume}
+use Rattle.vx_moments.specs.Commit.{Writing}
+use Rattle.vx_plans.specs.Plans.{plan_of}
+use Rattle.vx_plans.specs.Records.{devices_of}
+use Rattle.vx_plans.specs.Stages.{IsDone, Stops, EditsStop, IsChange, edits_of, joining_edit, IsJoining, IsCreating}
+use Rattle.vx_plans.specs.Steps.{Runs, Leaves, IsNotBuilt, DoesPlan, DoesCall, DoesForm, Does, Step, IsTranscript}
+use Rattle.vx_plans.specs.Tests.{fails, in_use, is_here, is_volume, unless}
+use Rattle.vx_plans.specs.declared.stages.Finish.{Finish}
+use Rattle.vx_plans.specs.declared.stages.Finish.TheVariants.{Nothing, Records}
+use Rattle.vx_plans.specs.declared.stage.Change.{Change}
+use Rattle.vx_plans.specs.declared.stage.Change.TheVariants as changes
+use Rattle.vx_plans.specs.declared.stage.Stage.{Stage}
+use Rattle.vx_plans.specs.declared.stage.Stage.TheVariants as stage
+use Rattle.vx_plans.specs.declared.test.Test.TheVariants as tests
+use Rattle.vx_sound.specs.Laws.{FormWritesNoHeader, WriteNoHeader, IsIdle}
+use Rattle.vx_sound.specs.Sound.{AreSound}
+use Rattle.vx_sound.specs.Standing.{IsLeading, IsStanding}
+use Rattle.vx_sound.proofs.Headed.{never_some}
+use Rattle.vx_sound.proofs.Commits.{Ends, commit_done, commit_stopped, change_ready, import_ready, imported_led}
+use Rattle.vx_sound.proofs.Devices.{standing_image, standing_torn, standing_wiped}
+use Rattle.vx_sound.proofs.Joining.{all_unheld, all_blank, room_for, ready_join, ready_create}
+use Rattle.vx_sound.proofs.Ready.{IsReady}
+use Rattle.vx_sound.proofs.Runs.{AreCalm, AllPassed, Through, runs_through}
+use Rattle.vx_sound.proofs.Settled.{settled, standing_gone, standing_left}
+use Rattle.vx_sound.proofs.Volumes.{standing_bare, standing_served}
+
+same_ends : (end : End) (w v : World) → v ≡ w → IsStanding w → Ends end v
+same_ends end w v same s = inl (subst IsStanding (sym same) s)
+
+-- ---- what tests tell
+
+no_group : (disks : List DiskAt) (w : World) → fails tests.NoGroup disks w ≡ None → w.group ≡ None
+unfolding fails
+no_group disks w passed = by w.group passed
+  where
+    by : (g : Option Group) → in_use g ≡ None → g ≡ None
+    by None e = refl
+    by (Some g) e = never_some None _ refl (sym e)
+
+group_here : (dg : Word) (disks : List DiskAt) (w : World) (g : Group) → w.group ≡ Some g → fails (tests.GroupIs (Some dg)) disks w ≡ None → g.config.group ≡ dg
+unfolding fails
+group_here dg disks w g here passed =
+    bytes_eq_same g.config.group dg (holds (bytes_eq g.config.group dg) (subst (λ (o : Option Group). unless (is_here (Some dg) o) (refusal.NoGroup (Some dg)) ≡ None) here passed))
+  where
+    holds : (b : Bool) → unless b (refusal.NoGroup (Some dg)) ≡ None → b ≡ true
+    holds true e = refl
+    holds false e = never_some None (refusal.NoGroup (Some dg)) refl (sym e)
+
+not_started : (w : World) (vol : Word) → is_volume vol w ≡ false → w.volumes vol ≡ None
+not_started w vol e = by (w.volumes vol) (or_neither (is_some (w.volumes vol)) (has_volume w.group vol) e).0
+  where
+    by : (o : Option Volume) → is_some o ≡ false → o ≡ None
+    by None e = refl
+    by (Some v) e = cc
+
+-- ---- the last stage
+
+-- a stage alone
+one_stage : (s : Stage) (disks : List DiskAt) (finish : Finish) (old : Moment) (views : List View) (end : End) (new : Moment)
+    → ((m : Moment) → IsDone s disks old m → IsStanding m.world) → (Stops s disks old end new → Ends end new.world) → Runs disks (s ∷ []) finish old views end new → Ends end new.world
+one_stage s disks finish old views end new done stops (inl (m, later, is, (shows, over, same))) = inl (subst (λ (n : Moment). IsStanding n.world) (sym same) (done m is))
+one_stage s disks finish old views end new done stops (inr (none, later, is)) = stops is
+
+-- edits that are committed, refused or stopped
+edits_end : (edits : Group → List Edit) (IsWriting : Writing → Type 0) (old : Moment) (end : End) (new : Moment) → IsStanding old.world → ((x : Writing) → IsWriting x → IsReady x old.world) → EditsStop edits IsWriting old end new → Ends end new.world
+edits_end edits IsWriting old end new s ready (inl (none, ends)) = same_ends end old.world new.world ends.1.stays.world s
+edits_end edits IsWriting old end new s ready (inr (inl (why, rests))) = same_ends end old.world new.world rests.stays.world s
+edits_end edits IsWriting old end new s ready (inr (inr (x, is, stopped))) = commit_stopped x old end new s (ready x is) stopped
+
+change_ends : (change : Change) (disks : List DiskAt) (finish : Finish) (old : Moment) (views : List View) (end : End) (new : Moment) → IsStanding old.world → Runs disks (stage.Change change ∷ []) finish old views end new → Ends end new.world
+change_ends change disks finish old views end new s runs =
+    one_stage (stage.Change change) disks finish old views end new
+    (λ m done. commit_done done.0 old m s (change_ready change old.world done.0 s done.1) done.2)
+    (λ stops. edits_end (λ g. edits_of change (Some g)) (λ x. IsChange (edits_of change old.world.group) old.world x) old end new s (λ x is. change_ready change old.world x s is) stops)
+    runs
+
+image_ends : (name : Word) (sectors : ℕ) (disks : List DiskAt) (finish : Finish) (old : Moment) (views : List View) (end : End) (new : Moment) → IsStanding old.world → Runs disks (stage.MakeImage name sectors ∷ []) finish old views end new → Ends end new.world
+image_ends name sectors disks finish old views end new s runs =
+    one_stage (stage.MakeImage name sectors) disks finish old views end new
+    (λ m done. standing_image name sectors old.world m.world s done.0 done.1)
+    (λ stops. elim stops [ inl refused ↦ same_ends end old.world new.world refused.1.1.stays.world s | inr failed ↦ same_ends end old.world new.world failed.0 s ])
+    runs
+
+import_ends : (dg : Word) (disks : List DiskAt) (finish : Finish) (old : Moment) (views : List View) (end : End) (new : Moment) → IsStanding old.world → Runs disks (stage.Import dg ∷ []) finish old views end new → Ends end new.world
+import_ends dg disks finish old views end new s runs =
+    one_stage (stage.Import dg) disks finish old views end new
+    (λ m done.
+    let mid = done.1 in
+    let same = sym done.2.world in
+    commit_done done.3.0 mid m (subst IsStanding same s) (subst (λ (w : World). IsReady done.3.0 w) same (import_ready dg old.world done.3.0 old.counts mid.counts s done.3.1)) done.3.2)
+    stops runs
+  where
+    stops : Stops (stage.Import dg) disks old end new → Ends end new.world
+    stops (inl (g, here, ends)) = same_ends end old.world new.world ends.1.stays.world s
+    stops (inr (inl (reads, why))) = same_ends end old.world new.world reads.0 s
+    stops (inr (inr (mid, between, (x, is, stopped)))) =
+        let same = sym between.world in
+        commit_stopped x mid end new (subst IsStanding same s) (subst (λ (w : World). IsReady x w) same (import_ready dg old.world x old.counts mid.counts s is)) stopped
+
+-- ---- the plans
+
+-- all before the last stage left the world; the last goes on
+at_last : (calm rest : List Stage) (disks : List DiskAt) (finish : Finish) (old : Moment) (views : List View) (end : End) (new : Moment) → IsStanding old.world
+    → ((mid : Moment) → IsStanding mid.world → AllPassed calm disks mid.world → Runs disks rest finish mid views end new → Ends end new.world)
+    → Through calm rest disks finish old.world views end new → Ends end new.world
+at_last calm rest disks finish old views end new s goes (inl stays) = same_ends end old.world new.world stays s
+at_last calm rest disks finish old views end new s goes (inr (mid, same, passed, runs)) =
+    goes mid (subst IsStanding (sym same) s) (subst (λ (w : World). AllPassed calm disks w) (sym same) passed) runs
+
+module _ (views : List View) (end : End) (new : Moment) where
+  bare_ends : (vol name : Word) (mid : Moment) → IsStanding mid.world → AllPassed (stage.Take name ∷ stage.LookBlank name ∷ stage.Gate (tests.Sized name) ∷ []) [] mid.world → Runs [] (stage.StartBare vol name ∷ []) Nothing mid views end new → Ends end new.world
+  bare_ends vol name mid s passed runs =
+      one_stage (stage.StartBare vol name) [] Nothing mid views end new
+      (λ m done. standing_bare vol name mid.world m.world s (not_started mid.world vol done.0) passed.1.0 (λ member. passed.0.1.0 (inr member)) done.1)
+      (λ stops. same_ends end mid.world new.world stops.1.1.stays.world s)
+      runs
+
+  wipe_ends : (name : Word) (mid : Moment) → IsStanding mid.world → AllPassed (stage.Take name ∷ stage.LookHeaded name ∷ []) [] mid.world → Runs [] (stage.Wipe name ∷ []) Nothing mid views end new → Ends end new.world
+  wipe_ends name mid s passed runs =
+      one_stage (stage.Wipe name) [] Nothing mid views end new
+      (λ m done. standing_wiped name mid.world m.world s (λ member. passed.0.1.0 (inr member)) done.0)
+      (λ stops. inl (standing_torn name mid.world new.world s (λ member. passed.0.1.0 (inr member)) stops.0))
+      runs
+
+  deport_ends : (mid : Moment) → IsStanding mid.world → Runs [] (stage.LetGo ∷ []) Nothing mid views end new → Ends end new.world
+  deport_ends mid s runs =
+      one_stage stage.LetGo [] Nothing mid views end new
+      (λ m done. subst IsStanding (sym done.0) (standing_gone mid.world (settled mid.world s)))
+      (λ stops. absurd stops)
+      runs
+
+  init_ends : (dg : Word) (disks : List DiskAt) (mid : Moment) → IsStanding mid.world
+      → AllPassed (stage.TakeDisks ∷ stage.LookDisks ∷ stage.Gate tests.NoGroup ∷ stage.Gate (tests.GroupLimits dg) ∷ stage.Search dg ∷ stage.Gate (tests.GroupRecords dg) ∷ []) disks mid.world
+      → Runs disks (stage.Create dg ∷ []) Nothing mid views end new → Ends end new.world
+  init_ends dg disks mid s passed runs =
+      let ready = λ (x : Writing) (is : IsCreating dg disks mid.world x).
+      ready_create dg disks mid.world x is (no_group disks mid.world passed.1.1.0) (all_unheld mid.world [] (devices_of disks) passed.0) (all_blank mid.world (devices_of disks) passed.1.0) passed.1.1.1.1.0 in
+      one_stage (stage.Create dg) disks Nothing mid views end new
+      (λ m done. commit_done done.1.0 mid m s (ready done.1.0 done.1.1) done.1.2)
+      (λ stops. elim stops [
+        | inl here ↦ same_ends end mid.world new.world here.2.1.stays.world s
+        | inr stopped ↦ commit_stopped stopped.0 mid end new s (ready stopped.0 stopped.1) stopped.2
+      ])
+      runs
+
+  add_ends : (dg : Word) (p : DiskAt) (mid : Moment) → IsStanding mid.world
+      → AllPassed (stage.TakeDisks ∷ stage.Gate (tests.GroupIs (Some dg)) ∷ stage.LookDisks ∷ stage.Gate tests.JoinLimits ∷ stage.Search dg ∷ []) (p ∷ []) mid.world
+      → Runs (p ∷ []) (stage.Join ∷ []) Nothing mid views end new → Ends end new.world
+  add_ends dg p mid s passed runs =
+      let ready = λ (x : Writing) (is : IsJoining p mid.world x).
+      ready_join p dg mid.world x is (imported_led mid.world x.group s is.group) (room_for (p ∷ []) mid.world x.group is.group passed.1.1.1.0)
+      (group_here dg (p ∷ []) mid.world x.group is.group passed.1.0) passed.0.0.1.0 passed.1.1.0.0 passed.1.1.1.1.0 in
+      one_stage stage.Join (p ∷ []) Nothing mid views end new
+      (λ m done. commit_done done.0 mid m s (ready done.0 done.1) done.2)
+      (λ stops. edits_end (λ g. joining_edit p mid.world g ∷ []) (λ x. IsJoining p mid.world x) mid end new s ready stops)
+      runs
+
+  shown_ends : (finish : Finish) (mid : Moment) → IsStanding mid.world → Runs [] [] finish mid views end new → Ends end new.world
+  shown_ends finish mid s runs = inl (subst (λ (n : Moment). IsStanding n.world) (sym runs.2) s)
+
+-- ---- each form
+
+module _ (old : Moment) (views : List View) (end : End) (new : Moment) (s : IsStanding old.world) where
+  not_built : IsNotBuilt old views end new → Ends end new.world
+  not_built is = inl (subst (λ (n : Moment). IsStanding n.world) (sym is.2) s)
+
+  print_ends : (dg vol : Option Word) → DoesPlan [] (plan_of dg (form.PrintM vol)) old views end new → Ends end new.world
+  unfolding plan_of
+  print_ends dg None does = at_last (stage.Gate (tests.GroupIs dg) ∷ []) [] [] (Records None) old views end new s
+      (λ mid t passed runs. shown_ends views end new (Records None) mid t runs)
+      (runs_through (stage.Gate (tests.GroupIs dg) ∷ []) [] [] (Records None) old views end new (refl, tt) does)
+  print_ends dg (Some vol) does = at_last (stage.Gate (tests.GroupIs dg) ∷ stage.Gate (tests.HasVolume vol) ∷ []) [] [] (Records (Some vol)) old views end new s
+      (λ mid t passed runs. shown_ends views end new (Records (Some vol)) mid t runs)
+      (runs_through (stage.Gate (tests.GroupIs dg) ∷ stage.Gate (tests.HasVolume vol) ∷ []) [] [] (Records (Some vol)) old views end new (refl, (refl, tt)) does)
+
+  -- gates, and a change
+  gated : (calm : List Stage) (change : Change) → AreCalm calm → Runs [] (calm ++ stage.Change change ∷ []) Nothing old views end new → Ends end new.world
+  gated calm change are runs = at_last calm (stage.Change change ∷ []) [] Nothing old views end new s (λ mid t passed more. change_ends change [] Nothing mid views end new t more) (runs_through calm (stage.Change change ∷ []) [] Nothing old views end new are runs)
+
+  policy_ends : (dg : Option Word) (vol : Word) (how : WordPolicy) → DoesPlan [] (plan_of dg (form.Rdpol vol how)) old views end new → Ends end new.world
+  unfolding plan_of
+  policy_ends dg vol words.Round does = gated (stage.Gate (tests.GroupIs dg) ∷ stage.Gate (tests.HasVolume vol) ∷ []) (changes.Policy vol policy.Round) (refl, (refl, tt)) does
+  policy_ends dg vol words.Select does = gated (stage.Gate (tests.GroupIs dg) ∷ stage.Gate (tests.HasVolume vol) ∷ []) (changes.Policy vol policy.Select) (refl, (refl, tt)) does
+  policy_ends dg vol (words.Prefer plex) does = gated (stage.Gate (tests.GroupIs dg) ∷ stage.Gate (tests.HasVolume vol) ∷ stage.Gate (tests.HasPlex vol plex) ∷ []) (changes.Policy vol (policy.Prefer plex)) (refl, (refl, (refl, tt))) does
+
+  call_ends : (place : ℕ) (call : Call) → DoesCall place call old views end new → Ends end new.world
+  call_ends place (calls.Read vol start count) does = inl (standing_served place (calls.Read vol start count) old end new tt s does.2)
+  call_ends place (calls.Fill vol start count byte) does = inl (standing_served place (calls.Fill vol start count byte) old end new tt s does.2)
+  call_ends place (calls.Data vol start blocks) does = not_built does
+
+  form_ends : (place : ℕ) (dg : Option Word) (f : Form) → DoesForm place dg f old views end new → Ends end new.world
+  unfolding plan_of
+  form_ends place dg (form.Calling call) does = call_ends place call does
+  form_ends place dg (form.MkImage device length) does = image_ends device length [] Nothing old views end new s does
+  form_ends place dg (form.Bare vol device) does =
+      let calm = stage.Take device ∷ stage.LookBlank device ∷ stage.Gate (tests.Sized device) ∷ [] in
+      at_last calm (stage.StartBare vol device ∷ []) [] Nothing old views end new s (bare_ends views end new vol device) (runs_through calm (stage.StartBare vol device ∷ []) [] Nothing old views end new (refl, (refl, (refl, tt))) does)
+  form_ends place dg (form.DgInit name disks) does =
+      let calm = stage.TakeDisks ∷ stage.LookDisks ∷ stage.Gate tests.NoGroup ∷ stage.Gate (tests.GroupLimits name) ∷ stage.Search name ∷ stage.Gate (tests.GroupRecords name) ∷ [] in
+      at_last calm (stage.Create name ∷ []) disks Nothing old views end new s (init_ends views end new name disks) (runs_through calm (stage.Create name ∷ []) disks Nothing old views end new (refl, (refl, (refl, (refl, (refl, (refl, tt)))))) does)
+  form_ends place dg (form.DgAddDisk name disk) does =
+      let calm = stage.TakeDisks ∷ stage.Gate (tests.GroupIs (Some name)) ∷ stage.LookDisks ∷ stage.Gate tests.JoinLimits ∷ stage.Search name ∷ [] in
+      at_last calm (stage.Join ∷ []) (disk ∷ []) Nothing old views end new s (add_ends views end new name disk) (runs_through calm (stage.Join ∷ []) (disk ∷ []) Nothing old views end new (refl, (refl, (refl, (refl, (refl, tt))))) does)
+  form_ends place dg (form.DgImport name) does = import_ends name [] Nothing old views end new s does
+  form_ends place dg (form.DgDeport name) does =
+      let calm = stage.Gate (tests.GroupIs (Some name)) ∷ stage.Gate tests.NoneStarted ∷ [] in
+      at_last calm (stage.LetGo ∷ []) [] Nothing old views end new s (λ mid t passed runs. deport_ends views end new mid t runs) (runs_through calm (stage.LetGo ∷ []) [] Nothing old views end new (refl, (refl, tt)) does)
+  form_ends place dg (form.DiskUnsetup device) does =
+      let calm = stage.Take device ∷ stage.LookHeaded device ∷ [] in
+      at_last calm (stage.Wipe device ∷ []) [] Nothing old views end new s (wipe_ends views end new device) (runs_through calm (stage.Wipe device ∷ []) [] Nothing old views end new (refl, (refl, tt)) does)
+  form_ends place dg (form.PrintM vol) does = print_ends dg vol does
+  form_ends place dg (form.Rdpol vol how) does = policy_ends dg vol how does
+  form_ends place dg (form.RemoveVolume vol) does =
+      gated (stage.Gate (tests.GroupIs dg) ∷ stage.Gate (tests.HasVolume vol) ∷ stage.Gate (tests.Stopped vol) ∷ stage.Gate (tests.Unrelated vol) ∷ []) (changes.Remove vol) (refl, (refl, (refl, (refl, tt)))) does
+  form_ends place dg (form.VxMake text) does = not_built does
+  form_ends place dg (form.PrintHt vol) does = not_built does
+  form_ends place dg (form.AssistMake vol length attrs disks) does = not_built does
+  form_ends place dg (form.Mirror vol disks) does = not_built does
+  form_ends place dg (form.Start vol) does = not_built does
+  form_ends place dg (form.Stop vol) does = not_built does
+  form_ends place dg (form.PlexDis plex rm) does = not_built does
+  form_ends place dg (form.Prepare vol ndcomirs region) does = not_built does
+  form_ends place dg (form.Unprepare vol) does = not_built does
+  form_ends place dg (form.AddMir vol disks) does = not_built does
+  form_ends place dg (form.Dis snap) does = not_built does
+  form_ends place dg (form.Split snap) does = not_built does
+  form_ends place dg (form.PrintSnaps vol) does = not_built does
+  form_ends place dg (form.Recover vol) does = not_built does
+  form_ends place dg (form.Acting act) does = not_built does
+  form_ends place dg (form.Sessions block) does = not_built does
+
+  command_ends : (place : ℕ) (c : Command) → Does place c old views end new → Ends end new.world
+  command_ends place c does = by c.cut does
+    where
+      by : (cut : Option ℕ) → MatchOption cut (DoesForm place c.group c.form old views end new) (λ n. IsNotBuilt old views end new) → Ends end new.world
+      by None does = form_ends place c.group c.form does
+      by (Some n) does = not_built does
+
+-- ---- what is left
+
+leaves : (end : End) (began w left : World) → IsStanding began → Ends end w → Leaves end began w left → IsStanding left
+leaves (ends.Refused refusal) began w left s e is = subst IsStanding (sym is) s
+leaves (ends.Done copied parts blocks) began w left s (inl t) is = subst IsStanding (sym is) t
+leaves (ends.Done copied parts blocks) began w left s (inr (t, inl never)) is = cc
+leaves (ends.Done copied parts blocks) began w left s (inr (t, inr never)) is = cc
+leaves (ends.Fault told device parts) began w left s (inl t) is = subst IsStanding (sym is) t
+leaves (ends.Fault told device parts) began w left s (inr (t, inl never)) is = cc
+leaves (ends.Fault told device parts) began w left s (inr (t, inr never)) is = cc
+leaves ends.ShelfFailed began w left s (inl t) is = subst IsStanding (sym is) t
+leaves ends.ShelfFailed began w left s (inr (t, inl never)) is = cc
+leaves ends.ShelfFailed began w left s (inr (t, inr never)) is = cc
+leaves ends.GroupLost began w left s (inl t) is = subst IsStanding (sym is) (standing_gone w (settled w t))
+leaves ends.GroupLost began w left s (inr (t, must)) is = subst IsStanding (sym is) (standing_gone w t)
+leaves (ends.Lost parts) began w left s (inl t) goes = standing_left w left goes (settled w t)
+leaves (ends.Lost parts) began w left s (inr (t, must)) goes = standing_left w left goes t
+
+pub each_step_keeps_the_world_sound : (place : ℕ) (c : Command) (old : Moment) (answer : Answer) (new : Moment)
+    → FormWritesNoHeader c.form → IsStanding old.world → Step place c old answer new → IsStanding new.world
+each_step_keeps_the_world_sound place c old answer new none s step =
+    leaves step.end old.world step.over.world new.world s (command_ends old step.views step.end step.over s place c step.does) step.leaves
+
+run_stands : (place : ℕ) (old : Moment) (commands : List Command) (answers : List Answer) (last : Moment)
+    → WriteNoHeader commands → IsStanding old.world → IsTranscript place old commands answers last → IsStanding last.world
+run_stands place old [] [] last none s is = subst (λ (m : Moment). IsStanding m.world) (sym is) s
+run_stands place old (c ∷ cs) (a ∷ rest) last none s (mid, step, more) = run_stands (place + 1) mid cs rest last none.1 (each_step_keeps_the_world_sound place c old a mid none.0 s step) more
+run_stands place old [] (a ∷ rest) last none s is = absurd is
+run_stands place old (c ∷ cs) [] last none s is = absurd is
+
+pub each_run_leaves_sound_devices : (place : ℕ) (old : Moment) (commands : List Command) (answers : List Answer) (last : Moment) (left : World)
+    → WriteNoHeader commands → IsStanding old.world → IsTranscript place old commands answers last → PowerGoes last.world left → IsStanding left
+each_run_leaves_sound_devices place old commands answers last left none s is goes =
+    standing_left last.world left goes (settled last.world (run_stands place old commands answers last none s is))
+
+sound_stands : (w : World) → IsIdle w → AreSound w → IsStanding w
+sound_stands w idle sound = record {
+  copies = sound;
+  group = subst (λ (g : Option Group). MatchOption g (Unit {0}) (IsLeading w)) (sym idle.group) tt;
+  volumes = λ vol v is. never_some (w.volumes vol) v (idle.volumes vol) is;
+}
+
+pub each_run_keeps_devices_sound : (place : ℕ) (old : Moment) (commands : List Command) (answers : List Answer) (last : Moment) (left : World)
+    → WriteNoHeader commands → IsIdle old.world → AreSound old.world → IsTranscript place old commands answers last → PowerGoes last.world left → AreSound left
+each_run_keeps_devices_sound place old commands answers last left none idle sound is goes =
+    (each_run_leaves_sound_devices place old commands answers last left none (sound_stands old.world idle sound) is goes).copies

@@ -1,0 +1,222 @@
+-- Volumes that are started, read and written hold no header.
+use Rattle.std.proofs.Common.{◌≡◌, ◌⊎◌, ℕ, ◌+◌, nat_lt, true, false, Bool, cond, List, [], ◌∷◌, Option, Some, None, MatchOption, MatchBool, refl, sym, ◌∙◌, ap, subst, inl, inr}
+use Rattle.vx_base.specs.Blocks.{Contents, is_in}
+use Rattle.vx_base.specs.Named.{Word, put}
+use Rattle.vx_base.proofs.NamedLemmas.{put_same, put_other, name_cases}
+use Rattle.vx_header.specs.Named.{header_of}
+use Rattle.vx_life.specs.declared.EntryKind.{EntryKind}
+use Rattle.vx_life.specs.declared.EntryKind.TheVariants as kinds
+use Rattle.vx_life.specs.Candidates.{Values, Any, OneOf, IsAmong, or_also, Candidates}
+use Rattle.vx_life.specs.Entry.{Entry, values_after, candidates_after, ReadsAmong}
+use Rattle.vx_life.specs.Life.{Life, life_after, GoesOn}
+use Rattle.vx_copies.specs.Lists.{AllOf}
+use Rattle.vx_script_forms.specs.declared.call.Call.{Call}
+use Rattle.vx_script_forms.specs.declared.call.Call.TheVariants as calls
+use Rattle.vx_answers.specs.declared.answer.End.{End}
+use Rattle.vx_answers.specs.declared.answer.End.TheVariants as ends
+use Rattle.vx_answers.specs.declared.refusal.Refusal.TheVariants.{NotStarted, Range}
+use Rattle.vx_moments.specs.World.{World, Device, Volume, Member, Group}
+use Rattle.vx_moments.specs.Moment.{Moment, Rests}
+use Rattle.vx_moments.specs.Holding.{IsLent, IsMemberDevice, HasDevice}
+use Rattle.vx_plans.specs.Calls.{volume_of, start_of, count_of, values_of, done_kind, failed_kind, IsOf, AreOf, Tells, IsServed, CallRuns}
+use Rattle.vx_plans.specs.Stages.{IsBare, bare_volume, HasNoHeader}
+use Rattle.vx_sound.specs.Standing.{HoldsNoHeader, IsStanding}
+use Rattle.vx_sound.proofs.Headed.{none_filled, never_some, some_same}
+use Rattle.vx_sound.proofs.Fewer.{HadEach, HasOrNone}
+use Rattle.vx_sound.proofs.Lists.{all_from, all_imp, all_without}
+use Rattle.vx_sound.proofs.Settled.{MemberStays, standing_still}
+
+-- ---- a volume is started
+
+module _ (w : World) (vol name : Word) (device : Device) (free : w.volumes vol ≡ None) (was : w.devices name ≡ Some device) (blank : header_of (device.contents 0) ≡ None) (idle : IsMemberDevice w.group name → ⊥) where
+  abbrev after : World
+  after = record w { volumes = put vol (Some (bare_volume name device)) w.volumes }
+
+  lent_still : (other : Word) → IsLent w other → IsLent after other
+  lent_still other (v, volume, is, lies) = elim (name_cases vol v) [
+    | inl same ↦ never_some (w.volumes vol) volume free (ap (λ (n : Word). w.volumes n) same ∙ is)
+    | inr differ ↦ (v, volume, put_other vol v (Some (bare_volume name device)) w.volumes differ ∙ is, lies)
+  ]
+
+  lent_now : (other : Word) → IsLent after other → IsLent w other ⊎ (name ≡ other)
+  lent_now other (v, volume, is, lies) = elim (name_cases vol v) [
+    | inl same ↦
+        let here : bare_volume name device ≡ volume = some_same (bare_volume name device) volume (sym (put_same vol (Some (bare_volume name device)) w.volumes) ∙ ap (λ (n : Word). put vol (Some (bare_volume name device)) w.volumes n) same ∙ is) in
+        inr (subst (λ (x : Volume). HasDevice x.lies other) (sym here) lies)
+    | inr differ ↦ inl (v, volume, sym (put_other vol v (Some (bare_volume name device)) w.volumes differ) ∙ is, lies)
+  ]
+
+  back : (dg : Word) → HadEach dg w after
+  back dg other slot d h = record { device = h.device; apart = λ lent. h.apart (lent_still other lent); label = h.label; header = h.header; group = h.group; slot_is = h.slot_is; size = h.size }
+
+  fore : (dg : Word) → HasOrNone dg w after
+  fore dg other slot d h = inl (record {
+    device = h.device;
+    apart = λ lent. elim (lent_now other lent) [
+      | inl before ↦ h.apart before
+      | inr here ↦
+          let same : device ≡ d = some_same device d (sym was ∙ ap (λ (n : Word). w.devices n) here ∙ h.device) in
+          never_some (header_of (device.contents 0)) h.label blank (ap (λ (x : Device). header_of (x.contents 0)) same ∙ h.header)
+    ];
+    label = h.label;
+    header = h.header;
+    group = h.group;
+    slot_is = h.slot_is;
+    size = h.size;
+  })
+
+  member_stays : (m : Member) → (m.device ≡ name → ⊥) → MemberStays w after m
+  member_stays m differs = record { device = refl; apart = λ lent. elim (lent_now m.device lent) [ inl before ↦ before | inr here ↦ absurd (differs (sym here)) ] }
+
+  members_stay : (g : Option Group) → (IsMemberDevice g name → ⊥) → MatchOption g (Unit {0}) (λ g. AllOf (MemberStays w after) g.members)
+  members_stay None idle = tt
+  members_stay (Some g) idle = all_imp (λ m. m.device ≡ name → ⊥) (MemberStays w after) g.members member_stays (all_without (λ m. m.device ≡ name) g.members idle)
+
+  bare_holds : HoldsNoHeader (bare_volume name device)
+  bare_holds value (inl same) = ap header_of same ∙ blank
+  bare_holds value (inr none) = absurd none
+
+  pub standing_started : IsStanding w → IsStanding after
+  standing_started s = standing_still w after (record { had = back; stays = fore; group = refl; members = members_stay w.group idle }) s (λ v volume is. elim (name_cases vol v) [
+    | inl same ↦ subst HoldsNoHeader (some_same (bare_volume name device) volume (sym (put_same vol (Some (bare_volume name device)) w.volumes) ∙ ap (λ (n : Word). put vol (Some (bare_volume name device)) w.volumes n) same ∙ is)) bare_holds
+    | inr differ ↦ s.volumes v volume (sym (put_other vol v (Some (bare_volume name device)) w.volumes differ) ∙ is)
+  ])
+
+pub standing_bare : (vol name : Word) (old new : World) → IsStanding old → old.volumes vol ≡ None → HasNoHeader old name → (IsMemberDevice old.group name → ⊥) → IsBare vol name old new → IsStanding new
+standing_bare vol name old new s free (d, is, blank) idle made =
+    let same : d ≡ made.device = some_same d made.device (sym is ∙ made.was) in
+    subst IsStanding (sym made.is) (standing_started old vol name made.device free made.was (ap (λ (x : Device). header_of (x.contents 0)) (sym same) ∙ blank) idle s)
+
+-- ---- a volume lives on
+
+-- none of the values is a header
+abbrev AreNoHeaders : Values → Type 0
+AreNoHeaders values = (value : List ℕ) → IsAmong values value → header_of value ≡ None
+
+-- an entry puts no header at the front
+record IsHeaderless (e : Entry) : Type 0 where
+  written : e.kind ≡ kinds.Write → is_in e.start e.count 0 ≡ true → header_of (e.values 0) ≡ None
+  torn : e.kind ≡ kinds.Torn → is_in e.start e.count 0 ≡ true → header_of (e.values 0) ≡ None
+
+one_value : (value : List ℕ) → header_of value ≡ None → AreNoHeaders (OneOf (value ∷ []))
+one_value value none other (inl same) = ap header_of same ∙ none
+one_value value none other (inr never) = absurd never
+
+also_none : (value : List ℕ) (values : Values) → header_of value ≡ None → AreNoHeaders values → AreNoHeaders (or_also value values)
+also_none value Any none was other is = was other is
+also_none value (OneOf values) none was other (inl same) = ap header_of same ∙ none
+also_none value (OneOf values) none was other (inr more) = was other more
+
+entry_keeps : (e : Entry) (candidates : Candidates) → IsHeaderless e → ReadsAmong e.kind candidates e → AreNoHeaders (candidates 0) → AreNoHeaders (candidates_after e candidates 0)
+entry_keeps e candidates less reads was = by (is_in e.start e.count 0) refl
+  where
+    of_kind : is_in e.start e.count 0 ≡ true → (kind : EntryKind) → e.kind ≡ kind → ReadsAmong kind candidates e → AreNoHeaders (values_after kind (e.values 0) (candidates 0))
+    of_kind here kinds.Read is among = one_value (e.values 0) (was (e.values 0) (among 0 here))
+    of_kind here kinds.Write is among = one_value (e.values 0) (less.written is here)
+    of_kind here kinds.Torn is among = also_none (e.values 0) (candidates 0) (less.torn is here) was
+    of_kind here kinds.Missed is among = was
+
+    by : (b : Bool) → is_in e.start e.count 0 ≡ b → AreNoHeaders (cond b (values_after e.kind (e.values 0) (candidates 0)) (candidates 0))
+    by true here = of_kind here e.kind refl reads
+    by false here = was
+
+life_keeps : (es : List Entry) (old new : Life) → AllOf IsHeaderless es → GoesOn old es new → AreNoHeaders (old.candidates 0) → AreNoHeaders (new.candidates 0)
+life_keeps [] old new less goes was = subst (λ (l : Life). AreNoHeaders (l.candidates 0)) (sym goes) was
+life_keeps (e ∷ es) old new less goes was = life_keeps es (life_after e old) new less.1 goes.1 (entry_keeps e old.candidates less.0 goes.0.reads was)
+
+-- the values of this kind are no headers
+abbrev WritesNone : EntryKind → Contents → Type 0
+WritesNone kinds.Write values = header_of (values 0) ≡ None
+WritesNone kinds.Torn values = header_of (values 0) ≡ None
+WritesNone kinds.Read values = Unit {0}
+WritesNone kinds.Missed values = Unit {0}
+
+headerless : (place : ℕ) (kind : EntryKind) (values : Contents) (e : Entry) → WritesNone kind values → IsOf place kind values e → IsHeaderless e
+headerless place kind values e none of = record {
+  written = λ is here. ap header_of (of.values_are 0 here) ∙ subst (λ (k : EntryKind). WritesNone k values) (sym of.kind_is ∙ is) none;
+  torn = λ is here. ap header_of (of.values_are 0 here) ∙ subst (λ (k : EntryKind). WritesNone k values) (sym of.kind_is ∙ is) none;
+}
+
+all_headerless : (place : ℕ) (kind : EntryKind) (values : Contents) (es : List Entry) → WritesNone kind values → AreOf place kind values es → AllOf IsHeaderless es
+all_headerless place kind values [] none of = tt
+all_headerless place kind values (e ∷ es) none of = (headerless place kind values e none of.0, all_headerless place kind values es none of.1)
+
+-- the call is one that is built
+abbrev pub IsBuilt : Call → Type 0
+IsBuilt (calls.Read vol start count) = Unit {0}
+IsBuilt (calls.Fill vol start count byte) = Unit {0}
+IsBuilt (calls.Data vol start blocks) = ⊥
+
+done_none : (call : Call) (blocks : List ℕ) → IsBuilt call → WritesNone (done_kind call) (values_of call blocks)
+done_none (calls.Read vol start count) blocks built = tt
+done_none (calls.Fill vol start count byte) blocks built = none_filled byte
+done_none (calls.Data vol start data_blocks) blocks built = absurd built
+
+failed_none : (call : Call) → IsBuilt call → WritesNone (failed_kind call) (values_of call [])
+failed_none (calls.Read vol start count) built = tt
+failed_none (calls.Fill vol start count byte) built = none_filled byte
+failed_none (calls.Data vol start blocks) built = absurd built
+
+told_headerless : (place : ℕ) (call : Call) (v : Volume) (end : End) (es : List Entry) → IsBuilt call → Tells place call v end es → AllOf IsHeaderless es
+told_headerless place call v (ends.Done copied parts blocks) es built tells = all_headerless place (done_kind call) (values_of call blocks) es (done_none call blocks built) tells.2.each
+told_headerless place call v (ends.Fault told device parts) es built tells = all_headerless place (failed_kind call) (values_of call []) es (failed_none call built) tells.1
+told_headerless place call v (ends.Lost parts) es built tells = all_headerless place (failed_kind call) (values_of call []) es (failed_none call built) tells.1
+told_headerless place call v (ends.Refused refusal) es built tells = absurd tells
+told_headerless place call v ends.ShelfFailed es built tells = absurd tells
+told_headerless place call v ends.GroupLost es built tells = absurd tells
+
+module _ (w : World) (vol : Word) (v : Volume) (life : Life) (was : w.volumes vol ≡ Some v) (holds : AreNoHeaders (life.candidates 0)) where
+  abbrev on : World
+  on = record w { volumes = put vol (Some (record v { life = life })) w.volumes }
+
+  lent_on : (other : Word) → IsLent w other → IsLent on other
+  lent_on other (u, volume, is, lies) = elim (name_cases vol u) [
+    | inl same ↦
+        let here : v ≡ volume = some_same v volume (sym was ∙ ap (λ (n : Word). w.volumes n) same ∙ is) in
+        (vol, record v { life = life }, put_same vol (Some (record v { life = life })) w.volumes, subst (λ (x : Volume). HasDevice x.lies other) (sym here) lies)
+    | inr differ ↦ (u, volume, put_other vol u (Some (record v { life = life })) w.volumes differ ∙ is, lies)
+  ]
+
+  lent_before : (other : Word) → IsLent on other → IsLent w other
+  lent_before other (u, volume, is, lies) = elim (name_cases vol u) [
+    | inl same ↦
+        let here : record v { life = life } ≡ volume = some_same (record v { life = life }) volume (sym (put_same vol (Some (record v { life = life })) w.volumes) ∙ ap (λ (n : Word). put vol (Some (record v { life = life })) w.volumes n) same ∙ is) in
+        (vol, v, was, subst (λ (x : Volume). HasDevice x.lies other) (sym here) lies)
+    | inr differ ↦ (u, volume, sym (put_other vol u (Some (record v { life = life })) w.volumes differ) ∙ is, lies)
+  ]
+
+  on_back : (dg : Word) → HadEach dg w on
+  on_back dg other slot d h = record { device = h.device; apart = λ lent. h.apart (lent_on other lent); label = h.label; header = h.header; group = h.group; slot_is = h.slot_is; size = h.size }
+
+  on_fore : (dg : Word) → HasOrNone dg w on
+  on_fore dg other slot d h = inl (record { device = h.device; apart = λ lent. h.apart (lent_before other lent); label = h.label; header = h.header; group = h.group; slot_is = h.slot_is; size = h.size })
+
+  on_members : (g : Option Group) → MatchOption g (Unit {0}) (λ g. AllOf (MemberStays w on) g.members)
+  on_members None = tt
+  on_members (Some g) = all_from (MemberStays w on) g.members (λ m. record { device = refl; apart = lent_before m.device })
+
+  pub standing_on : IsStanding w → IsStanding on
+  standing_on s = standing_still w on (record { had = on_back; stays = on_fore; group = refl; members = on_members w.group }) s (λ u volume is. elim (name_cases vol u) [
+    | inl same ↦ subst HoldsNoHeader (some_same (record v { life = life }) volume (sym (put_same vol (Some (record v { life = life })) w.volumes) ∙ ap (λ (n : Word). put vol (Some (record v { life = life })) w.volumes n) same ∙ is)) holds
+    | inr differ ↦ s.volumes u volume (sym (put_other vol u (Some (record v { life = life })) w.volumes differ) ∙ is)
+  ])
+
+-- a call leaves the world sound
+pub standing_served : (place : ℕ) (call : Call) (old : Moment) (end : End) (new : Moment) → IsBuilt call → IsStanding old.world → CallRuns place call old end new → IsStanding new.world
+standing_served place call old end new built s runs = by (old.world.volumes (volume_of call)) refl runs
+  where
+    served : (v : Volume) → old.world.volumes (volume_of call) ≡ Some v → IsServed place call v old end new → IsStanding new.world
+    served v is done =
+        let less = told_headerless place call v end done.lives.entries built done.lives.told in
+        subst IsStanding (sym done.world)
+        (standing_on old.world (volume_of call) v done.life is (life_keeps done.lives.entries v.life done.life less done.lives.goes_on (s.volumes (volume_of call) v is)) s)
+
+    in_range : (v : Volume) → old.world.volumes (volume_of call) ≡ Some v → (b : Bool) → MatchBool b ((end ≡ ends.Refused Range) × Rests old new) (IsServed place call v old end new) → IsStanding new.world
+    in_range v is true refused = subst IsStanding (sym refused.1.stays.world) s
+    in_range v is false done = served v is done
+
+    by : (o : Option Volume) → old.world.volumes (volume_of call) ≡ o
+        → MatchOption o ((end ≡ ends.Refused (NotStarted (volume_of call))) × Rests old new) (λ v. MatchBool (nat_lt v.length (start_of call + count_of call)) ((end ≡ ends.Refused Range) × Rests old new) (IsServed place call v old end new))
+        → IsStanding new.world
+    by None is refused = subst IsStanding (sym refused.1.stays.world) s
+    by (Some v) is h = in_range v is (nat_lt v.length (start_of call + count_of call)) h

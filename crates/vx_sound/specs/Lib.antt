@@ -1,0 +1,4 @@
+pub mod Offers
+pub mod Sound
+pub mod Standing
+pub mod Laws

@@ -7,6 +7,7 @@ use Rattle.vx_script.specs.Script.{Place, script_of}
 use Rattle.vx_script.specs.declared.command.Command.{Command}
 use Rattle.vx_house.specs.Scene.{Shelved}
 use Rattle.vx_serve.specs.Ends.{CarriesOut, StopsShort}
+use Rattle.vx_serve.specs.Soundly.{StaysSound}
 
 -- the words are `--images` and a folder
 abbrev pub is_form : List (List ℕ) → Bool
@@ -70,3 +71,8 @@ IsNoScript place left left' = (bytes : List ℕ) → left ≡ Some bytes → (le
 -- the line names the place at which the bytes of the source are no script
 abbrev pub TellsFault : Option (List ℕ) → Option (List ℕ) → Option (List ℕ) → Option (List ℕ) → ℕ → ℕ → Type 0
 TellsFault left left' taken taken' before now = (place : Place) × TellsPlace place taken taken' before now × IsNoScript place left left'
+
+-- Where the source's bytes spell commands of which none puts a header at the front of a volume, and the configuration
+-- copies on the shelf were sound, they are sound.
+abbrev pub LeavesSound : Option (List ℕ) → Shelved → Shelved → Type 0
+LeavesSound left old new = (bytes : List ℕ) (commands : List Command) → left ≡ Some bytes → script_of bytes ≡ Ok commands → StaysSound commands old new

@@ -1,9 +1,11 @@
-ghost use Rattle.std.specs.Prelude.{◌≡◌, ◌≢◌, ◌⊎◌, ◌↔◌, ◌+◌, ◌<◌, ◌≤◌, ℕ, List, true, false, Err, map, length, codes};
+ghost use Rattle.std.specs.Prelude.{◌≡◌, ◌≢◌, ◌⊎◌, ◌↔◌, ◌+◌, ◌<◌, ◌≤◌, ℕ, List, true, false, Ok, Err, map, length, codes};
 ghost use Rattle.vx_base.specs.Counts.{Rose};
 ghost use Rattle.vx_script.specs.Script.{Place, script_of};
 ghost use Rattle.vx_house.specs.Closing.{NoneHeld};
 ghost use Rattle.vx_house.specs.Scene.{shelved};
-ghost use Rattle.vx_run.specs.Top.{is_form, longest, HasPassedMore, HasPassedFew, TellsLine, TellsPlace, TellsFault, IsSpelledRun, IsSpelledStop, IsCarriedThrough, IsCutOff};
+ghost use Rattle.vx_script.specs.declared.command.Command.{Command};
+ghost use Rattle.vx_serve.specs.Soundly.{StaysSound};
+ghost use Rattle.vx_run.specs.Top.{is_form, longest, HasPassedMore, HasPassedFew, TellsLine, TellsPlace, TellsFault, IsSpelledRun, IsSpelledStop, IsCarriedThrough, IsCutOff, LeavesSound};
 
 use crate::place::line_of_place;
 use crate::source::{Unread, read_all};
@@ -45,6 +47,10 @@ pub fn run<S: Shelf, A: Source, B: Sink>(
     ensures no_memory { result ≡ 6 → ((shelf.new ≡ shelf.old) × (sink.new ≡ sink.old)) ⊎ IsCutOff (A.left source.old) (A.left source.new)
         (shelved S.free S.held S.counted S.faults shelf.old) (B.taken sink.old)
         (shelved S.free S.held S.counted S.faults shelf.new) (B.taken sink.new) }
+
+    // At every status: where the configuration copies of all groups were sound, so that no import takes an older one for
+    // the newest, and no command puts a header at the front of a volume, they are sound at the end.
+    ensures sound { LeavesSound (A.left source.old) (shelved S.free S.held S.counted S.faults shelf.old) (shelved S.free S.held S.counted S.faults shelf.new) }
 
     // At 1 and 2 the line of the status was written, at 2 with the place where the bytes are no script, and at 3 and 7
     // nothing; no device was touched.
@@ -101,6 +107,7 @@ fn run_bytes<S: Shelf, B: Sink>(alloc: Global, shelf: &mut S, sink: &mut B, byte
     ensures no_memory { result ≡ 6 → ((shelf.new ≡ shelf.old) × (sink.new ≡ sink.old)) ⊎ IsSpelledStop bytes.now
         (shelved S.free S.held S.counted S.faults shelf.old) (B.taken sink.old)
         (shelved S.free S.held S.counted S.faults shelf.new) (B.taken sink.new) }
+    ensures sound { (commands : List Command) → script_of bytes.now ≡ Ok commands → StaysSound commands (shelved S.free S.held S.counted S.faults shelf.old) (shelved S.free S.held S.counted S.faults shelf.new) }
     ensures script { result ≡ 2 → (place : Place) × TellsPlace place (B.taken sink.old) (B.taken sink.new) (B.faults sink.old) (B.faults sink.new) × (script_of bytes.now ≡ Err place) × (shelf.new ≡ shelf.old) }
     ensures known { (result ≡ 0) ⊎ ((result ≡ 2) ⊎ ((result ≡ 4) ⊎ ((result ≡ 5) ⊎ (result ≡ 6)))) }
     ensures sink { result ≡ 4 → Rose (B.faults sink.old) (B.faults sink.new) }

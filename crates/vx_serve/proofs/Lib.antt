@@ -1,3 +1,4 @@
 pub mod Ran
 pub mod Ended
 mod Told
+mod Soundly

@@ -11,6 +11,7 @@ ghost use Rattle.vx_house.specs.View.{Keeps, at};
 ghost use Rattle.vx_serve.specs.Fine.{is_fine};
 ghost use Rattle.vx_serve.specs.Run.{HasRun, HasRunPartly};
 ghost use Rattle.vx_serve.specs.Ends.{CarriesOut, StopsShort};
+ghost use Rattle.vx_serve.specs.Soundly.{StaysSound};
 ghost use Rattle.vx_serve.specs.declared.lines.Stop.TheVariants as stops;
 
 use crate::fine::is_fine;
@@ -146,6 +147,7 @@ pub fn run_commands<S: Shelf, B: Sink>(
     ensures partly { OnErr result (StopsShort commands.now
         (shelved S.free S.held S.counted S.faults shelf.old) (B.taken sink.old)
         (shelved S.free S.held S.counted S.faults shelf.new) (B.taken sink.new)) }
+    ensures sound { StaysSound commands.now (shelved S.free S.held S.counted S.faults shelf.old) (shelved S.free S.held S.counted S.faults shelf.new) }
     ensures back { NoneHeld (S.held shelf.new) }
     ensures cause { IsErrOf result Stop.SinkFailed → Rose (B.faults sink.old) (B.faults sink.new) }
     ensures quiet { OnOk result (B.faults sink.new ≡ B.faults sink.old) }

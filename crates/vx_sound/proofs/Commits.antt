@@ -1,5 +1,5 @@
 -- What each commit of a command leaves.
-use Rattle.std.proofs.Common.{◌≡◌, ◌⊎◌, ℕ, [], Option, Some, MatchOption, sym, ◌∙◌, ap, subst, inl, inr}
+use Rattle.std.proofs.Common.{◌≡◌, ◌⊎◌, ℕ, [], Option, Some, MatchOption, sym, ◌∙◌, ap, subst, inl, inr, List}
 use Rattle.vx_base.specs.Named.{Word}
 use Rattle.vx_base.proofs.NamedLemmas.{bytes_eq_same}
 use Rattle.vx_copies.specs.Image.{Offer}
@@ -11,11 +11,11 @@ use Rattle.vx_moments.specs.World.{World, Volume, Group}
 use Rattle.vx_moments.specs.Moment.{Moment, Counts}
 use Rattle.vx_moments.specs.Commit.{Writing, IsCommitting, IsCommitted, IsStopped}
 use Rattle.vx_plans.specs.Finding.{group_found, import_records}
-use Rattle.vx_plans.specs.Stages.{IsChange, IsImporting, edits_of}
+use Rattle.vx_plans.specs.Stages.{IsChange, IsImporting, edits_of, IsMaking}
 use Rattle.vx_plans.specs.declared.stage.Change.{Change}
 use Rattle.vx_plans.proofs.Carriers.{FoundBy, found_by}
 use Rattle.vx_sound.specs.Standing.{HoldsNoHeader, IsLeading, IsStanding}
-use Rattle.vx_sound.proofs.Edited.{IsGrown, change_grown, import_grown}
+use Rattle.vx_sound.proofs.Edited.{IsGrown, change_grown, make_grown, import_grown}
 use Rattle.vx_sound.proofs.Ready.{IsReady}
 use Rattle.vx_sound.proofs.Led.{IsLed, led, ready_alone}
 use Rattle.vx_sound.proofs.Imported.{found_led}
@@ -59,6 +59,9 @@ imported_led w g s here =
 
 pub change_ready : (change : Change) (w : World) (x : Writing) → IsStanding w → IsChange (edits_of change w.group) w x → IsReady x w
 change_ready change w x s is = ready_alone x w (imported_led w x.group s is.group) (change_grown change w.group x.group.config x.config is.edited) is.joiners is.carriers
+
+pub make_ready : (text : List ℕ) (w : World) (x : Writing) → IsStanding w → IsMaking text w x → IsReady x w
+make_ready text w x s is = ready_alone x w (imported_led w x.group s is.change.group) (make_grown is.added x.group.config x.config is.change.edited) is.change.joiners is.change.carriers
 
 pub import_ready : (dg : Word) (w : World) (x : Writing) (old new : Counts) → IsStanding w → IsImporting dg w x old new → IsReady x w
 import_ready dg w x old new s is = by (found_by dg w is.found.unread is.found.counted F is.finds)

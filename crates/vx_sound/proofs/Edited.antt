@@ -18,7 +18,7 @@ use Rattle.vx_parts.specs.declared.object.Object.TheVariants.{GroupRecord, DiskR
 use Rattle.vx_parts.specs.Objects.{refers}
 use Rattle.vx_objects.specs.declared.config.Config.{Config}
 use Rattle.vx_objects.specs.declared.edit.Edit.{Edit}
-use Rattle.vx_objects.specs.declared.edit.Edit.TheVariants.{AddDisk, SetVol, RemoveVol}
+use Rattle.vx_objects.specs.declared.edit.Edit.TheVariants.{AddDisk, Make, SetVol, RemoveVol}
 use Rattle.vx_objects.specs.Applied.{IsEdited}
 use Rattle.vx_objects.specs.Config.{objects_of}
 use Rattle.vx_objects.specs.Edits.{change, added, edited, kept, names_plex_of}
@@ -93,6 +93,10 @@ remove_kept : (vol : Word) → IsKeeping (RemoveVol vol)
 unfolding change
 remove_kept vol = record { disks = remove_keeps vol; group = λ all g. refl }
 
+make_kept : (xs : List Object) → IsKeeping (Make xs)
+unfolding change disk_in
+make_kept xs = record { disks = λ all o. refl; group = λ all g. refl }
+
 add_kept : (disk : Disk) → IsKeeping (AddDisk disk)
 unfolding change disk_in
 add_kept disk = record { disks = λ all o. refl; group = λ all g. refl }
@@ -130,6 +134,10 @@ module _ (e : Edit) (keeps : IsKeeping e) (old new : Config) (made : IsEdited (e
 
 none_grown : (old new : Config) → IsEdited [] old new → IsGrown old new
 none_grown old new made = same_grown old new (ap name_first made) (disks_made new (objects_of old) made ∙ disks_in old)
+
+-- records that are added
+pub make_grown : (xs : List Object) (old new : Config) → IsEdited (Make xs ∷ []) old new → IsGrown old new
+make_grown xs old new made = one_grown (Make xs) (make_kept xs) old new made
 
 -- a change of a volume
 pub change_grown : (c : Change) (g : Option Group) (old new : Config) → IsEdited (edits_of c g) old new → IsGrown old new

@@ -15,4 +15,4 @@ mod Volumes
 mod Joining
 mod Commits
 mod Runs
-mod Steps
+pub mod Steps

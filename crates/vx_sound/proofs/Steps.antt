@@ -41,7 +41,7 @@ use Rattle.vx_sound.specs.Laws.{FormWritesNoHeader, WriteNoHeader, IsIdle}
 use Rattle.vx_sound.specs.Sound.{AreSound}
 use Rattle.vx_sound.specs.Standing.{IsLeading, IsStanding}
 use Rattle.vx_sound.proofs.Headed.{never_some}
-use Rattle.vx_sound.proofs.Commits.{Ends, commit_done, commit_stopped, change_ready, import_ready, imported_led}
+use Rattle.vx_sound.proofs.Commits.{Ends, commit_done, commit_stopped, change_ready, make_ready, import_ready, imported_led}
 use Rattle.vx_sound.proofs.Devices.{standing_image, standing_torn, standing_wiped}
 use Rattle.vx_sound.proofs.Joining.{all_unheld, all_blank, room_for, ready_join, ready_create}
 use Rattle.vx_sound.proofs.Ready.{IsReady}
@@ -98,6 +98,17 @@ change_ends change disks finish old views end new s runs =
     (λ m done. commit_done done.0 old m s (change_ready change old.world done.0 s done.1) done.2)
     (λ stops. edits_end (λ g. edits_of change (Some g)) (λ x. IsChange (edits_of change old.world.group) old.world x) old end new s (λ x is. change_ready change old.world x s is) stops)
     runs
+
+make_ends : (text : List ℕ) (disks : List DiskAt) (finish : Finish) (old : Moment) (views : List View) (end : End) (new : Moment) → IsStanding old.world → Runs disks (stage.Make text ∷ []) finish old views end new → Ends end new.world
+make_ends text disks finish old views end new s runs =
+    one_stage (stage.Make text) disks finish old views end new
+    (λ m done. commit_done done.0 old m s (make_ready text old.world done.0 s done.1) done.2)
+    stops runs
+  where
+    stops : Stops (stage.Make text) disks old end new → Ends end new.world
+    stops (inl (none, ends)) = same_ends end old.world new.world ends.1.stays.world s
+    stops (inr (inl (why, rests))) = same_ends end old.world new.world rests.stays.world s
+    stops (inr (inr (x, is, stopped))) = commit_stopped x old end new s (make_ready text old.world x s is) stopped
 
 image_ends : (name : Word) (sectors : ℕ) (disks : List DiskAt) (finish : Finish) (old : Moment) (views : List View) (end : End) (new : Moment) → IsStanding old.world → Runs disks (stage.MakeImage name sectors ∷ []) finish old views end new → Ends end new.world
 image_ends name sectors disks finish old views end new s runs =
@@ -237,7 +248,9 @@ module _ (old : Moment) (views : List View) (end : End) (new : Moment) (s : IsSt
   form_ends place dg (form.Rdpol vol how) does = policy_ends dg vol how does
   form_ends place dg (form.RemoveVolume vol) does =
       gated (stage.Gate (tests.GroupIs dg) ∷ stage.Gate (tests.HasVolume vol) ∷ stage.Gate (tests.Stopped vol) ∷ stage.Gate (tests.Unrelated vol) ∷ []) (changes.Remove vol) (refl, (refl, (refl, (refl, tt)))) does
-  form_ends place dg (form.VxMake text) does = not_built does
+  form_ends place dg (form.VxMake text) does =
+      let calm = stage.Gate (tests.GroupIs dg) ∷ [] in
+      at_last calm (stage.Make text ∷ []) [] Nothing old views end new s (λ mid t passed runs. make_ends text [] Nothing mid views end new t runs) (runs_through calm (stage.Make text ∷ []) [] Nothing old views end new (refl, tt) does)
   form_ends place dg (form.PrintHt vol) does = not_built does
   form_ends place dg (form.AssistMake vol length attrs disks) does = not_built does
   form_ends place dg (form.Mirror vol disks) does = not_built does

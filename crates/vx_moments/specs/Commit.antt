@@ -86,6 +86,10 @@ pub record IsInOrder (o p : Offer) (slot : ℕ) : Type 0 where
 abbrev pub AreInOrder : Writing → World → Type 0
 AreInOrder x w = AllOf (λ a. AllOf (λ b. (o p : Offer) → OffersSince x w a o → OffersSince x w b p → IsInOrder o p b.slot) (parties x)) (parties x)
 
+-- one of the members offers something that is newer than what the group had
+abbrev pub OneOffersSince : Writing → World → List Member → Type 0
+OneOffersSince x w members = AnyOf (λ m. (o : Offer) × OffersSince x w m o) members
+
 -- What a commit leaves, at whichever device call it ends, with the number of its last attempt.
 pub record IsCommitting (x : Writing) (last : ℕ) (old new : Moment) : Type 0 where
   pub text_is : IsTextOf x.config x.text
@@ -97,6 +101,8 @@ pub record IsCommitting (x : Writing) (last : ℕ) (old new : Moment) : Type 0 w
   pub members : AllOf (MemberGoes x last old new) x.group.members
   pub joiners : AllOf (JoinerGoes x last old new) x.joiners
   pub order : AreInOrder x new.world
+  -- where one of them offers something of the commit, one that carries it does: a disk that joins is written behind these
+  pub lead : OneOffersSince x new.world (parties x) → OneOffersSince x new.world x.carriers
   pub others : (name : Word) → IsNoDeviceOf (parties x) name → new.world.devices name ≡ old.world.devices name
   pub volumes : new.world.volumes ≡ old.world.volumes
   pub reads : (name : Word) → new.counts.reads name ≡ old.counts.reads name

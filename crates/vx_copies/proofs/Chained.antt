@@ -215,7 +215,7 @@ each_first R (suc n) [] (b ∷ bs) is = absurd is
 each_first R (suc n) (a ∷ hs) [] is = absurd is
 each_first R (suc n) (a ∷ hs) (b ∷ bs) is = (is.0, each_first R n hs bs is.1)
 
-all_first : {X : Type 0} (Q : X → Type 0) (n : ℕ) (xs : List X) → AllOf Q xs → AllOf Q (take n xs)
+pub all_first : {X : Type 0} (Q : X → Type 0) (n : ℕ) (xs : List X) → AllOf Q xs → AllOf Q (take n xs)
 all_first Q zero xs all = tt
 all_first Q (suc n) [] all = tt
 all_first Q (suc n) (x ∷ xs) all = (all.0, all_first Q n xs all.1)

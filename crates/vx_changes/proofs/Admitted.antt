@@ -1,9 +1,9 @@
 -- A device that joins the imported group by a commit, or is lost with it.
-use Rattle.std.proofs.Common.{◌≡◌, ◌≢◌, ◌∙◌, ℕ, ◌+◌, List, [], ◌∷◌, ◌++◌, map, length, take, drop, Some, refl, sym, ap, subst}
+use Rattle.std.proofs.Common.{◌≡◌, ◌≢◌, ◌∙◌, ℕ, ◌+◌, List, [], ◌∷◌, ◌++◌, map, length, take, drop, Some, refl, sym, ap, subst, inl}
 use Rattle.std.specs.Prelude.{IfSome}
 use Rattle.std.proofs.lemmas.List.{take-append-drop}
 use Rattle.vx_piece.specs.Seen.{Seen}
-use Rattle.vx_copies.specs.Chain.{AreInOrder}
+use Rattle.vx_copies.specs.Chain.{AreInOrder, OneOffersSince}
 use Rattle.vx_copies.specs.Disks.{Held, held, Goes}
 use Rattle.vx_copies.specs.Lists.{AllOf, Each}
 use Rattle.vx_copies.specs.Written.{Touches, IsQuiet}
@@ -143,7 +143,7 @@ module _ {P : Type 0} {see : P → Seen} {shelf : Shelved} {pair : DiskAt} {old 
     sound = (refl, tt);
   }
 
-  pub written : AreWritten (world_group see g) next text number hs bs js ks
+  pub written : AreWritten (world_group see g) next text (map member_in hs) number hs bs js ks
   written = record {
     few = a.taken.few;
     once = λ quiet. a.enlisted.once (subst (Each IsQuiet (hs ++ js)) whole quiet);
@@ -152,6 +152,12 @@ module _ {P : Type 0} {see : P → Seen} {shelf : Shelved} {pair : DiskAt} {old 
     touched = touched_by first number text Masks hs bs kept.carries.alive.ready a.taken.goes touches;
     enlisted = joins_enlisted g.base.name first number text Masks js ks a.taken.joins next.group same_name ((refl, refl), tt) enlists;
     order = subst (AreInOrder next.group g.base.sequence) (sym whole) (subst (λ n. AreInOrder n g.base.sequence (members see g'.base)) (sym same_name) a.taken.order);
+    lead = inl (
+      refl,
+      λ tells.
+          subst (λ l. OneOffersSince next.group g.base.sequence l → OneOffersSince next.group g.base.sequence bs) (sym whole)
+          (subst (λ n. OneOffersSince n g.base.sequence (members see g'.base) → OneOffersSince n g.base.sequence bs) (sym same_name) (a.taken.lead tells)),
+    );
   }
 
   -- what is written

@@ -1,5 +1,5 @@
 -- A group that is made of the devices in hand by a commit, or was to be made.
-use Rattle.std.proofs.Common.{◌≡◌, ◌∙◌, ℕ, ◌≤◌, true, List, [], ◌∷◌, ◌++◌, map, None, refl, sym, ap, subst}
+use Rattle.std.proofs.Common.{◌≡◌, ◌∙◌, ℕ, ◌≤◌, true, List, [], ◌∷◌, ◌++◌, map, None, refl, sym, ap, subst, inr}
 use Rattle.std.proofs.lemmas.List.{append-nil}
 use Rattle.vx_base.specs.Named.{Word}
 use Rattle.vx_piece.specs.Seen.{Seen}
@@ -84,7 +84,7 @@ module _ {P : Type 0} {see : P → Seen} {dg : Word} {pairs : List DiskAt} {shel
     sound = all_each IsWhole (λ j. j.good ≡ true) (λ h is. is.0) js whole;
   }
 
-  pub written : AreWritten before config text last [] [] js ks
+  pub written : AreWritten before config text (map member_in js) last [] [] js ks
   written = record {
     few = b.few;
     once = b.are.once;
@@ -93,6 +93,7 @@ module _ {P : Type 0} {see : P → Seen} {dg : Word} {pairs : List DiskAt} {shel
     touched = tt;
     enlisted = joins_enlisted dg 1 last text Masks js ks b.joins config.group group_name whole b.are.enlists;
     order = subst (λ n. AreInOrder n 0 ks) (sym group_name) b.order;
+    lead = inr refl;
   }
 
   -- what is written

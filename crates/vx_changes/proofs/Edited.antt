@@ -1,5 +1,5 @@
 -- Edits of the configuration that are committed, as a stage.
-use Rattle.std.proofs.Common.{◌≡◌, false, ◌∙◌, inl, inr, ℕ, ◌+◌, List, [], length, Some, None, Result, Ok, Err, refl, sym, ap, subst}
+use Rattle.std.proofs.Common.{◌≡◌, false, ◌∙◌, inl, inr, ℕ, ◌+◌, List, [], length, Some, Result, Ok, Err, refl, sym, ap, subst}
 use Rattle.std.specs.Prelude.{IfSome}
 use Rattle.vx_piece.specs.Seen.{Seen}
 use Rattle.vx_confdb.specs.Groups.{CarriesText}
@@ -26,10 +26,9 @@ use Rattle.vx_house.specs.declared.house.Imported.{Imported}
 use Rattle.vx_house.specs.declared.stop.Stop.{Stop}
 use Rattle.vx_house.specs.declared.stop.Stop.TheVariants as stops
 use Rattle.vx_house.proofs.Moments.{later_refl, faults_refl}
-use Rattle.vx_house.proofs.Takes.{rests_self}
 use Rattle.vx_house.proofs.Ended.{moment_but_group}
 use Rattle.vx_commits.proofs.Alone.{IsWrittenIn, alone, x_alone, lost_alone, cut_alone, committed_alone}
-use Rattle.vx_commits.proofs.Holders.{world_group, group_before}
+use Rattle.vx_commits.proofs.Holders.{group_before}
 use Rattle.vx_commits.proofs.Kept.{sized_now, slots_now, recorded_now}
 use Rattle.vx_commits.proofs.Staged.{done_stage, group_lost_stage, power_lost_stage}
 use Rattle.vx_changes.specs.Changing.{IsMeant, ChangeEnds}

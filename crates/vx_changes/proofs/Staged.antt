@@ -1,12 +1,10 @@
 -- A change of the configuration as a stage.
 use Rattle.std.proofs.Common.{◌≡◌, ◌∙◌, inl, inr, List, Some, None, Result, Err, refl, sym, ap, subst}
 use Rattle.vx_piece.specs.Seen.{Seen}
-use Rattle.vx_objects.specs.declared.config.Config.{Config}
-use Rattle.vx_objects.specs.Applied.{IsEdited}
 use Rattle.vx_answers.specs.declared.answer.End.TheVariants as ends
 use Rattle.vx_answers.specs.declared.refusal.Refusal.TheVariants as refusal
 use Rattle.vx_script_words.specs.declared.value.DiskAt.{DiskAt}
-use Rattle.vx_moments.specs.World.{World, Group}
+use Rattle.vx_moments.specs.World.{Group}
 use Rattle.vx_moments.specs.Moment.{Moment}
 use Rattle.vx_moments.specs.Commit.{Writing}
 use Rattle.vx_plans.specs.Stages.{IsChange, EditsRefused, edits_of}

@@ -133,7 +133,7 @@ module _ {P : Type 0} {see : P → Seen} {shelf : Shelved} {old : House P} {g g'
   same_masks = ap (λ l. IsMaskIn l bs) (sym then_is) ∙ ap (IsMaskIn (hs ++ [])) (sym now_is)
 
   module _ (m : Moment) (is : IsMomentButGroup see (at shelf old) m) (config : Config) (printed : IsTextOf config text) (short : length text ≤ 522240) (named : config.group ≡ g.base.name) where
-    written : AreWritten (world_group see g) config text number hs bs [] []
+    written : AreWritten (world_group see g) config text (map member_in hs) number hs bs [] []
     written = record {
       few = w.tried.committed.few;
       once = λ quiet. w.tried.recorded.once (each_front IsQuiet hs bs [] [] long quiet);
@@ -142,6 +142,7 @@ module _ {P : Type 0} {see : P → Seen} {shelf : Shelved} {old : House P} {g g'
       touched = subst (λ M. Each (IsTouched first number text M) hs bs) same_masks (touched_by first number text (IsMaskIn hs bs) hs bs w.writable.ready goes touches);
       enlisted = tt;
       order = subst (AreInOrder config.group g.base.sequence) (sym now_is) (subst (λ n. AreInOrder n g.base.sequence bs) (sym named) w.tried.committed.order);
+      lead = inr (ap (map member_in) (sym then_is));
     }
 
     -- the commit is stopped

@@ -31,7 +31,7 @@ use Rattle.vx_house.proofs.Listed.{all_front, all_back, all_unmapped}
 use Rattle.vx_house.proofs.Moments.{counts_own}
 use Rattle.vx_commits.proofs.Called.{holder_in, IsCalled, IsPair, holders_then, holders_now, scene_then, scene_now, goes_later, faults_go_on, next, pairs, devices_are_now, reads_same, shelf_same, left, later}
 use Rattle.vx_commits.proofs.Done.{all_quiet, risen_failed, cut_one, known, new_mask, all_carry, one_good, writes_once, headed_one, number_rose}
-use Rattle.vx_commits.proofs.Members.{member_in, IsGone, IsMemberWritten, IsJoinerWritten, writing, same_mask, written_good, is_committing}
+use Rattle.vx_commits.proofs.Members.{member_in, AreLed, IsGone, IsMemberWritten, IsJoinerWritten, writing, same_mask, written_good, is_committing}
 use Rattle.vx_commits.proofs.Slotted.{AreSlotted}
 use Rattle.vx_house.proofs.Lists.{each_two, each_second, each_front, each_back, all_of_each, any_front, any_back}
 
@@ -72,7 +72,7 @@ pub record AreCalled {P : Type 0} (see : P → Seen) (shelf : Shelved) (old new 
   pub sound : AllOf (λ j. j.good ≡ true) js
 
 -- what the attempts up to a number have written, however the commit ended
-pub record AreWritten (group : Group) (config : Config) (text : List ℕ) (number : ℕ) (hs bs js ks : List Held) : Type 0 where
+pub record AreWritten (group : Group) (config : Config) (text : List ℕ) (carriers : List Member) (number : ℕ) (hs bs js ks : List Held) : Type 0 where
   pub few : number ≤ group.sequence + 32
   pub once : Each IsQuiet (hs ++ js) (bs ++ ks) → number ≤ group.sequence + 1
   pub printed : IsTextOf config text
@@ -80,6 +80,7 @@ pub record AreWritten (group : Group) (config : Config) (text : List ℕ) (numbe
   pub touched : Each (IsTouched (group.sequence + 1) number text (IsMaskIn (hs ++ js) (bs ++ ks))) hs bs
   pub enlisted : Each (IsEnlisted config.group (group.sequence + 1) number text (IsMaskIn (hs ++ js) (bs ++ ks))) js ks
   pub order : AreInOrder config.group group.sequence (bs ++ ks)
+  pub lead : AreLed config.group group.sequence carriers hs bs js ks
 
 -- what a commit that is done has left
 pub record AreDone (group : Group) (config : Config) (text : List ℕ) (number : ℕ) (hs bs js ks : List Held) : Type 0 where
@@ -156,7 +157,7 @@ module _ {P : Type 0} {see : P → Seen} {shelf : Shelved} {old new : House P} {
     pub back_gone : Each (IsGone m n) js ks
     back_gone = each_back (IsGone m n) hs bs js ks s.long all_gone
 
-    module _ (group : Group) (config : Config) (text : List ℕ) (carriers : List Member) (number : ℕ) (w : AreWritten group config text number hs bs js ks) where
+    module _ (group : Group) (config : Config) (text : List ℕ) (carriers : List Member) (number : ℕ) (w : AreWritten group config text carriers number hs bs js ks) where
       abbrev x : Writing
       x = writing group config text carriers hs js
 
@@ -177,7 +178,7 @@ module _ {P : Type 0} {see : P → Seen} {shelf : Shelved} {old new : House P} {
           (λ a b gone is. record { gone = gone; idle = is.idle; names = is.names; touches = is.touches }) hs bs front_gone w.touched)
           (each_two (IsGone m n) (IsEnlisted config.group (group.sequence + 1) number text Masks) (IsJoinerWritten config.group (group.sequence + 1) number text Masks m n)
           (λ a b gone is. record { gone = gone; good = is.good; sectors = is.sectors; enlists = is.enlists }) js ks back_gone w.enlisted)
-          all_gone w.order
+          all_gone w.order w.lead
           (record {
             others = λ name none. (left shelf vs os (hs ++ js) (bs ++ ks) s.called apart (is_lent old) m devices_then counts_then own world name none).device;
             idle = λ name none. let it = left shelf vs os (hs ++ js) (bs ++ ks) s.called apart (is_lent old) m devices_then counts_then own world name none in (it.writes, it.faults);

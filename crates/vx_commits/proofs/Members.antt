@@ -1,6 +1,6 @@
 -- What a commit leaves of a group's disks, as what it may leave of the world.
 use Rattle.std.proofs.Common.{◌≡◌, ◌∙◌, ◌⊎◌, inl, inr, ℕ, ◌+◌, ◌-◌, ◌*◌, ◌≤◌, ◌==◌, ◌||◌, ◌&&◌, Bool, true, false, List, [], ◌∷◌, ◌++◌, map, length, Some, refl, sym, ap, subst, arith}
-use Rattle.std.specs.Prelude.{IsTrue}
+use Rattle.std.specs.Prelude.{IsTrue, MatchOption}
 use Rattle.std.proofs.Math.Nat.{mul-le-mul_right}
 use Rattle.std.proofs.lemmas.Bool.{eq-eqb}
 use Rattle.std.proofs.lemmas.List.{map-append}
@@ -10,23 +10,24 @@ use Rattle.vx_mask.specs.Mask.{has}
 use Rattle.vx_piece.specs.Seen.{Seen}
 use Rattle.vx_header.specs.Named.{Label}
 use Rattle.vx_copies.specs.Disks.{Held, NamesHalf, HasSlot, Drops, is_good_slot, good_mask}
-use Rattle.vx_copies.specs.Chain.{OffersSince as OffersSinceIn, IsInOrder as IsInOrderIn, AreInOrder as AreInOrderIn}
+use Rattle.vx_copies.specs.Chain.{OffersSince as OffersSinceIn, IsInOrder as IsInOrderIn, AreInOrder as AreInOrderIn, OneOffersSince as OneOffersSinceIn}
 use Rattle.vx_copies.specs.Image.{Offer, offer_in, offer_told}
 use Rattle.vx_copies.specs.Lists.{AllOf, AnyOf, Each}
 use Rattle.vx_copies.specs.Written.{Touches}
 use Rattle.vx_copies.specs.Written.{IsMaskOf as IsMaskIn}
 use Rattle.vx_confdb.specs.Enlisted.{Enlists}
-use Rattle.vx_confdb.specs.Prepare.{label_in}
+use Rattle.vx_confdb.specs.Prepare.{Tells, label_in}
 use Rattle.vx_objects.specs.declared.config.Config.{Config}
 use Rattle.vx_moments.specs.World.{Device, Member, Group}
 use Rattle.vx_moments.specs.Moment.{Moment, HasFailed}
 use Rattle.vx_moments.specs.Copies.{IsTextOf, IsEntered, label_of}
-use Rattle.vx_moments.specs.Commit.{Writing, parties, is_slot_of, is_written_slot, IsMaskOf, NoneFailed, MemberGoes, JoinerGoes, IsNoDeviceOf, sectors_of, OffersSince, IsInOrder, AreInOrder, IsCommitting}
+use Rattle.vx_moments.specs.Commit.{Writing, parties, is_slot_of, is_written_slot, IsMaskOf, NoneFailed, MemberGoes, JoinerGoes, IsNoDeviceOf, sectors_of, OffersSince, IsInOrder, AreInOrder, OneOffersSince, IsCommitting}
 use Rattle.vx_house.proofs.Listed.{all_front}
 use Rattle.vx_commits.proofs.Called.{IsPair}
 use Rattle.vx_commits.proofs.Slotted.{AreSlotted, mask_names, good_slots}
 use Rattle.vx_commits.proofs.Struck.{struck, entered}
-use Rattle.vx_house.proofs.Lists.{each_two, each_first, all_of_each, all_before, any_mapped}
+use Rattle.vx_copies.proofs.Going.{each_map}
+use Rattle.vx_house.proofs.Lists.{each_two, each_first, all_of_each, all_before, all_of_pairs, any_mapped, any_of_each}
 
 -- a disk as the world's member
 abbrev pub member_in : Held → Member
@@ -77,6 +78,19 @@ pub rose_one : (old new : Bool) (a b : Seen) → Drops old new a b → old ≡ t
 rose_one true false a b drops p q = drops
 rose_one old true a b drops p q = cc
 rose_one false new a b drops p q = cc
+
+-- the disks of the group carry the commit, of which one leads; or all its disks carry it
+abbrev pub AreLed : Word → ℕ → List Member → List Held → List Held → List Held → List Held → Type 0
+AreLed group before carriers hs bs js ks =
+    ((carriers ≡ map member_in hs) × (AllOf Tells hs → OneOffersSinceIn group before (bs ++ ks) → OneOffersSinceIn group before bs))
+    ⊎ (carriers ≡ map member_in (hs ++ js))
+
+-- one of the second ones, by one of the first ones
+any_after : {X Y : Type 0} (R : X → X → Type 0) (P : Y → Type 0) (Q : X → Type 0) (f : X → Y) → ((a b : X) → R a b → P (f a) → Q b) → (xs ys : List X) → Each R xs ys → AnyOf P (map f xs) → AnyOf Q ys
+any_after R P Q f g [] ys e any = absurd any
+any_after R P Q f g (x ∷ xs) [] e any = absurd e
+any_after R P Q f g (x ∷ xs) (y ∷ ys) e (inl here) = inl (g x y e.0 here)
+any_after R P Q f g (x ∷ xs) (y ∷ ys) e (inr there) = inr (any_after R P Q f g xs ys e.1 there)
 
 -- what is written
 abbrev pub writing : Group → Config → List ℕ → List Member → List Held → List Held → Writing
@@ -177,6 +191,37 @@ module _ (group : Group) (config : Config) (text : List ℕ) (carriers : List Me
           (all_before (IsGone m n) (λ c. AllOf (TwoIn c) (bs ++ ks)) (λ a. AllOf (Two a) (map member_in (hs ++ js))) member_in
           (λ a c first row. all_before (IsGone m n) (TwoIn c) (Two (member_in a)) member_in (λ b d. two a b c d first) (hs ++ js) (bs ++ ks) gone row) (hs ++ js) (bs ++ ks) gone order)
 
+      -- what is told of a disk is what its device offers now
+      since_offers : (a b : Held) → IsGone m n a b → (o : Offer) → OffersSinceIn config.group group.sequence b o → OffersSince here n.world (member_in a) o
+      since_offers a b gone o since = record {
+        device = record { sectors = a.seen.sectors; contents = gone.pair.now };
+        is = gone.pair.is;
+        offers = sym (ap (offer_told config.group) gone.pair.tells) ∙ since.is;
+        newer = since.newer;
+      }
+
+      abbrev OneIn : Held → Type 0
+      OneIn b = (o : Offer) × OffersSinceIn config.group group.sequence b o
+
+      abbrev One : Member → Type 0
+      One a = (o : Offer) × OffersSince here n.world a o
+
+      one_told : (xs ys : List Held) → Each (IsGone m n) xs ys → OneOffersSince here n.world (map member_in xs) → OneOffersSinceIn config.group group.sequence ys
+      one_told xs ys gone any = any_after (IsGone m n) One OneIn member_in (λ a b is one. (one.0, offers_since a b is one.0 one.1)) xs ys gone any
+
+      one_offers : (xs ys : List Held) → Each (IsGone m n) xs ys → OneOffersSinceIn config.group group.sequence ys → OneOffersSince here n.world (map member_in xs)
+      one_offers xs ys gone any = any_of_each (IsGone m n) OneIn One member_in (λ a b is one. (one.0, since_offers a b is one.0 one.1)) xs ys gone any
+
+      -- a disk that was called tells what it holds
+      tells_one : (a b : Held) → IsGone m n a b → Tells a
+      tells_one a b is = subst (λ t. MatchOption t ⊥ (λ c. Unit {0})) (sym is.pair.told) tt
+
+      -- where one of the devices offers something of the commit, one that carries it does
+      pub one_leads : Each (IsGone m n) hs bs → Each (IsGone m n) (hs ++ js) (bs ++ ks) → AreLed config.group group.sequence carriers hs bs js ks → OneOffersSince here n.world (parties here) → OneOffersSince here n.world carriers
+      one_leads front gone (inl led) any = subst (OneOffersSince here n.world) (sym led.0)
+          (one_offers hs bs front (led.1 (all_of_pairs (IsGone m n) Tells tells_one hs bs front) (one_told (hs ++ js) (bs ++ ks) gone (subst (OneOffersSince here n.world) (sym (map-append member_in hs js)) any))))
+      one_leads front gone (inr all) any = subst (OneOffersSince here n.world) (sym (map-append member_in hs js) ∙ sym all) any
+
       module _ (last last' : ℕ) (up : last ≤ last') (least : group.sequence ≤ last') (MasksIn : ℕ → Type 0) (masks : (mask : ℕ) → MasksIn mask → IsMaskOf here m.counts n.counts mask) where
         abbrev IsWrittenHere : Held → Held → Type 0
         IsWrittenHere a b = IsMemberWritten (group.sequence + 1) last text MasksIn m n a b
@@ -231,8 +276,8 @@ module _ (group : Group) (config : Config) (text : List ℕ) (carriers : List Me
         none_of_parties name none any = none (subst (AnyOf (λ p. p.device ≡ name)) (map-append member_in hs js) (any_mapped (λ p. p.device ≡ name) member_in (hs ++ js) any))
 
         pub is_committing : IsTextOf config text → length text ≤ 522240 → last' ≤ group.sequence + 32 → (NoneFailed m.counts n.counts → last' ≤ group.sequence + 1)
-            → Each IsWrittenHere hs bs → Each IsEnteredHere js ks → Each (IsGone m n) (hs ++ js) (bs ++ ks) → AreInOrderIn config.group group.sequence (bs ++ ks) → IsBeside → IsCommitting here last' m n
-        is_committing printed short few once written joined gone order beside = record {
+            → Each IsWrittenHere hs bs → Each IsEnteredHere js ks → Each (IsGone m n) (hs ++ js) (bs ++ ks) → AreInOrderIn config.group group.sequence (bs ++ ks) → AreLed config.group group.sequence carriers hs bs js ks → IsBeside → IsCommitting here last' m n
+        is_committing printed short few once written joined gone order led beside = record {
           text_is = printed;
           short = short;
           from = least;
@@ -243,6 +288,7 @@ module _ (group : Group) (config : Config) (text : List ℕ) (carriers : List Me
               (each_first (λ a. has (good_mask hs) a.slot ≡ false → a.good ≡ false) IsWrittenHere (λ a b. (has (good_mask hs) a.slot ≡ false → a.good ≡ false) × IsWrittenHere a b) (λ a b p q. (p, q)) hs bs member_bad written));
           joiners = all_of_each IsEnteredHere (JoinerGoes here last' m n) member_in joiner_goes js ks joined;
           order = all_in_order gone order;
+          lead = one_leads (each_map IsWrittenHere (IsGone m n) (λ a b is. is.gone) hs bs written) gone led;
           others = λ name none. beside.others name (none_of_parties name none);
           volumes = beside.volumes;
           reads = beside.reads;

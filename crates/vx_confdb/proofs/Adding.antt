@@ -8,7 +8,7 @@ use Rattle.vx_copies.specs.Lists.{Each, AllOf, AnyOf}
 use Rattle.vx_copies.specs.Image.{Offer, offer_told, higher}
 use Rattle.vx_copies.specs.Disks.{Held, held, HasSlot, Goes, IsReady, IsBelow, IsCut}
 use Rattle.vx_copies.specs.Config.{configuration, GivesOldOrNew}
-use Rattle.vx_copies.specs.Chain.{Copy, copy_of, AreInOrder, AllUpTo, NamesNewer, NamesMissing, IsChained, AgreeIn, AllAgree, NamesGood, IsGoodMember, IsSound}
+use Rattle.vx_copies.specs.Chain.{Copy, copy_of, AreInOrder, AllUpTo, NamesNewer, NamesMissing, IsChained, AgreeIn, AllAgree, NamesGood, IsGoodMember, IsLed, IsSound}
 use Rattle.vx_copies.specs.declared.disk.Disk.{Disk}
 use Rattle.vx_copies.specs.Commit.{HasRisen}
 use Rattle.vx_confdb.specs.Add.{IsTaken, IsJoined, AddGives}
@@ -210,10 +210,12 @@ whole_by Cut group missing os last later n k hs ms new h h' is long prepares non
 
 pub taken_is : {P : Type 0} (see : P → Seen) (r : Prepared) (text : List ℕ) (disk d : Disk P) (old new : Group P) (ms : List Held) → ms ≡ members see old ++ held see d ∷ [] → Prepares old.name (held see disk) (held see d) → OffersNone old.name (held see d)
     → PrepareEnds r old.name (held see d) → (r ≡ Cut → members see new ≡ ms)
-    → new.name ≡ old.name → Each (Goes (old.sequence + 1) new.sequence text) ms (members see new) → GivesOldOrNew old.name (old.sequence + 1) new.sequence text ms (members see new) → AreInOrder old.name old.sequence (members see new) → new.sequence ≤ old.sequence + 32
+    → new.name ≡ old.name → Each (Goes (old.sequence + 1) new.sequence text) ms (members see new) → GivesOldOrNew old.name (old.sequence + 1) new.sequence text ms (members see new) → AreInOrder old.name old.sequence (members see new)
+    → (n : ℕ) → n ≡ length old.disks.items → (AllOf Tells (take n ms) → IsLed old.name old.sequence n (members see new)) → new.sequence ≤ old.sequence + 32
     → ((missing : ℕ) (os : List Copy) → Tells (held see disk) → IsSound old.name missing os old.sequence (length old.disks.items) (members see old) → IsChained missing (os ++ map (copy_of old.name) (members see new))) → IsTaken see text disk old new
-taken_is see r text disk d old new ms is prepares none ends stays name goes gives order few chain =
+taken_is see r text disk d old new ms is prepares none ends stays name goes gives order n size lead few chain =
     let long : length old.disks.items ≡ length (members see old) = sym (length-map old.disks.items (held see)) in
+    let led : AllOf Tells (take (length old.disks.items) ms) → IsLed old.name old.sequence (length old.disks.items) (members see new) = subst (λ k. AllOf Tells (take k ms) → IsLed old.name old.sequence k (members see new)) size lead in
     record {
       name = name;
       goes = old_go (length old.disks.items) (old.sequence + 1) new.sequence text (members see old) ms (members see new) (held see d) long is goes;
@@ -223,6 +225,7 @@ taken_is see r text disk d old new ms is prepares none ends stays name goes give
         | inr new_is ↦ inr new_is
       ];
       order = order;
+      lead = λ tells. led (subst (AllOf Tells) (sym (ap (take (length old.disks.items)) is ∙ first_of (length old.disks.items) (members see old) (held see d ∷ []) long)) tells);
       few = few;
       chained = chain;
     }

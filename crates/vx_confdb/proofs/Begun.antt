@@ -160,7 +160,7 @@ pub member_one : (group : Word) (label : Label) (t : Option Contents) → label.
 member_one group label None same tells is = absurd tells
 member_one group label (Some c) same tells is = ap (names_group group) is ∙ (bytes_eq-Decides label.group group).1 same
 
-members_of : (group : Word) (hs : List Held) → AllOf Tells hs → AllOf (IsMemberOf group) hs → AllOf (IsGoodMember group) hs
+pub members_of : (group : Word) (hs : List Held) → AllOf Tells hs → AllOf (IsMemberOf group) hs → AllOf (IsGoodMember group) hs
 members_of group [] tells all = tt
 members_of group (h ∷ hs) tells all = (λ good. member_one group (label_in group h) h.seen.told refl tells.0 (all.0 good), members_of group hs tells.1 all.1)
 

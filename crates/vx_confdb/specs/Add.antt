@@ -4,7 +4,7 @@ use Rattle.vx_piece.specs.Seen.{Seen}
 use Rattle.vx_copies.specs.Lists.{Each, AllOf, AnyOf}
 use Rattle.vx_copies.specs.Disks.{held, HasSlot, IsCut, IsBelow, Goes}
 use Rattle.vx_copies.specs.Config.{GivesOldOrNew}
-use Rattle.vx_copies.specs.Chain.{Copy, copy_of, AreInOrder, IsChained, IsSound}
+use Rattle.vx_copies.specs.Chain.{Copy, copy_of, AreInOrder, IsChained, IsLed, IsSound}
 use Rattle.vx_copies.specs.Commit.{HasRisen}
 use Rattle.vx_copies.specs.declared.disk.Disk.{Disk}
 use Rattle.vx_copies.specs.declared.writing.Lost.TheVariants as lost
@@ -33,6 +33,8 @@ pub record IsTaken {P : Type 0} (see : P → Seen) (text : List ℕ) (disk : Dis
   pub joins : Each (Joins old.name text) (held see disk ∷ []) (drop (length old.disks.items) (members see new))
   pub old_or_new : GivesOldOrNew old.name (old.sequence + 1) new.sequence text (members see old) (members see new)
   pub order : AreInOrder old.name old.sequence (members see new)
+  -- one that was there leads, where they tell what they hold
+  pub lead : AllOf Tells (members see old) → IsLed old.name old.sequence (length old.disks.items) (members see new)
   pub few : new.sequence ≤ old.sequence + 32
   pub chained : (missing : ℕ) (others : List Copy) → Tells (held see disk) → IsSound old.name missing others old.sequence (length old.disks.items) (members see old) → IsChained missing (others ++ map (copy_of old.name) (members see new))
 

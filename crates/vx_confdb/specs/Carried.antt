@@ -1,10 +1,10 @@
 -- What a commit over disks leaves.
-use Rattle.std.specs.Prelude.{ℕ, ◌+◌, ◌≤◌, List, length, Result, OnOk}
+use Rattle.std.specs.Prelude.{ℕ, ◌+◌, ◌≤◌, List, length, take, Result, OnOk}
 use Rattle.vx_base.specs.Named.{Word}
 use Rattle.vx_copies.specs.Lists.{Each, AllOf}
 use Rattle.vx_copies.specs.Disks.{Held, IsBelow, Goes}
 use Rattle.vx_copies.specs.Config.{GivesOldOrNew, GivesNew}
-use Rattle.vx_copies.specs.Chain.{Copy, AreInOrder, IsSound}
+use Rattle.vx_copies.specs.Chain.{Copy, AreInOrder, IsGoodMember, IsLed, IsSound}
 use Rattle.vx_copies.specs.Commit.{CommitEnds}
 use Rattle.vx_copies.specs.Written.{Recorded, IsDone, IsQuiet, WritesJust, sectors_of}
 use Rattle.vx_copies.specs.declared.writing.Lost.{Lost}
@@ -18,6 +18,7 @@ pub record IsCarried (result : Result (Unit {0}) Lost) (carriers before now : �
   pub sound : (group : Word) (missing : ℕ) (others : List Copy) → IsSound group missing others before carriers old → IsSound group missing others now carriers new
   pub all : OnOk result ((group : Word) (missing : ℕ) (others : List Copy) → IsSound group missing others before carriers old → IsSound group missing others now (length old) new)
   pub order : (group : Word) (since : ℕ) → AllOf (IsBelow group since) old → AreInOrder group since new
+  pub lead : (group : Word) (since : ℕ) → since ≤ before → AllOf (IsBelow group since) old → AllOf (IsGoodMember group) (take carriers old) → IsLed group since carriers new
   pub recorded : Recorded (before + 1) now text old new
   pub done : OnOk result (IsDone carriers now text new)
   pub exact : OnOk result (Each IsQuiet old new → Each (WritesJust (sectors_of text)) old new)

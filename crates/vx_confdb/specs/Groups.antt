@@ -5,11 +5,11 @@ use Rattle.vx_piece.specs.Seen.{Seen}
 use Rattle.vx_copies.specs.Lists.{Each, AllOf, AnyOf}
 use Rattle.vx_copies.specs.Disks.{Held, held, HasSlot, IsCut, IsReady, IsBelow, Goes}
 use Rattle.vx_copies.specs.Config.{GivesOldOrNew, GivesNew}
-use Rattle.vx_copies.specs.Chain.{AreInOrder}
+use Rattle.vx_copies.specs.Chain.{AreInOrder, IsLed}
 use Rattle.vx_copies.specs.Commit.{AllOffer, HasRisen}
 use Rattle.vx_copies.specs.Written.{Recorded, IsDone, IsQuiet, WritesJust, sectors_of}
 use Rattle.vx_copies.specs.declared.writing.Lost.TheVariants as lost
-use Rattle.vx_confdb.specs.Prepare.{IsHeaded}
+use Rattle.vx_confdb.specs.Prepare.{IsHeaded, Tells}
 use Rattle.vx_confdb.specs.Texts.{text_of}
 use Rattle.vx_confdb.specs.declared.fault.GroupFault.{GroupFault}
 use Rattle.vx_confdb.specs.declared.fault.GroupFault.TheVariants as fault
@@ -59,6 +59,8 @@ WrittenBy see (Err fault.PowerLost) carriers text old new = (new.lost ≡ Some l
 
 pub record IsWritten {P : Type 0} (see : P → Seen) (result : Result (Unit {0}) GroupFault) (carriers : ℕ) (text : List ℕ) (old new : Group P) : Type 0 where
   pub committed : IsCommitted see text old new
+  -- where the carriers tell what they hold
+  pub lead : AllOf Tells (take carriers (members see old)) → IsLed old.name old.sequence carriers (members see new)
   pub ends : WrittenBy see result carriers text old new
   pub recorded : Recorded (old.sequence + 1) new.sequence text (members see old) (members see new)
   pub done : OnOk result (IsDone carriers new.sequence text (members see new))

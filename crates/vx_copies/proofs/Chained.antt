@@ -1,5 +1,5 @@
 -- The chain of a group's copies, where a pass writes toggles that name every disk that was good.
-use Rattle.std.proofs.Common.{◌≡◌, ◌⊎◌, ℕ, zero, suc, ◌+◌, ◌<◌, ◌≤◌, Bool, true, false, cond, List, [], ◌∷◌, ◌++◌, map, take, Option, Some, None, refl, sym, ap, ◌∙◌, subst, arith, inl, inr}
+use Rattle.std.proofs.Common.{◌≡◌, ◌⊎◌, ℕ, zero, suc, ◌<◌, ◌≤◌, Bool, true, false, List, [], ◌∷◌, ◌++◌, map, take, Option, Some, None, refl, sym, ap, ◌∙◌, subst, arith, inl, inr}
 use Rattle.std.specs.Prelude.{IsTrue, MatchOption}
 use Rattle.vx_base.specs.Blocks.{Contents}
 use Rattle.vx_base.specs.Named.{Word}
@@ -10,6 +10,7 @@ use Rattle.vx_copies.specs.Image.{Offer, offer_told, names_group}
 use Rattle.vx_copies.specs.Disks.{Held, Drops, Stays, StaysTold, Stamps, OffersJust, IsMember, good_count}
 use Rattle.vx_copies.specs.Pass.{NowOffers, FirstTurned, KeepsOffer, TurnsFirst}
 use Rattle.vx_copies.proofs.InGroup.{in_same, in_just, in_member}
+use Rattle.vx_copies.proofs.Turning.{good_behind}
 use Rattle.vx_header.specs.Named.{header_of}
 use Rattle.vx_copies.specs.Chain.{IsGoodMember, Copy, copy_of, AllUpTo, NamesNewer, NamesMissing, IsChained, AgreeIn, AllAgree, NamesGood, IsSound}
 
@@ -164,6 +165,12 @@ told_same group None (Some b) is = absurd is
 told_same group (Some a) None is = absurd is
 told_same group (Some a) (Some b) is = in_same group a b is.0 is.1.1
 
+pub told_kept : (group : Word) (a b : Option Contents) → KeepsOffer a b → offer_told group b ≡ offer_told group a
+told_kept group None None is = refl
+told_kept group None (Some b) is = absurd is
+told_kept group (Some a) None is = absurd is
+told_kept group (Some a) (Some b) is = in_same group a b is.0 is.1.1
+
 pub copies_stay : (group : Word) (hs bs : List Held) → Each Stays hs bs → map (copy_of group) bs ≡ map (copy_of group) hs
 copies_stay group [] [] is = refl
 copies_stay group [] (b ∷ bs) is = absurd is
@@ -208,19 +215,19 @@ each_first R (suc n) [] (b ∷ bs) is = absurd is
 each_first R (suc n) (a ∷ hs) [] is = absurd is
 each_first R (suc n) (a ∷ hs) (b ∷ bs) is = (is.0, each_first R n hs bs is.1)
 
-all_first : {X : Type 0} (Q : X → Type 0) (n : ℕ) (xs : List X) → AllOf Q xs → AllOf Q (take n xs)
+pub all_first : {X : Type 0} (Q : X → Type 0) (n : ℕ) (xs : List X) → AllOf Q xs → AllOf Q (take n xs)
 all_first Q zero xs all = tt
 all_first Q (suc n) [] all = tt
 all_first Q (suc n) (x ∷ xs) all = (all.0, all_first Q n xs all.1)
 
 -- a disk that is good is still a member, where headers stay
-abbrev HeaderStays : Option Contents → Option Contents → Type 0
+abbrev pub HeaderStays : Option Contents → Option Contents → Type 0
 HeaderStays None None = Unit {0}
 HeaderStays None (Some d) = ⊥
 HeaderStays (Some c) None = ⊥
 HeaderStays (Some c) (Some d) = d 0 ≡ c 0
 
-member_stays : (group : Word) (t u : Option Contents) → HeaderStays t u → IsMember group t → IsMember group u
+pub member_stays : (group : Word) (t u : Option Contents) → HeaderStays t u → IsMember group t → IsMember group u
 member_stays group None None stays is = is
 member_stays group None (Some u) stays is = absurd stays
 member_stays group (Some t) None stays is = absurd stays
@@ -238,7 +245,7 @@ told_header None (Some u) is = absurd is
 told_header (Some t) None is = absurd is
 told_header (Some t) (Some u) is = is.0
 
-just_header : (s m : ℕ) (text : List ℕ) (g : Bool) (t u : Option Contents) → OffersJust s m text g t u → HeaderStays t u
+pub just_header : (s m : ℕ) (text : List ℕ) (g : Bool) (t u : Option Contents) → OffersJust s m text g t u → HeaderStays t u
 just_header s m text g None None is = tt
 just_header s m text g None (Some u) is = absurd is
 just_header s m text g (Some t) None is = absurd is
@@ -255,6 +262,11 @@ stamps_headers s m text [] [] is = tt
 stamps_headers s m text [] (b ∷ bs) is = absurd is
 stamps_headers s m text (a ∷ hs) [] is = absurd is
 stamps_headers s m text (a ∷ hs) (b ∷ bs) is = (just_header s m text a.good a.seen.told b.seen.told is.0.offers, stamps_headers s m text hs bs is.1)
+
+-- a member that was turned offers just this
+pub now_in : (group : Word) (sequence mask : ℕ) (text : List ℕ) (t : Option Contents) → IsMember group t → NowOffers sequence mask text t → offer_told group t ≡ Some (record { sequence = sequence; good = mask; text = text })
+now_in group sequence mask text None member now = absurd now
+now_in group sequence mask text (Some c) member now = in_member group c member ∙ now
 
 pub sound_stays : (group : Word) (missing : ℕ) (others : List Copy) (last n : ℕ) (hs bs : List Held) → Each Stays hs bs → IsSound group missing others last n hs → IsSound group missing others last n bs
 sound_stays group missing others last n hs bs stays sound =
@@ -303,10 +315,6 @@ module _ (group : Word) (missing : ℕ) (others : List Copy) (last sequence mask
       by None is = tt
       by (Some o) is = λ top. f o (is top)
 
-  now_in : (t : Option Contents) → IsMember group t → NowOffers sequence mask text t → offer_told group t ≡ Some (record { sequence = sequence; good = mask; text = text })
-  now_in None member now = absurd now
-  now_in (Some c) member now = in_member group c member ∙ now
-
   witness : (copies : List Copy) (n : ℕ) (hs bs : List Held) → Each (Stamps sequence mask text) hs bs → FirstTurned sequence mask text hs bs → 0 < good_count (take n hs) → AllOf (IsGoodMember group) hs
       → AllOf (IfOffer (λ o. AllUpTo o.sequence copies → NamesGood o (take n hs))) copies → AnyOf (IsTurned copies last sequence mask text later) (map (copy_of group) bs)
   witness copies n [] bs stamps first some members newest = absurd first
@@ -315,27 +323,17 @@ module _ (group : Word) (missing : ℕ) (others : List Copy) (last sequence mask
   witness copies (suc n) (a ∷ hs) (b ∷ bs) stamps (inl is) some members newest =
       let member : IsMember group b.seen.told = member_stays group a.seen.told b.seen.told (just_header sequence mask text a.good a.seen.told b.seen.told stamps.0.offers) (members.0 is.0) in
       inl (record {
-        offer = now_in b.seen.told member is.1;
+        offer = now_in group sequence mask text b.seen.told member is.1;
         named = if_any (λ o. NamesGood o (a ∷ take n hs)) (λ o. has o.good b.slot ≡ true) copies copies (λ o names. ap (has o.good) stamps.0.slot ∙ names.0 is.0) newest;
       })
   witness copies (suc n) (a ∷ hs) (b ∷ bs) stamps (inr is) some members newest =
-      inr (witness copies n hs bs stamps.1 is.1 (fewer a.good is.0 some) members.1 (if_any (λ o. NamesGood o (a ∷ take n hs)) (λ o. NamesGood o (take n hs)) copies copies (λ o names. names.1) newest))
-    where
-      fewer : (g : Bool) → g ≡ false → 0 < cond g 1 0 + good_count (take n hs) → 0 < good_count (take n hs)
-      fewer true e lt = cc
-      fewer false e lt = omega (arith, lt)
+      inr (witness copies n hs bs stamps.1 is.1 (good_behind a.good (good_count (take n hs)) is.0 some) members.1 (if_any (λ o. NamesGood o (a ∷ take n hs)) (λ o. NamesGood o (take n hs)) copies copies (λ o names. names.1) newest))
 
   same_offers : (hs bs : List Held) → Each (Stamps sequence mask text) hs bs → Each (λ a b. KeepsOffer a.seen.told b.seen.told) hs bs → map (copy_of group) bs ≡ map (copy_of group) hs
   same_offers [] [] stamps is = refl
   same_offers [] (b ∷ bs) stamps is = absurd stamps
   same_offers (a ∷ hs) [] stamps is = absurd stamps
-  same_offers (a ∷ hs) (b ∷ bs) stamps is = ap (λ c. c ∷ map (copy_of group) bs) (same_copy (copy_of group a) (copy_of group b) stamps.0.slot (by a.seen.told b.seen.told is.0)) ∙ ap (λ cs. copy_of group a ∷ cs) (same_offers hs bs stamps.1 is.1)
-    where
-      by : (t u : Option Contents) → KeepsOffer t u → offer_told group u ≡ offer_told group t
-      by None None is = refl
-      by None (Some u) is = absurd is
-      by (Some t) None is = absurd is
-      by (Some t) (Some u) is = in_same group t u is.0 is.1.1
+  same_offers (a ∷ hs) (b ∷ bs) stamps is = ap (λ c. c ∷ map (copy_of group) bs) (same_copy (copy_of group a) (copy_of group b) stamps.0.slot (told_kept group a.seen.told b.seen.told is.0)) ∙ ap (λ cs. copy_of group a ∷ cs) (same_offers hs bs stamps.1 is.1)
 
   any_behind : (Q : Copy → Type 0) (os cs : List Copy) → AnyOf Q cs → AnyOf Q (os ++ cs)
   any_behind Q [] cs any = any

@@ -9,6 +9,7 @@ pub mod Masks
 pub mod Turning
 pub mod Chained
 pub mod Ordering
+pub mod Leading
 pub mod Tried
 pub mod Chosen
 pub mod Left

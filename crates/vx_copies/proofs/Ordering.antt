@@ -33,7 +33,7 @@ same_some : (x : Option Offer) (o p : Offer) → x ≡ Some o → x ≡ Some p �
 same_some x o p e f = cc
 
 module _ (group : Word) (before : ℕ) where
-  below_none : (h : Held) → IsBelow group before h → (o : Offer) → OffersSince group before h o → ⊥
+  pub below_none : (h : Held) → IsBelow group before h → (o : Offer) → OffersSince group before h o → ⊥
   below_none h is o since =
       let le : o.sequence ≤ before = subst (λ x. MatchOption x (Unit {0}) (λ y. y.sequence ≤ before)) since.is is in
       let lt = since.newer in

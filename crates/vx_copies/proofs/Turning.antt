@@ -8,7 +8,7 @@ use Rattle.vx_copies.specs.Lists.{Each, AllOf}
 use Rattle.vx_copies.specs.Image.{offer_of}
 use Rattle.vx_copies.specs.Disks.{Held, held, Stamps, OffersJust, IsOffer, IsMember, good_count}
 use Rattle.vx_copies.specs.Chain.{IsGoodMember}
-use Rattle.vx_copies.specs.Pass.{NowOffers, FirstTurned, KeepsOffer, TurnsFirst, TellsIfGood}
+use Rattle.vx_copies.specs.Pass.{NowOffers, FirstTurned, KeepsOffer, TurnsFirst, TellsIfGood, FirstTells}
 use Rattle.vx_copies.specs.declared.disk.Disk.{Disk}
 use Rattle.vx_copies.proofs.Going.{same_offer_refl, rest_refl}
 
@@ -30,6 +30,21 @@ tells_if_good group (h ∷ hs) all = (λ good. by h.seen.told (all.0 good), tell
     by : (t : Option Contents) → IsMember group t → MatchOption t ⊥ (λ c. Unit {0})
     by None is = absurd is
     by (Some c) is = tt
+
+-- a good disk is behind one that is not good
+pub good_behind : (g : Bool) (k : ℕ) → g ≡ false → 0 < cond g 1 0 + k → 0 < k
+good_behind true k e lt = cc
+good_behind false k e lt = omega (arith, lt)
+
+-- where all good disks tell what they hold, or those of the first, of which one is good, the first good one does
+pub all_tell : (hs : List Held) → AllOf TellsIfGood hs → FirstTells hs
+all_tell [] all = tt
+all_tell (h ∷ hs) all = (all.0, λ e. all_tell hs all.1)
+
+pub front_tells : (n : ℕ) (hs : List Held) → 0 < good_count (take n hs) → AllOf TellsIfGood (take n hs) → FirstTells hs
+front_tells n [] some all = tt
+front_tells zero (h ∷ hs) some all = absurd (omega (arith, some))
+front_tells (suc n) (h ∷ hs) some all = (all.0, λ e. front_tells n hs (good_behind h.good (good_count (take n hs)) e some) all.1)
 
 module _ (s m : ℕ) (text : List ℕ) where
   -- a disk that was not good is not written
@@ -61,15 +76,15 @@ module _ (s m : ℕ) (text : List ℕ) where
   more a b hs bs e kept (inl first) = inl (inr (e, first))
   more a b hs bs e kept (inr rest) = inr (kept, rest)
 
-  pub all_turned : (hs bs : List Held) → Each (Stamps s m text) hs bs → Each (λ a b. b.good ≡ a.good) hs bs → AllOf TellsIfGood hs → AllOf (IsOffer s m text) bs → TurnsFirst s m text hs bs
+  pub all_turned : (hs bs : List Held) → Each (Stamps s m text) hs bs → Each (λ a b. b.good ≡ a.good) hs bs → FirstTells hs → AllOf (IsOffer s m text) bs → TurnsFirst s m text hs bs
   all_turned [] [] stamps same tells offers = inr tt
   all_turned [] (b ∷ bs) stamps same tells offers = absurd stamps
   all_turned (a ∷ hs) [] stamps same tells offers = absurd stamps
-  all_turned (a ∷ hs) (b ∷ bs) stamps same tells offers = by a.good refl (all_turned hs bs stamps.1 same.1 tells.1 offers.1)
+  all_turned (a ∷ hs) (b ∷ bs) stamps same tells offers = by a.good refl (λ e. all_turned hs bs stamps.1 same.1 (tells.1 e) offers.1)
     where
-      by : (g : Bool) → a.good ≡ g → TurnsFirst s m text hs bs → TurnsFirst s m text (a ∷ hs) (b ∷ bs)
+      by : (g : Bool) → a.good ≡ g → (a.good ≡ false → TurnsFirst s m text hs bs) → TurnsFirst s m text (a ∷ hs) (b ∷ bs)
       by true e rest = inl (inl (e, now_offered a.good a.seen.told b.seen.told stamps.0.offers (tells.0 e) (offers.0 (same.0 ∙ e))))
-      by false e rest = more a b hs bs e (not_turned a.good a.seen.told b.seen.told e stamps.0.offers) rest
+      by false e rest = more a b hs bs e (not_turned a.good a.seen.told b.seen.told e stamps.0.offers) (rest e)
 
   -- where one is good and all good ones are done, the first has the toggle
   pub first_done : (hs bs : List Held) → Each (Stamps s m text) hs bs → Each (λ a b. b.good ≡ a.good) hs bs → AllOf TellsIfGood hs → AllOf (IsOffer s m text) bs → 0 < good_count hs → FirstTurned s m text hs bs
@@ -77,16 +92,12 @@ module _ (s m : ℕ) (text : List ℕ) where
   first_done (a ∷ hs) [] stamps same tells offers some = absurd stamps
   first_done (a ∷ hs) (b ∷ bs) stamps same tells offers some = by a.good refl (first_done hs bs stamps.1 same.1 tells.1 offers.1)
     where
-      fewer : (g : Bool) → g ≡ false → 0 < cond g 1 0 + good_count hs → 0 < good_count hs
-      fewer true e lt = cc
-      fewer false e lt = omega (arith, lt)
-
       by : (g : Bool) → a.good ≡ g → (0 < good_count hs → FirstTurned s m text hs bs) → FirstTurned s m text (a ∷ hs) (b ∷ bs)
       by true e rest = inl (e, now_offered a.good a.seen.told b.seen.told stamps.0.offers (tells.0 e) (offers.0 (same.0 ∙ e)))
-      by false e rest = inr (e, rest (fewer a.good e some))
+      by false e rest = inr (e, rest (good_behind a.good (good_count hs) e some))
 
   module _ {P : Type 0} (see : P → Seen) where
-    pub stop_first : (hs : List Held) (ds : List (Disk P)) (i : ℕ) (d : Disk P) → i < length ds → Each (Stamps s m text) hs (map (held see) (set ds i d)) → AllOf TellsIfGood hs → Each (λ a b. b.good ≡ a.good) hs (map (held see) ds)
+    pub stop_first : (hs : List Held) (ds : List (Disk P)) (i : ℕ) (d : Disk P) → i < length ds → Each (Stamps s m text) hs (map (held see) (set ds i d)) → FirstTells hs → Each (λ a b. b.good ≡ a.good) hs (map (held see) ds)
         → AllOf (IsOffer s m text) (map (held see) (take i ds)) → Each Kept (drop i hs) (map (held see) (drop i ds)) → TurnsFirst s m text hs (map (held see) (set ds i d))
     stop_first hs [] i d lt stamps tells same offers rest = absurd (omega (arith, lt))
     stop_first [] (x ∷ ds) i d lt stamps tells same offers rest = absurd same
@@ -96,11 +107,11 @@ module _ (s m : ℕ) (text : List ℕ) where
         by g e (inl kept) = inr (kept, rest.1)
         by true e (inr now) = inl (inl (e, now))
         by false e (inr now) = inr (not_turned a.good a.seen.told (see d.piece).told e stamps.0.offers, rest.1)
-    stop_first (a ∷ hs) (x ∷ ds) (suc i) d lt stamps tells same offers rest = by a.good refl (stop_first hs ds i d (omega (arith, lt)) stamps.1 tells.1 same.1 offers.1 rest)
+    stop_first (a ∷ hs) (x ∷ ds) (suc i) d lt stamps tells same offers rest = by a.good refl (λ e. stop_first hs ds i d (omega (arith, lt)) stamps.1 (tells.1 e) same.1 offers.1 rest)
       where
-        by : (g : Bool) → a.good ≡ g → TurnsFirst s m text hs (map (held see) (set ds i d)) → TurnsFirst s m text (a ∷ hs) (held see x ∷ map (held see) (set ds i d))
+        by : (g : Bool) → a.good ≡ g → (a.good ≡ false → TurnsFirst s m text hs (map (held see) (set ds i d))) → TurnsFirst s m text (a ∷ hs) (held see x ∷ map (held see) (set ds i d))
         by true e behind = inl (inl (e, now_offered a.good a.seen.told (see x.piece).told stamps.0.offers (tells.0 e) (offers.0 (same.0 ∙ e))))
-        by false e behind = more a (held see x) hs (map (held see) (set ds i d)) e (not_turned a.good a.seen.told (see x.piece).told e stamps.0.offers) behind
+        by false e behind = more a (held see x) hs (map (held see) (set ds i d)) e (not_turned a.good a.seen.told (see x.piece).told e stamps.0.offers) (behind e)
 
     pub rest_more : (hs : List Held) (ds : List (Disk P)) (i : ℕ) (d : Disk P) → i < length ds → Each Kept (drop i hs) (map (held see) (drop i ds)) → Each Kept (drop (suc i) hs) (map (held see) (drop (suc i) (set ds i d)))
     rest_more hs [] i d lt rest = absurd (omega (arith, lt))

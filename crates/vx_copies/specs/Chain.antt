@@ -70,6 +70,14 @@ pub record IsInOrder (o p : Offer) (slot : ℕ) : Type 0 where
 abbrev pub AreInOrder : Word → ℕ → List Held → Type 0
 AreInOrder group before disks = AllOf (λ a. AllOf (λ b. (o p : Offer) → OffersSince group before a o → OffersSince group before b p → IsInOrder o p b.slot) disks) disks
 
+-- one of the disks offers something that is newer than this
+abbrev pub OneOffersSince : Word → ℕ → List Held → Type 0
+OneOffersSince group before disks = AnyOf (λ h. (o : Offer) × OffersSince group before h o) disks
+
+-- where one of the disks offers something that is newer than this, one of the first `carriers` does
+abbrev pub IsLed : Word → ℕ → ℕ → List Held → Type 0
+IsLed group before carriers disks = OneOffersSince group before disks → OneOffersSince group before (take carriers disks)
+
 -- beside a disk the offer goes on: it names the disk where it is good, and is in order with what the disk offers
 pub record GoesOnBeside (group : Word) (before : ℕ) (o : Offer) (h : Held) : Type 0 where
   pub names : IsTrue h.good → has o.good h.slot ≡ true

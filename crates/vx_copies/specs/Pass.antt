@@ -40,6 +40,11 @@ TurnsFirst sequence mask text old new = FirstTurned sequence mask text old new �
 abbrev pub TellsIfGood : Held → Type 0
 TellsIfGood h = IsTrue h.good → MatchOption h.seen.told ⊥ (λ contents. Unit {0})
 
+-- so does the first good one
+abbrev pub FirstTells : List Held → Type 0
+FirstTells [] = Unit {0}
+FirstTells (h ∷ hs) = TellsIfGood h × (h.good ≡ false → FirstTells hs)
+
 -- all halves are written, or one disk less is good, or the power is lost
 abbrev pub HalvesEnd : Pass → List ℕ → List Held → List Held → Type 0
 HalvesEnd Done text old new = AllOf IsReady new × AllOf (HasSpare text) new × Each (λ a b. b.good ≡ a.good) old new

@@ -1,7 +1,7 @@
 ghost use Rattle.std.specs.Prelude.{◌≡◌, ◌+◌, ◌-◌, ◌*◌, ◌<◌, ◌≤◌, ◌^◌, ℕ, length, map};
 ghost use Rattle.vx_copies.specs.Lists.{Each, AllOf};
 ghost use Rattle.vx_copies.specs.Disks.{held, Stays, Stamps, IsReady, HasSpare};
-ghost use Rattle.vx_copies.specs.Pass.{IsPadded, HalvesEnd, TogglesEnd, TellsIfGood, TurnsFirst};
+ghost use Rattle.vx_copies.specs.Pass.{IsPadded, HalvesEnd, TogglesEnd, FirstTells, TurnsFirst};
 ghost use Rattle.vx_copies.specs.Steps.{HalfPut, HalfDone, TogglePut, ToggleDone};
 
 use crate::Disk;
@@ -44,7 +44,7 @@ pub fn put_toggles<P: Piece>(
     requires size { length sector.old ≡ 512 }
     ensures size { length sector.new ≡ 512 }
     ensures stamps { Each (Stamps sequence mask text.now) (map (held P.seen) disks.old) (map (held P.seen) disks.new) }
-    ensures first { AllOf TellsIfGood (map (held P.seen) disks.old) → TurnsFirst sequence mask text.now (map (held P.seen) disks.old) (map (held P.seen) disks.new) }
+    ensures first { FirstTells (map (held P.seen) disks.old) → TurnsFirst sequence mask text.now (map (held P.seen) disks.old) (map (held P.seen) disks.new) }
     ensures ends { TogglesEnd result sequence mask text.now (map (held P.seen) disks.old) (map (held P.seen) disks.new) }
     ensures puts { Each (TogglePut sequence mask text.now) (map (held P.seen) disks.old) (map (held P.seen) disks.new) }
     ensures done { result ≡ Pass.Done → Each (ToggleDone sequence mask text.now) (map (held P.seen) disks.old) (map (held P.seen) disks.new) }

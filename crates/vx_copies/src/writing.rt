@@ -4,7 +4,7 @@ ghost use Rattle.vx_mask.specs.Mask.{has};
 ghost use Rattle.vx_copies.specs.Lists.{Each, AllOf};
 ghost use Rattle.vx_copies.specs.Disks.{held, Goes, HasSlot, IsReady, IsBelow, good_count, is_good_slot, good_mask};
 ghost use Rattle.vx_copies.specs.Config.{GivesOldOrNew, GivesNew, IsOlder};
-ghost use Rattle.vx_copies.specs.Chain.{Copy, AreInOrder, IsOrdered, IsSound};
+ghost use Rattle.vx_copies.specs.Chain.{Copy, AreInOrder, IsGoodMember, IsLed, IsOrdered, IsSound};
 ghost use Rattle.vx_copies.specs.Commit.{AttemptEnds, CommitEnds};
 ghost use Rattle.vx_copies.specs.Pass.{IsPadded};
 ghost use Rattle.vx_copies.specs.Written.{Touches, IsMaskOf, CarriesIfGood, IsQuiet, sectors_of, WritesJust, Recorded, IsDone};
@@ -69,6 +69,7 @@ fn attempt<P: Piece>(
     ensures sound { (group : Word) (missing : ℕ) (others : List Copy) (last carriers : ℕ) → last < sequence → 0 < good_count (take carriers (map (held P.seen) disks.old)) → IsSound group missing others last carriers (map (held P.seen) disks.old) → IsSound group missing others sequence carriers (map (held P.seen) disks.new) }
     ensures all { (group : Word) (missing : ℕ) (others : List Copy) (last carriers : ℕ) → last < sequence → 0 < good_count (take carriers (map (held P.seen) disks.old)) → IsSound group missing others last carriers (map (held P.seen) disks.old) → result ≡ Pass.Done → IsSound group missing others sequence (length disks.old) (map (held P.seen) disks.new) }
     ensures order { (group : Word) (before last : ℕ) → last < sequence → IsOrdered group before last (map (held P.seen) disks.old) → IsOrdered group before sequence (map (held P.seen) disks.new) }
+    ensures lead { (group : Word) (before carriers : ℕ) → before < sequence → 0 < good_count (take carriers (map (held P.seen) disks.old)) → AllOf (IsGoodMember group) (take carriers (map (held P.seen) disks.old)) → IsLed group before carriers (map (held P.seen) disks.old) → IsLed group before carriers (map (held P.seen) disks.new) }
     ensures ends { AttemptEnds result sequence text.now (map (held P.seen) disks.old) (map (held P.seen) disks.new) }
     ensures touches { Each (Touches sequence sequence text.now (IsMaskOf (map (held P.seen) disks.old) (map (held P.seen) disks.new))) (map (held P.seen) disks.old) (map (held P.seen) disks.new) }
     ensures done { result ≡ Pass.Done → Each (WritesJust (sectors_of text.now)) (map (held P.seen) disks.old) (map (held P.seen) disks.new) × AllOf (CarriesIfGood sequence (good_mask (map (held P.seen) disks.new)) text.now) (map (held P.seen) disks.new) }
@@ -102,6 +103,7 @@ fn commit_on<P: Piece>(
     ensures all { OnOk result ((group : Word) (missing : ℕ) (others : List Copy) → IsSound group missing others sequence.old carriers (map (held P.seen) disks.old) → IsSound group missing others sequence.new (length disks.old) (map (held P.seen) disks.new)) }
     ensures older { OnOk result ((group : Word) → AllOf (IsBelow group sequence.old) (map (held P.seen) disks.old) → AllOf (IsOlder group sequence.new) (map (held P.seen) disks.new)) }
     ensures order { (group : Word) (before : ℕ) → AllOf (IsBelow group before) (map (held P.seen) disks.old) → AreInOrder group before (map (held P.seen) disks.new) }
+    ensures lead { (group : Word) (before : ℕ) → before ≤ sequence.old → AllOf (IsBelow group before) (map (held P.seen) disks.old) → AllOf (IsGoodMember group) (take carriers (map (held P.seen) disks.old)) → IsLed group before carriers (map (held P.seen) disks.new) }
     ensures more { sequence.old ≤ sequence.new }
     ensures next { OnOk result (sequence.old < sequence.new) }
     ensures recorded { Recorded (sequence.old + 1) sequence.new text.now (map (held P.seen) disks.old) (map (held P.seen) disks.new) }
@@ -145,6 +147,7 @@ pub fn commit<P: Piece>(
     ensures sound { (group : Word) (missing : ℕ) (others : List Copy) → IsSound group missing others sequence.old carriers (map (held P.seen) disks.old) → IsSound group missing others sequence.new carriers (map (held P.seen) disks.new) }
     ensures all { OnOk result ((group : Word) (missing : ℕ) (others : List Copy) → IsSound group missing others sequence.old carriers (map (held P.seen) disks.old) → IsSound group missing others sequence.new (length disks.old) (map (held P.seen) disks.new)) }
     ensures order { (group : Word) (before : ℕ) → AllOf (IsBelow group before) (map (held P.seen) disks.old) → AreInOrder group before (map (held P.seen) disks.new) }
+    ensures lead { (group : Word) (before : ℕ) → before ≤ sequence.old → AllOf (IsBelow group before) (map (held P.seen) disks.old) → AllOf (IsGoodMember group) (take carriers (map (held P.seen) disks.old)) → IsLed group before carriers (map (held P.seen) disks.new) }
     ensures more { sequence.old ≤ sequence.new }
     ensures recorded { Recorded (sequence.old + 1) sequence.new text.now (map (held P.seen) disks.old) (map (held P.seen) disks.new) }
     ensures done { OnOk result (IsDone carriers sequence.new text.now (map (held P.seen) disks.new)) }

@@ -18,6 +18,7 @@ returns g c =
             goes = c.commit.ensures.goes;
             sound = c.commit.ensures.sound;
             order = c.commit.ensures.order;
+            lead = c.commit.ensures.lead;
             all = rw (length-map c.deref_mut.result.now (held g.P.Piece.seen)) c.commit.ensures.all;
             recorded = c.commit.ensures.recorded;
             done = c.commit.ensures.done;

@@ -1,6 +1,7 @@
-use Rattle.std.proofs.Common.{◌≡◌, ◌∙◌, map, take, sym, subst, arith}
+use Rattle.std.proofs.Common.{◌≡◌, ◌∙◌, ◌<◌, map, take, sym, subst, arith}
 use Rattle.vx_copies.specs.Lists.{AllOf}
 use Rattle.vx_copies.specs.Disks.{held, Goes, good_count, good_mask}
+use Rattle.vx_copies.specs.Chain.{IsGoodMember}
 use Rattle.vx_copies.specs.Commit.{AttemptEnds}
 use Rattle.vx_copies.specs.Written.{IsMaskOf, CarriesIfGood}
 use Rattle.vx_copies.specs.Pass.{HalvesEnd, TogglesEnd}
@@ -8,7 +9,8 @@ use Rattle.vx_copies.specs.declared.disk.Pass.TheVariants.{Done}
 use Rattle.vx_copies.proofs.Going.{each_map, all_trans, each_first, stays_all, stamps_all, slots_stay}
 use Rattle.vx_copies.proofs.Chained.{sound_stays, sound_stamps, sound_turned, sound_later, still_named, stays_was}
 use Rattle.vx_copies.proofs.Ordering.{all_stay, all_attempted, order_on}
-use Rattle.vx_copies.proofs.Turning.{tells_if_good, first_done}
+use Rattle.vx_copies.proofs.Leading.{members_go, led_stays, led_stamps}
+use Rattle.vx_copies.proofs.Turning.{tells_if_good, all_tell, front_tells, first_done}
 use Rattle.vx_copies.proofs.Placed.{same_count, count_first}
 use Rattle.vx_copies.proofs.Masks.{good_named}
 use Rattle.vx_copies.proofs.Tried.{halves_tried, toggles_tried, same_mask}
@@ -24,7 +26,7 @@ returns-in-Done-clause-sound g c = λ group missing others last carriers lt some
     let mid = sound_stays group missing others last carriers _ _ c.put_halves.ensures.stays sound in
     let same : good_count (take carriers (map (held g.P.Piece.seen) c.put_halves.new.disks)) ≡ good_count (take carriers (map (held g.P.Piece.seen) c.args.disks.now)) = same_count _ _ (each_first _ carriers _ _ ends.2) in
     let names = still_named c.good_slots-mask.result _ _ (stays_was _ _ c.put_halves.ensures.stays) (good_named c.good_slots-mask.result _ c.good_slots-mask.ensures.names) in
-    let first = c.put_toggles.ensures.first (tells_if_good group _ mid.members) in
+    let first = c.put_toggles.ensures.first (all_tell _ (tells_if_good group _ mid.members)) in
     sound_stamps group missing others last c.args.sequence c.good_slots-mask.result c.args.text.now lt carriers _ _ c.put_toggles.ensures.stamps names mid (omega (arith, same, some)) first
 
 pub returns-in-Done-clause-all : goal.returns-in-Done-clause-all
@@ -33,7 +35,6 @@ returns-in-Done-clause-all g c = λ group missing others last carriers lt some s
     let mid = sound_stays group missing others last carriers _ _ c.put_halves.ensures.stays sound in
     let same : good_count (take carriers (map (held g.P.Piece.seen) c.put_halves.new.disks)) ≡ good_count (take carriers (map (held g.P.Piece.seen) c.args.disks.now)) = same_count _ _ (each_first _ carriers _ _ ends.2) in
     let names = still_named c.good_slots-mask.result _ _ (stays_was _ _ c.put_halves.ensures.stays) (good_named c.good_slots-mask.result _ c.good_slots-mask.ensures.names) in
-    let first = c.put_toggles.ensures.first (tells_if_good group _ mid.members) in
     let whole : TogglesEnd Done c.args.sequence c.good_slots-mask.result c.args.text.now (map (held g.P.Piece.seen) c.put_halves.new.disks) (map (held g.P.Piece.seen) c.put_toggles.new.disks) = rw done at c.put_toggles.ensures.ends in
     sound_turned group missing others last c.args.sequence c.good_slots-mask.result c.args.text.now lt carriers _ _ c.put_toggles.ensures.stamps names mid _ (omega (arith, same, some))
     (first_done c.args.sequence c.good_slots-mask.result c.args.text.now _ _ c.put_toggles.ensures.stamps whole.2 (tells_if_good group _ mid.members) whole.1 (omega (arith, same, some, count_first carriers (map (held g.P.Piece.seen) c.put_halves.new.disks))))
@@ -52,6 +53,7 @@ returns-in_default g c = record {
   sound = λ group missing others last carriers lt some sound. sound_later group missing others last c.args.sequence carriers _ (omega (arith, lt)) (sound_stays group missing others last carriers _ _ c.put_halves.ensures.stays sound);
   all = λ group missing others last carriers lt some sound done. absurd (c.in_default.not-Done done);
   order = λ group before last lt ordered. order_on group c.args.sequence c.good_slots-mask.result c.args.text.now before last lt _ _ (all_stay group c.args.sequence c.good_slots-mask.result c.args.text.now _ _ c.put_halves.ensures.stays) (good_named c.good_slots-mask.result _ c.good_slots-mask.ensures.names) ordered;
+  lead = λ group before carriers lt some members led. led_stays group before carriers _ _ c.put_halves.ensures.stays led;
   touches = all_half_touch c.args.sequence c.args.text.now _ _ _ c.put_halves.ensures.puts;
   done = λ is. absurd (c.in_default.not-Done is);
   ends = halves_tried c.put_halves.result c.args.sequence c.args.text.now _ _ c.in_default.not-Done c.put_halves.ensures.ends;
@@ -81,3 +83,14 @@ returns-in-Done-clause-order g c = λ group before last lt ordered.
     order_on group c.args.sequence c.good_slots-mask.result c.args.text.now before last lt _ _
     (all_attempted group c.args.sequence c.good_slots-mask.result c.args.text.now _ _ _ c.put_halves.ensures.stays c.put_toggles.ensures.stamps)
     (good_named c.good_slots-mask.result _ c.good_slots-mask.ensures.names) ordered
+
+pub returns-in-Done-clause-lead : goal.returns-in-Done-clause-lead
+returns-in-Done-clause-lead g c = λ group before carriers lt some members led.
+    let ends : HalvesEnd Done c.args.text.now (map (held g.P.Piece.seen) c.args.disks.now) (map (held g.P.Piece.seen) c.put_halves.new.disks) = rw c.in-Done.is at c.put_halves.ensures.ends in
+    let same : good_count (take carriers (map (held g.P.Piece.seen) c.put_halves.new.disks)) ≡ good_count (take carriers (map (held g.P.Piece.seen) c.args.disks.now)) = same_count _ _ (each_first _ carriers _ _ ends.2) in
+    let still : 0 < good_count (take carriers (map (held g.P.Piece.seen) c.put_halves.new.disks)) = omega (arith, same, some) in
+    let mid : AllOf (IsGoodMember group) (take carriers (map (held g.P.Piece.seen) c.put_halves.new.disks)) =
+    members_go group c.args.sequence c.args.sequence c.args.text.now _ _ (each_first _ carriers _ _ (stays_all c.args.sequence c.args.sequence c.args.text.now _ _ c.put_halves.ensures.stays)) members in
+    led_stamps group before c.args.sequence c.good_slots-mask.result c.args.text.now lt carriers _ _ c.put_toggles.ensures.stamps
+    (c.put_toggles.ensures.first (front_tells carriers _ still (tells_if_good group _ mid))) still mid
+    (led_stays group before carriers _ _ c.put_halves.ensures.stays led)

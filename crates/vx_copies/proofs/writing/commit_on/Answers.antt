@@ -10,6 +10,7 @@ use Rattle.vx_copies.specs.Written.{IsMaskOf, sectors_of, WritesJust}
 use Rattle.vx_copies.proofs.Touching.{touches_none, all_on}
 use Rattle.vx_copies.proofs.Recording.{Fades, goes_fade, mask_then, mask_before, quiet_before, quiet_count}
 use Rattle.vx_copies.proofs.Ordering.{order_below, in_order}
+use Rattle.vx_copies.proofs.Leading.{led_below, members_go}
 use Rattle.vx_copies.proofs.Chosen.{below_all}
 use Rattle.vx_copies.proofs.Left.{older_all}
 use Rattle.vx_copies.proofs.Tried.{one_more, count_few}
@@ -18,7 +19,7 @@ use Rattle.vx_copies.proofs.writing.commit_on.Goals as goal
 pub again-init : goal.again-init
 again-init g c =
     let few = count_few g.P.Piece.seen c.args.disks.now in
-    record { size = c.requires.size; long = refl; later = omega arith; bound = omega (arith, few, c.requires.count); ready = c.requires.ready; goes = all_refl (c.args.sequence.now + 1) c.args.sequence.now c.args.text.now _; touches = each_refl _ (touches_none (c.args.sequence.now + 1) c.args.sequence.now c.args.text.now _) _; quiet = λ q. (refl, refl); sound = λ group missing others is. is; order = λ group before below. order_below group before c.args.sequence.now _ below }
+    record { size = c.requires.size; long = refl; later = omega arith; bound = omega (arith, few, c.requires.count); ready = c.requires.ready; goes = all_refl (c.args.sequence.now + 1) c.args.sequence.now c.args.text.now _; touches = each_refl _ (touches_none (c.args.sequence.now + 1) c.args.sequence.now c.args.text.now _) _; quiet = λ q. (refl, refl); sound = λ group missing others is. is; order = λ group before below. order_below group before c.args.sequence.now _ below; lead = λ group before le below members. led_below group before c.args.carriers _ below }
 
 pub returns-in-Done-clause-goes : goal.returns-in-Done-clause-goes
 returns-in-Done-clause-goes g c = one_more (c.args.sequence.now + 1) c.again.sequence c.args.text.now _ _ _ (omega (arith, c.again.invariant.later)) c.again.invariant.goes c.attempt.ensures.goes
@@ -94,6 +95,8 @@ again-preserved g c =
       ready = ends.0;
       goes = one_more (c.args.sequence.now + 1) c.again.sequence c.args.text.now _ _ _ (omega (arith, c.again.invariant.later)) c.again.invariant.goes c.attempt.ensures.goes;
       sound = λ group missing others is. c.attempt.ensures.sound group missing others c.again.sequence c.args.carriers (omega arith) (omega (arith, some, there)) (c.again.invariant.sound group missing others is);
+      lead = λ group before le below members. c.attempt.ensures.lead group before c.args.carriers (omega (arith, le, c.again.invariant.later)) (omega (arith, some, there))
+          (members_go group (c.args.sequence.now + 1) c.again.sequence c.args.text.now _ _ (each_first _ c.args.carriers _ _ c.again.invariant.goes) members) (c.again.invariant.lead group before le below members);
       order = λ group before below. c.attempt.ensures.order group before c.again.sequence (omega arith) (c.again.invariant.order group before below);
     }
 
@@ -141,3 +144,17 @@ returns-in-Cut-clause-order g c = λ group before below. in_order group before (
 
 pub returns-clause-order : goal.returns-clause-order
 returns-clause-order g c = λ group before below. in_order group before c.again.sequence _ (c.again.invariant.order group before below)
+
+pub returns-in-Done-clause-lead : goal.returns-in-Done-clause-lead
+returns-in-Done-clause-lead g c = λ group before le below members.
+    let some = c.any_good.ensures.some c.again-test.true in
+    let there : good_count (map (held g.P.Piece.seen) (take c.args.carriers c.again.disks)) ≡ good_count (take c.args.carriers (map (held g.P.Piece.seen) c.again.disks)) = ap good_count (sym (take-map (held g.P.Piece.seen) c.args.carriers c.again.disks)) in
+    c.attempt.ensures.lead group before c.args.carriers (omega (arith, le, c.again.invariant.later)) (omega (arith, some, there))
+    (members_go group (c.args.sequence.now + 1) c.again.sequence c.args.text.now _ _ (each_first _ c.args.carriers _ _ c.again.invariant.goes) members) (c.again.invariant.lead group before le below members)
+
+pub returns-in-Cut-clause-lead : goal.returns-in-Cut-clause-lead
+returns-in-Cut-clause-lead g c = λ group before le below members.
+    let some = c.any_good.ensures.some c.again-test.true in
+    let there : good_count (map (held g.P.Piece.seen) (take c.args.carriers c.again.disks)) ≡ good_count (take c.args.carriers (map (held g.P.Piece.seen) c.again.disks)) = ap good_count (sym (take-map (held g.P.Piece.seen) c.args.carriers c.again.disks)) in
+    c.attempt.ensures.lead group before c.args.carriers (omega (arith, le, c.again.invariant.later)) (omega (arith, some, there))
+    (members_go group (c.args.sequence.now + 1) c.again.sequence c.args.text.now _ _ (each_first _ c.args.carriers _ _ c.again.invariant.goes) members) (c.again.invariant.lead group before le below members)

@@ -1,8 +1,8 @@
-use Rattle.std.proofs.Common.{◌≡◌, ℕ, ◌+◌, ◌≤◌, List, length, map}
+use Rattle.std.proofs.Common.{◌≡◌, ℕ, ◌+◌, ◌≤◌, List, length, map, take}
 use Rattle.vx_base.specs.Named.{Word}
 use Rattle.vx_copies.specs.Lists.{Each, AllOf}
 use Rattle.vx_copies.specs.Disks.{held, Goes, IsReady, IsBelow, good_count}
-use Rattle.vx_copies.specs.Chain.{Copy, IsOrdered, IsSound}
+use Rattle.vx_copies.specs.Chain.{Copy, IsGoodMember, IsLed, IsOrdered, IsSound}
 use Rattle.vx_copies.specs.Written.{Touches, IsMaskOf, IsQuiet}
 use Rattle.vx_copies.proofs.writing.commit_on.Given as goal
 
@@ -18,6 +18,7 @@ invariant-again g l = record {
   quiet : Each IsQuiet (map (held g.P.Piece.seen) l.fn.disks) (map (held g.P.Piece.seen) l.disks) → (map (held g.P.Piece.seen) l.disks ≡ map (held g.P.Piece.seen) l.fn.disks) × (l.sequence ≡ l.fn.sequence);
   sound : (group : Word) (missing : ℕ) (others : List Copy) → IsSound group missing others l.fn.sequence l.carriers (map (held g.P.Piece.seen) l.fn.disks) → IsSound group missing others l.sequence l.carriers (map (held g.P.Piece.seen) l.disks);
   order : (group : Word) (before : ℕ) → AllOf (IsBelow group before) (map (held g.P.Piece.seen) l.fn.disks) → IsOrdered group before l.sequence (map (held g.P.Piece.seen) l.disks);
+  lead : (group : Word) (before : ℕ) → before ≤ l.fn.sequence → AllOf (IsBelow group before) (map (held g.P.Piece.seen) l.fn.disks) → AllOf (IsGoodMember group) (take l.carriers (map (held g.P.Piece.seen) l.fn.disks)) → IsLed group before l.carriers (map (held g.P.Piece.seen) l.disks);
 }
 
 abbrev pub decreases-again : goal.decreases-again

@@ -36,7 +36,7 @@ returns-in-Ok-write_joined-clause-ends g c =
     (λ cut. same (c.write_joined.ensures.stays cut)) (c.write_joined.ensures.sound missing os) tells (rw size sound) in
     let committed = c.write_joined.ensures.written.committed in
     let taken : IsTaken g.P.Piece.seen (text_of c.in-Ok.text) c.args.disk c.args.self.now c.write_joined.new.self =
-    taken_is g.P.Piece.seen c.join_one-joined.result (text_of c.in-Ok.text) c.args.disk c.join_one-joined.new.disk c.args.self.now c.write_joined.new.self (members g.P.Piece.seen mid) is c.join_one-joined.ensures.prepares none c.join_one-joined.ensures.ends (λ cut. same (c.write_joined.ensures.stays cut)) committed.name committed.goes committed.old_or_new committed.order committed.few chain in
+    taken_is g.P.Piece.seen c.join_one-joined.result (text_of c.in-Ok.text) c.args.disk c.join_one-joined.new.disk c.args.self.now c.write_joined.new.self (members g.P.Piece.seen mid) is c.join_one-joined.ensures.prepares none c.join_one-joined.ensures.ends (λ cut. same (c.write_joined.ensures.stays cut)) committed.name committed.goes committed.old_or_new committed.order c.len-carriers.result size c.write_joined.ensures.written.lead committed.few chain in
     let longer : length c.write_joined.new.self.disks.items ≡ length c.put_last.new.disks.items = held_length g.P.Piece.seen _ c.put_last.new.disks.items c.write_joined.new.self.disks.items committed.goes in
     let whole : (missing : ℕ) (os : List Copy) → Tells (held g.P.Piece.seen c.args.disk) → IsSound c.args.self.now.name missing os c.args.self.now.sequence (length c.args.self.now.disks.items) (members g.P.Piece.seen c.args.self.now) → IsSound c.args.self.now.name missing os c.write_joined.new.self.sequence (length c.write_joined.new.self.disks.items) (members g.P.Piece.seen c.write_joined.new.self) = λ missing os tells sound.
     whole_by c.join_one-joined.result c.args.self.now.name missing os c.args.self.now.sequence c.write_joined.new.self.sequence c.len-carriers.result (length c.write_joined.new.self.disks.items) (members g.P.Piece.seen c.args.self.now) (members g.P.Piece.seen mid) (members g.P.Piece.seen c.write_joined.new.self) (held g.P.Piece.seen c.args.disk) (held g.P.Piece.seen c.join_one-joined.new.disk) is long c.join_one-joined.ensures.prepares none c.join_one-joined.ensures.ends
@@ -57,7 +57,7 @@ returns-in-Err-clause-ends g c =
     (λ cut. same (c.write_joined.ensures.stays cut)) (c.write_joined.ensures.sound missing os) tells (rw size sound) in
     let committed = c.write_joined.ensures.written.committed in
     let taken : IsTaken g.P.Piece.seen (text_of c.in-Ok.text) c.args.disk c.args.self.now c.write_joined.new.self =
-    taken_is g.P.Piece.seen c.join_one-joined.result (text_of c.in-Ok.text) c.args.disk c.join_one-joined.new.disk c.args.self.now c.write_joined.new.self (members g.P.Piece.seen mid) is c.join_one-joined.ensures.prepares none c.join_one-joined.ensures.ends (λ cut. same (c.write_joined.ensures.stays cut)) committed.name committed.goes committed.old_or_new committed.order committed.few chain in
+    taken_is g.P.Piece.seen c.join_one-joined.result (text_of c.in-Ok.text) c.args.disk c.join_one-joined.new.disk c.args.self.now c.write_joined.new.self (members g.P.Piece.seen mid) is c.join_one-joined.ensures.prepares none c.join_one-joined.ensures.ends (λ cut. same (c.write_joined.ensures.stays cut)) committed.name committed.goes committed.old_or_new committed.order c.len-carriers.result size c.write_joined.ensures.written.lead committed.few chain in
     let ends : AddGives g.P.Piece.seen (Err (c.in-Err.fault, None)) (text_of c.in-Ok.text) c.args.disk c.args.self.now c.write_joined.new.self =
     lost_taken g.P.Piece.seen c.in-Err.fault c.len-carriers.result (text_of c.in-Ok.text) c.args.disk c.join_one-joined.new.disk c.args.self.now mid c.write_joined.new.self is long size taken c.in-Err.ensures.written.ends in
     rw c.in-Ok.ensures at ends

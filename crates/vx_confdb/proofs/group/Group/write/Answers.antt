@@ -2,6 +2,8 @@ use Rattle.std.proofs.Common.{refl, arith}
 use Rattle.std.proofs.lemmas.List.{length-map}
 use Rattle.vx_copies.specs.Disks.{held}
 use Rattle.vx_confdb.specs.Texts.{text_of}
+use Rattle.vx_copies.proofs.Chained.{all_first}
+use Rattle.vx_confdb.proofs.Begun.{members_of}
 use Rattle.vx_confdb.proofs.Grouped.{headed_stays, slots_stay, ready_slots, alive_group, lost_by}
 use Rattle.vx_confdb.proofs.group.Group.write.Goals as goal
 
@@ -16,6 +18,7 @@ returns-in-Ok-clause-written g c =
         order = carried.order c.args.self.now.name c.args.self.now.sequence c.requires.alive.below;
         few = carried.few;
       };
+      lead = λ tells. carried.lead c.args.self.now.name c.args.self.now.sequence (omega arith) c.requires.alive.below (members_of c.args.self.now.name _ tells (all_first _ c.args.carriers _ c.requires.alive.headed));
       ends = record {
         lost = c.requires.going;
         holds = refl;
@@ -50,6 +53,7 @@ returns-in-Err-clause-written g c =
         order = carried.order c.args.self.now.name c.args.self.now.sequence c.requires.alive.below;
         few = carried.few;
       };
+      lead = λ tells. carried.lead c.args.self.now.name c.args.self.now.sequence (omega arith) c.requires.alive.below (members_of c.args.self.now.name _ tells (all_first _ c.args.carriers _ c.requires.alive.headed));
       ends = rw c.fault_of.ensures (lost_by g.P.Piece.seen c.write_all.result c.in-Err.lost c.args.carriers c.write_all.new.sequence (text_of c.args.text) c.args.self.now _ c.in-Err.is refl carried.ends);
       recorded = carried.recorded;
       done = tt;

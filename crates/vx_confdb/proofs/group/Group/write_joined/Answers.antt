@@ -3,6 +3,7 @@ use Rattle.vx_confdb.specs.Add.{IsJoined}
 use Rattle.vx_confdb.specs.declared.joining.Prepared.TheVariants.{Cut}
 use Rattle.vx_confdb.specs.Texts.{text_of}
 use Rattle.vx_copies.proofs.Going.{all_refl}
+use Rattle.vx_copies.proofs.Leading.{led_below}
 use Rattle.vx_copies.proofs.Ordering.{none_newer}
 use Rattle.vx_copies.proofs.Recording.{none_recorded}
 use Rattle.vx_confdb.proofs.group.Group.write_joined.Goals as goal
@@ -12,6 +13,7 @@ returns-in-Cut-clause-written g c =
     let cut : IsJoined g.P.Piece.seen Cut c.args.self.now = rw c.in-Cut.is at c.requires.alive in
     record {
       committed = record { name = refl; goes = all_refl (c.args.self.now.sequence + 1) c.args.self.now.sequence (text_of c.args.text) _; old_or_new = λ readable. inl refl; order = none_newer c.args.self.now.name c.args.self.now.sequence _ cut.1; few = omega arith };
+      lead = λ tells. led_below c.args.self.now.name c.args.self.now.sequence c.args.carriers _ cut.1;
       ends = (refl, cut.2);
       recorded = none_recorded c.args.self.now.sequence (text_of c.args.text) _;
       done = tt;

@@ -50,6 +50,7 @@ module _ (Held : Holding) (old new : Moment) (all : HaveHistories Held old.world
       let d = bare.device in
       subst (HaveHistories Held) (sym bare.is) (put_history Held old.world vol (bare_volume name d) (name, refl, d.contents, there name d bare.was, fresh_history d.contents) all)
   stage_kept (stage.Change change) disks there (x, writing, committed) = as_was committed.committing.volumes
+  stage_kept (stage.Make text) disks there (x, writing, committed) = as_was committed.committing.volumes
   stage_kept stage.Join [] there is = absurd is
   stage_kept stage.Join (p ∷ q ∷ ps) there is = absurd is
   stage_kept stage.Join (p ∷ []) there (x, writing, committed) = as_was committed.committing.volumes

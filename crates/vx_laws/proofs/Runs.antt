@@ -94,6 +94,12 @@ module _ (old new : Moment) (end : End) where
   has_stopped (stage.Wipe name) disks (has, calls, ends) = at_hand name (ap (λ (w : World). w.volumes) has.is) ends
   has_stopped (stage.StartBare vol name) disks (is, ends) = denied _ ends
   has_stopped (stage.Change change) disks stops = editing (λ g. edits_of change (Some g)) (λ x. IsChange (edits_of change old.world.group) old.world x) stops
+  has_stopped (stage.Make text) disks (inl (none, ends)) = denied _ ends
+  has_stopped (stage.Make text) disks (inr (inl ((g, here, inl (line, bad, is)), rests))) = denied _ (is, rests)
+  has_stopped (stage.Make text) disks (inr (inl ((g, here, inr (added, adds, inl (r, e, is))), rests))) = denied r (is, rests)
+  has_stopped (stage.Make text) disks (inr (inl ((g, here, inr (added, adds, inr (fine, inl (r, e, is)))), rests))) = denied r (is, rests)
+  has_stopped (stage.Make text) disks (inr (inl ((g, here, inr (added, adds, inr (fine, inr (config, edited, (printed, text_is, long, is))))), rests))) = denied _ (is, rests)
+  has_stopped (stage.Make text) disks (inr (inr (x, making, stopped))) = stopping x old refl stopped
   has_stopped stage.Join [] stops = absurd stops
   has_stopped stage.Join (p ∷ q ∷ ps) stops = absurd stops
   has_stopped stage.Join (p ∷ []) stops = editing (λ g. joining_edit p old.world g ∷ []) (λ x. IsJoining p old.world x) stops

@@ -36,7 +36,7 @@ use Rattle.vx_commits.proofs.Done.{any_good}
 use Rattle.vx_commits.proofs.Holders.{same_members, world_group, group_is}
 use Rattle.vx_commits.proofs.Joined.{AreDone, group_lost_on, power_lost_on, group_committed_on}
 use Rattle.vx_commits.proofs.Members.{member_in}
-use Rattle.vx_commits.proofs.Staged.{volumes_kept, group_lost_stage, power_lost_stage, done_stage}
+use Rattle.vx_commits.proofs.CommitStage.{volumes_kept, group_lost_stage, power_lost_stage, done_stage}
 use Rattle.vx_changes.specs.Joining.{disk_for, IsJoin, IsInHand, IsPlaced}
 use Rattle.vx_changes.proofs.Admitted.{IsAdmitted, hs, js, bs, ks, whole, same_name, front_is, back_is, admitted, written, x, joining}
 use Rattle.vx_changes.proofs.Entered.{joins_named, joined_members}

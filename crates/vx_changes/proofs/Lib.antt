@@ -1,7 +1,7 @@
 pub mod Texts
 pub mod Configs
-pub mod Edited
-mod Staged
+pub mod EditStage
+mod ChangeStage
 pub mod Lowest
 pub mod Short
 pub mod Room
@@ -11,7 +11,7 @@ pub mod Gained
 pub mod Joins
 pub mod Unjoined
 pub mod Handed
-pub mod Drawn
+pub mod NewConfig
 pub mod Enlisted
-pub mod Creates
-pub mod Created
+pub mod CreateCommit
+pub mod CreateStage

@@ -38,7 +38,7 @@ use Rattle.vx_house.proofs.Moments.{later_refl, faults_refl}
 use Rattle.vx_house.proofs.Takes.{rests_self}
 use Rattle.vx_changes.specs.Joining.{join_edits, IsUnjoined, IsKeptBack}
 use Rattle.vx_changes.specs.Planning.{IsUnplanned}
-use Rattle.vx_changes.proofs.Edited.{refused_so}
+use Rattle.vx_changes.proofs.EditStage.{refused_so}
 
 -- the device of a name has the sectors that are seen
 sectors_seen : (lent : Bool) (seen : Seen) (o : Option Device) → IsDeviceOf lent (Some seen) o → sectors_in o ≡ seen.sectors

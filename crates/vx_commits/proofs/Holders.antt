@@ -6,7 +6,7 @@ use Rattle.vx_copies.specs.Disks.{Held, held, Goes, good_mask}
 use Rattle.vx_copies.specs.Lists.{Each}
 use Rattle.vx_copies.specs.Written.{BothTell}
 use Rattle.vx_copies.specs.declared.disk.Disk.{Disk}
-use Rattle.vx_copies.proofs.Only.{tell_map}
+use Rattle.vx_copies.proofs.SectorsWritten.{tell_map}
 use Rattle.vx_confdb.specs.Groups.{members}
 use Rattle.vx_moments.specs.World.{Group}
 use Rattle.vx_moments.specs.Moment.{Moment}

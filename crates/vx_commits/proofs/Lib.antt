@@ -1,10 +1,10 @@
 pub mod Called
 pub mod Slotted
-pub mod Struck
+pub mod DiskToDevice
 pub mod Members
 pub mod Done
 pub mod Holders
 pub mod Joined
 pub mod Alone
-pub mod Staged
+pub mod CommitStage
 pub mod Kept

@@ -25,7 +25,7 @@ use Rattle.vx_moments.specs.Commit.{Writing, parties, is_slot_of, is_written_slo
 use Rattle.vx_house.proofs.Listed.{all_front}
 use Rattle.vx_commits.proofs.Called.{IsPair}
 use Rattle.vx_commits.proofs.Slotted.{AreSlotted, mask_names, good_slots}
-use Rattle.vx_commits.proofs.Struck.{struck, entered}
+use Rattle.vx_commits.proofs.DiskToDevice.{struck, entered}
 use Rattle.vx_copies.proofs.Going.{each_map}
 use Rattle.vx_house.proofs.Lists.{each_two, each_first, all_of_each, all_before, all_of_pairs, any_mapped, any_of_each}
 

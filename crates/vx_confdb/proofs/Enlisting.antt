@@ -9,7 +9,7 @@ use Rattle.vx_piece.specs.Seen.{Seen}
 use Rattle.vx_copies.specs.Lists.{Each, AllOf}
 use Rattle.vx_copies.specs.Disks.{Held, Goes, Offers, good_count}
 use Rattle.vx_copies.specs.Written.{BothTell, OldOrText, Turns, Touches, IsMaskOf, IsQuiet, Recorded, WritesJust, IsDone, sectors_of}
-use Rattle.vx_copies.proofs.Only.{both_same, tell_map, tell_trans, tell_refl}
+use Rattle.vx_copies.proofs.SectorsWritten.{both_same, tell_map, tell_trans, tell_refl}
 use Rattle.vx_copies.proofs.Going.{keeps_refl, drops_refl, each_refl, each_map, each_then, each_both, each_from}
 use Rattle.vx_copies.proofs.Touching.{touches_masks}
 use Rattle.vx_copies.proofs.Recording.{Fades, goes_fade, fades_good, mask_before, quiet_after}

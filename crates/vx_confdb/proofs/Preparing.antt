@@ -18,7 +18,7 @@ use Rattle.vx_copies.specs.Disks.{Held, held, NamesHalf, RestStays}
 use Rattle.vx_copies.specs.declared.disk.Disk.{Disk}
 use Rattle.vx_copies.specs.Image.{toggle_at, offer_by, offer_of, offer_if, names_group, offer_in}
 use Rattle.vx_copies.specs.Written.{BothTell, WritesJust}
-use Rattle.vx_copies.proofs.Only.{tell_refl, tell_trans}
+use Rattle.vx_copies.proofs.SectorsWritten.{tell_refl, tell_trans}
 use Rattle.vx_copies.proofs.Counted.{one_block, most_writes, just_writes, ok_not_cut}
 use Rattle.vx_copies.proofs.InGroup.{told_none}
 use Rattle.vx_copies.proofs.Halves.{torn_out, written_torn}

@@ -14,7 +14,7 @@ use Rattle.vx_copies.specs.Pass.{IsPadded}
 use Rattle.vx_copies.specs.Written.{BothTell, Holds, HalfStays, OldOrText}
 use Rattle.vx_copies.specs.Steps.{HalfLeaves, ToggleLeaves, Says}
 use Rattle.vx_copies.proofs.Going.{same_toggle}
-use Rattle.vx_copies.proofs.Only.{torn_only}
+use Rattle.vx_copies.proofs.SectorsWritten.{torn_only}
 
 pub blocks_same : (n at : ℕ) (c d : Contents) → ((k : ℕ) → at ≤ k → k < at + n → d k ≡ c k) → blocks_from n at d ≡ blocks_from n at c
 blocks_same zero at c d same = refl

@@ -1,5 +1,5 @@
 pub mod Counted
-pub mod Only
+pub mod SectorsWritten
 pub mod Halves
 pub mod InGroup
 pub mod Going
@@ -12,7 +12,7 @@ pub mod Ordering
 pub mod Leading
 pub mod Tried
 pub mod Chosen
-pub mod Left
+pub mod AfterDone
 pub mod Passing
 pub mod Touching
 pub mod Recording

@@ -9,7 +9,7 @@ use Rattle.vx_copies.specs.Written.{BothTell, Holds, HalfStays, OldOrText, IsTur
 use Rattle.vx_copies.specs.Steps.{HalfLeaves, HalfPut, HalfDone, Says, ToggleLeaves, TogglePut, ToggleDone}
 use Rattle.vx_copies.proofs.Going.{same_toggle, each_then, each_both, each_from}
 use Rattle.vx_copies.proofs.Halves.{few_sectors, blocks_same}
-use Rattle.vx_copies.proofs.Only.{only_refl, only_trans, tell_refl, tell_trans, tell_map}
+use Rattle.vx_copies.proofs.SectorsWritten.{only_refl, only_trans, tell_refl, tell_trans, tell_map}
 use Rattle.vx_copies.proofs.Counted.{more_calls}
 
 -- nothing was written

@@ -38,7 +38,7 @@ use Rattle.vx_house.proofs.Takes.{rests_self}
 use Rattle.vx_engine.specs.Calling.{IsCall, IsServedAmong, ServesAmong}
 use Rattle.vx_engine.specs.Serving.{CommandGoes}
 use Rattle.vx_engine.proofs.Lived.{lived_keeps, lived_faults, lived_blamed, lived_moment, lived_later, lived_runs, n, new}
-use Rattle.vx_engine.proofs.Over.{HasDone, moment_end, over_goes}
+use Rattle.vx_engine.proofs.CommandsEnded.{HasDone, moment_end, over_goes}
 
 -- a call that is built does just what it runs
 does_call : (place : ℕ) (call : Call) (m : Moment) (end : End) (o : Moment) → IsCall call → AreLater m.counts o.counts → CallRuns place call m end o → DoesCall place call m [] end o

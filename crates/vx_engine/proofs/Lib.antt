@@ -3,9 +3,9 @@ pub mod Judged
 pub mod Sound
 pub mod Kept
 pub mod Chained
-pub mod Over
+pub mod CommandsEnded
 pub mod Among
 pub mod Lived
 pub mod Called
-pub mod Staged
-pub mod Said
+pub mod GateStage
+pub mod CommandRanges

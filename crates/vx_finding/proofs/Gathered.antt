@@ -25,7 +25,7 @@ use Rattle.vx_finding.specs.declared.gathering.Passed.TheVariants.{Done, Cut, Ou
 use Rattle.vx_finding.proofs.Passing.{none_before}
 use Rattle.vx_house.specs.Reading.{Stays, OnlyRead}
 use Rattle.vx_house.proofs.Reading.{only_refl, only_trans}
-use Rattle.vx_house.proofs.Asked.{told_free}
+use Rattle.vx_house.proofs.NotHandedOver.{told_free}
 
 -- of rising names each stands before those behind it
 pub rising_at : (names : List Word) (i j : ℕ) (d e : Word) → IsRising names → i < j → j < length names → slice_cmp nat_cmp (get_or names i d) (get_or names j e) ≡ Less

@@ -1,6 +1,6 @@
 pub mod Placed
 pub mod Verdicts
-pub mod Kept
+pub mod PutAmong
 pub mod Passing
 pub mod Gathered
 pub mod Back
@@ -11,7 +11,7 @@ pub mod Counting
 pub mod Searched
 pub mod Inspected
 pub mod Ending
-pub mod Since
+pub mod WhileSearching
 pub mod Goods
 pub mod Readied
 pub mod Told

@@ -23,9 +23,9 @@ use Rattle.vx_finding.specs.Finds.{holder_of, holders_of, beside, IsNaming, HasS
 use Rattle.vx_finding.specs.Gathering.{IsSlotUsed, WhyBack, IsFound, LookBy, PassedBy, PassGoes}
 use Rattle.vx_finding.specs.declared.gathering.Passed.{Passed}
 use Rattle.vx_finding.specs.declared.gathering.Passed.TheVariants.{Done, Cut, OutOfMemory}
-use Rattle.vx_finding.proofs.Kept.{all_on_put, any_on_put, any_at_put}
-use Rattle.vx_house.proofs.Asked.{told_free, not_told, only_asked, held_asked}
-use Rattle.vx_house.proofs.Took as took
+use Rattle.vx_finding.proofs.PutAmong.{all_on_put, any_on_put, any_at_put}
+use Rattle.vx_house.proofs.NotHandedOver.{told_free, not_told, only_asked, held_asked}
+use Rattle.vx_house.proofs.TakenAndRead as took
 use Rattle.vx_house.specs.Reading.{OnlyRead, IsReturned}
 
 pub holders_put : (xs ys : List Looked) → holders_of (xs ++ ys) ≡ holders_of xs ++ holders_of ys

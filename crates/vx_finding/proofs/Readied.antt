@@ -34,7 +34,7 @@ use Rattle.vx_finding.specs.Judging.{is_disk_of, stray_in}
 use Rattle.vx_finding.specs.Readying.{IsReadied, AreCommittable}
 use Rattle.vx_finding.specs.Giving.{good_looks, disk_in, disks_in, seen_disks}
 use Rattle.vx_finding.proofs.Goods.{all_good, are_good, good_placed, good_readable}
-use Rattle.vx_finding.proofs.Since.{slots_mapped}
+use Rattle.vx_finding.proofs.WhileSearching.{slots_mapped}
 
 abbrev first_name : List Object → Word
 first_name [] = []

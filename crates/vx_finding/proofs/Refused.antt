@@ -42,7 +42,7 @@ use Rattle.vx_finding.proofs.Counting.{unread_by, found_of, all_linked}
 use Rattle.vx_finding.proofs.Ending.{starves, loses, refuses}
 use Rattle.vx_finding.proofs.Goods.{good_few}
 use Rattle.vx_finding.proofs.Inspected.{few_looked}
-use Rattle.vx_finding.proofs.Since.{since_back, asked_read}
+use Rattle.vx_finding.proofs.WhileSearching.{since_back, asked_read}
 use Rattle.vx_finding.proofs.Taken.{found_labels}
 use Rattle.vx_finding.proofs.Texts.{labels_in}
 use Rattle.vx_finding.proofs.Told.{started_same, refused_finds, fault_finds, given_finds}

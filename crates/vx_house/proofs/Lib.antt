@@ -8,11 +8,11 @@ pub mod Called
 pub mod Takes
 pub mod Returned
 pub mod Leaves
-pub mod Gone
+pub mod AfterLoss
 pub mod Lists
 pub mod Steps
 pub mod Hands
-pub mod One
+pub mod OnlyInHand
 pub mod Reading
-pub mod Took
-pub mod Asked
+pub mod TakenAndRead
+pub mod NotHandedOver

@@ -29,7 +29,7 @@ use Rattle.vx_plans.specs.Stages.{IsFree, AreFree, NamesGroup, IsCreating, IsJoi
 use Rattle.vx_plans.specs.Tests.{fails, limit_passed}
 use Rattle.vx_plans.specs.Laws.{WentWell}
 use Rattle.vx_laws.specs.Returning.{SlotsRise, nobody, IsWhole, EachMadeGroupIsWhole, HasJustDisks, IsKeptOn, EachJoinedGroupIsWhole, IsLeftOn, IsDeviceOf}
-use Rattle.vx_laws.proofs.Several.{either, is_equal, equal_is, or_first, or_second, or_neither, all_map, all_all, any_map, any_from_list, all_append, any_front, any_behind, all_pass, both_ways}
+use Rattle.vx_laws.proofs.ListFacts.{either, is_equal, equal_is, or_first, or_second, or_neither, all_map, all_all, any_map, any_from_list, all_append, any_front, any_behind, all_pass, both_ways}
 use Rattle.vx_laws.proofs.Orderless.{is_plain}
 use Rattle.vx_laws.proofs.Recorded.{disks_pass, just_disks}
 use Rattle.vx_laws.proofs.Slots.{next_above, used_below, is_used}

@@ -24,7 +24,7 @@ use Rattle.vx_rules.specs.Faults.{first_some, unless, first_of}
 use Rattle.vx_rules.specs.References.{has_name, repeated_after}
 use Rattle.vx_rules.specs.Rules.{fault_in, fault_over, fault_of, rules, first_broken_of, first_broken}
 use Rattle.vx_objects.proofs.OneGroup.{first_none, second_none, unless_none}
-use Rattle.vx_laws.proofs.Several.{alike}
+use Rattle.vx_laws.proofs.ListFacts.{alike}
 
 -- the record of a group or of a disk
 abbrev pub is_plain : Object → Bool

@@ -6,7 +6,7 @@ use Rattle.vx_moments.specs.Holding.{IsLent, IsHeld, IsMemberDevice}
 use Rattle.vx_moments.specs.Leaving.{group_gone, PowerGoes}
 use Rattle.vx_plans.specs.Finding.{Candidate, IsCandidate}
 use Rattle.vx_laws.specs.Returning.{IsKeptOn, nobody, good_members, IsLeftBehind, IsFull, EachGroupOutlivesPower}
-use Rattle.vx_laws.proofs.Several.{clash, all_map}
+use Rattle.vx_laws.proofs.ListFacts.{clash, all_map}
 use Rattle.vx_laws.proofs.Committed.{just_lent, same_candidate}
 
 module _ (g : Group) (old new : World) (left : IsLeftBehind g (group_gone old)) (gone : PowerGoes old new) (apart : (c : Candidate) → IsCandidate g.config.group nobody new c → IsLent old c.name → ⊥) where

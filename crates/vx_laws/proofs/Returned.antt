@@ -33,7 +33,7 @@ use Rattle.vx_plans.specs.declared.stages.Finish.TheVariants.{Nothing}
 use Rattle.vx_plans.specs.declared.stage.Stage.TheVariants.{Import}
 use Rattle.vx_plans.proofs.Calm.{calm, shelf_calm, powered, none_of, nowhere, well_after}
 use Rattle.vx_laws.specs.Returning.{HasSamePublic, IsKeptOn, nobody, IsOutdated, IsLeftBehind, IsFull, IsReturned, is_done, good_members, EachGroupReturns, IsWhole, EachWholeGroupComesBack, IsDeviceOf}
-use Rattle.vx_laws.proofs.Several.{clash, either, both_ways, alike, any_with, all_map, all_filtered, all_append, all_pass, all_any}
+use Rattle.vx_laws.proofs.ListFacts.{clash, either, both_ways, alike, any_with, all_map, all_filtered, all_append, all_pass, all_any}
 use Rattle.vx_laws.proofs.Reread.{committed_is, same_print, same_length}
 use Rattle.vx_laws.proofs.Slots.{next_kept}
 use Rattle.vx_laws.proofs.Recorded.{same_recorded}

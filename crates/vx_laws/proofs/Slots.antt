@@ -9,7 +9,7 @@ use Rattle.vx_parts.specs.Objects.{is_disk}
 use Rattle.vx_objects.specs.declared.config.Config.{Config}
 use Rattle.vx_objects.specs.Config.{objects_of}
 use Rattle.vx_plans.specs.Records.{free_slot_from, slot_or_last, next_slot}
-use Rattle.vx_laws.proofs.Several.{both_ways}
+use Rattle.vx_laws.proofs.ListFacts.{both_ways}
 use Rattle.vx_laws.proofs.Recorded.{disks_pass}
 
 -- a disk of the configuration has the slot

@@ -22,7 +22,7 @@ use Rattle.vx_house.proofs.Ended.{keeps_ended, goes_ended}
 use Rattle.vx_house.proofs.Moments.{moment_at}
 use Rattle.vx_looks.specs.Looks.{IsOnlyRead, IsReadOnce, EndsBy, LooksHeaded}
 use Rattle.vx_looks.proofs.Blanks.{of_world, ends_counted, ends_blamed, once_keeps, once_faults, once_goes, once_still, most_keeps, most_faults, most_goes}
-use Rattle.vx_house.proofs.One.{IsOneCalled, held_before, held_behind, one_in_world}
+use Rattle.vx_house.proofs.OnlyInHand.{IsOneCalled, held_before, held_behind, one_in_world}
 use Rattle.vx_house.proofs.Hands.{after}
 
 module _ {P : Type 0} (see : P → Seen) (h k : House P) (t u : Taken P) (was : h.hand.items ≡ t ∷ []) (is : k.hand.items ≡ u ∷ []) (shelf : Shelved) (are : AreHeld shelf.held (holders see h)) (keeps : KeepsHouse see h) where

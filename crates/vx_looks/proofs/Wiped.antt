@@ -23,7 +23,7 @@ use Rattle.vx_house.proofs.Moments.{moment_at}
 use Rattle.vx_looks.specs.Looks.{EndsBy}
 use Rattle.vx_looks.specs.Wipes.{zero_sector, all_written, not_written, IsWiped, IsPartlyWiped, Wipes}
 use Rattle.vx_looks.proofs.Blanks.{ends_counted, ends_blamed}
-use Rattle.vx_house.proofs.One.{IsOneCalled, held_before, held_behind, one_keeps, one_faults, one_later, one_in_world, seen_before, seen_now, seen_other, faults_before, faults_now, faults_other, changed, changed_moment}
+use Rattle.vx_house.proofs.OnlyInHand.{IsOneCalled, held_before, held_behind, one_keeps, one_faults, one_later, one_in_world, seen_before, seen_now, seen_other, faults_before, faults_now, faults_other, changed, changed_moment}
 use Rattle.vx_house.proofs.Steps.{each_name}
 use Rattle.vx_house.proofs.Hands.{after}
 

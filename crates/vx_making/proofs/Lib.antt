@@ -1,3 +1,3 @@
 mod Judged
-mod Kept
-mod Staged
+mod DisksKept
+mod MakeStage

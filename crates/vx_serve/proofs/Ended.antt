@@ -24,8 +24,8 @@ use Rattle.vx_house.specs.Scene.{Shelved, Scene, seen_at, AreCountsOf, FaultsGoO
 use Rattle.vx_house.specs.View.{View, at, scene, is_lent, IsDeviceOf, IsAtVolume, group_of, IsMoment, Keeps, IsGroupKept}
 use Rattle.vx_house.specs.declared.house.House.{House}
 use Rattle.vx_house.proofs.Ended.{keeps_but_group, moment_but_group}
-use Rattle.vx_house.proofs.Gone.{all_gone, power_goes}
-use Rattle.vx_house.proofs.Gone.{left as left_world}
+use Rattle.vx_house.proofs.AfterLoss.{all_gone, power_goes}
+use Rattle.vx_house.proofs.AfterLoss.{left as left_world}
 use Rattle.vx_house.proofs.Listed.{found_in}
 use Rattle.vx_house.proofs.Moments.{faults_moved, faults_trans}
 use Rattle.vx_serve.specs.Ends.{CarriesOut, IsShelfOf, ShelfGoes, StopsShort, bare}

@@ -16,7 +16,7 @@ use Rattle.vx_house.specs.View.{View, scene}
 use Rattle.vx_house.proofs.Moments.{later_refl, later_trans, faults_refl, faults_trans}
 use Rattle.vx_house.proofs.Takes.{blamed_later}
 use Rattle.vx_engine.specs.Serving.{AnswerBlamed, CommandGoes}
-use Rattle.vx_engine.proofs.Over.{blamed_on}
+use Rattle.vx_engine.proofs.CommandsEnded.{blamed_on}
 use Rattle.vx_serve.specs.Fine.{is_fine, are_fine}
 use Rattle.vx_serve.specs.Run.{AreBlamed, HasRun, HasRunPartly, HoldsButLast, text_of}
 

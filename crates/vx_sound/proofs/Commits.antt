@@ -17,7 +17,7 @@ use Rattle.vx_plans.proofs.Carriers.{FoundBy, found_by}
 use Rattle.vx_sound.specs.Standing.{HoldsNoHeader, IsLeading, IsStanding}
 use Rattle.vx_sound.proofs.Edited.{IsGrown, change_grown, make_grown, import_grown}
 use Rattle.vx_sound.proofs.Ready.{IsReady}
-use Rattle.vx_sound.proofs.Led.{IsLed, led, ready_alone}
+use Rattle.vx_sound.proofs.ReadyToWrite.{IsLed, led, ready_alone}
 use Rattle.vx_sound.proofs.Imported.{found_led}
 use Rattle.vx_sound.proofs.Committing.{sound_on}
 use Rattle.vx_sound.proofs.Leading.{leading_on}

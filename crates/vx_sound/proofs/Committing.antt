@@ -22,7 +22,7 @@ use Rattle.vx_sound.proofs.Fewer.{HadEach, HasNone, HasOrNone, chained_fewer}
 use Rattle.vx_sound.proofs.Configs.{Records, text_records}
 use Rattle.vx_sound.proofs.Lists.{all_at, all_imp, all_two, listed_one, any_at, test_any}
 use Rattle.vx_sound.proofs.Ready.{IsReady, IsHeadedAs, IsNew}
-use Rattle.vx_sound.proofs.Fates.{RenewedAt, KeepsHeader, Joins, JoinsAs, Fate, fate, lent_before, lent_after, headed_after}
+use Rattle.vx_sound.proofs.DevicesAfterCommit.{RenewedAt, KeepsHeader, Joins, JoinsAs, Fate, fate, lent_before, lent_after, headed_after}
 
 -- a device of the group offers what its contents do
 pub offers_in : (dg : Word) (w : World) (name : Word) (slot : ℕ) (o : Offer) → (h : Offers dg w name slot o) → offer_in dg h.device.contents ≡ Some o

@@ -23,7 +23,7 @@ use Rattle.vx_sound.specs.Standing.{IsOwn}
 use Rattle.vx_sound.proofs.Headed.{slot_below, mask_below, some_same, never_some}
 use Rattle.vx_sound.proofs.Configs.{Records}
 use Rattle.vx_sound.proofs.Lists.{all_imp, all_two, all_mapped, all_filter, one_of, any_test, test_any, any_imp}
-use Rattle.vx_sound.proofs.Led.{IsLed}
+use Rattle.vx_sound.proofs.ReadyToWrite.{IsLed}
 use Rattle.vx_sound.proofs.Ready.{IsHeadedAs}
 
 -- a mask of 32 slots has none from 32 on

@@ -32,8 +32,8 @@ use Rattle.vx_sound.proofs.Configs.{Records}
 use Rattle.vx_sound.proofs.Edited.{IsGrown, join_grown, join_records, new_group, new_recorded}
 use Rattle.vx_sound.proofs.Lists.{all_imp, all_two, all_join, one_of, any_test, any_or_none}
 use Rattle.vx_sound.proofs.Ready.{IsReady, IsBlank, IsVacant, IsNew, IsHeadedAs}
-use Rattle.vx_sound.proofs.Led.{IsLed, led_on}
-use Rattle.vx_sound.proofs.Fates.{same_or_not}
+use Rattle.vx_sound.proofs.ReadyToWrite.{IsLed, led_on}
+use Rattle.vx_sound.proofs.DevicesAfterCommit.{same_or_not}
 
 -- ---- what the stages before have found
 

@@ -18,7 +18,7 @@ use Rattle.vx_sound.specs.Standing.{IsOwn, Carries, IsLeading}
 use Rattle.vx_sound.proofs.Headed.{some_same, never_some}
 use Rattle.vx_sound.proofs.Lists.{all_two, all_join, all_left, all_right, any_left, any_right}
 use Rattle.vx_sound.proofs.Ready.{IsReady, IsHeadedAs, IsBlank}
-use Rattle.vx_sound.proofs.Fates.{lent_before, header_stays, text_back}
+use Rattle.vx_sound.proofs.DevicesAfterCommit.{lent_before, header_stays, text_back}
 use Rattle.vx_sound.proofs.Committing.{headed_fore, offers_back, new_one}
 
 matched : {X : Type 0} (o : Option X) (x : X) (P : X → Type 0) → o ≡ Some x → MatchOption o ⊥ P → P x

@@ -4,10 +4,10 @@ mod Configs
 mod Lists
 mod Edited
 mod Ready
-mod Fates
+mod DevicesAfterCommit
 mod Committing
 mod Leading
-mod Led
+mod ReadyToWrite
 mod Imported
 mod Settled
 mod Devices

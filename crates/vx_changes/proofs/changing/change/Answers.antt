@@ -1,4 +1,4 @@
-use Rattle.vx_changes.proofs.Staged.{change_goes}
+use Rattle.vx_changes.proofs.ChangeStage.{change_goes}
 use Rattle.vx_changes.proofs.changing.change.Goals as goal
 
 pub returns-in-Some : goal.returns-in-Some

@@ -1,7 +1,7 @@
 use Rattle.std.proofs.Common.{Err, refl, subst}
 use Rattle.std.proofs.lemmas.Result.{err_from_is_err_and}
 use Rattle.vx_commits.specs.Committing.{CommitEnds}
-use Rattle.vx_changes.proofs.Edited.{unplanned_ends, stopped_ends}
+use Rattle.vx_changes.proofs.EditStage.{unplanned_ends, stopped_ends}
 use Rattle.vx_changes.proofs.changing.commit_edits.Goals as goal
 
 pub returns-in_err-config : goal.returns-in_err-config

@@ -1,6 +1,6 @@
 use Rattle.std.proofs.Common.{Some, refl}
 use Rattle.std.proofs.lemmas.Result.{err_from_is_err_and}
-use Rattle.vx_changes.proofs.Created.{none_of, in_use, created, not_created}
+use Rattle.vx_changes.proofs.CreateStage.{none_of, in_use, created, not_created}
 use Rattle.vx_changes.proofs.creating.create.Goals as goal
 
 pub returns-in-Some : goal.returns-in-Some

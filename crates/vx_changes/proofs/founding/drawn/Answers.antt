@@ -1,5 +1,5 @@
 use Rattle.std.proofs.Common.{◌∙◌}
-use Rattle.vx_changes.proofs.Drawn.{is_drawn}
+use Rattle.vx_changes.proofs.NewConfig.{is_drawn}
 use Rattle.vx_changes.proofs.founding.drawn.Goals as goal
 
 pub returns : goal.returns

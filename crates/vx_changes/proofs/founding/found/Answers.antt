@@ -1,6 +1,6 @@
 use Rattle.std.proofs.Common.{◌≡◌, ◌∙◌, true, sym, subst}
 use Rattle.vx_changes.specs.Creating.{are_fit}
-use Rattle.vx_changes.proofs.Drawn.{all_fresh, none_offers, is_unfounded}
+use Rattle.vx_changes.proofs.NewConfig.{all_fresh, none_offers, is_unfounded}
 use Rattle.vx_changes.proofs.founding.found.Goals as goal
 
 pub create-requires-clause-fresh : goal.create-requires-clause-fresh

@@ -1,5 +1,5 @@
 use Rattle.vx_copies.proofs.Chosen.{gives, below_all}
-use Rattle.vx_copies.proofs.Left.{ok_is}
+use Rattle.vx_copies.proofs.AfterDone.{ok_is}
 use Rattle.vx_copies.proofs.writing.commit.Goals as goal
 
 pub returns-clause-old_or_new : goal.returns-clause-old_or_new

@@ -12,7 +12,7 @@ use Rattle.vx_copies.proofs.Recording.{Fades, goes_fade, mask_then, mask_before,
 use Rattle.vx_copies.proofs.Ordering.{order_below, in_order}
 use Rattle.vx_copies.proofs.Leading.{led_below, members_go}
 use Rattle.vx_copies.proofs.Chosen.{below_all}
-use Rattle.vx_copies.proofs.Left.{older_all}
+use Rattle.vx_copies.proofs.AfterDone.{older_all}
 use Rattle.vx_copies.proofs.Tried.{one_more, count_few}
 use Rattle.vx_copies.proofs.writing.commit_on.Goals as goal
 

@@ -6,7 +6,7 @@ use Rattle.vx_script_forms.specs.declared.form.Form.TheVariants as form
 use Rattle.vx_engine.specs.Serving.{CommandGoes}
 use Rattle.vx_house.specs.Scene.{shelved}
 use Rattle.vx_house.specs.View.{at}
-use Rattle.vx_engine.proofs.Said.{call_within, other_form, uncut_form}
+use Rattle.vx_engine.proofs.CommandRanges.{call_within, other_form, uncut_form}
 use Rattle.vx_engine.proofs.executing.execute.Goals as goal
 
 pub serve_said-requires-clause-within : goal.serve_said-requires-clause-within

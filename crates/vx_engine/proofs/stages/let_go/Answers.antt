@@ -1,5 +1,5 @@
 use Rattle.vx_house.specs.Scene.{shelved}
-use Rattle.vx_engine.proofs.Staged.{group_let_go}
+use Rattle.vx_engine.proofs.GateStage.{group_let_go}
 use Rattle.vx_engine.proofs.stages.let_go.Goals as goal
 
 pub returns : goal.returns

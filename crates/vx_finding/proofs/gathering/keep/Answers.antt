@@ -1,6 +1,6 @@
 use Rattle.std.proofs.Common.{◌≡◌, ◌<◌, true, length, rules, ◌∙◌, refl, inl, inr, arith}
 use Rattle.vx_finding.proofs.Placed.{room_in}
-use Rattle.vx_finding.proofs.Kept.{roomy_on, kept_on, used_at, counted_group, counted_size}
+use Rattle.vx_finding.proofs.PutAmong.{roomy_on, kept_on, used_at, counted_group, counted_size}
 use Rattle.vx_finding.proofs.gathering.keep.Goals as goal
 
 pub put_in-requires-clause-room : goal.put_in-requires-clause-room

@@ -1,4 +1,4 @@
-use Rattle.vx_finding.proofs.Kept.{look_ends, look_each}
+use Rattle.vx_finding.proofs.PutAmong.{look_ends, look_each}
 use Rattle.vx_finding.proofs.gathering.look.Goals as goal
 
 pub returns-in-Ok-Some-clause-finds : goal.returns-in-Ok-Some-clause-finds

@@ -3,7 +3,7 @@ use Rattle.vx_import.specs.Looks.{looked}
 use Rattle.vx_house.specs.Scene.{shelved}
 use Rattle.vx_finding.proofs.Passing.{look_goes, look_before, look_more, pass_absent, pass_failed, pass_starved}
 use Rattle.vx_finding.proofs.gathering.pass.Goals as goal
-use Rattle.vx_house.proofs.Asked.{nowhere_gone, held_gone}
+use Rattle.vx_house.proofs.NotHandedOver.{nowhere_gone, held_gone}
 
 pub returns-in-Ok-clause-goes : goal.returns-in-Ok-clause-goes
 returns-in-Ok-clause-goes g c = λ others are.

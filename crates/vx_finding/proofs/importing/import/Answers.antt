@@ -2,7 +2,7 @@ use Rattle.std.proofs.Common.{refl, sym, subst, IfSome}
 use Rattle.vx_shelf.specs.Listed.{Lists}
 use Rattle.vx_house.specs.Scene.{shelved}
 use Rattle.vx_finding.proofs.Ending.{stands, fails}
-use Rattle.vx_finding.proofs.Since.{names_asked, still_asked}
+use Rattle.vx_finding.proofs.WhileSearching.{names_asked, still_asked}
 use Rattle.vx_finding.proofs.importing.import.Goals as goal
 
 pub returns-in-Some : goal.returns-in-Some

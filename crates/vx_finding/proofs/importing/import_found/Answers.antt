@@ -4,7 +4,7 @@ use Rattle.vx_house.specs.Holders.{holders}
 use Rattle.vx_house.specs.Scene.{shelved}
 use Rattle.vx_finding.proofs.Inspected.{held_inspected}
 use Rattle.vx_finding.proofs.Refused.{fault_back}
-use Rattle.vx_finding.proofs.Since.{since_inspected}
+use Rattle.vx_finding.proofs.WhileSearching.{since_inspected}
 use Rattle.vx_finding.proofs.importing.import_found.Goals as goal
 
 pub import_given-requires-clause-held : goal.import_given-requires-clause-held

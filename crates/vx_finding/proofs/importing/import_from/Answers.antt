@@ -1,7 +1,7 @@
 use Rattle.vx_house.specs.Holders.{holders}
 use Rattle.vx_house.specs.Scene.{shelved}
 use Rattle.vx_finding.proofs.Refused.{searched_back}
-use Rattle.vx_finding.proofs.Since.{since_found}
+use Rattle.vx_finding.proofs.WhileSearching.{since_found}
 use Rattle.vx_finding.proofs.importing.import_from.Goals as goal
 
 pub returns-in-Ok : goal.returns-in-Ok

@@ -5,7 +5,7 @@ use Rattle.vx_house.specs.Goes.{StageGoes}
 use Rattle.vx_house.specs.View.{at}
 use Rattle.vx_looks.proofs.Wiped.{wipe_stage}
 use Rattle.vx_looks.proofs.wiping.wipe.Goals as goal
-use Rattle.vx_house.proofs.One.{only_one, only_set}
+use Rattle.vx_house.proofs.OnlyInHand.{only_one, only_set}
 
 pub returns : goal.returns
 returns g c =

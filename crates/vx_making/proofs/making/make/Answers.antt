@@ -1,4 +1,4 @@
-use Rattle.vx_making.proofs.Staged.{make_goes}
+use Rattle.vx_making.proofs.MakeStage.{make_goes}
 use Rattle.vx_making.proofs.making.make.Goals as goal
 
 pub returns-in-Some : goal.returns-in-Some

@@ -28,7 +28,7 @@ use Rattle.vx_finding.proofs.Gathered.{naming_on, stays_to, met_on}
 use Rattle.vx_finding.proofs.Inspected.{read_each, slot_inspected}
 use Rattle.vx_house.specs.Reading.{Stays, OnlyRead, AreRead}
 use Rattle.vx_house.proofs.Reading.{only_trans, only_each, only_unmoved, each_behind, each_later}
-use Rattle.vx_house.proofs.Asked.{told_free, only_asked, held_asked}
+use Rattle.vx_house.proofs.NotHandedOver.{told_free, only_asked, held_asked}
 
 -- the names are told: nothing was taken
 pub names_asked : {P : Type 0} (see : P → Seen) (names : List Word) (first now : Shelved) (h : House P) → Keeps see (at first h) → h.hand.items ≡ [] → h.group ≡ None → IfSome first.free (λ devices. Lists names devices first.held)

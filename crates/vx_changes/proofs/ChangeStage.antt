@@ -24,7 +24,7 @@ use Rattle.vx_commits.proofs.Holders.{world_group, group_before}
 use Rattle.vx_changes.specs.Changing.{ChangeEnds}
 use Rattle.vx_changes.specs.Planning.{change_edits}
 use Rattle.vx_changes.proofs.Configs.{disks_kept, group_kept}
-use Rattle.vx_changes.proofs.Edited.{IsStage, refused_here, house, edits_go}
+use Rattle.vx_changes.proofs.EditStage.{IsStage, refused_here, house, edits_go}
 
 -- the edits of a change go by the configuration alone
 edits_same : (c : Change) (w : Group) → edits_of c (Some w) ≡ change_edits c w.config

@@ -39,8 +39,8 @@ use Rattle.vx_house.specs.declared.house.Imported.{Imported}
 use Rattle.vx_house.specs.declared.house.Taken.{Taken}
 use Rattle.vx_house.specs.declared.stop.Stop.{Stop}
 use Rattle.vx_house.specs.declared.stop.Stop.TheVariants as stops
-use Rattle.vx_house.proofs.Gone.{power_goes, all_gone, without_group}
-use Rattle.vx_house.proofs.Gone.{left as left_world}
+use Rattle.vx_house.proofs.AfterLoss.{power_goes, all_gone, without_group}
+use Rattle.vx_house.proofs.AfterLoss.{left as left_world}
 use Rattle.vx_house.proofs.Listed.{found_in}
 use Rattle.vx_house.proofs.Moments.{faults_trans, faults_moved, moment_moved}
 use Rattle.vx_house.proofs.Ended.{moment_but_group}

@@ -25,7 +25,7 @@ use Rattle.vx_house.specs.declared.house.House.{House}
 use Rattle.vx_house.specs.declared.house.Taken.{Taken}
 use Rattle.vx_house.specs.declared.stop.Stop.TheVariants.{Ended, OutOfMemory}
 use Rattle.vx_house.proofs.Ended.{keeps_but_group, moment_but_group}
-use Rattle.vx_house.proofs.Gone.{group_away}
+use Rattle.vx_house.proofs.AfterLoss.{group_away}
 use Rattle.vx_house.proofs.Leaves.{group_held, group_moved}
 use Rattle.vx_house.proofs.Listed.{found_in}
 use Rattle.vx_house.proofs.Moments.{faults_moved, faults_refl, later_refl}

@@ -29,7 +29,7 @@ use Rattle.vx_commits.proofs.Joined.{AreCalled, AreWritten, moment_on, back_gone
 use Rattle.vx_commits.proofs.Members.{member_in, writing, IsGone}
 use Rattle.vx_commits.proofs.Slotted.{slotted}
 use Rattle.vx_changes.specs.Creating.{disks_from, IsDrawn}
-use Rattle.vx_changes.proofs.Drawn.{named_so}
+use Rattle.vx_changes.proofs.NewConfig.{named_so}
 use Rattle.vx_changes.proofs.Enlisted.{names_in, all_good, have_slots, hand_held, members_from, records_from}
 use Rattle.vx_changes.proofs.Entered.{IsWhole, joins_called, joins_went, joins_enlisted}
 use Rattle.vx_house.proofs.Lists.{all_of_pairs}

@@ -1,5 +1,5 @@
 -- Copies whose first sectors were written begin with the bytes.
-use Rattle.std.proofs.Common.{◌≡◌, ℕ, zero, suc, ◌+◌, ◌<◌, Bool, true, false, refl, sym, ◌∙◌, ap, subst, arith, List, [], ◌∷◌, length, Option, Some, None, Result, Ok, Err}
+use Rattle.std.proofs.Common.{◌≡◌, ℕ, ◌+◌, Bool, true, false, refl, sym, ◌∙◌, ap, subst, arith, List, [], ◌∷◌, Option, Some, None, Result, Ok, Err}
 use Rattle.std.specs.Prelude.{is_some, ◌&&◌, ◌||◌, OnOk}
 use Rattle.std.specs.Option.{option_map}
 use Rattle.vx_base.specs.Counts.{Rose}
@@ -8,12 +8,12 @@ use Rattle.vx_piece.specs.Seen.{Seen}
 use Rattle.vx_runs.specs.Part.{told_or}
 use Rattle.vx_marks.specs.declared.marker.MarkFault.{MarkFault}
 use Rattle.vx_marks.specs.declared.marker.MarkFault.TheVariants.{Failed, PowerLost, Busy}
-use Rattle.vx_maps.specs.Sector.{Copies, HasCause, IsPut, SectorSeen, held, is_cut, second_cut, tells}
+use Rattle.vx_pages.specs.Sector.{Copies, HasCause, SectorSeen, held, is_cut, second_cut, tells}
 use Rattle.vx_maps.specs.Slots.{MovedBoth, MovedSecond, SheetsSeen, filled, part_at, slot_at}
 use Rattle.vx_maps.specs.Heads.{ArePut}
 use Rattle.vx_maps.specs.Copies.{copies_list}
-use Rattle.vx_maps.specs.Wholes.{whole_copies, whole_faults, sheet_faults}
-use Rattle.vx_maps.specs.Creating.{AllBeginWith, BeginsWith, EachBegins, head_tells, heads_tell}
+use Rattle.vx_maps.specs.Wholes.{whole_copies}
+use Rattle.vx_maps.specs.Creating.{AllBeginWith, BeginsWith, head_tells}
 use Rattle.vx_maps.specs.Cutness.{slot_cut, slots_cut, sheets_cut}
 use Rattle.vx_maps.specs.Cutness.{second_cut as slots_second_cut}
 

@@ -9,9 +9,9 @@ use Rattle.vx_mask.proofs.Tests.{not_both, both_parts}
 use Rattle.vx_marks.specs.Log.{LogSeen, KeepsLog, OnMarks, MarkHasCause}
 use Rattle.vx_marks.specs.declared.marker.MarkFault.{MarkFault}
 use Rattle.vx_marks.specs.declared.marker.MarkFault.TheVariants.{Failed, PowerLost, Busy}
-use Rattle.vx_maps.specs.Items.{EachItem}
-use Rattle.vx_maps.specs.Firm.{FirmsAll, FirmsStore}
-use Rattle.vx_maps.specs.Sector.{HasCause}
+use Rattle.vx_pages.specs.Items.{EachItem}
+use Rattle.vx_pages.specs.Firm.{FirmsAll, FirmsStore}
+use Rattle.vx_pages.specs.Sector.{HasCause}
 use Rattle.vx_maps.specs.Store.{no_page, no_marks, page_at, marks_in, pages_tell, pages_faults, pages_cut, ArePages, PageGoes, ArePagesFirmed, store_log}
 use Rattle.vx_maps.proofs.Storing.{tells_page, on_both, faults_set, part_le, cut_set, same_sum, rise_sum}
 

@@ -1,5 +1,5 @@
 -- What it is to create the maps of a volume.
-use Rattle.std.specs.Prelude.{◌≡◌, ℕ, zero, ◌&&◌, ◌||◌, Bool, true, false, is_some, List, [], ◌∷◌, Option, Some, None, Result, Ok, Err}
+use Rattle.std.specs.Prelude.{◌≡◌, ℕ, ◌&&◌, ◌||◌, Bool, true, false, is_some, List, [], ◌∷◌, Option, Some, None}
 use Rattle.vx_base.specs.Counts.{Rose}
 use Rattle.vx_mask.specs.Marks.{Marks}
 use Rattle.vx_piece.specs.Seen.{Seen}

@@ -2,7 +2,7 @@
 use Rattle.std.specs.Prelude.{ℕ, ◌<◌, List, length, Option, Some, None, Result}
 use Rattle.vx_piece.specs.Seen.{Seen}
 use Rattle.vx_marks.specs.declared.marker.MarkFault.{MarkFault}
-use Rattle.vx_maps.specs.Sector.{Copies, IsPut}
+use Rattle.vx_pages.specs.Sector.{Copies, IsPut}
 use Rattle.vx_maps.specs.Slots.{HoldsSingle, MovedBoth, SheetsSeen, slot_at}
 
 -- there is a first sector, in a piece of its own

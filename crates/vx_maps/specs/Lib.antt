@@ -1,15 +1,7 @@
-pub mod Bytes
 pub mod Copies
 pub mod Creating
 pub mod Cutness
-pub mod Firm
 pub mod Heads
-pub mod Items
-pub mod Page
-pub mod Pages
-pub mod Pieces
-pub mod Sector
-pub mod Sectors
 pub mod Sheets
 pub mod Slots
 pub mod Spares

@@ -2,13 +2,14 @@
 
 ghost use Rattle.std.specs.Prelude.{◌≡◌, ◌≤◌, ◌/◌, ◌<◌, [], length, is_some, vec_capacity, OnOk};
 ghost use Rattle.vx_mapfmt.specs.Sizes.{page_count};
-ghost use Rattle.vx_maps.specs.Pages.{grid_seen};
+ghost use Rattle.vx_pages.specs.Pages.{grid_seen};
 ghost use Rattle.vx_maps.specs.Sheets.{sheets_seen};
 ghost use Rattle.vx_maps.specs.Store.{AreLogsOf, pages_seen};
-ghost use Rattle.vx_maps.specs.Slots.{AreHoled, ArePairedRows, AreWhole, HasCuts, IsOpen, Wholes};
+ghost use Rattle.vx_pages.specs.Sector.{IsOpen};
+ghost use Rattle.vx_maps.specs.Slots.{AreHoled, ArePairedRows, AreWhole, HasCuts, Wholes};
 
-use crate::local_piece::LocalPiece;
-use crate::page::Page;
+use vx_pages::LocalPiece;
+use vx_pages::Page;
 use crate::paging::{drain_page, fill_page};
 use crate::slots::Sheets;
 use std::alloc::Global;

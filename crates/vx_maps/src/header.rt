@@ -4,8 +4,8 @@ ghost use Rattle.std.specs.Prelude.{◌≡◌, length};
 ghost use Rattle.vx_maps.specs.Heads.{ArePut, HaveFirst};
 ghost use Rattle.vx_maps.specs.Sheets.{sheets_seen};
 
-use crate::copies::put;
-use crate::local_piece::LocalPiece;
+use vx_pages::copies::put;
+use vx_pages::LocalPiece;
 use crate::slots::{Sheets, put_both, take_both};
 use vx_marks::MarkFault;
 

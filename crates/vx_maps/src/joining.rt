@@ -7,7 +7,7 @@ ghost use Rattle.vx_maps.specs.Sheets.{sheets_seen};
 ghost use Rattle.vx_maps.specs.Slots.{AreAllFull, AreWhole, pieces_in, slots_seen};
 ghost use Rattle.vx_maps.specs.Spares.{HasRoom, HasRoomSecond, copies_seen};
 
-use crate::local_piece::LocalPiece;
+use vx_pages::LocalPiece;
 use crate::runs::{cut_copy, take_out};
 use crate::slots::Sheets;
 use std::alloc::Global;

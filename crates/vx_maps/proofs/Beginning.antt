@@ -18,17 +18,17 @@ use Rattle.vx_maps.specs.Cutness.{slot_cut, slots_cut, sheets_cut}
 use Rattle.vx_maps.specs.Cutness.{second_cut as slots_second_cut}
 
 -- the first piece of a copy
-begins_one : (size copy : ℕ) (grid : List (List SectorSeen)) (slots : List (Option Seen)) (p : Seen) (bytes : List ℕ) → slot_at slots 0 ≡ Some p → told_or p.told 0 ≡ bytes → BeginsWith bytes (filled size copy grid 0 slots)
+pub begins_one : (size copy : ℕ) (grid : List (List SectorSeen)) (slots : List (Option Seen)) (p : Seen) (bytes : List ℕ) → slot_at slots 0 ≡ Some p → told_or p.told 0 ≡ bytes → BeginsWith bytes (filled size copy grid 0 slots)
 begins_one size copy grid [] p bytes e h = cc
 begins_one size copy grid (None ∷ xs) p bytes e h = cc
 begins_one size copy grid (Some x ∷ xs) p bytes e h = ap (λ (o : Option Seen). told_or (part_at 0 o None).told 0) e ∙ h
 
-tells_one : (size copy : ℕ) (grid : List (List SectorSeen)) (slots : List (Option Seen)) (p : Seen) → slot_at slots 0 ≡ Some p → head_tells (filled size copy grid 0 slots) ≡ is_some p.told
+pub tells_one : (size copy : ℕ) (grid : List (List SectorSeen)) (slots : List (Option Seen)) (p : Seen) → slot_at slots 0 ≡ Some p → head_tells (filled size copy grid 0 slots) ≡ is_some p.told
 tells_one size copy grid [] p e = cc
 tells_one size copy grid (None ∷ xs) p e = cc
 tells_one size copy grid (Some x ∷ xs) p e = cc
 
-begins_both : (size : ℕ) (grid : List (List SectorSeen)) (first : List (Option Seen)) (second mid : Option (List (Option Seen))) (p : Seen) (q : Option Seen) (bytes : List ℕ) → slot_at first 0 ≡ Some p → MovedSecond 0 q second mid →
+pub begins_both : (size : ℕ) (grid : List (List SectorSeen)) (first : List (Option Seen)) (second mid : Option (List (Option Seen))) (p : Seen) (q : Option Seen) (bytes : List ℕ) → slot_at first 0 ≡ Some p → MovedSecond 0 q second mid →
     (tells (record { first = p; second = q }) ≡ true → (n : ℕ) → held (record { first = p; second = q }) n ≡ bytes) → AllBeginWith bytes (copies_list (filled size 0 grid 0 first) (option_map (filled size 1 grid 0) second))
 begins_both size grid first None None p None bytes e moved holds told =
     let t = sym (tells_one size 0 grid first p e) ∙ (both_parts _ _ told).0 in

@@ -6,7 +6,7 @@ use Rattle.vx_marks.specs.Log.{LogSeen, MarkHasCause}
 use Rattle.vx_marks.specs.declared.marker.MarkFault.{MarkFault}
 use Rattle.vx_marks.specs.declared.marker.MarkFault.TheVariants as mark
 use Rattle.vx_maps.specs.declared.fault.StoreFault.{StoreFault}
-use Rattle.vx_maps.specs.declared.fault.StoreFault.TheVariants.{OutOfMemory, Failed, PowerLost}
+use Rattle.vx_maps.specs.declared.fault.StoreFault.TheVariants.{NoCopy, OutOfMemory, Failed, PowerLost}
 use Rattle.vx_pages.specs.declared.local_piece.LocalPiece.{Ghosts}
 use Rattle.vx_pages.specs.declared.page.Page.{Page}
 use Rattle.vx_pages.specs.Sector.{HasCause}
@@ -37,6 +37,7 @@ refused_after mark.PowerLost f old new cut copies is cause same shown = subst (�
 refused_after mark.Busy f old new cut copies is cause same shown = absurd is
 
 pub refused_for : (f : StoreFault) (old : List (List Seen)) (counts : ℕ → ℕ → ℕ) (copies : List (List Seen)) → ((copy device : ℕ) → counts copy device ≡ copy_faults old copy device) → IsRefusedAfter f counts copies → IsRefusedFor f old copies
+refused_for NoCopy old counts copies same h = absurd h
 refused_for OutOfMemory old counts copies same h = absurd h
 refused_for (Failed copy device) old counts copies same h = subst (λ (n : ℕ). Rose n (copy_faults copies copy device)) (same copy device) h
 refused_for PowerLost old counts copies same h = h

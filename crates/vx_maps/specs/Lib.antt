@@ -1,7 +1,9 @@
 pub mod Copies
 pub mod Creating
 pub mod Cutness
+pub mod Going
 pub mod Heads
+pub mod Loading
 pub mod Sheets
 pub mod Slots
 pub mod Spares

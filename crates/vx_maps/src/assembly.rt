@@ -13,13 +13,12 @@ ghost use Rattle.vx_maps.specs.Wholes.{copy_faults, store_copies, store_faults, 
 
 use crate::cutting::{drain_pages, fill_pages};
 use crate::joining::{Cut, Spares, cut_sheets, join_sheets};
-use vx_pages::LocalPiece;
-use vx_pages::Page;
 use crate::slots::Sheets;
 use crate::store::{Base, MapStore};
 use std::alloc::Global;
 use vx_base::OutOfMemory;
 use vx_mapfmt::DcoShape;
+use vx_pages::{LocalPiece, Page};
 use vx_piece::Piece;
 
 /// A store, and the memory to put its copies together again.

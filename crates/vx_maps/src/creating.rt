@@ -17,11 +17,11 @@ ghost use Rattle.vx_maps.specs.declared.joining.Spares.{Spares};
 use crate::assembly::{CutStore, cut_store};
 use crate::fault::{StoreFault, StoreRefused, fault_of};
 use crate::header::put_heads;
-use vx_pages::LocalPiece;
 use crate::store::MapStore;
 use std::alloc::Global;
 use vx_mapfmt::DcoShape;
 use vx_marks::MarkFault;
+use vx_pages::LocalPiece;
 use vx_piece::Piece;
 
 /// Writes the first sector of each copy of a store.

@@ -8,13 +8,12 @@ ghost use Rattle.vx_maps.specs.Store.{AreLogsOf, pages_seen};
 ghost use Rattle.vx_pages.specs.Sector.{IsOpen};
 ghost use Rattle.vx_maps.specs.Slots.{AreHoled, ArePairedRows, AreWhole, HasCuts, Wholes};
 
-use vx_pages::LocalPiece;
-use vx_pages::Page;
 use crate::paging::{drain_page, fill_page};
 use crate::slots::Sheets;
 use std::alloc::Global;
 use vx_base::OutOfMemory;
 use vx_mapfmt::DcoShape;
+use vx_pages::{LocalPiece, Page};
 
 /// Makes pages of the pieces in their places, in order, as far as there is memory. Nothing is claimed, and all is loose.
 pub fn fill_pages<P: LocalPiece + Drop>(

@@ -12,12 +12,10 @@ ghost use Rattle.vx_pages.specs.Page.{AreAll, ArePaired};
 ghost use Rattle.vx_pages.specs.Sector.{IsOpen};
 ghost use Rattle.vx_maps.specs.Slots.{HasCuts, HasHoles, HasPieces, Wholes, place_of};
 
-use vx_pages::{empty_page, full_page};
-use vx_pages::LocalPiece;
-use vx_pages::MapSector;
 use crate::slots::{Sheets, put_both, take_both};
 use std::alloc::Global;
 use vx_base::OutOfMemory;
+use vx_pages::{LocalPiece, MapSector, empty_page, full_page};
 
 /// The place of a page's sector of a map, where each slot has so many sectors.
 fn place_of(size: u64, map: u64, page: u64) -> usize

@@ -8,13 +8,12 @@ ghost use Rattle.vx_maps.specs.Slots.{IsLaid, copies_in};
 
 use crate::assembly::join_whole;
 use crate::joining::{Spares, spares_of};
-use vx_pages::LocalPiece;
-use vx_pages::Page;
 use crate::slots::Sheets;
 use std::alloc::Global;
 use vx_base::OutOfMemory;
 use vx_mapfmt::DcoShape;
 use vx_marks::{MarkFault, Marker};
+use vx_pages::{LocalPiece, Page};
 
 /// What a store keeps beside its pages: its shape, and for each copy the pieces between the pages, in order.
 #[derive(Drop)]

@@ -1,4 +1,5 @@
 pub mod Bits
+pub mod Clipping
 pub mod Going
 pub mod Items
 pub mod Keeping

@@ -1,5 +1,5 @@
 -- How a sector is read from one copy, and how each copy is made to hold a sector.
-use Rattle.std.proofs.Common.{◌≡◌, ◌⊎◌, inl, inr, ℕ, zero, suc, Bool, true, false, refl, sym, ◌∙◌, subst, ap, arith, List, length, Option, Some, None, Result, Ok, Err}
+use Rattle.std.proofs.Common.{◌≡◌, inl, inr, ℕ, zero, suc, Bool, true, false, refl, sym, ◌∙◌, subst, ap, arith, List, length, Option, Some, None, Result, Ok, Err}
 use Rattle.std.specs.Prelude.{◌||◌, is_some, IfSome}
 use Rattle.vx_base.specs.Counts.{Rose}
 use Rattle.vx_base.specs.Blocks.{Contents, AreBlocks}
@@ -7,9 +7,9 @@ use Rattle.vx_piece.specs.Seen.{Seen, Keeps, IsRead, HasCause as HasPieceCause}
 use Rattle.vx_runs.specs.Part.{told_or}
 use Rattle.vx_marks.specs.declared.marker.MarkFault.{MarkFault}
 use Rattle.vx_marks.specs.declared.marker.MarkFault.TheVariants.{Failed, PowerLost, Busy}
-use Rattle.vx_pages.specs.Sector.{KeepsPiece, copy_of, held, faults_at, is_cut, tells, HasCause, Holds}
+use Rattle.vx_pages.specs.Sector.{KeepsPiece, copy_of, held, faults_at, is_cut, HasCause, Holds}
 use Rattle.vx_pages.specs.Pieces.{PieceCause}
-use Rattle.vx_pages.specs.Reading.{Gives, HasRisen, IsFaultAt, IsGot, IsGotOn, IsMended, IsMendedOn, IsWhatIs, PieceRisen}
+use Rattle.vx_pages.specs.Reading.{HasRisen, IsFaultAt, IsGot, IsGotOn, IsMended, IsMendedOn, IsWhatIs, PieceRisen}
 use Rattle.vx_pages.proofs.Keeping.{piece_same}
 use Rattle.vx_pages.proofs.Putting.{keeps_pair, no_second_step, first_cause, second_cause, faults_same, rose_on, and_first, and_second, whole_block}
 

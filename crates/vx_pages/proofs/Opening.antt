@@ -49,4 +49,3 @@ open_formed c sure loose sectors none all = record {
   shows = λ told n region.
       ap (λ (b : Bool). shown c n region && not b) (ap (λ (bytes : List ℕ). bit_in bytes region) all ∙ full_bit region) ∙ and_none (shown c n region) ∙ sym (ap (λ (bytes : List ℕ). bit_in bytes region) none ∙ no_bit region);
 }
-

@@ -1,14 +1,9 @@
 -- Calls on pages keep how many copies their sectors have.
-use Rattle.std.proofs.Common.{◌≡◌, inl, inr, ℕ, ◌<◌, ◌/◌, Bool, refl, sym, ◌∙◌, ap, subst, arith, List, length, map, get_or, set, Result, Ok, Err}
-use Rattle.std.specs.Prelude.{is_some}
-use Rattle.std.proofs.lemmas.Bool.{cases_order}
-use Rattle.vx_marks.specs.Log.{LogSeen, KeepsLog}
+use Rattle.std.proofs.Common.{inl, inr, ℕ, ◌<◌, sym, ◌∙◌, arith, List, length, Result, Ok, Err}
 use Rattle.vx_marks.specs.declared.marker.MarkFault.{MarkFault}
-use Rattle.vx_pages.specs.Items.{EachItem}
 use Rattle.vx_pages.specs.Sector.{SectorSeen, KeepsSector}
-use Rattle.vx_pages.specs.Page.{EachSector, IsFirmed, IsMarkedIn, IsUnmarkedIn, sector_at}
+use Rattle.vx_pages.specs.Page.{EachSector, IsFirmed, IsMarkedIn, IsUnmarkedIn}
 use Rattle.vx_pages.specs.Page.{ArePairedAlike}
-use Rattle.vx_pages.proofs.Items.{at_is, at_set, at_other, set_size}
 
 paired_each : (fact : ℕ → SectorSeen → SectorSeen → Type 0) (xs ys : List SectorSeen) → ((m : ℕ) (a b : SectorSeen) → fact m a b → KeepsSector a b) → EachSector fact xs ys → ArePairedAlike xs → ArePairedAlike ys
 paired_each fact xs ys keeps each pair m lt =

@@ -11,6 +11,10 @@ use Rattle.vx_pages.specs.Page.{page_log, sectors_seen}
 abbrev pub page_seen : {P : Type 0} {ghosts : Ghosts P} → (P → Seen) → Page P ghosts → LogSeen
 page_seen seen page = page_log page.index page.regions (sectors_seen seen page.sectors.items)
 
+-- the sectors of a page
+abbrev pub sectors_of : {P : Type 0} {ghosts : Ghosts P} → (P → Seen) → Page P ghosts → List SectorSeen
+sectors_of seen page = sectors_seen seen page.sectors.items
+
 -- the sectors of each page
 abbrev pub grid_seen : {P : Type 0} {ghosts : Ghosts P} → (P → Seen) → List (Page P ghosts) → List (List SectorSeen)
 grid_seen seen pages = map (λ page. sectors_seen seen page.sectors.items) pages

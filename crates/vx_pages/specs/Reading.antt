@@ -1,5 +1,5 @@
 -- What it is to read a sector of one copy, and to make each copy hold what was read.
-use Rattle.std.specs.Prelude.{◌≡◌, ℕ, ◌<◌, Bool, true, is_some, if◌then◌else◌, List, [], ◌∷◌, length, Result, Ok, Err}
+use Rattle.std.specs.Prelude.{◌≡◌, ℕ, ◌<◌, Bool, true, is_some, if◌then◌else◌, List, [], length, Result, Ok, Err}
 use Rattle.vx_base.specs.Counts.{Rose}
 use Rattle.vx_sector.specs.Fields.{zeros}
 use Rattle.vx_piece.specs.Seen.{Seen}
@@ -7,7 +7,7 @@ use Rattle.vx_runs.specs.Part.{told_or}
 use Rattle.vx_marks.specs.declared.marker.MarkFault.{MarkFault}
 use Rattle.vx_marks.specs.declared.marker.MarkFault.TheVariants.{Failed, PowerLost, Busy}
 use Rattle.vx_pages.specs.Items.{item_at}
-use Rattle.vx_pages.specs.Sector.{Copies, SectorSeen, Holds, HasCause, IsOpen, KeepsCopies, KeepsPiece, KeepsSector, copy_of, faults_at, held, is_cut, tells}
+use Rattle.vx_pages.specs.Sector.{Copies, SectorSeen, Holds, HasCause, KeepsCopies, KeepsPiece, KeepsSector, copy_of, faults_at, held, is_cut, tells}
 use Rattle.vx_pages.specs.Pieces.{PieceCause}
 use Rattle.vx_pages.specs.Page.{EachSector, sector_at}
 

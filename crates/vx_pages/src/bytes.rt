@@ -1,10 +1,12 @@
 //! The bytes of a page: a bit for each of its regions.
 
-ghost use Rattle.std.specs.Prelude.{◌≡◌, ℕ, ◌<◌, ◌==◌, length, if◌then◌else◌, IfOk};
+ghost use Rattle.std.specs.Prelude.{◌≡◌, ℕ, ◌<◌, ◌%◌, ◌&&◌, ◌==◌, nat_lt, length, if◌then◌else◌, IfOk};
 ghost use Rattle.vx_mapfmt.specs.Bits.{bit_in};
 ghost use Rattle.vx_mask.specs.Mask.{has};
 ghost use Rattle.vx_sector.specs.Fields.{zeros};
 ghost use Rattle.vx_pages.specs.Bytes.{full, same_place};
+ghost use Rattle.vx_pages.specs.Images.{images_seen};
+ghost use Rattle.vx_pages.specs.Reading.{AreImages, image_at};
 
 use std::alloc::Global;
 use vx_base::OutOfMemory;
@@ -67,6 +69,29 @@ pub fn put_none(page: &mut Vec<u8>)
     ensures length { length page.new.items ≡ 512 }
 {
     put_zeros(512, 0, page);
+}
+
+/// Takes away the bits behind those of the first so many regions of the page.
+pub fn clip(page: &mut Vec<u8>, inside: u64)
+    requires { length page.old.items ≡ 512 }
+    ensures bits { (region : ℕ) → bit_in page.new.items region ≡ (bit_in page.old.items region && nat_lt (region % 4096) inside) }
+    ensures length { length page.new.items ≡ 512 }
+{
+    for place in inside.min(4096)..4096 {
+        put_bit(page, place, false);
+    }
+}
+
+/// Takes them away on the page of each map.
+pub fn clip_all(images: &mut Vec<Vec<u8>>, inside: u64)
+    requires { AreImages (images_seen images.old.items) }
+    ensures bits { (map region : ℕ) → map < 32 → bit_in (image_at (images_seen images.new.items) map) region ≡ (bit_in (image_at (images_seen images.old.items) map) region && nat_lt (region % 4096) inside) }
+    ensures images { AreImages (images_seen images.new.items) }
+{
+    for map in 0..32 {
+        let image = &mut images[map];
+        clip(image, inside);
+    }
 }
 
 /// The byte with one bit put to this value.

@@ -4,7 +4,6 @@ ghost use Rattle.std.specs.Prelude.{◌≡◌, ℕ, ◌<◌, ◌==◌, ◌&&◌,
 ghost use Rattle.vx_mask.specs.Mask.{has};
 ghost use Rattle.vx_pages.specs.Sector.{BitOpened, HasCause, IsBitPut, IsFirm, IsTidied, NoneLoose, Turns, is_loose, is_sure};
 ghost use Rattle.vx_pages.specs.Page.{AreClean, EachSector, IsChanged, IsFirmed, IsMarkedIn, IsUnmarkedIn, asked, cut_in, faults_in, sector_at, sectors_seen};
-
 ghost use Rattle.vx_pages.specs.Arming.{armed_sectors};
 ghost use Rattle.vx_pages.specs.Images.{images_seen};
 ghost use Rattle.vx_pages.specs.Reading.{AreImages, AreSettled, GiveCopy, HasRisen, IsCopyOf, IsFaultAt, ReadsSector};

@@ -1,4 +1,4 @@
-use Rattle.std.proofs.Common.{subst, sym, arith, ◌<◌, ℕ, Some, Option}
+use Rattle.std.proofs.Common.{subst, sym, arith, ◌<◌, Some, Option}
 use Rattle.std.specs.Option.{option_map}
 use Rattle.vx_pages.specs.Sector.{AreSectors}
 use Rattle.vx_pages.specs.Pieces.{copies_of}

@@ -1,6 +1,5 @@
-use Rattle.std.proofs.Common.{◌<◌, ◌∙◌, sym, ap, length, arith, rules, subst, List, ℕ, Result, Ok, Err}
+use Rattle.std.proofs.Common.{◌<◌, ◌∙◌, sym, ap, length, arith, rules, subst, List, ℕ, Result}
 use Rattle.vx_marks.specs.declared.marker.MarkFault.{MarkFault}
-use Rattle.vx_pages.specs.Images.{images_seen}
 use Rattle.vx_pages.specs.Page.{sector_at, sectors_seen}
 use Rattle.vx_pages.specs.Reading.{Gives, IsCopyOf, IsWhatIs, ReadsSector}
 use Rattle.vx_pages.specs.Sector.{SectorSeen, HasCause, copy_of, faults_at, is_cut}
@@ -47,8 +46,8 @@ loop-map-preserved g c =
     let n = images_count c.loop-map.images.items c.loop-map.invariant.images in
     let in' : c.loop-map.map < length c.loop-map.images.items = omega (arith, n) in
     let whole =
-        ap (λ (x : List ℕ). length x) (sym (image_is c.loop-map.images.items c.loop-map.map c.index_mut-image.result.now in' c.index_mut-image.ensures.value))
-        ∙ c.loop-map.invariant.images.whole c.loop-map.map c.loop-map-test.true in
+    ap (λ (x : List ℕ). length x) (sym (image_is c.loop-map.images.items c.loop-map.map c.index_mut-image.result.now in' c.index_mut-image.ensures.value))
+    ∙ c.loop-map.invariant.images.whole c.loop-map.map c.loop-map-test.true in
     let same = still (sector_seen g.P.LocalPiece.seen) _ _ c.loop-map.sectors.items c.loop-map.map c.index_mut-sector.result.now lt c.index_mut-sector.ensures.value c.loop-map.invariant.went in
     record {
       went = goes_on (sector_seen g.P.LocalPiece.seen) _ _ c.loop-map.sectors.items c.loop-map.map c.index_mut-sector.result.now c.fetch.new.self lt c.index_mut-sector.ensures.value c.loop-map.invariant.went c.fetch.ensures.reads;

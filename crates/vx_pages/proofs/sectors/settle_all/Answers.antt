@@ -1,4 +1,4 @@
-use Rattle.std.proofs.Common.{◌≡◌, ◌<◌, ◌∙◌, sym, ap, length, arith, rules, subst, List, ℕ, Result, Ok, Err}
+use Rattle.std.proofs.Common.{◌<◌, ◌∙◌, sym, ap, length, arith, rules, subst, List, ℕ, Result}
 use Rattle.vx_marks.specs.declared.marker.MarkFault.{MarkFault}
 use Rattle.vx_pages.specs.Images.{images_seen}
 use Rattle.vx_pages.specs.Reading.{IsSettled, Settles, image_at}
@@ -40,8 +40,8 @@ loop-map-preserved g c =
     let in' : c.loop-map.map < length c.args.images.now.items = omega (arith, n) in
     let image = c.deref.ensures.value ∙ sym (image_is c.args.images.now.items c.loop-map.map c.index.result.now in' c.index.ensures) in
     let settled : IsSettled (image_at (images_seen c.args.images.now.items) c.loop-map.map) (sector_seen g.P.LocalPiece.seen c.index_mut-sector.result.now) (sector_seen g.P.LocalPiece.seen c.settle.new.self) =
-        subst (λ (x : List ℕ). IsSettled x (sector_seen g.P.LocalPiece.seen c.index_mut-sector.result.now) (sector_seen g.P.LocalPiece.seen c.settle.new.self)) image
-        (subst (λ (r : Result (Unit {0}) MarkFault). Settles c.deref.result.now (sector_seen g.P.LocalPiece.seen c.index_mut-sector.result.now) (sector_seen g.P.LocalPiece.seen c.settle.new.self) r) c.in_default.is c.settle.ensures.settles) in
+    subst (λ (x : List ℕ). IsSettled x (sector_seen g.P.LocalPiece.seen c.index_mut-sector.result.now) (sector_seen g.P.LocalPiece.seen c.settle.new.self)) image
+    (subst (λ (r : Result (Unit {0}) MarkFault). Settles c.deref.result.now (sector_seen g.P.LocalPiece.seen c.index_mut-sector.result.now) (sector_seen g.P.LocalPiece.seen c.settle.new.self) r) c.in_default.is c.settle.ensures.settles) in
     record {
       went = goes_on (sector_seen g.P.LocalPiece.seen) _ _ c.loop-map.sectors.items c.loop-map.map c.index_mut-sector.result.now c.settle.new.self lt c.index_mut-sector.ensures.value c.loop-map.invariant.went settled;
       size = search rules;

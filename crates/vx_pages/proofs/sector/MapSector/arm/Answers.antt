@@ -1,4 +1,4 @@
-use Rattle.std.proofs.Common.{subst, sym, Some, None, Option}
+use Rattle.std.proofs.Common.{subst, sym, Option}
 use Rattle.vx_pages.specs.Pieces.{sector_of}
 use Rattle.vx_pages.specs.Sector.{IsFormed}
 use Rattle.vx_pages.proofs.Settling.{armed_one, armed_pair}

@@ -1,4 +1,4 @@
-use Rattle.std.proofs.Common.{subst, Result, Ok}
+use Rattle.std.proofs.Common.{subst, Result}
 use Rattle.vx_marks.specs.declared.marker.MarkFault.{MarkFault}
 use Rattle.vx_pages.specs.Pieces.{copies_of}
 use Rattle.vx_pages.specs.Reading.{IsMended}

@@ -3,11 +3,11 @@
 
 ghost use Rattle.std.specs.Prelude.{◌≡◌, true, is_some, IfOk};
 ghost use Rattle.vx_piece.specs.MemPiece.{mem_seen};
-ghost use Rattle.vx_maps.specs.Pages.{page_seen};
-ghost use Rattle.vx_maps.specs.Sectors.{sector_seen};
+ghost use Rattle.vx_pages.specs.Pages.{page_seen};
+ghost use Rattle.vx_pages.specs.Sectors.{sector_seen};
 
 use std::alloc::{AllocError, Global};
-use vx_maps::{MapSector, Page, create_sector, empty_page};
+use vx_pages::{MapSector, Page, create_sector, empty_page};
 use vx_piece::{Bad, MemPiece, Piece};
 
 /// The write that fails: on this copy, in this map, after so many that pass; once.

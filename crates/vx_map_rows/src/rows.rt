@@ -2,11 +2,11 @@
 
 ghost use Rattle.std.specs.Prelude.{◌≡◌, true};
 ghost use Rattle.vx_piece.specs.MemPiece.{mem_seen};
-ghost use Rattle.vx_maps.specs.Pages.{page_seen};
+ghost use Rattle.vx_pages.specs.Pages.{page_seen};
 
 use crate::pages::{Fault, page};
 use std::io;
-use vx_maps::{MapSector, Page};
+use vx_pages::{MapSector, Page};
 use vx_marks::{MarkFault, Marker};
 use vx_piece::MemPiece;
 

@@ -1,5 +1,5 @@
 -- Copies whose first sectors were written begin with the bytes.
-use Rattle.std.proofs.Common.{◌≡◌, ℕ, zero, suc, ◌+◌, ◌<◌, Bool, true, false, refl, sym, ◌∙◌, ap, subst, arith, List, [], ◌∷◌, length, Option, Some, None, Result, Ok, Err}
+use Rattle.std.proofs.Common.{◌≡◌, ℕ, ◌+◌, Bool, true, false, refl, sym, ◌∙◌, ap, subst, arith, List, [], ◌∷◌, Option, Some, None, Result, Ok, Err}
 use Rattle.std.specs.Prelude.{is_some, ◌&&◌, ◌||◌, OnOk}
 use Rattle.std.specs.Option.{option_map}
 use Rattle.vx_base.specs.Counts.{Rose}
@@ -8,27 +8,27 @@ use Rattle.vx_piece.specs.Seen.{Seen}
 use Rattle.vx_runs.specs.Part.{told_or}
 use Rattle.vx_marks.specs.declared.marker.MarkFault.{MarkFault}
 use Rattle.vx_marks.specs.declared.marker.MarkFault.TheVariants.{Failed, PowerLost, Busy}
-use Rattle.vx_maps.specs.Sector.{Copies, HasCause, IsPut, SectorSeen, held, is_cut, second_cut, tells}
+use Rattle.vx_pages.specs.Sector.{Copies, HasCause, SectorSeen, held, is_cut, second_cut, tells}
 use Rattle.vx_maps.specs.Slots.{MovedBoth, MovedSecond, SheetsSeen, filled, part_at, slot_at}
 use Rattle.vx_maps.specs.Heads.{ArePut}
 use Rattle.vx_maps.specs.Copies.{copies_list}
-use Rattle.vx_maps.specs.Wholes.{whole_copies, whole_faults, sheet_faults}
-use Rattle.vx_maps.specs.Creating.{AllBeginWith, BeginsWith, EachBegins, head_tells, heads_tell}
+use Rattle.vx_maps.specs.Wholes.{whole_copies}
+use Rattle.vx_maps.specs.Creating.{AllBeginWith, BeginsWith, head_tells}
 use Rattle.vx_maps.specs.Cutness.{slot_cut, slots_cut, sheets_cut}
 use Rattle.vx_maps.specs.Cutness.{second_cut as slots_second_cut}
 
 -- the first piece of a copy
-begins_one : (size copy : ℕ) (grid : List (List SectorSeen)) (slots : List (Option Seen)) (p : Seen) (bytes : List ℕ) → slot_at slots 0 ≡ Some p → told_or p.told 0 ≡ bytes → BeginsWith bytes (filled size copy grid 0 slots)
+pub begins_one : (size copy : ℕ) (grid : List (List SectorSeen)) (slots : List (Option Seen)) (p : Seen) (bytes : List ℕ) → slot_at slots 0 ≡ Some p → told_or p.told 0 ≡ bytes → BeginsWith bytes (filled size copy grid 0 slots)
 begins_one size copy grid [] p bytes e h = cc
 begins_one size copy grid (None ∷ xs) p bytes e h = cc
 begins_one size copy grid (Some x ∷ xs) p bytes e h = ap (λ (o : Option Seen). told_or (part_at 0 o None).told 0) e ∙ h
 
-tells_one : (size copy : ℕ) (grid : List (List SectorSeen)) (slots : List (Option Seen)) (p : Seen) → slot_at slots 0 ≡ Some p → head_tells (filled size copy grid 0 slots) ≡ is_some p.told
+pub tells_one : (size copy : ℕ) (grid : List (List SectorSeen)) (slots : List (Option Seen)) (p : Seen) → slot_at slots 0 ≡ Some p → head_tells (filled size copy grid 0 slots) ≡ is_some p.told
 tells_one size copy grid [] p e = cc
 tells_one size copy grid (None ∷ xs) p e = cc
 tells_one size copy grid (Some x ∷ xs) p e = cc
 
-begins_both : (size : ℕ) (grid : List (List SectorSeen)) (first : List (Option Seen)) (second mid : Option (List (Option Seen))) (p : Seen) (q : Option Seen) (bytes : List ℕ) → slot_at first 0 ≡ Some p → MovedSecond 0 q second mid →
+pub begins_both : (size : ℕ) (grid : List (List SectorSeen)) (first : List (Option Seen)) (second mid : Option (List (Option Seen))) (p : Seen) (q : Option Seen) (bytes : List ℕ) → slot_at first 0 ≡ Some p → MovedSecond 0 q second mid →
     (tells (record { first = p; second = q }) ≡ true → (n : ℕ) → held (record { first = p; second = q }) n ≡ bytes) → AllBeginWith bytes (copies_list (filled size 0 grid 0 first) (option_map (filled size 1 grid 0) second))
 begins_both size grid first None None p None bytes e moved holds told =
     let t = sym (tells_one size 0 grid first p e) ∙ (both_parts _ _ told).0 in

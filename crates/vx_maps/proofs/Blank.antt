@@ -1,23 +1,22 @@
 -- A store of which nothing is known, once it is firm, has no marks.
-use Rattle.std.proofs.Common.{◌≡◌, inl, inr, ℕ, zero, suc, ◌+◌, ◌/◌, ◌<◌, ◌≤◌, Bool, true, false, refl, sym, ◌∙◌, ap, subst, arith, List, [], ◌∷◌, length, Option, Some, None, Result, Ok, Err}
+use Rattle.std.proofs.Common.{◌≡◌, inl, inr, ℕ, zero, suc, ◌/◌, ◌<◌, ◌≤◌, Bool, true, false, refl, ◌∙◌, ap, arith, List, [], ◌∷◌, length, Option, Some, None, Ok}
 use Rattle.std.specs.Prelude.{is_some, not, ◌&&◌, if◌then◌else◌}
 use Rattle.std.proofs.lemmas.Bool.{cases_lt}
 use Rattle.vx_mask.specs.Mask.{has}
-use Rattle.vx_mask.specs.Marks.{Marks, AllLose}
+use Rattle.vx_mask.specs.Marks.{Marks}
 use Rattle.vx_mask.proofs.MaskLemmas.{has-zero}
 use Rattle.vx_marks.specs.Log.{LogSeen, OnMarks}
 use Rattle.vx_mapfmt.specs.Bits.{bit_in}
-use Rattle.vx_sector.specs.Fields.{zeros}
-use Rattle.vx_maps.specs.Bytes.{full}
-use Rattle.vx_maps.specs.Firm.{FirmsStore}
-use Rattle.vx_maps.specs.Items.{item_at}
-use Rattle.vx_maps.specs.Sector.{SectorSeen, is_loose, is_sure, shown, tells}
-use Rattle.vx_maps.specs.Page.{all_tell, has_region, marks_of, no_sector, page_log, sector_at}
-use Rattle.vx_maps.specs.Store.{AreLogsOf, marks_in, no_marks, no_page, page_at, pages_tell, store_log}
-use Rattle.vx_maps.specs.Slots.{AreAll, IsOpen, row_at}
+use Rattle.vx_pages.specs.Firm.{FirmsStore}
+use Rattle.vx_pages.specs.Items.{item_at}
+use Rattle.vx_pages.specs.Sector.{SectorSeen, is_loose, is_sure, shown}
+use Rattle.vx_pages.specs.Page.{all_tell, has_region, marks_of, no_sector, page_log, sector_at}
+use Rattle.vx_maps.specs.Store.{AreLogsOf, marks_in, no_page, page_at, pages_tell, store_log}
+use Rattle.vx_pages.specs.Page.{AreAll}
+use Rattle.vx_maps.specs.Slots.{IsOpen, row_at}
 use Rattle.vx_maps.specs.Creating.{AreBlank}
-use Rattle.vx_maps.proofs.Bits.{no_bit}
-use Rattle.vx_maps.proofs.Places.{full_bit}
+use Rattle.vx_pages.proofs.Bits.{no_bit}
+use Rattle.vx_pages.proofs.Opening.{full_bit}
 
 item_none : {A : Type 0} (none : A) (xs : List A) (i : ℕ) → length xs ≤ i → item_at none xs i ≡ none
 item_none none [] i le = refl

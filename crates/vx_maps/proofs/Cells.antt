@@ -1,22 +1,22 @@
 -- What the sectors of pages are in the whole copies.
-use Rattle.std.proofs.Common.{◌≡◌, inl, inr, ℕ, zero, suc, ◌+◌, ◌*◌, ◌/◌, ◌<◌, ◌≤◌, Bool, true, false, refl, sym, ◌∙◌, ap, subst, arith, List, [], ◌∷◌, length, map, Option, Some, None}
+use Rattle.std.proofs.Common.{◌≡◌, ℕ, zero, suc, ◌+◌, ◌<◌, Bool, true, false, refl, sym, ◌∙◌, ap, arith, List, [], ◌∷◌, length, Option, Some, None}
 use Rattle.std.specs.Prelude.{is_some, not, ◌&&◌, ◌||◌}
 use Rattle.std.specs.Option.{option_map}
 use Rattle.vx_piece.specs.Seen.{Seen}
 use Rattle.vx_runs.specs.Part.{Tells}
 use Rattle.vx_runs.specs.Run.{RunTells}
-use Rattle.vx_maps.specs.declared.local_piece.LocalPiece.{Ghosts}
-use Rattle.vx_maps.specs.declared.page.Page.{Page}
-use Rattle.vx_maps.specs.Items.{item_at}
-use Rattle.vx_maps.specs.Sector.{Copies, SectorSeen, copy_of, is_cut, second_cut, second_tells, tells}
-use Rattle.vx_maps.specs.Page.{all_tell, cut_in, sector_at}
-use Rattle.vx_maps.specs.Pages.{grid_seen, page_seen}
+use Rattle.vx_pages.specs.declared.local_piece.LocalPiece.{Ghosts}
+use Rattle.vx_pages.specs.declared.page.Page.{Page}
+use Rattle.vx_pages.specs.Items.{item_at}
+use Rattle.vx_pages.specs.Sector.{Copies, SectorSeen, copy_of, is_cut, second_cut, tells}
+use Rattle.vx_pages.specs.Page.{all_tell, cut_in, sector_at}
+use Rattle.vx_pages.specs.Pages.{grid_seen, page_seen}
 use Rattle.vx_maps.specs.Store.{pages_cut, pages_seen}
 use Rattle.vx_maps.specs.Slots.{AreHoled, ArePairedRows, IsHoled, IsHoledSecond, SheetsSeen, cell_at, cell_piece, filled, grid_at, part_at, place_of, row_at, slot_at}
 use Rattle.vx_maps.specs.Copies.{copies_list}
 use Rattle.vx_maps.specs.Wholes.{whole_copies}
 use Rattle.vx_maps.specs.Creating.{AllTell, copies_cut, run_cut}
-use Rattle.vx_maps.specs.Cutness.{slot_cut, slots_cut, sheets_cut}
+use Rattle.vx_maps.specs.Cutness.{slots_cut, sheets_cut}
 use Rattle.vx_maps.specs.Cutness.{second_cut as slots_second_cut}
 use Rattle.vx_maps.proofs.Placing.{place_in, grid_is}
 use Rattle.vx_maps.proofs.Filling.{filled_at, filled_size, no_piece}

@@ -1,17 +1,18 @@
 -- Pages are made one by one, or taken apart.
-use Rattle.std.proofs.Common.{◌≡◌, ◌≢◌, inl, inr, ℕ, zero, suc, ◌+◌, ◌-◌, ◌*◌, ◌/◌, ◌%◌, ◌<◌, ◌≤◌, Bool, true, false, refl, sym, ◌∙◌, ap, subst, arith, List, [], ◌∷◌, ◌++◌, length, map, get_or, Option, Some, None}
+use Rattle.std.proofs.Common.{◌≡◌, inl, inr, ℕ, zero, suc, ◌+◌, ◌-◌, ◌/◌, ◌%◌, ◌<◌, Bool, true, false, refl, sym, ◌∙◌, ap, subst, arith, List, [], ◌∷◌, ◌++◌, length, Option, Some, None}
 use Rattle.std.specs.Prelude.{is_some, not, nat_le, ◌&&◌, if◌then◌else◌}
 use Rattle.std.specs.Option.{option_map}
 use Rattle.std.proofs.lemmas.Bool.{cases_order}
-use Rattle.std.proofs.lemmas.List.{map_push, length-append}
+use Rattle.std.proofs.lemmas.List.{length-append}
 use Rattle.vx_piece.specs.Seen.{Seen}
 use Rattle.vx_marks.specs.Log.{LogSeen}
 use Rattle.vx_mapfmt.specs.Sizes.{page_count}
-use Rattle.vx_maps.specs.Items.{item_at}
-use Rattle.vx_maps.specs.Sector.{SectorSeen}
-use Rattle.vx_maps.specs.Page.{page_log}
-use Rattle.vx_maps.specs.Store.{AreLogsOf, AreOnCopies, ArePages, page_at, no_page}
-use Rattle.vx_maps.specs.Slots.{slot_at, cell_at, row_at, grid_at, place_of, cell_piece, part_at, filled, slots_faults, grid_faults, SheetsSeen, HasCut, HasCuts, HasCutSecond, IsHoled, IsHoledSecond, AreHoled, Whole, Wholes, whole_of, wholes_of, IsWholeOn, AreWhole, HoldsSingle, HasPieces, HasPiecesOn, HasPiecesSecond, HasHoles, HasHolesOn, HasHolesSecond, AreAll, ArePaired}
+use Rattle.vx_pages.specs.Items.{item_at}
+use Rattle.vx_pages.specs.Sector.{SectorSeen}
+use Rattle.vx_pages.specs.Page.{page_log}
+use Rattle.vx_maps.specs.Store.{AreLogsOf, AreOnCopies, ArePages, page_at}
+use Rattle.vx_pages.specs.Page.{AreAll, ArePaired}
+use Rattle.vx_maps.specs.Slots.{slot_at, cell_at, row_at, grid_at, place_of, cell_piece, part_at, filled, SheetsSeen, HasCut, HasCuts, HasCutSecond, IsHoled, IsHoledSecond, AreHoled, Whole, Wholes, whole_of, wholes_of, IsWholeOn, AreWhole, HoldsSingle, HasPieces, HasPiecesOn, HasPiecesSecond, HasHoles, HasHolesOn, HasHolesSecond}
 use Rattle.vx_maps.proofs.Placing.{place_in, grid_behind, grid_is}
 
 -- ---- all pieces

@@ -9,9 +9,10 @@ use Rattle.vx_mask.proofs.Tests.{not_both, both_parts}
 use Rattle.vx_marks.specs.Log.{LogSeen, KeepsLog, OnMarks, MarkHasCause}
 use Rattle.vx_marks.specs.declared.marker.MarkFault.{MarkFault}
 use Rattle.vx_marks.specs.declared.marker.MarkFault.TheVariants.{Failed, PowerLost, Busy}
-use Rattle.vx_maps.specs.Items.{EachItem}
-use Rattle.vx_maps.specs.Firm.{FirmsAll, FirmsStore}
-use Rattle.vx_maps.specs.Sector.{HasCause}
+use Rattle.vx_pages.specs.Items.{EachItem}
+use Rattle.vx_pages.specs.Reading.{HasRisen}
+use Rattle.vx_pages.specs.Firm.{FirmsAll, FirmsStore}
+use Rattle.vx_pages.specs.Sector.{HasCause}
 use Rattle.vx_maps.specs.Store.{no_page, no_marks, page_at, marks_in, pages_tell, pages_faults, pages_cut, ArePages, PageGoes, ArePagesFirmed, store_log}
 use Rattle.vx_maps.proofs.Storing.{tells_page, on_both, faults_set, part_le, cut_set, same_sum, rise_sum}
 
@@ -74,6 +75,25 @@ module _ {T : Type 0} (see : T → LogSeen) where
       }
   cause_on old now i p q PowerLost lt is lent quiet cause = cut_set see now i q lt cause
   cause_on old now i p q Busy lt is lent quiet cause = not_both cause.1 lent
+
+  -- ---- causes of calls that go on after a failed read
+
+  pub grown_on : (old : ℕ → ℕ → ℕ) (now : List T) (i : ℕ) (p q : T) → i < length now → p ≡ get_or now i p → ((copy device : ℕ) → old copy device ≤ pages_faults (map see now) copy device) →
+      ((copy device : ℕ) → (see p).faults copy device ≤ (see q).faults copy device) → (copy device : ℕ) → old copy device ≤ pages_faults (map see (set now i q)) copy device
+  grown_on old now i p q lt is grown more copy device =
+      let e = here now i p q copy device lt is in
+      let low = grown copy device in
+      let up = more copy device in
+      let part = few now i p copy device lt is in omega (arith, e, low, up, part)
+
+  pub risen_on : (old : ℕ → ℕ → ℕ) (now : List T) (i : ℕ) (p q : T) (fault : MarkFault) → i < length now → p ≡ get_or now i p → ((copy device : ℕ) → old copy device ≤ pages_faults (map see now) copy device) →
+      HasRisen {T = Unit {0}} (see p).faults (see q).faults (see q).cut (Err fault) → HasRisen {T = Unit {0}} old (pages_faults (map see (set now i q))) (pages_cut (map see (set now i q))) (Err fault)
+  risen_on old now i p q (Failed copy device) lt is grown cause = under _ _ _ (grown copy device) (rise_sum _ _ _ _ (few now i p copy device lt is) (here now i p q copy device lt is) cause)
+    where
+      under : (a b c : ℕ) → a ≤ b → Rose b c → Rose a c
+      under a b c le rose = omega arith
+  risen_on old now i p q PowerLost lt is grown cause = cut_set see now i q lt cause
+  risen_on old now i p q Busy lt is grown cause = cause
 
 -- ---- the store
 

@@ -1,7 +1,6 @@
 -- The first sectors of copies are written.
-use Rattle.std.proofs.Common.{◌≡◌, ◌≢◌, inl, inr, ℕ, zero, suc, ◌+◌, ◌*◌, ◌/◌, ◌%◌, ◌<◌, ◌≤◌, Bool, true, false, refl, sym, ◌∙◌, ap, subst, arith, List, [], ◌∷◌, length, Option, Some, None, Result, Ok, Err}
-use Rattle.std.specs.Prelude.{is_some, not, nat_le, nat_lt, ◌&&◌, ◌||◌}
-use Rattle.std.specs.Option.{option_map}
+use Rattle.std.proofs.Common.{◌≡◌, ◌≢◌, inl, inr, ℕ, zero, suc, ◌+◌, ◌/◌, ◌%◌, ◌<◌, Bool, true, false, refl, sym, ◌∙◌, ap, subst, arith, List, length, Option, Some, None, Result, Ok, Err}
+use Rattle.std.specs.Prelude.{is_some, not, nat_le, nat_lt, ◌&&◌}
 use Rattle.std.specs.Global.{Vec}
 use Rattle.std.proofs.Math.Nat.{zero-div}
 use Rattle.std.proofs.lemmas.Bool.{cases_order}
@@ -10,9 +9,9 @@ use Rattle.vx_piece.specs.Seen.{Seen}
 use Rattle.vx_marks.specs.declared.marker.MarkFault.{MarkFault}
 use Rattle.vx_marks.specs.declared.marker.MarkFault.TheVariants.{Failed, PowerLost, Busy}
 use Rattle.vx_mapfmt.specs.Sizes.{map_bytes_of}
-use Rattle.vx_maps.specs.Sector.{Copies, AreSectors, HasCause, IsPut, faults_at, faults_on, or_first}
+use Rattle.vx_pages.specs.Sector.{Copies, AreSectors, HasCause, faults_at, or_first}
 use Rattle.vx_maps.specs.Heads.{ArePut, HasFirst, HasFirstSecond, HaveFirst}
-use Rattle.vx_maps.specs.Slots.{HoldsSingle, IsLaid, IsLaidOn, IsTakable, IsTakableSecond, IsPlaceable, IsPlaceableSecond, Moved, MovedBoth, MovedSecond, SheetsSeen, is_paged, slot_at, slots_faults}
+use Rattle.vx_maps.specs.Slots.{HoldsSingle, IsLaid, IsLaidOn, IsTakable, IsTakableSecond, IsPlaceable, IsPlaceableSecond, Moved, MovedBoth, MovedSecond, SheetsSeen, is_paged, slot_at}
 use Rattle.vx_maps.specs.Wholes.{sheet_faults, second_faults}
 use Rattle.vx_maps.specs.Spares.{HasRoom, HasRoomSecond}
 use Rattle.vx_maps.specs.declared.joining.Spares.{Spares}

@@ -1,15 +1,13 @@
 -- A store is made of the slots of copies.
-use Rattle.std.proofs.Common.{◌≡◌, inl, inr, ℕ, zero, suc, ◌+◌, ◌-◌, ◌*◌, ◌/◌, ◌%◌, ◌<◌, ◌≤◌, Bool, true, false, refl, sym, ◌∙◌, ap, subst, arith, List, [], ◌∷◌, length, map, Option, Some, None}
+use Rattle.std.proofs.Common.{◌≡◌, ℕ, zero, suc, ◌+◌, ◌-◌, ◌/◌, ◌%◌, ◌<◌, ◌≤◌, Bool, true, false, refl, sym, ◌∙◌, ap, subst, arith, List, [], ◌∷◌, length, Option, Some, None}
 use Rattle.std.specs.Prelude.{is_some, not, nat_le, nat_lt, ◌&&◌, if◌then◌else◌}
 use Rattle.std.specs.Option.{option_map}
-use Rattle.std.proofs.lemmas.Bool.{cases_lt}
 use Rattle.vx_piece.specs.Seen.{Seen}
-use Rattle.vx_cut.specs.Same.{SameRun, counted}
-use Rattle.vx_maps.specs.Items.{item_at}
-use Rattle.vx_maps.specs.Sector.{SectorSeen}
-use Rattle.vx_maps.specs.Slots.{AreAllFull, AreFull, ArePairedRows, AreWhole, HasCut, HasCuts, HasCutSecond, IsHoled, IsLaid, IsLaidOn, IsWholeOn, SheetsSeen, Whole, cell_at, cell_piece, filled, grid_at, grid_faults, is_paged, part_at, pieces_in, row_at, slot_at, slots_faults, whole_of, wholes_of}
+use Rattle.vx_pages.specs.Items.{item_at}
+use Rattle.vx_pages.specs.Sector.{SectorSeen}
+use Rattle.vx_maps.specs.Slots.{AreAllFull, AreFull, ArePairedRows, AreWhole, HasCut, HasCuts, HasCutSecond, IsLaid, IsLaidOn, IsWholeOn, SheetsSeen, cell_at, cell_piece, filled, grid_at, grid_faults, is_paged, part_at, pieces_in, row_at, slot_at, slots_faults, whole_of, wholes_of}
 use Rattle.vx_maps.specs.Copies.{SameRuns, copies_list}
-use Rattle.vx_maps.specs.Wholes.{copy_faults, sheet_faults, second_faults, whole_copies, whole_faults}
+use Rattle.vx_maps.specs.Wholes.{copy_faults, second_faults, whole_copies, whole_faults}
 use Rattle.vx_maps.proofs.Filling.{filled_at, filled_size, grid_none}
 use Rattle.vx_maps.proofs.Running.{filled_in}
 use Rattle.vx_maps.proofs.Together.{counted_in, none_more}

@@ -1,11 +1,11 @@
 -- A piece is taken out of its place, or put into it.
-use Rattle.std.proofs.Common.{◌≡◌, ◌≢◌, ℕ, zero, suc, ◌+◌, ◌<◌, Bool, true, false, refl, sym, ◌∙◌, ap, subst, arith, List, [], ◌∷◌, length, map, get_or, set, Option, Some, None}
+use Rattle.std.proofs.Common.{◌≡◌, ℕ, zero, suc, ◌+◌, ◌<◌, true, refl, sym, ◌∙◌, ap, arith, List, [], ◌∷◌, length, get_or, set, Option, Some, None}
 use Rattle.std.specs.Prelude.{is_some}
 use Rattle.std.specs.Option.{option_map, IsSome}
 use Rattle.vx_piece.specs.Seen.{Seen}
-use Rattle.vx_maps.specs.Sector.{faults_on}
+use Rattle.vx_pages.specs.Sector.{faults_on}
 use Rattle.vx_maps.specs.Slots.{slots_seen, slot_at, slot_faults, slots_faults, Moved}
-use Rattle.vx_maps.proofs.Items.{at_is, at_set, at_other, set_size}
+use Rattle.vx_pages.proofs.Items.{at_is, at_set, at_other, set_size}
 
 module _ {P : Type 0} (see : P → Seen) where
   see_slot : Option P → Option Seen

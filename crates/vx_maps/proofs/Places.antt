@@ -1,5 +1,5 @@
 -- The pieces of a page leave their places one by one, or come back.
-use Rattle.std.proofs.Common.{◌≡◌, ◌≢◌, inl, inr, ℕ, zero, suc, ◌+◌, ◌<◌, ◌≤◌, Bool, true, false, refl, sym, ◌∙◌, ap, subst, arith, List, [], ◌∷◌, ◌++◌, length, map, Option, Some, None}
+use Rattle.std.proofs.Common.{◌≡◌, inl, inr, ℕ, zero, suc, ◌+◌, ◌<◌, Bool, true, false, refl, sym, ◌∙◌, ap, subst, arith, List, [], ◌∷◌, ◌++◌, length, map, Option, Some, None}
 use Rattle.std.specs.Prelude.{is_some, ◌&&◌, not, replicate, slice_index_or, ◌/◌, ◌%◌}
 use Rattle.std.specs.Option.{option_map}
 use Rattle.std.proofs.lemmas.Bool.{cases_order}
@@ -8,12 +8,12 @@ use Rattle.vx_piece.specs.Seen.{Seen}
 use Rattle.vx_mapfmt.specs.Bits.{bit_in}
 use Rattle.vx_mask.specs.Mask.{has}
 use Rattle.vx_sector.specs.Fields.{zeros}
-use Rattle.vx_maps.specs.Bytes.{full}
-use Rattle.vx_maps.specs.Items.{item_at}
-use Rattle.vx_maps.specs.Sector.{SectorSeen, Copies, AreSectors, IsFormed, copy_of, is_loose, is_sure, shown, tells}
-use Rattle.vx_maps.specs.Page.{sector_at, no_sector}
-use Rattle.vx_maps.specs.Slots.{slot_at, place_of, Moved, MovedBoth, MovedSecond, SheetsSeen, IsTakable, IsTakableSecond, IsPlaceable, IsPlaceableSecond, HoldsSingle, HasPieces, HasPiecesOn, HasPiecesSecond, HasHoles, HasHolesOn, HasHolesSecond, AreAll, ArePaired, HasCuts, Wholes}
-use Rattle.vx_maps.proofs.Bits.{no_bit}
+use Rattle.vx_pages.specs.Bytes.{full}
+use Rattle.vx_pages.specs.Sector.{SectorSeen, Copies, AreSectors, IsFormed, shown}
+use Rattle.vx_pages.specs.Page.{sector_at}
+use Rattle.vx_pages.specs.Page.{AreAll, ArePaired}
+use Rattle.vx_maps.specs.Slots.{slot_at, place_of, Moved, MovedBoth, MovedSecond, SheetsSeen, IsTakable, IsTakableSecond, IsPlaceable, IsPlaceableSecond, HoldsSingle, HasPieces, HasPiecesOn, HasPiecesSecond, HasHoles, HasHolesOn, HasHolesSecond, HasCuts, Wholes}
+use Rattle.vx_pages.proofs.Bits.{no_bit}
 use Rattle.vx_maps.proofs.Cuts.{cuts_in, cuts_out}
 use Rattle.vx_maps.proofs.Placing.{place_other}
 

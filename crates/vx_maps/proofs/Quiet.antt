@@ -1,10 +1,11 @@
 -- Sectors without a second piece count nothing there.
-use Rattle.std.proofs.Common.{◌≡◌, ℕ, zero, suc, ◌+◌, ◌<◌, Bool, true, false, refl, sym, ◌∙◌, ap, subst, arith, List, [], ◌∷◌, length, Option, Some, None}
+use Rattle.std.proofs.Common.{◌≡◌, ℕ, suc, false, refl, arith, List, [], ◌∷◌, Option, Some, None}
 use Rattle.std.specs.Prelude.{is_some}
 use Rattle.vx_piece.specs.Seen.{Seen}
-use Rattle.vx_maps.specs.Sector.{SectorSeen, second_faults, faults_at}
-use Rattle.vx_maps.specs.Page.{faults_in}
-use Rattle.vx_maps.specs.Slots.{ArePaired, ArePairedRows, grid_faults}
+use Rattle.vx_pages.specs.Sector.{SectorSeen, second_faults}
+use Rattle.vx_pages.specs.Page.{faults_in}
+use Rattle.vx_pages.specs.Page.{ArePaired}
+use Rattle.vx_maps.specs.Slots.{ArePairedRows, grid_faults}
 
 no_second : (p : Option Seen) (device : ℕ) → is_some p ≡ false → second_faults p device ≡ 0
 no_second None device e = refl

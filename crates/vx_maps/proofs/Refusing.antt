@@ -1,17 +1,16 @@
 -- Why a store is refused, by what its copies have counted.
-use Rattle.std.proofs.Common.{◌≡◌, ℕ, ◌+◌, Bool, true, false, refl, sym, ◌∙◌, ap, subst, arith, List, [], ◌∷◌, length, Result, Ok, Err}
-use Rattle.std.specs.Prelude.{is_some}
+use Rattle.std.proofs.Common.{◌≡◌, ℕ, ◌+◌, Bool, true, false, refl, sym, ap, subst, List, [], ◌∷◌, Result, Ok, Err}
 use Rattle.vx_base.specs.Counts.{Rose}
 use Rattle.vx_piece.specs.Seen.{Seen}
 use Rattle.vx_marks.specs.Log.{LogSeen, MarkHasCause}
 use Rattle.vx_marks.specs.declared.marker.MarkFault.{MarkFault}
 use Rattle.vx_marks.specs.declared.marker.MarkFault.TheVariants as mark
 use Rattle.vx_maps.specs.declared.fault.StoreFault.{StoreFault}
-use Rattle.vx_maps.specs.declared.fault.StoreFault.TheVariants.{OutOfMemory, Failed, PowerLost}
-use Rattle.vx_maps.specs.declared.local_piece.LocalPiece.{Ghosts}
-use Rattle.vx_maps.specs.declared.page.Page.{Page}
-use Rattle.vx_maps.specs.Sector.{HasCause}
-use Rattle.vx_maps.specs.Pages.{grid_seen, page_seen}
+use Rattle.vx_maps.specs.declared.fault.StoreFault.TheVariants.{NoCopy, OutOfMemory, Failed, PowerLost}
+use Rattle.vx_pages.specs.declared.local_piece.LocalPiece.{Ghosts}
+use Rattle.vx_pages.specs.declared.page.Page.{Page}
+use Rattle.vx_pages.specs.Sector.{HasCause}
+use Rattle.vx_pages.specs.Pages.{grid_seen, page_seen}
 use Rattle.vx_maps.specs.Store.{pages_cut, pages_faults, pages_seen, store_log}
 use Rattle.vx_maps.specs.Slots.{grid_faults}
 use Rattle.vx_maps.specs.Copies.{SameRuns}
@@ -38,6 +37,7 @@ refused_after mark.PowerLost f old new cut copies is cause same shown = subst (�
 refused_after mark.Busy f old new cut copies is cause same shown = absurd is
 
 pub refused_for : (f : StoreFault) (old : List (List Seen)) (counts : ℕ → ℕ → ℕ) (copies : List (List Seen)) → ((copy device : ℕ) → counts copy device ≡ copy_faults old copy device) → IsRefusedAfter f counts copies → IsRefusedFor f old copies
+refused_for NoCopy old counts copies same h = absurd h
 refused_for OutOfMemory old counts copies same h = absurd h
 refused_for (Failed copy device) old counts copies same h = subst (λ (n : ℕ). Rose n (copy_faults copies copy device)) (same copy device) h
 refused_for PowerLost old counts copies same h = h

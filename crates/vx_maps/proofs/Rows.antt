@@ -1,17 +1,17 @@
 -- What the pages of a store are, and that their pieces fit the holes between them.
-use Rattle.std.proofs.Common.{◌≡◌, ℕ, zero, suc, ◌<◌, ◌≤◌, Bool, true, false, refl, sym, ◌∙◌, ap, subst, arith, List, [], ◌∷◌, length, map, Option, Some, None}
+use Rattle.std.proofs.Common.{◌≡◌, ℕ, zero, suc, ◌<◌, Bool, true, false, refl, sym, ◌∙◌, ap, arith, List, [], ◌∷◌, length, map, Option, Some, None}
 use Rattle.std.specs.Prelude.{is_some, not, if◌then◌else◌}
 use Rattle.std.proofs.lemmas.List.{length-map}
 use Rattle.vx_piece.specs.Seen.{Seen}
-use Rattle.vx_marks.specs.Log.{LogSeen}
-use Rattle.vx_maps.specs.declared.local_piece.LocalPiece.{Ghosts}
-use Rattle.vx_maps.specs.declared.page.Page.{Page}
-use Rattle.vx_maps.specs.Sector.{SectorSeen}
-use Rattle.vx_maps.specs.Sectors.{sector_seen}
-use Rattle.vx_maps.specs.Page.{sector_at}
-use Rattle.vx_maps.specs.Pages.{grid_seen}
+use Rattle.vx_pages.specs.declared.local_piece.LocalPiece.{Ghosts}
+use Rattle.vx_pages.specs.declared.page.Page.{Page}
+use Rattle.vx_pages.specs.Sector.{SectorSeen}
+use Rattle.vx_pages.specs.Sectors.{sector_seen}
+use Rattle.vx_pages.specs.Page.{sector_at}
+use Rattle.vx_pages.specs.Pages.{grid_seen}
 use Rattle.vx_maps.specs.Store.{AreOnCopies, page_at, pages_seen}
-use Rattle.vx_maps.specs.Slots.{AreHoled, ArePaired, ArePairedAlike, ArePairedRows, IsHoled, IsHoledSecond, IsLaid, IsLaidOn, SheetsSeen, copies_in, grid_at, is_paged, row_at}
+use Rattle.vx_pages.specs.Page.{ArePairedAlike}
+use Rattle.vx_maps.specs.Slots.{AreHoled, ArePairedRows, IsHoled, IsHoledSecond, IsLaid, IsLaidOn, SheetsSeen, copies_in, is_paged, row_at}
 use Rattle.vx_maps.proofs.Making.{grid_paged}
 
 abbrev number : Bool → ℕ

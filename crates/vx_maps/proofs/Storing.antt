@@ -11,9 +11,9 @@ use Rattle.vx_marks.specs.Log.{LogSeen, IsAskable, KeepsLog, OnMarks, ChangesAt,
 use Rattle.vx_marks.specs.declared.marker.MarkFault.{MarkFault}
 use Rattle.vx_marks.specs.declared.marker.MarkFault.TheVariants.{Failed, PowerLost, Busy}
 use Rattle.vx_mapfmt.specs.Sizes.{page_count}
-use Rattle.vx_maps.specs.Page.{has_region}
+use Rattle.vx_pages.specs.Page.{has_region}
 use Rattle.vx_maps.specs.Store.{no_page, page_at, marks_in, pages_tell, pages_faults, pages_cut, ArePages, store_log}
-use Rattle.vx_maps.proofs.Items.{at_is, at_set, at_other, set_size}
+use Rattle.vx_pages.proofs.Items.{at_is, at_set, at_other, set_size}
 
 -- ---- told marks
 

@@ -1,17 +1,16 @@
 -- Copies whose pages were taken apart are in their slots alone.
-use Rattle.std.proofs.Common.{◌≡◌, ℕ, zero, suc, ◌+◌, ◌*◌, ◌<◌, ◌≤◌, Bool, true, false, refl, sym, ◌∙◌, ap, subst, arith, List, [], ◌∷◌, length, map, Option, Some, None, vec_capacity}
+use Rattle.std.proofs.Common.{◌≡◌, ℕ, zero, suc, ◌+◌, refl, sym, ◌∙◌, ap, arith, List, [], ◌∷◌, length, Option, Some, None}
 use Rattle.std.specs.Prelude.{is_some, not}
 use Rattle.std.specs.Option.{option_map}
 use Rattle.std.specs.Global.{Vec}
 use Rattle.std.proofs.lemmas.Bool.{false≢true}
 use Rattle.vx_piece.specs.Seen.{Seen}
-use Rattle.vx_cut.specs.Same.{SameRun, counted}
-use Rattle.vx_maps.specs.Items.{item_at}
-use Rattle.vx_maps.specs.Sector.{SectorSeen, faults_on}
-use Rattle.vx_maps.specs.Slots.{AreAllFull, AreFull, AreWhole, HasCut, HasCuts, HasCutSecond, IsHoled, IsWholeOn, SheetsSeen, Whole, Wholes, filled, grid_at, grid_faults, part_at, pieces_in, slot_at, slots_faults, whole_of, wholes_of}
-use Rattle.vx_maps.specs.Copies.{SameRuns, copies_list}
-use Rattle.vx_maps.specs.Spares.{HasRoom, HasRoomOn, HasRoomSecond}
-use Rattle.vx_maps.specs.Wholes.{copy_faults, sheet_faults, second_faults, whole_copies, whole_faults}
+use Rattle.vx_cut.specs.Same.{counted}
+use Rattle.vx_pages.specs.Sector.{SectorSeen, faults_on}
+use Rattle.vx_maps.specs.Slots.{AreAllFull, AreFull, HasCut, HasCuts, HasCutSecond, SheetsSeen, Whole, Wholes, filled, grid_faults, pieces_in, slots_faults, whole_of, wholes_of}
+use Rattle.vx_maps.specs.Copies.{copies_list}
+use Rattle.vx_maps.specs.Spares.{HasRoom, HasRoomSecond}
+use Rattle.vx_maps.specs.Wholes.{copy_faults, second_faults, whole_copies, whole_faults}
 use Rattle.vx_maps.specs.declared.joining.Spares.{Spares}
 use Rattle.vx_maps.proofs.Filling.{filled_size, grid_none}
 use Rattle.vx_maps.proofs.Running.{filled_in}

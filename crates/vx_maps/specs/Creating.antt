@@ -1,5 +1,5 @@
 -- What it is to create the maps of a volume.
-use Rattle.std.specs.Prelude.{◌≡◌, ℕ, zero, ◌&&◌, ◌||◌, Bool, true, false, is_some, List, [], ◌∷◌, Option, Some, None, Result, Ok, Err}
+use Rattle.std.specs.Prelude.{◌≡◌, ℕ, ◌&&◌, ◌||◌, Bool, true, false, is_some, List, [], ◌∷◌, Option, Some, None}
 use Rattle.vx_base.specs.Counts.{Rose}
 use Rattle.vx_mask.specs.Marks.{Marks}
 use Rattle.vx_piece.specs.Seen.{Seen}
@@ -8,7 +8,7 @@ use Rattle.vx_runs.specs.Run.{RunTells}
 use Rattle.vx_marks.specs.declared.marker.MarkFault.{MarkFault}
 use Rattle.vx_marks.specs.declared.marker.MarkFault.TheVariants as mark
 use Rattle.vx_maps.specs.declared.fault.StoreFault.{StoreFault}
-use Rattle.vx_maps.specs.declared.fault.StoreFault.TheVariants.{OutOfMemory, Failed, PowerLost}
+use Rattle.vx_maps.specs.declared.fault.StoreFault.TheVariants.{OutOfMemory, NoCopy, Failed, PowerLost}
 use Rattle.vx_maps.specs.Copies.{SameRuns}
 use Rattle.vx_maps.specs.Wholes.{copy_faults}
 
@@ -36,12 +36,14 @@ copies_cut (x ∷ xs) = run_cut x || copies_cut xs
 -- pieces on that device rose; `PowerLost` only where a piece is cut.
 abbrev pub IsRefusedFor : StoreFault → List (List Seen) → List (List Seen) → Type 0
 IsRefusedFor OutOfMemory old new = SameRuns old new
+IsRefusedFor NoCopy old new = ⊥
 IsRefusedFor (Failed copy device) old new = Rose (copy_faults old copy device) (copy_faults new copy device)
 IsRefusedFor PowerLost old new = copies_cut new ≡ true
 
 -- the same, by what the pieces of a copy had counted
 abbrev pub IsRefusedAfter : StoreFault → (ℕ → ℕ → ℕ) → List (List Seen) → Type 0
 IsRefusedAfter OutOfMemory old new = ⊥
+IsRefusedAfter NoCopy old new = ⊥
 IsRefusedAfter (Failed copy device) old new = Rose (old copy device) (copy_faults new copy device)
 IsRefusedAfter PowerLost old new = copies_cut new ≡ true
 

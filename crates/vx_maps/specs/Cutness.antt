@@ -1,7 +1,7 @@
 -- Whether a piece of a store is cut.
 use Rattle.std.specs.Prelude.{◌||◌, Bool, false, List, [], ◌∷◌, Option, Some, None}
 use Rattle.vx_piece.specs.Seen.{Seen}
-use Rattle.vx_maps.specs.declared.local_piece.LocalPiece.{Ghosts}
+use Rattle.vx_pages.specs.declared.local_piece.LocalPiece.{Ghosts}
 use Rattle.vx_maps.specs.Sheets.{sheets_seen}
 use Rattle.vx_maps.specs.Slots.{SheetsSeen}
 use Rattle.vx_maps.specs.Store.{pages_cut, pages_seen}

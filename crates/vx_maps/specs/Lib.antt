@@ -1,15 +1,9 @@
-pub mod Bytes
 pub mod Copies
 pub mod Creating
 pub mod Cutness
-pub mod Firm
+pub mod Going
 pub mod Heads
-pub mod Items
-pub mod Page
-pub mod Pages
-pub mod Pieces
-pub mod Sector
-pub mod Sectors
+pub mod Loading
 pub mod Sheets
 pub mod Slots
 pub mod Spares

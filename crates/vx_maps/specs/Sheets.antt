@@ -1,5 +1,4 @@
 -- What is seen of the slots of one copy or of two.
-use Rattle.std.specs.Prelude.{List, Option}
 use Rattle.std.specs.Option.{option_map}
 use Rattle.vx_piece.specs.Seen.{Seen}
 use Rattle.vx_maps.specs.Slots.{SheetsSeen, slots_seen}

@@ -3,10 +3,10 @@ use Rattle.std.specs.Prelude.{◌≡◌, ◌≢◌, ℕ, zero, suc, ◌+◌, ◌
 use Rattle.std.specs.Option.{option_map}
 use Rattle.vx_piece.specs.Seen.{Seen}
 use Rattle.vx_sector.specs.Fields.{zeros}
-use Rattle.vx_maps.specs.Bytes.{full}
-use Rattle.vx_maps.specs.Items.{item_at}
-use Rattle.vx_maps.specs.Sector.{SectorSeen, Copies, copy_of, faults_on}
-use Rattle.vx_maps.specs.Page.{faults_in, no_sector, sector_at}
+use Rattle.vx_pages.specs.Bytes.{full}
+use Rattle.vx_pages.specs.Items.{item_at}
+use Rattle.vx_pages.specs.Sector.{SectorSeen, Copies, copy_of, faults_on}
+use Rattle.vx_pages.specs.Page.{ArePaired, faults_in, no_sector}
 
 abbrev pub slots_seen : {P : Type 0} → (P → Seen) → List (Option P) → List (Option Seen)
 slots_seen seen slots = map (option_map seen) slots
@@ -178,21 +178,9 @@ pub record HasHoles (size page below : ℕ) (sheets : SheetsSeen) : Type 0 where
   pub first : HasHolesOn size page below sheets.first
   pub second : HasHolesSecond size page below sheets.second
 
--- of each sector this holds
-abbrev pub AreAll : (SectorSeen → Type 0) → List SectorSeen → Type 0
-AreAll fact sectors = (m : ℕ) → m < length sectors → fact (sector_at sectors m)
-
 -- nothing of the sector is sure, and all is loose
 abbrev pub IsOpen : SectorSeen → Type 0
 IsOpen s = (s.sure ≡ zeros 512) × (s.loose ≡ full 512)
-
--- each sector has a piece on the second copy, or none has
-abbrev pub ArePaired : Bool → List SectorSeen → Type 0
-ArePaired pair sectors = AreAll (λ s. is_some s.copies.second ≡ pair) sectors
-
--- all sectors have a piece on the second copy, or none has
-abbrev pub ArePairedAlike : List SectorSeen → Type 0
-ArePairedAlike sectors = ArePaired (is_some (sector_at sectors 0).copies.second) sectors
 
 -- a place is that of a page's sector, where there are so many pages
 abbrev pub is_paged : ℕ → ℕ → ℕ → Bool

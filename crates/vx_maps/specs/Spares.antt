@@ -1,6 +1,5 @@
 -- The memory to put copies together again.
-use Rattle.std.specs.Prelude.{◌≡◌, ◌≤◌, List, [], length, map, vec_len, vec_capacity, Option, Some, None}
-use Rattle.std.specs.Option.{option_map}
+use Rattle.std.specs.Prelude.{◌≡◌, ◌≤◌, List, [], length, map, vec_capacity, Option, Some, None}
 use Rattle.std.specs.Global.{Vec}
 use Rattle.vx_piece.specs.Seen.{Seen}
 use Rattle.vx_maps.specs.Slots.{SheetsSeen}

@@ -3,16 +3,17 @@ use Rattle.std.specs.Prelude.{◌≡◌, ℕ, ◌+◌, ◌/◌, ◌<◌, ◌&&�
 use Rattle.vx_mask.specs.Marks.{Marks}
 use Rattle.vx_piece.specs.Seen.{Seen}
 use Rattle.vx_mapfmt.specs.Sizes.{page_count}
-use Rattle.vx_maps.specs.declared.local_piece.LocalPiece.{Ghosts}
+use Rattle.vx_pages.specs.declared.local_piece.LocalPiece.{Ghosts}
 use Rattle.vx_marks.specs.Log.{LogSeen, KeepsLog, OnMarks}
 use Rattle.vx_marks.specs.declared.marker.MarkFault.{MarkFault}
-use Rattle.vx_maps.specs.Firm.{FirmsStore}
-use Rattle.vx_maps.specs.declared.page.Page.{Page}
-use Rattle.vx_maps.specs.Items.{item_at, EachItem}
-use Rattle.vx_maps.specs.Page.{has_region, page_log}
-use Rattle.vx_maps.specs.Sector.{SectorSeen}
-use Rattle.vx_maps.specs.Slots.{AreAll, ArePaired, row_at}
-use Rattle.vx_maps.specs.Pages.{page_seen}
+use Rattle.vx_pages.specs.Firm.{FirmsStore}
+use Rattle.vx_pages.specs.declared.page.Page.{Page}
+use Rattle.vx_pages.specs.Items.{item_at, EachItem}
+use Rattle.vx_pages.specs.Page.{has_region, page_log}
+use Rattle.vx_pages.specs.Sector.{SectorSeen}
+use Rattle.vx_pages.specs.Page.{AreAll, ArePaired}
+use Rattle.vx_maps.specs.Slots.{row_at}
+use Rattle.vx_pages.specs.Pages.{page_seen}
 
 abbrev pub pages_seen : {P : Type 0} {ghosts : Ghosts P} → (P → Seen) → List (Page P ghosts) → List LogSeen
 pages_seen seen pages = map (page_seen seen) pages

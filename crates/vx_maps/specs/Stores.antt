@@ -1,6 +1,6 @@
 -- What contracts see of a store.
 use Rattle.vx_piece.specs.Seen.{Seen}
-use Rattle.vx_maps.specs.declared.local_piece.LocalPiece.{Ghosts}
+use Rattle.vx_pages.specs.declared.local_piece.LocalPiece.{Ghosts}
 use Rattle.vx_marks.specs.Log.{LogSeen}
 use Rattle.vx_maps.specs.declared.store.MapStore.{MapStore}
 use Rattle.vx_maps.specs.Store.{store_log, pages_seen}

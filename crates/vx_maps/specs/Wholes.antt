@@ -1,12 +1,12 @@
 -- What a store is made of: the pieces of each copy, in order.
-use Rattle.std.specs.Prelude.{◌≡◌, ℕ, zero, suc, ◌+◌, ◌/◌, List, [], ◌∷◌, Option, Some, None}
+use Rattle.std.specs.Prelude.{ℕ, zero, suc, ◌+◌, ◌/◌, List, [], Option, Some, None}
 use Rattle.std.specs.Option.{option_map}
 use Rattle.vx_piece.specs.Seen.{Seen}
 use Rattle.vx_cut.specs.Same.{counted}
-use Rattle.vx_maps.specs.declared.local_piece.LocalPiece.{Ghosts}
-use Rattle.vx_maps.specs.Items.{item_at}
-use Rattle.vx_maps.specs.Sector.{SectorSeen}
-use Rattle.vx_maps.specs.Pages.{grid_seen}
+use Rattle.vx_pages.specs.declared.local_piece.LocalPiece.{Ghosts}
+use Rattle.vx_pages.specs.Items.{item_at}
+use Rattle.vx_pages.specs.Sector.{SectorSeen}
+use Rattle.vx_pages.specs.Pages.{grid_seen}
 use Rattle.vx_maps.specs.Sheets.{sheets_seen}
 use Rattle.vx_maps.specs.Slots.{SheetsSeen, filled, slots_faults, grid_faults}
 use Rattle.vx_maps.specs.Copies.{copies_list}

@@ -3,22 +3,22 @@
 ghost use Rattle.std.specs.Prelude.{◌≡◌, ◌≤◌, ℕ, ◌/◌, [], length, is_some, vec_capacity, IfOk, IfErr};
 ghost use Rattle.vx_mapfmt.specs.Sizes.{page_count};
 ghost use Rattle.vx_maps.specs.Copies.{AreCopies, SameRuns};
-ghost use Rattle.vx_maps.specs.Pages.{grid_seen};
+ghost use Rattle.vx_pages.specs.Pages.{grid_seen};
 ghost use Rattle.vx_maps.specs.Sheets.{sheets_seen};
-ghost use Rattle.vx_maps.specs.Slots.{AreHoled, ArePairedRows, AreWhole, IsOpen};
+ghost use Rattle.vx_pages.specs.Sector.{IsOpen};
+ghost use Rattle.vx_maps.specs.Slots.{AreHoled, ArePairedRows, AreWhole};
 ghost use Rattle.vx_maps.specs.Spares.{HasRoom, copies_seen};
 ghost use Rattle.vx_maps.specs.Store.{AreLogsOf, pages_seen};
 ghost use Rattle.vx_maps.specs.Wholes.{copy_faults, store_copies, store_faults, whole_copies, whole_faults};
 
 use crate::cutting::{drain_pages, fill_pages};
 use crate::joining::{Cut, Spares, cut_sheets, join_sheets};
-use crate::local_piece::LocalPiece;
-use crate::page::Page;
 use crate::slots::Sheets;
 use crate::store::{Base, MapStore};
 use std::alloc::Global;
 use vx_base::OutOfMemory;
 use vx_mapfmt::DcoShape;
+use vx_pages::{LocalPiece, Page};
 use vx_piece::Piece;
 
 /// A store, and the memory to put its copies together again.

@@ -5,8 +5,8 @@ ghost use Rattle.vx_mapfmt.specs.Header.{maps_header};
 ghost use Rattle.vx_marks.specs.Log.{OnMarks};
 ghost use Rattle.vx_maps.specs.Copies.{AreCopies};
 ghost use Rattle.vx_maps.specs.Creating.{AllBeginWith, AllTell, AreBlank, IsRefusedAfter, IsRefusedFor};
-ghost use Rattle.vx_maps.specs.Firm.{FirmsStore};
-ghost use Rattle.vx_maps.specs.Sector.{HasCause};
+ghost use Rattle.vx_pages.specs.Firm.{FirmsStore};
+ghost use Rattle.vx_pages.specs.Sector.{HasCause};
 ghost use Rattle.vx_maps.specs.Sheets.{sheets_seen};
 ghost use Rattle.vx_maps.specs.Spares.{HasRoom, copies_seen};
 ghost use Rattle.vx_maps.specs.Stores.{store_seen};
@@ -17,11 +17,11 @@ ghost use Rattle.vx_maps.specs.declared.joining.Spares.{Spares};
 use crate::assembly::{CutStore, cut_store};
 use crate::fault::{StoreFault, StoreRefused, fault_of};
 use crate::header::put_heads;
-use crate::local_piece::LocalPiece;
 use crate::store::MapStore;
 use std::alloc::Global;
 use vx_mapfmt::DcoShape;
 use vx_marks::MarkFault;
+use vx_pages::LocalPiece;
 use vx_piece::Piece;
 
 /// Writes the first sector of each copy of a store.

@@ -2,18 +2,18 @@
 
 ghost use Rattle.std.specs.Prelude.{◌≡◌, ◌≤◌, ◌/◌, ◌<◌, [], length, is_some, vec_capacity, OnOk};
 ghost use Rattle.vx_mapfmt.specs.Sizes.{page_count};
-ghost use Rattle.vx_maps.specs.Pages.{grid_seen};
+ghost use Rattle.vx_pages.specs.Pages.{grid_seen};
 ghost use Rattle.vx_maps.specs.Sheets.{sheets_seen};
 ghost use Rattle.vx_maps.specs.Store.{AreLogsOf, pages_seen};
-ghost use Rattle.vx_maps.specs.Slots.{AreHoled, ArePairedRows, AreWhole, HasCuts, IsOpen, Wholes};
+ghost use Rattle.vx_pages.specs.Sector.{IsOpen};
+ghost use Rattle.vx_maps.specs.Slots.{AreHoled, ArePairedRows, AreWhole, HasCuts, Wholes};
 
-use crate::local_piece::LocalPiece;
-use crate::page::Page;
 use crate::paging::{drain_page, fill_page};
 use crate::slots::Sheets;
 use std::alloc::Global;
 use vx_base::OutOfMemory;
 use vx_mapfmt::DcoShape;
+use vx_pages::{LocalPiece, Page};
 
 /// Makes pages of the pieces in their places, in order, as far as there is memory. Nothing is claimed, and all is loose.
 pub fn fill_pages<P: LocalPiece + Drop>(

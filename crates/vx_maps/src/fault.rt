@@ -7,6 +7,8 @@ use vx_marks::MarkFault;
 pub enum StoreFault {
     /// Memory that was asked for was not there.
     OutOfMemory,
+    /// No copy could be read whole and has the header of the volume's maps.
+    NoCopy,
     /// A call on a piece of this copy, on this device, failed.
     Failed { copy: u8, device: u32 },
     /// The power is gone.

@@ -7,11 +7,11 @@ ghost use Rattle.vx_maps.specs.Sheets.{sheets_seen};
 ghost use Rattle.vx_maps.specs.Slots.{AreAllFull, AreWhole, pieces_in, slots_seen};
 ghost use Rattle.vx_maps.specs.Spares.{HasRoom, HasRoomSecond, copies_seen};
 
-use crate::local_piece::LocalPiece;
 use crate::runs::{cut_copy, take_out};
 use crate::slots::Sheets;
 use std::alloc::Global;
 use vx_base::OutOfMemory;
+use vx_pages::LocalPiece;
 use vx_piece::Piece;
 
 /// The memory to put the copies of a store together again.

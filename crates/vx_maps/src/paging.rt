@@ -2,20 +2,20 @@
 
 ghost use Rattle.std.specs.Prelude.{◌≡◌, ℕ, ◌+◌, ◌*◌, ◌^◌, ◌<◌, ◌≤◌, ◌++◌, ◌∷◌, [], length, is_some, IfOk, OnErr, List};
 ghost use Rattle.vx_sector.specs.Fields.{zeros};
-ghost use Rattle.vx_maps.specs.Bytes.{full};
-ghost use Rattle.vx_maps.specs.Sector.{AreSectors, SectorSeen};
-ghost use Rattle.vx_maps.specs.Pieces.{copies_of, sector_of};
-ghost use Rattle.vx_maps.specs.Sectors.{sector_seen};
-ghost use Rattle.vx_maps.specs.Page.{sectors_seen};
+ghost use Rattle.vx_pages.specs.Bytes.{full};
+ghost use Rattle.vx_pages.specs.Sector.{AreSectors, SectorSeen};
+ghost use Rattle.vx_pages.specs.Pieces.{copies_of, sector_of};
+ghost use Rattle.vx_pages.specs.Sectors.{sector_seen};
+ghost use Rattle.vx_pages.specs.Page.{sectors_seen};
 ghost use Rattle.vx_maps.specs.Sheets.{sheets_seen};
-ghost use Rattle.vx_maps.specs.Slots.{AreAll, ArePaired, IsOpen, HasCuts, HasHoles, HasPieces, Wholes, place_of};
+ghost use Rattle.vx_pages.specs.Page.{AreAll, ArePaired};
+ghost use Rattle.vx_pages.specs.Sector.{IsOpen};
+ghost use Rattle.vx_maps.specs.Slots.{HasCuts, HasHoles, HasPieces, Wholes, place_of};
 
-use crate::bytes::{empty_page, full_page};
-use crate::local_piece::LocalPiece;
-use crate::sector::MapSector;
 use crate::slots::{Sheets, put_both, take_both};
 use std::alloc::Global;
 use vx_base::OutOfMemory;
+use vx_pages::{LocalPiece, MapSector, empty_page, full_page};
 
 /// The place of a page's sector of a map, where each slot has so many sectors.
 fn place_of(size: u64, map: u64, page: u64) -> usize

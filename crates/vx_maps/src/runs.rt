@@ -6,10 +6,10 @@ ghost use Rattle.vx_runs.specs.Run.{run_sectors};
 ghost use Rattle.vx_cut.specs.Same.{HasSome, SameRun};
 ghost use Rattle.vx_maps.specs.Slots.{AreFull, IsWholeOn, pieces_in, slots_seen};
 
-use crate::local_piece::LocalPiece;
 use std::alloc::Global;
 use vx_base::OutOfMemory;
 use vx_cut::cut_run;
+use vx_pages::LocalPiece;
 use vx_piece::Piece;
 
 /// The pieces of a copy in slots, and the memory to put them together again.

@@ -1,11 +1,11 @@
 //! The pieces of one copy or of two by their sectors, with a hole where a page has taken its own.
 
 ghost use Rattle.std.specs.Prelude.{◌≡◌, ◌<◌, true, None, length, is_some};
-ghost use Rattle.vx_maps.specs.Pieces.{copies_of};
+ghost use Rattle.vx_pages.specs.Pieces.{copies_of};
 ghost use Rattle.vx_maps.specs.Sheets.{sheets_seen};
 ghost use Rattle.vx_maps.specs.Slots.{IsTakable, IsPlaceable, Moved, MovedBoth, slot_at, slots_seen};
 
-use crate::local_piece::LocalPiece;
+use vx_pages::LocalPiece;
 
 /// The pieces of each copy in order, the first at place 0.
 #[derive(Drop)]

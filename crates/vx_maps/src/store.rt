@@ -1,5 +1,5 @@
 ghost use Rattle.std.specs.Prelude.{◌≡◌, ℕ};
-ghost use Rattle.vx_maps.specs.Sector.{HasCause};
+ghost use Rattle.vx_pages.specs.Sector.{HasCause};
 ghost use Rattle.std.specs.Prelude.{◌/◌};
 ghost use Rattle.vx_mapfmt.specs.Sizes.{page_count};
 ghost use Rattle.vx_maps.specs.Store.{AreOnCopies, ArePages, ArePagesFirmed, pages_cut, pages_faults, pages_seen};
@@ -8,13 +8,12 @@ ghost use Rattle.vx_maps.specs.Slots.{IsLaid, copies_in};
 
 use crate::assembly::join_whole;
 use crate::joining::{Spares, spares_of};
-use crate::local_piece::LocalPiece;
-use crate::page::Page;
 use crate::slots::Sheets;
 use std::alloc::Global;
 use vx_base::OutOfMemory;
 use vx_mapfmt::DcoShape;
 use vx_marks::{MarkFault, Marker};
+use vx_pages::{LocalPiece, Page};
 
 /// What a store keeps beside its pages: its shape, and for each copy the pieces between the pages, in order.
 #[derive(Drop)]
@@ -73,7 +72,7 @@ fn firm_pages<P: LocalPiece>(pages: &mut Vec<Page<P>>) -> Result<(), MarkFault>
 
 impl<P: LocalPiece> MapStore<P> {
     ghost use Rattle.vx_marks.specs.Log.{KeepsLog, MarkHasCause, OnMarks};
-    ghost use Rattle.vx_maps.specs.Firm.{FirmsStore};
+    ghost use Rattle.vx_pages.specs.Firm.{FirmsStore};
     ghost use Rattle.vx_maps.specs.Stores.{store_seen};
 
     /// Writes again what failed calls have left open, and keeps all that is claimed. After Ok nothing is loose.

@@ -1,9 +1,9 @@
 use Rattle.std.proofs.Common.{rules, ◌≡◌, ◌++◌, ◌∷◌, [], ap, sym, subst, true}
 use Rattle.vx_piece.specs.MemPiece.{mem_seen}
 use Rattle.vx_marks.specs.Log.{LogSeen}
-use Rattle.vx_maps.specs.Page.{sectors_seen}
-use Rattle.vx_maps.specs.Sectors.{sector_seen}
-use Rattle.vx_maps.specs.Slots.{ArePaired}
+use Rattle.vx_pages.specs.Page.{sectors_seen}
+use Rattle.vx_pages.specs.Sectors.{sector_seen}
+use Rattle.vx_pages.specs.Page.{ArePaired}
 use Rattle.vx_maps.proofs.Places.{paired_push, seen_push}
 use Rattle.vx_map_rows.proofs.pages.page.Goals as goal
 

@@ -1,7 +1,7 @@
 use Rattle.std.proofs.Common.{◌≡◌, length, true}
 use Rattle.vx_piece.specs.MemPiece.{mem_seen}
-use Rattle.vx_maps.specs.Page.{sectors_seen}
-use Rattle.vx_maps.specs.Slots.{ArePaired}
+use Rattle.vx_pages.specs.Page.{sectors_seen}
+use Rattle.vx_pages.specs.Page.{ArePaired}
 use Rattle.vx_map_rows.proofs.pages.page.Given as goal
 
 abbrev pub invariant-loop-map : goal.invariant-loop-map

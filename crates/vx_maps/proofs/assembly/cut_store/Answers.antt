@@ -1,6 +1,5 @@
-use Rattle.std.proofs.Common.{refl, sym, subst, ◌∙◌, ◌≡◌, ◌/◌, [], ℕ, List}
+use Rattle.std.proofs.Common.{sym, subst, ◌∙◌, ◌/◌}
 use Rattle.std.proofs.lemmas.Result.{IfOk-weaker, IfErr-weaker}
-use Rattle.vx_piece.specs.Seen.{Seen}
 use Rattle.vx_maps.specs.Copies.{SameRuns}
 use Rattle.vx_maps.specs.Spares.{copies_seen}
 use Rattle.vx_maps.specs.Sheets.{sheets_seen}

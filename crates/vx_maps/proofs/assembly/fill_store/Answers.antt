@@ -1,13 +1,9 @@
-use Rattle.std.proofs.Common.{rules, arith, refl, sym, ap, subst, ◌∙◌, ◌≡◌, ◌/◌, [], ℕ, Bool, List, is_some, length}
+use Rattle.std.proofs.Common.{rules, subst, ◌∙◌, ◌≡◌, ◌/◌, [], Bool, length}
 use Rattle.std.proofs.lemmas.List.{length-map}
-use Rattle.vx_piece.specs.Seen.{Seen}
 use Rattle.vx_mapfmt.specs.Sizes.{page_count}
-use Rattle.vx_maps.specs.Pages.{grid_seen, page_seen}
-use Rattle.vx_maps.specs.Sector.{SectorSeen}
-use Rattle.vx_maps.specs.Page.{sectors_seen}
+use Rattle.vx_pages.specs.Pages.{grid_seen}
 use Rattle.vx_maps.specs.Sheets.{sheets_seen}
-use Rattle.vx_maps.specs.Store.{AreOnCopies, pages_seen}
-use Rattle.vx_maps.specs.Slots.{ArePairedRows, HasCuts, wholes_of}
+use Rattle.vx_maps.specs.Slots.{ArePairedRows, wholes_of}
 use Rattle.vx_maps.proofs.Filling.{cuts_of, all_holed, holed_of, logs_paged, logs_copies}
 use Rattle.vx_maps.proofs.Together.{room_still}
 use Rattle.vx_maps.proofs.Making.{whole_same, whole_total, laid_of}

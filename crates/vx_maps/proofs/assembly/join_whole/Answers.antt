@@ -1,8 +1,8 @@
-use Rattle.std.proofs.Common.{rules, arith, refl, sym, ap, subst, ◌∙◌, ◌≡◌, ◌/◌, [], ℕ, Bool, List, Option, None, is_some}
+use Rattle.std.proofs.Common.{ap, subst, ◌∙◌, ◌/◌, Bool, List, Option, is_some}
 use Rattle.vx_piece.specs.Seen.{Seen}
-use Rattle.vx_maps.specs.Pages.{grid_seen}
+use Rattle.vx_pages.specs.Pages.{grid_seen}
 use Rattle.vx_maps.specs.Sheets.{sheets_seen}
-use Rattle.vx_maps.specs.Slots.{ArePairedRows, HasCuts, wholes_of}
+use Rattle.vx_maps.specs.Slots.{ArePairedRows, wholes_of}
 use Rattle.vx_maps.specs.Wholes.{copy_faults}
 use Rattle.vx_maps.proofs.Filling.{cuts_of}
 use Rattle.vx_maps.proofs.Together.{all_full, room_still, together, totals}

@@ -1,4 +1,3 @@
-use Rattle.std.proofs.Common.{rules}
 use Rattle.vx_maps.specs.Wholes.{store_faults}
 use Rattle.vx_maps.specs.Cutness.{store_cut}
 use Rattle.vx_maps.proofs.Refusing.{refused_after}

@@ -1,5 +1,5 @@
-use Rattle.std.proofs.Common.{rules, arith, refl, sym, ap, subst, ◌∙◌, ◌≡◌, ◌/◌, ℕ, Bool, if◌then◌else◌}
-use Rattle.vx_maps.specs.Pages.{grid_seen}
+use Rattle.std.proofs.Common.{refl, sym, subst, ◌/◌, Bool, if◌then◌else◌}
+use Rattle.vx_pages.specs.Pages.{grid_seen}
 use Rattle.vx_maps.specs.Sheets.{sheets_seen}
 use Rattle.vx_maps.specs.Slots.{grid_faults}
 use Rattle.vx_maps.specs.Store.{AreOnCopies, pages_cut, pages_seen}

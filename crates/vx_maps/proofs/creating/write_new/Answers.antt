@@ -1,11 +1,11 @@
-use Rattle.std.proofs.Common.{rules, arith, refl, sym, ap, subst, ◌∙◌, ◌≡◌, ◌+◌, ℕ, Err}
+use Rattle.std.proofs.Common.{arith, sym, ap, subst, ◌∙◌, Err}
 use Rattle.vx_marks.specs.Log.{LogSeen}
 use Rattle.vx_maps.specs.Sheets.{sheets_seen}
 use Rattle.vx_maps.specs.Spares.{HasRoom}
 use Rattle.vx_maps.specs.Store.{pages_cut, pages_faults, pages_seen}
 use Rattle.vx_maps.specs.Wholes.{sheet_faults, store_faults}
 use Rattle.vx_maps.specs.Cutness.{sheets_cut, store_cut}
-use Rattle.vx_maps.proofs.Whole.{cause_after}
+use Rattle.vx_pages.proofs.Whole.{cause_after}
 use Rattle.vx_maps.proofs.Beginning.{cause_add, or_right}
 use Rattle.vx_maps.proofs.Refusing.{grid_pages, plain_cause}
 use Rattle.vx_maps.proofs.creating.write_new.Goals as goal

@@ -1,13 +1,14 @@
-use Rattle.std.proofs.Common.{rules, arith, refl, sym, ap, subst, ◌∙◌, ◌≡◌, ◌<◌, ◌+◌, ◌/◌, ◌∷◌, ◌++◌, [], ℕ, Bool, map, length, is_some, List}
+use Rattle.std.proofs.Common.{rules, arith, sym, ap, subst, ◌∙◌, ◌≡◌, ◌<◌, ◌/◌, ◌∷◌, ◌++◌, [], ℕ, Bool, length, is_some, List}
 use Rattle.std.proofs.lemmas.List.{length-map, length-append, map_push}
 use Rattle.vx_mapfmt.specs.Sizes.{page_count}
 use Rattle.vx_mapfmt.proofs.SizeLemmas.{page_fits}
-use Rattle.vx_maps.specs.Sector.{SectorSeen}
-use Rattle.vx_maps.specs.Sectors.{sector_seen}
-use Rattle.vx_maps.specs.Page.{sectors_seen}
-use Rattle.vx_maps.specs.Pages.{grid_seen}
+use Rattle.vx_pages.specs.Sector.{SectorSeen}
+use Rattle.vx_pages.specs.Sectors.{sector_seen}
+use Rattle.vx_pages.specs.Page.{sectors_seen}
+use Rattle.vx_pages.specs.Pages.{grid_seen}
 use Rattle.vx_maps.specs.Sheets.{sheets_seen}
-use Rattle.vx_maps.specs.Slots.{AreHoled, ArePaired, ArePairedRows, HasCuts, HasHoles, row_at, wholes_of}
+use Rattle.vx_pages.specs.Page.{ArePaired}
+use Rattle.vx_maps.specs.Slots.{HasCuts, HasHoles, row_at, wholes_of}
 use Rattle.vx_maps.proofs.Filling.{cuts_of, holed_of, holes_there, row_push, row_front}
 use Rattle.vx_maps.proofs.cutting.drain_pages.Goals as goal
 

@@ -1,6 +1,6 @@
-use Rattle.std.proofs.Common.{◌≡◌, ◌≤◌, ◌/◌, [], length, vec_len, is_some}
+use Rattle.std.proofs.Common.{◌≤◌, ◌/◌, length, vec_len, is_some}
 use Rattle.vx_mapfmt.specs.Sizes.{page_count}
-use Rattle.vx_maps.specs.Pages.{grid_seen}
+use Rattle.vx_pages.specs.Pages.{grid_seen}
 use Rattle.vx_maps.specs.Sheets.{sheets_seen}
 use Rattle.vx_maps.specs.Slots.{AreHoled, ArePairedRows, HasCuts, Wholes}
 use Rattle.vx_maps.proofs.cutting.drain_pages.Given as goal

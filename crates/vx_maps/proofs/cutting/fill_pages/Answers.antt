@@ -1,16 +1,16 @@
-use Rattle.std.proofs.Common.{rules, arith, refl, sym, ap, subst, ◌∙◌, ◌≡◌, ◌<◌, ◌+◌, ◌/◌, ◌∷◌, ◌++◌, [], map, length, is_some, List, Bool}
+use Rattle.std.proofs.Common.{rules, arith, sym, ap, subst, ◌∙◌, ◌≡◌, ◌/◌, ◌∷◌, ◌++◌, [], length, is_some, List, Bool}
 use Rattle.std.proofs.lemmas.List.{length-map, map_push}
 use Rattle.vx_marks.specs.Log.{LogSeen}
-use Rattle.vx_mapfmt.specs.Sizes.{page_count}
 use Rattle.vx_mapfmt.proofs.SizeLemmas.{page_fits}
-use Rattle.vx_maps.specs.Sector.{SectorSeen}
-use Rattle.vx_maps.specs.Sectors.{sector_seen}
-use Rattle.vx_maps.specs.Page.{sectors_seen}
-use Rattle.vx_maps.specs.Pages.{grid_seen, page_seen}
+use Rattle.vx_pages.specs.Sector.{SectorSeen}
+use Rattle.vx_pages.specs.Sectors.{sector_seen}
+use Rattle.vx_pages.specs.Page.{sectors_seen}
+use Rattle.vx_pages.specs.Pages.{grid_seen, page_seen}
 use Rattle.vx_maps.specs.Store.{AreLogsOf, pages_seen}
 use Rattle.vx_maps.specs.Sheets.{sheets_seen}
-use Rattle.vx_maps.specs.Slots.{ArePaired, HasCuts, IsOpen, wholes_of}
-use Rattle.vx_maps.proofs.Filling.{ready, cuts_of, all_holed, logs_none, logs_push}
+use Rattle.vx_pages.specs.Sector.{IsOpen}
+use Rattle.vx_maps.specs.Slots.{HasCuts, wholes_of}
+use Rattle.vx_maps.proofs.Filling.{ready, cuts_of, all_holed, logs_push}
 use Rattle.vx_maps.proofs.cutting.fill_pages.Goals as goal
 
 pub fill_page-requires-clause-pieces : goal.fill_page-requires-clause-pieces

@@ -1,9 +1,10 @@
 use Rattle.std.proofs.Common.{◌≡◌, ◌≤◌, ◌/◌, [], length, vec_capacity, is_some}
 use Rattle.vx_mapfmt.specs.Sizes.{page_count}
-use Rattle.vx_maps.specs.Pages.{grid_seen}
+use Rattle.vx_pages.specs.Pages.{grid_seen}
 use Rattle.vx_maps.specs.Sheets.{sheets_seen}
 use Rattle.vx_maps.specs.Store.{AreLogsOf, pages_seen}
-use Rattle.vx_maps.specs.Slots.{HasCuts, IsOpen, Wholes}
+use Rattle.vx_pages.specs.Sector.{IsOpen}
+use Rattle.vx_maps.specs.Slots.{HasCuts, Wholes}
 use Rattle.vx_maps.proofs.cutting.fill_pages.Given as goal
 
 abbrev pub invariant-loop-index : goal.invariant-loop-index

@@ -1,11 +1,11 @@
-use Rattle.std.proofs.Common.{rules, arith, refl, sym, ap, subst, ◌∙◌, ◌≡◌, ℕ, ◌+◌, ◌∷◌, ◌++◌, [], map, length, is_some}
+use Rattle.std.proofs.Common.{rules, arith, refl, sym, ap, subst, ◌∙◌, ◌≡◌, ℕ, ◌∷◌, ◌++◌, [], length, is_some}
 use Rattle.std.proofs.lemmas.List.{length-map}
-use Rattle.vx_maps.specs.Sector.{SectorSeen, Copies}
-use Rattle.vx_maps.specs.Sectors.{sector_seen}
-use Rattle.vx_maps.specs.Pieces.{copies_of}
-use Rattle.vx_maps.specs.Page.{sectors_seen}
+use Rattle.vx_pages.specs.Sector.{Copies}
+use Rattle.vx_pages.specs.Sectors.{sector_seen}
+use Rattle.vx_pages.specs.Page.{sectors_seen}
 use Rattle.vx_maps.specs.Sheets.{sheets_seen}
-use Rattle.vx_maps.specs.Slots.{IsPlaceable, MovedBoth, HasCuts, HasHoles, ArePaired, place_of}
+use Rattle.vx_pages.specs.Page.{ArePaired}
+use Rattle.vx_maps.specs.Slots.{IsPlaceable, MovedBoth, HasCuts, HasHoles, place_of}
 use Rattle.vx_maps.proofs.Cuts.{cuts_full}
 use Rattle.vx_maps.proofs.Places.{placeable, holes_back, second_same, paired_front, pair_is, seen_push, size_push, given}
 use Rattle.vx_maps.proofs.paging.drain_page.Goals as goal

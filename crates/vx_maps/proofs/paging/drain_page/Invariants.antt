@@ -1,8 +1,9 @@
-use Rattle.std.proofs.Common.{◌≡◌, ◌≤◌, ℕ, List, [], ◌∷◌, ◌++◌, length, vec_len, is_some}
-use Rattle.vx_maps.specs.Sector.{SectorSeen}
-use Rattle.vx_maps.specs.Page.{sectors_seen}
+use Rattle.std.proofs.Common.{◌≡◌, ◌≤◌, List, [], ◌∷◌, ◌++◌, length, vec_len, is_some}
+use Rattle.vx_pages.specs.Sector.{SectorSeen}
+use Rattle.vx_pages.specs.Page.{sectors_seen}
 use Rattle.vx_maps.specs.Sheets.{sheets_seen}
-use Rattle.vx_maps.specs.Slots.{ArePaired, HasCuts, HasHoles, Wholes}
+use Rattle.vx_pages.specs.Page.{ArePaired}
+use Rattle.vx_maps.specs.Slots.{HasCuts, HasHoles, Wholes}
 use Rattle.vx_maps.proofs.paging.drain_page.Given as goal
 
 abbrev pub invariant-draining : goal.invariant-draining

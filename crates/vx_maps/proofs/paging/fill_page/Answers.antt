@@ -1,13 +1,15 @@
-use Rattle.std.proofs.Common.{rules, arith, refl, sym, ap, subst, ◌∙◌, ◌≡◌, ◌∷◌, ◌++◌, [], map, length, is_some}
+use Rattle.std.proofs.Common.{rules, arith, refl, sym, ap, subst, ◌∙◌, ◌≡◌, ◌∷◌, ◌++◌, [], is_some}
 use Rattle.std.proofs.lemmas.List.{length-map}
 use Rattle.vx_sector.specs.Fields.{zeros}
-use Rattle.vx_maps.specs.Bytes.{full}
-use Rattle.vx_maps.specs.Sector.{SectorSeen, Copies}
-use Rattle.vx_maps.specs.Sectors.{sector_seen}
-use Rattle.vx_maps.specs.Pieces.{copies_of}
-use Rattle.vx_maps.specs.Page.{sectors_seen}
+use Rattle.vx_pages.specs.Bytes.{full}
+use Rattle.vx_pages.specs.Sector.{SectorSeen, Copies}
+use Rattle.vx_pages.specs.Sectors.{sector_seen}
+use Rattle.vx_pages.specs.Pieces.{copies_of}
+use Rattle.vx_pages.specs.Page.{sectors_seen}
 use Rattle.vx_maps.specs.Sheets.{sheets_seen}
-use Rattle.vx_maps.specs.Slots.{IsTakable, MovedBoth, HasCuts, AreAll, ArePaired, IsOpen, place_of}
+use Rattle.vx_pages.specs.Page.{AreAll, ArePaired}
+use Rattle.vx_pages.specs.Sector.{IsOpen}
+use Rattle.vx_maps.specs.Slots.{IsTakable, MovedBoth, HasCuts, place_of}
 use Rattle.vx_maps.proofs.Cuts.{cuts_empty}
 use Rattle.vx_maps.proofs.Places.{takable, are_single, pieces_on, holes_on, no_holes, second_same, paired_push, all_push, seen_push, size_push, taken}
 use Rattle.vx_maps.proofs.paging.fill_page.Goals as goal

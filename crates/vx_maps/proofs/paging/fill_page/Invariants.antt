@@ -1,8 +1,10 @@
-use Rattle.std.proofs.Common.{◌≡◌, ◌≤◌, ℕ, List, [], ◌∷◌, ◌++◌, length, vec_len, vec_capacity, is_some}
-use Rattle.vx_maps.specs.Sector.{SectorSeen}
-use Rattle.vx_maps.specs.Page.{sectors_seen}
+use Rattle.std.proofs.Common.{◌≡◌, ◌≤◌, List, [], ◌∷◌, ◌++◌, length, vec_capacity, is_some}
+use Rattle.vx_pages.specs.Sector.{SectorSeen}
+use Rattle.vx_pages.specs.Page.{sectors_seen}
 use Rattle.vx_maps.specs.Sheets.{sheets_seen}
-use Rattle.vx_maps.specs.Slots.{AreAll, ArePaired, IsOpen, HasCuts, HasHoles, HasPieces, Wholes}
+use Rattle.vx_pages.specs.Page.{AreAll, ArePaired}
+use Rattle.vx_pages.specs.Sector.{IsOpen}
+use Rattle.vx_maps.specs.Slots.{HasCuts, HasHoles, HasPieces, Wholes}
 use Rattle.vx_maps.proofs.paging.fill_page.Given as goal
 
 abbrev pub invariant-loop-map : goal.invariant-loop-map

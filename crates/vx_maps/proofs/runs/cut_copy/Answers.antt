@@ -1,4 +1,4 @@
-use Rattle.std.proofs.Common.{rules, map, arith, ◌∙◌, sym}
+use Rattle.std.proofs.Common.{map, arith}
 use Rattle.std.proofs.lemmas.List.{length-map}
 use Rattle.std.proofs.lemmas.Result.{IfOk-weaker}
 use Rattle.vx_maps.proofs.Running.{whole_slots, same_slots}

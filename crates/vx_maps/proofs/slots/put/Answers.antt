@@ -1,4 +1,4 @@
-use Rattle.std.proofs.Common.{rules, ◌≡◌, Some, get_or, ◌∙◌, sym, refl, ap}
+use Rattle.std.proofs.Common.{Some, refl}
 use Rattle.vx_maps.proofs.Moving.{moved_in}
 use Rattle.vx_maps.proofs.slots.put.Goals as goal
 

@@ -1,10 +1,10 @@
 use Rattle.std.proofs.Common.{◌<◌, length, arith, rules, refl, subst, Result, Ok, Err}
 use Rattle.vx_marks.specs.Log.{OnMarks, MarkHasCause}
 use Rattle.vx_marks.specs.declared.marker.MarkFault.{MarkFault}
-use Rattle.vx_maps.specs.Firm.{FirmsAll, FirmsStore}
-use Rattle.vx_maps.specs.Pages.{page_seen}
+use Rattle.vx_pages.specs.Firm.{FirmsAll, FirmsStore}
+use Rattle.vx_pages.specs.Pages.{page_seen}
 use Rattle.vx_maps.specs.Store.{PageGoes, no_page}
-use Rattle.vx_maps.proofs.Rounds.{goes_on, stops}
+use Rattle.vx_pages.proofs.Rounds.{goes_on, stops}
 use Rattle.vx_maps.proofs.Firming.{firm_page, torn_page, firm_tidies, page_idle, quiet_on, cause_on}
 use Rattle.vx_maps.proofs.store.firm_pages.Goals as goal
 

@@ -1,7 +1,7 @@
 use Rattle.std.proofs.Common.{◌≡◌, ℕ, length, Ok}
-use Rattle.vx_maps.specs.Firm.{FirmsStore}
+use Rattle.vx_pages.specs.Firm.{FirmsStore}
 use Rattle.vx_maps.specs.Store.{PageGoes, no_page, pages_faults, pages_seen}
-use Rattle.vx_maps.proofs.Rounds.{Went}
+use Rattle.vx_pages.proofs.Rounds.{Went}
 use Rattle.vx_maps.proofs.store.firm_pages.Given as goal
 
 abbrev pub invariant-loop-index : goal.invariant-loop-index

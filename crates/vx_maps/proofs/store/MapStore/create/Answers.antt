@@ -3,8 +3,8 @@ use Rattle.std.proofs.lemmas.List.{length-map}
 use Rattle.std.proofs.lemmas.Result.{IfOk-weaker, IfErr-weaker}
 use Rattle.vx_marks.specs.Log.{LogSeen}
 use Rattle.vx_mapfmt.proofs.SizeLemmas.{page_fits}
-use Rattle.vx_maps.specs.Page.{sectors_seen}
-use Rattle.vx_maps.specs.Pages.{grid_seen, page_seen}
+use Rattle.vx_pages.specs.Page.{sectors_seen}
+use Rattle.vx_pages.specs.Pages.{grid_seen, page_seen}
 use Rattle.vx_maps.specs.Sheets.{sheets_seen}
 use Rattle.vx_maps.specs.Spares.{copies_seen}
 use Rattle.vx_maps.specs.Slots.{row_at}

@@ -1,4 +1,4 @@
-use Rattle.vx_maps.proofs.Pairs.{copies_firm}
+use Rattle.vx_maps.proofs.Alike.{copies_firm}
 use Rattle.vx_maps.proofs.Firming.{store_firm_kept, store_firm_told, store_firm_still, store_firm_claims, store_firm_cause}
 use Rattle.vx_maps.proofs.store.MapStore.firm.Goals as goal
 

@@ -1,8 +1,8 @@
-use Rattle.std.proofs.Common.{arith, sym, ap, ◌∙◌, ◌/◌, length}
+use Rattle.std.proofs.Common.{arith, sym, ap, ◌∙◌, ◌/◌}
 use Rattle.std.proofs.lemmas.List.{length-map}
-use Rattle.vx_maps.specs.Page.{sectors_seen}
+use Rattle.vx_pages.specs.Page.{sectors_seen}
 use Rattle.vx_mapfmt.proofs.SizeLemmas.{page_fits}
-use Rattle.vx_maps.specs.Pages.{grid_seen, page_seen}
+use Rattle.vx_pages.specs.Pages.{grid_seen, page_seen}
 use Rattle.vx_maps.specs.Store.{pages_cut, pages_seen}
 use Rattle.vx_maps.specs.Creating.{copies_cut}
 use Rattle.vx_maps.specs.Cutness.{sheets_cut}

@@ -1,8 +1,8 @@
 use Rattle.std.proofs.Common.{◌∙◌, sym, ◌<◌, length, ◌/◌}
 use Rattle.vx_marks.specs.Log.{IsMarkedAs, IsClaimedAs}
-use Rattle.vx_maps.specs.Pages.{page_seen}
+use Rattle.vx_pages.specs.Pages.{page_seen}
 use Rattle.vx_maps.proofs.Storing.{has_page, size_seen, askable, there_is, paged_still, store_kept, store_told, store_claims, store_cause}
-use Rattle.vx_maps.proofs.Pairs.{copies_still}
+use Rattle.vx_maps.proofs.Alike.{copies_still}
 use Rattle.vx_maps.proofs.store.MapStoreMarker.mark.Goals as goal
 
 pub mark-requires : goal.mark-requires

@@ -1,8 +1,0 @@
-use Rattle.vx_maps.proofs.Going.{forgets, forget_formed}
-use Rattle.vx_maps.proofs.sector.MapSector.forget.Goals as goal
-
-pub invariant_of-self : goal.invariant_of-self
-invariant_of-self g c = record { formed = forget_formed _ _ _ _ c.put_none.ensures.length c.put_none.ensures.none c.requires c.args.self.now.formed }
-
-pub returns : goal.returns
-returns g c = forgets _ _ _ _ c.put_none.ensures.none

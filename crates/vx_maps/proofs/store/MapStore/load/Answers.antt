@@ -1,0 +1,32 @@
+use Rattle.std.proofs.Common.{sym, subst}
+use Rattle.std.proofs.lemmas.Result.{IfErr-weaker}
+use Rattle.vx_mapfmt.specs.declared.shape.DcoShape.{DcoShape}
+use Rattle.std.specs.Prelude.{is_some}
+use Rattle.vx_pages.specs.Pages.{grid_seen}
+use Rattle.vx_pages.specs.Sector.{IsOpen}
+use Rattle.vx_maps.specs.Sheets.{sheets_seen}
+use Rattle.vx_maps.specs.Store.{AreLogsOf, pages_seen}
+use Rattle.vx_maps.specs.Loading.{IsLoaded, IsNotLoaded, header_of}
+use Rattle.vx_maps.specs.Spares.{copies_seen}
+use Rattle.vx_maps.specs.Stores.{store_seen}
+use Rattle.vx_maps.specs.Wholes.{store_copies, store_faults}
+use Rattle.vx_maps.proofs.Sources.{if_both, loaded, not_loaded}
+use Rattle.vx_maps.proofs.store.MapStore.load.Goals as goal
+
+pub returns-in-Ok-cut_store-clause-loaded : goal.returns-in-Ok-cut_store-clause-loaded
+returns-in-Ok-cut_store-clause-loaded g c =
+    if_both c.load_in.result _ _ _
+    (λ store filled go.
+    subst (λ (shape : DcoShape). IsLoaded (header_of shape) shape.regions (copies_seen g.P.Piece.seen c.args.copies.items) (store_faults g.P.Piece.seen store) (store_copies g.P.Piece.seen store) (store_seen g.P.Piece.seen store)) c.in-Ok-cut_store.ensures.shape
+    (loaded c.in-Ok-cut_store.cut.store (copies_seen g.P.Piece.seen c.args.copies.items) c.in-Ok-cut_store.ensures.same c.in-Ok-cut_store.ensures.faults store (header_of c.in-Ok-cut_store.cut.store.base.shape)
+    (subst (λ (shape : DcoShape). AreLogsOf shape.regions (is_some (sheets_seen g.P.Piece.seen c.in-Ok-cut_store.cut.store.base.sheets).second) IsOpen (grid_seen g.P.Piece.seen c.in-Ok-cut_store.cut.store.pages.items) (pages_seen g.P.Piece.seen c.in-Ok-cut_store.cut.store.pages.items)) (sym c.in-Ok-cut_store.ensures.shape) c.in-Ok-cut_store.ensures.open)
+    go filled))
+    c.load_in.ensures.filled c.load_in.ensures.goes
+
+pub returns-in-Ok-cut_store-clause-refused : goal.returns-in-Ok-cut_store-clause-refused
+returns-in-Ok-cut_store-clause-refused g c =
+    IfErr-weaker c.load_in.result _ _
+    (λ x h.
+    subst (λ (shape : DcoShape). IsNotLoaded (header_of shape) x.fault (copies_seen g.P.Piece.seen c.args.copies.items) (copies_seen g.P.Piece.seen x.copies.items)) c.in-Ok-cut_store.ensures.shape
+    (not_loaded c.in-Ok-cut_store.cut.store (copies_seen g.P.Piece.seen c.args.copies.items) c.in-Ok-cut_store.ensures.same c.in-Ok-cut_store.ensures.faults (header_of c.in-Ok-cut_store.cut.store.base.shape) x.fault (copies_seen g.P.Piece.seen x.copies.items) h))
+    c.load_in.ensures.refused

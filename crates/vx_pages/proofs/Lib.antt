@@ -1,0 +1,16 @@
+pub mod Bits
+pub mod Clipping
+pub mod Going
+pub mod Items
+pub mod Keeping
+pub mod Loops
+pub mod Marking
+pub mod Masks
+pub mod Mending
+pub mod Opening
+pub mod Pairs
+pub mod Putting
+pub mod Rounds
+pub mod Settling
+pub mod Ways
+pub mod Whole

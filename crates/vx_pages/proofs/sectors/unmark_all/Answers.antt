@@ -1,0 +1,18 @@
+use Rattle.std.proofs.Common.{inl}
+use Rattle.vx_pages.specs.Sector.{Goes, Turns, SameBits, MaySweep, BitOpened}
+use Rattle.vx_pages.specs.Page.{asked}
+use Rattle.vx_pages.proofs.Ways.{leaves_open}
+use Rattle.vx_pages.proofs.Whole.{unmarked, each_then, turned_faults, turned_cut, cause_stays}
+use Rattle.vx_pages.proofs.sectors.unmark_all.Goals as goal
+
+pub returns-in-Err-clause-each : goal.returns-in-Err-clause-each
+returns-in-Err-clause-each g c = inl (each_then (λ m. Goes SameBits MaySweep) (λ m. Turns (BitOpened (asked c.args.bits c.args.region m)))
+    (λ m. Goes (BitOpened (asked c.args.bits c.args.region m)) MaySweep) _ _ _ (λ m x y z one two. leaves_open (asked c.args.bits c.args.region m) x y z one two)
+    c.in-Err.ensures.each c.open_all.ensures)
+
+pub returns-in-Err-clause-cause : goal.returns-in-Err-clause-cause
+returns-in-Err-clause-cause g c =
+    cause_stays _ _ _ _ _ c.in-Err.fault c.in-Err.ensures.cause (turned_faults (λ m. BitOpened (asked c.args.bits c.args.region m)) _ _ c.open_all.ensures) (turned_cut (λ m. BitOpened (asked c.args.bits c.args.region m)) _ _ c.open_all.ensures)
+
+pub returns-clause-each : goal.returns-clause-each
+returns-clause-each g c = unmarked c.args.bits c.args.region _ _ _ c.change_all.result c.in_default.ensures.each c.change_all.ensures.each

@@ -1,0 +1,11 @@
+pub mod Arming
+pub mod Bytes
+pub mod Firm
+pub mod Images
+pub mod Items
+pub mod Page
+pub mod Pages
+pub mod Pieces
+pub mod Reading
+pub mod Sector
+pub mod Sectors

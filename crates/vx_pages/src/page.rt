@@ -1,0 +1,125 @@
+ghost use Rattle.std.specs.Prelude.{◌≡◌, ℕ, true, length};
+ghost use Rattle.vx_pages.specs.Page.{sectors_seen};
+ghost use Rattle.vx_pages.specs.Page.{ArePairedAlike};
+
+use crate::local_piece::LocalPiece;
+use crate::sector::MapSector;
+use crate::sectors::{arm_all, fetch_all, firm_all, mark_all, marks_at, settle_all, unmark_all};
+use vx_marks::{MarkFault, Marker};
+
+/// A page of every map: the bits of 4,096 regions, the last page perhaps of fewer, with its sectors on each copy. It is a
+/// log of marks of its own, and holds no borrow.
+#[derive(Drop)]
+pub struct Page<P: LocalPiece> {
+    index: u64,
+    regions: u64,
+    sectors: Vec<MapSector<P>>,
+    ghost maps: { length sectors.items ≡ 32 },
+    ghost paired: { ArePairedAlike (sectors_seen P.seen sectors.items) },
+}
+
+impl<P: LocalPiece> Page<P> {
+    ghost use Rattle.vx_marks.specs.Log.{KeepsLog, MarkHasCause, OnMarks};
+    ghost use Rattle.vx_pages.specs.Page.{page_log};
+    ghost use Rattle.vx_pages.specs.Pages.{page_seen};
+    ghost use Rattle.vx_pages.specs.Firm.{FirmsAll};
+
+    /// A page of a volume of so many regions, by its index, of its sectors in the order of the maps.
+    pub fn of(index: u64, regions: u64, sectors: Vec<MapSector<P>>) -> Page<P>
+        requires maps { length sectors.items ≡ 32 }
+        requires paired { ArePairedAlike (sectors_seen P.seen sectors.items) }
+        ensures log { page_seen P.seen result ≡ page_log index regions (sectors_seen P.seen sectors.items) }
+        ensures sectors { result.sectors.items ≡ sectors.items }
+    {
+        Page {
+            index,
+            regions,
+            sectors,
+        }
+    }
+
+    /// Its sectors, in the order of the maps.
+    pub fn into_sectors(self) -> Vec<MapSector<P>>
+        ensures maps { length result.items ≡ 32 }
+        ensures paired { ArePairedAlike (sectors_seen P.seen result.items) }
+        ensures same { result.items ≡ self.sectors.items }
+    {
+        self.sectors
+    }
+
+    /// Writes again what a failed call has left open, and keeps all that is claimed. After Ok nothing is loose.
+    pub fn firm(&mut self) -> Result<(), MarkFault>
+        ensures kept { KeepsLog (page_seen P.seen self.old) (page_seen P.seen self.new) }
+        ensures told { OnMarks (FirmsAll result) (page_seen P.seen self.old).told (page_seen P.seen self.new).told }
+        ensures claims { (region map : ℕ) → (page_seen P.seen self.new).claims region map ≡ (page_seen P.seen self.old).claims region map }
+        ensures cause { MarkHasCause (page_seen P.seen self.old) (page_seen P.seen self.new) result }
+    {
+        firm_all(&mut self.sectors)
+    }
+}
+
+impl<P: LocalPiece> Page<P> {
+    ghost use Rattle.vx_pages.specs.Arming.{armed_sectors};
+    ghost use Rattle.vx_pages.specs.Images.{images_seen};
+    ghost use Rattle.vx_pages.specs.Page.{AreAll, EachSector, cut_in, faults_in};
+    ghost use Rattle.vx_pages.specs.Pages.{SamePage};
+    ghost use Rattle.vx_pages.specs.Sector.{HasCause, IsOpen};
+    ghost use Rattle.vx_pages.specs.Reading.{AreImages, AreSettled, GiveCopy, HasRisen, IsCopyOf, IsFaultAt, ReadsSector};
+
+    /// Reads the page of each map from one copy, 0 or 1, and stops at the first that fails.
+    pub fn fetch(&mut self, copy: u8, images: &mut Vec<Vec<u8>>) -> Result<(), MarkFault>
+        requires there { AreAll (λ s. IsCopyOf copy s.copies) (sectors_seen P.seen self.old.sectors.items) }
+        requires images { AreImages (images_seen images.old.items) }
+        ensures page { SamePage self.old self.new }
+        ensures reads { EachSector (λ map. ReadsSector) (sectors_seen P.seen self.old.sectors.items) (sectors_seen P.seen self.new.sectors.items) }
+        ensures gives { GiveCopy copy (images_seen images.new.items) (sectors_seen P.seen self.old.sectors.items) result }
+        ensures images { AreImages (images_seen images.new.items) }
+        ensures at { IsFaultAt copy result }
+        ensures cause { HasCause (faults_in (sectors_seen P.seen self.old.sectors.items)) (faults_in (sectors_seen P.seen self.new.sectors.items)) (cut_in (sectors_seen P.seen self.new.sectors.items)) result }
+    {
+        fetch_all(&mut self.sectors, copy, images)
+    }
+
+    /// Makes each copy of a page of which nothing is known hold these images, by their maps. After Ok they are sure.
+    pub fn settle(&mut self, images: &Vec<Vec<u8>>) -> Result<(), MarkFault>
+        requires open { AreAll IsOpen (sectors_seen P.seen self.old.sectors.items) }
+        requires images { AreImages (images_seen images.now.items) }
+        ensures page { SamePage self.old self.new }
+        ensures settled { AreSettled (images_seen images.now.items) (sectors_seen P.seen self.old.sectors.items) (sectors_seen P.seen self.new.sectors.items) result }
+        ensures cause { HasRisen (faults_in (sectors_seen P.seen self.old.sectors.items)) (faults_in (sectors_seen P.seen self.new.sectors.items)) (cut_in (sectors_seen P.seen self.new.sectors.items)) result }
+    {
+        settle_all(&mut self.sectors, images)
+    }
+
+    /// Sets when a power switch is to act on its pieces.
+    pub fn arm(&mut self, stop: Option<u64>)
+        ensures page { SamePage self.old self.new }
+        ensures armed { sectors_seen P.seen self.new.sectors.items ≡ armed_sectors stop (sectors_seen P.seen self.old.sectors.items) }
+    {
+        arm_all(&mut self.sectors, stop);
+    }
+}
+
+impl<P: LocalPiece> Marker for Page<P> {
+    ghost use Rattle.vx_pages.specs.Page.{page_log, sectors_seen};
+
+    ghost log = { λ page. page_log page.index page.regions (sectors_seen P.seen page.sectors.items) };
+
+    ghost follows = { λ x y. Unit {0} };
+
+    fn marked(&self, region: u64) -> u64 {
+        marks_at(&self.sectors, region)
+    }
+
+    fn mark(&mut self, region: u64, bits: u64) -> Result<(), MarkFault> {
+        mark_all(&mut self.sectors, region, bits)
+    }
+
+    fn unmark(&mut self, region: u64, bits: u64) -> Result<(), MarkFault> {
+        unmark_all(&mut self.sectors, region, bits)
+    }
+
+    ghost follows_same = { λ x. tt };
+
+    ghost follows_on = { λ x y z first then. tt };
+}

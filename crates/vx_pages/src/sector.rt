@@ -1,0 +1,182 @@
+ghost use Rattle.std.specs.Prelude.{◌≡◌, ℕ, false};
+ghost use Rattle.vx_pages.specs.Sector.{IsFormed};
+ghost use Rattle.vx_pages.specs.Pieces.{sector_of};
+
+use crate::bytes::{copy_page, has_bit, put_bit, put_none};
+use crate::copies::{get, mend, put};
+use crate::local_piece::LocalPiece;
+use vx_marks::MarkFault;
+use vx_sector::is_zero;
+
+/// The sector of one map on one page: its piece on each copy, and in memory what is sure of it and what a failed call
+/// has left open.
+#[derive(Drop)]
+pub struct MapSector<P: LocalPiece> {
+    first: P,
+    second: Option<P>,
+    sure: Vec<u8>,
+    loose: Vec<u8>,
+    ghost formed: { IsFormed (sector_of P.seen first second sure.items loose.items) },
+}
+
+impl<P: LocalPiece> MapSector<P> {
+    ghost use Rattle.vx_pages.specs.Sectors.{sector_seen};
+    ghost use Rattle.vx_pages.specs.Bytes.{same_place};
+    ghost use Rattle.vx_pages.specs.Sector.{BitOpened, HasCause, IsBitPut, IsFirm, IsTidied, NoneLoose, Turns, faults_at, is_cut, is_loose, is_sure};
+
+    /// Whether the sector has the sure bit of a region.
+    pub fn is_marked(&self, region: u64) -> bool
+        ensures { result ≡ is_sure (sector_seen P.seen self.now) region }
+    {
+        has_bit(&self.sure, region)
+    }
+
+    /// Writes the sector again on every copy where anything of it is loose. It stays loose until `forget`.
+    pub fn tidy(&mut self) -> Result<(), MarkFault>
+        ensures goes { IsTidied result (sector_seen P.seen self.old) (sector_seen P.seen self.new) }
+        ensures cause { HasCause (faults_at (sector_seen P.seen self.old).copies) (faults_at (sector_seen P.seen self.new).copies) (is_cut (sector_seen P.seen self.new).copies) result }
+    {
+        if is_zero(&self.loose) {
+            return Ok(());
+        }
+        put(&mut self.first, &mut self.second, &self.sure)
+    }
+
+    /// Nothing is loose any more. No copy shows a loose mark.
+    pub fn forget(&mut self)
+        requires { IsFirm (sector_seen P.seen self.old) }
+        ensures { Turns NoneLoose (sector_seen P.seen self.old) (sector_seen P.seen self.new) }
+    {
+        put_none(&mut self.loose);
+    }
+
+    /// Puts the bit of a region on every copy. Where that fails, the bit is loose.
+    pub fn put_mark(&mut self, region: u64, on: bool) -> Result<(), MarkFault>
+        requires { (other : ℕ) → is_loose (sector_seen P.seen self.old) other ≡ false }
+        ensures goes { IsBitPut (same_place region) on result (sector_seen P.seen self.old) (sector_seen P.seen self.new) }
+        ensures cause { HasCause (faults_at (sector_seen P.seen self.old).copies) (faults_at (sector_seen P.seen self.new).copies) (is_cut (sector_seen P.seen self.new).copies) result }
+    {
+        put_bit(&mut self.sure, region, on);
+        if let Err(fault) = put(&mut self.first, &mut self.second, &self.sure) {
+            put_bit(&mut self.sure, region, false);
+            put_bit(&mut self.loose, region, true);
+            return Err(fault);
+        }
+        Ok(())
+    }
+
+    /// Leaves the bit of a region open.
+    pub fn open_mark(&mut self, region: u64)
+        ensures { Turns (BitOpened (same_place region)) (sector_seen P.seen self.old) (sector_seen P.seen self.new) }
+    {
+        put_bit(&mut self.sure, region, false);
+        put_bit(&mut self.loose, region, true);
+    }
+}
+
+impl<P: LocalPiece> MapSector<P> {
+    ghost use Rattle.vx_pages.specs.Sectors.{sector_seen};
+    ghost use Rattle.vx_pages.specs.Bytes.{same_place};
+    ghost use Rattle.vx_pages.specs.Sector.{BitOpened, HasCause, IsBitPut, Turns, faults_at, is_cut, is_loose};
+    ghost use Rattle.std.specs.Prelude.{◌&&◌};
+
+    /// Puts the bit of a region on every copy, if the map is asked for.
+    pub fn put_if(&mut self, asked: bool, region: u64, on: bool) -> Result<(), MarkFault>
+        requires { (other : ℕ) → is_loose (sector_seen P.seen self.old) other ≡ false }
+        ensures goes { IsBitPut (λ other. asked && same_place region other) on result (sector_seen P.seen self.old) (sector_seen P.seen self.new) }
+        ensures cause { HasCause (faults_at (sector_seen P.seen self.old).copies) (faults_at (sector_seen P.seen self.new).copies) (is_cut (sector_seen P.seen self.new).copies) result }
+    {
+        if asked {
+            self.put_mark(region, on)
+        } else {
+            Ok(())
+        }
+    }
+
+    /// Leaves the bit of a region open, if the map is asked for.
+    pub fn open_if(&mut self, asked: bool, region: u64)
+        ensures { Turns (BitOpened (λ other. asked && same_place region other)) (sector_seen P.seen self.old) (sector_seen P.seen self.new) }
+    {
+        if asked {
+            self.open_mark(region);
+        }
+    }
+}
+
+impl<P: LocalPiece> MapSector<P> {
+    ghost use Rattle.vx_pages.specs.Pieces.{copies_of};
+    ghost use Rattle.vx_pages.specs.Sectors.{sector_seen};
+
+    /// A sector of which each copy shows what is sure, and nothing is loose.
+    pub fn of(first: P, second: Option<P>, sure: Vec<u8>, loose: Vec<u8>) -> MapSector<P>
+        requires { IsFormed (sector_of P.seen first second sure.items loose.items) }
+        ensures { sector_seen P.seen result ≡ sector_of P.seen first second sure.items loose.items }
+    {
+        MapSector {
+            first,
+            second,
+            sure,
+            loose,
+        }
+    }
+
+    /// Its piece of each copy. What is sure or loose is forgotten.
+    pub fn into_pieces(self) -> (P, Option<P>)
+        ensures { copies_of P.seen result.0 result.1 ≡ (sector_seen P.seen self).copies }
+    {
+        let MapSector {
+            first,
+            second,
+            sure: _sure,
+            loose: _loose,
+        } = self;
+        (first, second)
+    }
+}
+
+impl<P: LocalPiece> MapSector<P> {
+    ghost use Rattle.std.specs.Prelude.{length};
+    ghost use Rattle.vx_pages.specs.Arming.{armed_sector};
+    ghost use Rattle.vx_pages.specs.Sectors.{sector_seen};
+    ghost use Rattle.vx_pages.specs.Sector.{HasCause, IsOpen, copy_of, faults_at, is_cut};
+    ghost use Rattle.vx_pages.specs.Reading.{Gives, HasRisen, IsCopyOf, IsFaultAt, ReadsSector, Settles};
+
+    /// Reads the sector of one copy, 0 or 1.
+    pub fn fetch(&mut self, copy: u8, into: &mut Vec<u8>) -> Result<(), MarkFault>
+        requires whole { length into.old.items ≡ 512 }
+        requires there { IsCopyOf copy (sector_seen P.seen self.old).copies }
+        ensures reads { ReadsSector (sector_seen P.seen self.old) (sector_seen P.seen self.new) }
+        ensures gives { Gives into.new.items (copy_of (sector_seen P.seen self.old).copies copy) result }
+        ensures at { IsFaultAt copy result }
+        ensures cause { HasCause (faults_at (sector_seen P.seen self.old).copies) (faults_at (sector_seen P.seen self.new).copies) (is_cut (sector_seen P.seen self.new).copies) result }
+        ensures length { length into.new.items ≡ length into.old.items }
+    {
+        get(&mut self.first, &mut self.second, copy, into)
+    }
+
+    /// Makes each copy of a sector of which nothing is known hold these bytes: a piece that is read and holds them is not
+    /// written. After Ok they are sure, and nothing is loose.
+    pub fn settle(&mut self, image: &[u8]) -> Result<(), MarkFault>
+        requires whole { length image.now ≡ 512 }
+        requires open { IsOpen (sector_seen P.seen self.old) }
+        ensures settles { Settles image.now (sector_seen P.seen self.old) (sector_seen P.seen self.new) result }
+        ensures cause { HasRisen (faults_at (sector_seen P.seen self.old).copies) (faults_at (sector_seen P.seen self.new).copies) (is_cut (sector_seen P.seen self.new).copies) result }
+    {
+        if let Err(fault) = mend(&mut self.first, &mut self.second, image) {
+            return Err(fault);
+        }
+        copy_page(&mut self.sure, image);
+        put_none(&mut self.loose);
+        Ok(())
+    }
+
+    /// Sets when a power switch is to act on its pieces.
+    pub fn arm(&mut self, stop: Option<u64>)
+        ensures { sector_seen P.seen self.new ≡ armed_sector stop (sector_seen P.seen self.old) }
+    {
+        self.first.arm(stop);
+        if let Some(piece) = &mut self.second {
+            piece.arm(stop);
+        }
+    }
+}

@@ -21,6 +21,7 @@ use Rattle.vx_script_forms.specs.declared.call.Call.{Call}
 use Rattle.vx_script_forms.specs.declared.form.Form.{Form}
 use Rattle.vx_script_forms.specs.declared.form.Form.TheVariants as form
 use Rattle.vx_script_forms.specs.declared.kind.Kind.{Kind}
+use Rattle.vx_script_forms.specs.declared.kind.Kind.TheVariants as kind
 use Rattle.vx_script_forms.proofs.Forms.{form_again, group_again}
 use Rattle.vx_script_print.specs.Text.{class_word, row_words, form_words, cut_words}
 use Rattle.vx_script_words.specs.Fits.{is_of, are_of}
@@ -32,8 +33,9 @@ use Rattle.vx_script_words.specs.declared.class.Item.TheVariants.{One}
 use Rattle.vx_script_words.specs.declared.value.Value.{Value}
 use Rattle.vx_script_words.proofs.Plain.{is_dark_word}
 use Rattle.vx_script_print.proofs.ValueWords.{is_fixed, fixed_text}
-use Rattle.vx_script_print.proofs.Rows.{line_dark}
-use Rattle.vx_script_print.proofs.Choices.{in_commands, in_calls, in_acts, plain_commands, plain_calls, plain_acts, is_chosen, kind_clear}
+use Rattle.vx_script_print.proofs.Rows.{line_dark, is_clear, may_end, row_read}
+use Rattle.vx_script.specs.Choice.{choose}
+use Rattle.vx_script_print.proofs.Choices.{in_commands, in_calls, in_acts, two_commands, two_calls, two_acts, all_two, chosen}
 use Rattle.vx_script_print.proofs.Lines.{begun_spells, not_passed}
 
 -- the first word is fixed, and begins no comment
@@ -41,16 +43,13 @@ abbrev begins_plain : List Item → Bool
 begins_plain (One c ∷ is) = is_fixed c.sort && not (begins_comment (text_of c.front))
 begins_plain is = false
 
-abbrev kind_plain : Kind → Bool
-kind_plain k = begins_plain (items_of k)
+-- the table lets the kind's words be told apart
+abbrev kind_clear : Kind → Bool
+kind_clear k = begins_plain (items_of k) && is_clear (items_of k)
 
-all_plain : list_all kind_plain commands ≡ true
-all_plain = refl
-
-plain_in : (k : Kind) (ks : List Kind) → list_all kind_plain ks ≡ true → In k ks → kind_plain k ≡ true
-plain_in k [] h i = absurd i
-plain_in k (x ∷ xs) h (inl e) = ap kind_plain e ∙ (and_parts (kind_plain x) (list_all kind_plain xs) h).0
-plain_in k (x ∷ xs) h (inr i) = plain_in k xs (and_parts (kind_plain x) (list_all kind_plain xs) h).1 i
+all_clear : (k : Kind) → kind_clear k ≡ true
+all_clear kind.Read = refl
+all_clear k = refl
 
 -- some words, the first of which begins no comment
 pub record Plainly (ws : List (List ℕ)) : Type 0 where
@@ -68,15 +67,19 @@ plainly (One c ∷ is) (v ∷ vs) tail p h =
     record { first = class_word c v; more = row_words is vs ++ tail; parts = refl; plain = ap (λ x. begins_comment (text_of c.front ++ x)) text ∙ ap begins_comment (append-nil (text_of c.front)) ∙ not-true _ two.1 }
 plainly (i ∷ is) vs tail p h = absurd cc
 
+-- a line of the words of a kind's values is of that kind, and says these values
+is_chosen : (b : Bool) (kinds : List Kind) (k : Kind) (vs : List Value) (cut : Option ℕ) (t : List ℕ) → all_two b kinds ≡ true → In k kinds → may_end b cut ≡ true → are_of (items_of k) vs ≡ true → Spells t (row_words (items_of k) vs ++ cut_words cut) → choose b kinds t ≡ Ok (record { kind = k; values = vs; cut = cut })
+is_chosen b kinds k vs cut t two i ends h s = chosen b kinds k t (row_words (items_of k) vs ++ cut_words cut) (record { values = vs; cut = cut }) _ two i s (row_read b cut (items_of k) vs t ends (and_parts (begins_plain (items_of k)) (is_clear (items_of k)) (all_clear k)).1 h s)
+
 -- ---- the first line of a command
 
 pub command_dark : (g : Option (List ℕ)) (f : Form) (cut : Option ℕ) → is_said g f ≡ true → maybe_cut cut ≡ true → list_all is_dark_word (form_words g f ++ cut_words cut) ≡ true
-command_dark g f cut h short = line_dark (items_of (kind_of f)) (values_of g f) cut (kind_clear true commands (kind_of f) plain_commands (in_commands (kind_of f))) h short
+command_dark g f cut h short = line_dark (items_of (kind_of f)) (values_of g f) cut (and_parts (begins_plain (items_of (kind_of f))) (is_clear (items_of (kind_of f))) (all_clear (kind_of f))).1 h short
 
 command_said : (done : List Command) (g : Option (List ℕ)) (f : Form) (cut : Option ℕ) (t : List ℕ) → is_said g f ≡ true → maybe_cut cut ≡ true → Spells t (form_words g f ++ cut_words cut) → command_step done t ≡ Ok (opened done g (opening f) cut)
 unfolding command_step
 command_said done g f cut t h short s =
-    ap (λ r. and_then r (λ c. opened_by done (maybe_name c.values 1) (form_of c.kind c.values) c.cut)) (is_chosen true commands (kind_of f) (values_of g f) cut t plain_commands (in_commands (kind_of f)) short h s)
+    ap (λ r. and_then r (λ c. opened_by done (maybe_name c.values 1) (form_of c.kind c.values) c.cut)) (is_chosen true commands (kind_of f) (values_of g f) cut t two_commands (in_commands (kind_of f)) short h s)
     ∙ ap (λ x. opened_by done x (form_of (kind_of f) (values_of g f)) cut) (group_again g f)
     ∙ ap (λ x. opened_by done (Some g) x cut) (form_again g f h)
 
@@ -85,7 +88,7 @@ unfolding step
 first_line done g f cut h short =
     let words : List (List ℕ) = form_words g f ++ cut_words cut in
     let dark = command_dark g f cut h short in
-    let p = plainly (items_of (kind_of f)) (values_of g f) (cut_words cut) (plain_in (kind_of f) commands all_plain (in_commands (kind_of f))) h in
+    let p = plainly (items_of (kind_of f)) (values_of g f) (cut_words cut) (and_parts (begins_plain (items_of (kind_of f))) (is_clear (items_of (kind_of f))) (all_clear (kind_of f))).0 h in
     let passed : is_passed_over (begun words) ≡ false = ap (λ ws. is_passed_over (begun ws)) p.parts ∙ not_passed p.first p.more (sym (ap (list_all is_dark_word) p.parts) ∙ dark) p.plain in
     cond-false _ _ _ passed ∙ command_said done g f cut (begun words) h short (begun_spells words dark)
 
@@ -101,13 +104,13 @@ pub call_said : (session : ℕ) (c : Call) (t : List ℕ) → 1 ≤ session → 
 unfolding line_behind
 call_said session c t some h s =
     cond-false _ _ _ (ne_eqb session 0 (λ e. omega (arith, some, e)))
-    ∙ ap (λ r. and_then r (λ x. called session (form_of x.kind x.values))) (is_chosen false calls (kind_of (form.Calling c)) (values_of None (form.Calling c)) None t plain_calls (in_calls c) refl h (subst (Spells t) (sym (append-nil (form_words None (form.Calling c)))) s))
+    ∙ ap (λ r. and_then r (λ x. called session (form_of x.kind x.values))) (is_chosen false calls (kind_of (form.Calling c)) (values_of None (form.Calling c)) None t two_calls (in_calls c) refl h (subst (Spells t) (sym (append-nil (form_words None (form.Calling c)))) s))
     ∙ ap (called session) (form_again None (form.Calling c) h)
 
 pub act_said : (admin : Admin) (t : List ℕ) → is_said admin.group (form.Acting admin.act) ≡ true → Spells t (form_words admin.group (form.Acting admin.act)) → line_behind 0 t ≡ Ok (Administer admin)
 unfolding line_behind
 act_said admin t h s =
     let f : Form = form.Acting admin.act in
-    ap (λ r. and_then r (λ x. administered (maybe_name x.values 1) (form_of x.kind x.values))) (is_chosen false acts (kind_of f) (values_of admin.group f) None t plain_acts (in_acts admin.act) refl h (subst (Spells t) (sym (append-nil (form_words admin.group f))) s))
+    ap (λ r. and_then r (λ x. administered (maybe_name x.values 1) (form_of x.kind x.values))) (is_chosen false acts (kind_of f) (values_of admin.group f) None t two_acts (in_acts admin.act) refl h (subst (Spells t) (sym (append-nil (form_words admin.group f))) s))
     ∙ ap (λ g. administered g (form_of (kind_of f) (values_of admin.group f))) (group_again admin.group f)
     ∙ ap (administered (Some admin.group)) (form_again admin.group f h)

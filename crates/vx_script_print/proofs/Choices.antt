@@ -29,8 +29,8 @@ use Rattle.vx_script_words.specs.declared.class.Sort.TheVariants as sort
 use Rattle.vx_script_words.specs.declared.key.Key.{Key}
 use Rattle.vx_script_words.proofs.Lined.{Ends, row_walks}
 use Rattle.vx_script_words.proofs.Opens.{are_sound}
-use Rattle.vx_script_words.proofs.Walk.{Words, Walked, Test, accepts, is_named, one_word, after, some_words, group_words, on, walk}
-use Rattle.vx_script_print.proofs.ValueWords.{is_fixed}
+use Rattle.vx_script_words.proofs.Walk.{Words, Walked, Test, accepts, is_named, after, some_words, group_words, on, walk}
+use Rattle.vx_script_print.proofs.Sorts.{is_fixed}
 
 -- ---- parts that have no line in common
 

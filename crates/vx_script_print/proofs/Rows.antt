@@ -1,22 +1,25 @@
 -- The parts of a form read the words that are printed of their values, and leave those behind them.
-use Rattle.std.proofs.Common.{◌≡◌, ◌∙◌, sym, ap, subst, refl, ℕ, zero, suc, ◌*◌, ◌/◌, ◌-◌, ◌%◌, ◌^◌, ◌<◌, ◌≤◌, inl, inr, Bool, true, false, List, [], ◌∷◌, ◌++◌, map, length, take, drop, arith, Option, Some, None, Ok, Err, leb-true, le-leb, ltb-true, eqb-true, eq-eqb}
-use Rattle.std.specs.Prelude.{codes, decimal, is_some, is_none, not, nat_lt, nat_le, ◌==◌, ◌&&◌, ◌||◌}
+use Rattle.std.proofs.Common.{◌≡◌, ◌∙◌, sym, ap, subst, refl, ℕ, zero, suc, ◌*◌, ◌/◌, ◌-◌, ◌%◌, ◌^◌, ◌<◌, ◌≤◌, inl, inr, Bool, true, false, List, [], ◌∷◌, ◌++◌, map, length, take, drop, arith, Option, Some, None, Ok, Err, leb-true, le-leb, ltb-true, eqb-true, eq-eqb, cond}
+use Rattle.std.specs.Prelude.{codes, decimal, is_some, is_none, nat_lt, nat_le, ◌==◌, ◌&&◌, ◌||◌}
 use Rattle.std.specs.List.{list_all}
 use Rattle.std.specs.Str.{bytes_eq}
 use Rattle.std.proofs.lemmas.List.{append-nil, append_assoc, length-append, length-take, length-drop, length-map, map-id, take-append-drop}
 use Rattle.std.proofs.lemmas.List.Folds.{list_all-append, list_all-map}
-use Rattle.std.proofs.lemmas.Bool.{and_parts, and_from, and_left, and_right, or_cases, or_from, not-true, both_ways, cond-true, cond-false, false_from_ne_true, ne_eqb}
+use Rattle.std.proofs.lemmas.Bool.{and_parts, and_from, and_left, and_right, or_cases, or_from, both_ways, cond-true, cond-false, false_from_ne_true, ne_eqb}
 use Rattle.std.proofs.lemmas.Slice.Eq.{bytes_eq-Decides}
 use Rattle.vx_names.specs.Form.{is_name, is_name_byte}
 use Rattle.vx_names.proofs.Numbers.{decimal_short}
 use Rattle.vx_block.specs.Word.{block_word}
 use Rattle.vx_script.specs.Kept.{maybe_cut}
+use Rattle.vx_script_forms.specs.Table.{items_of}
+use Rattle.vx_script_forms.specs.declared.kind.Kind.{Kind}
+use Rattle.vx_script_forms.specs.declared.kind.Kind.TheVariants as kind
 use Rattle.vx_script_print.specs.Text.{class_word, value_text, cut_blocks, words_of, row_words, cut_words}
 use Rattle.vx_script_words.specs.Class.{class_value, value_behind, as_name}
-use Rattle.vx_script_words.specs.Fits.{is_byte, is_pair, are_blocks, is_between, pair_word, is_of, of_item, are_of}
+use Rattle.vx_script_words.specs.Fits.{is_byte, is_pair, are_blocks, is_between, pair_word, of_item, are_of}
 use Rattle.vx_script_words.specs.Hex.{block_of}
 use Rattle.vx_script_words.specs.Key.{text_of}
-use Rattle.vx_script_words.specs.Parts.{behind, cut_of, name_of, pair_of, number_behind}
+use Rattle.vx_script_words.specs.Parts.{cut_of, name_of, pair_of, number_behind}
 use Rattle.vx_script_words.specs.Row.{So, one, taken, with_value, or_else, further, gather, pushed, joined, said, at_least_one, any_name, item, items, row, Read, and_then, line_end, cut_end, uncut, nothing_left}
 use Rattle.vx_script_words.specs.Spelling.{Spells}
 use Rattle.vx_script_words.specs.Words.{from_word, first_word, past_word}
@@ -31,7 +34,8 @@ use Rattle.vx_script_words.specs.declared.value.Value.{Value}
 use Rattle.vx_script_words.specs.declared.value.Value.TheVariants as value
 use Rattle.vx_script_words.proofs.Plain.{is_dark_word, name_parts, name_word}
 use Rattle.vx_script_words.proofs.Spelled.{few_words}
-use Rattle.vx_script_print.proofs.Sorts.{all_that, behind_front, name_said, pair_said, pair_is_word, front_apart, apart, is_one_block, block_said, block_is_word, ranged_said, is_fixed, fixed_word, is_fair_class, class_shown}
+use Rattle.vx_script_print.proofs.Sorts.{all_that, behind_front, name_said, pair_said, pair_is_word, is_one_block, block_said, block_is_word, ranged_said, is_fair_class, class_shown, is_fixed}
+use Rattle.vx_script_words.proofs.Walk.{Words, Walked, Test, accepts, is_named, after, some_words, group_words, on, walk}
 
 -- the first of the words, or nothing
 abbrev head_word : List (List ℕ) → List ℕ
@@ -41,81 +45,7 @@ head_word (w ∷ ws) = w
 abbrev so : List Value → List ℕ → So
 so values rest = record { values = values; rest = rest }
 
--- ---- the table lets words be told apart
-
--- the word that may end a line
-abbrev cut_class : Class
-cut_class = record { front = key.Cut; sort = sort.Number 0 (2 ^ 40 - 1) }
-
--- each word that may come first passes
-abbrev begins_with : (Class → Bool) → Bool → List Item → Bool
-begins_with p name [] = p cut_class
-begins_with p name (One d ∷ is) = p d
-begins_with p name (Maybe d ∷ is) = p d && begins_with p name is
-begins_with p name (NoGroup ∷ is) = begins_with p name is
-begins_with p name (Names ∷ is) = name && begins_with p name is
-begins_with p name is = false
-
-abbrev is_last : List Item → Bool
-is_last [] = true
-is_last (i ∷ is) = false
-
--- no name begins with the front
-abbrev is_no_name : Class → Bool
-is_no_name d = not (list_all is_name_byte (text_of d.front))
-
-abbrev is_named : Sort → Bool
-is_named sort.Named = true
-is_named s = false
-
-abbrev is_name_class : Class → Bool
-is_name_class c = bytes_eq (text_of c.front) [] && is_named c.sort
-
--- no word of the second class is of the first
-abbrev excludes : Class → Class → Bool
-excludes c d = apart (text_of c.front) (text_of d.front) || (is_name_class c && is_no_name d)
-
--- a fixed word that is no option `-g`
-abbrev is_told : Class → Bool
-is_told d = is_fixed d.sort && not (bytes_eq (text_of d.front) (codes "-g"))
-
--- no word that may follow the part is one of its own
-abbrev is_ended : Item → List Item → Bool
-is_ended (One c) is = is_fair_class c
-is_ended (Maybe c) is = is_fair_class c && (is_none (class_value c []) && begins_with (excludes c) (is_no_name c) is)
-is_ended Group is = begins_with is_told false is
-is_ended NoGroup is = true
-is_ended i is = is_last is
-
-abbrev pub is_clear : List Item → Bool
-is_clear [] = true
-is_clear (i ∷ is) = is_ended i is && is_clear is
-
--- ---- what follows a part
-
-cut_fits : (n : ℕ) → nat_lt n (2 ^ 40) ≡ true → is_between 0 (2 ^ 40 - 1) n ≡ true
-cut_fits n h = let small : n < 2 ^ 40 = ltb-true n (2 ^ 40) h in and_from _ _ (le-leb 0 n (omega arith)) (le-leb n (2 ^ 40 - 1) (omega (arith, small)))
-
-cut_said : (n : ℕ) → nat_lt n (2 ^ 40) ≡ true → cut_of (codes "cut=" ++ decimal n) ≡ Some n
-cut_said n h = ap number_behind (behind_front (codes "cut=") (decimal n)) ∙ ranged_said 0 (2 ^ 40 - 1) n (ltb-true n (2 ^ 40) h) (cut_fits n h)
-
--- what holds of each word that may come first, holds of the first
-module _ (P : List ℕ → Type 0) (p : Class → Bool) (name : Bool) (none : P []) (word : (d : Class) (v : Value) → p d ≡ true → is_of d.sort v ≡ true → P (class_word d v)) (named : (n : List ℕ) → name ≡ true → is_name n ≡ true → P n) (cut : Option ℕ) (short : maybe_cut cut ≡ true) where
-  cut_first : (o : Option ℕ) → p cut_class ≡ true → maybe_cut o ≡ true → P (head_word (cut_words o))
-  cut_first None b h = none
-  cut_first (Some n) b h = word cut_class (value.Number n) b (cut_fits n h)
-
-  first_has : (is : List Item) (vs : List Value) → begins_with p name is ≡ true → are_of is vs ≡ true → P (head_word (row_words is vs ++ cut_words cut))
-  first_has [] vs b a = cut_first cut b short
-  first_has (i ∷ is) [] b a = absurd (both_ways false refl a)
-  first_has (One d ∷ is) (v ∷ vs) b a = word d v b (and_parts (is_of d.sort v) (are_of is vs) a).0
-  first_has (Maybe d ∷ is) (value.Nothing ∷ vs) b a = first_has is vs (and_parts (p d) (begins_with p name is) b).1 a
-  first_has (Maybe d ∷ is) (v ∷ vs) b a = word d v (and_parts (p d) (begins_with p name is) b).0 (and_parts (is_of d.sort v) (are_of is vs) a).0
-  first_has (NoGroup ∷ is) (v ∷ vs) b a = first_has is vs b (and_parts (of_item NoGroup v) (are_of is vs) a).1
-  first_has (Names ∷ is) (value.Names [] ∷ vs) b a = first_has is vs (and_parts name (begins_with p name is) b).1 a
-  first_has (Names ∷ is) (value.Names (n ∷ ns) ∷ vs) b a = named n (and_parts name (begins_with p name is) b).0 (and_parts (is_name n) (list_all is_name ns) (and_parts (list_all is_name (n ∷ ns)) (are_of is vs) a).0).0
-  first_has (Names ∷ is) (v ∷ vs) b a = absurd (both_ways false refl a)
-  first_has (i ∷ is) (v ∷ vs) b a = absurd (both_ways false refl b)
+-- ---- what may follow a part
 
 -- such a word ends the part
 abbrev Ends : Item → List ℕ → Type 0
@@ -126,47 +56,80 @@ Ends Pairs w = pair_of w ≡ None
 Ends Blocks w = block_of w ≡ None
 Ends i w = Unit {0}
 
-no_name : (front x : List ℕ) → list_all is_name_byte front ≡ false → name_of (front ++ x) ≡ None
-no_name front x h = cond-false _ _ _ (and_right _ _ (list_all-append is_name_byte front x ∙ and_left _ _ h))
+-- this holds of each word that may come first, whatever stands behind its front
+abbrev Firsts : (List ℕ → Type 0) → List Item → Type 0
+Firsts P [] = (x : List ℕ) → P (codes "cut=" ++ x)
+Firsts P (One d ∷ is) = (x : List ℕ) → P (text_of d.front ++ x)
+Firsts P (Maybe d ∷ is) = ((x : List ℕ) → P (text_of d.front ++ x)) × Firsts P is
+Firsts P (NoGroup ∷ is) = Firsts P is
+Firsts P (Names ∷ is) = ((n : List ℕ) → is_name n ≡ true → P n) × Firsts P is
+Firsts P is = ⊥
 
-name_class_is : (k : Key) (s : Sort) (w : List ℕ) → bytes_eq (text_of k) [] ≡ true → is_named s ≡ true → class_value (record { front = k; sort = s }) w ≡ as_name (name_of w)
+-- the words of the part can be told from those behind them
+abbrev Told : Item → List Item → Type 0
+Told (One c) is = is_fair_class c ≡ true
+Told (Maybe c) is = (is_fair_class c ≡ true) × (class_value c [] ≡ None) × Firsts (Ends (Maybe c)) is
+Told Group is = Firsts (Ends Group) is
+Told NoGroup is = Unit {0}
+Told i is = is ≡ []
+
+abbrev pub Clear : List Item → Type 0
+Clear [] = Unit {0}
+Clear (i ∷ is) = Told i is × Clear is
+
+-- no name begins so
+no_name : (x : List ℕ) → name_of (codes "cut=" ++ x) ≡ None
+no_name x = cond-false _ _ _ (and_right _ _ refl)
+
+no_name_word : (x : List ℕ) → class_value any_name (codes "cut=" ++ x) ≡ None
 unfolding class_value
-name_class_is k sort.Named w e n = ap (λ front. value_behind sort.Named (behind front w)) ((bytes_eq-Decides (text_of k) []).0 e)
-name_class_is k s w e n = absurd (both_ways false refl n)
-
-class_ends : (c d : Class) (v : Value) → excludes c d ≡ true → class_value c (class_word d v) ≡ None
-class_ends c d v h = elim (or_cases (apart (text_of c.front) (text_of d.front)) (is_name_class c && is_no_name d) h) [
-  | inl fronts ↦ front_apart c (text_of d.front) (value_text d.sort v) fronts
-  | inr names ↦
-      let two = and_parts (is_name_class c) (is_no_name d) names in
-      let name = and_parts (bytes_eq (text_of c.front) []) (is_named c.sort) two.0 in
-      name_class_is c.front c.sort (class_word d v) name.0 name.1 ∙ ap as_name (no_name (text_of d.front) (value_text d.sort v) (not-true _ two.1))
-]
+no_name_word x = ap as_name (no_name x)
 
 -- a name does not begin with a front that no name has
-name_ends : (c : Class) (w : List ℕ) → is_no_name c ≡ true → is_name w ≡ true → class_value c w ≡ None
+no_front : (c : Class) (w : List ℕ) → list_all is_name_byte (text_of c.front) ≡ false → is_name w ≡ true → class_value c w ≡ None
 unfolding class_value
-name_ends c w out h =
+no_front c w out h =
     let front : List ℕ = text_of c.front in
     let part : List ℕ = take (length front) w in
     let bytes = and_parts (list_all is_name_byte part) _ (sym (list_all-append is_name_byte part (drop (length front) w)) ∙ ap (list_all is_name_byte) (take-append-drop (length front) w) ∙ (name_parts w h).bytes) in
-    let other : bytes_eq part front ≡ false = false_from_ne_true (bytes_eq part front) (λ same. both_ways (list_all is_name_byte front) (not-true _ out) (ap (list_all is_name_byte) (sym ((bytes_eq-Decides part front).0 same)) ∙ bytes.0)) in
+    let other : bytes_eq part front ≡ false = false_from_ne_true (bytes_eq part front) (λ same. both_ways (list_all is_name_byte front) out (ap (list_all is_name_byte) (sym ((bytes_eq-Decides part front).0 same)) ∙ bytes.0)) in
     ap (value_behind c.sort) (cond-false (bytes_eq part front) (Some (drop (length front) w)) None other)
 
-none_is : {A : Type 0} (o : Option A) → is_none o ≡ true → o ≡ None
-none_is None h = refl
-none_is (Some x) h = absurd (both_ways false refl h)
+ruleset fronts = (no_front, no_name_word)
 
-part_ends : (i : Item) (is : List Item) (vs : List Value) (cut : Option ℕ) → is_ended i is ≡ true → are_of is vs ≡ true → maybe_cut cut ≡ true → Ends i (head_word (row_words is vs ++ cut_words cut))
+pub all_clear : (k : Kind) → Clear (items_of k)
+unfolding class_value
+all_clear kind.Read = search fronts
+all_clear k = search fronts depth 40
+
+first_has : (P : List ℕ → Type 0) → P [] → (is : List Item) (vs : List Value) (cut : Option ℕ) → Firsts P is → are_of is vs ≡ true → P (head_word (row_words is vs ++ cut_words cut))
+first_has P none [] [] None b a = none
+first_has P none [] [] (Some n) b a = b (decimal n)
+first_has P none (One d ∷ is) (v ∷ vs) cut b a = b (value_text d.sort v)
+first_has P none (Maybe d ∷ is) (value.Nothing ∷ vs) cut b a = first_has P none is vs cut b.1 a
+first_has P none (Maybe d ∷ is) (v ∷ vs) cut b a = b.0 (value_text d.sort v)
+first_has P none (NoGroup ∷ is) (v ∷ vs) cut b a = first_has P none is vs cut b (and_parts (of_item NoGroup v) (are_of is vs) a).1
+first_has P none (Names ∷ is) (value.Names [] ∷ vs) cut b a = first_has P none is vs cut b.1 a
+first_has P none (Names ∷ is) (value.Names (n ∷ ns) ∷ vs) cut b a = b.0 n (and_parts (is_name n) (list_all is_name ns) (and_parts (list_all is_name (n ∷ ns)) (are_of is vs) a).0).0
+first_has P none (Group ∷ is) (v ∷ vs) cut b a = absurd b
+first_has P none (Pairs ∷ is) (v ∷ vs) cut b a = absurd b
+first_has P none (Blocks ∷ is) (v ∷ vs) cut b a = absurd b
+first_has P none is vs cut b a = absurd (both_ways false refl a)
+
+cut_fits : (n : ℕ) → nat_lt n (2 ^ 40) ≡ true → is_between 0 (2 ^ 40 - 1) n ≡ true
+cut_fits n h = let small : n < 2 ^ 40 = ltb-true n (2 ^ 40) h in and_from _ _ (le-leb 0 n (omega arith)) (le-leb n (2 ^ 40 - 1) (omega (arith, small)))
+
+cut_said : (n : ℕ) → nat_lt n (2 ^ 40) ≡ true → cut_of (codes "cut=" ++ decimal n) ≡ Some n
+cut_said n h = ap number_behind (behind_front (codes "cut=") (decimal n)) ∙ ranged_said 0 (2 ^ 40 - 1) n (ltb-true n (2 ^ 40) h) (cut_fits n h)
+
+part_ends : (i : Item) (is : List Item) (vs : List Value) (cut : Option ℕ) → Told i is → are_of is vs ≡ true → maybe_cut cut ≡ true → Ends i (head_word (row_words is vs ++ cut_words cut))
 unfolding block_of
 part_ends (One c) is vs cut e a short = tt
-part_ends (Maybe c) is vs cut e a short =
-    let two = and_parts (is_none (class_value c [])) (begins_with (excludes c) (is_no_name c) is) (and_parts (is_fair_class c) _ e).1 in
-    first_has (λ w. class_value c w ≡ None) (excludes c) (is_no_name c) (none_is (class_value c []) two.0) (λ d v x h. class_ends c d v x) (λ n out h. name_ends c n out h) cut short is vs two.1 a
-part_ends Group is vs cut e a short = first_has (λ w. bytes_eq w (codes "-g") ≡ false) is_told false refl (λ d v t h. (let two = and_parts (is_fixed d.sort) (not (bytes_eq (text_of d.front) (codes "-g"))) t in ap (λ w. bytes_eq w (codes "-g")) (fixed_word d v two.0 h) ∙ not-true _ two.1)) (λ n out h. absurd (both_ways false refl out)) cut short is vs e a
 part_ends NoGroup is vs cut e a short = tt
+part_ends (Maybe c) is vs cut e a short = first_has (Ends (Maybe c)) e.1 is vs cut e.2 a
+part_ends Group is vs cut e a short = first_has (Ends Group) refl is vs cut e a
 part_ends Names [] vs None e a short = refl
-part_ends Names [] vs (Some n) e a short = no_name (codes "cut=") (decimal n) refl
+part_ends Names [] vs (Some n) e a short = no_name (decimal n)
 part_ends Pairs [] vs None e a short = refl
 part_ends Pairs [] vs (Some n) e a short = cond-true _ _ _ (ap is_some (cut_said n short))
 part_ends Blocks [] vs None e a short = refl
@@ -174,7 +137,7 @@ part_ends Blocks [] vs (Some n) e a short =
     let below : n < 2 ^ 40 = ltb-true n (2 ^ 40) short in
     let word : List ℕ = codes "cut=" ++ decimal n in
     cond-false _ _ _ (or_from _ _ (and_left _ _ (and_right (length word == 3) false refl)) (and_left _ _ (ne_eqb (length word) 1024 (λ e. omega (arith, decimal_short n (omega (arith, below)), e)))))
-part_ends i (j ∷ js) vs cut e a short = absurd (both_ways false refl e)
+part_ends i (j ∷ js) vs cut e a short = absurd cc
 
 -- ---- lists of words
 
@@ -261,10 +224,10 @@ unfolding class_value
 any_name_said name h = ap as_name (name_said name h)
 
 -- the part reads the words of the value, and leaves those behind them
-part_reads : (i : Item) (is : List Item) (v : Value) (ws : List (List ℕ)) → is_ended i is ≡ true → of_item i v ≡ true → Ends i (head_word ws) → (t : List ℕ) (old : List Value) → Spells t (words_of i v ++ ws) → (rest : List ℕ) × (item i old t ≡ Ok (so (old ++ v ∷ []) rest)) × Spells rest ws
+part_reads : (i : Item) (is : List Item) (v : Value) (ws : List (List ℕ)) → Told i is → of_item i v ≡ true → Ends i (head_word ws) → (t : List ℕ) (old : List Value) → Spells t (words_of i v ++ ws) → (rest : List ℕ) × (item i old t ≡ Ok (so (old ++ v ∷ []) rest)) × Spells rest ws
 part_reads (One c) is v ws f h none t old s = (past_word (from_word t), one_yes c old t (class_word c v) ws v s (class_shown c v f h).says, s.2)
 part_reads (Maybe c) is value.Nothing ws f h none t old s = (t, ap (λ g. or_else g (with_value old value.Nothing t)) (one_no c old t ws s none), s)
-part_reads (Maybe c) is v ws f h none t old s = (past_word (from_word t), ap (λ g. or_else g (with_value old value.Nothing t)) (one_yes c old t (class_word c v) ws v s (class_shown c v (and_parts (is_fair_class c) _ f).0 h).says), s.2)
+part_reads (Maybe c) is v ws f h none t old s = (past_word (from_word t), ap (λ g. or_else g (with_value old value.Nothing t)) (one_yes c old t (class_word c v) ws v s (class_shown c v f.0 h).says), s.2)
 part_reads Group is value.Nothing ws f h none t old s = (t, cond-false _ _ _ (ap (λ w. bytes_eq w (codes "-g")) (first_is t ws s) ∙ none), s)
 part_reads Group is (value.Named name) ws f h none t old s = (past_word (from_word (past_word (from_word t))), cond-true _ _ _ (ap (λ w. bytes_eq w (codes "-g")) s.1) ∙ one_yes any_name old (past_word (from_word t)) name ws (value.Named name) s.2 (any_name_said name h), s.2.2)
 part_reads NoGroup is value.Nothing ws f h none t old s = (t, refl, s)
@@ -282,13 +245,12 @@ part_reads Blocks is (value.Blocks bytes) ws f h none t old s =
     (g.0, g.1 ∙ ap (λ xs. Ok (with_value old (value.Blocks xs) g.0)) (w.blocks.whole []), g.2)
 part_reads i is v ws f h none t old s = absurd (both_ways false refl h)
 
-row_reads : (is : List Item) (vs : List Value) (cut : Option ℕ) → is_clear is ≡ true → are_of is vs ≡ true → maybe_cut cut ≡ true → (t : List ℕ) (old : List Value) → Spells t (row_words is vs ++ cut_words cut) → (rest : List ℕ) × (items is (Ok (so old t)) ≡ Ok (so (old ++ vs) rest)) × Spells rest (cut_words cut)
+row_reads : (is : List Item) (vs : List Value) (cut : Option ℕ) → Clear is → are_of is vs ≡ true → maybe_cut cut ≡ true → (t : List ℕ) (old : List Value) → Spells t (row_words is vs ++ cut_words cut) → (rest : List ℕ) × (items is (Ok (so old t)) ≡ Ok (so (old ++ vs) rest)) × Spells rest (cut_words cut)
 row_reads [] [] cut c a short t old s = (t, ap (λ xs. Ok (so xs t)) (sym (append-nil old)), s)
 row_reads (i ∷ is) (v ∷ vs) cut c a short t old s =
     let parts = and_parts (of_item i v) (are_of is vs) a in
-    let table = and_parts (is_ended i is) (is_clear is) c in
-    let one = part_reads i is v (row_words is vs ++ cut_words cut) table.0 parts.0 (part_ends i is vs cut table.0 parts.1 short) t old (subst (Spells t) (append_assoc (words_of i v) (row_words is vs) (cut_words cut)) s) in
-    let more = row_reads is vs cut table.1 parts.1 short one.0 (old ++ v ∷ []) one.2 in
+    let one = part_reads i is v (row_words is vs ++ cut_words cut) c.0 parts.0 (part_ends i is vs cut c.0 parts.1 short) t old (subst (Spells t) (append_assoc (words_of i v) (row_words is vs) (cut_words cut)) s) in
+    let more = row_reads is vs cut c.1 parts.1 short one.0 (old ++ v ∷ []) one.2 in
     (more.0, ap (items is) one.1 ∙ more.1 ∙ ap (λ xs. Ok (so xs more.0)) (append_assoc old (v ∷ []) vs), more.2)
 row_reads is vs cut c a short t old s = absurd (both_ways false refl a)
 
@@ -310,7 +272,7 @@ end_read false (Some n) vs t h s = absurd (both_ways false refl h)
 end_read true None vs t h s = ap (λ r. cut_end (cut_of (first_word r)) vs r) s
 end_read true (Some n) vs t h s = ap (λ w. cut_end (cut_of w) vs (from_word t)) s.1 ∙ ap (λ o. cut_end o vs (from_word t)) (cut_said n h) ∙ ap (nothing_left (let r : Read = record { values = vs; cut = Some n } in r)) s.2
 
-pub row_read : (b : Bool) (cut : Option ℕ) (is : List Item) (vs : List Value) (t : List ℕ) → may_end b cut ≡ true → is_clear is ≡ true → are_of is vs ≡ true → Spells t (row_words is vs ++ cut_words cut) → row b is t ≡ Ok (record { values = vs; cut = cut })
+pub row_read : (b : Bool) (cut : Option ℕ) (is : List Item) (vs : List Value) (t : List ℕ) → may_end b cut ≡ true → Clear is → are_of is vs ≡ true → Spells t (row_words is vs ++ cut_words cut) → row b is t ≡ Ok (record { values = vs; cut = cut })
 unfolding row
 row_read b cut is vs t h c a s =
     let m = row_reads is vs cut c a (ends_short b cut h) t [] s in
@@ -318,10 +280,10 @@ row_read b cut is vs t h c a s =
 
 -- ---- no word has a blank or a newline
 
-part_dark : (i : Item) (is : List Item) (v : Value) → is_ended i is ≡ true → of_item i v ≡ true → list_all is_dark_word (words_of i v) ≡ true
+part_dark : (i : Item) (is : List Item) (v : Value) → Told i is → of_item i v ≡ true → list_all is_dark_word (words_of i v) ≡ true
 part_dark (One c) is v f h = and_from _ _ (class_shown c v f h).dark refl
 part_dark (Maybe c) is value.Nothing f h = refl
-part_dark (Maybe c) is v f h = and_from _ _ (class_shown c v (and_parts (is_fair_class c) _ f).0 h).dark refl
+part_dark (Maybe c) is v f h = and_from _ _ (class_shown c v f.0 h).dark refl
 part_dark Group is (value.Named name) f h = and_from _ _ (name_word name h) refl
 part_dark Names is (value.Names names) f h = all_that is_name is_dark_word name_word names h
 part_dark Pairs is (value.Pairs pairs) f h = list_all-map is_dark_word pair_word pairs ∙ all_that is_pair (λ p. is_dark_word (pair_word p)) pair_is_word pairs (and_parts (nat_lt 0 (length pairs)) (list_all is_pair pairs) h).1
@@ -330,11 +292,96 @@ part_dark Blocks is (value.Blocks bytes) f h =
     ap (λ n. list_all is_dark_word (map block_word (cut_blocks n bytes))) w.count ∙ list_all-map is_dark_word block_word (cut_blocks (suc w.more) bytes) ∙ all_that is_one_block (λ b. is_dark_word (block_word b)) block_is_word (cut_blocks (suc w.more) bytes) w.blocks.good
 part_dark i is v f h = refl
 
-pub line_dark : (is : List Item) (vs : List Value) (cut : Option ℕ) → is_clear is ≡ true → are_of is vs ≡ true → maybe_cut cut ≡ true → list_all is_dark_word (row_words is vs ++ cut_words cut) ≡ true
+pub line_dark : (is : List Item) (vs : List Value) (cut : Option ℕ) → Clear is → are_of is vs ≡ true → maybe_cut cut ≡ true → list_all is_dark_word (row_words is vs ++ cut_words cut) ≡ true
 line_dark [] vs None c a short = refl
-line_dark [] vs (Some n) c a short = and_from _ _ (class_shown cut_class (value.Number n) refl (cut_fits n short)).dark refl
+line_dark [] vs (Some n) c a short = and_from _ _ (class_shown (record { front = key.Cut; sort = sort.Number 0 (2 ^ 40 - 1) }) (value.Number n) refl (cut_fits n short)).dark refl
 line_dark (i ∷ is) [] cut c a short = absurd (both_ways false refl a)
 line_dark (i ∷ is) (v ∷ vs) cut c a short =
     let parts = and_parts (of_item i v) (are_of is vs) a in
-    let table = and_parts (is_ended i is) (is_clear is) c in
-    ap (list_all is_dark_word) (append_assoc (words_of i v) (row_words is vs) (cut_words cut)) ∙ list_all-append is_dark_word (words_of i v) (row_words is vs ++ cut_words cut) ∙ and_from _ _ (part_dark i is v table.0 parts.0) (line_dark is vs cut table.1 parts.1 short)
+    ap (list_all is_dark_word) (append_assoc (words_of i v) (row_words is vs) (cut_words cut)) ∙ list_all-append is_dark_word (words_of i v) (row_words is vs ++ cut_words cut) ∙ and_from _ _ (part_dark i is v c.0 parts.0) (line_dark is vs cut c.1 parts.1 short)
+
+-- ---- parts that have no line in common
+
+-- a fixed word of one class is not of the other
+abbrev is_alien : Class → Class → Bool
+is_alien c d = is_fixed c.sort && is_none (class_value d (text_of c.front))
+
+-- no line of these parts begins with the word
+abbrev refuses : Bool → List Item → List ℕ → Bool
+refuses b (Maybe c ∷ is) w = is_none (class_value c w) && refuses b is w
+refuses b (Names ∷ is) w = is_none (name_of w) && refuses b is w
+refuses true [] w = is_none (cut_of w)
+refuses false [] w = true
+refuses b is w = false
+
+-- no line is of these parts and of those
+abbrev pub are_apart : Bool → List Item → List Item → Bool
+are_apart b (One c ∷ is) (One d ∷ js) = (is_alien c d || is_alien d c) || are_apart b is js
+are_apart b (Group ∷ is) (Group ∷ js) = are_apart b is js
+are_apart b (NoGroup ∷ is) (NoGroup ∷ js) = are_apart b is js
+are_apart b is (One d ∷ js) = is_fixed d.sort && refuses b is (text_of d.front)
+are_apart b is js = false
+
+none_off : {A : Type 0} (o : Option A) → is_none o ≡ true → is_some o ≡ false
+none_off None h = refl
+none_off (Some x) h = absurd cc
+
+-- a fixed word is its front
+fixed_is : (k : Key) (s : Sort) (w : List ℕ) → is_fixed s ≡ true → accepts (record { front = k; sort = s }) w ≡ true → w ≡ text_of k
+unfolding class_value
+fixed_is k sort.Word w f a = by_front (bytes_eq (take (length (text_of k)) w) (text_of k)) (drop (length (text_of k)) w) refl refl a
+  where
+    by_front : (q : Bool) (rest : List ℕ) → bytes_eq (take (length (text_of k)) w) (text_of k) ≡ q → drop (length (text_of k)) w ≡ rest → is_some (value_behind sort.Word (cond q (Some rest) None)) ≡ true → w ≡ text_of k
+    by_front true [] same none a = sym (take-append-drop (length (text_of k)) w) ∙ ap (λ r. take (length (text_of k)) w ++ r) none ∙ append-nil (take (length (text_of k)) w) ∙ (bytes_eq-Decides _ (text_of k)).0 same
+    by_front true (x ∷ xs) same none a = absurd cc
+    by_front false rest same none a = absurd cc
+fixed_is k s w f a = absurd cc
+
+not_both : (c d : Class) (w : List ℕ) → is_alien c d ≡ true → accepts c w ≡ true → accepts d w ≡ true → ⊥
+not_both c d w h x y =
+    let two = and_parts (is_fixed c.sort) (is_none (class_value d (text_of c.front))) h in
+    both_ways (accepts d w) (ap (accepts d) (fixed_is c.front c.sort w two.0 x) ∙ none_off (class_value d (text_of c.front)) two.1) y
+
+one_fits : (q : Bool) (w : List ℕ) (ws k : Words) (f : Words → Walked) → on (cond q (Ok ws) (Err (w ∷ ws))) f ≡ Ok k → (q ≡ true) × (f ws ≡ Ok k)
+one_fits true w ws k f e = (refl, e)
+one_fits false w ws k f e = absurd cc
+
+stays : (n : ℕ) (p : Test) (w : List ℕ) (ws : Words) → p w ≡ false → some_words n p (w ∷ ws) ≡ w ∷ ws
+stays zero p w ws e = refl
+stays (suc n) p w ws e = ap (λ r. after r (some_words n p) (w ∷ ws)) (cond-false _ _ _ e)
+
+refused : (b : Bool) (is : List Item) (w : List ℕ) (ws k : Words) → refuses b is w ≡ true → walk b is (w ∷ ws) ≡ Ok k → ⊥
+refused true [] w ws k r e = let bad = sym (cond-false _ _ _ (none_off (cut_of w) r)) ∙ e in cc
+refused false [] w ws k r e = cc
+refused b (Maybe c ∷ is) w ws k r e =
+    let two = and_parts (is_none (class_value c w)) (refuses b is w) r in
+    refused b is w ws k two.1 (sym (ap (walk b is) (stays 1 (accepts c) w ws (none_off (class_value c w) two.0))) ∙ e)
+refused b (Names ∷ is) w ws k r e =
+    let two = and_parts (is_none (name_of w)) (refuses b is w) r in
+    refused b is w ws k two.1 (sym (ap (walk b is) (stays (length (w ∷ ws)) is_named w ws (none_off (name_of w) two.0))) ∙ e)
+refused b (i ∷ is) w ws k r e = both_ways false refl r
+
+pub rows_apart : (b : Bool) (is js : List Item) (ws k l : Words) → are_apart b is js ≡ true → walk b is ws ≡ Ok k → walk b js ws ≡ Ok l → ⊥
+rows_apart b (One c ∷ is) (One d ∷ js) [] k l a e f = cc
+rows_apart b (One c ∷ is) (One d ∷ js) (w ∷ ws) k l a e f =
+    let x = one_fits (accepts c w) w ws k (walk b is) e in
+    let y = one_fits (accepts d w) w ws l (walk b js) f in
+    elim (or_cases (is_alien c d || is_alien d c) (are_apart b is js) a) [
+      | inr later ↦ rows_apart b is js ws k l later x.1 y.1
+      | inl here ↦ elim (or_cases (is_alien c d) (is_alien d c) here) [
+        | inl one ↦ not_both c d w one x.0 y.0
+        | inr two ↦ not_both d c w two y.0 x.0
+      ]
+    ]
+rows_apart b (Group ∷ is) (Group ∷ js) ws k l a e f = by_group (group_words ws) e f (λ vs. rows_apart b is js vs k l a)
+  where
+    by_group : (r : Walked) → on r (walk b is) ≡ Ok k → on r (walk b js) ≡ Ok l → ((vs : Words) → walk b is vs ≡ Ok k → walk b js vs ≡ Ok l → ⊥) → ⊥
+    by_group (Ok vs) e f more = more vs e f
+    by_group (Err bad) e f more = cc
+rows_apart b (NoGroup ∷ is) (NoGroup ∷ js) ws k l a e f = rows_apart b is js ws k l a e f
+rows_apart b is (One d ∷ js) [] k l a e f = cc
+rows_apart b is (One d ∷ js) (w ∷ ws) k l a e f =
+    let two = and_parts (is_fixed d.sort) (refuses b is (text_of d.front)) a in
+    let word : w ≡ text_of d.front = fixed_is d.front d.sort w two.0 (one_fits (accepts d w) w ws l (walk b js) f).0 in
+    refused b is w ws k (ap (refuses b is) word ∙ two.1) e
+rows_apart b is js ws k l a e f = both_ways false refl a

@@ -2,8 +2,7 @@
 use Rattle.std.proofs.Common.{◌≡◌, ◌∙◌, sym, ap, refl, ℕ, zero, suc, ◌-◌, ◌*◌, ◌/◌, ◌%◌, ◌^◌, ◌<◌, ◌≤◌, inl, inr, Bool, true, false, List, [], ◌∷◌, ◌++◌, length, take, drop, arith, Option, Some, None}
 use Rattle.std.specs.Prelude.{codes, decimal, is_some, is_none, not, nat_le, nat_lt, ◌==◌, ◌&&◌, ◌||◌}
 use Rattle.std.specs.List.{list_all}
-use Rattle.std.specs.Str.{bytes_eq}
-use Rattle.std.proofs.lemmas.Bool.{and_parts, and_from, and_left, and_right, or_cases, not-true, both_ways, cond-true, cond-false, eqb-true, leb-true, ltb-true}
+use Rattle.std.proofs.lemmas.Bool.{and_parts, and_from, or_cases, both_ways, cond-true, cond-false, eqb-true, leb-true, ltb-true}
 use Rattle.std.proofs.lemmas.Bool.Decides.{nat_tests}
 use Rattle.std.proofs.lemmas.List.{append-nil, append_assoc, length-append, take_all, drop_all}
 use Rattle.std.proofs.lemmas.List.Folds.{list_all-append}
@@ -238,30 +237,3 @@ class_shown c v f h =
     filled : (q : Bool) (front text : List ℕ) → (not q || nat_lt 0 (length front)) ≡ true → Fills q text → 0 < length (front ++ text)
     filled true front text h f = omega (arith, length-append front text, ltb-true 0 (length front) h)
     filled false front text h f = omega (arith, length-append front text, f)
-
-pub fixed_word : (c : Class) (v : Value) → is_fixed c.sort ≡ true → is_of c.sort v ≡ true → class_word c v ≡ text_of c.front
-fixed_word c v n h = ap (λ t. text_of c.front ++ t) (by_sort c.sort v n h) ∙ append-nil (text_of c.front)
-  where
-    by_sort : (s : Sort) (v : Value) → is_fixed s ≡ true → is_of s v ≡ true → value_text s v ≡ []
-    by_sort sort.Word value.Word n h = refl
-    by_sort sort.Word v n h = absurd (both_ways false refl h)
-    by_sort s v n h = absurd (both_ways false refl n)
-
--- ---- fronts that differ
-
-abbrev pub apart : List ℕ → List ℕ → Bool
-apart [] bs = false
-apart (a ∷ as_) [] = false
-apart (a ∷ as_) (b ∷ bs) = not (b == a) || apart as_ bs
-
-differs : (front other x : List ℕ) → apart front other ≡ true → bytes_eq (take (length front) (other ++ x)) front ≡ false
-differs [] other x h = absurd (both_ways false refl h)
-differs (a ∷ as_) [] x h = absurd (both_ways false refl h)
-differs (a ∷ as_) (b ∷ bs) x h = elim (or_cases (not (b == a)) (apart as_ bs) h) [
-  | inl here ↦ and_left _ _ (not-true (b == a) here)
-  | inr later ↦ and_right (b == a) _ (differs as_ bs x later)
-]
-
-pub front_apart : (c : Class) (other x : List ℕ) → apart (text_of c.front) other ≡ true → class_value c (other ++ x) ≡ None
-unfolding class_value
-front_apart c other x h = ap (value_behind c.sort) (cond-false _ (Some (drop (length (text_of c.front)) (other ++ x))) None (differs (text_of c.front) other x h))

@@ -1,15 +1,15 @@
 -- The printed lines of a form are read as the form, and so a whole script.
-use Rattle.std.proofs.Common.{◌≡◌, ◌∙◌, sym, ap, subst, refl, ℕ, ◌+◌, ◌≤◌, Bool, true, false, not, List, [], ◌∷◌, ◌++◌, map, length, arith, Option, Some, None, Ok}
+use Rattle.std.proofs.Common.{◌≡◌, ◌∙◌, sym, ap, subst, refl, ℕ, ◌+◌, ◌≤◌, Bool, true, false, List, [], ◌∷◌, ◌++◌, map, length, arith, Option, Some, None, Ok, inl, inr, min, Result, Err}
 use Rattle.std.specs.Prelude.{codes, decimal, ◌&&◌, nat_le}
 use Rattle.std.specs.List.{list_all, flat_map, sum}
 use Rattle.std.specs.Str.{bytes_eq}
 use Rattle.std.proofs.lemmas.List.{append-nil, append_assoc}
 use Rattle.std.proofs.lemmas.List.Sums.{sum_by-cons}
-use Rattle.std.proofs.lemmas.Bool.{and_parts, and_from, both_ways, cond-false, cond-true, false_from_ne_true, leb-true, le-leb, ne_eqb, not-true}
+use Rattle.std.proofs.lemmas.Bool.{and_parts, and_from, both_ways, cond-false, cond-true, false_from_ne_true, leb-true, le-leb, ne_eqb}
 use Rattle.std.proofs.lemmas.Slice.Eq.{bytes_eq-Decides}
 use Rattle.vx_names.specs.Form.{is_name, is_letter_or_digit}
 use Rattle.vx_names.proofs.Numbers.{decimal_name}
-use Rattle.vx_script.specs.Choice.{choose}
+use Rattle.vx_script.specs.Choice.{choose, choice, or_others}
 use Rattle.vx_script.specs.Kept.{is_said, is_line, is_command, is_kept, is_body, maybe_cut}
 use Rattle.vx_script.specs.Lines.{begins_comment, is_passed_over, lines_of}
 use Rattle.vx_script.specs.Script.{commands_from, script_of}
@@ -21,7 +21,11 @@ use Rattle.vx_script.proofs.Placed.{In}
 use Rattle.vx_script_forms.specs.FormOf.{form_of}
 use Rattle.vx_script_forms.specs.Table.{items_of, commands, calls, acts}
 use Rattle.vx_script_forms.specs.Values.{maybe_name}
-use Rattle.vx_script_forms.specs.ValuesOf.{kind_of, values_of, opening}
+use Rattle.vx_script_forms.specs.ValuesOf.{kind_of, values_of, opening, act_kind, call_kind}
+use Rattle.vx_script_forms.specs.declared.act.Act.{Act}
+use Rattle.vx_script_forms.specs.declared.act.Act.TheVariants as act
+use Rattle.vx_script_forms.specs.declared.call.Call.{Call}
+use Rattle.vx_script_forms.specs.declared.call.Call.TheVariants as call
 use Rattle.vx_script_forms.specs.declared.block.Line.{Line}
 use Rattle.vx_script_forms.specs.declared.block.Line.TheVariants.{Session, Administer}
 use Rattle.vx_script_forms.specs.declared.form.Form.{Form}
@@ -29,54 +33,109 @@ use Rattle.vx_script_forms.specs.declared.form.Form.TheVariants as form
 use Rattle.vx_script_forms.specs.declared.kind.Kind.{Kind}
 use Rattle.vx_script_forms.specs.declared.kind.Kind.TheVariants as kind
 use Rattle.vx_script_forms.proofs.Forms.{form_again, group_again}
-use Rattle.vx_script_print.specs.Text.{class_word, row_words, form_words, cut_words, line_text, body_text, command_text, script_text}
+use Rattle.vx_script_print.specs.Text.{class_word, value_text, row_words, form_words, cut_words, line_text, body_text, command_text, script_text}
 use Rattle.vx_script_words.specs.Class.{class_value}
-use Rattle.vx_script_words.specs.Fits.{is_of, are_of, is_between}
+use Rattle.vx_script_words.specs.Fits.{are_of, is_between}
 use Rattle.vx_script_words.specs.Key.{text_of}
 use Rattle.vx_script_words.specs.Number.{number_of, within}
-use Rattle.vx_script_words.specs.Row.{and_then}
+use Rattle.vx_script_words.specs.Row.{and_then, Read, row}
 use Rattle.vx_script_words.specs.Spelling.{Spells, begun}
 use Rattle.vx_script_words.specs.Words.{from_word, first_word, past_word}
 use Rattle.vx_script_words.specs.declared.class.Item.{Item}
 use Rattle.vx_script_words.specs.declared.class.Item.TheVariants.{One}
 use Rattle.vx_script_words.specs.declared.value.Value.{Value}
 use Rattle.vx_script_words.proofs.Plain.{is_dark_word, name_word}
-use Rattle.vx_script_print.proofs.Sorts.{is_fixed, fixed_word, number_said}
-use Rattle.vx_script_print.proofs.Rows.{is_clear, may_end, row_read, line_dark}
-use Rattle.vx_script_print.proofs.Choices.{in_commands, in_calls, in_acts, all_two, two_commands, two_calls, two_acts, chosen}
+use Rattle.vx_script_print.proofs.Sorts.{number_said}
+use Rattle.vx_script_print.proofs.Rows.{may_end, row_read, line_dark, all_clear, are_apart, rows_apart}
 use Rattle.vx_script_print.proofs.Lines.{Reaches, stays_there, and_on, then_end, words_line, begun_spells, not_passed, making, records_read}
+use Rattle.vx_script_words.proofs.Lined.{Ends, row_walks}
+use Rattle.vx_script_words.proofs.Opens.{are_sound}
+use Rattle.vx_script_words.proofs.Walk.{Words, Walked, walk}
 
--- ---- the table
+-- ---- the kinds of a list
 
--- the first word is fixed, and begins no comment
-abbrev begins_plain : List Item → Bool
-begins_plain (One c ∷ is) = is_fixed c.sort && not (begins_comment (text_of c.front))
-begins_plain is = false
+abbrev are_two : Bool → Kind → Kind → Bool
+are_two b k j = are_apart b (items_of k) (items_of j)
 
--- its words are told apart
-abbrev is_good : Kind → Bool
-is_good k = begins_plain (items_of k) && is_clear (items_of k)
+-- each two of the kinds have no line in common
+abbrev all_two : Bool → List Kind → Bool
+all_two b [] = true
+all_two b (k ∷ ks) = list_all (are_two b k) ks && all_two b ks
 
-all_good : (k : Kind) → (begins_plain (items_of k) ≡ true) × (is_clear (items_of k) ≡ true)
+two_commands : all_two true commands ≡ true
 unfolding class_value
-all_good k = and_parts (begins_plain (items_of k)) (is_clear (items_of k)) (by_table k)
+two_commands = refl
+
+two_calls : all_two false calls ≡ true
+unfolding class_value
+two_calls = refl
+
+two_acts : all_two false acts ≡ true
+unfolding class_value
+two_acts = refl
+
+in_commands : (k : Kind) → In k commands
+in_commands kind.Read = inl refl
+in_commands k = search (inl, inr) depth 60 fits 4000
+
+in_calls : (c : Call) → In (call_kind c) calls
+in_calls (call.Read vol start count) = inl refl
+in_calls c = search (inl, inr) depth 60 fits 4000
+
+in_acts : (a : Act) → In (act_kind a) acts
+in_acts (act.SnapMake vol snap plex) = inl refl
+in_acts (act.Snapback snap true) = inr (inr (inr (inr (inl refl))))
+in_acts a = search (inl, inr) depth 60 fits 4000
+
+in_list : (p : Kind → Bool) (ks : List Kind) (k : Kind) → list_all p ks ≡ true → In k ks → p k ≡ true
+in_list p [] k h i = absurd i
+in_list p (x ∷ xs) k h (inl e) = ap p e ∙ (and_parts (p x) (list_all p xs) h).0
+in_list p (x ∷ xs) k h (inr i) = in_list p xs k (and_parts (p x) (list_all p xs) h).1 i
+
+all_sound : (k : Kind) → are_sound (items_of k) ≡ true
+unfolding class_value
+all_sound kind.Read = refl
+all_sound k = refl
+
+-- the words of a line that is of these parts
+fit_words : (b : Bool) (k : Kind) (t : List ℕ) (ws : Words) (read : Read) → Spells t ws → row b (items_of k) t ≡ Ok read → (left : Words) × (walk b (items_of k) ws ≡ Ok left)
+fit_words b k t ws read s e = by_walk (walk b (items_of k) ws) refl (subst (λ (r : Result Read ℕ). Ends t ws r (walk b (items_of k) ws)) e (row_walks b (items_of k) t ws (all_sound k) s))
   where
-    by_table : (k : Kind) → is_good k ≡ true
-    by_table kind.Read = refl
-    by_table k = refl
+    by_walk : (w : Walked) → walk b (items_of k) ws ≡ w → Ends t ws (let r : Result Read ℕ = Ok read in r) w → (left : Words) × (walk b (items_of k) ws ≡ Ok left)
+    by_walk (Ok left) e ends = (left, e)
+    by_walk (Err bad) e ends = absurd ends
+
+-- a line of a kind's parts is of that kind
+chosen : (b : Bool) (ks : List Kind) (k : Kind) (t : List ℕ) (ws : Words) (read : Read) (n : ℕ) → all_two b ks ≡ true → In k ks → Spells t ws → row b (items_of k) t ≡ Ok read → choice b ks t n ≡ Ok (record { kind = k; values = read.values; cut = read.cut })
+chosen b [] k t ws read n two i s says = absurd i
+chosen b (x ∷ xs) k t ws read n two (inl e) s says = subst (λ (y : Kind). choice b (y ∷ xs) t n ≡ Ok (record { kind = k; values = read.values; cut = read.cut })) e (ap (λ g. or_others g k (choice b xs t) n) says)
+chosen b (x ∷ xs) k t ws read n two (inr i) s says = by_row (row b (items_of x) t) refl (λ m. chosen b xs k t ws read m (and_parts (list_all (are_two b x) xs) (all_two b xs) two).1 i s says)
+  where
+    by_row : (g : Result Read ℕ) → row b (items_of x) t ≡ g → ((m : ℕ) → choice b xs t m ≡ Ok (record { kind = k; values = read.values; cut = read.cut })) → or_others g x (choice b xs t) n ≡ Ok (record { kind = k; values = read.values; cut = read.cut })
+    by_row (Err less) e more = more (min n less)
+    by_row (Ok other) e more = absurd (rows_apart b (items_of x) (items_of k) ws _ _ (in_list (are_two b x) xs k (and_parts (list_all (are_two b x) xs) (all_two b xs) two).0 i) (fit_words b x t ws other s e).1 (fit_words b k t ws read s says).1)
+
+-- ---- a line
+
+-- the first word begins no comment
+abbrev Plain : List Item → Type 0
+Plain (One c ∷ is) = (x : List ℕ) → begins_comment (text_of c.front ++ x) ≡ false
+Plain is = ⊥
+
+all_plain : (k : Kind) → Plain (items_of k)
+all_plain kind.Read = λ x. refl
+all_plain k = λ x. refl
 
 -- a line of these parts is not passed over
-row_not_passed : (is : List Item) (vs : List Value) (tail : List (List ℕ)) → begins_plain is ≡ true → are_of is vs ≡ true → list_all is_dark_word (row_words is vs ++ tail) ≡ true → is_passed_over (begun (row_words is vs ++ tail)) ≡ false
-row_not_passed (One c ∷ is) (v ∷ vs) tail p h dark =
-    let two = and_parts (is_fixed c.sort) (not (begins_comment (text_of c.front))) p in
-    not_passed (class_word c v) (row_words is vs ++ tail) dark (ap begins_comment (fixed_word c v two.0 (and_parts (is_of c.sort v) (are_of is vs) h).0) ∙ not-true _ two.1)
+row_not_passed : (is : List Item) (vs : List Value) (tail : List (List ℕ)) → Plain is → are_of is vs ≡ true → list_all is_dark_word (row_words is vs ++ tail) ≡ true → is_passed_over (begun (row_words is vs ++ tail)) ≡ false
+row_not_passed (One c ∷ is) (v ∷ vs) tail p h dark = not_passed (class_word c v) (row_words is vs ++ tail) dark (p (value_text c.sort v))
 row_not_passed (One c ∷ is) [] tail p h dark = absurd (both_ways false refl h)
-row_not_passed is vs tail p h dark = absurd (both_ways false refl p)
+row_not_passed is vs tail p h dark = absurd p
 
 -- ---- the words of a form
 
 form_dark : (g : Option (List ℕ)) (f : Form) (cut : Option ℕ) → is_said g f ≡ true → maybe_cut cut ≡ true → list_all is_dark_word (form_words g f ++ cut_words cut) ≡ true
-form_dark g f cut h short = line_dark (items_of (kind_of f)) (values_of g f) cut (all_good (kind_of f)).1 h short
+form_dark g f cut h short = line_dark (items_of (kind_of f)) (values_of g f) cut (all_clear (kind_of f)) h short
 
 uncut_dark : (g : Option (List ℕ)) (f : Form) → is_said g f ≡ true → list_all is_dark_word (form_words g f) ≡ true
 uncut_dark g f h = sym (ap (list_all is_dark_word) (append-nil (form_words g f))) ∙ form_dark g f None h refl
@@ -84,7 +143,7 @@ uncut_dark g f h = sym (ap (list_all is_dark_word) (append-nil (form_words g f))
 -- a line of a form's words has its kind, and says its values
 is_chosen : (b : Bool) (kinds : List Kind) (g : Option (List ℕ)) (f : Form) (cut : Option ℕ) (t : List ℕ) → all_two b kinds ≡ true → In (kind_of f) kinds → may_end b cut ≡ true → is_said g f ≡ true → Spells t (form_words g f ++ cut_words cut) → choose b kinds t ≡ Ok (record { kind = kind_of f; values = values_of g f; cut = cut })
 is_chosen b kinds g f cut t two i ends h s =
-    chosen b kinds (kind_of f) t (form_words g f ++ cut_words cut) (record { values = values_of g f; cut = cut }) (length (from_word t)) two i s (row_read b cut (items_of (kind_of f)) (values_of g f) t ends (all_good (kind_of f)).1 h s)
+    chosen b kinds (kind_of f) t (form_words g f ++ cut_words cut) (record { values = values_of g f; cut = cut }) (length (from_word t)) two i s (row_read b cut (items_of (kind_of f)) (values_of g f) t ends (all_clear (kind_of f)) h s)
 
 command_said : (done : List Command) (g : Option (List ℕ)) (f : Form) (cut : Option ℕ) (t : List ℕ) → is_said g f ≡ true → maybe_cut cut ≡ true → Spells t (form_words g f ++ cut_words cut) → command_step done t ≡ Ok (opened done g (opening f) cut)
 unfolding command_step
@@ -191,7 +250,7 @@ command_read done c h =
     let one = and_parts (is_said c.group c.form) (is_body c.form) two.0 in
     let words : List (List ℕ) = form_words c.group c.form ++ cut_words c.cut in
     let dark : list_all is_dark_word words ≡ true = form_dark c.group c.form c.cut one.0 two.1 in
-    let passed : is_passed_over (begun words) ≡ false = row_not_passed (items_of (kind_of c.form)) (values_of c.group c.form) (cut_words c.cut) (all_good (kind_of c.form)).0 one.0 dark in
+    let passed : is_passed_over (begun words) ≡ false = row_not_passed (items_of (kind_of c.form)) (values_of c.group c.form) (cut_words c.cut) (all_plain (kind_of c.form)) one.0 dark in
     let middle : Reader = opened done c.group (opening c.form) c.cut in
     and_on (between done) middle (between (done ++ c ∷ [])) (begun words ++ 10 ∷ []) (body_text c.form)
     (words_line (between done) middle words dark (cond-false _ _ _ passed ∙ command_said done c.group c.form c.cut (begun words) one.0 two.1 (begun_spells words dark)))

@@ -1,7 +1,8 @@
 -- Words that are printed one behind the other.
-use Rattle.std.proofs.Common.{◌≡◌, ◌∙◌, sym, ap, ap₂, refl, ℕ, zero, suc, ◌+◌, ◌-◌, ◌*◌, ◌<◌, ◌≤◌, min, inl, inr, List, [], ◌∷◌, ◌++◌, length, drop, get_or, arith, append_assoc, append-nil, add-one, drop-cons}
-use Rattle.std.proofs.lemmas.Bool.{cases_lt}
-use Rattle.std.proofs.lemmas.List.{drop-drop}
+use Rattle.std.proofs.Common.{◌≡◌, ◌∙◌, sym, ap, refl, ℕ, zero, suc, ◌+◌, ◌*◌, ◌<◌, ◌≤◌, min, List, [], ◌∷◌, ◌++◌, length, map, take, drop, get_or, arith, append_assoc, append-nil}
+use Rattle.std.proofs.lemmas.Grind.{common_steps, take_at_read}
+use Rattle.std.proofs.lemmas.List.{drop-drop, map-append}
+use Rattle.vx_block.specs.Word.{block_word}
 use Rattle.vx_script_print.specs.Text.{cut_blocks, words_of, row_words}
 use Rattle.vx_script_words.specs.Blocks.{block_at}
 use Rattle.vx_script_words.specs.Spelling.{spelled, begun}
@@ -12,52 +13,57 @@ pub spelled_both : (xs ys : List (List ℕ)) → spelled (xs ++ ys) ≡ spelled 
 spelled_both [] ys = refl
 spelled_both (x ∷ xs) ys = ap (λ t. 32 ∷ (x ++ t)) (spelled_both xs ys) ∙ ap (λ t. 32 ∷ t) (sym (append_assoc x (spelled xs) (spelled ys)))
 
--- what was printed, and what is still to be printed
-abbrev pub Prints : List ℕ → List ℕ → List (List ℕ) → List (List ℕ) → Type 0
-Prints old new left all = new ++ spelled left ≡ old ++ spelled all
+-- one part more
+pub row_more : (is : List Item) (vs : List Value) (n m : ℕ) (d : Item) (e : Value) → m ≡ n + 1 → n < length is → n < length vs → spelled (row_words (take m is) (take m vs)) ≡ spelled (row_words (take n is) (take n vs)) ++ spelled (words_of (get_or is n d) (get_or vs n e))
+row_more is vs n zero d e same h k = absurd (omega arith)
+row_more [] vs n (suc m) d e same h k = absurd (omega arith)
+row_more (i ∷ is) [] n (suc m) d e same h k = absurd (omega arith)
+row_more (i ∷ is) (v ∷ vs) zero (suc m) d e same h k =
+    let none : m ≡ 0 = omega arith in
+    ap (λ x. spelled (words_of i v ++ row_words (take x is) (take x vs))) none ∙ ap spelled (append-nil (words_of i v))
+row_more (i ∷ is) (v ∷ vs) (suc n) (suc m) d e same h k =
+    spelled_both (words_of i v) (row_words (take m is) (take m vs)) ∙ ap (λ t. spelled (words_of i v) ++ t) (row_more is vs n m d e (omega arith) (omega arith) (omega arith))
+    ∙ sym (append_assoc (spelled (words_of i v)) (spelled (row_words (take n is) (take n vs))) (spelled (words_of (get_or is n d) (get_or vs n e)))) ∙ ap (λ t. t ++ spelled (words_of (get_or is n d) (get_or vs n e))) (sym (spelled_both (words_of i v) (row_words (take n is) (take n vs))))
 
-pub more_printed : (old new next text : List ℕ) (words left all : List (List ℕ)) → Prints old new (words ++ left) all → next ≡ new ++ text → text ≡ spelled words → Prints old next left all
-more_printed old new next text words left all so e f =
-    ap (λ t. t ++ spelled left) (e ∙ ap (λ t. new ++ t) f) ∙ append_assoc new (spelled words) (spelled left) ∙ ap (λ t. new ++ t) (sym (spelled_both words left)) ∙ so
+pub row_all : (is : List Item) (vs : List Value) (n : ℕ) → min (length is) (length vs) ≤ n → row_words (take n is) (take n vs) ≡ row_words is vs
+row_all [] vs zero h = refl
+row_all [] vs (suc n) h = refl
+row_all (i ∷ is) [] zero h = refl
+row_all (i ∷ is) [] (suc n) h = refl
+row_all (i ∷ is) (v ∷ vs) zero h = absurd (omega (arith, h))
+row_all (i ∷ is) (v ∷ vs) (suc n) h = ap (λ ws. words_of i v ++ ws) (row_all is vs n (omega (arith, h)))
 
-pub all_printed : (old new : List ℕ) (left all : List (List ℕ)) → Prints old new left all → left ≡ [] → new ≡ old ++ spelled all
-all_printed old new left all so e = sym (append-nil new) ∙ ap (λ ws. new ++ spelled ws) (sym e) ∙ so
+pub cut_length : (n : ℕ) (bytes : List ℕ) → length (cut_blocks n bytes) ≡ n
+cut_length zero bytes = refl
+cut_length (suc n) bytes = ap suc (cut_length n (drop 512 bytes))
 
-pub at_place : {X : Type 0} (xs : List X) (i : ℕ) (d : X) → i < length xs → drop i xs ≡ get_or xs i d ∷ drop (i + 1) xs
-at_place xs i d inside = rw add-one (drop-cons xs i d inside)
+-- the block at a place
+pub cut_at : (n k : ℕ) (bytes : List ℕ) → k < n → get_or (cut_blocks n bytes) k [] ≡ block_at k bytes
+cut_at zero k bytes h = absurd (omega arith)
+cut_at (suc n) zero bytes h = refl
+cut_at (suc n) (suc k) bytes h =
+    let on : 512 * suc k ≡ 512 + 512 * k = omega arith in
+    cut_at n k (drop 512 bytes) (omega arith) ∙ ap (take 512) (drop-drop (512 * k) 512 bytes) ∙ ap (λ m. take 512 (drop m bytes)) (sym on)
 
-pub nothing_left : {X : Type 0} (xs : List X) (i : ℕ) → length xs ≤ i → drop i xs ≡ []
-nothing_left [] zero h = refl
-nothing_left [] (suc i) h = refl
-nothing_left (x ∷ xs) zero h = absurd (omega (arith, h))
-nothing_left (x ∷ xs) (suc i) h = nothing_left xs i (omega (arith, h))
-
--- the block at a place among those that are left
-pub next_block : (n k : ℕ) (bytes : List ℕ) → k < n → cut_blocks (n - k) (drop (512 * k) bytes) ≡ block_at k bytes ∷ cut_blocks (n - (k + 1)) (drop (512 * (k + 1)) bytes)
-next_block n k bytes h =
-    let one : n - k ≡ suc (n - (k + 1)) = omega (arith, h) in
-    let on : 512 * (k + 1) ≡ 512 * k + 512 = omega arith in
-    ap (λ m. cut_blocks m (drop (512 * k) bytes)) one ∙ ap (λ bs. block_at k bytes ∷ cut_blocks (n - (k + 1)) bs) (drop-drop 512 (512 * k) bytes ∙ ap (λ m. drop m bytes) (sym on))
-
--- ---- the values of a row
-
-no_values : (is : List Item) → row_words is [] ≡ []
-no_values [] = refl
-no_values (i ∷ is) = refl
-
-pub row_at : (is : List Item) (vs : List Value) (n : ℕ) (d : Item) (e : Value) → n < length is → n < length vs → row_words (drop n is) (drop n vs) ≡ words_of (get_or is n d) (get_or vs n e) ++ row_words (drop (n + 1) is) (drop (n + 1) vs)
-row_at is vs n d e inside there = ap₂ row_words (at_place is n d inside) (at_place vs n e there)
-
-pub row_past : (is : List Item) (vs : List Value) (n : ℕ) → min (length is) (length vs) ≤ n → row_words (drop n is) (drop n vs) ≡ []
-row_past is vs n h = elim (cases_lt n (length is)) [
-  | inl inside ↦ ap (row_words (drop n is)) (nothing_left vs n (omega (arith, h, inside))) ∙ no_values (drop n is)
-  | inr past ↦ ap (λ js. row_words js (drop n vs)) (nothing_left is n past)
-]
+-- one block more
+pub block_more : (n k : ℕ) (bytes : List ℕ) → k < n → spelled (map block_word (take (k + 1) (cut_blocks n bytes))) ≡ spelled (map block_word (take k (cut_blocks n bytes))) ++ 32 ∷ block_word (block_at k bytes)
+block_more n k bytes h =
+    let last = (take_at_read (cut_blocks n bytes) k [] (omega (arith, h, cut_length n bytes))).1 in
+    ap (λ bs. spelled (map block_word bs)) (last ∙ ap (λ b. take k (cut_blocks n bytes) ++ b ∷ []) (cut_at n k bytes h)) ∙ ap spelled (map-append block_word (take k (cut_blocks n bytes)) (block_at k bytes ∷ []))
+    ∙ spelled_both (map block_word (take k (cut_blocks n bytes))) (block_word (block_at k bytes) ∷ []) ∙ ap (λ t. spelled (map block_word (take k (cut_blocks n bytes))) ++ 32 ∷ t) (append-nil (block_word (block_at k bytes)))
 
 begun_is : (ws : List (List ℕ)) → drop 1 (spelled ws) ≡ begun ws
 begun_is [] = refl
 begun_is (w ∷ ws) = refl
 
 -- words in two lists begin with the first word
-pub begun_both : (text : List ℕ) (ws vs : List (List ℕ)) → text ≡ spelled ws ++ spelled vs → drop 1 text ≡ begun (ws ++ vs)
-begun_both text ws vs e = ap (drop 1) (e ∙ sym (spelled_both ws vs)) ∙ begun_is (ws ++ vs)
+pub begun_both : (ws vs : List (List ℕ)) → drop 1 (spelled ws ++ spelled vs) ≡ begun (ws ++ vs)
+begun_both ws vs = ap (drop 1) (sym (spelled_both ws vs)) ∙ begun_is (ws ++ vs)
+
+pub ruleset row_steps = (common_steps, row_more, row_all)
+
+pub ruleset word_steps = (common_steps, spelled_both)
+
+pub ruleset block_steps = (common_steps, block_more, cut_length)
+
+pub ruleset line_steps = (common_steps, begun_both)

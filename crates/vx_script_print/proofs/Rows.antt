@@ -5,7 +5,8 @@ use Rattle.std.specs.List.{list_all}
 use Rattle.std.specs.Str.{bytes_eq}
 use Rattle.std.proofs.lemmas.List.{append-nil, append_assoc, length-append, length-take, length-drop, length-map, map-id, take-append-drop}
 use Rattle.std.proofs.lemmas.List.Folds.{list_all-append, list_all-map}
-use Rattle.std.proofs.lemmas.Bool.{and_parts, and_from, and_left, and_right, or_cases, or_from, both_ways, cond-true, cond-false, false_from_ne_true, ne_eqb}
+use Rattle.std.proofs.lemmas.Bool.{and_parts, not-true, and_from, and_left, and_right, or_cases, or_from, both_ways, cond-true, cond-false, false_from_ne_true, ne_eqb}
+use Rattle.std.proofs.lemmas.Bool.Decides.{nat_tests}
 use Rattle.std.proofs.lemmas.Slice.Eq.{bytes_eq-Decides}
 use Rattle.vx_names.specs.Form.{is_name, is_name_byte}
 use Rattle.vx_names.proofs.Numbers.{decimal_short}
@@ -34,7 +35,7 @@ use Rattle.vx_script_words.specs.declared.value.Value.{Value}
 use Rattle.vx_script_words.specs.declared.value.Value.TheVariants as value
 use Rattle.vx_script_words.proofs.Plain.{is_dark_word, name_parts, name_word}
 use Rattle.vx_script_words.proofs.Spelled.{few_words}
-use Rattle.vx_script_print.proofs.Sorts.{all_that, behind_front, name_said, pair_said, pair_is_word, is_one_block, block_said, block_is_word, ranged_said, is_fair_class, class_shown, is_fixed}
+use Rattle.vx_script_print.proofs.Sorts.{ands, right_of, all_that, behind_front, name_said, pair_said, pair_shown, text_word, is_one_block, block_said, block_is_word, ranged_said, is_fair_class, class_shown, is_fixed}
 use Rattle.vx_script_words.proofs.Walk.{Words, Walked, Test, accepts, is_named, after, some_words, group_words, on, walk}
 
 -- the first of the words, or nothing
@@ -81,10 +82,6 @@ Clear (i ∷ is) = Told i is × Clear is
 no_name : (x : List ℕ) → name_of (codes "cut=" ++ x) ≡ None
 no_name x = cond-false _ _ _ (and_right _ _ refl)
 
-no_name_word : (x : List ℕ) → class_value any_name (codes "cut=" ++ x) ≡ None
-unfolding class_value
-no_name_word x = ap as_name (no_name x)
-
 -- a name does not begin with a front that no name has
 no_front : (c : Class) (w : List ℕ) → list_all is_name_byte (text_of c.front) ≡ false → is_name w ≡ true → class_value c w ≡ None
 unfolding class_value
@@ -95,7 +92,7 @@ no_front c w out h =
     let other : bytes_eq part front ≡ false = false_from_ne_true (bytes_eq part front) (λ same. both_ways (list_all is_name_byte front) out (ap (list_all is_name_byte) (sym ((bytes_eq-Decides part front).0 same)) ∙ bytes.0)) in
     ap (value_behind c.sort) (cond-false (bytes_eq part front) (Some (drop (length front) w)) None other)
 
-ruleset fronts = (no_front, no_name_word)
+ruleset fronts = (no_front, no_name)
 
 pub all_clear : (k : Kind) → Clear (items_of k)
 unfolding class_value
@@ -108,16 +105,15 @@ first_has P none [] [] (Some n) b a = b (decimal n)
 first_has P none (One d ∷ is) (v ∷ vs) cut b a = b (value_text d.sort v)
 first_has P none (Maybe d ∷ is) (value.Nothing ∷ vs) cut b a = first_has P none is vs cut b.1 a
 first_has P none (Maybe d ∷ is) (v ∷ vs) cut b a = b.0 (value_text d.sort v)
-first_has P none (NoGroup ∷ is) (v ∷ vs) cut b a = first_has P none is vs cut b (and_parts (of_item NoGroup v) (are_of is vs) a).1
+first_has P none (NoGroup ∷ is) (v ∷ vs) cut b a = first_has P none is vs cut b (search ands)
 first_has P none (Names ∷ is) (value.Names [] ∷ vs) cut b a = first_has P none is vs cut b.1 a
-first_has P none (Names ∷ is) (value.Names (n ∷ ns) ∷ vs) cut b a = b.0 n (and_parts (is_name n) (list_all is_name ns) (and_parts (list_all is_name (n ∷ ns)) (are_of is vs) a).0).0
-first_has P none (Group ∷ is) (v ∷ vs) cut b a = absurd b
-first_has P none (Pairs ∷ is) (v ∷ vs) cut b a = absurd b
-first_has P none (Blocks ∷ is) (v ∷ vs) cut b a = absurd b
+first_has P none (Names ∷ is) (value.Names (n ∷ ns) ∷ vs) cut b a = b.0 n (search ands)
+first_has P none (Names ∷ is) (v ∷ vs) cut b a = absurd (both_ways false refl a)
+first_has P none (i ∷ is) (v ∷ vs) cut b a = absurd b
 first_has P none is vs cut b a = absurd (both_ways false refl a)
 
 cut_fits : (n : ℕ) → nat_lt n (2 ^ 40) ≡ true → is_between 0 (2 ^ 40 - 1) n ≡ true
-cut_fits n h = let small : n < 2 ^ 40 = ltb-true n (2 ^ 40) h in and_from _ _ (le-leb 0 n (omega arith)) (le-leb n (2 ^ 40 - 1) (omega (arith, small)))
+cut_fits n h = grind (arith, nat_tests)
 
 cut_said : (n : ℕ) → nat_lt n (2 ^ 40) ≡ true → cut_of (codes "cut=" ++ decimal n) ≡ Some n
 cut_said n h = ap number_behind (behind_front (codes "cut=") (decimal n)) ∙ ranged_said 0 (2 ^ 40 - 1) n (ltb-true n (2 ^ 40) h) (cut_fits n h)
@@ -128,15 +124,13 @@ part_ends (One c) is vs cut e a short = tt
 part_ends NoGroup is vs cut e a short = tt
 part_ends (Maybe c) is vs cut e a short = first_has (Ends (Maybe c)) e.1 is vs cut e.2 a
 part_ends Group is vs cut e a short = first_has (Ends Group) refl is vs cut e a
-part_ends Names [] vs None e a short = refl
+part_ends i [] vs None e a short = refl
 part_ends Names [] vs (Some n) e a short = no_name (decimal n)
-part_ends Pairs [] vs None e a short = refl
 part_ends Pairs [] vs (Some n) e a short = cond-true _ _ _ (ap is_some (cut_said n short))
-part_ends Blocks [] vs None e a short = refl
 part_ends Blocks [] vs (Some n) e a short =
-    let below : n < 2 ^ 40 = ltb-true n (2 ^ 40) short in
     let word : List ℕ = codes "cut=" ++ decimal n in
-    cond-false _ _ _ (or_from _ _ (and_left _ _ (and_right (length word == 3) false refl)) (and_left _ _ (ne_eqb (length word) 1024 (λ e. omega (arith, decimal_short n (omega (arith, below)), e)))))
+    let few : length (decimal n) ≤ 31 = decimal_short n (grind (arith, nat_tests)) in
+    cond-false _ _ _ (or_from _ _ (and_left _ _ (and_right (length word == 3) false refl)) (and_left _ _ (ne_eqb (length word) 1024 (λ e. omega (arith, few, e)))))
 part_ends i (j ∷ js) vs cut e a short = absurd cc
 
 -- ---- lists of words
@@ -162,16 +156,14 @@ module _ {X A : Type 0} (say : List ℕ → Option X) (put : A → X → A) (wor
   gathers (suc n) [] all t h few s = (t, ap (λ o. further o (record { list = all; rest = t }) (λ x. gather say put n (put all x) (past_word (from_word t)))) (ap say (first_is t ws s) ∙ none), s)
   gathers zero (x ∷ xs) all t h few s = absurd (omega (arith, few))
   gathers (suc n) (x ∷ xs) all t h few s =
-      let parts = and_parts (good x) (list_all good xs) h in
-      let more = gathers n xs (put all x) (past_word (from_word t)) parts.1 (omega (arith, few)) s.2 in
-      (more.0, ap (λ o. further o (record { list = all; rest = t }) (λ y. gather say put n (put all y) (past_word (from_word t)))) (ap say s.1 ∙ says x parts.0) ∙ more.1, more.2)
+      let more = gathers n xs (put all x) (past_word (from_word t)) (search ands) (omega (arith, few)) s.2 in
+      (more.0, ap (λ o. further o (record { list = all; rest = t }) (λ y. gather say put n (put all y) (past_word (from_word t)))) (ap say s.1 ∙ says x (search ands)) ∙ more.1, more.2)
 
   some_gather : (limit : ℕ) (x : X) (xs : List X) (begin : X → A) (make : A → Value) (old : List Value) (t : List ℕ) → list_all good (x ∷ xs) ≡ true → length xs ≤ limit → Spells t (map word (x ∷ xs) ++ ws) →
       (rest : List ℕ) × (at_least_one (say (first_word (from_word t))) (from_word t) (λ y. gather say put limit (begin y) (past_word (from_word t))) old make ≡ Ok (so (old ++ make (puts put (begin x) xs) ∷ []) rest)) × Spells rest ws
   some_gather limit x xs begin make old t h few s =
-      let parts = and_parts (good x) (list_all good xs) h in
-      let g = gathers limit xs (begin x) (past_word (from_word t)) parts.1 few s.2 in
-      (g.0, ap (λ o. at_least_one o (from_word t) (λ y. gather say put limit (begin y) (past_word (from_word t))) old make) (ap say s.1 ∙ says x parts.0) ∙ ap (λ f. Ok (said old make f)) g.1, g.2)
+      let g = gathers limit xs (begin x) (past_word (from_word t)) (search ands) few s.2 in
+      (g.0, ap (λ o. at_least_one o (from_word t) (λ y. gather say put limit (begin y) (past_word (from_word t))) old make) (ap say s.1 ∙ says x (search ands)) ∙ ap (λ f. Ok (said old make f)) g.1, g.2)
 
 -- ---- blocks
 
@@ -203,33 +195,21 @@ record Whole (bytes : List ℕ) : Type 0 where
 
 whole_blocks : (bytes : List ℕ) → are_blocks bytes ≡ true → Whole bytes
 whole_blocks bytes h =
-    let three = and_parts (length bytes % 512 == 0 && is_between 512 32768 (length bytes)) (list_all is_byte bytes) h in
-    let sizes = and_parts (length bytes % 512 == 0) (is_between 512 32768 (length bytes)) three.0 in
-    let ranges = and_parts (nat_le 512 (length bytes)) (nat_le (length bytes) 32768) sizes.1 in
-    let even : length bytes % 512 ≡ 0 = eqb-true (length bytes % 512) 0 sizes.0 in
-    let low : 512 ≤ length bytes = leb-true 512 (length bytes) ranges.0 in
-    let high : length bytes ≤ 32768 = leb-true (length bytes) 32768 ranges.1 in
-    record { more = length bytes / 512 - 1; few = omega (arith, high); count = omega (arith, low); blocks = cut_up (suc (length bytes / 512 - 1)) bytes (omega (arith, even, low)) three.1 }
+    let size : length bytes ≡ 512 * suc (length bytes / 512 - 1) = grind (arith, nat_tests) in
+    record { more = length bytes / 512 - 1; few = grind (arith, nat_tests); count = grind (arith, nat_tests); blocks = cut_up (suc (length bytes / 512 - 1)) bytes size (search ands) }
 
 -- ---- parts
 
-one_yes : (c : Class) (old : List Value) (t w : List ℕ) (ws : List (List ℕ)) (v : Value) → Spells t (w ∷ ws) → class_value c w ≡ Some v → one c old t ≡ Ok (so (old ++ v ∷ []) (past_word (from_word t)))
-one_yes c old t w ws v s says = ap (λ f. taken (class_value c f) old (from_word t)) s.1 ∙ ap (λ o. taken o old (from_word t)) says
-
-one_no : (c : Class) (old : List Value) (t : List ℕ) (ws : List (List ℕ)) → Spells t ws → class_value c (head_word ws) ≡ None → one c old t ≡ Err (length (from_word t))
-one_no c old t ws s none = ap (λ f. taken (class_value c f) old (from_word t)) (first_is t ws s) ∙ ap (λ o. taken o old (from_word t)) none
-
-any_name_said : (name : List ℕ) → is_name name ≡ true → class_value any_name name ≡ Some (value.Named name)
-unfolding class_value
-any_name_said name h = ap as_name (name_said name h)
+one_is : (c : Class) (old : List Value) (t : List ℕ) (ws : List (List ℕ)) (o : Option Value) → Spells t ws → class_value c (head_word ws) ≡ o → one c old t ≡ taken o old (from_word t)
+one_is c old t ws o s says = ap (λ f. taken (class_value c f) old (from_word t)) (first_is t ws s) ∙ ap (λ o. taken o old (from_word t)) says
 
 -- the part reads the words of the value, and leaves those behind them
 part_reads : (i : Item) (is : List Item) (v : Value) (ws : List (List ℕ)) → Told i is → of_item i v ≡ true → Ends i (head_word ws) → (t : List ℕ) (old : List Value) → Spells t (words_of i v ++ ws) → (rest : List ℕ) × (item i old t ≡ Ok (so (old ++ v ∷ []) rest)) × Spells rest ws
-part_reads (One c) is v ws f h none t old s = (past_word (from_word t), one_yes c old t (class_word c v) ws v s (class_shown c v f h).says, s.2)
-part_reads (Maybe c) is value.Nothing ws f h none t old s = (t, ap (λ g. or_else g (with_value old value.Nothing t)) (one_no c old t ws s none), s)
-part_reads (Maybe c) is v ws f h none t old s = (past_word (from_word t), ap (λ g. or_else g (with_value old value.Nothing t)) (one_yes c old t (class_word c v) ws v s (class_shown c v f.0 h).says), s.2)
+part_reads (One c) is v ws f h none t old s = (past_word (from_word t), one_is c old t (class_word c v ∷ ws) (Some v) s (class_shown c v f h).says, s.2)
+part_reads (Maybe c) is value.Nothing ws f h none t old s = (t, ap (λ g. or_else g (with_value old value.Nothing t)) (one_is c old t ws None s none), s)
+part_reads (Maybe c) is v ws f h none t old s = (past_word (from_word t), ap (λ g. or_else g (with_value old value.Nothing t)) (one_is c old t (class_word c v ∷ ws) (Some v) s (class_shown c v f.0 h).says), s.2)
 part_reads Group is value.Nothing ws f h none t old s = (t, cond-false _ _ _ (ap (λ w. bytes_eq w (codes "-g")) (first_is t ws s) ∙ none), s)
-part_reads Group is (value.Named name) ws f h none t old s = (past_word (from_word (past_word (from_word t))), cond-true _ _ _ (ap (λ w. bytes_eq w (codes "-g")) s.1) ∙ one_yes any_name old (past_word (from_word t)) name ws (value.Named name) s.2 (any_name_said name h), s.2.2)
+part_reads Group is (value.Named name) ws f h none t old s = (past_word (from_word (past_word (from_word t))), cond-true _ _ _ (ap (λ w. bytes_eq w (codes "-g")) s.1) ∙ one_is any_name old (past_word (from_word t)) (name ∷ ws) (Some (value.Named name)) s.2 (class_shown any_name (value.Named name) refl h).says, s.2.2)
 part_reads NoGroup is value.Nothing ws f h none t old s = (t, refl, s)
 part_reads Names is (value.Names names) ws f h none t old s =
     let few : length names ≤ length t = omega (arith, few_words t (names ++ ws) s, length-append names ws) in
@@ -237,7 +217,7 @@ part_reads Names is (value.Names names) ws f h none t old s =
     (g.0, ap (λ f. Ok (said old value.Names f)) g.1 ∙ ap (λ ns. Ok (with_value old (value.Names ns) g.0)) (all_pushed [] names), g.2)
 part_reads Pairs is (value.Pairs (p ∷ ps)) ws f h none t old s =
     let few : length ps ≤ length (past_word (from_word t)) = omega (arith, few_words (past_word (from_word t)) (map pair_word ps ++ ws) s.2, length-append (map pair_word ps) ws, length-map ps pair_word) in
-    let g = some_gather pair_of pushed pair_word is_pair pair_said ws none (length (past_word (from_word t))) p ps (λ x. x ∷ []) value.Pairs old t (and_parts (nat_lt 0 (length (p ∷ ps))) (list_all is_pair (p ∷ ps)) h).1 few s in
+    let g = some_gather pair_of pushed pair_word is_pair pair_said ws none (length (past_word (from_word t))) p ps (λ x. x ∷ []) value.Pairs old t (right_of (nat_lt 0 (length (p ∷ ps))) (list_all is_pair (p ∷ ps)) h) few s in
     (g.0, g.1 ∙ ap (λ xs. Ok (with_value old (value.Pairs xs) g.0)) (all_pushed (p ∷ []) ps), g.2)
 part_reads Blocks is (value.Blocks bytes) ws f h none t old s =
     let w = whole_blocks bytes h in
@@ -248,9 +228,8 @@ part_reads i is v ws f h none t old s = absurd (both_ways false refl h)
 row_reads : (is : List Item) (vs : List Value) (cut : Option ℕ) → Clear is → are_of is vs ≡ true → maybe_cut cut ≡ true → (t : List ℕ) (old : List Value) → Spells t (row_words is vs ++ cut_words cut) → (rest : List ℕ) × (items is (Ok (so old t)) ≡ Ok (so (old ++ vs) rest)) × Spells rest (cut_words cut)
 row_reads [] [] cut c a short t old s = (t, ap (λ xs. Ok (so xs t)) (sym (append-nil old)), s)
 row_reads (i ∷ is) (v ∷ vs) cut c a short t old s =
-    let parts = and_parts (of_item i v) (are_of is vs) a in
-    let one = part_reads i is v (row_words is vs ++ cut_words cut) c.0 parts.0 (part_ends i is vs cut c.0 parts.1 short) t old (subst (Spells t) (append_assoc (words_of i v) (row_words is vs) (cut_words cut)) s) in
-    let more = row_reads is vs cut c.1 parts.1 short one.0 (old ++ v ∷ []) one.2 in
+    let one = part_reads i is v (row_words is vs ++ cut_words cut) c.0 (search ands) (part_ends i is vs cut c.0 (search ands) short) t old (subst (Spells t) (append_assoc (words_of i v) (row_words is vs) (cut_words cut)) s) in
+    let more = row_reads is vs cut c.1 (search ands) short one.0 (old ++ v ∷ []) one.2 in
     (more.0, ap (items is) one.1 ∙ more.1 ∙ ap (λ xs. Ok (so xs more.0)) (append_assoc old (v ∷ []) vs), more.2)
 row_reads is vs cut c a short t old s = absurd (both_ways false refl a)
 
@@ -258,24 +237,18 @@ row_reads is vs cut c a short t old s = absurd (both_ways false refl a)
 
 -- such a word may end a line
 abbrev pub may_end : Bool → Option ℕ → Bool
-may_end true cut = maybe_cut cut
-may_end false cut = is_none cut
-
-ends_short : (b : Bool) (cut : Option ℕ) → may_end b cut ≡ true → maybe_cut cut ≡ true
-ends_short true cut h = h
-ends_short false None h = refl
-ends_short false (Some n) h = absurd (both_ways false refl h)
+may_end b cut = maybe_cut cut && (b || is_none cut)
 
 end_read : (b : Bool) (cut : Option ℕ) (vs : List Value) (t : List ℕ) → may_end b cut ≡ true → Spells t (cut_words cut) → line_end b (so vs t) ≡ Ok (record { values = vs; cut = cut })
 end_read false None vs t h s = ap (nothing_left (uncut vs)) s
-end_read false (Some n) vs t h s = absurd (both_ways false refl h)
+end_read false (Some n) vs t h s = absurd (both_ways false refl (right_of (maybe_cut (Some n)) false h))
 end_read true None vs t h s = ap (λ r. cut_end (cut_of (first_word r)) vs r) s
-end_read true (Some n) vs t h s = ap (λ w. cut_end (cut_of w) vs (from_word t)) s.1 ∙ ap (λ o. cut_end o vs (from_word t)) (cut_said n h) ∙ ap (nothing_left (let r : Read = record { values = vs; cut = Some n } in r)) s.2
+end_read true (Some n) vs t h s = ap (λ w. cut_end (cut_of w) vs (from_word t)) s.1 ∙ ap (λ o. cut_end o vs (from_word t)) (cut_said n (search ands)) ∙ ap (nothing_left (let r : Read = record { values = vs; cut = Some n } in r)) s.2
 
 pub row_read : (b : Bool) (cut : Option ℕ) (is : List Item) (vs : List Value) (t : List ℕ) → may_end b cut ≡ true → Clear is → are_of is vs ≡ true → Spells t (row_words is vs ++ cut_words cut) → row b is t ≡ Ok (record { values = vs; cut = cut })
 unfolding row
 row_read b cut is vs t h c a s =
-    let m = row_reads is vs cut c a (ends_short b cut h) t [] s in
+    let m = row_reads is vs cut c a (search ands) t [] s in
     ap (λ g. and_then g (line_end b)) m.1 ∙ end_read b cut vs m.0 h m.2
 
 -- ---- no word has a blank or a newline
@@ -286,7 +259,7 @@ part_dark (Maybe c) is value.Nothing f h = refl
 part_dark (Maybe c) is v f h = and_from _ _ (class_shown c v f.0 h).dark refl
 part_dark Group is (value.Named name) f h = and_from _ _ (name_word name h) refl
 part_dark Names is (value.Names names) f h = all_that is_name is_dark_word name_word names h
-part_dark Pairs is (value.Pairs pairs) f h = list_all-map is_dark_word pair_word pairs ∙ all_that is_pair (λ p. is_dark_word (pair_word p)) pair_is_word pairs (and_parts (nat_lt 0 (length pairs)) (list_all is_pair pairs) h).1
+part_dark Pairs is (value.Pairs pairs) f h = list_all-map is_dark_word pair_word pairs ∙ all_that is_pair (λ p. is_dark_word (pair_word p)) (λ p k. text_word (pair_word p) (pair_shown p k)) pairs (search ands)
 part_dark Blocks is (value.Blocks bytes) f h =
     let w = whole_blocks bytes h in
     ap (λ n. list_all is_dark_word (map block_word (cut_blocks n bytes))) w.count ∙ list_all-map is_dark_word block_word (cut_blocks (suc w.more) bytes) ∙ all_that is_one_block (λ b. is_dark_word (block_word b)) block_is_word (cut_blocks (suc w.more) bytes) w.blocks.good
@@ -297,17 +270,13 @@ line_dark [] vs None c a short = refl
 line_dark [] vs (Some n) c a short = and_from _ _ (class_shown (record { front = key.Cut; sort = sort.Number 0 (2 ^ 40 - 1) }) (value.Number n) refl (cut_fits n short)).dark refl
 line_dark (i ∷ is) [] cut c a short = absurd (both_ways false refl a)
 line_dark (i ∷ is) (v ∷ vs) cut c a short =
-    let parts = and_parts (of_item i v) (are_of is vs) a in
-    ap (list_all is_dark_word) (append_assoc (words_of i v) (row_words is vs) (cut_words cut)) ∙ list_all-append is_dark_word (words_of i v) (row_words is vs ++ cut_words cut) ∙ and_from _ _ (part_dark i is v c.0 parts.0) (line_dark is vs cut c.1 parts.1 short)
+    ap (list_all is_dark_word) (append_assoc (words_of i v) (row_words is vs) (cut_words cut)) ∙ list_all-append is_dark_word (words_of i v) (row_words is vs ++ cut_words cut) ∙ and_from _ _ (part_dark i is v c.0 (search ands)) (line_dark is vs cut c.1 (search ands) short)
 
 -- ---- parts that have no line in common
 
--- a fixed word of one class is not of the other
-abbrev is_alien : Class → Class → Bool
-is_alien c d = is_fixed c.sort && is_none (class_value d (text_of c.front))
-
 -- no line of these parts begins with the word
 abbrev refuses : Bool → List Item → List ℕ → Bool
+refuses b (One c ∷ is) w = is_none (class_value c w)
 refuses b (Maybe c ∷ is) w = is_none (class_value c w) && refuses b is w
 refuses b (Names ∷ is) w = is_none (name_of w) && refuses b is w
 refuses true [] w = is_none (cut_of w)
@@ -316,15 +285,11 @@ refuses b is w = false
 
 -- no line is of these parts and of those
 abbrev pub are_apart : Bool → List Item → List Item → Bool
-are_apart b (One c ∷ is) (One d ∷ js) = (is_alien c d || is_alien d c) || are_apart b is js
+are_apart b (One c ∷ is) (One d ∷ js) = (is_fixed d.sort && refuses b (One c ∷ is) (text_of d.front)) || are_apart b is js
 are_apart b (Group ∷ is) (Group ∷ js) = are_apart b is js
 are_apart b (NoGroup ∷ is) (NoGroup ∷ js) = are_apart b is js
 are_apart b is (One d ∷ js) = is_fixed d.sort && refuses b is (text_of d.front)
 are_apart b is js = false
-
-none_off : {A : Type 0} (o : Option A) → is_none o ≡ true → is_some o ≡ false
-none_off None h = refl
-none_off (Some x) h = absurd cc
 
 -- a fixed word is its front
 fixed_is : (k : Key) (s : Sort) (w : List ℕ) → is_fixed s ≡ true → accepts (record { front = k; sort = s }) w ≡ true → w ≡ text_of k
@@ -337,11 +302,6 @@ fixed_is k sort.Word w f a = by_front (bytes_eq (take (length (text_of k)) w) (t
     by_front false rest same none a = absurd cc
 fixed_is k s w f a = absurd cc
 
-not_both : (c d : Class) (w : List ℕ) → is_alien c d ≡ true → accepts c w ≡ true → accepts d w ≡ true → ⊥
-not_both c d w h x y =
-    let two = and_parts (is_fixed c.sort) (is_none (class_value d (text_of c.front))) h in
-    both_ways (accepts d w) (ap (accepts d) (fixed_is c.front c.sort w two.0 x) ∙ none_off (class_value d (text_of c.front)) two.1) y
-
 one_fits : (q : Bool) (w : List ℕ) (ws k : Words) (f : Words → Walked) → on (cond q (Ok ws) (Err (w ∷ ws))) f ≡ Ok k → (q ≡ true) × (f ws ≡ Ok k)
 one_fits true w ws k f e = (refl, e)
 one_fits false w ws k f e = absurd cc
@@ -351,28 +311,25 @@ stays zero p w ws e = refl
 stays (suc n) p w ws e = ap (λ r. after r (some_words n p) (w ∷ ws)) (cond-false _ _ _ e)
 
 refused : (b : Bool) (is : List Item) (w : List ℕ) (ws k : Words) → refuses b is w ≡ true → walk b is (w ∷ ws) ≡ Ok k → ⊥
-refused true [] w ws k r e = let bad = sym (cond-false _ _ _ (none_off (cut_of w) r)) ∙ e in cc
+refused true [] w ws k r e = let bad = sym (cond-false _ _ _ (not-true (is_some (cut_of w)) r)) ∙ e in cc
 refused false [] w ws k r e = cc
-refused b (Maybe c ∷ is) w ws k r e =
-    let two = and_parts (is_none (class_value c w)) (refuses b is w) r in
-    refused b is w ws k two.1 (sym (ap (walk b is) (stays 1 (accepts c) w ws (none_off (class_value c w) two.0))) ∙ e)
-refused b (Names ∷ is) w ws k r e =
-    let two = and_parts (is_none (name_of w)) (refuses b is w) r in
-    refused b is w ws k two.1 (sym (ap (walk b is) (stays (length (w ∷ ws)) is_named w ws (none_off (name_of w) two.0))) ∙ e)
+refused b (One c ∷ is) w ws k r e = both_ways (accepts c w) (not-true (accepts c w) r) (one_fits (accepts c w) w ws k (walk b is) e).0
+refused b (Maybe c ∷ is) w ws k r e = refused b is w ws k (search ands) (sym (ap (walk b is) (stays 1 (accepts c) w ws (not-true (accepts c w) (search ands)))) ∙ e)
+refused b (Names ∷ is) w ws k r e = refused b is w ws k (search ands) (sym (ap (walk b is) (stays (length (w ∷ ws)) is_named w ws (not-true (is_named w) (search ands)))) ∙ e)
 refused b (i ∷ is) w ws k r e = both_ways false refl r
+
+-- a fixed word of the second row
+word_apart : (b : Bool) (is js : List Item) (d : Class) (w : List ℕ) (ws k l : Words) → (is_fixed d.sort && refuses b is (text_of d.front)) ≡ true → walk b is (w ∷ ws) ≡ Ok k → walk b (One d ∷ js) (w ∷ ws) ≡ Ok l → ⊥
+word_apart b is js d w ws k l a e f =
+    let word : w ≡ text_of d.front = fixed_is d.front d.sort w (search ands) (one_fits (accepts d w) w ws l (walk b js) f).0 in
+    refused b is w ws k (ap (refuses b is) word ∙ (right_of (is_fixed d.sort) _ a)) e
 
 pub rows_apart : (b : Bool) (is js : List Item) (ws k l : Words) → are_apart b is js ≡ true → walk b is ws ≡ Ok k → walk b js ws ≡ Ok l → ⊥
 rows_apart b (One c ∷ is) (One d ∷ js) [] k l a e f = cc
-rows_apart b (One c ∷ is) (One d ∷ js) (w ∷ ws) k l a e f =
-    let x = one_fits (accepts c w) w ws k (walk b is) e in
-    let y = one_fits (accepts d w) w ws l (walk b js) f in
-    elim (or_cases (is_alien c d || is_alien d c) (are_apart b is js) a) [
-      | inr later ↦ rows_apart b is js ws k l later x.1 y.1
-      | inl here ↦ elim (or_cases (is_alien c d) (is_alien d c) here) [
-        | inl one ↦ not_both c d w one x.0 y.0
-        | inr two ↦ not_both d c w two y.0 x.0
-      ]
-    ]
+rows_apart b (One c ∷ is) (One d ∷ js) (w ∷ ws) k l a e f = elim (or_cases (is_fixed d.sort && refuses b (One c ∷ is) (text_of d.front)) (are_apart b is js) a) [
+  | inl here ↦ word_apart b (One c ∷ is) js d w ws k l here e f
+  | inr later ↦ rows_apart b is js ws k l later (one_fits (accepts c w) w ws k (walk b is) e).1 (one_fits (accepts d w) w ws l (walk b js) f).1
+]
 rows_apart b (Group ∷ is) (Group ∷ js) ws k l a e f = by_group (group_words ws) e f (λ vs. rows_apart b is js vs k l a)
   where
     by_group : (r : Walked) → on r (walk b is) ≡ Ok k → on r (walk b js) ≡ Ok l → ((vs : Words) → walk b is vs ≡ Ok k → walk b js vs ≡ Ok l → ⊥) → ⊥
@@ -380,8 +337,5 @@ rows_apart b (Group ∷ is) (Group ∷ js) ws k l a e f = by_group (group_words 
     by_group (Err bad) e f more = cc
 rows_apart b (NoGroup ∷ is) (NoGroup ∷ js) ws k l a e f = rows_apart b is js ws k l a e f
 rows_apart b is (One d ∷ js) [] k l a e f = cc
-rows_apart b is (One d ∷ js) (w ∷ ws) k l a e f =
-    let two = and_parts (is_fixed d.sort) (refuses b is (text_of d.front)) a in
-    let word : w ≡ text_of d.front = fixed_is d.front d.sort w two.0 (one_fits (accepts d w) w ws l (walk b js) f).0 in
-    refused b is w ws k (ap (refuses b is) word ∙ two.1) e
+rows_apart b is (One d ∷ js) (w ∷ ws) k l a e f = word_apart b is js d w ws k l a e f
 rows_apart b is js ws k l a e f = both_ways false refl a

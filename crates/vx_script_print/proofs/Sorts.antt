@@ -2,13 +2,13 @@
 use Rattle.std.proofs.Common.{◌≡◌, ◌∙◌, sym, ap, refl, ℕ, zero, suc, ◌-◌, ◌*◌, ◌/◌, ◌%◌, ◌^◌, ◌<◌, ◌≤◌, inl, inr, Bool, true, false, List, [], ◌∷◌, ◌++◌, length, take, drop, arith, Option, Some, None}
 use Rattle.std.specs.Prelude.{codes, decimal, is_some, is_none, not, nat_le, nat_lt, ◌==◌, ◌&&◌, ◌||◌}
 use Rattle.std.specs.List.{list_all}
-use Rattle.std.proofs.lemmas.Bool.{and_parts, and_from, or_cases, both_ways, cond-true, cond-false, eqb-true, leb-true, ltb-true}
+use Rattle.std.proofs.lemmas.Bool.{and_parts, not-true, and_from, or_cases, both_ways, cond-true, cond-false, eqb-true, leb-true, ltb-true}
 use Rattle.std.proofs.lemmas.Bool.Decides.{nat_tests}
 use Rattle.std.proofs.lemmas.List.{append-nil, append_assoc, length-append, take_all, drop_all}
 use Rattle.std.proofs.lemmas.List.Folds.{list_all-append}
 use Rattle.std.proofs.lemmas.Slice.Eq.{bytes_eq-Decides}
 use Rattle.vx_block.proofs.WordLemmas.{word_again}
-use Rattle.vx_block.specs.Reading.{AreBytes, is_hex_digit, is_short_word, is_long_word, is_block_word, digit_value, byte_value}
+use Rattle.vx_block.specs.Reading.{AreBytes, spelled_block, is_hex_digit, is_short_word, is_long_word, is_block_word, spelled_block, digit_value, byte_value}
 use Rattle.vx_block.specs.Word.{hex, hex_digit, block_word}
 use Rattle.vx_names.specs.Form.{is_name}
 use Rattle.vx_names.specs.Length.{numeral_front}
@@ -31,22 +31,41 @@ use Rattle.vx_script_words.specs.declared.value.Value.TheVariants as value
 use Rattle.vx_script_words.proofs.Packing.{take_front, drop_front, up_to_is, past_is}
 use Rattle.vx_script_words.proofs.Plain.{is_dark, is_dark_word, is_not, all_by, name_without, name_dark}
 
+pub left_of : (a b : Bool) → (a && b) ≡ true → a ≡ true
+left_of a b h = (and_parts a b h).0
+
+pub right_of : (a b : Bool) → (a && b) ≡ true → b ≡ true
+right_of a b h = (and_parts a b h).1
+
+-- both sides of a test, and a test of both
+pub ruleset ands = (left_of, right_of, and_from)
+
 pub all_that : {X : Type 0} (p q : X → Bool) → ((x : X) → p x ≡ true → q x ≡ true) → (xs : List X) → list_all p xs ≡ true → list_all q xs ≡ true
 all_that p q each [] h = refl
-all_that p q each (x ∷ xs) h = let parts = and_parts (p x) (list_all p xs) h in and_from _ _ (each x parts.0) (all_that p q each xs parts.1)
+all_that p q each (x ∷ xs) h = and_from _ _ (each x (search ands)) (all_that p q each xs (search ands))
 
 -- ---- bytes without blanks
 
-pub some_word : (w : List ℕ) → 0 < length w → list_all is_dark w ≡ true → is_dark_word w ≡ true
-some_word [] some h = absurd (omega arith)
-some_word (b ∷ bs) some h = h
+-- some bytes, none of them a blank
+pub record IsText (w : List ℕ) : Type 0 where
+  pub some : 0 < length w
+  pub dark : list_all is_dark w ≡ true
+
+pub text_word : (w : List ℕ) → IsText w → is_dark_word w ≡ true
+text_word [] t = absurd (omega (arith, t.some))
+text_word (b ∷ bs) t = t.dark
 
 dark_both : (x y : List ℕ) → list_all is_dark x ≡ true → list_all is_dark y ≡ true → list_all is_dark (x ++ y) ≡ true
 dark_both x y h k = list_all-append is_dark x y ∙ and_from _ _ h k
 
+more_some : (x y : List ℕ) → 0 < length x → 0 < length (x ++ y)
+more_some x y h = omega (arith, h, length-append x y)
+
 name_some : (w : List ℕ) → is_name w ≡ true → 0 < length w
 name_some [] h = absurd (both_ways false refl h)
 name_some (b ∷ bs) h = omega arith
+
+ruleset shown = (ands, name_some, more_some, name_dark, dark_both)
 
 -- ---- names
 
@@ -59,23 +78,11 @@ behind_front front x = cond-true _ _ _ ((bytes_eq-Decides (take (length front) (
 
 pub pair_said : (pair : DiskAt) → is_pair pair ≡ true → pair_of (pair_word pair) ≡ Some pair
 pair_said pair h =
-    let parts = and_parts _ (is_none (cut_of (pair_word pair))) h in
-    let names = and_parts (is_name pair.disk) (is_name pair.device) parts.0 in
-    let clean = name_without 61 (λ b plain e. plain.no_equals e) pair.disk names.0 in
-    let one = append_assoc pair.disk (61 ∷ []) pair.device in
-    cond-false _ _ _ (none_is (cut_of (pair_word pair)) parts.1) ∙ rw (one, up_to_is 61 pair.disk pair.device clean, past_is 61 pair.disk pair.device clean, name_said pair.disk names.0, name_said pair.device names.1) refl
-  where
-    none_is : (o : Option ℕ) → is_none o ≡ true → is_some o ≡ false
-    none_is None h = refl
-    none_is (Some n) h = absurd cc
+    let clean = name_without 61 (λ b plain e. plain.no_equals e) pair.disk (search ands) in
+    cond-false _ _ _ (not-true (is_some (cut_of (pair_word pair))) (search ands)) ∙ rw (append_assoc pair.disk (61 ∷ []) pair.device, up_to_is 61 pair.disk pair.device clean, past_is 61 pair.disk pair.device clean, name_said pair.disk (search ands), name_said pair.device (search ands)) refl
 
-pair_dark : (pair : DiskAt) → is_pair pair ≡ true → list_all is_dark (pair_word pair) ≡ true
-pair_dark pair h =
-    let names = and_parts (is_name pair.disk) (is_name pair.device) (and_parts _ (is_none (cut_of (pair_word pair))) h).0 in
-    dark_both (pair.disk ++ codes "=") pair.device (dark_both pair.disk (codes "=") (name_dark pair.disk names.0) refl) (name_dark pair.device names.1)
-
-pub pair_is_word : (pair : DiskAt) → is_pair pair ≡ true → is_dark_word (pair_word pair) ≡ true
-pair_is_word pair h = some_word (pair_word pair) (omega (arith, length-append (pair.disk ++ codes "=") pair.device, length-append pair.disk (codes "="))) (pair_dark pair h)
+pub pair_shown : (pair : DiskAt) → is_pair pair ≡ true → IsText (pair_word pair)
+pair_shown pair h = search shown
 
 -- behind the last `/` of what a break-off names
 abbrev plex_rest : Option (List ℕ) → List ℕ
@@ -87,25 +94,24 @@ plex_shown : (plex : Option (List ℕ)) → maybe_name plex ≡ true → (plex_t
 plex_shown None h = (refl, refl, refl)
 plex_shown (Some plex) h = (refl, ap (λ o. just (name_behind o)) (behind_front (codes "plex=") plex) ∙ ap just (name_said plex h), name_dark plex h)
 
-module _ (vol snap : List ℕ) (plex : Option (List ℕ)) (v : is_name vol ≡ true) (s : is_name snap ≡ true) (p : maybe_name plex ≡ true) where
-  abbrev break_word : List ℕ
-  break_word = vol ++ codes "/newvol=" ++ snap ++ plex_text plex
+break_shown : (vol snap : List ℕ) (plex : Option (List ℕ)) → is_name vol ≡ true → is_name snap ≡ true → maybe_name plex ≡ true → IsText (vol ++ codes "/newvol=" ++ snap ++ plex_text plex)
+break_shown vol snap plex v s p = let last = (plex_shown plex p).2 in search shown
 
-  break_off_said : break_off_of break_word ≡ Some (value.BreakOff vol snap plex)
-  break_off_said =
-      let no_slash = name_without 47 (λ b plain e. plain.no_slash e) in
-      let clean : list_all (is_not 47) (codes "newvol=" ++ snap) ≡ true = no_slash snap s in
-      let inner : List ℕ = (codes "newvol=" ++ snap) ++ 47 ∷ plex_rest plex in
-      let parts : break_word ≡ vol ++ 47 ∷ inner = ap (λ t. vol ++ codes "/newvol=" ++ snap ++ t) (plex_shown plex p).0 ∙ append_assoc (vol ++ codes "/newvol=") snap (47 ∷ plex_rest plex) ∙ append_assoc vol (codes "/newvol=") (snap ++ 47 ∷ plex_rest plex) in
-      rw (parts, up_to_is 47 vol inner (no_slash vol v), past_is 47 vol inner (no_slash vol v), up_to_is 47 (codes "newvol=" ++ snap) (plex_rest plex) clean, past_is 47 (codes "newvol=" ++ snap) (plex_rest plex) clean, behind_front (codes "newvol=") snap, name_said vol v, name_said snap s, (plex_shown plex p).1) refl
-
-  break_dark : list_all is_dark break_word ≡ true
-  break_dark = dark_both (vol ++ codes "/newvol=" ++ snap) (plex_text plex) (dark_both (vol ++ codes "/newvol=") snap (dark_both vol (codes "/newvol=") (name_dark vol v) refl) (name_dark snap s)) (plex_shown plex p).2
+break_off_said : (vol snap : List ℕ) (plex : Option (List ℕ)) → is_name vol ≡ true → is_name snap ≡ true → maybe_name plex ≡ true → break_off_of (vol ++ codes "/newvol=" ++ snap ++ plex_text plex) ≡ Some (value.BreakOff vol snap plex)
+break_off_said vol snap plex v s p =
+    let no_slash = name_without 47 (λ b plain e. plain.no_slash e) in
+    let clean : list_all (is_not 47) (codes "newvol=" ++ snap) ≡ true = no_slash snap s in
+    let inner : List ℕ = (codes "newvol=" ++ snap) ++ 47 ∷ plex_rest plex in
+    let parts = ap (λ t. vol ++ codes "/newvol=" ++ snap ++ t) (plex_shown plex p).0 ∙ append_assoc (vol ++ codes "/newvol=") snap (47 ∷ plex_rest plex) ∙ append_assoc vol (codes "/newvol=") (snap ++ 47 ∷ plex_rest plex) in
+    rw (parts, up_to_is 47 vol inner (no_slash vol v), past_is 47 vol inner (no_slash vol v), up_to_is 47 (codes "newvol=" ++ snap) (plex_rest plex) clean, past_is 47 (codes "newvol=" ++ snap) (plex_rest plex) clean, behind_front (codes "newvol=") snap, name_said vol v, name_said snap s, (plex_shown plex p).1) refl
 
 -- ---- numbers
 
 pub number_said : (n : ℕ) → n < 2 ^ 40 → number_of (decimal n) ≡ Some n
 number_said n h = cond-true _ _ _ (decimal_number n h) ∙ ap Some (decimal_value n (omega (arith, h)))
+
+decimal_shown : (n : ℕ) → n < 2 ^ 64 → IsText (decimal n)
+decimal_shown n h = let name = decimal_name n h in search shown
 
 pub ranged_said : (low high n : ℕ) → n < 2 ^ 40 → is_between low high n ≡ true → within low high (number_of (decimal n)) ≡ Some n
 ranged_said low high n small h = ap (within low high) (number_said n small) ∙ cond-true _ _ _ h
@@ -120,24 +126,17 @@ length_said n small h =
 
 -- ---- hexadecimal digits
 
-digit_is_hex : (d : ℕ) → d < 16 → is_hex_digit (hex_digit d) ≡ true
-digit_is_hex d lt = grind (arith, nat_tests)
-
-digit_says : (d : ℕ) → d < 16 → digit_value (hex_digit d) ≡ d
-digit_says d lt = grind (arith, nat_tests)
-
 hex_is_dark : (b : ℕ) → is_hex_digit b ≡ true → is_dark b ≡ true
 hex_is_dark b h = grind (arith, nat_tests)
 
 digits_hex : (b : ℕ) → b < 256 → list_all is_hex_digit (hex b) ≡ true
-digits_hex b lt = and_from _ _ (digit_is_hex (b / 16) (omega arith)) (and_from _ _ (digit_is_hex (b % 16) (omega arith)) refl)
+digits_hex b lt = grind (arith, nat_tests)
+
+digits_say : (b : ℕ) → b < 256 → byte_value (hex_digit (b / 16)) (hex_digit (b % 16)) ≡ b
+digits_say b lt = grind (arith, nat_tests)
 
 byte_said : (b : ℕ) → b < 256 → byte_of (hex b) ≡ Some b
-byte_said b lt =
-    let high : digit_value (hex_digit (b / 16)) ≡ b / 16 = digit_says (b / 16) (omega arith) in
-    let low : digit_value (hex_digit (b % 16)) ≡ b % 16 = digit_says (b % 16) (omega arith) in
-    let whole : byte_value (hex_digit (b / 16)) (hex_digit (b % 16)) ≡ b = omega (arith, high, low) in
-    cond-true _ _ _ (and_from _ _ (digit_is_hex (b / 16) (omega arith)) (digit_is_hex (b % 16) (omega arith))) ∙ ap Some whole
+byte_said b lt = let both : (is_hex_digit (hex_digit (b / 16)) && is_hex_digit (hex_digit (b % 16))) ≡ true = grind (arith, nat_tests) in cond-true _ _ _ both ∙ ap Some (digits_say b lt)
 
 -- 512 bytes
 abbrev pub is_one_block : List ℕ → Bool
@@ -145,29 +144,26 @@ is_one_block block = length block == 512 && list_all is_byte block
 
 are_bytes : (bs : List ℕ) → list_all is_byte bs ≡ true → AreBytes bs
 are_bytes [] h k = omega arith
-are_bytes (b ∷ bs) h zero = ltb-true b 256 (and_parts (is_byte b) (list_all is_byte bs) h).0
-are_bytes (b ∷ bs) h (suc k) = are_bytes bs (and_parts (is_byte b) (list_all is_byte bs) h).1 k
+are_bytes (b ∷ bs) h zero = ltb-true b 256 (search ands)
+are_bytes (b ∷ bs) h (suc k) = are_bytes bs (search ands) k
+
+-- what is printed of a block is a word, and spells the block
+block_again : (bs : List ℕ) → is_one_block bs ≡ true → (is_block_word (block_word bs) ≡ true) × (spelled_block (block_word bs) ≡ bs)
+block_again bs h = word_again bs (eqb-true (length bs) 512 (search ands)) (are_bytes bs (search ands))
 
 pub block_said : (bs : List ℕ) → is_one_block bs ≡ true → block_of (block_word bs) ≡ Some bs
 unfolding block_of
-block_said bs h =
-    let two = and_parts (length bs == 512) (list_all is_byte bs) h in
-    let again = word_again bs (eqb-true (length bs) 512 two.0) (are_bytes bs two.1) in
-    cond-true _ _ _ again.0 ∙ ap Some again.1
+block_said bs h = cond-true _ _ _ (block_again bs h).0 ∙ ap Some (block_again bs h).1
 
 block_dark : (w : List ℕ) → is_block_word w ≡ true → is_dark_word w ≡ true
 block_dark [] h = absurd (both_ways false refl h)
 block_dark (b ∷ bs) h = elim (or_cases (is_short_word (b ∷ bs)) (is_long_word (b ∷ bs)) h) [
-  | inl short ↦
-      let two = and_parts (length (b ∷ bs) == 3 && b == 61) (list_all is_hex_digit bs) short in
-      and_from _ _ (ap is_dark (eqb-true b 61 (and_parts (length (b ∷ bs) == 3) (b == 61) two.0).1)) (all_by is_hex_digit is_dark hex_is_dark bs two.1)
-  | inr long ↦ all_by is_hex_digit is_dark hex_is_dark (b ∷ bs) (and_parts (length (b ∷ bs) == 1024) (list_all is_hex_digit (b ∷ bs)) long).1
+  | inl short ↦ and_from _ _ (ap is_dark (eqb-true b 61 (search ands))) (all_by is_hex_digit is_dark hex_is_dark bs (search ands))
+  | inr long ↦ all_by is_hex_digit is_dark hex_is_dark (b ∷ bs) (search ands)
 ]
 
 pub block_is_word : (bs : List ℕ) → is_one_block bs ≡ true → is_dark_word (block_word bs) ≡ true
-block_is_word bs h =
-    let two = and_parts (length bs == 512) (list_all is_byte bs) h in
-    block_dark (block_word bs) (word_again bs (eqb-true (length bs) 512 two.0) (are_bytes bs two.1)).0
+block_is_word bs h = block_dark (block_word bs) (block_again bs h).0
 
 -- ---- sorts and classes
 
@@ -199,23 +195,21 @@ value_shown : (s : Sort) (v : Value) → is_fair s ≡ true → is_of s v ≡ tr
 value_shown sort.Word value.Word f h = record { says = refl; dark = refl; fills = refl }
 value_shown sort.Named (value.Named name) f h = record { says = ap as_name (name_said name h); dark = name_dark name h; fills = name_some name h }
 value_shown (sort.Number low high) (value.Number n) f h =
-    let at : n ≤ high = leb-true n high (and_parts (nat_le low n) (nat_le n high) h).1 in
-    let small : n < 2 ^ 40 = omega (arith, at, leb-true high (2 ^ 40 - 1) f) in
-    let name = decimal_name n (omega (arith, small)) in
-    record { says = ap as_number (ranged_said low high n small h); dark = name_dark (decimal n) name; fills = name_some (decimal n) name }
+    let small : n < 2 ^ 40 = grind (arith, nat_tests) in
+    let text = decimal_shown n (omega (arith, small)) in
+    record { says = ap as_number (ranged_said low high n small h); dark = text.dark; fills = text.some }
 value_shown sort.Length (value.Number n) f h =
-    let small : n ≤ 2 ^ 40 = leb-true n (2 ^ 40) (and_parts (nat_le 1 n) (nat_le n (2 ^ 40)) h).1 in
-    let name = decimal_name n (omega (arith, small)) in
-    record { says = ap as_number (length_said n small h); dark = name_dark (decimal n) name; fills = name_some (decimal n) name }
+    let small : n ≤ 2 ^ 40 = grind (arith, nat_tests) in
+    let text = decimal_shown n (omega (arith, small)) in
+    record { says = ap as_number (length_said n small h); dark = text.dark; fills = text.some }
 value_shown sort.Byte (value.Number n) f h =
-    let small : n < 256 = ltb-true n 256 h in
+    let small : n < 256 = grind (arith, nat_tests) in
     let same : n % 256 ≡ n = omega arith in
     record { says = ap (λ m. as_number (byte_of (hex m))) same ∙ ap as_number (byte_said n small); dark = ap (λ m. list_all is_dark (hex m)) same ∙ all_by is_hex_digit is_dark hex_is_dark (hex n) (digits_hex n small); fills = omega arith }
-value_shown sort.Pair (value.Pair pair) f h = record { says = ap as_pair (pair_said pair h); dark = pair_dark pair h; fills = omega (arith, length-append (pair.disk ++ codes "=") pair.device, length-append pair.disk (codes "=")) }
+value_shown sort.Pair (value.Pair pair) f h = record { says = ap as_pair (pair_said pair h); dark = (pair_shown pair h).dark; fills = (pair_shown pair h).some }
 value_shown sort.BreakOff (value.BreakOff vol snap plex) f h =
-    let last = and_parts (is_name vol && is_name snap) (maybe_name plex) h in
-    let two = and_parts (is_name vol) (is_name snap) last.0 in
-    record { says = break_off_said vol snap plex two.0 two.1 last.1; dark = break_dark vol snap plex two.0 two.1 last.1; fills = omega (arith, name_some vol two.0, length-append (vol ++ codes "/newvol=" ++ snap) (plex_text plex), length-append (vol ++ codes "/newvol=") snap, length-append vol (codes "/newvol=")) }
+    let text = break_shown vol snap plex (search ands) (search ands) (search ands) in
+    record { says = break_off_said vol snap plex (search ands) (search ands) (search ands); dark = text.dark; fills = text.some }
 value_shown s v f h = absurd (both_ways false refl h)
 
 -- the word of a value of a class says it, and has no blank
@@ -226,12 +220,10 @@ pub record ShownClass (c : Class) (v : Value) : Type 0 where
 pub class_shown : (c : Class) (v : Value) → is_fair_class c ≡ true → is_of c.sort v ≡ true → ShownClass c v
 unfolding class_value
 class_shown c v f h =
-    let two = and_parts (list_all is_dark (text_of c.front)) (is_fair c.sort && (not (is_fixed c.sort) || nat_lt 0 (length (text_of c.front)))) f in
-    let last = and_parts (is_fair c.sort) (not (is_fixed c.sort) || nat_lt 0 (length (text_of c.front))) two.1 in
-    let x = value_shown c.sort v last.0 h in
+    let x = value_shown c.sort v (search ands) h in
     record {
       says = ap (value_behind c.sort) (behind_front (text_of c.front) (value_text c.sort v)) ∙ x.says;
-      dark = some_word (class_word c v) (filled (is_fixed c.sort) (text_of c.front) (value_text c.sort v) last.1 x.fills) (dark_both (text_of c.front) (value_text c.sort v) two.0 x.dark);
+      dark = text_word (class_word c v) (record { some = filled (is_fixed c.sort) (text_of c.front) (value_text c.sort v) (search ands) x.fills; dark = dark_both (text_of c.front) (value_text c.sort v) (search ands) x.dark });
     }
   where
     filled : (q : Bool) (front text : List ℕ) → (not q || nat_lt 0 (length front)) ≡ true → Fills q text → 0 < length (front ++ text)

@@ -148,7 +148,7 @@ is_chosen b kinds g f cut t two i ends h s =
 command_said : (done : List Command) (g : Option (List ℕ)) (f : Form) (cut : Option ℕ) (t : List ℕ) → is_said g f ≡ true → maybe_cut cut ≡ true → Spells t (form_words g f ++ cut_words cut) → command_step done t ≡ Ok (opened done g (opening f) cut)
 unfolding command_step
 command_said done g f cut t h short s =
-    ap (λ r. and_then r (λ c. opened_by done (maybe_name c.values 1) (form_of c.kind c.values) c.cut)) (is_chosen true commands g f cut t two_commands (in_commands (kind_of f)) short h s)
+    ap (λ r. and_then r (λ c. opened_by done (maybe_name c.values 1) (form_of c.kind c.values) c.cut)) (is_chosen true commands g f cut t two_commands (in_commands (kind_of f)) (and_from _ _ short refl) h s)
     ∙ ap (λ x. opened_by done x (form_of (kind_of f) (values_of g f)) cut) (group_again g f)
     ∙ ap (λ x. opened_by done (Some g) x cut) (form_again g f h)
 

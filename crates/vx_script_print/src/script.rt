@@ -15,6 +15,7 @@ use vx_script_forms::{
 };
 
 /// Appends the script in the one spelling, which is read back as the script.
+#[tactic(auto, using(crate::proofs::Whole::script_read))]
 pub fn print(alloc: Global, script: &Script, out: &mut Vec<u8>) -> Result<(), OutOfMemory>
     ensures printed { OnOk result (out.new.items ≡ out.old.items ++ script_text script.now.commands) }
     ensures read_back { script_of (script_text script.now.commands) ≡ Ok script.now.commands }
@@ -31,6 +32,7 @@ fn put_commands(alloc: Global, commands: &[Command], out: &mut Vec<u8>) -> Resul
     Ok(())
 }
 
+#[tactic(auto, using(crate::proofs::Printing::line_steps))]
 fn put_command(alloc: Global, command: &Command, out: &mut Vec<u8>) -> Result<(), OutOfMemory>
     ensures { OnOk result (out.new.items ≡ out.old.items ++ command_text command.now) }
 {

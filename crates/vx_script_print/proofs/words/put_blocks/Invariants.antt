@@ -1,11 +1,11 @@
-use Rattle.std.proofs.Common.{◌≡◌, ◌-◌, ◌*◌, ◌/◌, drop, map, length}
+use Rattle.std.proofs.Common.{◌≡◌, ◌++◌, ◌/◌, take, map, length}
 use Rattle.vx_block.specs.Word.{block_word}
 use Rattle.vx_script_print.specs.Text.{cut_blocks}
-use Rattle.vx_script_print.proofs.Printing.{Prints}
+use Rattle.vx_script_words.specs.Spelling.{spelled}
 use Rattle.vx_script_print.proofs.words.put_blocks.Given as goal
 
 abbrev pub invariant-loop-n : goal.invariant-loop-n
 invariant-loop-n l = record {
-  so_far : Prints l.fn.out.items l.out.items (map block_word (cut_blocks (length l.blocks / 512 - l.n) (drop (512 * l.n) l.blocks))) (map block_word (cut_blocks (length l.blocks / 512) l.blocks));
+  so_far : l.out.items ≡ l.fn.out.items ++ spelled (map block_word (take l.n (cut_blocks (length l.blocks / 512) l.blocks)));
   size : length l.block ≡ 512;
 }

@@ -1,6 +1,6 @@
-use Rattle.std.proofs.Common.{drop}
-use Rattle.vx_script_print.proofs.Printing.{Prints}
+use Rattle.std.proofs.Common.{◌≡◌, ◌++◌, take}
+use Rattle.vx_script_words.specs.Spelling.{spelled}
 use Rattle.vx_script_print.proofs.words.put_names.Given as goal
 
 abbrev pub invariant-loop-name : goal.invariant-loop-name
-invariant-loop-name l = Prints l.fn.out.items l.out.items (drop l.name-index l.names) l.names
+invariant-loop-name l = l.out.items ≡ l.fn.out.items ++ spelled (take l.name-index l.names)

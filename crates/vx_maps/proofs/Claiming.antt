@@ -77,7 +77,7 @@ second_false : (a b : Bool) → b ≡ false → (a && b) ≡ false
 second_false true b e = e
 second_false false b e = refl
 
-past_end : {A : Type 0} (none : A) (xs : List A) (i : ℕ) → length xs ≤ i → item_at none xs i ≡ none
+pub past_end : {A : Type 0} (none : A) (xs : List A) (i : ℕ) → length xs ≤ i → item_at none xs i ≡ none
 past_end none [] i le = refl
 past_end none (x ∷ xs) zero le = absurd (omega (arith, le))
 past_end none (x ∷ xs) (suc i) le = past_end none xs i (omega (arith, le))
@@ -85,7 +85,7 @@ past_end none (x ∷ xs) (suc i) le = past_end none xs i (omega (arith, le))
 behind_last : (regions region : ℕ) → page_count regions ≤ region / 4096 → regions ≤ region
 behind_last regions region le = omega arith
 
-here : (regions region : ℕ) → has_region (region / 4096) regions region ≡ nat_lt region regions
+pub here : (regions region : ℕ) → has_region (region / 4096) regions region ≡ nat_lt region regions
 here regions region = ap (λ (b : Bool). b && nat_lt region regions) (eq-eqb (region / 4096) (region / 4096) refl)
 
 module _ (regions : ℕ) (pair : Bool) (fact : SectorSeen → Type 0) (rows : List (List (List ℕ))) (grid grid' : List (List SectorSeen)) (logs : List LogSeen) (of : AreLogsOf regions pair fact grid' logs) (count : length grid' ≡ page_count regions)

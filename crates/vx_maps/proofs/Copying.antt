@@ -11,7 +11,8 @@ use Rattle.vx_pages.specs.Items.{item_at}
 use Rattle.vx_pages.specs.Sector.{SectorSeen, copy_of}
 use Rattle.vx_maps.specs.Copies.{copies_list}
 use Rattle.vx_maps.specs.Creating.{BeginsWith, head_tells}
-use Rattle.vx_maps.specs.Going.{CopiesGo, GridGoes, ReadsPiece, RowGoes, SecondGoes, SheetsGo, SlotGoes, SlotsGo, StoreGoes}
+use Rattle.vx_pages.specs.Pages.{RowGoes}
+use Rattle.vx_maps.specs.Going.{CopiesGo, GridGoes, ReadsPiece, SecondGoes, SheetsGo, SlotGoes, SlotsGo, StoreGoes}
 use Rattle.vx_maps.specs.Loading.{copy_at}
 use Rattle.vx_pages.specs.Pages.{grid_seen}
 use Rattle.vx_maps.specs.Sheets.{sheets_seen}

@@ -6,7 +6,8 @@ use Rattle.vx_pages.specs.declared.local_piece.LocalPiece.{Ghosts}
 use Rattle.vx_pages.specs.Sector.{Copies, SectorSeen, KeepsPiece, faults_at, faults_on, or_first}
 use Rattle.vx_pages.specs.Sector.{second_faults as piece_faults}
 use Rattle.vx_pages.specs.Page.{faults_in}
-use Rattle.vx_maps.specs.Going.{GridGoes, PiecesGo, RowGoes, SecondGoes, SheetsGo, SlotGoes, SlotsGo, StoreGoes}
+use Rattle.vx_pages.specs.Pages.{PiecesGo, RowGoes}
+use Rattle.vx_maps.specs.Going.{GridGoes, SecondGoes, SheetsGo, SlotGoes, SlotsGo, StoreGoes}
 use Rattle.vx_maps.specs.Slots.{SheetsSeen, grid_faults, slot_faults, slots_faults}
 use Rattle.vx_maps.specs.Wholes.{second_faults, sheet_faults, store_faults}
 use Rattle.vx_maps.specs.declared.store.MapStore.{MapStore}

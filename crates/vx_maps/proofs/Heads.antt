@@ -8,7 +8,7 @@ use Rattle.vx_marks.specs.declared.marker.MarkFault.{MarkFault}
 use Rattle.vx_marks.specs.declared.marker.MarkFault.TheVariants.{Failed, PowerLost, Busy}
 use Rattle.vx_pages.specs.Sector.{Copies, SectorSeen, HasCause, IsPut, KeepsPiece, copy_of, faults_at, is_cut, tells}
 use Rattle.vx_pages.specs.Reading.{HasRisen, IsGot, IsMended, IsWhatIs}
-use Rattle.vx_pages.proofs.Keeping.{piece_same}
+use Rattle.vx_pages.specs.Stays.{piece_same}
 use Rattle.vx_maps.specs.Creating.{AllBeginWith, BeginsWith, head_tells}
 use Rattle.vx_maps.specs.Cutness.{sheets_cut}
 use Rattle.vx_maps.specs.Going.{ReadsPiece, SheetsGo}

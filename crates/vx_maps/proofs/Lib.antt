@@ -1,4 +1,5 @@
 pub mod Alike
+pub mod Armed
 pub mod Beginning
 pub mod Blank
 pub mod Cells
@@ -26,4 +27,5 @@ pub mod Running
 pub mod Sources
 pub mod Steps
 pub mod Storing
+pub mod Telling
 pub mod Together

@@ -7,7 +7,7 @@ use Rattle.vx_marks.specs.declared.marker.MarkFault.TheVariants as mark
 use Rattle.vx_pages.specs.Reading.{HasRisen, IsSettled, ReadsSector, image_at}
 use Rattle.vx_pages.specs.Sector.{SectorSeen, KeepsSector}
 use Rattle.vx_pages.specs.Page.{EachSector, no_sector}
-use Rattle.vx_pages.proofs.Keeping.{piece_then}
+use Rattle.vx_pages.specs.Stays.{piece_then}
 use Rattle.vx_maps.specs.declared.fault.StoreFault.{StoreFault}
 use Rattle.vx_maps.specs.declared.fault.StoreFault.TheVariants.{OutOfMemory, NoCopy, Failed, PowerLost}
 use Rattle.vx_maps.specs.Creating.{IsFaultOf, copies_cut}

@@ -1,6 +1,7 @@
 -- That a store whose pages stay in their places is still one of the same volume.
-use Rattle.std.proofs.Common.{◌≡◌, ℕ, zero, suc, ◌<◌, ◌≤◌, Bool, refl, sym, ◌∙◌, ap, arith, List, [], ◌∷◌, length, get_or, set, true, false, Some, None}
+use Rattle.std.proofs.Common.{◌≡◌, ℕ, zero, suc, ◌<◌, ◌≤◌, Bool, refl, sym, ◌∙◌, ap, arith, List, [], ◌∷◌, length, get_or, set, true, false, Some, None, inl, inr, subst}
 use Rattle.std.specs.Prelude.{is_some, ◌&&◌, if◌then◌else◌}
+use Rattle.std.proofs.lemmas.Bool.{cases_order}
 use Rattle.std.proofs.lemmas.List.{length-map}
 use Rattle.vx_piece.specs.Seen.{Seen}
 use Rattle.vx_marks.specs.Log.{LogSeen}
@@ -9,12 +10,15 @@ use Rattle.vx_pages.specs.declared.page.Page.{Page}
 use Rattle.vx_pages.specs.Items.{item_at}
 use Rattle.vx_pages.specs.Sectors.{sector_seen}
 use Rattle.vx_pages.proofs.Ways.{keeps_none}
-use Rattle.vx_pages.specs.Sector.{SectorSeen, KeepsSector, faults_at, is_loose, is_sure, shown}
+use Rattle.vx_pages.specs.Sector.{SectorSeen, KeepsPiece, KeepsSector, faults_at, is_loose, is_sure, shown}
 use Rattle.vx_pages.specs.Reading.{IsSettled, ReadsSector, image_at}
 use Rattle.vx_pages.proofs.Settling.{reads_none}
 use Rattle.vx_pages.specs.Page.{EachSector, AreAll, all_tell, cut_in, faults_in, has_region, page_log, sector_at}
 use Rattle.vx_pages.specs.Pages.{SamePage, grid_seen, page_seen, sectors_of}
 use Rattle.vx_maps.specs.Going.{GridGoes, PlaceOf, places_of}
+use Rattle.vx_pages.specs.Pages.{RowGoes}
+use Rattle.vx_pages.specs.Stays.{row_then}
+use Rattle.vx_pages.proofs.Items.{at_is, at_set, at_other, set_size}
 use Rattle.vx_maps.specs.Slots.{row_at}
 use Rattle.vx_maps.specs.Store.{AreLogsOf, AreOnCopies, ArePages, page_at, pages_seen}
 
@@ -25,7 +29,7 @@ abbrev place_at : List PlaceOf → ℕ → PlaceOf
 place_at places i = item_at no_place places i
 
 -- a page as a log, by which regions it has
-abbrev log_with : (ℕ → Bool) → List SectorSeen → LogSeen
+abbrev pub log_with : (ℕ → Bool) → List SectorSeen → LogSeen
 log_with has sectors = record {
   there = true;
   has_region = has;
@@ -60,7 +64,7 @@ module _ {P : Type 0} {ghosts : Ghosts P} where
   same_size ps qs same = sym (places_size qs) ∙ ap (λ (x : List PlaceOf). length x) same ∙ places_size ps
 
   -- the page at an index has the regions that it had
-  log_now : (ps qs : List (Page P ghosts)) (i : ℕ) → places_of qs ≡ places_of ps → i < length ps →
+  pub log_now : (ps qs : List (Page P ghosts)) (i : ℕ) → places_of qs ≡ places_of ps → i < length ps →
       page_at (pages_seen ghosts.seen qs) i ≡ log_with ((page_at (pages_seen ghosts.seen ps) i).has_region) (row_at (grid_seen ghosts.seen qs) i)
   log_now ps qs i same lt =
       log_at qs i (let e = same_size ps qs same in omega (arith, e, lt))
@@ -140,3 +144,22 @@ row_grows images xs ys each copy device = go xs ys each.size (λ m lt. (each.eac
     go [] ys size more = omega arith
     go (x ∷ xs) [] size more = absurd (omega (arith, size))
     go (x ∷ xs) (y ∷ ys) size more = let a = more 0 (omega arith) in let b = go xs ys (omega (arith, size)) (λ m lt. more (suc m) (omega (arith, lt))) in omega (arith, a, b)
+
+module _ {P : Type 0} {ghosts : Ghosts P} where
+  -- a page that keeps its pieces is put where it was
+  pub grid_on : (old : List (List SectorSeen)) (pages : List (Page P ghosts)) (i : ℕ) (p q : Page P ghosts) → i < length pages → p ≡ get_or pages i p → GridGoes KeepsPiece old (grid_seen ghosts.seen pages) →
+      RowGoes KeepsPiece (sectors_of ghosts.seen p) (sectors_of ghosts.seen q) → GridGoes KeepsPiece old (grid_seen ghosts.seen (set pages i q))
+  grid_on old pages i p q lt is before step =
+      record {
+        size = set_size [] (sectors_of ghosts.seen) pages i q ∙ before.size;
+        each = λ m inside.
+            elim (cases_order m i) [
+              | inl same ↦
+                  subst (λ (k : ℕ). RowGoes KeepsPiece (row_at old k) (row_at (grid_seen ghosts.seen (set pages i q)) k)) (sym same)
+                  (subst (λ (xs : List SectorSeen). RowGoes KeepsPiece (row_at old i) xs) (sym (at_set [] (sectors_of ghosts.seen) pages i q lt))
+                  (row_then _ _ _ (subst (λ (xs : List SectorSeen). RowGoes KeepsPiece (row_at old i) xs) (at_is [] (sectors_of ghosts.seen) pages i p lt ∙ ap (sectors_of ghosts.seen) (sym is)) (before.each i (subst (λ (k : ℕ). k < length old) same inside))) step))
+              | inr other ↦
+                  subst (λ (xs : List SectorSeen). RowGoes KeepsPiece (row_at old m) xs)
+                  (sym (at_other [] (sectors_of ghosts.seen) pages i m q (λ e. elim other [ inl low ↦ omega (arith, low, e) | inr high ↦ omega (arith, high, e) ]))) (before.each m inside)
+            ];
+      }

@@ -9,10 +9,12 @@ use Rattle.vx_pages.specs.Items.{EachItem}
 use Rattle.vx_pages.specs.Sector.{Copies, SectorSeen, KeepsPiece, KeepsSector, copy_of}
 use Rattle.vx_pages.specs.Page.{EachSector, no_sector}
 use Rattle.vx_pages.specs.Reading.{ReadsSector}
-use Rattle.vx_pages.proofs.Keeping.{copies_then, piece_same, piece_then}
+use Rattle.vx_pages.specs.Stays.{piece_same, piece_then}
+use Rattle.vx_pages.proofs.Keeping.{copies_then}
 use Rattle.vx_maps.specs.Slots.{IsLaid, IsLaidOn, Moved, MovedBoth, MovedSecond, SheetsSeen, slot_at}
 use Rattle.vx_maps.specs.Spares.{HasRoom, HasRoomSecond}
-use Rattle.vx_maps.specs.Going.{GridGoes, PiecesGo, ReadsPiece, RowGoes, SecondGoes, SheetsGo, SlotGoes, SlotsGo, StoreGoes}
+use Rattle.vx_pages.specs.Pages.{PiecesGo, RowGoes}
+use Rattle.vx_maps.specs.Going.{GridGoes, ReadsPiece, SecondGoes, SheetsGo, SlotGoes, SlotsGo, StoreGoes}
 use Rattle.vx_maps.specs.Loading.{GridReads, GridSettled, IsSettledAs}
 use Rattle.vx_marks.specs.declared.marker.MarkFault.{MarkFault}
 use Rattle.vx_maps.specs.declared.store.MapStore.{MapStore}

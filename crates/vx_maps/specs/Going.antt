@@ -1,13 +1,12 @@
 -- How the pieces of a store go on, wherever they stand in it.
-use Rattle.std.specs.Prelude.{◌≡◌, ℕ, is_some, List, [], ◌∷◌, length, map, Option, Some, None}
+use Rattle.std.specs.Prelude.{◌≡◌, ℕ, List, [], ◌∷◌, length, map, Option, Some, None}
 use Rattle.vx_piece.specs.Seen.{Seen}
 use Rattle.vx_runs.specs.Run.{EachPiece}
 use Rattle.vx_pages.specs.declared.local_piece.LocalPiece.{Ghosts}
 use Rattle.vx_pages.specs.declared.page.Page.{Page}
 use Rattle.vx_pages.specs.Items.{EachItem}
-use Rattle.vx_pages.specs.Sector.{Copies, SectorSeen, KeepsPiece, copy_of}
-use Rattle.vx_pages.specs.Page.{EachSector}
-use Rattle.vx_pages.specs.Pages.{grid_seen}
+use Rattle.vx_pages.specs.Sector.{SectorSeen, KeepsPiece}
+use Rattle.vx_pages.specs.Pages.{RowGoes, grid_seen}
 use Rattle.vx_maps.specs.Slots.{SheetsSeen, slot_at}
 use Rattle.vx_maps.specs.Sheets.{sheets_seen}
 use Rattle.vx_maps.specs.declared.store.MapStore.{MapStore}
@@ -35,15 +34,6 @@ SecondGoes rel _ _ = ⊥
 pub record SheetsGo (rel : Seen → Seen → Type 0) (old new : SheetsSeen) : Type 0 where
   pub first : SlotsGo rel old.first new.first
   pub second : SecondGoes rel old.second new.second
-
--- the pieces of a sector go on so
-pub record PiecesGo (rel : Seen → Seen → Type 0) (old new : Copies) : Type 0 where
-  pub pair : is_some new.second ≡ is_some old.second
-  pub each : (n : ℕ) → rel (copy_of old n) (copy_of new n)
-
--- the pieces of each page go on so
-abbrev pub RowGoes : (Seen → Seen → Type 0) → List SectorSeen → List SectorSeen → Type 0
-RowGoes rel old new = EachSector (λ m a b. PiecesGo rel a.copies b.copies) old new
 
 abbrev pub GridGoes : (Seen → Seen → Type 0) → List (List SectorSeen) → List (List SectorSeen) → Type 0
 GridGoes rel old new = EachItem [] (λ i. RowGoes rel) old new

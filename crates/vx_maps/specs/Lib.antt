@@ -1,9 +1,11 @@
+pub mod Arming
 pub mod Copies
 pub mod Creating
 pub mod Cutness
 pub mod Going
 pub mod Heads
 pub mod Loading
+pub mod Onward
 pub mod Sheets
 pub mod Slots
 pub mod Spares

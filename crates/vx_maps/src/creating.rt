@@ -9,7 +9,7 @@ ghost use Rattle.vx_pages.specs.Firm.{FirmsStore};
 ghost use Rattle.vx_pages.specs.Sector.{HasCause};
 ghost use Rattle.vx_maps.specs.Sheets.{sheets_seen};
 ghost use Rattle.vx_maps.specs.Spares.{HasRoom, copies_seen};
-ghost use Rattle.vx_maps.specs.Stores.{store_seen};
+ghost use Rattle.vx_maps.specs.Stores.{shape_of, store_seen};
 ghost use Rattle.vx_maps.specs.Wholes.{store_copies, store_faults};
 ghost use Rattle.vx_maps.specs.Cutness.{store_cut};
 ghost use Rattle.vx_maps.specs.declared.joining.Spares.{Spares};
@@ -42,6 +42,7 @@ fn write_heads<P: LocalPiece + Drop>(
 /// Makes each copy one without a mark. Its first sector is blank until all else is written, so that no copy has a header and
 /// old marks.
 fn write_new<P: LocalPiece + Drop>(store: &mut MapStore<P>) -> Result<(), MarkFault>
+    ensures shape { store.new.base.shape ≡ store.old.base.shape }
     ensures room { (spares : Spares P) → HasRoom (sheets_seen P.seen store.old.base.sheets) spares → HasRoom (sheets_seen P.seen store.new.base.sheets) spares }
     ensures claims { (region map : ℕ) → (store_seen P.seen store.new).claims region map ≡ (store_seen P.seen store.old).claims region map }
     ensures told { OnOk result (OnMarks (FirmsStore {T = Unit {0}} (Ok tt)) (store_seen P.seen store.old).told (store_seen P.seen store.new).told) }
@@ -68,6 +69,7 @@ impl<P: Piece + Drop> MapStore<P> {
         copies: Vec<Vec<P>>,
     ) -> Result<MapStore<P>, StoreRefused<P>>
         requires { AreCopies (shape.map_bytes / 512) (copies_seen P.seen copies.items) }
+        ensures shape { IfOk result (λ store. shape_of store ≡ shape) }
         ensures claims { IfOk result (λ store. (region map : ℕ) → (store_seen P.seen store).claims region map ≡ false) }
         ensures told { IfOk result (λ store. AllTell (copies_seen P.seen copies.items) → AreBlank (store_seen P.seen store).told) }
         ensures headed { IfOk result (λ store. AllBeginWith (maps_header shape.geometry.length shape.geometry.region 32) (store_copies P.seen store)) }
@@ -86,6 +88,7 @@ impl<P: Piece + Drop> MapStore<P> {
 /// Writes a store that was cut out of its copies, or gives them back.
 fn create_in<P: LocalPiece + Drop>(cut: CutStore<P>) -> Result<MapStore<P>, StoreRefused<P>>
     requires room { HasRoom (sheets_seen P.seen cut.store.base.sheets) cut.spares }
+    ensures shape { IfOk result (λ store. shape_of store ≡ cut.store.base.shape) }
     ensures claims { IfOk result (λ store. (region map : ℕ) → (store_seen P.seen store).claims region map ≡ (store_seen P.seen cut.store).claims region map) }
     ensures told { IfOk result (λ store. OnMarks (FirmsStore {T = Unit {0}} (Ok tt)) (store_seen P.seen cut.store).told (store_seen P.seen store).told) }
     ensures headed { IfOk result (λ store. AllBeginWith (maps_header cut.store.base.shape.geometry.length cut.store.base.shape.geometry.region cut.store.base.shape.maps) (store_copies P.seen store)) }

@@ -1,6 +1,7 @@
 //! The change maps of a volume on one or two copies, as a log of marks: the store of all pages.
 #![tactic(auto)]
 
+mod arming;
 mod assembly;
 mod creating;
 mod cutting;
@@ -8,9 +9,11 @@ mod fault;
 mod header;
 mod joining;
 mod loading;
+mod pages;
 mod paging;
 mod reading;
 mod runs;
+mod showing;
 mod slots;
 mod store;
 

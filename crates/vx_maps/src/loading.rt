@@ -13,7 +13,7 @@ ghost use Rattle.vx_maps.specs.Loading.{AreOpen, AreRows, FilledAt, GridSettled,
 ghost use Rattle.vx_maps.specs.Sheets.{sheets_seen};
 ghost use Rattle.vx_maps.specs.Spares.{HasRoom, copies_seen};
 ghost use Rattle.vx_maps.specs.Store.{pages_cut, pages_faults, pages_seen};
-ghost use Rattle.vx_maps.specs.Stores.{store_seen};
+ghost use Rattle.vx_maps.specs.Stores.{shape_of, store_seen};
 ghost use Rattle.vx_maps.specs.Wholes.{store_copies, store_faults};
 
 use crate::assembly::{CutStore, cut_store};
@@ -165,6 +165,7 @@ impl<P: Piece + Drop> MapStore<P> {
         copies: Vec<Vec<P>>,
     ) -> Result<MapStore<P>, StoreRefused<P>>
         requires { AreCopies (shape.map_bytes / 512) (copies_seen P.seen copies.items) }
+        ensures shape { IfOk result (λ store. shape_of store ≡ shape) }
         ensures loaded { IfOk result (λ store. IsLoaded (header_of shape) shape.regions (copies_seen P.seen copies.items) (store_faults P.seen store) (store_copies P.seen store) (store_seen P.seen store)) }
         ensures refused { IfErr result (λ refused. IsNotLoaded (header_of shape) refused.fault (copies_seen P.seen copies.items) (copies_seen P.seen refused.copies.items)) }
     {

@@ -1,6 +1,9 @@
 //! The pieces of one copy or of two by their sectors, with a hole where a page has taken its own.
 
-ghost use Rattle.std.specs.Prelude.{◌≡◌, ◌<◌, true, None, length, is_some};
+ghost use Rattle.std.specs.Prelude.{◌≡◌, ◌<◌, true, None, length, is_some, map};
+ghost use Rattle.std.specs.Option.{option_map};
+ghost use Rattle.vx_pages.specs.Arming.{armed};
+ghost use Rattle.vx_maps.specs.Arming.{armed_sheets};
 ghost use Rattle.vx_pages.specs.Pieces.{copies_of};
 ghost use Rattle.vx_maps.specs.Sheets.{sheets_seen};
 ghost use Rattle.vx_maps.specs.Slots.{IsTakable, IsPlaceable, Moved, MovedBoth, slot_at, slots_seen};
@@ -57,5 +60,32 @@ pub fn put_both<P: LocalPiece + Drop>(
     put(&mut sheets.first, at, first);
     if let (Some(slots), Some(piece)) = (&mut sheets.second, second) {
         put(slots, at, piece);
+    }
+}
+
+/// Sets when a power switch is to act on the pieces of each copy that are not cut.
+pub fn arm_sheets<P: LocalPiece>(sheets: &mut Sheets<P>, stop: Option<u64>)
+    ensures { sheets_seen P.seen sheets.new ≡ armed_sheets stop (sheets_seen P.seen sheets.old) }
+{
+    arm_slots(&mut sheets.first, stop);
+    if let Some(slots) = &mut sheets.second {
+        arm_slots(slots, stop);
+    }
+}
+
+fn arm_slots<P: LocalPiece>(slots: &mut Vec<Option<P>>, stop: Option<u64>)
+    ensures { slots_seen P.seen slots.new.items ≡ map (option_map (armed stop)) (slots_seen P.seen slots.old.items) }
+{
+    for index in 0..slots.len() {
+        let slot = &mut slots[index];
+        arm_slot(slot, stop);
+    }
+}
+
+fn arm_slot<P: LocalPiece>(slot: &mut Option<P>, stop: Option<u64>)
+    ensures { option_map P.seen slot.new ≡ option_map (armed stop) (option_map P.seen slot.old) }
+{
+    if let Some(piece) = slot {
+        piece.arm(stop);
     }
 }

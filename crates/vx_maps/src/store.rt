@@ -1,13 +1,13 @@
 ghost use Rattle.std.specs.Prelude.{◌≡◌, ℕ};
-ghost use Rattle.vx_pages.specs.Sector.{HasCause};
 ghost use Rattle.std.specs.Prelude.{◌/◌};
 ghost use Rattle.vx_mapfmt.specs.Sizes.{page_count};
-ghost use Rattle.vx_maps.specs.Store.{AreOnCopies, ArePages, ArePagesFirmed, pages_cut, pages_faults, pages_seen};
+ghost use Rattle.vx_maps.specs.Store.{AreOnCopies, ArePages, pages_seen};
 ghost use Rattle.vx_maps.specs.Sheets.{sheets_seen};
 ghost use Rattle.vx_maps.specs.Slots.{IsLaid, copies_in};
 
 use crate::assembly::join_whole;
 use crate::joining::{Spares, spares_of};
+use crate::pages::firm_pages;
 use crate::slots::Sheets;
 use std::alloc::Global;
 use vx_base::OutOfMemory;
@@ -56,24 +56,13 @@ impl<P: LocalPiece> MapStore<P> {
     }
 }
 
-/// Writes again what is loose, page by page, and stops at the first page that fails.
-fn firm_pages<P: LocalPiece>(pages: &mut Vec<Page<P>>) -> Result<(), MarkFault>
-    ensures each { ArePagesFirmed result (pages_seen P.seen pages.old.items) (pages_seen P.seen pages.new.items) }
-    ensures cause { HasCause (pages_faults (pages_seen P.seen pages.old.items)) (pages_faults (pages_seen P.seen pages.new.items)) (pages_cut (pages_seen P.seen pages.new.items)) result }
-{
-    for index in 0..pages.len() {
-        let page = &mut pages[index];
-        if let Err(fault) = page.firm() {
-            return Err(fault);
-        }
-    }
-    Ok(())
-}
-
 impl<P: LocalPiece> MapStore<P> {
     ghost use Rattle.vx_marks.specs.Log.{KeepsLog, MarkHasCause, OnMarks};
     ghost use Rattle.vx_pages.specs.Firm.{FirmsStore};
+    ghost use Rattle.vx_pages.specs.Sector.{KeepsPiece};
+    ghost use Rattle.vx_maps.specs.Going.{CopiesGo, StoreGoes};
     ghost use Rattle.vx_maps.specs.Stores.{store_seen};
+    ghost use Rattle.vx_maps.specs.Wholes.{store_copies};
 
     /// Writes again what failed calls have left open, and keeps all that is claimed. After Ok nothing is loose.
     pub fn firm(&mut self) -> Result<(), MarkFault>
@@ -82,6 +71,8 @@ impl<P: LocalPiece> MapStore<P> {
         ensures claims { (region map : ℕ) → (store_seen P.seen self.new).claims region map ≡ (store_seen P.seen self.old).claims region map }
         ensures cause { MarkHasCause (store_seen P.seen self.old) (store_seen P.seen self.new) result }
         ensures base { self.new.base ≡ self.old.base }
+        ensures goes { StoreGoes P.seen KeepsPiece self.old self.new }
+        ensures copies { CopiesGo KeepsPiece (store_copies P.seen self.old) (store_copies P.seen self.new) }
     {
         firm_pages(&mut self.pages)
     }
@@ -89,10 +80,13 @@ impl<P: LocalPiece> MapStore<P> {
 
 impl<P: LocalPiece> Marker for MapStore<P> {
     ghost use Rattle.vx_maps.specs.Store.{store_log};
+    ghost use Rattle.vx_pages.specs.Sector.{KeepsPiece};
+    ghost use Rattle.vx_maps.specs.Going.{StoreGoes};
+    ghost use Rattle.vx_maps.specs.Onward.{store_kept, store_kept_on};
 
     ghost log = { λ store. store_log store.base.shape.regions (pages_seen P.seen store.pages.items) };
 
-    ghost follows = { λ x y. Unit {0} };
+    ghost follows = { λ x y. StoreGoes P.seen KeepsPiece x y };
 
     fn marked(&self, region: u64) -> u64 {
         self.pages[(region / 4096) as usize].marked(region)
@@ -108,9 +102,9 @@ impl<P: LocalPiece> Marker for MapStore<P> {
         page.unmark(region, bits)
     }
 
-    ghost follows_same = { λ x. tt };
+    ghost follows_same = { λ x. store_kept x };
 
-    ghost follows_on = { λ x y z first then. tt };
+    ghost follows_on = { λ x y z first then. store_kept_on x y z first then };
 }
 
 impl<P: LocalPiece + Drop> MapStore<P> {

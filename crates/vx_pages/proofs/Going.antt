@@ -8,7 +8,7 @@ use Rattle.vx_marks.specs.declared.marker.MarkFault.{MarkFault}
 use Rattle.vx_pages.specs.Bytes.{same_place}
 use Rattle.vx_pages.specs.Sector.{AreSectors, IsMade, Copies, SectorSeen, tells, held, shown, IsFormed, KeepsCopies, KeepsSector, Holds, IsPut, Goes, SameBits, Swept, IsTidied, IsFirm, Turns, NoneLoose, BitPut, BitMay, ShownPut, ShownMay, BitOpened, copy_of}
 use Rattle.vx_pages.proofs.Bits.{no_bit}
-use Rattle.vx_pages.proofs.Keeping.{piece_same}
+use Rattle.vx_pages.specs.Stays.{piece_same}
 
 abbrev seen : Copies → List ℕ → List ℕ → SectorSeen
 seen c sure loose = record { copies = c; sure = sure; loose = loose }

@@ -1,27 +1,7 @@
 -- What calls keep of a piece.
 use Rattle.std.proofs.Common.{refl, ◌∙◌, arith}
-use Rattle.vx_piece.specs.Seen.{Seen}
+use Rattle.vx_pages.specs.Stays.{piece_same, piece_then}
 use Rattle.vx_pages.specs.Sector.{Copies, KeepsCopies, KeepsPiece, copy_of}
-
-pub piece_same : (p : Seen) → KeepsPiece p p
-piece_same p = record { kept = record { device = refl; start = refl; sectors = refl; stop = refl; faults = omega arith; cut = λ h. h }; tells = refl }
-
-pub piece_then : (a b c : Seen) → KeepsPiece a b → KeepsPiece b c → KeepsPiece a c
-piece_then a b c first last =
-    let one = first.kept in
-    let two = last.kept in
-    record {
-      kept =
-          record {
-            device = two.device ∙ one.device;
-            start = two.start ∙ one.start;
-            sectors = two.sectors ∙ one.sectors;
-            stop = two.stop ∙ one.stop;
-            faults = let low = one.faults in let high = two.faults in omega (arith, low, high);
-            cut = λ cut. two.cut (one.cut cut);
-          };
-      tells = last.tells ∙ first.tells;
-    }
 
 pub copies_same : (c : Copies) → KeepsCopies c c
 copies_same c = record { each = λ n. piece_same (copy_of c n); sectors = λ h. h; pair = refl; tells = refl; faults = λ copy device. omega arith; cut = λ h. h }

@@ -12,5 +12,6 @@ pub mod Pairs
 pub mod Putting
 pub mod Rounds
 pub mod Settling
+pub mod Staying
 pub mod Ways
 pub mod Whole

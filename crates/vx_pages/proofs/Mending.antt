@@ -10,7 +10,7 @@ use Rattle.vx_marks.specs.declared.marker.MarkFault.TheVariants.{Failed, PowerLo
 use Rattle.vx_pages.specs.Sector.{KeepsPiece, copy_of, held, faults_at, is_cut, HasCause, Holds}
 use Rattle.vx_pages.specs.Pieces.{PieceCause}
 use Rattle.vx_pages.specs.Reading.{HasRisen, IsFaultAt, IsGot, IsGotOn, IsMended, IsMendedOn, IsWhatIs, PieceRisen}
-use Rattle.vx_pages.proofs.Keeping.{piece_same}
+use Rattle.vx_pages.specs.Stays.{piece_same}
 use Rattle.vx_pages.proofs.Putting.{keeps_pair, no_second_step, first_cause, second_cause, faults_same, rose_on, and_first, and_second, whole_block}
 
 -- ---- one copy is read

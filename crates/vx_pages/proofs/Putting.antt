@@ -14,7 +14,7 @@ use Rattle.vx_marks.specs.declared.marker.MarkFault.{MarkFault}
 use Rattle.vx_marks.specs.declared.marker.MarkFault.TheVariants.{Failed, PowerLost, Busy}
 use Rattle.vx_pages.specs.Sector.{KeepsPiece, copy_of, held, faults_on, faults_at, is_cut, KeepsCopies, RiseAt, HasCause, Holds, IsPut}
 use Rattle.vx_pages.specs.Pieces.{PieceCause, IsPutOn}
-use Rattle.vx_pages.proofs.Keeping.{piece_same}
+use Rattle.vx_pages.specs.Stays.{piece_same}
 
 -- ---- one piece
 

@@ -44,11 +44,11 @@ reads_none s = record { copies = record { kept = copies_same s.copies; told = λ
 
 -- ---- arming
 
-told_if : (b : Bool) (stop : Option ℕ) (p : Seen) → (if b then p else record p { stop = stop }).told ≡ p.told
+pub told_if : (b : Bool) (stop : Option ℕ) (p : Seen) → (if b then p else record p { stop = stop }).told ≡ p.told
 told_if true stop p = refl
 told_if false stop p = refl
 
-sectors_if : (b : Bool) (stop : Option ℕ) (p : Seen) → (if b then p else record p { stop = stop }).sectors ≡ p.sectors
+pub sectors_if : (b : Bool) (stop : Option ℕ) (p : Seen) → (if b then p else record p { stop = stop }).sectors ≡ p.sectors
 sectors_if true stop p = refl
 sectors_if false stop p = refl
 
@@ -95,12 +95,12 @@ armed_pair stop f f' p q sure loose one two formed =
     sectors a b (suc n) = b
 
 -- an item of a list of which each is made another
-mapped_at : (stop : Option ℕ) (xs : List SectorSeen) (m : ℕ) → m < length xs → sector_at (armed_sectors stop xs) m ≡ armed_sector stop (sector_at xs m)
+pub mapped_at : (stop : Option ℕ) (xs : List SectorSeen) (m : ℕ) → m < length xs → sector_at (armed_sectors stop xs) m ≡ armed_sector stop (sector_at xs m)
 mapped_at stop [] m lt = absurd (omega arith)
 mapped_at stop (x ∷ xs) zero lt = refl
 mapped_at stop (x ∷ xs) (suc m) lt = mapped_at stop xs m (omega arith)
 
-second_armed : (stop : Option ℕ) (s : Option Seen) → is_some (option_map (armed stop) s) ≡ is_some s
+pub second_armed : (stop : Option ℕ) (s : Option Seen) → is_some (option_map (armed stop) s) ≡ is_some s
 second_armed stop None = refl
 second_armed stop (Some p) = refl
 

@@ -4,7 +4,7 @@ use Rattle.std.specs.Prelude.{◌&&◌, ◌||◌, not, is_some, if◌then◌else
 use Rattle.vx_mask.proofs.Tests.{not_both}
 use Rattle.vx_marks.specs.declared.marker.MarkFault.{MarkFault}
 use Rattle.vx_pages.specs.Sector.{SectorSeen, Copies, KeepsSector, Goes, BitSet, ShownSet, BitLeft, ShownLeft, Turns, SameBits, Swept, MaySweep, NoneLoose, BitPut, BitMay, ShownPut, ShownMay, BitOpened, IsFirm, tells, shown, is_loose, faults_at, is_cut, KeepsPiece, copy_of}
-use Rattle.vx_pages.proofs.Keeping.{piece_same, piece_then}
+use Rattle.vx_pages.specs.Stays.{piece_same, piece_then}
 
 pub keeps_none : (s : SectorSeen) → KeepsSector s s
 keeps_none s = record { each = λ n. piece_same (copy_of s.copies n); pair = refl; tells = refl; faults = λ copy device. omega arith; cut = λ h. h }

@@ -9,3 +9,4 @@ pub mod Pieces
 pub mod Reading
 pub mod Sector
 pub mod Sectors
+pub mod Stays

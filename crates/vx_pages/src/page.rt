@@ -21,7 +21,7 @@ pub struct Page<P: LocalPiece> {
 impl<P: LocalPiece> Page<P> {
     ghost use Rattle.vx_marks.specs.Log.{KeepsLog, MarkHasCause, OnMarks};
     ghost use Rattle.vx_pages.specs.Page.{page_log};
-    ghost use Rattle.vx_pages.specs.Pages.{page_seen};
+    ghost use Rattle.vx_pages.specs.Pages.{PageStays, page_seen};
     ghost use Rattle.vx_pages.specs.Firm.{FirmsAll};
 
     /// A page of a volume of so many regions, by its index, of its sectors in the order of the maps.
@@ -53,6 +53,7 @@ impl<P: LocalPiece> Page<P> {
         ensures told { OnMarks (FirmsAll result) (page_seen P.seen self.old).told (page_seen P.seen self.new).told }
         ensures claims { (region map : ℕ) → (page_seen P.seen self.new).claims region map ≡ (page_seen P.seen self.old).claims region map }
         ensures cause { MarkHasCause (page_seen P.seen self.old) (page_seen P.seen self.new) result }
+        ensures stays { PageStays P.seen self.old self.new }
     {
         firm_all(&mut self.sectors)
     }
@@ -102,10 +103,12 @@ impl<P: LocalPiece> Page<P> {
 
 impl<P: LocalPiece> Marker for Page<P> {
     ghost use Rattle.vx_pages.specs.Page.{page_log, sectors_seen};
+    ghost use Rattle.vx_pages.specs.Pages.{PageStays};
+    ghost use Rattle.vx_pages.specs.Stays.{page_same, page_then};
 
     ghost log = { λ page. page_log page.index page.regions (sectors_seen P.seen page.sectors.items) };
 
-    ghost follows = { λ x y. Unit {0} };
+    ghost follows = { λ x y. PageStays P.seen x y };
 
     fn marked(&self, region: u64) -> u64 {
         marks_at(&self.sectors, region)
@@ -119,7 +122,7 @@ impl<P: LocalPiece> Marker for Page<P> {
         unmark_all(&mut self.sectors, region, bits)
     }
 
-    ghost follows_same = { λ x. tt };
+    ghost follows_same = { λ x. page_same x };
 
-    ghost follows_on = { λ x y z first then. tt };
+    ghost follows_on = { λ x y z first then. page_then x y z first then };
 }

@@ -44,3 +44,9 @@ returns-clause-cause g c =
     let s = ap (λ base. sheet_faults copy device (sheets_seen g.P.LocalPiece.seen base.sheets)) c.firm.ensures.base in
     let q = c.in_default.ensures.cause copy device in omega (arith, a, b, e, s, q))
     c.write_heads-2.ensures.cause
+
+pub returns-clause-shape : goal.returns-clause-shape
+returns-clause-shape g c = c.write_heads-2.ensures.shape ∙ ap (λ base. base.shape) c.firm.ensures.base ∙ c.write_heads.ensures.shape
+
+pub returns-in-Err-firm-clause-shape : goal.returns-in-Err-firm-clause-shape
+returns-in-Err-firm-clause-shape g c = ap (λ base. base.shape) c.firm.ensures.base ∙ c.write_heads.ensures.shape

@@ -1,7 +1,7 @@
 use Rattle.std.proofs.Common.{refl, sym, subst, Bool, if◌then◌else◌}
 use Rattle.vx_pages.specs.Pages.{grid_seen}
 use Rattle.vx_pages.specs.Sector.{KeepsPiece}
-use Rattle.vx_pages.proofs.Keeping.{piece_same}
+use Rattle.vx_pages.specs.Stays.{piece_same}
 use Rattle.vx_maps.specs.Sheets.{sheets_seen}
 use Rattle.vx_maps.specs.Slots.{grid_faults}
 use Rattle.vx_maps.specs.Store.{AreOnCopies, pages_cut, pages_seen}

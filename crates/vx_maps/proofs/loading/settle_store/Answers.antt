@@ -9,7 +9,7 @@ use Rattle.vx_maps.proofs.Heads.{risen_add}
 use Rattle.vx_maps.proofs.Paged.{copied_goes, pages_goes}
 use Rattle.vx_maps.proofs.Refusing.{grid_pages}
 use Rattle.vx_maps.proofs.Steps.{settled_as, sheets_same}
-use Rattle.vx_pages.proofs.Keeping.{piece_same}
+use Rattle.vx_pages.specs.Stays.{piece_same}
 use Rattle.vx_maps.proofs.loading.settle_store.Goals as goal
 
 pub invariant_of-store : goal.invariant_of-store

@@ -1,6 +1,6 @@
 use Rattle.std.proofs.Common.{Err}
 use Rattle.vx_pages.specs.Sector.{KeepsPiece}
-use Rattle.vx_pages.proofs.Keeping.{piece_then}
+use Rattle.vx_pages.specs.Stays.{piece_then}
 use Rattle.vx_maps.specs.Cutness.{store_cut}
 use Rattle.vx_maps.specs.Wholes.{store_faults}
 use Rattle.vx_maps.proofs.Growing.{faults_grow}

@@ -48,3 +48,6 @@ returns-in-Ok-clause-told g c =
 pub returns-in-Ok-clause-refused : goal.returns-in-Ok-clause-refused
 returns-in-Ok-clause-refused g c =
     IfErr-weaker c.create_in.result _ _ (λ x h. refused_for x.fault (copies_seen g.P.Piece.seen c.args.copies.items) (store_faults g.P.Piece.seen c.in-Ok.cut.store) (copies_seen g.P.Piece.seen x.copies.items) c.in-Ok.ensures.faults h) c.create_in.ensures.refused
+
+pub returns-in-Ok-clause-shape : goal.returns-in-Ok-clause-shape
+returns-in-Ok-clause-shape g c = IfOk-weaker c.create_in.result _ _ (λ store same. same ∙ c.in-Ok.ensures.shape) c.create_in.ensures.shape

@@ -1,5 +1,5 @@
-use Rattle.std.proofs.Common.{sym, subst}
-use Rattle.std.proofs.lemmas.Result.{IfErr-weaker}
+use Rattle.std.proofs.Common.{◌∙◌, sym, subst}
+use Rattle.std.proofs.lemmas.Result.{IfErr-weaker, IfOk-weaker}
 use Rattle.vx_mapfmt.specs.declared.shape.DcoShape.{DcoShape}
 use Rattle.std.specs.Prelude.{is_some}
 use Rattle.vx_pages.specs.Pages.{grid_seen}
@@ -30,3 +30,6 @@ returns-in-Ok-cut_store-clause-refused g c =
     subst (λ (shape : DcoShape). IsNotLoaded (header_of shape) x.fault (copies_seen g.P.Piece.seen c.args.copies.items) (copies_seen g.P.Piece.seen x.copies.items)) c.in-Ok-cut_store.ensures.shape
     (not_loaded c.in-Ok-cut_store.cut.store (copies_seen g.P.Piece.seen c.args.copies.items) c.in-Ok-cut_store.ensures.same c.in-Ok-cut_store.ensures.faults (header_of c.in-Ok-cut_store.cut.store.base.shape) x.fault (copies_seen g.P.Piece.seen x.copies.items) h))
     c.load_in.ensures.refused
+
+pub returns-in-Ok-cut_store-clause-shape : goal.returns-in-Ok-cut_store-clause-shape
+returns-in-Ok-cut_store-clause-shape g c = IfOk-weaker c.load_in.result _ _ (λ store go. go.shape ∙ c.in-Ok-cut_store.ensures.shape) c.load_in.ensures.goes

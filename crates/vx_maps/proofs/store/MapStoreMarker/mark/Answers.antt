@@ -1,6 +1,10 @@
-use Rattle.std.proofs.Common.{◌∙◌, sym, ◌<◌, length, ◌/◌}
+use Rattle.std.proofs.Common.{◌∙◌, refl, sym, ◌<◌, length, ◌/◌}
 use Rattle.vx_marks.specs.Log.{IsMarkedAs, IsClaimedAs}
-use Rattle.vx_pages.specs.Pages.{page_seen}
+use Rattle.vx_pages.specs.Pages.{grid_seen, page_seen}
+use Rattle.vx_pages.specs.Sector.{KeepsPiece}
+use Rattle.vx_pages.specs.Stays.{piece_same}
+use Rattle.vx_maps.proofs.Paged.{grid_on, places_set}
+use Rattle.vx_maps.proofs.Steps.{grid_same, sheets_same}
 use Rattle.vx_maps.proofs.Storing.{has_page, size_seen, askable, there_is, paged_still, store_kept, store_told, store_claims, store_cause}
 use Rattle.vx_maps.proofs.Alike.{copies_still}
 use Rattle.vx_maps.proofs.store.MapStoreMarker.mark.Goals as goal
@@ -37,3 +41,13 @@ pub returns-clause-cause : goal.returns-clause-cause
 returns-clause-cause g c =
     let lt : c.args.region / 4096 < length c.args.self.now.pages.items = has_page c.args.self.now.base.shape.regions c.args.region _ (sym (size_seen (page_seen g.P.LocalPiece.seen) c.args.self.now.pages.items) ∙ c.args.self.now.paged.count) c.requires.known in
     store_cause (page_seen g.P.LocalPiece.seen) c.args.self.now.base.shape.regions c.args.region c.args.self.now.pages.items c.index_mut-page.result.now c.args.self.now.paged lt c.index_mut-page.ensures.value c.mark.new.self c.mark.ensures.kept c.mark.result c.mark.ensures.cause
+
+pub returns-clause-follows : goal.returns-clause-follows
+returns-clause-follows g c =
+    let lt : c.args.region / 4096 < length c.args.self.now.pages.items = has_page c.args.self.now.base.shape.regions c.args.region _ (sym (size_seen (page_seen g.P.LocalPiece.seen) c.args.self.now.pages.items) ∙ c.args.self.now.paged.count) c.requires.known in
+    record {
+      shape = refl;
+      places = places_set c.args.self.now.pages.items (c.args.region / 4096) c.index_mut-page.result.now c.mark.new.self c.index_mut-page.ensures.value c.mark.ensures.follows.place;
+      sheets = sheets_same KeepsPiece piece_same _;
+      grid = grid_on (grid_seen g.P.LocalPiece.seen c.args.self.now.pages.items) c.args.self.now.pages.items (c.args.region / 4096) c.index_mut-page.result.now c.mark.new.self lt c.index_mut-page.ensures.value (grid_same KeepsPiece piece_same _) c.mark.ensures.follows.pieces;
+    }

@@ -1,3 +1,5 @@
+use Rattle.std.proofs.Common.{refl}
+use Rattle.vx_pages.proofs.Staying.{firm_goes}
 use Rattle.std.proofs.Common.{◌∙◌}
 use Rattle.std.proofs.lemmas.List.{length-map}
 use Rattle.vx_pages.specs.Sectors.{sector_seen}
@@ -19,3 +21,6 @@ returns-clause-cause g c = page_cause c.args.self.now.index c.args.self.now.regi
 
 pub invariant_of-self-clause-paired : goal.invariant_of-self-clause-paired
 invariant_of-self-clause-paired g c = firm_paired _ _ c.firm_all.result c.firm_all.ensures.each c.args.self.now.paired
+
+pub returns-clause-stays : goal.returns-clause-stays
+returns-clause-stays g c = record { place = record { index = refl; regions = refl }; pieces = firm_goes _ _ c.firm_all.result c.firm_all.ensures.each }

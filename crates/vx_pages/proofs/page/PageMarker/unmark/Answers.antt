@@ -1,3 +1,5 @@
+use Rattle.std.proofs.Common.{refl}
+use Rattle.vx_pages.proofs.Staying.{unmark_goes}
 use Rattle.std.proofs.Common.{◌∙◌}
 use Rattle.std.proofs.lemmas.List.{length-map}
 use Rattle.vx_pages.specs.Sectors.{sector_seen}
@@ -25,3 +27,6 @@ returns-clause-cause g c = page_cause c.args.self.now.index c.args.self.now.regi
 
 pub invariant_of-self-clause-paired : goal.invariant_of-self-clause-paired
 invariant_of-self-clause-paired g c = unmark_paired c.args.bits c.args.region _ _ c.unmark_all.result c.unmark_all.ensures.each c.args.self.now.paired
+
+pub returns-clause-follows : goal.returns-clause-follows
+returns-clause-follows g c = record { place = record { index = refl; regions = refl }; pieces = unmark_goes c.args.bits c.args.region _ _ c.unmark_all.result c.unmark_all.ensures.each }

@@ -40,8 +40,8 @@ impl From<OutOfMemory> for Stop {
     }
 }
 
-/// Writes the line of an answer, and tells whether it is fine.
-fn write_line<B: Sink>(alloc: Global, sink: &mut B, answer: &Answer) -> Result<bool, Stop>
+/// Writes the line of an answer, and tells whether it is fine. The line's memory is used again for the next one.
+fn write_line<B: Sink>(sink: &mut B, line: &mut Vec<u8>, answer: &Answer) -> Result<bool, Stop>
     ensures written { OnOk result ((text : List ℕ) → B.taken sink.old ≡ Some text → B.taken sink.new ≡ Some (text ++ lines_of answer.now)) }
     ensures partly { OnErr result ((text : List ℕ) → B.taken sink.old ≡ Some text → (n : ℕ) × (B.taken sink.new ≡ Some (text ++ take n (lines_of answer.now)))) }
     ensures fine { IfOk result (λ fine. fine ≡ is_fine answer.now) }
@@ -50,9 +50,9 @@ fn write_line<B: Sink>(alloc: Global, sink: &mut B, answer: &Answer) -> Result<b
     ensures quiet_refused { IsErrOf result Stop.OutOfMemory → B.faults sink.new ≡ B.faults sink.old }
     ensures later { B.faults sink.old ≤ B.faults sink.new }
 {
-    let mut line = Vec::new(alloc);
-    put_answer(answer, &mut line)?;
-    match sink.write(&line) {
+    line.clear();
+    put_answer(answer, line)?;
+    match sink.write(line) {
         Ok(()) => Ok(is_fine(answer)),
         Err(_) => Err(Stop::SinkFailed),
     }
@@ -64,6 +64,7 @@ fn one_line<S: Shelf, B: Sink>(
     house: &mut House<S::P>,
     shelf: &mut S,
     sink: &mut B,
+    line: &mut Vec<u8>,
     command: &Command,
 ) -> Result<bool, Stop>
     requires kept { IsTrue (is_command command.now) }
@@ -83,7 +84,7 @@ fn one_line<S: Shelf, B: Sink>(
     ensures later { B.faults sink.old ≤ B.faults sink.new }
 {
     let answer = execute(alloc, house, shelf, command)?;
-    write_line(alloc, sink, &answer)
+    write_line(sink, line, &answer)
 }
 
 fn both(one: bool, other: bool) -> bool
@@ -116,8 +117,9 @@ fn all_lines<S: Shelf, B: Sink>(
     ensures later { B.faults sink.old ≤ B.faults sink.new }
 {
     let mut fine = true;
+    let mut line = Vec::new(alloc);
     for command in commands {
-        let this = one_line(alloc, house, shelf, sink, command)?;
+        let this = one_line(alloc, house, shelf, sink, &mut line, command)?;
         fine = both(fine, this);
     }
     Ok(fine)

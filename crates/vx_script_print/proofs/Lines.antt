@@ -1,6 +1,6 @@
 -- A reader goes over a text line by line, and takes the lines of a record text as they are.
 use Rattle.std.proofs.Common.{◌≡◌, ◌∙◌, sym, ap, subst, refl, ℕ, ◌+◌, ◌<◌, inl, inr, true, false, List, [], ◌∷◌, ◌++◌, length, arith, Option, None, Ok}
-use Rattle.std.specs.Prelude.{codes, not, is_none, ◌==◌}
+use Rattle.std.specs.Prelude.{codes, is_none, ◌==◌}
 use Rattle.std.specs.List.{list_all}
 use Rattle.std.specs.Str.{bytes_eq}
 use Rattle.std.proofs.lemmas.List.{append-nil, append_assoc}
@@ -17,7 +17,7 @@ use Rattle.vx_script_words.specs.Spelling.{Spells, spelled, begun}
 use Rattle.vx_script_words.specs.Words.{is_not_blank, from_word}
 use Rattle.vx_script_words.proofs.Plain.{is_dark, is_dark_word, is_not, all_by}
 use Rattle.vx_script_words.proofs.Spelled.{is_word, begun_words}
-use Rattle.vx_script_print.proofs.Sorts.{all_that}
+use Rattle.vx_script_print.proofs.Sorts.{ands, all_that}
 
 -- behind the text the reader is the other one, whatever comes then
 abbrev pub Reaches : Reader → List ℕ → Reader → Type 0
@@ -37,8 +37,7 @@ and_on r s t x y f g n rest =
 line_from : (begun_ line rest : List ℕ) → list_all (is_not 10) line ≡ true → lines_from begun_ (line ++ 10 ∷ rest) ≡ (begun_ ++ line) ∷ lines_from [] rest
 line_from begun_ [] rest h = ap (λ b. b ∷ lines_from [] rest) (sym (append-nil begun_))
 line_from begun_ (b ∷ bs) rest h =
-    let parts = and_parts (is_not 10 b) (list_all (is_not 10) bs) h in
-    cond-false _ _ _ (not-true (b == 10) parts.0) ∙ line_from (begun_ ++ b ∷ []) bs rest parts.1 ∙ ap (λ t. t ∷ lines_from [] rest) (append_assoc begun_ (b ∷ []) bs)
+    cond-false _ _ _ (not-true (b == 10) (search ands)) ∙ line_from (begun_ ++ b ∷ []) bs rest (search ands) ∙ ap (λ t. t ∷ lines_from [] rest) (append_assoc begun_ (b ∷ []) bs)
 
 pub one_line : (r next : Reader) (line : List ℕ) → list_all (is_not 10) line ≡ true → step r line ≡ Ok next → Reaches r (line ++ 10 ∷ []) next
 unfolding lines_of
@@ -66,8 +65,7 @@ other_byte c b low h = let above : 32 < b = ltb-true 32 b h in ne_eqb b c (λ e.
 spelled_one_line : (ws : List (List ℕ)) → list_all is_dark_word ws ≡ true → list_all (is_not 10) (spelled ws) ≡ true
 spelled_one_line [] h = refl
 spelled_one_line (w ∷ ws) h =
-    let parts = and_parts (is_dark_word w) (list_all is_dark_word ws) h in
-    list_all-append (is_not 10) w (spelled ws) ∙ and_from _ _ (all_by is_dark (is_not 10) (λ b d. not_from_false _ (other_byte 10 b (omega arith) d)) w (word_bytes w parts.0)) (spelled_one_line ws parts.1)
+    list_all-append (is_not 10) w (spelled ws) ∙ and_from _ _ (all_by is_dark (is_not 10) (λ b d. not_from_false _ (other_byte 10 b (omega arith) d)) w (word_bytes w (search ands))) (spelled_one_line ws (search ands))
 
 begun_one_line : (ws : List (List ℕ)) → list_all is_dark_word ws ≡ true → list_all (is_not 10) (begun ws) ≡ true
 begun_one_line [] h = refl
@@ -108,8 +106,7 @@ module _ (done : List Command) (group : Option (List ℕ)) (cut : Option ℕ) wh
   record_step : (text line : List ℕ) → is_record_line line ≡ true → step (making text) line ≡ Ok (making (text ++ line ++ 10 ∷ []))
   unfolding step
   record_step text line h =
-      let parts = and_parts (is_none (bad_word line)) (not (bytes_eq line (codes "end"))) h in
-      cond-false _ _ _ (not-true (bytes_eq line (codes "end")) parts.1) ∙ ap (λ o. or_bad o (making (text ++ line ++ 10 ∷ []))) (none_is (bad_word line) parts.0)
+      cond-false _ _ _ (not-true (bytes_eq line (codes "end")) (search ands)) ∙ ap (λ o. or_bad o (making (text ++ line ++ 10 ∷ []))) (none_is (bad_word line) (search ands))
 
   -- the bytes that are left, behind those of a begun line
   takes : (text begun bs : List ℕ) → list_all is_record_line (lines_from begun bs) ≡ true → ends_line bs ≡ true → (bs ≡ [] → begun ≡ []) → (n : ℕ) (rest : List ℕ) → (k : ℕ) × (commands_from (making text) n (lines_from begun (bs ++ rest)) ≡ commands_from (making (text ++ (begun ++ bs))) k (lines_from [] rest))
@@ -132,4 +129,4 @@ module _ (done : List Command) (group : Option (List ℕ)) (cut : Option ℕ) wh
 
   pub records_read : (text : List ℕ) → is_made text ≡ true → Reaches (making []) text (making text)
   unfolding lines_of
-  records_read text h = let parts = and_parts (list_all is_record_line (lines_of text)) (ends_line text) h in takes [] [] text parts.0 parts.1 (λ e. refl)
+  records_read text h = takes [] [] text (search ands) (search ands) (λ e. refl)

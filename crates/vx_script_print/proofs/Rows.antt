@@ -1,6 +1,6 @@
 -- The parts of a form read the words that are printed of their values, and leave those behind them.
-use Rattle.std.proofs.Common.{◌≡◌, ◌∙◌, sym, ap, subst, refl, ℕ, zero, suc, ◌*◌, ◌/◌, ◌-◌, ◌%◌, ◌^◌, ◌<◌, ◌≤◌, inl, inr, Bool, true, false, List, [], ◌∷◌, ◌++◌, map, length, take, drop, arith, Option, Some, None, Ok, Err, leb-true, le-leb, ltb-true, eqb-true, eq-eqb, cond}
-use Rattle.std.specs.Prelude.{codes, decimal, is_some, is_none, nat_lt, nat_le, ◌==◌, ◌&&◌, ◌||◌}
+use Rattle.std.proofs.Common.{◌≡◌, ◌∙◌, sym, ap, subst, refl, ℕ, zero, suc, ◌*◌, ◌/◌, ◌-◌, ◌^◌, ◌≤◌, inl, inr, Bool, true, false, List, [], ◌∷◌, ◌++◌, map, length, take, drop, arith, Option, Some, None, Ok, Err, ltb-true, eq-eqb, cond}
+use Rattle.std.specs.Prelude.{codes, decimal, is_some, is_none, nat_lt, ◌==◌, ◌&&◌, ◌||◌}
 use Rattle.std.specs.List.{list_all}
 use Rattle.std.specs.Str.{bytes_eq}
 use Rattle.std.proofs.lemmas.List.{append-nil, append_assoc, length-append, length-take, length-drop, length-map, map-id, take-append-drop}
@@ -16,7 +16,7 @@ use Rattle.vx_script_forms.specs.Table.{items_of}
 use Rattle.vx_script_forms.specs.declared.kind.Kind.{Kind}
 use Rattle.vx_script_forms.specs.declared.kind.Kind.TheVariants as kind
 use Rattle.vx_script_print.specs.Text.{class_word, value_text, cut_blocks, words_of, row_words, cut_words}
-use Rattle.vx_script_words.specs.Class.{class_value, value_behind, as_name}
+use Rattle.vx_script_words.specs.Class.{class_value, value_behind}
 use Rattle.vx_script_words.specs.Fits.{is_byte, is_pair, are_blocks, is_between, pair_word, of_item, are_of}
 use Rattle.vx_script_words.specs.Hex.{block_of}
 use Rattle.vx_script_words.specs.Key.{text_of}

@@ -1,6 +1,6 @@
 -- What is printed of a value says the value, and has no blank.
 use Rattle.std.proofs.Common.{◌≡◌, ◌∙◌, sym, ap, refl, ℕ, zero, suc, ◌-◌, ◌*◌, ◌/◌, ◌%◌, ◌^◌, ◌<◌, ◌≤◌, inl, inr, Bool, true, false, List, [], ◌∷◌, ◌++◌, length, take, drop, arith, Option, Some, None}
-use Rattle.std.specs.Prelude.{codes, decimal, is_some, is_none, not, nat_le, nat_lt, ◌==◌, ◌&&◌, ◌||◌}
+use Rattle.std.specs.Prelude.{codes, decimal, is_some, not, nat_le, nat_lt, ◌==◌, ◌&&◌, ◌||◌}
 use Rattle.std.specs.List.{list_all}
 use Rattle.std.proofs.lemmas.Bool.{and_parts, not-true, and_from, or_cases, both_ways, cond-true, cond-false, eqb-true, leb-true, ltb-true}
 use Rattle.std.proofs.lemmas.Bool.Decides.{nat_tests}
@@ -8,7 +8,7 @@ use Rattle.std.proofs.lemmas.List.{append-nil, append_assoc, length-append, take
 use Rattle.std.proofs.lemmas.List.Folds.{list_all-append}
 use Rattle.std.proofs.lemmas.Slice.Eq.{bytes_eq-Decides}
 use Rattle.vx_block.proofs.WordLemmas.{word_again}
-use Rattle.vx_block.specs.Reading.{AreBytes, spelled_block, is_hex_digit, is_short_word, is_long_word, is_block_word, spelled_block, digit_value, byte_value}
+use Rattle.vx_block.specs.Reading.{AreBytes, spelled_block, is_hex_digit, is_short_word, is_long_word, is_block_word, spelled_block, byte_value}
 use Rattle.vx_block.specs.Word.{hex, hex_digit, block_word}
 use Rattle.vx_names.specs.Form.{is_name}
 use Rattle.vx_names.specs.Length.{numeral_front}

@@ -11,13 +11,13 @@ use Rattle.vx_script.specs.Lines.{lines_from, lines_of, bad_word, begins_comment
 use Rattle.vx_script.specs.Script.{commands_from, stepped}
 use Rattle.vx_script.specs.Steps.{step, or_bad}
 use Rattle.vx_script.specs.declared.command.Command.{Command}
-use Rattle.vx_script.specs.declared.reader.Open.TheVariants.{Making}
 use Rattle.vx_script.specs.declared.reader.Reader.{Reader}
 use Rattle.vx_script_words.specs.Spelling.{Spells, spelled, begun}
 use Rattle.vx_script_words.specs.Words.{is_not_blank, from_word}
 use Rattle.vx_script_words.proofs.Plain.{is_dark, is_dark_word, is_not, all_by}
 use Rattle.vx_script_words.proofs.Spelled.{is_word, begun_words}
 use Rattle.vx_script_print.proofs.Sorts.{ands, all_that}
+use Rattle.vx_script.specs.declared.reader.Open.{Open}
 
 -- behind the text the reader is the other one, whatever comes then
 abbrev pub Reaches : Reader → List ℕ → Reader → Type 0
@@ -101,7 +101,7 @@ none_is o h = absurd (both_ways false refl h)
 
 module _ (done : List Command) (group : Option (List ℕ)) (cut : Option ℕ) where
   abbrev pub making : List ℕ → Reader
-  making text = record { done = done; begun = Making group cut text }
+  making text = record { done = done; begun = Open.Making group cut text }
 
   record_step : (text line : List ℕ) → is_record_line line ≡ true → step (making text) line ≡ Ok (making (text ++ line ++ 10 ∷ []))
   unfolding step

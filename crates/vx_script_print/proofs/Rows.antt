@@ -14,7 +14,6 @@ use Rattle.vx_block.specs.Word.{block_word}
 use Rattle.vx_script.specs.Kept.{maybe_cut}
 use Rattle.vx_script_forms.specs.Table.{items_of}
 use Rattle.vx_script_forms.specs.declared.kind.Kind.{Kind}
-use Rattle.vx_script_forms.specs.declared.kind.Kind.TheVariants as kind
 use Rattle.vx_script_print.specs.Text.{class_word, value_text, cut_blocks, words_of, row_words, cut_words}
 use Rattle.vx_script_words.specs.Class.{class_value, value_behind}
 use Rattle.vx_script_words.specs.Fits.{is_byte, is_pair, are_blocks, is_between, pair_word, of_item, are_of}
@@ -26,13 +25,9 @@ use Rattle.vx_script_words.specs.Spelling.{Spells}
 use Rattle.vx_script_words.specs.Words.{from_word, first_word, past_word}
 use Rattle.vx_script_words.specs.declared.class.Class.{Class}
 use Rattle.vx_script_words.specs.declared.class.Item.{Item}
-use Rattle.vx_script_words.specs.declared.class.Item.TheVariants.{One, Maybe, Group, NoGroup, Names, Pairs, Blocks}
 use Rattle.vx_script_words.specs.declared.class.Sort.{Sort}
-use Rattle.vx_script_words.specs.declared.class.Sort.TheVariants as sort
 use Rattle.vx_script_words.specs.declared.key.Key.{Key}
-use Rattle.vx_script_words.specs.declared.key.Key.TheVariants as key
 use Rattle.vx_script_words.specs.declared.value.Value.{Value}
-use Rattle.vx_script_words.specs.declared.value.Value.TheVariants as value
 use Rattle.vx_script_words.proofs.Plain.{is_dark_word, name_parts, name_word}
 use Rattle.vx_script_words.proofs.Spelled.{few_words}
 use Rattle.vx_script_print.proofs.Sorts.{ands, right_of, all_that, behind_front, name_said, pair_said, pair_shown, text_word, is_one_block, block_said, block_is_word, ranged_said, is_fair_class, class_shown, is_fixed}
@@ -50,28 +45,28 @@ so values rest = record { values = values; rest = rest }
 
 -- such a word ends the part
 abbrev Ends : Item → List ℕ → Type 0
-Ends (Maybe c) w = class_value c w ≡ None
-Ends Group w = bytes_eq w (codes "-g") ≡ false
-Ends Names w = name_of w ≡ None
-Ends Pairs w = pair_of w ≡ None
-Ends Blocks w = block_of w ≡ None
+Ends (Item.Maybe c) w = class_value c w ≡ None
+Ends Item.Group w = bytes_eq w (codes "-g") ≡ false
+Ends Item.Names w = name_of w ≡ None
+Ends Item.Pairs w = pair_of w ≡ None
+Ends Item.Blocks w = block_of w ≡ None
 Ends i w = Unit {0}
 
 -- this holds of each word that may come first, whatever stands behind its front
 abbrev Firsts : (List ℕ → Type 0) → List Item → Type 0
 Firsts P [] = (x : List ℕ) → P (codes "cut=" ++ x)
-Firsts P (One d ∷ is) = (x : List ℕ) → P (text_of d.front ++ x)
-Firsts P (Maybe d ∷ is) = ((x : List ℕ) → P (text_of d.front ++ x)) × Firsts P is
-Firsts P (NoGroup ∷ is) = Firsts P is
-Firsts P (Names ∷ is) = ((n : List ℕ) → is_name n ≡ true → P n) × Firsts P is
+Firsts P (Item.One d ∷ is) = (x : List ℕ) → P (text_of d.front ++ x)
+Firsts P (Item.Maybe d ∷ is) = ((x : List ℕ) → P (text_of d.front ++ x)) × Firsts P is
+Firsts P (Item.NoGroup ∷ is) = Firsts P is
+Firsts P (Item.Names ∷ is) = ((n : List ℕ) → is_name n ≡ true → P n) × Firsts P is
 Firsts P is = ⊥
 
 -- the words of the part can be told from those behind them
 abbrev Told : Item → List Item → Type 0
-Told (One c) is = is_fair_class c ≡ true
-Told (Maybe c) is = (is_fair_class c ≡ true) × (class_value c [] ≡ None) × Firsts (Ends (Maybe c)) is
-Told Group is = Firsts (Ends Group) is
-Told NoGroup is = Unit {0}
+Told (Item.One c) is = is_fair_class c ≡ true
+Told (Item.Maybe c) is = (is_fair_class c ≡ true) × (class_value c [] ≡ None) × Firsts (Ends (Item.Maybe c)) is
+Told Item.Group is = Firsts (Ends Item.Group) is
+Told Item.NoGroup is = Unit {0}
 Told i is = is ≡ []
 
 abbrev pub Clear : List Item → Type 0
@@ -96,19 +91,19 @@ ruleset fronts = (no_front, no_name)
 
 pub all_clear : (k : Kind) → Clear (items_of k)
 unfolding class_value
-all_clear kind.Read = search fronts
+all_clear Kind.Read = search fronts
 all_clear k = search fronts depth 40
 
 first_has : (P : List ℕ → Type 0) → P [] → (is : List Item) (vs : List Value) (cut : Option ℕ) → Firsts P is → are_of is vs ≡ true → P (head_word (row_words is vs ++ cut_words cut))
 first_has P none [] [] None b a = none
 first_has P none [] [] (Some n) b a = b (decimal n)
-first_has P none (One d ∷ is) (v ∷ vs) cut b a = b (value_text d.sort v)
-first_has P none (Maybe d ∷ is) (value.Nothing ∷ vs) cut b a = first_has P none is vs cut b.1 a
-first_has P none (Maybe d ∷ is) (v ∷ vs) cut b a = b.0 (value_text d.sort v)
-first_has P none (NoGroup ∷ is) (v ∷ vs) cut b a = first_has P none is vs cut b (search ands)
-first_has P none (Names ∷ is) (value.Names [] ∷ vs) cut b a = first_has P none is vs cut b.1 a
-first_has P none (Names ∷ is) (value.Names (n ∷ ns) ∷ vs) cut b a = b.0 n (search ands)
-first_has P none (Names ∷ is) (v ∷ vs) cut b a = absurd (both_ways false refl a)
+first_has P none (Item.One d ∷ is) (v ∷ vs) cut b a = b (value_text d.sort v)
+first_has P none (Item.Maybe d ∷ is) (Value.Nothing ∷ vs) cut b a = first_has P none is vs cut b.1 a
+first_has P none (Item.Maybe d ∷ is) (v ∷ vs) cut b a = b.0 (value_text d.sort v)
+first_has P none (Item.NoGroup ∷ is) (v ∷ vs) cut b a = first_has P none is vs cut b (search ands)
+first_has P none (Item.Names ∷ is) (Value.Names [] ∷ vs) cut b a = first_has P none is vs cut b.1 a
+first_has P none (Item.Names ∷ is) (Value.Names (n ∷ ns) ∷ vs) cut b a = b.0 n (search ands)
+first_has P none (Item.Names ∷ is) (v ∷ vs) cut b a = absurd (both_ways false refl a)
 first_has P none (i ∷ is) (v ∷ vs) cut b a = absurd b
 first_has P none is vs cut b a = absurd (both_ways false refl a)
 
@@ -120,14 +115,14 @@ cut_said n h = ap number_behind (behind_front (codes "cut=") (decimal n)) ∙ ra
 
 part_ends : (i : Item) (is : List Item) (vs : List Value) (cut : Option ℕ) → Told i is → are_of is vs ≡ true → maybe_cut cut ≡ true → Ends i (head_word (row_words is vs ++ cut_words cut))
 unfolding block_of
-part_ends (One c) is vs cut e a short = tt
-part_ends NoGroup is vs cut e a short = tt
-part_ends (Maybe c) is vs cut e a short = first_has (Ends (Maybe c)) e.1 is vs cut e.2 a
-part_ends Group is vs cut e a short = first_has (Ends Group) refl is vs cut e a
+part_ends (Item.One c) is vs cut e a short = tt
+part_ends Item.NoGroup is vs cut e a short = tt
+part_ends (Item.Maybe c) is vs cut e a short = first_has (Ends (Item.Maybe c)) e.1 is vs cut e.2 a
+part_ends Item.Group is vs cut e a short = first_has (Ends Item.Group) refl is vs cut e a
 part_ends i [] vs None e a short = refl
-part_ends Names [] vs (Some n) e a short = no_name (decimal n)
-part_ends Pairs [] vs (Some n) e a short = cond-true _ _ _ (ap is_some (cut_said n short))
-part_ends Blocks [] vs (Some n) e a short =
+part_ends Item.Names [] vs (Some n) e a short = no_name (decimal n)
+part_ends Item.Pairs [] vs (Some n) e a short = cond-true _ _ _ (ap is_some (cut_said n short))
+part_ends Item.Blocks [] vs (Some n) e a short =
     let word : List ℕ = codes "cut=" ++ decimal n in
     let few : length (decimal n) ≤ 31 = decimal_short n (grind (arith, nat_tests)) in
     cond-false _ _ _ (or_from _ _ (and_left _ _ (and_right (length word == 3) false refl)) (and_left _ _ (ne_eqb (length word) 1024 (λ e. omega (arith, few, e)))))
@@ -205,24 +200,24 @@ one_is c old t ws o s says = ap (λ f. taken (class_value c f) old (from_word t)
 
 -- the part reads the words of the value, and leaves those behind them
 part_reads : (i : Item) (is : List Item) (v : Value) (ws : List (List ℕ)) → Told i is → of_item i v ≡ true → Ends i (head_word ws) → (t : List ℕ) (old : List Value) → Spells t (words_of i v ++ ws) → (rest : List ℕ) × (item i old t ≡ Ok (so (old ++ v ∷ []) rest)) × Spells rest ws
-part_reads (One c) is v ws f h none t old s = (past_word (from_word t), one_is c old t (class_word c v ∷ ws) (Some v) s (class_shown c v f h).says, s.2)
-part_reads (Maybe c) is value.Nothing ws f h none t old s = (t, ap (λ g. or_else g (with_value old value.Nothing t)) (one_is c old t ws None s none), s)
-part_reads (Maybe c) is v ws f h none t old s = (past_word (from_word t), ap (λ g. or_else g (with_value old value.Nothing t)) (one_is c old t (class_word c v ∷ ws) (Some v) s (class_shown c v f.0 h).says), s.2)
-part_reads Group is value.Nothing ws f h none t old s = (t, cond-false _ _ _ (ap (λ w. bytes_eq w (codes "-g")) (first_is t ws s) ∙ none), s)
-part_reads Group is (value.Named name) ws f h none t old s = (past_word (from_word (past_word (from_word t))), cond-true _ _ _ (ap (λ w. bytes_eq w (codes "-g")) s.1) ∙ one_is any_name old (past_word (from_word t)) (name ∷ ws) (Some (value.Named name)) s.2 (class_shown any_name (value.Named name) refl h).says, s.2.2)
-part_reads NoGroup is value.Nothing ws f h none t old s = (t, refl, s)
-part_reads Names is (value.Names names) ws f h none t old s =
+part_reads (Item.One c) is v ws f h none t old s = (past_word (from_word t), one_is c old t (class_word c v ∷ ws) (Some v) s (class_shown c v f h).says, s.2)
+part_reads (Item.Maybe c) is Value.Nothing ws f h none t old s = (t, ap (λ g. or_else g (with_value old Value.Nothing t)) (one_is c old t ws None s none), s)
+part_reads (Item.Maybe c) is v ws f h none t old s = (past_word (from_word t), ap (λ g. or_else g (with_value old Value.Nothing t)) (one_is c old t (class_word c v ∷ ws) (Some v) s (class_shown c v f.0 h).says), s.2)
+part_reads Item.Group is Value.Nothing ws f h none t old s = (t, cond-false _ _ _ (ap (λ w. bytes_eq w (codes "-g")) (first_is t ws s) ∙ none), s)
+part_reads Item.Group is (Value.Named name) ws f h none t old s = (past_word (from_word (past_word (from_word t))), cond-true _ _ _ (ap (λ w. bytes_eq w (codes "-g")) s.1) ∙ one_is any_name old (past_word (from_word t)) (name ∷ ws) (Some (Value.Named name)) s.2 (class_shown any_name (Value.Named name) refl h).says, s.2.2)
+part_reads Item.NoGroup is Value.Nothing ws f h none t old s = (t, refl, s)
+part_reads Item.Names is (Value.Names names) ws f h none t old s =
     let few : length names ≤ length t = omega (arith, few_words t (names ++ ws) s, length-append names ws) in
     let g = gathers name_of pushed (λ w. w) is_name name_said ws none (length t) names [] t h few (subst (λ xs. Spells t (xs ++ ws)) (sym (map-id names)) s) in
-    (g.0, ap (λ f. Ok (said old value.Names f)) g.1 ∙ ap (λ ns. Ok (with_value old (value.Names ns) g.0)) (all_pushed [] names), g.2)
-part_reads Pairs is (value.Pairs (p ∷ ps)) ws f h none t old s =
+    (g.0, ap (λ f. Ok (said old Value.Names f)) g.1 ∙ ap (λ ns. Ok (with_value old (Value.Names ns) g.0)) (all_pushed [] names), g.2)
+part_reads Item.Pairs is (Value.Pairs (p ∷ ps)) ws f h none t old s =
     let few : length ps ≤ length (past_word (from_word t)) = omega (arith, few_words (past_word (from_word t)) (map pair_word ps ++ ws) s.2, length-append (map pair_word ps) ws, length-map ps pair_word) in
-    let g = some_gather pair_of pushed pair_word is_pair pair_said ws none (length (past_word (from_word t))) p ps (λ x. x ∷ []) value.Pairs old t (right_of (nat_lt 0 (length (p ∷ ps))) (list_all is_pair (p ∷ ps)) h) few s in
-    (g.0, g.1 ∙ ap (λ xs. Ok (with_value old (value.Pairs xs) g.0)) (all_pushed (p ∷ []) ps), g.2)
-part_reads Blocks is (value.Blocks bytes) ws f h none t old s =
+    let g = some_gather pair_of pushed pair_word is_pair pair_said ws none (length (past_word (from_word t))) p ps (λ x. x ∷ []) Value.Pairs old t (right_of (nat_lt 0 (length (p ∷ ps))) (list_all is_pair (p ∷ ps)) h) few s in
+    (g.0, g.1 ∙ ap (λ xs. Ok (with_value old (Value.Pairs xs) g.0)) (all_pushed (p ∷ []) ps), g.2)
+part_reads Item.Blocks is (Value.Blocks bytes) ws f h none t old s =
     let w = whole_blocks bytes h in
-    let g = some_gather block_of joined block_word is_one_block block_said ws none 63 (take 512 bytes) (cut_blocks w.more (drop 512 bytes)) (λ b. b) value.Blocks old t w.blocks.good (omega (arith, w.few, w.blocks.count)) (subst (λ (n : ℕ). Spells t (map block_word (cut_blocks n bytes) ++ ws)) w.count s) in
-    (g.0, g.1 ∙ ap (λ xs. Ok (with_value old (value.Blocks xs) g.0)) (w.blocks.whole []), g.2)
+    let g = some_gather block_of joined block_word is_one_block block_said ws none 63 (take 512 bytes) (cut_blocks w.more (drop 512 bytes)) (λ b. b) Value.Blocks old t w.blocks.good (omega (arith, w.few, w.blocks.count)) (subst (λ (n : ℕ). Spells t (map block_word (cut_blocks n bytes) ++ ws)) w.count s) in
+    (g.0, g.1 ∙ ap (λ xs. Ok (with_value old (Value.Blocks xs) g.0)) (w.blocks.whole []), g.2)
 part_reads i is v ws f h none t old s = absurd (both_ways false refl h)
 
 row_reads : (is : List Item) (vs : List Value) (cut : Option ℕ) → Clear is → are_of is vs ≡ true → maybe_cut cut ≡ true → (t : List ℕ) (old : List Value) → Spells t (row_words is vs ++ cut_words cut) → (rest : List ℕ) × (items is (Ok (so old t)) ≡ Ok (so (old ++ vs) rest)) × Spells rest (cut_words cut)
@@ -254,20 +249,20 @@ row_read b cut is vs t h c a s =
 -- ---- no word has a blank or a newline
 
 part_dark : (i : Item) (is : List Item) (v : Value) → Told i is → of_item i v ≡ true → list_all is_dark_word (words_of i v) ≡ true
-part_dark (One c) is v f h = and_from _ _ (class_shown c v f h).dark refl
-part_dark (Maybe c) is value.Nothing f h = refl
-part_dark (Maybe c) is v f h = and_from _ _ (class_shown c v f.0 h).dark refl
-part_dark Group is (value.Named name) f h = and_from _ _ (name_word name h) refl
-part_dark Names is (value.Names names) f h = all_that is_name is_dark_word name_word names h
-part_dark Pairs is (value.Pairs pairs) f h = list_all-map is_dark_word pair_word pairs ∙ all_that is_pair (λ p. is_dark_word (pair_word p)) (λ p k. text_word (pair_word p) (pair_shown p k)) pairs (search ands)
-part_dark Blocks is (value.Blocks bytes) f h =
+part_dark (Item.One c) is v f h = and_from _ _ (class_shown c v f h).dark refl
+part_dark (Item.Maybe c) is Value.Nothing f h = refl
+part_dark (Item.Maybe c) is v f h = and_from _ _ (class_shown c v f.0 h).dark refl
+part_dark Item.Group is (Value.Named name) f h = and_from _ _ (name_word name h) refl
+part_dark Item.Names is (Value.Names names) f h = all_that is_name is_dark_word name_word names h
+part_dark Item.Pairs is (Value.Pairs pairs) f h = list_all-map is_dark_word pair_word pairs ∙ all_that is_pair (λ p. is_dark_word (pair_word p)) (λ p k. text_word (pair_word p) (pair_shown p k)) pairs (search ands)
+part_dark Item.Blocks is (Value.Blocks bytes) f h =
     let w = whole_blocks bytes h in
     ap (λ n. list_all is_dark_word (map block_word (cut_blocks n bytes))) w.count ∙ list_all-map is_dark_word block_word (cut_blocks (suc w.more) bytes) ∙ all_that is_one_block (λ b. is_dark_word (block_word b)) block_is_word (cut_blocks (suc w.more) bytes) w.blocks.good
 part_dark i is v f h = refl
 
 pub line_dark : (is : List Item) (vs : List Value) (cut : Option ℕ) → Clear is → are_of is vs ≡ true → maybe_cut cut ≡ true → list_all is_dark_word (row_words is vs ++ cut_words cut) ≡ true
 line_dark [] vs None c a short = refl
-line_dark [] vs (Some n) c a short = and_from _ _ (class_shown (record { front = key.Cut; sort = sort.Number 0 (2 ^ 40 - 1) }) (value.Number n) refl (cut_fits n short)).dark refl
+line_dark [] vs (Some n) c a short = and_from _ _ (class_shown (record { front = Key.Cut; sort = Sort.Number 0 (2 ^ 40 - 1) }) (Value.Number n) refl (cut_fits n short)).dark refl
 line_dark (i ∷ is) [] cut c a short = absurd (both_ways false refl a)
 line_dark (i ∷ is) (v ∷ vs) cut c a short =
     ap (list_all is_dark_word) (append_assoc (words_of i v) (row_words is vs) (cut_words cut)) ∙ list_all-append is_dark_word (words_of i v) (row_words is vs ++ cut_words cut) ∙ and_from _ _ (part_dark i is v c.0 (search ands)) (line_dark is vs cut c.1 (search ands) short)
@@ -276,27 +271,27 @@ line_dark (i ∷ is) (v ∷ vs) cut c a short =
 
 -- no line of these parts begins with the word
 abbrev refuses : Bool → List Item → List ℕ → Bool
-refuses b (One c ∷ is) w = is_none (class_value c w)
-refuses b (Maybe c ∷ is) w = is_none (class_value c w) && refuses b is w
-refuses b (Names ∷ is) w = is_none (name_of w) && refuses b is w
+refuses b (Item.One c ∷ is) w = is_none (class_value c w)
+refuses b (Item.Maybe c ∷ is) w = is_none (class_value c w) && refuses b is w
+refuses b (Item.Names ∷ is) w = is_none (name_of w) && refuses b is w
 refuses true [] w = is_none (cut_of w)
 refuses false [] w = true
 refuses b is w = false
 
 -- no line is of these parts and of those
 abbrev pub are_apart : Bool → List Item → List Item → Bool
-are_apart b (One c ∷ is) (One d ∷ js) = (is_fixed d.sort && refuses b (One c ∷ is) (text_of d.front)) || are_apart b is js
-are_apart b (Group ∷ is) (Group ∷ js) = are_apart b is js
-are_apart b (NoGroup ∷ is) (NoGroup ∷ js) = are_apart b is js
-are_apart b is (One d ∷ js) = is_fixed d.sort && refuses b is (text_of d.front)
+are_apart b (Item.One c ∷ is) (Item.One d ∷ js) = (is_fixed d.sort && refuses b (Item.One c ∷ is) (text_of d.front)) || are_apart b is js
+are_apart b (Item.Group ∷ is) (Item.Group ∷ js) = are_apart b is js
+are_apart b (Item.NoGroup ∷ is) (Item.NoGroup ∷ js) = are_apart b is js
+are_apart b is (Item.One d ∷ js) = is_fixed d.sort && refuses b is (text_of d.front)
 are_apart b is js = false
 
 -- a fixed word is its front
 fixed_is : (k : Key) (s : Sort) (w : List ℕ) → is_fixed s ≡ true → accepts (record { front = k; sort = s }) w ≡ true → w ≡ text_of k
 unfolding class_value
-fixed_is k sort.Word w f a = by_front (bytes_eq (take (length (text_of k)) w) (text_of k)) (drop (length (text_of k)) w) refl refl a
+fixed_is k Sort.Word w f a = by_front (bytes_eq (take (length (text_of k)) w) (text_of k)) (drop (length (text_of k)) w) refl refl a
   where
-    by_front : (q : Bool) (rest : List ℕ) → bytes_eq (take (length (text_of k)) w) (text_of k) ≡ q → drop (length (text_of k)) w ≡ rest → is_some (value_behind sort.Word (cond q (Some rest) None)) ≡ true → w ≡ text_of k
+    by_front : (q : Bool) (rest : List ℕ) → bytes_eq (take (length (text_of k)) w) (text_of k) ≡ q → drop (length (text_of k)) w ≡ rest → is_some (value_behind Sort.Word (cond q (Some rest) None)) ≡ true → w ≡ text_of k
     by_front true [] same none a = sym (take-append-drop (length (text_of k)) w) ∙ ap (λ r. take (length (text_of k)) w ++ r) none ∙ append-nil (take (length (text_of k)) w) ∙ (bytes_eq-Decides _ (text_of k)).0 same
     by_front true (x ∷ xs) same none a = absurd cc
     by_front false rest same none a = absurd cc
@@ -313,29 +308,29 @@ stays (suc n) p w ws e = ap (λ r. after r (some_words n p) (w ∷ ws)) (cond-fa
 refused : (b : Bool) (is : List Item) (w : List ℕ) (ws k : Words) → refuses b is w ≡ true → walk b is (w ∷ ws) ≡ Ok k → ⊥
 refused true [] w ws k r e = let bad = sym (cond-false _ _ _ (not-true (is_some (cut_of w)) r)) ∙ e in cc
 refused false [] w ws k r e = cc
-refused b (One c ∷ is) w ws k r e = both_ways (accepts c w) (not-true (accepts c w) r) (one_fits (accepts c w) w ws k (walk b is) e).0
-refused b (Maybe c ∷ is) w ws k r e = refused b is w ws k (search ands) (sym (ap (walk b is) (stays 1 (accepts c) w ws (not-true (accepts c w) (search ands)))) ∙ e)
-refused b (Names ∷ is) w ws k r e = refused b is w ws k (search ands) (sym (ap (walk b is) (stays (length (w ∷ ws)) is_named w ws (not-true (is_named w) (search ands)))) ∙ e)
+refused b (Item.One c ∷ is) w ws k r e = both_ways (accepts c w) (not-true (accepts c w) r) (one_fits (accepts c w) w ws k (walk b is) e).0
+refused b (Item.Maybe c ∷ is) w ws k r e = refused b is w ws k (search ands) (sym (ap (walk b is) (stays 1 (accepts c) w ws (not-true (accepts c w) (search ands)))) ∙ e)
+refused b (Item.Names ∷ is) w ws k r e = refused b is w ws k (search ands) (sym (ap (walk b is) (stays (length (w ∷ ws)) is_named w ws (not-true (is_named w) (search ands)))) ∙ e)
 refused b (i ∷ is) w ws k r e = both_ways false refl r
 
 -- a fixed word of the second row
-word_apart : (b : Bool) (is js : List Item) (d : Class) (w : List ℕ) (ws k l : Words) → (is_fixed d.sort && refuses b is (text_of d.front)) ≡ true → walk b is (w ∷ ws) ≡ Ok k → walk b (One d ∷ js) (w ∷ ws) ≡ Ok l → ⊥
+word_apart : (b : Bool) (is js : List Item) (d : Class) (w : List ℕ) (ws k l : Words) → (is_fixed d.sort && refuses b is (text_of d.front)) ≡ true → walk b is (w ∷ ws) ≡ Ok k → walk b (Item.One d ∷ js) (w ∷ ws) ≡ Ok l → ⊥
 word_apart b is js d w ws k l a e f =
     let word : w ≡ text_of d.front = fixed_is d.front d.sort w (search ands) (one_fits (accepts d w) w ws l (walk b js) f).0 in
     refused b is w ws k (ap (refuses b is) word ∙ (right_of (is_fixed d.sort) _ a)) e
 
 pub rows_apart : (b : Bool) (is js : List Item) (ws k l : Words) → are_apart b is js ≡ true → walk b is ws ≡ Ok k → walk b js ws ≡ Ok l → ⊥
-rows_apart b (One c ∷ is) (One d ∷ js) [] k l a e f = cc
-rows_apart b (One c ∷ is) (One d ∷ js) (w ∷ ws) k l a e f = elim (or_cases (is_fixed d.sort && refuses b (One c ∷ is) (text_of d.front)) (are_apart b is js) a) [
-  | inl here ↦ word_apart b (One c ∷ is) js d w ws k l here e f
+rows_apart b (Item.One c ∷ is) (Item.One d ∷ js) [] k l a e f = cc
+rows_apart b (Item.One c ∷ is) (Item.One d ∷ js) (w ∷ ws) k l a e f = elim (or_cases (is_fixed d.sort && refuses b (Item.One c ∷ is) (text_of d.front)) (are_apart b is js) a) [
+  | inl here ↦ word_apart b (Item.One c ∷ is) js d w ws k l here e f
   | inr later ↦ rows_apart b is js ws k l later (one_fits (accepts c w) w ws k (walk b is) e).1 (one_fits (accepts d w) w ws l (walk b js) f).1
 ]
-rows_apart b (Group ∷ is) (Group ∷ js) ws k l a e f = by_group (group_words ws) e f (λ vs. rows_apart b is js vs k l a)
+rows_apart b (Item.Group ∷ is) (Item.Group ∷ js) ws k l a e f = by_group (group_words ws) e f (λ vs. rows_apart b is js vs k l a)
   where
     by_group : (r : Walked) → on r (walk b is) ≡ Ok k → on r (walk b js) ≡ Ok l → ((vs : Words) → walk b is vs ≡ Ok k → walk b js vs ≡ Ok l → ⊥) → ⊥
     by_group (Ok vs) e f more = more vs e f
     by_group (Err bad) e f more = cc
-rows_apart b (NoGroup ∷ is) (NoGroup ∷ js) ws k l a e f = rows_apart b is js ws k l a e f
-rows_apart b is (One d ∷ js) [] k l a e f = cc
-rows_apart b is (One d ∷ js) (w ∷ ws) k l a e f = word_apart b is js d w ws k l a e f
+rows_apart b (Item.NoGroup ∷ is) (Item.NoGroup ∷ js) ws k l a e f = rows_apart b is js ws k l a e f
+rows_apart b is (Item.One d ∷ js) [] k l a e f = cc
+rows_apart b is (Item.One d ∷ js) (w ∷ ws) k l a e f = word_apart b is js d w ws k l a e f
 rows_apart b is js ws k l a e f = both_ways false refl a

@@ -24,10 +24,8 @@ use Rattle.vx_script_words.specs.Number.{number_of, within, units_of, length_of}
 use Rattle.vx_script_words.specs.Parts.{behind, name_of, name_behind, cut_of, pair_of, just, plex_of, break_off_of}
 use Rattle.vx_script_words.specs.declared.class.Class.{Class}
 use Rattle.vx_script_words.specs.declared.class.Sort.{Sort}
-use Rattle.vx_script_words.specs.declared.class.Sort.TheVariants as sort
 use Rattle.vx_script_words.specs.declared.value.DiskAt.{DiskAt}
 use Rattle.vx_script_words.specs.declared.value.Value.{Value}
-use Rattle.vx_script_words.specs.declared.value.Value.TheVariants as value
 use Rattle.vx_script_words.proofs.Packing.{take_front, drop_front, up_to_is, past_is}
 use Rattle.vx_script_words.proofs.Plain.{is_dark, is_dark_word, is_not, all_by, name_without, name_dark}
 
@@ -97,7 +95,7 @@ plex_shown (Some plex) h = (refl, ap (λ o. just (name_behind o)) (behind_front 
 break_shown : (vol snap : List ℕ) (plex : Option (List ℕ)) → is_name vol ≡ true → is_name snap ≡ true → maybe_name plex ≡ true → IsText (vol ++ codes "/newvol=" ++ snap ++ plex_text plex)
 break_shown vol snap plex v s p = let last = (plex_shown plex p).2 in search shown
 
-break_off_said : (vol snap : List ℕ) (plex : Option (List ℕ)) → is_name vol ≡ true → is_name snap ≡ true → maybe_name plex ≡ true → break_off_of (vol ++ codes "/newvol=" ++ snap ++ plex_text plex) ≡ Some (value.BreakOff vol snap plex)
+break_off_said : (vol snap : List ℕ) (plex : Option (List ℕ)) → is_name vol ≡ true → is_name snap ≡ true → maybe_name plex ≡ true → break_off_of (vol ++ codes "/newvol=" ++ snap ++ plex_text plex) ≡ Some (Value.BreakOff vol snap plex)
 break_off_said vol snap plex v s p =
     let no_slash = name_without 47 (λ b plain e. plain.no_slash e) in
     let clean : list_all (is_not 47) (codes "newvol=" ++ snap) ≡ true = no_slash snap s in
@@ -169,11 +167,11 @@ block_is_word bs h = block_dark (block_word bs) (block_again bs h).0
 
 -- numbers of a sort are below 2^40
 abbrev is_fair : Sort → Bool
-is_fair (sort.Number low high) = nat_le high (2 ^ 40 - 1)
+is_fair (Sort.Number low high) = nat_le high (2 ^ 40 - 1)
 is_fair s = true
 
 abbrev pub is_fixed : Sort → Bool
-is_fixed sort.Word = true
+is_fixed Sort.Word = true
 is_fixed s = false
 
 -- a front without blanks, which is some bytes where nothing follows it
@@ -192,22 +190,22 @@ record Shown (s : Sort) (v : Value) : Type 0 where
   pub fills : Fills (is_fixed s) (value_text s v)
 
 value_shown : (s : Sort) (v : Value) → is_fair s ≡ true → is_of s v ≡ true → Shown s v
-value_shown sort.Word value.Word f h = record { says = refl; dark = refl; fills = refl }
-value_shown sort.Named (value.Named name) f h = record { says = ap as_name (name_said name h); dark = name_dark name h; fills = name_some name h }
-value_shown (sort.Number low high) (value.Number n) f h =
+value_shown Sort.Word Value.Word f h = record { says = refl; dark = refl; fills = refl }
+value_shown Sort.Named (Value.Named name) f h = record { says = ap as_name (name_said name h); dark = name_dark name h; fills = name_some name h }
+value_shown (Sort.Number low high) (Value.Number n) f h =
     let small : n < 2 ^ 40 = grind (arith, nat_tests) in
     let text = decimal_shown n (omega (arith, small)) in
     record { says = ap as_number (ranged_said low high n small h); dark = text.dark; fills = text.some }
-value_shown sort.Length (value.Number n) f h =
+value_shown Sort.Length (Value.Number n) f h =
     let small : n ≤ 2 ^ 40 = grind (arith, nat_tests) in
     let text = decimal_shown n (omega (arith, small)) in
     record { says = ap as_number (length_said n small h); dark = text.dark; fills = text.some }
-value_shown sort.Byte (value.Number n) f h =
+value_shown Sort.Byte (Value.Number n) f h =
     let small : n < 256 = grind (arith, nat_tests) in
     let same : n % 256 ≡ n = omega arith in
     record { says = ap (λ m. as_number (byte_of (hex m))) same ∙ ap as_number (byte_said n small); dark = ap (λ m. list_all is_dark (hex m)) same ∙ all_by is_hex_digit is_dark hex_is_dark (hex n) (digits_hex n small); fills = omega arith }
-value_shown sort.Pair (value.Pair pair) f h = record { says = ap as_pair (pair_said pair h); dark = (pair_shown pair h).dark; fills = (pair_shown pair h).some }
-value_shown sort.BreakOff (value.BreakOff vol snap plex) f h =
+value_shown Sort.Pair (Value.Pair pair) f h = record { says = ap as_pair (pair_said pair h); dark = (pair_shown pair h).dark; fills = (pair_shown pair h).some }
+value_shown Sort.BreakOff (Value.BreakOff vol snap plex) f h =
     let text = break_shown vol snap plex (search ands) (search ands) (search ands) in
     record { says = break_off_said vol snap plex (search ands) (search ands) (search ands); dark = text.dark; fills = text.some }
 value_shown s v f h = absurd (both_ways false refl h)

@@ -15,7 +15,7 @@ use Rattle.vx_script.specs.Lines.{begins_comment, is_passed_over, lines_of}
 use Rattle.vx_script.specs.Script.{commands_from, script_of}
 use Rattle.vx_script.specs.Steps.{step, command_step, opened, opened_by, line_behind, called, administered, session_line, line_of_session, added, line_calls, line_sectors}
 use Rattle.vx_script.specs.declared.command.Command.{Command}
-use Rattle.vx_script.specs.declared.reader.Open.TheVariants.{Closed, Inside}
+use Rattle.vx_script.specs.declared.reader.Open.{Open}
 use Rattle.vx_script.specs.declared.reader.Reader.{Reader}
 use Rattle.vx_script.proofs.Placed.{In}
 use Rattle.vx_script_forms.specs.FormOf.{form_of}
@@ -23,15 +23,10 @@ use Rattle.vx_script_forms.specs.Table.{items_of, commands, calls, acts}
 use Rattle.vx_script_forms.specs.Values.{maybe_name}
 use Rattle.vx_script_forms.specs.ValuesOf.{kind_of, values_of, opening, act_kind, call_kind}
 use Rattle.vx_script_forms.specs.declared.act.Act.{Act}
-use Rattle.vx_script_forms.specs.declared.act.Act.TheVariants as act
 use Rattle.vx_script_forms.specs.declared.call.Call.{Call}
-use Rattle.vx_script_forms.specs.declared.call.Call.TheVariants as call
 use Rattle.vx_script_forms.specs.declared.block.Line.{Line}
-use Rattle.vx_script_forms.specs.declared.block.Line.TheVariants.{Session, Administer}
 use Rattle.vx_script_forms.specs.declared.form.Form.{Form}
-use Rattle.vx_script_forms.specs.declared.form.Form.TheVariants as form
 use Rattle.vx_script_forms.specs.declared.kind.Kind.{Kind}
-use Rattle.vx_script_forms.specs.declared.kind.Kind.TheVariants as kind
 use Rattle.vx_script_forms.proofs.Forms.{form_again, group_again}
 use Rattle.vx_script_print.specs.Text.{class_word, value_text, row_words, form_words, cut_words, line_text, body_text, command_text, script_text}
 use Rattle.vx_script_words.specs.Class.{class_value}
@@ -42,7 +37,6 @@ use Rattle.vx_script_words.specs.Row.{and_then, Read, row}
 use Rattle.vx_script_words.specs.Spelling.{Spells, begun}
 use Rattle.vx_script_words.specs.Words.{from_word, first_word, past_word}
 use Rattle.vx_script_words.specs.declared.class.Item.{Item}
-use Rattle.vx_script_words.specs.declared.class.Item.TheVariants.{One}
 use Rattle.vx_script_words.specs.declared.value.Value.{Value}
 use Rattle.vx_script_words.proofs.Plain.{is_dark_word, name_word}
 use Rattle.vx_script_print.proofs.Sorts.{ands, left_of, right_of, number_said}
@@ -64,16 +58,16 @@ unfolding class_value
 told_apart = (refl, refl, refl)
 
 in_commands : (k : Kind) → In k commands
-in_commands kind.Read = inl refl
+in_commands Kind.Read = inl refl
 in_commands k = search (inl, inr) depth 60 fits 4000
 
 in_calls : (c : Call) → In (call_kind c) calls
-in_calls (call.Read vol start count) = inl refl
+in_calls (Call.Read vol start count) = inl refl
 in_calls c = search (inl, inr) depth 60 fits 4000
 
 in_acts : (a : Act) → In (act_kind a) acts
-in_acts (act.SnapMake vol snap plex) = inl refl
-in_acts (act.Snapback snap true) = inr (inr (inr (inr (inl refl))))
+in_acts (Act.SnapMake vol snap plex) = inl refl
+in_acts (Act.Snapback snap true) = inr (inr (inr (inr (inl refl))))
 in_acts a = search (inl, inr) depth 60 fits 4000
 
 in_list : (p : Kind → Bool) (ks : List Kind) (k : Kind) → list_all p ks ≡ true → In k ks → p k ≡ true
@@ -83,7 +77,7 @@ in_list p (x ∷ xs) k h (inr i) = in_list p xs k (search ands) i
 
 all_sound : (k : Kind) → are_sound (items_of k) ≡ true
 unfolding class_value
-all_sound kind.Read = refl
+all_sound Kind.Read = refl
 all_sound k = refl
 
 -- the words of a line that is of these parts
@@ -108,17 +102,17 @@ chosen b (x ∷ xs) k t ws read n two (inr i) s says = by_row (row b (items_of x
 
 -- the first word begins no comment
 abbrev Plain : List Item → Type 0
-Plain (One c ∷ is) = (x : List ℕ) → begins_comment (text_of c.front ++ x) ≡ false
+Plain (Item.One c ∷ is) = (x : List ℕ) → begins_comment (text_of c.front ++ x) ≡ false
 Plain is = ⊥
 
 all_plain : (k : Kind) → Plain (items_of k)
-all_plain kind.Read = λ x. refl
+all_plain Kind.Read = λ x. refl
 all_plain k = λ x. refl
 
 -- a line of these parts is not passed over
 row_not_passed : (is : List Item) (vs : List Value) (tail : List (List ℕ)) → Plain is → are_of is vs ≡ true → list_all is_dark_word (row_words is vs ++ tail) ≡ true → is_passed_over (begun (row_words is vs ++ tail)) ≡ false
-row_not_passed (One c ∷ is) (v ∷ vs) tail p h dark = not_passed (class_word c v) (row_words is vs ++ tail) dark (p (value_text c.sort v))
-row_not_passed (One c ∷ is) [] tail p h dark = absurd (both_ways false refl h)
+row_not_passed (Item.One c ∷ is) (v ∷ vs) tail p h dark = not_passed (class_word c v) (row_words is vs ++ tail) dark (p (value_text c.sort v))
+row_not_passed (Item.One c ∷ is) [] tail p h dark = absurd (both_ways false refl h)
 row_not_passed is vs tail p h dark = absurd p
 
 -- ---- the words of a form
@@ -150,7 +144,7 @@ no_end word session e = false_from_ne_true (bytes_eq word (codes "end")) (λ sam
 
 module _ (done : List Command) (cut : Option ℕ) (sessions : ℕ) (most : sessions ≤ 16) where
   abbrev inside : List Line → ℕ → ℕ → Reader
-  inside lines calls_ sectors = record { done = done; begun = Inside cut sessions lines calls_ sectors }
+  inside lines calls_ sectors = record { done = done; begun = Open.Inside cut sessions lines calls_ sectors }
 
   -- a line of the number of a session and a form
   line_read : (lines : List Line) (calls_ sectors : ℕ) (word : List ℕ) (session : ℕ) (g : Option (List ℕ)) (f : Form) (l : Line) → is_name word ≡ true → number_of word ≡ Some session → session ≤ sessions → is_said g f ≡ true → ((t : List ℕ) → Spells t (form_words g f ++ []) → line_behind session t ≡ Ok l) → calls_ + line_calls l ≤ 65536 → sectors + line_sectors l ≤ 262144
@@ -169,15 +163,15 @@ module _ (done : List Command) (cut : Option ℕ) (sessions : ℕ) (most : sessi
 
   one_more : (lines : List Line) (calls_ sectors : ℕ) (l : Line) → is_line sessions l ≡ true → calls_ + line_calls l ≤ 65536 → sectors + line_sectors l ≤ 262144 → Reaches (inside lines calls_ sectors) (line_text l) (inside (lines ++ l ∷ []) (calls_ + line_calls l) (sectors + line_sectors l))
   unfolding line_behind
-  one_more lines calls_ sectors (Session session c) h few small =
+  one_more lines calls_ sectors (Line.Session session c) h few small =
       let low : 1 ≤ session = leb-true 1 session (search ands) in
       let high : session ≤ sessions = leb-true session sessions (search ands) in
-      let f : Form = form.Calling c in
-      line_read lines calls_ sectors (decimal session) session None f (Session session c) (decimal_name session (omega (arith, high, most))) (number_said session (omega (arith, high, most))) high (search ands)
+      let f : Form = Form.Calling c in
+      line_read lines calls_ sectors (decimal session) session None f (Line.Session session c) (decimal_name session (omega (arith, high, most))) (number_said session (omega (arith, high, most))) high (search ands)
       (λ t s. cond-false _ _ _ (ne_eqb session 0 (λ e. omega (arith, low, e))) ∙ ap (λ r. and_then r (λ x. called session (form_of x.kind x.values))) (is_chosen false calls None f None t told_apart.1 (in_calls c) refl (search ands) s) ∙ ap (called session) (form_again None f (search ands))) few small
-  one_more lines calls_ sectors (Administer admin) h few small =
-      let f : Form = form.Acting admin.act in
-      line_read lines calls_ sectors (codes "0") 0 admin.group f (Administer admin) refl refl (omega arith) h
+  one_more lines calls_ sectors (Line.Administer admin) h few small =
+      let f : Form = Form.Acting admin.act in
+      line_read lines calls_ sectors (codes "0") 0 admin.group f (Line.Administer admin) refl refl (omega arith) h
       (λ t s. ap (λ r. and_then r (λ x. administered (maybe_name x.values 1) (form_of x.kind x.values))) (is_chosen false acts admin.group f None t told_apart.2 (in_acts admin.act) refl h s) ∙ ap (λ g. administered g (form_of (kind_of f) (values_of admin.group f))) (group_again admin.group f) ∙ ap (administered (Some admin.group)) (form_again admin.group f h)) few small
 
   sum_more : (f : Line → ℕ) (l : Line) (ls : List Line) → sum (map f (l ∷ ls)) ≡ f l + sum (map f ls)
@@ -195,7 +189,7 @@ module _ (done : List Command) (cut : Option ℕ) (sessions : ℕ) (most : sessi
 
 -- between commands
 abbrev between : List Command → Reader
-between done = record { done = done; begun = Closed }
+between done = record { done = done; begun = Open.Closed }
 
 abbrev after : List Command → Option (List ℕ) → Form → Option ℕ → Reader
 after done g f cut = between (done ++ (record { group = g; form = f; cut = cut }) ∷ [])
@@ -203,14 +197,14 @@ after done g f cut = between (done ++ (record { group = g; form = f; cut = cut }
 -- the lines behind the first
 body_read : (done : List Command) (g : Option (List ℕ)) (f : Form) (cut : Option ℕ) → is_said g f ≡ true → is_body f ≡ true → Reaches (opened done g (opening f) cut) (body_text f) (after done g f cut)
 unfolding step
-body_read done g (form.VxMake text) cut h b = then_end (making done g cut []) (making done g cut text) (after done g (form.VxMake text) cut) text (records_read done g cut text b) refl
-body_read done (Some name) (form.Sessions block) cut h b = absurd (both_ways false refl h)
-body_read done None (form.Sessions block) cut h b =
+body_read done g (Form.VxMake text) cut h b = then_end (making done g cut []) (making done g cut text) (after done g (Form.VxMake text) cut) text (records_read done g cut text b) refl
+body_read done (Some name) (Form.Sessions block) cut h b = absurd (both_ways false refl h)
+body_read done None (Form.Sessions block) cut h b =
     let most : block.sessions ≤ 16 = leb-true block.sessions 16 (right_of (nat_le 1 block.sessions) (nat_le block.sessions 16) (left_of (is_between 1 16 block.sessions) true h)) in
     let few : sum (map line_calls block.lines) ≤ 65536 = leb-true (sum (map line_calls block.lines)) 65536 (search ands) in
     let small : sum (map line_sectors block.lines) ≤ 262144 = leb-true (sum (map line_sectors block.lines)) 262144 (search ands) in
     let all = lines_read done cut block.sessions most [] 0 0 block.lines (search ands) (omega (arith, few)) (omega (arith, small)) in
-    then_end (inside done cut block.sessions most [] 0 0) (inside done cut block.sessions most block.lines all.0 all.1) (after done None (form.Sessions block) cut) (flat_map line_text block.lines) all.2 refl
+    then_end (inside done cut block.sessions most [] 0 0) (inside done cut block.sessions most block.lines all.0 all.1) (after done None (Form.Sessions block) cut) (flat_map line_text block.lines) all.2 refl
 body_read done g f cut h b = stays_there (after done g f cut)
 
 command_read : (done : List Command) (c : Command) → is_command c ≡ true → Reaches (between done) (command_text c) (between (done ++ c ∷ []))

@@ -198,35 +198,49 @@ whole_blocks bytes h =
 one_is : (c : Class) (old : List Value) (t : List ℕ) (ws : List (List ℕ)) (o : Option Value) → Spells t ws → class_value c (head_word ws) ≡ o → one c old t ≡ taken o old (from_word t)
 one_is c old t ws o s says = ap (λ f. taken (class_value c f) old (from_word t)) (first_is t ws s) ∙ ap (λ o. taken o old (from_word t)) says
 
--- the part reads the words of the value, and leaves those behind them
-part_reads : (i : Item) (is : List Item) (v : Value) (ws : List (List ℕ)) → Told i is → of_item i v ≡ true → Ends i (head_word ws) → (t : List ℕ) (old : List Value) → Spells t (words_of i v ++ ws) → (rest : List ℕ) × (item i old t ≡ Ok (so (old ++ v ∷ []) rest)) × Spells rest ws
-part_reads (Item.One c) is v ws f h none t old s = (past_word (from_word t), one_is c old t (class_word c v ∷ ws) (Some v) s (class_shown c v f h).says, s.2)
-part_reads (Item.Maybe c) is Value.Nothing ws f h none t old s = (t, ap (λ g. or_else g (with_value old Value.Nothing t)) (one_is c old t ws None s none), s)
-part_reads (Item.Maybe c) is v ws f h none t old s = (past_word (from_word t), ap (λ g. or_else g (with_value old Value.Nothing t)) (one_is c old t (class_word c v ∷ ws) (Some v) s (class_shown c v f.0 h).says), s.2)
-part_reads Item.Group is Value.Nothing ws f h none t old s = (t, cond-false _ _ _ (ap (λ w. bytes_eq w (codes "-g")) (first_is t ws s) ∙ none), s)
-part_reads Item.Group is (Value.Named name) ws f h none t old s = (past_word (from_word (past_word (from_word t))), cond-true _ _ _ (ap (λ w. bytes_eq w (codes "-g")) s.1) ∙ one_is any_name old (past_word (from_word t)) (name ∷ ws) (Some (Value.Named name)) s.2 (class_shown any_name (Value.Named name) refl h).says, s.2.2)
-part_reads Item.NoGroup is Value.Nothing ws f h none t old s = (t, refl, s)
-part_reads Item.Names is (Value.Names names) ws f h none t old s =
+-- the part reads words as this value, and leaves those behind them
+abbrev Reads : Item → Value → List (List ℕ) → Type 0
+Reads i v ws = Ends i (head_word ws) → (t : List ℕ) (old : List Value) → Spells t (words_of i v ++ ws) → (rest : List ℕ) × (item i old t ≡ Ok (so (old ++ v ∷ []) rest)) × Spells rest ws
+
+-- the words of a part have no blank, and are read as its value
+part_said : (i : Item) (is : List Item) (v : Value) (ws : List (List ℕ)) → Told i is → of_item i v ≡ true → (list_all is_dark_word (words_of i v) ≡ true) × Reads i v ws
+part_said (Item.One c) is v ws f h = (and_from _ _ (class_shown c v f h).dark refl, λ none t old s. (past_word (from_word t), one_is c old t (class_word c v ∷ ws) (Some v) s (class_shown c v f h).says, s.2))
+part_said (Item.Maybe c) is Value.Nothing ws f h = (refl, λ none t old s. (t, ap (λ g. or_else g (with_value old Value.Nothing t)) (one_is c old t ws None s none), s))
+part_said (Item.Maybe c) is v ws f h = (and_from _ _ (class_shown c v f.0 h).dark refl, λ none t old s. (past_word (from_word t), ap (λ g. or_else g (with_value old Value.Nothing t)) (one_is c old t (class_word c v ∷ ws) (Some v) s (class_shown c v f.0 h).says), s.2))
+part_said Item.Group is Value.Nothing ws f h = (refl, λ none t old s. (t, cond-false _ _ _ (ap (λ w. bytes_eq w (codes "-g")) (first_is t ws s) ∙ none), s))
+part_said Item.Group is (Value.Named name) ws f h = (and_from _ _ (name_word name h) refl, λ none t old s. (past_word (from_word (past_word (from_word t))), cond-true _ _ _ (ap (λ w. bytes_eq w (codes "-g")) s.1) ∙ one_is any_name old (past_word (from_word t)) (name ∷ ws) (Some (Value.Named name)) s.2 (class_shown any_name (Value.Named name) refl h).says, s.2.2))
+part_said Item.NoGroup is Value.Nothing ws f h = (refl, λ none t old s. (t, refl, s))
+part_said Item.Names is (Value.Names names) ws f h = (all_that is_name is_dark_word name_word names h, λ none t old s.
     let few : length names ≤ length t = omega (arith, few_words t (names ++ ws) s, length-append names ws) in
     let g = gathers name_of pushed (λ w. w) is_name name_said ws none (length t) names [] t h few (subst (λ xs. Spells t (xs ++ ws)) (sym (map-id names)) s) in
-    (g.0, ap (λ f. Ok (said old Value.Names f)) g.1 ∙ ap (λ ns. Ok (with_value old (Value.Names ns) g.0)) (all_pushed [] names), g.2)
-part_reads Item.Pairs is (Value.Pairs (p ∷ ps)) ws f h none t old s =
+    (g.0, ap (λ f. Ok (said old Value.Names f)) g.1 ∙ ap (λ ns. Ok (with_value old (Value.Names ns) g.0)) (all_pushed [] names), g.2))
+part_said Item.Pairs is (Value.Pairs (p ∷ ps)) ws f h =
+    let good = right_of (nat_lt 0 (length (p ∷ ps))) (list_all is_pair (p ∷ ps)) h in
+    (list_all-map is_dark_word pair_word (p ∷ ps) ∙ all_that is_pair (λ q. is_dark_word (pair_word q)) (λ q k. text_word (pair_word q) (pair_shown q k)) (p ∷ ps) good, λ none t old s.
     let few : length ps ≤ length (past_word (from_word t)) = omega (arith, few_words (past_word (from_word t)) (map pair_word ps ++ ws) s.2, length-append (map pair_word ps) ws, length-map ps pair_word) in
-    let g = some_gather pair_of pushed pair_word is_pair pair_said ws none (length (past_word (from_word t))) p ps (λ x. x ∷ []) Value.Pairs old t (right_of (nat_lt 0 (length (p ∷ ps))) (list_all is_pair (p ∷ ps)) h) few s in
-    (g.0, g.1 ∙ ap (λ xs. Ok (with_value old (Value.Pairs xs) g.0)) (all_pushed (p ∷ []) ps), g.2)
-part_reads Item.Blocks is (Value.Blocks bytes) ws f h none t old s =
+    let g = some_gather pair_of pushed pair_word is_pair pair_said ws none (length (past_word (from_word t))) p ps (λ x. x ∷ []) Value.Pairs old t good few s in
+    (g.0, g.1 ∙ ap (λ xs. Ok (with_value old (Value.Pairs xs) g.0)) (all_pushed (p ∷ []) ps), g.2))
+part_said Item.Blocks is (Value.Blocks bytes) ws f h =
     let w = whole_blocks bytes h in
+    (ap (λ n. list_all is_dark_word (map block_word (cut_blocks n bytes))) w.count ∙ list_all-map is_dark_word block_word (cut_blocks (suc w.more) bytes) ∙ all_that is_one_block (λ b. is_dark_word (block_word b)) block_is_word (cut_blocks (suc w.more) bytes) w.blocks.good, λ none t old s.
     let g = some_gather block_of joined block_word is_one_block block_said ws none 63 (take 512 bytes) (cut_blocks w.more (drop 512 bytes)) (λ b. b) Value.Blocks old t w.blocks.good (omega (arith, w.few, w.blocks.count)) (subst (λ (n : ℕ). Spells t (map block_word (cut_blocks n bytes) ++ ws)) w.count s) in
-    (g.0, g.1 ∙ ap (λ xs. Ok (with_value old (Value.Blocks xs) g.0)) (w.blocks.whole []), g.2)
-part_reads i is v ws f h none t old s = absurd (both_ways false refl h)
+    (g.0, g.1 ∙ ap (λ xs. Ok (with_value old (Value.Blocks xs) g.0)) (w.blocks.whole []), g.2))
+part_said i is v ws f h = absurd (both_ways false refl h)
 
-row_reads : (is : List Item) (vs : List Value) (cut : Option ℕ) → Clear is → are_of is vs ≡ true → maybe_cut cut ≡ true → (t : List ℕ) (old : List Value) → Spells t (row_words is vs ++ cut_words cut) → (rest : List ℕ) × (items is (Ok (so old t)) ≡ Ok (so (old ++ vs) rest)) × Spells rest (cut_words cut)
-row_reads [] [] cut c a short t old s = (t, ap (λ xs. Ok (so xs t)) (sym (append-nil old)), s)
-row_reads (i ∷ is) (v ∷ vs) cut c a short t old s =
-    let one = part_reads i is v (row_words is vs ++ cut_words cut) c.0 (search ands) (part_ends i is vs cut c.0 (search ands) short) t old (subst (Spells t) (append_assoc (words_of i v) (row_words is vs) (cut_words cut)) s) in
-    let more = row_reads is vs cut c.1 (search ands) short one.0 (old ++ v ∷ []) one.2 in
-    (more.0, ap (items is) one.1 ∙ more.1 ∙ ap (λ xs. Ok (so xs more.0)) (append_assoc old (v ∷ []) vs), more.2)
-row_reads is vs cut c a short t old s = absurd (both_ways false refl a)
+-- what a row of values says: its words have no blank, and are read as the values up to the words of a cut
+record RowSaid (is : List Item) (vs : List Value) (cut : Option ℕ) : Type 0 where
+  pub dark : list_all is_dark_word (row_words is vs ++ cut_words cut) ≡ true
+  pub reads : (t : List ℕ) (old : List Value) → Spells t (row_words is vs ++ cut_words cut) → (rest : List ℕ) × (items is (Ok (so old t)) ≡ Ok (so (old ++ vs) rest)) × Spells rest (cut_words cut)
+
+row_said : (is : List Item) (vs : List Value) (cut : Option ℕ) → Clear is → are_of is vs ≡ true → maybe_cut cut ≡ true → RowSaid is vs cut
+row_said [] [] None c a short = record { dark = refl; reads = λ t old s. (t, ap (λ xs. Ok (so xs t)) (sym (append-nil old)), s) }
+row_said [] [] (Some n) c a short = record { dark = and_from _ _ (class_shown (record { front = Key.Cut; sort = Sort.Number 0 (2 ^ 40 - 1) }) (Value.Number n) refl (cut_fits n short)).dark refl; reads = λ t old s. (t, ap (λ xs. Ok (so xs t)) (sym (append-nil old)), s) }
+row_said (i ∷ is) (v ∷ vs) cut c a short =
+    let ws : List (List ℕ) = row_words is vs ++ cut_words cut in
+    let part = part_said i is v ws c.0 (search ands) in
+    let row = row_said is vs cut c.1 (search ands) short in
+    record { dark = ap (list_all is_dark_word) (append_assoc (words_of i v) (row_words is vs) (cut_words cut)) ∙ list_all-append is_dark_word (words_of i v) ws ∙ and_from _ _ part.0 row.dark; reads = λ t old s. (let one = part.1 (part_ends i is vs cut c.0 (search ands) short) t old (subst (Spells t) (append_assoc (words_of i v) (row_words is vs) (cut_words cut)) s) in let more = row.reads one.0 (old ++ v ∷ []) one.2 in (more.0, ap (items is) one.1 ∙ more.1 ∙ ap (λ xs. Ok (so xs more.0)) (append_assoc old (v ∷ []) vs), more.2)) }
+row_said is vs cut c a short = absurd (both_ways false refl a)
 
 -- ---- whole lines
 
@@ -243,29 +257,11 @@ end_read true (Some n) vs t h s = ap (λ w. cut_end (cut_of w) vs (from_word t))
 pub row_read : (b : Bool) (cut : Option ℕ) (is : List Item) (vs : List Value) (t : List ℕ) → may_end b cut ≡ true → Clear is → are_of is vs ≡ true → Spells t (row_words is vs ++ cut_words cut) → row b is t ≡ Ok (record { values = vs; cut = cut })
 unfolding row
 row_read b cut is vs t h c a s =
-    let m = row_reads is vs cut c a (search ands) t [] s in
+    let m = (row_said is vs cut c a (search ands)).reads t [] s in
     ap (λ g. and_then g (line_end b)) m.1 ∙ end_read b cut vs m.0 h m.2
 
--- ---- no word has a blank or a newline
-
-part_dark : (i : Item) (is : List Item) (v : Value) → Told i is → of_item i v ≡ true → list_all is_dark_word (words_of i v) ≡ true
-part_dark (Item.One c) is v f h = and_from _ _ (class_shown c v f h).dark refl
-part_dark (Item.Maybe c) is Value.Nothing f h = refl
-part_dark (Item.Maybe c) is v f h = and_from _ _ (class_shown c v f.0 h).dark refl
-part_dark Item.Group is (Value.Named name) f h = and_from _ _ (name_word name h) refl
-part_dark Item.Names is (Value.Names names) f h = all_that is_name is_dark_word name_word names h
-part_dark Item.Pairs is (Value.Pairs pairs) f h = list_all-map is_dark_word pair_word pairs ∙ all_that is_pair (λ p. is_dark_word (pair_word p)) (λ p k. text_word (pair_word p) (pair_shown p k)) pairs (search ands)
-part_dark Item.Blocks is (Value.Blocks bytes) f h =
-    let w = whole_blocks bytes h in
-    ap (λ n. list_all is_dark_word (map block_word (cut_blocks n bytes))) w.count ∙ list_all-map is_dark_word block_word (cut_blocks (suc w.more) bytes) ∙ all_that is_one_block (λ b. is_dark_word (block_word b)) block_is_word (cut_blocks (suc w.more) bytes) w.blocks.good
-part_dark i is v f h = refl
-
 pub line_dark : (is : List Item) (vs : List Value) (cut : Option ℕ) → Clear is → are_of is vs ≡ true → maybe_cut cut ≡ true → list_all is_dark_word (row_words is vs ++ cut_words cut) ≡ true
-line_dark [] vs None c a short = refl
-line_dark [] vs (Some n) c a short = and_from _ _ (class_shown (record { front = Key.Cut; sort = Sort.Number 0 (2 ^ 40 - 1) }) (Value.Number n) refl (cut_fits n short)).dark refl
-line_dark (i ∷ is) [] cut c a short = absurd (both_ways false refl a)
-line_dark (i ∷ is) (v ∷ vs) cut c a short =
-    ap (list_all is_dark_word) (append_assoc (words_of i v) (row_words is vs) (cut_words cut)) ∙ list_all-append is_dark_word (words_of i v) (row_words is vs ++ cut_words cut) ∙ and_from _ _ (part_dark i is v c.0 (search ands)) (line_dark is vs cut c.1 (search ands) short)
+line_dark is vs cut c a short = (row_said is vs cut c a short).dark
 
 -- ---- parts that have no line in common
 

@@ -189,36 +189,30 @@ is_fixed s = false
 abbrev pub is_fair_class : Class → Bool
 is_fair_class c = list_all is_dark (text_of c.front) && (is_fair c.sort && (not (is_fixed c.sort) || nat_lt 0 (length (text_of c.front))))
 
--- nothing follows a fixed word
-abbrev Fills : Bool → List ℕ → Type 0
-Fills true w = w ≡ []
-Fills false w = 0 < length w
+-- the text behind a front: none behind a fixed word
+abbrev IsBehind : Bool → List ℕ → Type 0
+IsBehind true w = w ≡ []
+IsBehind false w = IsText w
 
 -- the text of a value says it, and has no blank
 record Shown (s : Sort) (v : Value) : Type 0 where
   pub says : sort_value s (value_text s v) ≡ Some v
-  pub dark : list_all is_dark (value_text s v) ≡ true
-  pub fills : Fills (is_fixed s) (value_text s v)
+  pub text : IsBehind (is_fixed s) (value_text s v)
 
 value_shown : (s : Sort) (v : Value) → is_fair s ≡ true → is_of s v ≡ true → Shown s v
-value_shown Sort.Word Value.Word f h = record { says = refl; dark = refl; fills = refl }
-value_shown Sort.Named (Value.Named name) f h = record { says = ap as_name (name_said name h); dark = name_dark name h; fills = name_some name h }
+value_shown Sort.Word Value.Word f h = record { says = refl; text = refl }
+value_shown Sort.Named (Value.Named name) f h = record { says = ap as_name (name_said name h); text = search shown }
 value_shown (Sort.Number low high) (Value.Number n) f h =
     let small : n < 2 ^ 40 = grind (arith, nat_tests) in
-    let text = decimal_shown n (omega (arith, small)) in
-    record { says = ap as_number (ranged_said low high n small h); dark = text.dark; fills = text.some }
+    record { says = ap as_number (ranged_said low high n small h); text = decimal_shown n (omega (arith, small)) }
 value_shown Sort.Length (Value.Number n) f h =
     let small : n ≤ 2 ^ 40 = grind (arith, nat_tests) in
-    let text = decimal_shown n (omega (arith, small)) in
-    record { says = ap as_number (length_said n small h); dark = text.dark; fills = text.some }
+    record { says = ap as_number (length_said n small h); text = decimal_shown n (omega (arith, small)) }
 value_shown Sort.Byte (Value.Number n) f h =
-    let small : n < 256 = grind (arith, nat_tests) in
-    let same : n % 256 ≡ n = omega arith in
-    record { says = ap (λ m. as_number (byte_of (hex m))) same ∙ ap as_number (byte_said n small); dark = ap (λ m. list_all is_dark (hex m)) same ∙ all_by is_hex_digit is_dark hex_is_dark (hex n) (digits_hex n small); fills = omega arith }
-value_shown Sort.Pair (Value.Pair pair) f h = record { says = ap as_pair (pair_said pair h); dark = (pair_shown pair h).dark; fills = (pair_shown pair h).some }
-value_shown Sort.BreakOff (Value.BreakOff vol snap plex) f h =
-    let text = break_shown vol snap plex (search ands) (search ands) (search ands) in
-    record { says = break_off_said vol snap plex (search ands) (search ands) (search ands); dark = text.dark; fills = text.some }
+    let same : n % 256 ≡ n = grind (arith, nat_tests) in
+    record { says = ap (λ m. as_number (byte_of (hex m))) same ∙ ap as_number (byte_said n (ltb-true n 256 h)); text = record { some = omega arith; dark = ap (λ m. list_all is_dark (hex m)) same ∙ all_by is_hex_digit is_dark hex_is_dark (hex n) (digits_hex n (ltb-true n 256 h)) } }
+value_shown Sort.Pair (Value.Pair pair) f h = record { says = ap as_pair (pair_said pair h); text = pair_shown pair h }
+value_shown Sort.BreakOff (Value.BreakOff vol snap plex) f h = record { says = break_off_said vol snap plex (search ands) (search ands) (search ands); text = break_shown vol snap plex (search ands) (search ands) (search ands) }
 value_shown s v f h = absurd (both_ways false refl h)
 
 -- the word of a value of a class says it, and has no blank
@@ -230,14 +224,11 @@ pub class_shown : (c : Class) (v : Value) → is_fair_class c ≡ true → is_of
 unfolding class_value
 class_shown c v f h =
     let x = value_shown c.sort v (search ands) h in
-    record {
-      says = ap (value_behind c.sort) (behind_front (text_of c.front) (value_text c.sort v)) ∙ x.says;
-      dark = text_word (class_word c v) (record { some = filled (is_fixed c.sort) (text_of c.front) (value_text c.sort v) (search ands) x.fills; dark = dark_both (text_of c.front) (value_text c.sort v) (search ands) x.dark });
-    }
+    record { says = ap (value_behind c.sort) (behind_front (text_of c.front) (value_text c.sort v)) ∙ x.says; dark = text_word (class_word c v) (with_front (is_fixed c.sort) (text_of c.front) (value_text c.sort v) (search ands) (search ands) x.text) }
   where
-    filled : (q : Bool) (front text : List ℕ) → (not q || nat_lt 0 (length front)) ≡ true → Fills q text → 0 < length (front ++ text)
-    filled true front text h f = omega (arith, length-append front text, ltb-true 0 (length front) h)
-    filled false front text h f = omega (arith, length-append front text, f)
+    with_front : (q : Bool) (front w : List ℕ) → list_all is_dark front ≡ true → (not q || nat_lt 0 (length front)) ≡ true → IsBehind q w → IsText (front ++ w)
+    with_front true front w d h t = rw (t, append-nil) (record { some = ltb-true 0 (length front) h; dark = d })
+    with_front false front w d h t = record { some = omega (arith, t.some, length-append front w); dark = dark_both front w d t.dark }
 
 -- the first of the words, or nothing
 abbrev head_word : List (List ℕ) → List ℕ
@@ -495,8 +486,7 @@ fixed_is k Sort.Word w f a = by_front (bytes_eq (take (length (text_of k)) w) (t
   where
     by_front : (q : Bool) (rest : List ℕ) → bytes_eq (take (length (text_of k)) w) (text_of k) ≡ q → drop (length (text_of k)) w ≡ rest → is_some (value_behind Sort.Word (cond q (Some rest) None)) ≡ true → w ≡ text_of k
     by_front true [] same none a = sym (take-append-drop (length (text_of k)) w) ∙ ap (λ r. take (length (text_of k)) w ++ r) none ∙ append-nil (take (length (text_of k)) w) ∙ (bytes_eq-Decides _ (text_of k)).0 same
-    by_front true (x ∷ xs) same none a = absurd cc
-    by_front false rest same none a = absurd cc
+    by_front q rest same none a = absurd cc
 fixed_is k s w f a = absurd cc
 
 one_fits : (q : Bool) (w : List ℕ) (ws k : Words) (f : Words → Walked) → on (cond q (Ok ws) (Err (w ∷ ws))) f ≡ Ok k → (q ≡ true) × (f ws ≡ Ok k)

@@ -13,17 +13,10 @@ pub spelled_both : (xs ys : List (List ℕ)) → spelled (xs ++ ys) ≡ spelled 
 spelled_both [] ys = refl
 spelled_both (x ∷ xs) ys = ap (λ t. 32 ∷ (x ++ t)) (spelled_both xs ys) ∙ ap (λ t. 32 ∷ t) (sym (append_assoc x (spelled xs) (spelled ys)))
 
--- one part more
-pub row_more : (is : List Item) (vs : List Value) (n m : ℕ) (d : Item) (e : Value) → m ≡ n + 1 → n < length is → n < length vs → spelled (row_words (take m is) (take m vs)) ≡ spelled (row_words (take n is) (take n vs)) ++ spelled (words_of (get_or is n d) (get_or vs n e))
-row_more is vs n zero d e same h k = absurd (omega arith)
-row_more [] vs n (suc m) d e same h k = absurd (omega arith)
-row_more (i ∷ is) [] n (suc m) d e same h k = absurd (omega arith)
-row_more (i ∷ is) (v ∷ vs) zero (suc m) d e same h k =
-    let none : m ≡ 0 = omega arith in
-    ap (λ x. spelled (words_of i v ++ row_words (take x is) (take x vs))) none ∙ ap spelled (append-nil (words_of i v))
-row_more (i ∷ is) (v ∷ vs) (suc n) (suc m) d e same h k =
-    spelled_both (words_of i v) (row_words (take m is) (take m vs)) ∙ ap (λ t. spelled (words_of i v) ++ t) (row_more is vs n m d e (omega arith) (omega arith) (omega arith))
-    ∙ sym (append_assoc (spelled (words_of i v)) (spelled (row_words (take n is) (take n vs))) (spelled (words_of (get_or is n d) (get_or vs n e)))) ∙ ap (λ t. t ++ spelled (words_of (get_or is n d) (get_or vs n e))) (sym (spelled_both (words_of i v) (row_words (take n is) (take n vs))))
+pub row_push : (is : List Item) (vs : List Value) (i : Item) (v : Value) → length is ≡ length vs → row_words (is ++ i ∷ []) (vs ++ v ∷ []) ≡ row_words is vs ++ words_of i v
+row_push [] [] i v e = append-nil (words_of i v)
+row_push (j ∷ js) (w ∷ ws) i v e = ap (λ t. words_of j w ++ t) (row_push js ws i v (omega arith)) ∙ sym (append_assoc (words_of j w) (row_words js ws) (words_of i v))
+row_push is vs i v e = absurd (omega arith)
 
 pub row_all : (is : List Item) (vs : List Value) (n : ℕ) → min (length is) (length vs) ≤ n → row_words (take n is) (take n vs) ≡ row_words is vs
 row_all [] vs zero h = refl
@@ -60,7 +53,7 @@ begun_is (w ∷ ws) = refl
 pub begun_both : (ws vs : List (List ℕ)) → drop 1 (spelled ws ++ spelled vs) ≡ begun (ws ++ vs)
 begun_both ws vs = ap (drop 1) (sym (spelled_both ws vs)) ∙ begun_is (ws ++ vs)
 
-pub ruleset row_steps = (common_steps, row_more, row_all)
+pub ruleset row_steps = (common_steps, spelled_both, row_push, row_all)
 
 pub ruleset word_steps = (common_steps, spelled_both)
 

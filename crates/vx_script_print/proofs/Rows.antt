@@ -1,42 +1,234 @@
--- The parts of a form read the words that are printed of their values, and leave those behind them.
-use Rattle.std.proofs.Common.{◌≡◌, ◌∙◌, sym, ap, subst, refl, ℕ, zero, suc, ◌*◌, ◌/◌, ◌-◌, ◌%◌, ◌^◌, ◌<◌, ◌≤◌, inl, inr, Bool, true, false, List, [], ◌∷◌, ◌++◌, map, length, take, drop, arith, Option, Some, None, Ok, Err, leb-true, le-leb, ltb-true, eqb-true, eq-eqb, cond}
-use Rattle.std.specs.Prelude.{codes, decimal, is_some, is_none, nat_lt, nat_le, ◌==◌, ◌&&◌, ◌||◌}
+-- What is printed of the values of parts is read back, and has no blank.
+use Rattle.std.proofs.Common.{◌≡◌, ◌∙◌, sym, ap, refl, ℕ, zero, suc, ◌-◌, ◌*◌, ◌/◌, ◌%◌, ◌^◌, ◌<◌, ◌≤◌, inl, inr, Bool, true, false, List, [], ◌∷◌, ◌++◌, length, take, drop, arith, Option, Some, None, subst, map, Ok, Err, ltb-true, eq-eqb, cond}
+use Rattle.std.specs.Prelude.{codes, decimal, is_some, not, nat_le, nat_lt, ◌==◌, ◌&&◌, ◌||◌, is_none}
 use Rattle.std.specs.List.{list_all}
-use Rattle.std.specs.Str.{bytes_eq}
-use Rattle.std.proofs.lemmas.List.{append-nil, append_assoc, length-append, length-take, length-drop, length-map, map-id, take-append-drop}
-use Rattle.std.proofs.lemmas.List.Folds.{list_all-append, list_all-map}
-use Rattle.std.proofs.lemmas.Bool.{and_parts, not-true, and_from, and_left, and_right, or_cases, or_from, both_ways, cond-true, cond-false, false_from_ne_true, ne_eqb}
+use Rattle.std.proofs.lemmas.Bool.{and_parts, not-true, and_from, or_cases, both_ways, cond-true, cond-false, eqb-true, leb-true, ltb-true, and_left, and_right, or_from, false_from_ne_true, ne_eqb}
 use Rattle.std.proofs.lemmas.Bool.Decides.{nat_tests}
+use Rattle.std.proofs.lemmas.List.{append-nil, append_assoc, length-append, take_all, drop_all, length-take, length-drop, length-map, map-id, take-append-drop}
+use Rattle.std.proofs.lemmas.List.Folds.{list_all-append, list_all-map}
 use Rattle.std.proofs.lemmas.Slice.Eq.{bytes_eq-Decides}
+use Rattle.vx_block.proofs.WordLemmas.{word_again}
+use Rattle.vx_block.specs.Reading.{AreBytes, spelled_block, is_hex_digit, is_short_word, is_long_word, is_block_word, byte_value}
+use Rattle.vx_block.specs.Word.{hex, hex_digit, block_word}
 use Rattle.vx_names.specs.Form.{is_name, is_name_byte}
-use Rattle.vx_names.proofs.Numbers.{decimal_short}
-use Rattle.vx_block.specs.Word.{block_word}
+use Rattle.vx_names.specs.Length.{numeral_front}
+use Rattle.vx_names.specs.Number.{digits_value}
+use Rattle.vx_names.proofs.Lengths.{numeral_before}
+use Rattle.vx_names.proofs.Numbers.{decimal_number, decimal_numeral, decimal_value, decimal_name, decimal_short}
+use Rattle.vx_script_print.specs.Text.{value_text, class_word, plex_text, cut_blocks, words_of, row_words, cut_words}
+use Rattle.vx_script_words.specs.Class.{class_value, sort_value, value_behind, as_name, as_number, as_pair}
+use Rattle.vx_script_words.specs.Fits.{is_between, is_byte, is_pair, is_of, maybe_name, pair_word, are_blocks, of_item, are_of}
+use Rattle.vx_script_words.specs.Hex.{byte_of, block_of}
+use Rattle.vx_script_words.specs.Key.{text_of}
+use Rattle.vx_script_words.specs.Number.{number_of, within, units_of, length_of}
+use Rattle.vx_script_words.specs.Parts.{behind, name_of, name_behind, cut_of, pair_of, just, plex_of, break_off_of, number_behind}
+use Rattle.vx_script_words.specs.declared.class.Class.{Class}
+use Rattle.vx_script_words.specs.declared.class.Sort.{Sort}
+use Rattle.vx_script_words.specs.declared.value.DiskAt.{DiskAt}
+use Rattle.vx_script_words.specs.declared.value.Value.{Value}
+use Rattle.vx_script_words.proofs.Packing.{take_front, drop_front, up_to_is, past_is}
+use Rattle.vx_script_words.proofs.Plain.{is_dark, is_dark_word, is_not, all_by, name_without, name_dark, name_parts, name_word}
+use Rattle.std.specs.Str.{bytes_eq}
 use Rattle.vx_script.specs.Kept.{maybe_cut}
 use Rattle.vx_script_forms.specs.Table.{items_of}
 use Rattle.vx_script_forms.specs.declared.kind.Kind.{Kind}
-use Rattle.vx_script_forms.specs.declared.kind.Kind.TheVariants as kind
-use Rattle.vx_script_print.specs.Text.{class_word, value_text, cut_blocks, words_of, row_words, cut_words}
-use Rattle.vx_script_words.specs.Class.{class_value, value_behind, as_name}
-use Rattle.vx_script_words.specs.Fits.{is_byte, is_pair, are_blocks, is_between, pair_word, of_item, are_of}
-use Rattle.vx_script_words.specs.Hex.{block_of}
-use Rattle.vx_script_words.specs.Key.{text_of}
-use Rattle.vx_script_words.specs.Parts.{cut_of, name_of, pair_of, number_behind}
 use Rattle.vx_script_words.specs.Row.{So, one, taken, with_value, or_else, further, gather, pushed, joined, said, at_least_one, any_name, item, items, row, Read, and_then, line_end, cut_end, uncut, nothing_left}
 use Rattle.vx_script_words.specs.Spelling.{Spells}
 use Rattle.vx_script_words.specs.Words.{from_word, first_word, past_word}
-use Rattle.vx_script_words.specs.declared.class.Class.{Class}
 use Rattle.vx_script_words.specs.declared.class.Item.{Item}
-use Rattle.vx_script_words.specs.declared.class.Item.TheVariants.{One, Maybe, Group, NoGroup, Names, Pairs, Blocks}
-use Rattle.vx_script_words.specs.declared.class.Sort.{Sort}
-use Rattle.vx_script_words.specs.declared.class.Sort.TheVariants as sort
 use Rattle.vx_script_words.specs.declared.key.Key.{Key}
-use Rattle.vx_script_words.specs.declared.key.Key.TheVariants as key
-use Rattle.vx_script_words.specs.declared.value.Value.{Value}
-use Rattle.vx_script_words.specs.declared.value.Value.TheVariants as value
-use Rattle.vx_script_words.proofs.Plain.{is_dark_word, name_parts, name_word}
 use Rattle.vx_script_words.proofs.Spelled.{few_words}
-use Rattle.vx_script_print.proofs.Sorts.{ands, right_of, all_that, behind_front, name_said, pair_said, pair_shown, text_word, is_one_block, block_said, block_is_word, ranged_said, is_fair_class, class_shown, is_fixed}
 use Rattle.vx_script_words.proofs.Walk.{Words, Walked, Test, accepts, is_named, after, some_words, group_words, on, walk}
+
+pub left_of : (a b : Bool) → (a && b) ≡ true → a ≡ true
+left_of a b h = (and_parts a b h).0
+
+pub right_of : (a b : Bool) → (a && b) ≡ true → b ≡ true
+right_of a b h = (and_parts a b h).1
+
+-- both sides of a test, and a test of both
+pub ruleset ands = (left_of, right_of, and_from)
+
+pub all_that : {X : Type 0} (p q : X → Bool) → ((x : X) → p x ≡ true → q x ≡ true) → (xs : List X) → list_all p xs ≡ true → list_all q xs ≡ true
+all_that p q each [] h = refl
+all_that p q each (x ∷ xs) h = and_from _ _ (each x (search ands)) (all_that p q each xs (search ands))
+
+-- ---- bytes without blanks
+
+-- some bytes, none of them a blank
+pub record IsText (w : List ℕ) : Type 0 where
+  pub some : 0 < length w
+  pub dark : list_all is_dark w ≡ true
+
+pub text_word : (w : List ℕ) → IsText w → is_dark_word w ≡ true
+text_word [] t = absurd (omega (arith, t.some))
+text_word (b ∷ bs) t = t.dark
+
+dark_both : (x y : List ℕ) → list_all is_dark x ≡ true → list_all is_dark y ≡ true → list_all is_dark (x ++ y) ≡ true
+dark_both x y h k = list_all-append is_dark x y ∙ and_from _ _ h k
+
+more_some : (x y : List ℕ) → 0 < length x → 0 < length (x ++ y)
+more_some x y h = omega (arith, h, length-append x y)
+
+name_some : (w : List ℕ) → is_name w ≡ true → 0 < length w
+name_some [] h = absurd (both_ways false refl h)
+name_some (b ∷ bs) h = omega arith
+
+ruleset shown = (ands, name_some, more_some, name_dark, dark_both)
+
+-- ---- names
+
+pub name_said : (w : List ℕ) → is_name w ≡ true → name_of w ≡ Some w
+name_said w h = cond-true _ _ _ h
+
+-- a word with its front is what follows
+pub behind_front : (front x : List ℕ) → behind front (front ++ x) ≡ Some x
+behind_front front x = cond-true _ _ _ ((bytes_eq-Decides (take (length front) (front ++ x)) front).1 (take_front front x)) ∙ ap Some (drop_front front x)
+
+pub pair_said : (pair : DiskAt) → is_pair pair ≡ true → pair_of (pair_word pair) ≡ Some pair
+pair_said pair h =
+    let clean = name_without 61 (λ b plain e. plain.no_equals e) pair.disk (search ands) in
+    cond-false _ _ _ (not-true (is_some (cut_of (pair_word pair))) (search ands)) ∙ rw (append_assoc pair.disk (61 ∷ []) pair.device, up_to_is 61 pair.disk pair.device clean, past_is 61 pair.disk pair.device clean, name_said pair.disk (search ands), name_said pair.device (search ands)) refl
+
+pub pair_shown : (pair : DiskAt) → is_pair pair ≡ true → IsText (pair_word pair)
+pair_shown pair h = search shown
+
+-- behind the last `/` of what a break-off names
+abbrev plex_rest : Option (List ℕ) → List ℕ
+plex_rest None = codes "nmirror=1"
+plex_rest (Some plex) = codes "plex=" ++ plex
+
+-- the plex of a break-off is read back, and has no blank
+plex_shown : (plex : Option (List ℕ)) → maybe_name plex ≡ true → (plex_text plex ≡ 47 ∷ plex_rest plex) × (plex_of (plex_rest plex) ≡ Some plex) × (list_all is_dark (plex_text plex) ≡ true)
+plex_shown None h = (refl, refl, refl)
+plex_shown (Some plex) h = (refl, ap (λ o. just (name_behind o)) (behind_front (codes "plex=") plex) ∙ ap just (name_said plex h), name_dark plex h)
+
+break_shown : (vol snap : List ℕ) (plex : Option (List ℕ)) → is_name vol ≡ true → is_name snap ≡ true → maybe_name plex ≡ true → IsText (vol ++ codes "/newvol=" ++ snap ++ plex_text plex)
+break_shown vol snap plex v s p = let last = (plex_shown plex p).2 in search shown
+
+break_off_said : (vol snap : List ℕ) (plex : Option (List ℕ)) → is_name vol ≡ true → is_name snap ≡ true → maybe_name plex ≡ true → break_off_of (vol ++ codes "/newvol=" ++ snap ++ plex_text plex) ≡ Some (Value.BreakOff vol snap plex)
+break_off_said vol snap plex v s p =
+    let no_slash = name_without 47 (λ b plain e. plain.no_slash e) in
+    let clean : list_all (is_not 47) (codes "newvol=" ++ snap) ≡ true = no_slash snap s in
+    let inner : List ℕ = (codes "newvol=" ++ snap) ++ 47 ∷ plex_rest plex in
+    let parts = ap (λ t. vol ++ codes "/newvol=" ++ snap ++ t) (plex_shown plex p).0 ∙ append_assoc (vol ++ codes "/newvol=") snap (47 ∷ plex_rest plex) ∙ append_assoc vol (codes "/newvol=") (snap ++ 47 ∷ plex_rest plex) in
+    rw (parts, up_to_is 47 vol inner (no_slash vol v), past_is 47 vol inner (no_slash vol v), up_to_is 47 (codes "newvol=" ++ snap) (plex_rest plex) clean, past_is 47 (codes "newvol=" ++ snap) (plex_rest plex) clean, behind_front (codes "newvol=") snap, name_said vol v, name_said snap s, (plex_shown plex p).1) refl
+
+-- ---- numbers
+
+pub number_said : (n : ℕ) → n < 2 ^ 40 → number_of (decimal n) ≡ Some n
+number_said n h = cond-true _ _ _ (decimal_number n h) ∙ ap Some (decimal_value n (omega (arith, h)))
+
+decimal_shown : (n : ℕ) → n < 2 ^ 64 → IsText (decimal n)
+decimal_shown n h = let name = decimal_name n h in search shown
+
+pub ranged_said : (low high n : ℕ) → n < 2 ^ 40 → is_between low high n ≡ true → within low high (number_of (decimal n)) ≡ Some n
+ranged_said low high n small h = ap (within low high) (number_said n small) ∙ cond-true _ _ _ h
+
+length_said : (n : ℕ) → n ≤ 2 ^ 40 → is_between 1 (2 ^ 40) n ≡ true → length_of (decimal n) ≡ Some n
+length_said n small h =
+    let w : List ℕ = decimal n in
+    let fits : n < 2 ^ 64 = omega (arith, small) in
+    let front : numeral_front w ≡ length w = ap numeral_front (sym (append-nil w)) ∙ numeral_before w [] (decimal_numeral n fits) (omega arith) in
+    let one : digits_value w * 1 ≡ n = omega (arith, decimal_value n fits) in
+    ap (λ k. units_of (take k w) (drop k w)) front ∙ rw (take_all (length w) w (omega arith), drop_all (length w) w (omega arith)) (cond-true _ _ _ (decimal_numeral n fits) ∙ ap (λ k. within 1 (2 ^ 40) (Some k)) one ∙ cond-true _ _ _ h)
+
+-- ---- hexadecimal digits
+
+hex_is_dark : (b : ℕ) → is_hex_digit b ≡ true → is_dark b ≡ true
+hex_is_dark b h = grind (arith, nat_tests)
+
+digits_hex : (b : ℕ) → b < 256 → list_all is_hex_digit (hex b) ≡ true
+digits_hex b lt = grind (arith, nat_tests)
+
+digits_say : (b : ℕ) → b < 256 → byte_value (hex_digit (b / 16)) (hex_digit (b % 16)) ≡ b
+digits_say b lt = grind (arith, nat_tests)
+
+byte_said : (b : ℕ) → b < 256 → byte_of (hex b) ≡ Some b
+byte_said b lt = let both : (is_hex_digit (hex_digit (b / 16)) && is_hex_digit (hex_digit (b % 16))) ≡ true = grind (arith, nat_tests) in cond-true _ _ _ both ∙ ap Some (digits_say b lt)
+
+-- 512 bytes
+abbrev pub is_one_block : List ℕ → Bool
+is_one_block block = length block == 512 && list_all is_byte block
+
+are_bytes : (bs : List ℕ) → list_all is_byte bs ≡ true → AreBytes bs
+are_bytes [] h k = omega arith
+are_bytes (b ∷ bs) h zero = ltb-true b 256 (search ands)
+are_bytes (b ∷ bs) h (suc k) = are_bytes bs (search ands) k
+
+-- what is printed of a block is a word, and spells the block
+block_again : (bs : List ℕ) → is_one_block bs ≡ true → (is_block_word (block_word bs) ≡ true) × (spelled_block (block_word bs) ≡ bs)
+block_again bs h = word_again bs (eqb-true (length bs) 512 (search ands)) (are_bytes bs (search ands))
+
+pub block_said : (bs : List ℕ) → is_one_block bs ≡ true → block_of (block_word bs) ≡ Some bs
+unfolding block_of
+block_said bs h = cond-true _ _ _ (block_again bs h).0 ∙ ap Some (block_again bs h).1
+
+block_dark : (w : List ℕ) → is_block_word w ≡ true → is_dark_word w ≡ true
+block_dark [] h = absurd (both_ways false refl h)
+block_dark (b ∷ bs) h = elim (or_cases (is_short_word (b ∷ bs)) (is_long_word (b ∷ bs)) h) [
+  | inl short ↦ and_from _ _ (ap is_dark (eqb-true b 61 (search ands))) (all_by is_hex_digit is_dark hex_is_dark bs (search ands))
+  | inr long ↦ all_by is_hex_digit is_dark hex_is_dark (b ∷ bs) (search ands)
+]
+
+pub block_is_word : (bs : List ℕ) → is_one_block bs ≡ true → is_dark_word (block_word bs) ≡ true
+block_is_word bs h = block_dark (block_word bs) (block_again bs h).0
+
+-- ---- sorts and classes
+
+-- numbers of a sort are below 2^40
+abbrev is_fair : Sort → Bool
+is_fair (Sort.Number low high) = nat_le high (2 ^ 40 - 1)
+is_fair s = true
+
+abbrev pub is_fixed : Sort → Bool
+is_fixed Sort.Word = true
+is_fixed s = false
+
+-- a front without blanks, which is some bytes where nothing follows it
+abbrev pub is_fair_class : Class → Bool
+is_fair_class c = list_all is_dark (text_of c.front) && (is_fair c.sort && (not (is_fixed c.sort) || nat_lt 0 (length (text_of c.front))))
+
+-- the text behind a front: none behind a fixed word
+abbrev IsBehind : Bool → List ℕ → Type 0
+IsBehind true w = w ≡ []
+IsBehind false w = IsText w
+
+-- the text of a value says it, and has no blank
+record Shown (s : Sort) (v : Value) : Type 0 where
+  pub says : sort_value s (value_text s v) ≡ Some v
+  pub text : IsBehind (is_fixed s) (value_text s v)
+
+value_shown : (s : Sort) (v : Value) → is_fair s ≡ true → is_of s v ≡ true → Shown s v
+value_shown Sort.Word Value.Word f h = record { says = refl; text = refl }
+value_shown Sort.Named (Value.Named name) f h = record { says = ap as_name (name_said name h); text = search shown }
+value_shown (Sort.Number low high) (Value.Number n) f h =
+    let small : n < 2 ^ 40 = grind (arith, nat_tests) in
+    record { says = ap as_number (ranged_said low high n small h); text = decimal_shown n (omega (arith, small)) }
+value_shown Sort.Length (Value.Number n) f h =
+    let small : n ≤ 2 ^ 40 = grind (arith, nat_tests) in
+    record { says = ap as_number (length_said n small h); text = decimal_shown n (omega (arith, small)) }
+value_shown Sort.Byte (Value.Number n) f h =
+    let same : n % 256 ≡ n = grind (arith, nat_tests) in
+    record { says = ap (λ m. as_number (byte_of (hex m))) same ∙ ap as_number (byte_said n (ltb-true n 256 h)); text = record { some = omega arith; dark = ap (λ m. list_all is_dark (hex m)) same ∙ all_by is_hex_digit is_dark hex_is_dark (hex n) (digits_hex n (ltb-true n 256 h)) } }
+value_shown Sort.Pair (Value.Pair pair) f h = record { says = ap as_pair (pair_said pair h); text = pair_shown pair h }
+value_shown Sort.BreakOff (Value.BreakOff vol snap plex) f h = record { says = break_off_said vol snap plex (search ands) (search ands) (search ands); text = break_shown vol snap plex (search ands) (search ands) (search ands) }
+value_shown s v f h = absurd (both_ways false refl h)
+
+-- the word of a value of a class says it, and has no blank
+pub record ShownClass (c : Class) (v : Value) : Type 0 where
+  pub says : class_value c (class_word c v) ≡ Some v
+  pub dark : is_dark_word (class_word c v) ≡ true
+
+pub class_shown : (c : Class) (v : Value) → is_fair_class c ≡ true → is_of c.sort v ≡ true → ShownClass c v
+unfolding class_value
+class_shown c v f h =
+    let x = value_shown c.sort v (search ands) h in
+    record { says = ap (value_behind c.sort) (behind_front (text_of c.front) (value_text c.sort v)) ∙ x.says; dark = text_word (class_word c v) (with_front (is_fixed c.sort) (text_of c.front) (value_text c.sort v) (search ands) (search ands) x.text) }
+  where
+    with_front : (q : Bool) (front w : List ℕ) → list_all is_dark front ≡ true → (not q || nat_lt 0 (length front)) ≡ true → IsBehind q w → IsText (front ++ w)
+    with_front true front w d h t = rw (t, append-nil) (record { some = ltb-true 0 (length front) h; dark = d })
+    with_front false front w d h t = record { some = omega (arith, t.some, length-append front w); dark = dark_both front w d t.dark }
 
 -- the first of the words, or nothing
 abbrev head_word : List (List ℕ) → List ℕ
@@ -50,28 +242,28 @@ so values rest = record { values = values; rest = rest }
 
 -- such a word ends the part
 abbrev Ends : Item → List ℕ → Type 0
-Ends (Maybe c) w = class_value c w ≡ None
-Ends Group w = bytes_eq w (codes "-g") ≡ false
-Ends Names w = name_of w ≡ None
-Ends Pairs w = pair_of w ≡ None
-Ends Blocks w = block_of w ≡ None
+Ends (Item.Maybe c) w = class_value c w ≡ None
+Ends Item.Group w = bytes_eq w (codes "-g") ≡ false
+Ends Item.Names w = name_of w ≡ None
+Ends Item.Pairs w = pair_of w ≡ None
+Ends Item.Blocks w = block_of w ≡ None
 Ends i w = Unit {0}
 
 -- this holds of each word that may come first, whatever stands behind its front
 abbrev Firsts : (List ℕ → Type 0) → List Item → Type 0
 Firsts P [] = (x : List ℕ) → P (codes "cut=" ++ x)
-Firsts P (One d ∷ is) = (x : List ℕ) → P (text_of d.front ++ x)
-Firsts P (Maybe d ∷ is) = ((x : List ℕ) → P (text_of d.front ++ x)) × Firsts P is
-Firsts P (NoGroup ∷ is) = Firsts P is
-Firsts P (Names ∷ is) = ((n : List ℕ) → is_name n ≡ true → P n) × Firsts P is
+Firsts P (Item.One d ∷ is) = (x : List ℕ) → P (text_of d.front ++ x)
+Firsts P (Item.Maybe d ∷ is) = ((x : List ℕ) → P (text_of d.front ++ x)) × Firsts P is
+Firsts P (Item.NoGroup ∷ is) = Firsts P is
+Firsts P (Item.Names ∷ is) = ((n : List ℕ) → is_name n ≡ true → P n) × Firsts P is
 Firsts P is = ⊥
 
 -- the words of the part can be told from those behind them
 abbrev Told : Item → List Item → Type 0
-Told (One c) is = is_fair_class c ≡ true
-Told (Maybe c) is = (is_fair_class c ≡ true) × (class_value c [] ≡ None) × Firsts (Ends (Maybe c)) is
-Told Group is = Firsts (Ends Group) is
-Told NoGroup is = Unit {0}
+Told (Item.One c) is = is_fair_class c ≡ true
+Told (Item.Maybe c) is = (is_fair_class c ≡ true) × (class_value c [] ≡ None) × Firsts (Ends (Item.Maybe c)) is
+Told Item.Group is = Firsts (Ends Item.Group) is
+Told Item.NoGroup is = Unit {0}
 Told i is = is ≡ []
 
 abbrev pub Clear : List Item → Type 0
@@ -96,19 +288,19 @@ ruleset fronts = (no_front, no_name)
 
 pub all_clear : (k : Kind) → Clear (items_of k)
 unfolding class_value
-all_clear kind.Read = search fronts
+all_clear Kind.Read = search fronts
 all_clear k = search fronts depth 40
 
 first_has : (P : List ℕ → Type 0) → P [] → (is : List Item) (vs : List Value) (cut : Option ℕ) → Firsts P is → are_of is vs ≡ true → P (head_word (row_words is vs ++ cut_words cut))
 first_has P none [] [] None b a = none
 first_has P none [] [] (Some n) b a = b (decimal n)
-first_has P none (One d ∷ is) (v ∷ vs) cut b a = b (value_text d.sort v)
-first_has P none (Maybe d ∷ is) (value.Nothing ∷ vs) cut b a = first_has P none is vs cut b.1 a
-first_has P none (Maybe d ∷ is) (v ∷ vs) cut b a = b.0 (value_text d.sort v)
-first_has P none (NoGroup ∷ is) (v ∷ vs) cut b a = first_has P none is vs cut b (search ands)
-first_has P none (Names ∷ is) (value.Names [] ∷ vs) cut b a = first_has P none is vs cut b.1 a
-first_has P none (Names ∷ is) (value.Names (n ∷ ns) ∷ vs) cut b a = b.0 n (search ands)
-first_has P none (Names ∷ is) (v ∷ vs) cut b a = absurd (both_ways false refl a)
+first_has P none (Item.One d ∷ is) (v ∷ vs) cut b a = b (value_text d.sort v)
+first_has P none (Item.Maybe d ∷ is) (Value.Nothing ∷ vs) cut b a = first_has P none is vs cut b.1 a
+first_has P none (Item.Maybe d ∷ is) (v ∷ vs) cut b a = b.0 (value_text d.sort v)
+first_has P none (Item.NoGroup ∷ is) (v ∷ vs) cut b a = first_has P none is vs cut b (search ands)
+first_has P none (Item.Names ∷ is) (Value.Names [] ∷ vs) cut b a = first_has P none is vs cut b.1 a
+first_has P none (Item.Names ∷ is) (Value.Names (n ∷ ns) ∷ vs) cut b a = b.0 n (search ands)
+first_has P none (Item.Names ∷ is) (v ∷ vs) cut b a = absurd (both_ways false refl a)
 first_has P none (i ∷ is) (v ∷ vs) cut b a = absurd b
 first_has P none is vs cut b a = absurd (both_ways false refl a)
 
@@ -120,14 +312,14 @@ cut_said n h = ap number_behind (behind_front (codes "cut=") (decimal n)) ∙ ra
 
 part_ends : (i : Item) (is : List Item) (vs : List Value) (cut : Option ℕ) → Told i is → are_of is vs ≡ true → maybe_cut cut ≡ true → Ends i (head_word (row_words is vs ++ cut_words cut))
 unfolding block_of
-part_ends (One c) is vs cut e a short = tt
-part_ends NoGroup is vs cut e a short = tt
-part_ends (Maybe c) is vs cut e a short = first_has (Ends (Maybe c)) e.1 is vs cut e.2 a
-part_ends Group is vs cut e a short = first_has (Ends Group) refl is vs cut e a
+part_ends (Item.One c) is vs cut e a short = tt
+part_ends Item.NoGroup is vs cut e a short = tt
+part_ends (Item.Maybe c) is vs cut e a short = first_has (Ends (Item.Maybe c)) e.1 is vs cut e.2 a
+part_ends Item.Group is vs cut e a short = first_has (Ends Item.Group) refl is vs cut e a
 part_ends i [] vs None e a short = refl
-part_ends Names [] vs (Some n) e a short = no_name (decimal n)
-part_ends Pairs [] vs (Some n) e a short = cond-true _ _ _ (ap is_some (cut_said n short))
-part_ends Blocks [] vs (Some n) e a short =
+part_ends Item.Names [] vs (Some n) e a short = no_name (decimal n)
+part_ends Item.Pairs [] vs (Some n) e a short = cond-true _ _ _ (ap is_some (cut_said n short))
+part_ends Item.Blocks [] vs (Some n) e a short =
     let word : List ℕ = codes "cut=" ++ decimal n in
     let few : length (decimal n) ≤ 31 = decimal_short n (grind (arith, nat_tests)) in
     cond-false _ _ _ (or_from _ _ (and_left _ _ (and_right (length word == 3) false refl)) (and_left _ _ (ne_eqb (length word) 1024 (λ e. omega (arith, few, e)))))
@@ -203,35 +395,49 @@ whole_blocks bytes h =
 one_is : (c : Class) (old : List Value) (t : List ℕ) (ws : List (List ℕ)) (o : Option Value) → Spells t ws → class_value c (head_word ws) ≡ o → one c old t ≡ taken o old (from_word t)
 one_is c old t ws o s says = ap (λ f. taken (class_value c f) old (from_word t)) (first_is t ws s) ∙ ap (λ o. taken o old (from_word t)) says
 
--- the part reads the words of the value, and leaves those behind them
-part_reads : (i : Item) (is : List Item) (v : Value) (ws : List (List ℕ)) → Told i is → of_item i v ≡ true → Ends i (head_word ws) → (t : List ℕ) (old : List Value) → Spells t (words_of i v ++ ws) → (rest : List ℕ) × (item i old t ≡ Ok (so (old ++ v ∷ []) rest)) × Spells rest ws
-part_reads (One c) is v ws f h none t old s = (past_word (from_word t), one_is c old t (class_word c v ∷ ws) (Some v) s (class_shown c v f h).says, s.2)
-part_reads (Maybe c) is value.Nothing ws f h none t old s = (t, ap (λ g. or_else g (with_value old value.Nothing t)) (one_is c old t ws None s none), s)
-part_reads (Maybe c) is v ws f h none t old s = (past_word (from_word t), ap (λ g. or_else g (with_value old value.Nothing t)) (one_is c old t (class_word c v ∷ ws) (Some v) s (class_shown c v f.0 h).says), s.2)
-part_reads Group is value.Nothing ws f h none t old s = (t, cond-false _ _ _ (ap (λ w. bytes_eq w (codes "-g")) (first_is t ws s) ∙ none), s)
-part_reads Group is (value.Named name) ws f h none t old s = (past_word (from_word (past_word (from_word t))), cond-true _ _ _ (ap (λ w. bytes_eq w (codes "-g")) s.1) ∙ one_is any_name old (past_word (from_word t)) (name ∷ ws) (Some (value.Named name)) s.2 (class_shown any_name (value.Named name) refl h).says, s.2.2)
-part_reads NoGroup is value.Nothing ws f h none t old s = (t, refl, s)
-part_reads Names is (value.Names names) ws f h none t old s =
+-- the part reads words as this value, and leaves those behind them
+abbrev Reads : Item → Value → List (List ℕ) → Type 0
+Reads i v ws = Ends i (head_word ws) → (t : List ℕ) (old : List Value) → Spells t (words_of i v ++ ws) → (rest : List ℕ) × (item i old t ≡ Ok (so (old ++ v ∷ []) rest)) × Spells rest ws
+
+-- the words of a part have no blank, and are read as its value
+part_said : (i : Item) (is : List Item) (v : Value) (ws : List (List ℕ)) → Told i is → of_item i v ≡ true → (list_all is_dark_word (words_of i v) ≡ true) × Reads i v ws
+part_said (Item.One c) is v ws f h = (and_from _ _ (class_shown c v f h).dark refl, λ none t old s. (past_word (from_word t), one_is c old t (class_word c v ∷ ws) (Some v) s (class_shown c v f h).says, s.2))
+part_said (Item.Maybe c) is Value.Nothing ws f h = (refl, λ none t old s. (t, ap (λ g. or_else g (with_value old Value.Nothing t)) (one_is c old t ws None s none), s))
+part_said (Item.Maybe c) is v ws f h = (and_from _ _ (class_shown c v f.0 h).dark refl, λ none t old s. (past_word (from_word t), ap (λ g. or_else g (with_value old Value.Nothing t)) (one_is c old t (class_word c v ∷ ws) (Some v) s (class_shown c v f.0 h).says), s.2))
+part_said Item.Group is Value.Nothing ws f h = (refl, λ none t old s. (t, cond-false _ _ _ (ap (λ w. bytes_eq w (codes "-g")) (first_is t ws s) ∙ none), s))
+part_said Item.Group is (Value.Named name) ws f h = (and_from _ _ (name_word name h) refl, λ none t old s. (past_word (from_word (past_word (from_word t))), cond-true _ _ _ (ap (λ w. bytes_eq w (codes "-g")) s.1) ∙ one_is any_name old (past_word (from_word t)) (name ∷ ws) (Some (Value.Named name)) s.2 (class_shown any_name (Value.Named name) refl h).says, s.2.2))
+part_said Item.NoGroup is Value.Nothing ws f h = (refl, λ none t old s. (t, refl, s))
+part_said Item.Names is (Value.Names names) ws f h = (all_that is_name is_dark_word name_word names h, λ none t old s.
     let few : length names ≤ length t = omega (arith, few_words t (names ++ ws) s, length-append names ws) in
     let g = gathers name_of pushed (λ w. w) is_name name_said ws none (length t) names [] t h few (subst (λ xs. Spells t (xs ++ ws)) (sym (map-id names)) s) in
-    (g.0, ap (λ f. Ok (said old value.Names f)) g.1 ∙ ap (λ ns. Ok (with_value old (value.Names ns) g.0)) (all_pushed [] names), g.2)
-part_reads Pairs is (value.Pairs (p ∷ ps)) ws f h none t old s =
+    (g.0, ap (λ f. Ok (said old Value.Names f)) g.1 ∙ ap (λ ns. Ok (with_value old (Value.Names ns) g.0)) (all_pushed [] names), g.2))
+part_said Item.Pairs is (Value.Pairs (p ∷ ps)) ws f h =
+    let good = right_of (nat_lt 0 (length (p ∷ ps))) (list_all is_pair (p ∷ ps)) h in
+    (list_all-map is_dark_word pair_word (p ∷ ps) ∙ all_that is_pair (λ q. is_dark_word (pair_word q)) (λ q k. text_word (pair_word q) (pair_shown q k)) (p ∷ ps) good, λ none t old s.
     let few : length ps ≤ length (past_word (from_word t)) = omega (arith, few_words (past_word (from_word t)) (map pair_word ps ++ ws) s.2, length-append (map pair_word ps) ws, length-map ps pair_word) in
-    let g = some_gather pair_of pushed pair_word is_pair pair_said ws none (length (past_word (from_word t))) p ps (λ x. x ∷ []) value.Pairs old t (right_of (nat_lt 0 (length (p ∷ ps))) (list_all is_pair (p ∷ ps)) h) few s in
-    (g.0, g.1 ∙ ap (λ xs. Ok (with_value old (value.Pairs xs) g.0)) (all_pushed (p ∷ []) ps), g.2)
-part_reads Blocks is (value.Blocks bytes) ws f h none t old s =
+    let g = some_gather pair_of pushed pair_word is_pair pair_said ws none (length (past_word (from_word t))) p ps (λ x. x ∷ []) Value.Pairs old t good few s in
+    (g.0, g.1 ∙ ap (λ xs. Ok (with_value old (Value.Pairs xs) g.0)) (all_pushed (p ∷ []) ps), g.2))
+part_said Item.Blocks is (Value.Blocks bytes) ws f h =
     let w = whole_blocks bytes h in
-    let g = some_gather block_of joined block_word is_one_block block_said ws none 63 (take 512 bytes) (cut_blocks w.more (drop 512 bytes)) (λ b. b) value.Blocks old t w.blocks.good (omega (arith, w.few, w.blocks.count)) (subst (λ (n : ℕ). Spells t (map block_word (cut_blocks n bytes) ++ ws)) w.count s) in
-    (g.0, g.1 ∙ ap (λ xs. Ok (with_value old (value.Blocks xs) g.0)) (w.blocks.whole []), g.2)
-part_reads i is v ws f h none t old s = absurd (both_ways false refl h)
+    (ap (λ n. list_all is_dark_word (map block_word (cut_blocks n bytes))) w.count ∙ list_all-map is_dark_word block_word (cut_blocks (suc w.more) bytes) ∙ all_that is_one_block (λ b. is_dark_word (block_word b)) block_is_word (cut_blocks (suc w.more) bytes) w.blocks.good, λ none t old s.
+    let g = some_gather block_of joined block_word is_one_block block_said ws none 63 (take 512 bytes) (cut_blocks w.more (drop 512 bytes)) (λ b. b) Value.Blocks old t w.blocks.good (omega (arith, w.few, w.blocks.count)) (subst (λ (n : ℕ). Spells t (map block_word (cut_blocks n bytes) ++ ws)) w.count s) in
+    (g.0, g.1 ∙ ap (λ xs. Ok (with_value old (Value.Blocks xs) g.0)) (w.blocks.whole []), g.2))
+part_said i is v ws f h = absurd (both_ways false refl h)
 
-row_reads : (is : List Item) (vs : List Value) (cut : Option ℕ) → Clear is → are_of is vs ≡ true → maybe_cut cut ≡ true → (t : List ℕ) (old : List Value) → Spells t (row_words is vs ++ cut_words cut) → (rest : List ℕ) × (items is (Ok (so old t)) ≡ Ok (so (old ++ vs) rest)) × Spells rest (cut_words cut)
-row_reads [] [] cut c a short t old s = (t, ap (λ xs. Ok (so xs t)) (sym (append-nil old)), s)
-row_reads (i ∷ is) (v ∷ vs) cut c a short t old s =
-    let one = part_reads i is v (row_words is vs ++ cut_words cut) c.0 (search ands) (part_ends i is vs cut c.0 (search ands) short) t old (subst (Spells t) (append_assoc (words_of i v) (row_words is vs) (cut_words cut)) s) in
-    let more = row_reads is vs cut c.1 (search ands) short one.0 (old ++ v ∷ []) one.2 in
-    (more.0, ap (items is) one.1 ∙ more.1 ∙ ap (λ xs. Ok (so xs more.0)) (append_assoc old (v ∷ []) vs), more.2)
-row_reads is vs cut c a short t old s = absurd (both_ways false refl a)
+-- what a row of values says: its words have no blank, and are read as the values up to the words of a cut
+record RowSaid (is : List Item) (vs : List Value) (cut : Option ℕ) : Type 0 where
+  pub dark : list_all is_dark_word (row_words is vs ++ cut_words cut) ≡ true
+  pub reads : (t : List ℕ) (old : List Value) → Spells t (row_words is vs ++ cut_words cut) → (rest : List ℕ) × (items is (Ok (so old t)) ≡ Ok (so (old ++ vs) rest)) × Spells rest (cut_words cut)
+
+row_said : (is : List Item) (vs : List Value) (cut : Option ℕ) → Clear is → are_of is vs ≡ true → maybe_cut cut ≡ true → RowSaid is vs cut
+row_said [] [] None c a short = record { dark = refl; reads = λ t old s. (t, ap (λ xs. Ok (so xs t)) (sym (append-nil old)), s) }
+row_said [] [] (Some n) c a short = record { dark = and_from _ _ (class_shown (record { front = Key.Cut; sort = Sort.Number 0 (2 ^ 40 - 1) }) (Value.Number n) refl (cut_fits n short)).dark refl; reads = λ t old s. (t, ap (λ xs. Ok (so xs t)) (sym (append-nil old)), s) }
+row_said (i ∷ is) (v ∷ vs) cut c a short =
+    let ws : List (List ℕ) = row_words is vs ++ cut_words cut in
+    let part = part_said i is v ws c.0 (search ands) in
+    let row = row_said is vs cut c.1 (search ands) short in
+    record { dark = ap (list_all is_dark_word) (append_assoc (words_of i v) (row_words is vs) (cut_words cut)) ∙ list_all-append is_dark_word (words_of i v) ws ∙ and_from _ _ part.0 row.dark; reads = λ t old s. (let one = part.1 (part_ends i is vs cut c.0 (search ands) short) t old (subst (Spells t) (append_assoc (words_of i v) (row_words is vs) (cut_words cut)) s) in let more = row.reads one.0 (old ++ v ∷ []) one.2 in (more.0, ap (items is) one.1 ∙ more.1 ∙ ap (λ xs. Ok (so xs more.0)) (append_assoc old (v ∷ []) vs), more.2)) }
+row_said is vs cut c a short = absurd (both_ways false refl a)
 
 -- ---- whole lines
 
@@ -248,58 +454,39 @@ end_read true (Some n) vs t h s = ap (λ w. cut_end (cut_of w) vs (from_word t))
 pub row_read : (b : Bool) (cut : Option ℕ) (is : List Item) (vs : List Value) (t : List ℕ) → may_end b cut ≡ true → Clear is → are_of is vs ≡ true → Spells t (row_words is vs ++ cut_words cut) → row b is t ≡ Ok (record { values = vs; cut = cut })
 unfolding row
 row_read b cut is vs t h c a s =
-    let m = row_reads is vs cut c a (search ands) t [] s in
+    let m = (row_said is vs cut c a (search ands)).reads t [] s in
     ap (λ g. and_then g (line_end b)) m.1 ∙ end_read b cut vs m.0 h m.2
 
--- ---- no word has a blank or a newline
-
-part_dark : (i : Item) (is : List Item) (v : Value) → Told i is → of_item i v ≡ true → list_all is_dark_word (words_of i v) ≡ true
-part_dark (One c) is v f h = and_from _ _ (class_shown c v f h).dark refl
-part_dark (Maybe c) is value.Nothing f h = refl
-part_dark (Maybe c) is v f h = and_from _ _ (class_shown c v f.0 h).dark refl
-part_dark Group is (value.Named name) f h = and_from _ _ (name_word name h) refl
-part_dark Names is (value.Names names) f h = all_that is_name is_dark_word name_word names h
-part_dark Pairs is (value.Pairs pairs) f h = list_all-map is_dark_word pair_word pairs ∙ all_that is_pair (λ p. is_dark_word (pair_word p)) (λ p k. text_word (pair_word p) (pair_shown p k)) pairs (search ands)
-part_dark Blocks is (value.Blocks bytes) f h =
-    let w = whole_blocks bytes h in
-    ap (λ n. list_all is_dark_word (map block_word (cut_blocks n bytes))) w.count ∙ list_all-map is_dark_word block_word (cut_blocks (suc w.more) bytes) ∙ all_that is_one_block (λ b. is_dark_word (block_word b)) block_is_word (cut_blocks (suc w.more) bytes) w.blocks.good
-part_dark i is v f h = refl
-
 pub line_dark : (is : List Item) (vs : List Value) (cut : Option ℕ) → Clear is → are_of is vs ≡ true → maybe_cut cut ≡ true → list_all is_dark_word (row_words is vs ++ cut_words cut) ≡ true
-line_dark [] vs None c a short = refl
-line_dark [] vs (Some n) c a short = and_from _ _ (class_shown (record { front = key.Cut; sort = sort.Number 0 (2 ^ 40 - 1) }) (value.Number n) refl (cut_fits n short)).dark refl
-line_dark (i ∷ is) [] cut c a short = absurd (both_ways false refl a)
-line_dark (i ∷ is) (v ∷ vs) cut c a short =
-    ap (list_all is_dark_word) (append_assoc (words_of i v) (row_words is vs) (cut_words cut)) ∙ list_all-append is_dark_word (words_of i v) (row_words is vs ++ cut_words cut) ∙ and_from _ _ (part_dark i is v c.0 (search ands)) (line_dark is vs cut c.1 (search ands) short)
+line_dark is vs cut c a short = (row_said is vs cut c a short).dark
 
 -- ---- parts that have no line in common
 
 -- no line of these parts begins with the word
 abbrev refuses : Bool → List Item → List ℕ → Bool
-refuses b (One c ∷ is) w = is_none (class_value c w)
-refuses b (Maybe c ∷ is) w = is_none (class_value c w) && refuses b is w
-refuses b (Names ∷ is) w = is_none (name_of w) && refuses b is w
+refuses b (Item.One c ∷ is) w = is_none (class_value c w)
+refuses b (Item.Maybe c ∷ is) w = is_none (class_value c w) && refuses b is w
+refuses b (Item.Names ∷ is) w = is_none (name_of w) && refuses b is w
 refuses true [] w = is_none (cut_of w)
 refuses false [] w = true
 refuses b is w = false
 
 -- no line is of these parts and of those
 abbrev pub are_apart : Bool → List Item → List Item → Bool
-are_apart b (One c ∷ is) (One d ∷ js) = (is_fixed d.sort && refuses b (One c ∷ is) (text_of d.front)) || are_apart b is js
-are_apart b (Group ∷ is) (Group ∷ js) = are_apart b is js
-are_apart b (NoGroup ∷ is) (NoGroup ∷ js) = are_apart b is js
-are_apart b is (One d ∷ js) = is_fixed d.sort && refuses b is (text_of d.front)
+are_apart b (Item.One c ∷ is) (Item.One d ∷ js) = (is_fixed d.sort && refuses b (Item.One c ∷ is) (text_of d.front)) || are_apart b is js
+are_apart b (Item.Group ∷ is) (Item.Group ∷ js) = are_apart b is js
+are_apart b (Item.NoGroup ∷ is) (Item.NoGroup ∷ js) = are_apart b is js
+are_apart b is (Item.One d ∷ js) = is_fixed d.sort && refuses b is (text_of d.front)
 are_apart b is js = false
 
 -- a fixed word is its front
 fixed_is : (k : Key) (s : Sort) (w : List ℕ) → is_fixed s ≡ true → accepts (record { front = k; sort = s }) w ≡ true → w ≡ text_of k
 unfolding class_value
-fixed_is k sort.Word w f a = by_front (bytes_eq (take (length (text_of k)) w) (text_of k)) (drop (length (text_of k)) w) refl refl a
+fixed_is k Sort.Word w f a = by_front (bytes_eq (take (length (text_of k)) w) (text_of k)) (drop (length (text_of k)) w) refl refl a
   where
-    by_front : (q : Bool) (rest : List ℕ) → bytes_eq (take (length (text_of k)) w) (text_of k) ≡ q → drop (length (text_of k)) w ≡ rest → is_some (value_behind sort.Word (cond q (Some rest) None)) ≡ true → w ≡ text_of k
+    by_front : (q : Bool) (rest : List ℕ) → bytes_eq (take (length (text_of k)) w) (text_of k) ≡ q → drop (length (text_of k)) w ≡ rest → is_some (value_behind Sort.Word (cond q (Some rest) None)) ≡ true → w ≡ text_of k
     by_front true [] same none a = sym (take-append-drop (length (text_of k)) w) ∙ ap (λ r. take (length (text_of k)) w ++ r) none ∙ append-nil (take (length (text_of k)) w) ∙ (bytes_eq-Decides _ (text_of k)).0 same
-    by_front true (x ∷ xs) same none a = absurd cc
-    by_front false rest same none a = absurd cc
+    by_front q rest same none a = absurd cc
 fixed_is k s w f a = absurd cc
 
 one_fits : (q : Bool) (w : List ℕ) (ws k : Words) (f : Words → Walked) → on (cond q (Ok ws) (Err (w ∷ ws))) f ≡ Ok k → (q ≡ true) × (f ws ≡ Ok k)
@@ -313,29 +500,29 @@ stays (suc n) p w ws e = ap (λ r. after r (some_words n p) (w ∷ ws)) (cond-fa
 refused : (b : Bool) (is : List Item) (w : List ℕ) (ws k : Words) → refuses b is w ≡ true → walk b is (w ∷ ws) ≡ Ok k → ⊥
 refused true [] w ws k r e = let bad = sym (cond-false _ _ _ (not-true (is_some (cut_of w)) r)) ∙ e in cc
 refused false [] w ws k r e = cc
-refused b (One c ∷ is) w ws k r e = both_ways (accepts c w) (not-true (accepts c w) r) (one_fits (accepts c w) w ws k (walk b is) e).0
-refused b (Maybe c ∷ is) w ws k r e = refused b is w ws k (search ands) (sym (ap (walk b is) (stays 1 (accepts c) w ws (not-true (accepts c w) (search ands)))) ∙ e)
-refused b (Names ∷ is) w ws k r e = refused b is w ws k (search ands) (sym (ap (walk b is) (stays (length (w ∷ ws)) is_named w ws (not-true (is_named w) (search ands)))) ∙ e)
+refused b (Item.One c ∷ is) w ws k r e = both_ways (accepts c w) (not-true (accepts c w) r) (one_fits (accepts c w) w ws k (walk b is) e).0
+refused b (Item.Maybe c ∷ is) w ws k r e = refused b is w ws k (search ands) (sym (ap (walk b is) (stays 1 (accepts c) w ws (not-true (accepts c w) (search ands)))) ∙ e)
+refused b (Item.Names ∷ is) w ws k r e = refused b is w ws k (search ands) (sym (ap (walk b is) (stays (length (w ∷ ws)) is_named w ws (not-true (is_named w) (search ands)))) ∙ e)
 refused b (i ∷ is) w ws k r e = both_ways false refl r
 
 -- a fixed word of the second row
-word_apart : (b : Bool) (is js : List Item) (d : Class) (w : List ℕ) (ws k l : Words) → (is_fixed d.sort && refuses b is (text_of d.front)) ≡ true → walk b is (w ∷ ws) ≡ Ok k → walk b (One d ∷ js) (w ∷ ws) ≡ Ok l → ⊥
+word_apart : (b : Bool) (is js : List Item) (d : Class) (w : List ℕ) (ws k l : Words) → (is_fixed d.sort && refuses b is (text_of d.front)) ≡ true → walk b is (w ∷ ws) ≡ Ok k → walk b (Item.One d ∷ js) (w ∷ ws) ≡ Ok l → ⊥
 word_apart b is js d w ws k l a e f =
     let word : w ≡ text_of d.front = fixed_is d.front d.sort w (search ands) (one_fits (accepts d w) w ws l (walk b js) f).0 in
     refused b is w ws k (ap (refuses b is) word ∙ (right_of (is_fixed d.sort) _ a)) e
 
 pub rows_apart : (b : Bool) (is js : List Item) (ws k l : Words) → are_apart b is js ≡ true → walk b is ws ≡ Ok k → walk b js ws ≡ Ok l → ⊥
-rows_apart b (One c ∷ is) (One d ∷ js) [] k l a e f = cc
-rows_apart b (One c ∷ is) (One d ∷ js) (w ∷ ws) k l a e f = elim (or_cases (is_fixed d.sort && refuses b (One c ∷ is) (text_of d.front)) (are_apart b is js) a) [
-  | inl here ↦ word_apart b (One c ∷ is) js d w ws k l here e f
+rows_apart b (Item.One c ∷ is) (Item.One d ∷ js) [] k l a e f = cc
+rows_apart b (Item.One c ∷ is) (Item.One d ∷ js) (w ∷ ws) k l a e f = elim (or_cases (is_fixed d.sort && refuses b (Item.One c ∷ is) (text_of d.front)) (are_apart b is js) a) [
+  | inl here ↦ word_apart b (Item.One c ∷ is) js d w ws k l here e f
   | inr later ↦ rows_apart b is js ws k l later (one_fits (accepts c w) w ws k (walk b is) e).1 (one_fits (accepts d w) w ws l (walk b js) f).1
 ]
-rows_apart b (Group ∷ is) (Group ∷ js) ws k l a e f = by_group (group_words ws) e f (λ vs. rows_apart b is js vs k l a)
+rows_apart b (Item.Group ∷ is) (Item.Group ∷ js) ws k l a e f = by_group (group_words ws) e f (λ vs. rows_apart b is js vs k l a)
   where
     by_group : (r : Walked) → on r (walk b is) ≡ Ok k → on r (walk b js) ≡ Ok l → ((vs : Words) → walk b is vs ≡ Ok k → walk b js vs ≡ Ok l → ⊥) → ⊥
     by_group (Ok vs) e f more = more vs e f
     by_group (Err bad) e f more = cc
-rows_apart b (NoGroup ∷ is) (NoGroup ∷ js) ws k l a e f = rows_apart b is js ws k l a e f
-rows_apart b is (One d ∷ js) [] k l a e f = cc
-rows_apart b is (One d ∷ js) (w ∷ ws) k l a e f = word_apart b is js d w ws k l a e f
+rows_apart b (Item.NoGroup ∷ is) (Item.NoGroup ∷ js) ws k l a e f = rows_apart b is js ws k l a e f
+rows_apart b is (Item.One d ∷ js) [] k l a e f = cc
+rows_apart b is (Item.One d ∷ js) (w ∷ ws) k l a e f = word_apart b is js d w ws k l a e f
 rows_apart b is js ws k l a e f = both_ways false refl a

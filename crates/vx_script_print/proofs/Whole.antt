@@ -1,37 +1,38 @@
--- The printed lines of a form are read as the form, and so a whole script.
-use Rattle.std.proofs.Common.{◌≡◌, ◌∙◌, sym, ap, subst, refl, ℕ, ◌+◌, ◌≤◌, Bool, true, false, List, [], ◌∷◌, ◌++◌, map, length, arith, Option, Some, None, Ok, inl, inr, min, Result, Err}
-use Rattle.std.specs.Prelude.{codes, decimal, ◌&&◌, nat_le}
+-- A reader goes over the printed text of a script line by line, and has its commands at the end.
+use Rattle.std.proofs.Common.{◌≡◌, ◌∙◌, sym, ap, subst, refl, ℕ, ◌+◌, ◌<◌, inl, inr, true, false, List, [], ◌∷◌, ◌++◌, length, arith, Option, None, Ok, ◌≤◌, Bool, map, Some, min, Result, Err}
+use Rattle.std.specs.Prelude.{codes, is_none, ◌==◌, decimal, ◌&&◌, nat_le}
 use Rattle.std.specs.List.{list_all, flat_map, sum}
 use Rattle.std.specs.Str.{bytes_eq}
 use Rattle.std.proofs.lemmas.List.{append-nil, append_assoc}
+use Rattle.std.proofs.lemmas.List.Folds.{list_all-append}
+use Rattle.std.proofs.lemmas.Bool.{and_parts, and_from, both_ways, cases_Bool, cond-true, cond-false, eqb-true, ltb-true, ne_eqb, not-true, not_from_false, or_from, false_from_ne_true, leb-true, le-leb}
+use Rattle.vx_script.specs.Kept.{is_made, is_record_line, ends_line, is_said, is_line, is_command, is_kept, is_body, maybe_cut}
+use Rattle.vx_script.specs.Lines.{lines_from, lines_of, bad_word, begins_comment, is_passed_over}
+use Rattle.vx_script.specs.Script.{commands_from, stepped, script_of}
+use Rattle.vx_script.specs.Steps.{step, or_bad, command_step, opened, opened_by, line_behind, called, administered, session_line, line_of_session, added, line_calls, line_sectors}
+use Rattle.vx_script.specs.declared.command.Command.{Command}
+use Rattle.vx_script.specs.declared.reader.Reader.{Reader}
+use Rattle.vx_script_words.specs.Spelling.{Spells, spelled, begun}
+use Rattle.vx_script_words.specs.Words.{is_not_blank, from_word, first_word, past_word}
+use Rattle.vx_script_words.proofs.Plain.{is_dark, is_dark_word, is_not, all_by, name_word}
+use Rattle.vx_script_words.proofs.Spelled.{is_word, begun_words}
+use Rattle.vx_script_print.proofs.Rows.{ands, all_that, left_of, right_of, number_said, may_end, row_read, line_dark, all_clear, are_apart, rows_apart}
+use Rattle.vx_script.specs.declared.reader.Open.{Open}
 use Rattle.std.proofs.lemmas.List.Sums.{sum_by-cons}
-use Rattle.std.proofs.lemmas.Bool.{and_parts, and_from, both_ways, cond-false, cond-true, false_from_ne_true, leb-true, le-leb, ne_eqb}
 use Rattle.std.proofs.lemmas.Slice.Eq.{bytes_eq-Decides}
 use Rattle.vx_names.specs.Form.{is_name, is_letter_or_digit}
 use Rattle.vx_names.proofs.Numbers.{decimal_name}
 use Rattle.vx_script.specs.Choice.{choose, choice, or_others}
-use Rattle.vx_script.specs.Kept.{is_said, is_line, is_command, is_kept, is_body, maybe_cut}
-use Rattle.vx_script.specs.Lines.{begins_comment, is_passed_over, lines_of}
-use Rattle.vx_script.specs.Script.{commands_from, script_of}
-use Rattle.vx_script.specs.Steps.{step, command_step, opened, opened_by, line_behind, called, administered, session_line, line_of_session, added, line_calls, line_sectors}
-use Rattle.vx_script.specs.declared.command.Command.{Command}
-use Rattle.vx_script.specs.declared.reader.Open.TheVariants.{Closed, Inside}
-use Rattle.vx_script.specs.declared.reader.Reader.{Reader}
 use Rattle.vx_script.proofs.Placed.{In}
 use Rattle.vx_script_forms.specs.FormOf.{form_of}
 use Rattle.vx_script_forms.specs.Table.{items_of, commands, calls, acts}
 use Rattle.vx_script_forms.specs.Values.{maybe_name}
 use Rattle.vx_script_forms.specs.ValuesOf.{kind_of, values_of, opening, act_kind, call_kind}
 use Rattle.vx_script_forms.specs.declared.act.Act.{Act}
-use Rattle.vx_script_forms.specs.declared.act.Act.TheVariants as act
 use Rattle.vx_script_forms.specs.declared.call.Call.{Call}
-use Rattle.vx_script_forms.specs.declared.call.Call.TheVariants as call
 use Rattle.vx_script_forms.specs.declared.block.Line.{Line}
-use Rattle.vx_script_forms.specs.declared.block.Line.TheVariants.{Session, Administer}
 use Rattle.vx_script_forms.specs.declared.form.Form.{Form}
-use Rattle.vx_script_forms.specs.declared.form.Form.TheVariants as form
 use Rattle.vx_script_forms.specs.declared.kind.Kind.{Kind}
-use Rattle.vx_script_forms.specs.declared.kind.Kind.TheVariants as kind
 use Rattle.vx_script_forms.proofs.Forms.{form_again, group_again}
 use Rattle.vx_script_print.specs.Text.{class_word, value_text, row_words, form_words, cut_words, line_text, body_text, command_text, script_text}
 use Rattle.vx_script_words.specs.Class.{class_value}
@@ -39,62 +40,156 @@ use Rattle.vx_script_words.specs.Fits.{are_of, is_between}
 use Rattle.vx_script_words.specs.Key.{text_of}
 use Rattle.vx_script_words.specs.Number.{number_of, within}
 use Rattle.vx_script_words.specs.Row.{and_then, Read, row}
-use Rattle.vx_script_words.specs.Spelling.{Spells, begun}
-use Rattle.vx_script_words.specs.Words.{from_word, first_word, past_word}
 use Rattle.vx_script_words.specs.declared.class.Item.{Item}
-use Rattle.vx_script_words.specs.declared.class.Item.TheVariants.{One}
 use Rattle.vx_script_words.specs.declared.value.Value.{Value}
-use Rattle.vx_script_words.proofs.Plain.{is_dark_word, name_word}
-use Rattle.vx_script_print.proofs.Sorts.{number_said}
-use Rattle.vx_script_print.proofs.Rows.{may_end, row_read, line_dark, all_clear, are_apart, rows_apart}
-use Rattle.vx_script_print.proofs.Lines.{Reaches, stays_there, and_on, then_end, words_line, begun_spells, not_passed, making, records_read}
 use Rattle.vx_script_words.proofs.Lined.{Ends, row_walks}
 use Rattle.vx_script_words.proofs.Opens.{are_sound}
 use Rattle.vx_script_words.proofs.Walk.{Words, Walked, walk}
 
--- ---- the kinds of a list
+-- behind the text the reader is the other one, whatever comes then
+abbrev pub Reaches : Reader → List ℕ → Reader → Type 0
+Reaches r text next = (n : ℕ) (rest : List ℕ) → (k : ℕ) × (commands_from r n (lines_of (text ++ rest)) ≡ commands_from next k (lines_of rest))
 
-abbrev are_two : Bool → Kind → Kind → Bool
-are_two b k j = are_apart b (items_of k) (items_of j)
+pub stays_there : (r : Reader) → Reaches r [] r
+stays_there r n rest = (n, refl)
+
+pub and_on : (r s t : Reader) (x y : List ℕ) → Reaches r x s → Reaches s y t → Reaches r (x ++ y) t
+and_on r s t x y f g n rest =
+    let one = f n (y ++ rest) in
+    let two = g one.0 rest in
+    (two.0, ap (λ z. commands_from r n (lines_of z)) (append_assoc x y rest) ∙ one.1 ∙ two.1)
+
+-- ---- one line
+
+line_from : (begun_ line rest : List ℕ) → list_all (is_not 10) line ≡ true → lines_from begun_ (line ++ 10 ∷ rest) ≡ (begun_ ++ line) ∷ lines_from [] rest
+line_from begun_ [] rest h = ap (λ b. b ∷ lines_from [] rest) (sym (append-nil begun_))
+line_from begun_ (b ∷ bs) rest h =
+    cond-false _ _ _ (not-true (b == 10) (search ands)) ∙ line_from (begun_ ++ b ∷ []) bs rest (search ands) ∙ ap (λ t. t ∷ lines_from [] rest) (append_assoc begun_ (b ∷ []) bs)
+
+pub one_line : (r next : Reader) (line : List ℕ) → list_all (is_not 10) line ≡ true → step r line ≡ Ok next → Reaches r (line ++ 10 ∷ []) next
+unfolding lines_of
+one_line r next line h e n rest = (
+  n + 1,
+  ap (λ z. commands_from r n (lines_of z)) (append_assoc line (10 ∷ []) rest)
+      ∙ ap (commands_from r n) (line_from [] line rest h)
+      ∙ ap (λ s. stepped s (λ after. commands_from after (n + 1) (lines_of rest)) n line) e,
+)
+
+-- some text, and the line that ends it
+pub then_end : (r middle last : Reader) (text : List ℕ) → Reaches r text middle → step middle (codes "end") ≡ Ok last → Reaches r (text ++ codes "end" ++ 10 ∷ []) last
+then_end r middle last text f e =
+    subst (λ t. Reaches r t last) (sym (append_assoc text (codes "end") (10 ∷ []))) (and_on r middle last text (codes "end" ++ 10 ∷ []) f (one_line middle last (codes "end") refl e))
+
+-- ---- a line of words
+
+word_bytes : (w : List ℕ) → is_dark_word w ≡ true → list_all is_dark w ≡ true
+word_bytes [] h = refl
+word_bytes (b ∷ bs) h = h
+
+other_byte : (c b : ℕ) → c < 33 → is_dark b ≡ true → (b == c) ≡ false
+other_byte c b low h = let above : 32 < b = ltb-true 32 b h in ne_eqb b c (λ e. omega (arith, above, e, low))
+
+spelled_one_line : (ws : List (List ℕ)) → list_all is_dark_word ws ≡ true → list_all (is_not 10) (spelled ws) ≡ true
+spelled_one_line [] h = refl
+spelled_one_line (w ∷ ws) h =
+    list_all-append (is_not 10) w (spelled ws) ∙ and_from _ _ (all_by is_dark (is_not 10) (λ b d. not_from_false _ (other_byte 10 b (omega arith) d)) w (word_bytes w (search ands))) (spelled_one_line ws (search ands))
+
+begun_one_line : (ws : List (List ℕ)) → list_all is_dark_word ws ≡ true → list_all (is_not 10) (begun ws) ≡ true
+begun_one_line [] h = refl
+begun_one_line (w ∷ ws) h = spelled_one_line (w ∷ ws) h
+
+real_word : (w : List ℕ) → is_dark_word w ≡ true → is_word w ≡ true
+real_word [] h = h
+real_word (b ∷ bs) h = all_by is_dark is_not_blank (λ c d. not_from_false _ (or_from _ _ (other_byte 32 c (omega arith) d) (other_byte 9 c (omega arith) d))) (b ∷ bs) h
+
+-- a printed line has its words
+pub begun_spells : (ws : List (List ℕ)) → list_all is_dark_word ws ≡ true → Spells (begun ws) ws
+begun_spells ws h = begun_words ws (all_that is_dark_word is_word real_word ws h)
+
+pub words_line : (r next : Reader) (ws : List (List ℕ)) → list_all is_dark_word ws ≡ true → step r (begun ws) ≡ Ok next → Reaches r (begun ws ++ 10 ∷ []) next
+words_line r next ws h e = one_line r next (begun ws) (begun_one_line ws h) e
+
+-- a line of words that begins no comment is not passed over
+pub not_passed : (w : List ℕ) (ws : List (List ℕ)) → list_all is_dark_word (w ∷ ws) ≡ true → begins_comment w ≡ false → is_passed_over (begun (w ∷ ws)) ≡ false
+not_passed [] ws h c = absurd (both_ways false refl h)
+not_passed (b ∷ bs) ws h c =
+    let some = (begun_spells ((b ∷ bs) ∷ ws) h).0 in
+    or_from _ _ c (ne_eqb (length (from_word (begun ((b ∷ bs) ∷ ws)))) 0 (λ e. omega (arith, some, e)))
+
+-- ---- the lines of a record text
+
+ends_rest : (b : ℕ) (bs : List ℕ) → ends_line (b ∷ bs) ≡ true → ends_line bs ≡ true
+ends_rest b [] h = refl
+ends_rest b (c ∷ cs) h = h
+
+none_is : (o : Option ℕ) → is_none o ≡ true → o ≡ None
+none_is None h = refl
+none_is o h = absurd (both_ways false refl h)
+
+module _ (done : List Command) (group : Option (List ℕ)) (cut : Option ℕ) where
+  abbrev pub making : List ℕ → Reader
+  making text = record { done = done; begun = Open.Making group cut text }
+
+  record_step : (text line : List ℕ) → is_record_line line ≡ true → step (making text) line ≡ Ok (making (text ++ line ++ 10 ∷ []))
+  unfolding step
+  record_step text line h =
+      cond-false _ _ _ (not-true (bytes_eq line (codes "end")) (search ands)) ∙ ap (λ o. or_bad o (making (text ++ line ++ 10 ∷ []))) (none_is (bad_word line) (search ands))
+
+  -- the bytes that are left, behind those of a begun line
+  takes : (text begun bs : List ℕ) → list_all is_record_line (lines_from begun bs) ≡ true → ends_line bs ≡ true → (bs ≡ [] → begun ≡ []) → (n : ℕ) (rest : List ℕ) → (k : ℕ) × (commands_from (making text) n (lines_from begun (bs ++ rest)) ≡ commands_from (making (text ++ (begun ++ bs))) k (lines_from [] rest))
+  takes text begun [] h ends none n rest = (n, rw (none refl, append-nil) refl)
+  takes text begun (b ∷ bs) h ends none n rest = elim (cases_Bool (b == 10)) [
+    | inl newline ↦
+        let parts = and_parts (is_record_line begun) (list_all is_record_line (lines_from [] bs)) (sym (ap (list_all is_record_line) (cond-true _ _ _ newline)) ∙ h) in
+        let more = takes (text ++ begun ++ 10 ∷ []) [] bs parts.1 (ends_rest b bs ends) (λ e. refl) (n + 1) rest in
+        let same = append_assoc (text ++ begun) (10 ∷ []) bs ∙ append_assoc text begun (10 ∷ bs) ∙ ap (λ c. text ++ (begun ++ c ∷ bs)) (sym (eqb-true b 10 newline)) in (
+          more.0,
+          ap (commands_from (making text) n) (cond-true _ _ _ newline)
+              ∙ ap (λ s. stepped s (λ after. commands_from after (n + 1) (lines_from [] (bs ++ rest))) n begun) (record_step text begun parts.0)
+              ∙ more.1
+              ∙ ap (λ t. commands_from (making t) more.0 (lines_from [] rest)) same,
+        )
+    | inr other ↦
+        let more = takes text (begun ++ b ∷ []) bs (sym (ap (list_all is_record_line) (cond-false _ _ _ other)) ∙ h) (ends_rest b bs ends) (λ e. absurd (both_ways (b == 10) other (ap (λ xs. ends_line (b ∷ xs)) (sym e) ∙ ends))) n rest in
+        (more.0, ap (commands_from (making text) n) (cond-false _ _ _ other) ∙ more.1 ∙ ap (λ t. commands_from (making (text ++ t)) more.0 (lines_from [] rest)) (append_assoc begun (b ∷ []) bs))
+  ]
+
+  pub records_read : (text : List ℕ) → is_made text ≡ true → Reaches (making []) text (making text)
+  unfolding lines_of
+  records_read text h = takes [] [] text (search ands) (search ands) (λ e. refl)
+
+-- ---- the kinds of a list
 
 -- each two of the kinds have no line in common
 abbrev all_two : Bool → List Kind → Bool
 all_two b [] = true
-all_two b (k ∷ ks) = list_all (are_two b k) ks && all_two b ks
+all_two b (k ∷ ks) = list_all (λ j. are_apart b (items_of k) (items_of j)) ks && all_two b ks
 
-two_commands : all_two true commands ≡ true
+told_apart : (all_two true commands ≡ true) × (all_two false calls ≡ true) × (all_two false acts ≡ true)
 unfolding class_value
-two_commands = refl
-
-two_calls : all_two false calls ≡ true
-unfolding class_value
-two_calls = refl
-
-two_acts : all_two false acts ≡ true
-unfolding class_value
-two_acts = refl
+told_apart = (refl, refl, refl)
 
 in_commands : (k : Kind) → In k commands
-in_commands kind.Read = inl refl
+in_commands Kind.Read = inl refl
 in_commands k = search (inl, inr) depth 60 fits 4000
 
 in_calls : (c : Call) → In (call_kind c) calls
-in_calls (call.Read vol start count) = inl refl
+in_calls (Call.Read vol start count) = inl refl
 in_calls c = search (inl, inr) depth 60 fits 4000
 
 in_acts : (a : Act) → In (act_kind a) acts
-in_acts (act.SnapMake vol snap plex) = inl refl
-in_acts (act.Snapback snap true) = inr (inr (inr (inr (inl refl))))
+in_acts (Act.SnapMake vol snap plex) = inl refl
+in_acts (Act.Snapback snap true) = inr (inr (inr (inr (inl refl))))
 in_acts a = search (inl, inr) depth 60 fits 4000
 
 in_list : (p : Kind → Bool) (ks : List Kind) (k : Kind) → list_all p ks ≡ true → In k ks → p k ≡ true
 in_list p [] k h i = absurd i
-in_list p (x ∷ xs) k h (inl e) = ap p e ∙ (and_parts (p x) (list_all p xs) h).0
-in_list p (x ∷ xs) k h (inr i) = in_list p xs k (and_parts (p x) (list_all p xs) h).1 i
+in_list p (x ∷ xs) k h (inl e) = ap p e ∙ left_of (p x) (list_all p xs) h
+in_list p (x ∷ xs) k h (inr i) = in_list p xs k (search ands) i
 
 all_sound : (k : Kind) → are_sound (items_of k) ≡ true
 unfolding class_value
-all_sound kind.Read = refl
+all_sound Kind.Read = refl
 all_sound k = refl
 
 -- the words of a line that is of these parts
@@ -109,36 +204,33 @@ fit_words b k t ws read s e = by_walk (walk b (items_of k) ws) refl (subst (λ (
 chosen : (b : Bool) (ks : List Kind) (k : Kind) (t : List ℕ) (ws : Words) (read : Read) (n : ℕ) → all_two b ks ≡ true → In k ks → Spells t ws → row b (items_of k) t ≡ Ok read → choice b ks t n ≡ Ok (record { kind = k; values = read.values; cut = read.cut })
 chosen b [] k t ws read n two i s says = absurd i
 chosen b (x ∷ xs) k t ws read n two (inl e) s says = subst (λ (y : Kind). choice b (y ∷ xs) t n ≡ Ok (record { kind = k; values = read.values; cut = read.cut })) e (ap (λ g. or_others g k (choice b xs t) n) says)
-chosen b (x ∷ xs) k t ws read n two (inr i) s says = by_row (row b (items_of x) t) refl (λ m. chosen b xs k t ws read m (and_parts (list_all (are_two b x) xs) (all_two b xs) two).1 i s says)
+chosen b (x ∷ xs) k t ws read n two (inr i) s says = by_row (row b (items_of x) t) refl (λ m. chosen b xs k t ws read m (search ands) i s says)
   where
     by_row : (g : Result Read ℕ) → row b (items_of x) t ≡ g → ((m : ℕ) → choice b xs t m ≡ Ok (record { kind = k; values = read.values; cut = read.cut })) → or_others g x (choice b xs t) n ≡ Ok (record { kind = k; values = read.values; cut = read.cut })
     by_row (Err less) e more = more (min n less)
-    by_row (Ok other) e more = absurd (rows_apart b (items_of x) (items_of k) ws _ _ (in_list (are_two b x) xs k (and_parts (list_all (are_two b x) xs) (all_two b xs) two).0 i) (fit_words b x t ws other s e).1 (fit_words b k t ws read s says).1)
+    by_row (Ok other) e more = absurd (rows_apart b (items_of x) (items_of k) ws _ _ (in_list (λ j. are_apart b (items_of x) (items_of j)) xs k (search ands) i) (fit_words b x t ws other s e).1 (fit_words b k t ws read s says).1)
 
 -- ---- a line
 
 -- the first word begins no comment
 abbrev Plain : List Item → Type 0
-Plain (One c ∷ is) = (x : List ℕ) → begins_comment (text_of c.front ++ x) ≡ false
+Plain (Item.One c ∷ is) = (x : List ℕ) → begins_comment (text_of c.front ++ x) ≡ false
 Plain is = ⊥
 
 all_plain : (k : Kind) → Plain (items_of k)
-all_plain kind.Read = λ x. refl
+all_plain Kind.Read = λ x. refl
 all_plain k = λ x. refl
 
 -- a line of these parts is not passed over
 row_not_passed : (is : List Item) (vs : List Value) (tail : List (List ℕ)) → Plain is → are_of is vs ≡ true → list_all is_dark_word (row_words is vs ++ tail) ≡ true → is_passed_over (begun (row_words is vs ++ tail)) ≡ false
-row_not_passed (One c ∷ is) (v ∷ vs) tail p h dark = not_passed (class_word c v) (row_words is vs ++ tail) dark (p (value_text c.sort v))
-row_not_passed (One c ∷ is) [] tail p h dark = absurd (both_ways false refl h)
+row_not_passed (Item.One c ∷ is) (v ∷ vs) tail p h dark = not_passed (class_word c v) (row_words is vs ++ tail) dark (p (value_text c.sort v))
+row_not_passed (Item.One c ∷ is) [] tail p h dark = absurd (both_ways false refl h)
 row_not_passed is vs tail p h dark = absurd p
 
 -- ---- the words of a form
 
 form_dark : (g : Option (List ℕ)) (f : Form) (cut : Option ℕ) → is_said g f ≡ true → maybe_cut cut ≡ true → list_all is_dark_word (form_words g f ++ cut_words cut) ≡ true
 form_dark g f cut h short = line_dark (items_of (kind_of f)) (values_of g f) cut (all_clear (kind_of f)) h short
-
-uncut_dark : (g : Option (List ℕ)) (f : Form) → is_said g f ≡ true → list_all is_dark_word (form_words g f) ≡ true
-uncut_dark g f h = sym (ap (list_all is_dark_word) (append-nil (form_words g f))) ∙ form_dark g f None h refl
 
 -- a line of a form's words has its kind, and says its values
 is_chosen : (b : Bool) (kinds : List Kind) (g : Option (List ℕ)) (f : Form) (cut : Option ℕ) (t : List ℕ) → all_two b kinds ≡ true → In (kind_of f) kinds → may_end b cut ≡ true → is_said g f ≡ true → Spells t (form_words g f ++ cut_words cut) → choose b kinds t ≡ Ok (record { kind = kind_of f; values = values_of g f; cut = cut })
@@ -148,64 +240,51 @@ is_chosen b kinds g f cut t two i ends h s =
 command_said : (done : List Command) (g : Option (List ℕ)) (f : Form) (cut : Option ℕ) (t : List ℕ) → is_said g f ≡ true → maybe_cut cut ≡ true → Spells t (form_words g f ++ cut_words cut) → command_step done t ≡ Ok (opened done g (opening f) cut)
 unfolding command_step
 command_said done g f cut t h short s =
-    ap (λ r. and_then r (λ c. opened_by done (maybe_name c.values 1) (form_of c.kind c.values) c.cut)) (is_chosen true commands g f cut t two_commands (in_commands (kind_of f)) (and_from _ _ short refl) h s)
+    ap (λ r. and_then r (λ c. opened_by done (maybe_name c.values 1) (form_of c.kind c.values) c.cut)) (is_chosen true commands g f cut t told_apart.0 (in_commands (kind_of f)) (and_from _ _ short refl) h s)
     ∙ ap (λ x. opened_by done x (form_of (kind_of f) (values_of g f)) cut) (group_again g f)
     ∙ ap (λ x. opened_by done (Some g) x cut) (form_again g f h)
 
-uncut_chosen : (kinds : List Kind) (g : Option (List ℕ)) (f : Form) (t : List ℕ) → all_two false kinds ≡ true → In (kind_of f) kinds → is_said g f ≡ true → Spells t (form_words g f) → choose false kinds t ≡ Ok (record { kind = kind_of f; values = values_of g f; cut = None })
-uncut_chosen kinds g f t two i h s = is_chosen false kinds g f None t two i refl h (subst (Spells t) (sym (append-nil (form_words g f))) s)
-
 -- ---- the lines of a block
-
--- a word that is the number of a session
-record IsSession (word : List ℕ) (session : ℕ) : Type 0 where
-  pub is_one : is_dark_word word ≡ true
-  pub number : number_of word ≡ Some session
-  pub no_comment : begins_comment word ≡ false
 
 name_no_comment : (w : List ℕ) → is_name w ≡ true → begins_comment w ≡ false
 name_no_comment [] h = refl
-name_no_comment (b ∷ bs) h = ne_eqb b 35 (λ e. both_ways (is_letter_or_digit b) (ap is_letter_or_digit e) (and_parts (is_letter_or_digit b) _ (and_parts (is_letter_or_digit b && nat_le (length (b ∷ bs)) 31) _ h).0).0)
+name_no_comment (b ∷ bs) h = ne_eqb b 35 (λ e. both_ways (is_letter_or_digit b) (ap is_letter_or_digit e) (search ands))
 
 -- `end` is the number of none
 no_end : (word : List ℕ) (session : ℕ) → number_of word ≡ Some session → bytes_eq word (codes "end") ≡ false
 no_end word session e = false_from_ne_true (bytes_eq word (codes "end")) (λ same. (let none : None ≡ Some session = ap number_of (sym ((bytes_eq-Decides word (codes "end")).0 same)) ∙ e in cc))
 
--- what is read behind the number of a session
-abbrev Behind : ℕ → List (List ℕ) → Line → Type 0
-Behind session ws l = (t : List ℕ) → Spells t ws → line_behind session t ≡ Ok l
-
 module _ (done : List Command) (cut : Option ℕ) (sessions : ℕ) (most : sessions ≤ 16) where
   abbrev inside : List Line → ℕ → ℕ → Reader
-  inside lines calls_ sectors = record { done = done; begun = Inside cut sessions lines calls_ sectors }
+  inside lines calls_ sectors = record { done = done; begun = Open.Inside cut sessions lines calls_ sectors }
 
-  line_read : (lines : List Line) (calls_ sectors : ℕ) (word : List ℕ) (session : ℕ) (ws : List (List ℕ)) (l : Line) → IsSession word session → list_all is_dark_word ws ≡ true → session ≤ sessions → Behind session ws l → calls_ + line_calls l ≤ 65536 → sectors + line_sectors l ≤ 262144
-      → Reaches (inside lines calls_ sectors) (begun (word ∷ ws) ++ 10 ∷ []) (inside (lines ++ l ∷ []) (calls_ + line_calls l) (sectors + line_sectors l))
+  -- a line of the number of a session and a form
+  line_read : (lines : List Line) (calls_ sectors : ℕ) (word : List ℕ) (session : ℕ) (g : Option (List ℕ)) (f : Form) (l : Line) → is_name word ≡ true → number_of word ≡ Some session → session ≤ sessions → is_said g f ≡ true → ((t : List ℕ) → Spells t (form_words g f ++ []) → line_behind session t ≡ Ok l) → calls_ + line_calls l ≤ 65536 → sectors + line_sectors l ≤ 262144
+      → Reaches (inside lines calls_ sectors) (begun (word ∷ form_words g f) ++ 10 ∷ []) (inside (lines ++ l ∷ []) (calls_ + line_calls l) (sectors + line_sectors l))
   unfolding step session_line
-  line_read lines calls_ sectors word session ws l is all below says few small =
-      let text : List ℕ = begun (word ∷ ws) in
-      let dark : list_all is_dark_word (word ∷ ws) ≡ true = and_from _ _ is.is_one all in
-      let spells = begun_spells (word ∷ ws) dark in
-      let number : within 0 sessions (number_of (first_word (from_word text))) ≡ Some session = ap (λ w. within 0 sessions (number_of w)) spells.1 ∙ ap (within 0 sessions) is.number ∙ cond-true _ _ _ (and_from _ _ (le-leb 0 session (omega arith)) (le-leb session sessions below)) in
-      words_line (inside lines calls_ sectors) (inside (lines ++ l ∷ []) (calls_ + line_calls l) (sectors + line_sectors l)) (word ∷ ws) dark (cond-false _ _ _ (not_passed word ws dark is.no_comment)
-      ∙ cond-false _ _ _ (ap (λ w. bytes_eq w (codes "end")) spells.1 ∙ no_end word session is.number)
-      ∙ ap (λ r. and_then r (added done cut sessions lines calls_ sectors (length text))) (ap (λ s. line_of_session s (from_word text)) number ∙ says (past_word (from_word text)) spells.2)
-      ∙ cond-true _ _ _ (and_from _ _ (le-leb (calls_ + line_calls l) 65536 few) (le-leb (sectors + line_sectors l) 262144 small)))
+  line_read lines calls_ sectors word session g f l name number below h says few small =
+      let ws : List (List ℕ) = word ∷ (form_words g f ++ []) in
+      let next : Reader = inside (lines ++ l ∷ []) (calls_ + line_calls l) (sectors + line_sectors l) in
+      let dark : list_all is_dark_word ws ≡ true = and_from _ _ (name_word word name) (form_dark g f None h refl) in
+      let spells = begun_spells ws dark in
+      let first : within 0 sessions (number_of (first_word (from_word (begun ws)))) ≡ Some session = ap (λ w. within 0 sessions (number_of w)) spells.1 ∙ ap (within 0 sessions) number ∙ cond-true _ _ _ (and_from _ _ (le-leb 0 session (omega arith)) (le-leb session sessions below)) in
+      subst (λ vs. Reaches (inside lines calls_ sectors) (begun (word ∷ vs) ++ 10 ∷ []) next) (append-nil (form_words g f)) (words_line (inside lines calls_ sectors) next ws dark (cond-false _ _ _ (not_passed word (form_words g f ++ []) dark (name_no_comment word name))
+      ∙ cond-false _ _ _ (ap (λ w. bytes_eq w (codes "end")) spells.1 ∙ no_end word session number)
+      ∙ ap (λ r. and_then r (added done cut sessions lines calls_ sectors (length (begun ws)))) (ap (λ s. line_of_session s (from_word (begun ws))) first ∙ says (past_word (from_word (begun ws))) spells.2)
+      ∙ cond-true _ _ _ (and_from _ _ (le-leb (calls_ + line_calls l) 65536 few) (le-leb (sectors + line_sectors l) 262144 small))))
 
   one_more : (lines : List Line) (calls_ sectors : ℕ) (l : Line) → is_line sessions l ≡ true → calls_ + line_calls l ≤ 65536 → sectors + line_sectors l ≤ 262144 → Reaches (inside lines calls_ sectors) (line_text l) (inside (lines ++ l ∷ []) (calls_ + line_calls l) (sectors + line_sectors l))
   unfolding line_behind
-  one_more lines calls_ sectors (Session session c) h few small =
-      let two = and_parts (is_between 1 sessions session) (is_said None (form.Calling c)) h in
-      let range = and_parts (nat_le 1 session) (nat_le session sessions) two.0 in
-      let low : 1 ≤ session = leb-true 1 session range.0 in
-      let high : session ≤ sessions = leb-true session sessions range.1 in
-      let name = decimal_name session (omega (arith, high, most)) in
-      line_read lines calls_ sectors (decimal session) session (form_words None (form.Calling c)) (Session session c) (record { is_one = name_word (decimal session) name; number = number_said session (omega (arith, high, most)); no_comment = name_no_comment (decimal session) name }) (uncut_dark None (form.Calling c) two.1) high
-      (λ t s. cond-false _ _ _ (ne_eqb session 0 (λ e. omega (arith, low, e))) ∙ ap (λ r. and_then r (λ x. called session (form_of x.kind x.values))) (uncut_chosen calls None (form.Calling c) t two_calls (in_calls c) two.1 s) ∙ ap (called session) (form_again None (form.Calling c) two.1)) few small
-  one_more lines calls_ sectors (Administer admin) h few small =
-      let f : Form = form.Acting admin.act in
-      line_read lines calls_ sectors (codes "0") 0 (form_words admin.group f) (Administer admin) (record { is_one = refl; number = refl; no_comment = refl }) (uncut_dark admin.group f h) (omega arith)
-      (λ t s. ap (λ r. and_then r (λ x. administered (maybe_name x.values 1) (form_of x.kind x.values))) (uncut_chosen acts admin.group f t two_acts (in_acts admin.act) h s) ∙ ap (λ g. administered g (form_of (kind_of f) (values_of admin.group f))) (group_again admin.group f) ∙ ap (administered (Some admin.group)) (form_again admin.group f h)) few small
+  one_more lines calls_ sectors (Line.Session session c) h few small =
+      let low : 1 ≤ session = leb-true 1 session (search ands) in
+      let high : session ≤ sessions = leb-true session sessions (search ands) in
+      let f : Form = Form.Calling c in
+      line_read lines calls_ sectors (decimal session) session None f (Line.Session session c) (decimal_name session (omega (arith, high, most))) (number_said session (omega (arith, high, most))) high (search ands)
+      (λ t s. cond-false _ _ _ (ne_eqb session 0 (λ e. omega (arith, low, e))) ∙ ap (λ r. and_then r (λ x. called session (form_of x.kind x.values))) (is_chosen false calls None f None t told_apart.1 (in_calls c) refl (search ands) s) ∙ ap (called session) (form_again None f (search ands))) few small
+  one_more lines calls_ sectors (Line.Administer admin) h few small =
+      let f : Form = Form.Acting admin.act in
+      line_read lines calls_ sectors (codes "0") 0 admin.group f (Line.Administer admin) refl refl (omega arith) h
+      (λ t s. ap (λ r. and_then r (λ x. administered (maybe_name x.values 1) (form_of x.kind x.values))) (is_chosen false acts admin.group f None t told_apart.2 (in_acts admin.act) refl h s) ∙ ap (λ g. administered g (form_of (kind_of f) (values_of admin.group f))) (group_again admin.group f) ∙ ap (administered (Some admin.group)) (form_again admin.group f h)) few small
 
   sum_more : (f : Line → ℕ) (l : Line) (ls : List Line) → sum (map f (l ∷ ls)) ≡ f l + sum (map f ls)
   sum_more f l ls = sum_by-cons (λ x. x) (f l) (map f ls)
@@ -213,17 +292,16 @@ module _ (done : List Command) (cut : Option ℕ) (sessions : ℕ) (most : sessi
   lines_read : (lines : List Line) (calls_ sectors : ℕ) (ls : List Line) → list_all (is_line sessions) ls ≡ true → calls_ + sum (map line_calls ls) ≤ 65536 → sectors + sum (map line_sectors ls) ≤ 262144 → (c : ℕ) × (s : ℕ) × Reaches (inside lines calls_ sectors) (flat_map line_text ls) (inside (lines ++ ls) c s)
   lines_read lines calls_ sectors [] h few small = (calls_, sectors, subst (λ xs. Reaches (inside lines calls_ sectors) [] (inside xs calls_ sectors)) (sym (append-nil lines)) (stays_there (inside lines calls_ sectors)))
   lines_read lines calls_ sectors (l ∷ ls) h few small =
-      let parts = and_parts (is_line sessions l) (list_all (is_line sessions) ls) h in
       let next : Reader = inside (lines ++ l ∷ []) (calls_ + line_calls l) (sectors + line_sectors l) in
-      let one = one_more lines calls_ sectors l parts.0 (omega (arith, sum_more line_calls l ls, few)) (omega (arith, sum_more line_sectors l ls, small)) in
-      let more = lines_read (lines ++ l ∷ []) (calls_ + line_calls l) (sectors + line_sectors l) ls parts.1 (omega (arith, sum_more line_calls l ls, few)) (omega (arith, sum_more line_sectors l ls, small)) in
+      let one = one_more lines calls_ sectors l (search ands) (omega (arith, sum_more line_calls l ls, few)) (omega (arith, sum_more line_sectors l ls, small)) in
+      let more = lines_read (lines ++ l ∷ []) (calls_ + line_calls l) (sectors + line_sectors l) ls (search ands) (omega (arith, sum_more line_calls l ls, few)) (omega (arith, sum_more line_sectors l ls, small)) in
       (more.0, more.1, subst (λ xs. Reaches (inside lines calls_ sectors) (flat_map line_text (l ∷ ls)) (inside xs more.0 more.1)) (append_assoc lines (l ∷ []) ls) (and_on (inside lines calls_ sectors) next (inside ((lines ++ l ∷ []) ++ ls) more.0 more.1) (line_text l) (flat_map line_text ls) one more.2))
 
 -- ---- commands
 
 -- between commands
 abbrev between : List Command → Reader
-between done = record { done = done; begun = Closed }
+between done = record { done = done; begun = Open.Closed }
 
 abbrev after : List Command → Option (List ℕ) → Form → Option ℕ → Reader
 after done g f cut = between (done ++ (record { group = g; form = f; cut = cut }) ∷ [])
@@ -231,37 +309,32 @@ after done g f cut = between (done ++ (record { group = g; form = f; cut = cut }
 -- the lines behind the first
 body_read : (done : List Command) (g : Option (List ℕ)) (f : Form) (cut : Option ℕ) → is_said g f ≡ true → is_body f ≡ true → Reaches (opened done g (opening f) cut) (body_text f) (after done g f cut)
 unfolding step
-body_read done g (form.VxMake text) cut h b = then_end (making done g cut []) (making done g cut text) (after done g (form.VxMake text) cut) text (records_read done g cut text b) refl
-body_read done (Some name) (form.Sessions block) cut h b = absurd (both_ways false refl h)
-body_read done None (form.Sessions block) cut h b =
-    let two = and_parts (list_all (is_line block.sessions) block.lines && nat_le (sum (map line_calls block.lines)) 65536) (nat_le (sum (map line_sectors block.lines)) 262144) b in
-    let one = and_parts (list_all (is_line block.sessions) block.lines) (nat_le (sum (map line_calls block.lines)) 65536) two.0 in
-    let most : block.sessions ≤ 16 = leb-true block.sessions 16 (and_parts (nat_le 1 block.sessions) (nat_le block.sessions 16) (and_parts (is_between 1 16 block.sessions) true h).0).1 in
-    let few : sum (map line_calls block.lines) ≤ 65536 = leb-true _ 65536 one.1 in
-    let small : sum (map line_sectors block.lines) ≤ 262144 = leb-true _ 262144 two.1 in
-    let all = lines_read done cut block.sessions most [] 0 0 block.lines one.0 (omega (arith, few)) (omega (arith, small)) in
-    then_end (inside done cut block.sessions most [] 0 0) (inside done cut block.sessions most block.lines all.0 all.1) (after done None (form.Sessions block) cut) (flat_map line_text block.lines) all.2 refl
+body_read done g (Form.VxMake text) cut h b = then_end (making done g cut []) (making done g cut text) (after done g (Form.VxMake text) cut) text (records_read done g cut text b) refl
+body_read done (Some name) (Form.Sessions block) cut h b = absurd (both_ways false refl h)
+body_read done None (Form.Sessions block) cut h b =
+    let most : block.sessions ≤ 16 = leb-true block.sessions 16 (right_of (nat_le 1 block.sessions) (nat_le block.sessions 16) (left_of (is_between 1 16 block.sessions) true h)) in
+    let few : sum (map line_calls block.lines) ≤ 65536 = leb-true (sum (map line_calls block.lines)) 65536 (search ands) in
+    let small : sum (map line_sectors block.lines) ≤ 262144 = leb-true (sum (map line_sectors block.lines)) 262144 (search ands) in
+    let all = lines_read done cut block.sessions most [] 0 0 block.lines (search ands) (omega (arith, few)) (omega (arith, small)) in
+    then_end (inside done cut block.sessions most [] 0 0) (inside done cut block.sessions most block.lines all.0 all.1) (after done None (Form.Sessions block) cut) (flat_map line_text block.lines) all.2 refl
 body_read done g f cut h b = stays_there (after done g f cut)
 
 command_read : (done : List Command) (c : Command) → is_command c ≡ true → Reaches (between done) (command_text c) (between (done ++ c ∷ []))
 unfolding step
 command_read done c h =
-    let two = and_parts (is_said c.group c.form && is_body c.form) (maybe_cut c.cut) h in
-    let one = and_parts (is_said c.group c.form) (is_body c.form) two.0 in
     let words : List (List ℕ) = form_words c.group c.form ++ cut_words c.cut in
-    let dark : list_all is_dark_word words ≡ true = form_dark c.group c.form c.cut one.0 two.1 in
-    let passed : is_passed_over (begun words) ≡ false = row_not_passed (items_of (kind_of c.form)) (values_of c.group c.form) (cut_words c.cut) (all_plain (kind_of c.form)) one.0 dark in
+    let dark : list_all is_dark_word words ≡ true = form_dark c.group c.form c.cut (search ands) (search ands) in
+    let passed : is_passed_over (begun words) ≡ false = row_not_passed (items_of (kind_of c.form)) (values_of c.group c.form) (cut_words c.cut) (all_plain (kind_of c.form)) (search ands) dark in
     let middle : Reader = opened done c.group (opening c.form) c.cut in
     and_on (between done) middle (between (done ++ c ∷ [])) (begun words ++ 10 ∷ []) (body_text c.form)
-    (words_line (between done) middle words dark (cond-false _ _ _ passed ∙ command_said done c.group c.form c.cut (begun words) one.0 two.1 (begun_spells words dark)))
-    (body_read done c.group c.form c.cut one.0 one.1)
+    (words_line (between done) middle words dark (cond-false _ _ _ passed ∙ command_said done c.group c.form c.cut (begun words) (search ands) (search ands) (begun_spells words dark)))
+    (body_read done c.group c.form c.cut (search ands) (search ands))
 
 commands_read : (done cs : List Command) → is_kept cs ≡ true → Reaches (between done) (script_text cs) (between (done ++ cs))
 commands_read done [] h = subst (λ xs. Reaches (between done) [] (between xs)) (sym (append-nil done)) (stays_there (between done))
 commands_read done (c ∷ cs) h =
-    let parts = and_parts (is_command c) (list_all is_command cs) h in
     subst (λ xs. Reaches (between done) (script_text (c ∷ cs)) (between xs)) (append_assoc done (c ∷ []) cs)
-    (and_on (between done) (between (done ++ c ∷ [])) (between ((done ++ c ∷ []) ++ cs)) (command_text c) (script_text cs) (command_read done c parts.0) (commands_read (done ++ c ∷ []) cs parts.1))
+    (and_on (between done) (between (done ++ c ∷ [])) (between ((done ++ c ∷ []) ++ cs)) (command_text c) (script_text cs) (command_read done c (search ands)) (commands_read (done ++ c ∷ []) cs (search ands)))
 
 pub script_read : (commands : List Command) → is_kept commands ≡ true → script_of (script_text commands) ≡ Ok commands
 unfolding script_of lines_of

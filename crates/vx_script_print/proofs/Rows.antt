@@ -202,12 +202,8 @@ record Shown (s : Sort) (v : Value) : Type 0 where
 value_shown : (s : Sort) (v : Value) → is_fair s ≡ true → is_of s v ≡ true → Shown s v
 value_shown Sort.Word Value.Word f h = record { says = refl; text = refl }
 value_shown Sort.Named (Value.Named name) f h = record { says = ap as_name (name_said name h); text = search shown }
-value_shown (Sort.Number low high) (Value.Number n) f h =
-    let small : n < 2 ^ 40 = grind (arith, nat_tests) in
-    record { says = ap as_number (ranged_said low high n small h); text = decimal_shown n (omega (arith, small)) }
-value_shown Sort.Length (Value.Number n) f h =
-    let small : n ≤ 2 ^ 40 = grind (arith, nat_tests) in
-    record { says = ap as_number (length_said n small h); text = decimal_shown n (omega (arith, small)) }
+value_shown (Sort.Number low high) (Value.Number n) f h = record { says = ap as_number (ranged_said low high n (grind (arith, nat_tests)) h); text = decimal_shown n (grind (arith, nat_tests)) }
+value_shown Sort.Length (Value.Number n) f h = record { says = ap as_number (length_said n (grind (arith, nat_tests)) h); text = decimal_shown n (grind (arith, nat_tests)) }
 value_shown Sort.Byte (Value.Number n) f h =
     let same : n % 256 ≡ n = grind (arith, nat_tests) in
     record { says = ap (λ m. as_number (byte_of (hex m))) same ∙ ap as_number (byte_said n (ltb-true n 256 h)); text = record { some = omega arith; dark = ap (λ m. list_all is_dark (hex m)) same ∙ all_by is_hex_digit is_dark hex_is_dark (hex n) (digits_hex n (ltb-true n 256 h)) } }

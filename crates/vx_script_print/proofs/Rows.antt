@@ -202,12 +202,8 @@ record Shown (s : Sort) (v : Value) : Type 0 where
 value_shown : (s : Sort) (v : Value) → is_fair s ≡ true → is_of s v ≡ true → Shown s v
 value_shown Sort.Word Value.Word f h = record { says = refl; text = refl }
 value_shown Sort.Named (Value.Named name) f h = record { says = ap as_name (name_said name h); text = search shown }
-value_shown (Sort.Number low high) (Value.Number n) f h =
-    let small : n < 2 ^ 40 = grind (arith, nat_tests) in
-    record { says = ap as_number (ranged_said low high n small h); text = decimal_shown n (omega (arith, small)) }
-value_shown Sort.Length (Value.Number n) f h =
-    let small : n ≤ 2 ^ 40 = grind (arith, nat_tests) in
-    record { says = ap as_number (length_said n small h); text = decimal_shown n (omega (arith, small)) }
+value_shown (Sort.Number low high) (Value.Number n) f h = record { says = ap as_number (ranged_said low high n (grind (arith, nat_tests)) h); text = decimal_shown n (grind (arith, nat_tests)) }
+value_shown Sort.Length (Value.Number n) f h = record { says = ap as_number (length_said n (grind (arith, nat_tests)) h); text = decimal_shown n (grind (arith, nat_tests)) }
 value_shown Sort.Byte (Value.Number n) f h =
     let same : n % 256 ≡ n = grind (arith, nat_tests) in
     record { says = ap (λ m. as_number (byte_of (hex m))) same ∙ ap as_number (byte_said n (ltb-true n 256 h)); text = record { some = omega arith; dark = ap (λ m. list_all is_dark (hex m)) same ∙ all_by is_hex_digit is_dark hex_is_dark (hex n) (digits_hex n (ltb-true n 256 h)) } }
@@ -407,21 +403,28 @@ part_said (Item.Maybe c) is v ws f h = (and_from _ _ (class_shown c v f.0 h).dar
 part_said Item.Group is Value.Nothing ws f h = (refl, λ none t old s. (t, cond-false _ _ _ (ap (λ w. bytes_eq w (codes "-g")) (first_is t ws s) ∙ none), s))
 part_said Item.Group is (Value.Named name) ws f h = (and_from _ _ (name_word name h) refl, λ none t old s. (past_word (from_word (past_word (from_word t))), cond-true _ _ _ (ap (λ w. bytes_eq w (codes "-g")) s.1) ∙ one_is any_name old (past_word (from_word t)) (name ∷ ws) (Some (Value.Named name)) s.2 (class_shown any_name (Value.Named name) refl h).says, s.2.2))
 part_said Item.NoGroup is Value.Nothing ws f h = (refl, λ none t old s. (t, refl, s))
-part_said Item.Names is (Value.Names names) ws f h = (all_that is_name is_dark_word name_word names h, λ none t old s.
-    let few : length names ≤ length t = omega (arith, few_words t (names ++ ws) s, length-append names ws) in
-    let g = gathers name_of pushed (λ w. w) is_name name_said ws none (length t) names [] t h few (subst (λ xs. Spells t (xs ++ ws)) (sym (map-id names)) s) in
-    (g.0, ap (λ f. Ok (said old Value.Names f)) g.1 ∙ ap (λ ns. Ok (with_value old (Value.Names ns) g.0)) (all_pushed [] names), g.2))
+part_said Item.Names is (Value.Names names) ws f h = (
+  all_that is_name is_dark_word name_word names h,
+  λ none t old s.
+      let few : length names ≤ length t = omega (arith, few_words t (names ++ ws) s, length-append names ws) in
+      let g = gathers name_of pushed (λ w. w) is_name name_said ws none (length t) names [] t h few (subst (λ xs. Spells t (xs ++ ws)) (sym (map-id names)) s) in
+      (g.0, ap (λ f. Ok (said old Value.Names f)) g.1 ∙ ap (λ ns. Ok (with_value old (Value.Names ns) g.0)) (all_pushed [] names), g.2),
+)
 part_said Item.Pairs is (Value.Pairs (p ∷ ps)) ws f h =
-    let good = right_of (nat_lt 0 (length (p ∷ ps))) (list_all is_pair (p ∷ ps)) h in
-    (list_all-map is_dark_word pair_word (p ∷ ps) ∙ all_that is_pair (λ q. is_dark_word (pair_word q)) (λ q k. text_word (pair_word q) (pair_shown q k)) (p ∷ ps) good, λ none t old s.
-    let few : length ps ≤ length (past_word (from_word t)) = omega (arith, few_words (past_word (from_word t)) (map pair_word ps ++ ws) s.2, length-append (map pair_word ps) ws, length-map ps pair_word) in
-    let g = some_gather pair_of pushed pair_word is_pair pair_said ws none (length (past_word (from_word t))) p ps (λ x. x ∷ []) Value.Pairs old t good few s in
-    (g.0, g.1 ∙ ap (λ xs. Ok (with_value old (Value.Pairs xs) g.0)) (all_pushed (p ∷ []) ps), g.2))
+    let good = right_of (nat_lt 0 (length (p ∷ ps))) (list_all is_pair (p ∷ ps)) h in (
+      list_all-map is_dark_word pair_word (p ∷ ps) ∙ all_that is_pair (λ q. is_dark_word (pair_word q)) (λ q k. text_word (pair_word q) (pair_shown q k)) (p ∷ ps) good,
+      λ none t old s.
+          let few : length ps ≤ length (past_word (from_word t)) = omega (arith, few_words (past_word (from_word t)) (map pair_word ps ++ ws) s.2, length-append (map pair_word ps) ws, length-map ps pair_word) in
+          let g = some_gather pair_of pushed pair_word is_pair pair_said ws none (length (past_word (from_word t))) p ps (λ x. x ∷ []) Value.Pairs old t good few s in
+          (g.0, g.1 ∙ ap (λ xs. Ok (with_value old (Value.Pairs xs) g.0)) (all_pushed (p ∷ []) ps), g.2),
+    )
 part_said Item.Blocks is (Value.Blocks bytes) ws f h =
-    let w = whole_blocks bytes h in
-    (ap (λ n. list_all is_dark_word (map block_word (cut_blocks n bytes))) w.count ∙ list_all-map is_dark_word block_word (cut_blocks (suc w.more) bytes) ∙ all_that is_one_block (λ b. is_dark_word (block_word b)) block_is_word (cut_blocks (suc w.more) bytes) w.blocks.good, λ none t old s.
-    let g = some_gather block_of joined block_word is_one_block block_said ws none 63 (take 512 bytes) (cut_blocks w.more (drop 512 bytes)) (λ b. b) Value.Blocks old t w.blocks.good (omega (arith, w.few, w.blocks.count)) (subst (λ (n : ℕ). Spells t (map block_word (cut_blocks n bytes) ++ ws)) w.count s) in
-    (g.0, g.1 ∙ ap (λ xs. Ok (with_value old (Value.Blocks xs) g.0)) (w.blocks.whole []), g.2))
+    let w = whole_blocks bytes h in (
+      ap (λ n. list_all is_dark_word (map block_word (cut_blocks n bytes))) w.count ∙ list_all-map is_dark_word block_word (cut_blocks (suc w.more) bytes) ∙ all_that is_one_block (λ b. is_dark_word (block_word b)) block_is_word (cut_blocks (suc w.more) bytes) w.blocks.good,
+      λ none t old s.
+          let g = some_gather block_of joined block_word is_one_block block_said ws none 63 (take 512 bytes) (cut_blocks w.more (drop 512 bytes)) (λ b. b) Value.Blocks old t w.blocks.good (omega (arith, w.few, w.blocks.count)) (subst (λ (n : ℕ). Spells t (map block_word (cut_blocks n bytes) ++ ws)) w.count s) in
+          (g.0, g.1 ∙ ap (λ xs. Ok (with_value old (Value.Blocks xs) g.0)) (w.blocks.whole []), g.2),
+    )
 part_said i is v ws f h = absurd (both_ways false refl h)
 
 -- what a row of values says: its words have no blank, and are read as the values up to the words of a cut

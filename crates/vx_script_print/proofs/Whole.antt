@@ -94,10 +94,6 @@ spelled_one_line [] h = refl
 spelled_one_line (w ∷ ws) h =
     list_all-append (is_not 10) w (spelled ws) ∙ and_from _ _ (all_by is_dark (is_not 10) (λ b d. not_from_false _ (other_byte 10 b (omega arith) d)) w (word_bytes w (search ands))) (spelled_one_line ws (search ands))
 
-begun_one_line : (ws : List (List ℕ)) → list_all is_dark_word ws ≡ true → list_all (is_not 10) (begun ws) ≡ true
-begun_one_line [] h = refl
-begun_one_line (w ∷ ws) h = spelled_one_line (w ∷ ws) h
-
 real_word : (w : List ℕ) → is_dark_word w ≡ true → is_word w ≡ true
 real_word [] h = h
 real_word (b ∷ bs) h = all_by is_dark is_not_blank (λ c d. not_from_false _ (or_from _ _ (other_byte 32 c (omega arith) d) (other_byte 9 c (omega arith) d))) (b ∷ bs) h
@@ -107,7 +103,8 @@ pub begun_spells : (ws : List (List ℕ)) → list_all is_dark_word ws ≡ true 
 begun_spells ws h = begun_words ws (all_that is_dark_word is_word real_word ws h)
 
 pub words_line : (r next : Reader) (ws : List (List ℕ)) → list_all is_dark_word ws ≡ true → step r (begun ws) ≡ Ok next → Reaches r (begun ws ++ 10 ∷ []) next
-words_line r next ws h e = one_line r next (begun ws) (begun_one_line ws h) e
+words_line r next [] h e = one_line r next [] refl e
+words_line r next (w ∷ ws) h e = one_line r next (begun (w ∷ ws)) (spelled_one_line (w ∷ ws) h) e
 
 -- a line of words that begins no comment is not passed over
 pub not_passed : (w : List ℕ) (ws : List (List ℕ)) → list_all is_dark_word (w ∷ ws) ≡ true → begins_comment w ≡ false → is_passed_over (begun (w ∷ ws)) ≡ false

@@ -6,8 +6,8 @@ ghost use Rattle.vx_pages.specs.Pages.{page_seen};
 
 use crate::pages::{Fault, page};
 use std::io;
-use vx_pages::{MapSector, Page};
 use vx_marks::{MarkFault, Marker};
+use vx_pages::{MapSector, Page};
 use vx_piece::MemPiece;
 
 /// Maps 3 and 5.

@@ -2,11 +2,15 @@
 //! answer, what the page claims then, and what each copy shows. The stored output was worked out by hand.
 #![tactic(auto)]
 
+mod copies;
 mod pages;
 mod rows;
+mod stores;
+mod sweeps;
 
 use std::io;
 
 fn main(rt: HostRuntime) -> io::Result<()> {
-    rows::rows(&rt)
+    rows::rows(&rt)?;
+    sweeps::rows(&rt)
 }

@@ -1,0 +1,206 @@
+//! Copies of the maps of a volume in memory. The first copy is two pieces on devices 1 and 3, the second one piece on
+//! device 2 with four sectors behind the plex.
+
+ghost use Rattle.std.specs.Prelude.{◌≡◌, ◌+◌, ◌<◌, ◌≤◌, ◌^◌, true, map};
+ghost use Rattle.vx_piece.specs.MemPiece.{mem_seen};
+ghost use Rattle.vx_maps.specs.Copies.{AreCopies, IsCopy};
+ghost use Rattle.vx_maps.specs.Spares.{copies_seen};
+
+use std::alloc::{AllocError, Global};
+use vx_mapfmt::DcoShape;
+use vx_piece::{Bad, MemPiece, Piece};
+
+/// The sectors of the plex.
+pub const PLEX: u64 = 560;
+
+/// The first sectors of the plex that the first piece of the first copy has.
+const FRONT: u64 = 200;
+
+/// A call on this sector of a copy that fails, after so many that pass.
+#[derive(Clone, Copy)]
+pub struct Fault {
+    pub copy: u8,
+    pub sector: u64,
+    pub write: bool,
+    pub passes: u64,
+}
+
+/// What a copy is to hold: the header or none, and of each map the first byte of its page.
+#[derive(Clone, Copy)]
+pub struct Held {
+    pub headed: bool,
+    pub maps: [u8; 32],
+}
+
+/// The sector of the plex with a map's page.
+pub fn page_of(map: u64) -> u64
+    requires { map < 32 }
+    ensures { result < 560 }
+{
+    (3 + map) * 16 + 1
+}
+
+/// The sectors of a copy that holds this, and so many behind the plex.
+fn bytes_of(
+    alloc: Global,
+    shape: &DcoShape,
+    held: &Held,
+    behind: usize,
+) -> Result<Vec<u8>, AllocError>
+    requires { behind < 2 ^ 32 }
+{
+    let mut bytes = vec![in alloc; 0u8; (560 + behind) * 512]?;
+    if held.headed {
+        let mut header = [0; 512];
+        shape.put_header(&mut header);
+        for place in 0..512usize {
+            bytes[place] = header[place];
+        }
+    }
+    for map in 0..32u64 {
+        bytes[page_of(map) as usize * 512] = held.maps[map as usize];
+    }
+    Ok(bytes)
+}
+
+/// A piece of a device, with the fault if it lies there. `start` is where the piece begins in the copy.
+fn piece(
+    alloc: Global,
+    device: u32,
+    bytes: Vec<u8>,
+    start: u64,
+    fault: Option<Fault>,
+) -> Result<MemPiece, AllocError> {
+    let mut bads = Vec::new(alloc);
+    if let Some(fault) = fault {
+        let sectors = (bytes.len() / 512) as u64;
+        if fault.sector >= start && fault.sector - start < sectors {
+            bads.push(Bad {
+                start: fault.sector - start,
+                count: 1,
+                on_read: !fault.write,
+                on_write: fault.write,
+                skip: fault.passes,
+                times: 1,
+            })?;
+        }
+    }
+    let Some(piece) = MemPiece::new(device, bytes, bads) else {
+        return Err(AllocError);
+    };
+    Ok(piece)
+}
+
+/// The bytes before a place, and those behind it.
+fn halves(alloc: Global, bytes: &Vec<u8>, at: usize) -> Result<(Vec<u8>, Vec<u8>), AllocError> {
+    if bytes.len() < at {
+        return Err(AllocError);
+    }
+    let first = Vec::from_slice(alloc, &bytes[..at])?;
+    let second = Vec::from_slice(alloc, &bytes[at..])?;
+    Ok((first, second))
+}
+
+/// The pieces of a copy.
+pub fn copy(
+    alloc: Global,
+    shape: &DcoShape,
+    number: u8,
+    held: &Held,
+    fault: Option<Fault>,
+) -> Result<Vec<MemPiece>, AllocError> {
+    let mut here = None;
+    if let Some(found) = fault {
+        if found.copy == number {
+            here = fault;
+        }
+    }
+    let mut pieces = Vec::new(alloc);
+    if number == 0 {
+        let bytes = bytes_of(alloc, shape, held, 0)?;
+        let (first, second) = halves(alloc, &bytes, FRONT as usize * 512)?;
+        pieces.push(piece(alloc, 1, first, 0, here)?)?;
+        pieces.push(piece(alloc, 3, second, FRONT, here)?)?;
+    } else {
+        let bytes = bytes_of(alloc, shape, held, 4)?;
+        pieces.push(piece(alloc, 2, bytes, 0, here)?)?;
+    }
+    Ok(pieces)
+}
+
+/// Whether one piece or two are a copy of slots of so many sectors.
+fn is_copy(pieces: &Vec<MemPiece>, size: u64) -> bool
+    requires { size < 2 ^ 32 }
+    ensures { result ≡ true → IsCopy size (map mem_seen pieces.now.items) }
+{
+    match pieces.as_slice() {
+        [one] => one.sectors() > 0 && one.sectors() >= 35 * size,
+        [one, other] => are_enough(one.sectors(), other.sectors(), 35 * size),
+        _ => false,
+    }
+}
+
+fn are_enough(one: u64, other: u64, wanted: u64) -> bool
+    ensures { result ≡ true → (0 < one) × (0 < other) × (wanted ≤ one + other) }
+{
+    one > 0 && other > 0 && one.saturating_add(other) >= wanted
+}
+
+/// Whether these are one copy or two.
+pub fn are_copies(copies: &Vec<Vec<MemPiece>>, size: u64) -> bool
+    requires { size < 2 ^ 32 }
+    ensures { result ≡ true → AreCopies size (copies_seen mem_seen copies.now.items) }
+{
+    match copies.as_slice() {
+        [first] => is_copy(first, size),
+        [first, second] => is_copy(first, size) && is_copy(second, size),
+        _ => false,
+    }
+}
+
+/// What the pieces of a copy hold; none where another byte is not zero.
+pub fn held_by(
+    alloc: Global,
+    shape: &DcoShape,
+    pieces: &Vec<MemPiece>,
+) -> Result<Option<Held>, AllocError> {
+    let mut bytes = Vec::new(alloc);
+    for piece in pieces {
+        bytes.extend_from_slice(piece.bytes())?;
+    }
+    let mut held = Held {
+        headed: false,
+        maps: [0; 32],
+    };
+    if bytes.len() < 560 * 512 {
+        return Ok(None);
+    }
+    let Some(first) = bytes.get(..512) else {
+        return Ok(None);
+    };
+    if first.len() == 512 {
+        held.headed = shape.is_header(first);
+    }
+    for map in 0..32u64 {
+        let at = page_of(map) as usize * 512;
+        held.maps[map as usize] = bytes[at];
+    }
+    let behind = bytes.len() / 512 - 560;
+    if behind > 1000 {
+        return Ok(None);
+    }
+    let expected = bytes_of(alloc, shape, &held, behind)?;
+    if expected.as_slice() != bytes.as_slice() {
+        return Ok(None);
+    }
+    Ok(Some(held))
+}
+
+/// How many calls on the pieces have failed.
+pub fn faults_in(pieces: &Vec<MemPiece>) -> u64 {
+    let mut faults: u64 = 0;
+    for piece in pieces {
+        faults = faults.saturating_add(piece.counts().faults);
+    }
+    faults
+}

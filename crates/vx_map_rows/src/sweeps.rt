@@ -58,8 +58,8 @@ fn sources(start: &Start) -> (Held, Held) {
     }
 }
 
-/// What a copy may hold after a load: with the header its old maps or those of a copy that had the header, whole; and the second copy,
-/// where it had the header, of each map its own or that of the first.
+/// What a copy may hold after a load: with the header its old maps or those of a copy that had the header, whole; and where it
+/// had the header itself, of each map its own or that of the first.
 fn may_load(start: &Start, number: usize, held: &Held) -> bool {
     let (first, second) = sources(start);
     let before = match &start.second {
@@ -75,9 +75,7 @@ fn may_load(start: &Start, number: usize, held: &Held) -> bool {
     if first.headed && same_maps(held, &first) || second.headed && same_maps(held, &second) {
         return true;
     }
-    before.headed
-        && (number == 1 && mixed(held, &before, &first)
-            || number == 0 && mixed(held, &before, &first))
+    before.headed && mixed(held, &before, &first)
 }
 
 /// After a create: with the header its old maps or none.

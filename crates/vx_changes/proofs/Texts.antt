@@ -27,16 +27,11 @@ pub edited_copy : (edits : List Edit) (config copy next : Config) → objects_of
 edited_copy edits config copy next same edited = edited ∙ ap (λ os. in_kinds (edited_by edits os)) same
 
 broken_by : (edits : List Edit) (config : Config) (f : ObjectFault) → refusal_of edits (objects_of config) ≡ Some f → IsUnedited edits config (broken_stop f)
-broken_by edits config (fault.Exists name) e = (refusal.Exists name, ap refusal_from e, refl)
-broken_by edits config (fault.NoObject name) e = (refusal.NoObject name, ap refusal_from e, refl)
-broken_by edits config (fault.InUse name) e = (refusal.InUse name, ap refusal_from e, refl)
-broken_by edits config (fault.Overlap name) e = (refusal.Overlap name, ap refusal_from e, refl)
-broken_by edits config (fault.Outside name) e = (refusal.Outside name, ap refusal_from e, refl)
-broken_by edits config (fault.NoMap name) e = (refusal.NoMap name, ap refusal_from e, refl)
-broken_by edits config (fault.Limit which) e = (refusal.Limit which, ap refusal_from e, refl)
-broken_by edits config (fault.NotWhole name) e = (refusal.NotWhole name, ap refusal_from e, refl)
-broken_by edits config (fault.NoLog name) e = (refusal.NoLog name, ap refusal_from e, refl)
-broken_by edits config fault.OutOfMemory e = tt
+broken_by edits config f e = by (refusal_by f) (ap refusal_from e)
+  where
+    by : (o : Option Refusal) → refusal_from (refusal_of edits (objects_of config)) ≡ o → IsUnedited edits config (stop_by o)
+    by None is = tt
+    by (Some r) is = (r, is, refl)
 
 pub unedited : (edits : List Edit) (config copy : Config) (f : ObjectFault) → objects_of copy ≡ objects_of config → IsRefusedBy edits copy f → IsUnedited edits config (broken_stop f)
 unedited edits config copy f same (inl wants) = subst (λ x. IsUnedited edits config (broken_stop x)) (sym wants) tt

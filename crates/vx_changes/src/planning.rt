@@ -14,7 +14,7 @@ use vx_house::{Stop, refused};
 use vx_names::Name;
 use vx_objects::{Config, Edit, Vol};
 use vx_parts::{ObjectFault, same};
-use vx_plans::Change;
+use vx_plans::{Change, refusal_by};
 use vx_print::print_m;
 
 /// A configuration that is to be committed, and its text.
@@ -28,17 +28,9 @@ pub struct NextConfig {
 pub(crate) fn broken<T>(fault: &ObjectFault) -> Result<T, Stop>
     ensures { result ≡ Err (broken_stop fault.now) }
 {
-    match fault {
-        ObjectFault::Exists(name) => refused(Refusal::Exists(*name)),
-        ObjectFault::NoObject(name) => refused(Refusal::NoObject(*name)),
-        ObjectFault::InUse(name) => refused(Refusal::InUse(*name)),
-        ObjectFault::Overlap(name) => refused(Refusal::Overlap(*name)),
-        ObjectFault::Outside(name) => refused(Refusal::Outside(*name)),
-        ObjectFault::NoMap(name) => refused(Refusal::NoMap(*name)),
-        ObjectFault::Limit(which) => refused(Refusal::Limit(*which)),
-        ObjectFault::NotWhole(name) => refused(Refusal::NotWhole(*name)),
-        ObjectFault::NoLog(name) => refused(Refusal::NoLog(*name)),
-        ObjectFault::OutOfMemory => Err(Stop::OutOfMemory),
+    match refusal_by(fault) {
+        Some(refusal) => refused(refusal),
+        None => Err(Stop::OutOfMemory),
     }
 }
 

@@ -16,6 +16,11 @@ blocks_from (suc n) at contents = contents at ++ blocks_from n (at + 1) contents
 unfoldable pub sectors_for : ℕ → ℕ
 sectors_for len = max 1 ((len + 511) / 512)
 
+-- the sectors of the text that a toggle names
+abbrev pub text_sectors : Option Said → ℕ
+text_sectors None = 0
+text_sectors (Some t) = sectors_for t.length
+
 -- the text, and zeros up to the end of its last sector
 abbrev pub filled : List ℕ → List ℕ
 filled text = text ++ zeros (512 * sectors_for (length text) - length text)

@@ -1,5 +1,5 @@
 -- What the looking at devices leaves.
-use Rattle.std.specs.Prelude.{◌≡◌, ◌⊎◌, ℕ, true, List, ◌∷◌, ◌++◌, length, Some, None, IsSome}
+use Rattle.std.specs.Prelude.{◌≡◌, ◌⊎◌, ℕ, ◌+◌, ◌≤◌, true, false, List, [], ◌∷◌, ◌++◌, length, Some, None, IsSome}
 use Rattle.vx_base.specs.Counts.{Rose, RoseBy}
 use Rattle.vx_base.specs.Named.{Word}
 use Rattle.vx_header.specs.Named.{Label}
@@ -8,7 +8,7 @@ use Rattle.vx_copies.specs.Lists.{AllOf, AnyOf}
 use Rattle.vx_import.specs.Looks.{Looked}
 use Rattle.vx_moments.specs.Holding.{is_among}
 use Rattle.vx_house.specs.Holders.{held_as, AreHeld}
-use Rattle.vx_house.specs.Scene.{Shelved, Scene, seen_at, faults_at}
+use Rattle.vx_house.specs.Scene.{Shelved, Scene, seen_at, faults_at, reads_at}
 use Rattle.vx_finding.specs.Finds.{IsFind, IsNaming, HasSlot}
 use Rattle.vx_finding.specs.declared.gathering.Passed.{Passed}
 use Rattle.vx_finding.specs.declared.gathering.Passed.TheVariants.{Done, Cut, OutOfMemory}
@@ -64,6 +64,7 @@ pub record LookEnds (result : Passed) (group name : Word) (seen : Seen) (fs fs' 
   pub after : Seen
   pub kept : Keeps seen after
   pub same : IsRead seen after
+  pub most : after.reads ≤ seen.reads + 1
   pub ends : LookBy result group name seen after fs fs' old new
 
 -- a device that nobody held and that names the group has failed, or one of its slot is found
@@ -82,10 +83,16 @@ PassedBy Done group name old new fs = Rose old.shelf.faults new.shelf.faults ⊎
 PassedBy Cut group name old new fs = IsSomeCut old new
 PassedBy OutOfMemory group name old new fs = Unit {0}
 
+-- one sector of each device of these names was read at most, and none of another
+pub record HeadersRead (names : List Word) (old new : Scene) : Type 0 where
+  pub these : (name : Word) → is_among name names ≡ true → reads_at new name ≤ reads_at old name + 1
+  pub others : (name : Word) → is_among name names ≡ false → reads_at new name ≡ reads_at old name
+
 -- One device was passed: all that is held is held as whole devices, and each was only read.
 pub record PassGoes (result : Passed) (group name : Word) (old new : Scene) (fs : List Looked) : Type 0 where
   pub held : AreHeld new.shelf.held new.taken
   pub reads : OnlyRead old new
+  pub headers : IsSome old.shelf.free → HeadersRead (name ∷ []) old new
   pub ends : PassedBy result group name old new fs
 
 -- Each device of these names was looked at, but for some, and for each of those the shelf has failed.
@@ -104,4 +111,5 @@ GatheredBy OutOfMemory group names old new fs = Unit {0}
 pub record GatherGoes (result : Passed) (group : Word) (names : List Word) (old new : Scene) (fs : List Looked) : Type 0 where
   pub held : AreHeld new.shelf.held new.taken
   pub reads : OnlyRead old new
+  pub headers : IsSome old.shelf.free → HeadersRead names old new
   pub ends : GatheredBy result group names old new fs

@@ -11,7 +11,7 @@ ghost use Rattle.vx_house.specs.View.{at};
 ghost use Rattle.vx_base.specs.Named.{Word};
 ghost use Rattle.vx_finding.specs.Finds.{holders_of, AreLooked};
 ghost use Rattle.vx_finding.specs.Giving.{disk_holders};
-ghost use Rattle.vx_finding.specs.Importing.{IsSince};
+ghost use Rattle.vx_finding.specs.Importing.{all_read, IsSince};
 ghost use Rattle.vx_confdb.specs.Texts.{text_of};
 ghost use Rattle.vx_finding.specs.Judging.{labels_of, is_started, TextJudged};
 ghost use Rattle.vx_finding.specs.Readying.{AreCommittable};
@@ -85,7 +85,7 @@ pub(crate) fn commit_given<S: Shelf>(
     requires looks { AreLooked S.P.seen dg finds.items }
     requires given { IsGiven dg given (map (looked S.P.seen) finds.items) }
     requires judged { TextJudged dg (text_of given.text) given.good (labels_of finds.items) (is_started house.old.volumes) (Ready config text) }
-    ensures goes { (disks : List DiskAt) (names : List Word) (first : Shelved) → IsSince S.P.seen dg names first (shelved S.free S.held S.counted S.faults shelf.old) house.old (map (looked S.P.seen) finds.items) →
+    ensures goes { (disks : List DiskAt) (names : List Word) (first : Shelved) → IsSince S.P.seen all_read dg names first (shelved S.free S.held S.counted S.faults shelf.old) house.old (map (looked S.P.seen) finds.items) →
         StageGoes S.P.seen (stages.Import dg) disks result (at first house.old) (at (shelved S.free S.held S.counted S.faults shelf.new) house.new) }
 {
     let Ok(disks) = Vec::with_capacity(alloc, 32) else {

@@ -16,7 +16,7 @@ ghost use Rattle.vx_finding.specs.Gathering.{KeepEnds, LookEnds, PassGoes, Gathe
 
 use crate::placing::{place_of, put_in};
 use vx_header::Header;
-use vx_import::{Found, Reading, find};
+use vx_import::{Found, Reading, read_header};
 use vx_names::Name;
 use vx_parts::same;
 use vx_piece::{Piece, PieceFault};
@@ -103,7 +103,7 @@ fn look<S: Shelf>(
         (shelved S.free S.held S.counted S.faults shelf.old) (shelved S.free S.held S.counted S.faults shelf.new) }
 {
     let mut piece = piece;
-    match find(&mut piece) {
+    match read_header(&mut piece) {
         Ok(Some(header)) => {
             keep(shelf, name, dg, finds, piece, header);
             Passed::Done

@@ -11,7 +11,7 @@ ghost use Rattle.vx_house.specs.Holders.{holders, AreHeld};
 ghost use Rattle.vx_house.specs.Scene.{Shelved, shelved};
 ghost use Rattle.vx_house.specs.View.{Keeps, at};
 ghost use Rattle.vx_finding.specs.Finds.{holders_of, AreFinds, AreLooked};
-ghost use Rattle.vx_finding.specs.Importing.{IsAsked, IsSince};
+ghost use Rattle.vx_finding.specs.Importing.{header_alone, all_read, IsAsked, IsSince};
 
 use crate::committing::commit_given;
 use crate::giving::give_finds;
@@ -78,7 +78,7 @@ fn import_found<S: Shelf>(
 ) -> Result<(), Stop>
     requires held { AreHeld (S.held shelf.old) (holders S.P.seen house.old ++ holders_of (map (looked S.P.seen) finds.items)) }
     requires finds { AreFinds S.P.seen dg (vec_capacity finds) finds.items }
-    ensures goes { (disks : List DiskAt) (names : List Word) (first : Shelved) → IsSince S.P.seen dg names first (shelved S.free S.held S.counted S.faults shelf.old) house.old (map (looked S.P.seen) finds.items) →
+    ensures goes { (disks : List DiskAt) (names : List Word) (first : Shelved) → IsSince S.P.seen header_alone dg names first (shelved S.free S.held S.counted S.faults shelf.old) house.old (map (looked S.P.seen) finds.items) →
         StageGoes S.P.seen (stages.Import dg) disks result (at first house.old) (at (shelved S.free S.held S.counted S.faults shelf.new) house.new) }
 {
     let mut finds = finds;
@@ -103,7 +103,7 @@ fn import_given<S: Shelf>(
     requires held { AreHeld (S.held shelf.old) (holders S.P.seen house.old ++ holders_of (map (looked S.P.seen) finds.items)) }
     requires looks { AreLooked S.P.seen dg finds.items }
     requires given { IsGiven dg given (map (looked S.P.seen) finds.items) }
-    ensures goes { (disks : List DiskAt) (names : List Word) (first : Shelved) → IsSince S.P.seen dg names first (shelved S.free S.held S.counted S.faults shelf.old) house.old (map (looked S.P.seen) finds.items) →
+    ensures goes { (disks : List DiskAt) (names : List Word) (first : Shelved) → IsSince S.P.seen all_read dg names first (shelved S.free S.held S.counted S.faults shelf.old) house.old (map (looked S.P.seen) finds.items) →
         StageGoes S.P.seen (stages.Import dg) disks result (at first house.old) (at (shelved S.free S.held S.counted S.faults shelf.new) house.new) }
 {
     let judged = judge(

@@ -23,7 +23,7 @@ use vx_names::Name;
 use vx_objects::{Group, Object};
 use vx_parts::{Disk, Limit, same};
 use vx_piece::Piece;
-use vx_plans::refusal_by;
+use vx_plans::refusal_from;
 use vx_rules::first_broken;
 use vx_script_words::DiskAt;
 
@@ -151,10 +151,8 @@ pub(crate) fn has_group_records<P: Piece>(
     ensures { IfOk result (λ refusal. refusal ≡ refusal_from (first_broken (new_records dg.now (plain P.seen house.now) disks.now))) }
 {
     let records = new_records(alloc, house, dg, disks)?;
-    match first_broken(alloc, &records)? {
-        None => Ok(None),
-        Some(fault) => refusal_by(&fault),
-    }
+    let broken = first_broken(alloc, &records)?;
+    refusal_from(&broken)
 }
 
 /// The records of a new group and of its disks, which have their public regions behind the private ones.

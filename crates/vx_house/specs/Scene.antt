@@ -47,6 +47,10 @@ abbrev pub count_in : {X : Type 0} → (Seen → X) → X → Option Seen → X
 count_in count none None = none
 count_in count none (Some seen) = count seen
 
+-- the sectors of the device that were read, where one is seen
+abbrev pub reads_at : Scene → Word → ℕ
+reads_at s name = count_in (λ seen. seen.reads) 0 (seen_at s name)
+
 -- the counts of a moment are those that are seen
 pub record AreCountsOf (s : Scene) (c : Counts) : Type 0 where
   pub faults : (name : Word) → c.faults name ≡ faults_at s name

@@ -1,5 +1,5 @@
 -- What is read of the devices of a group.
-use Rattle.std.specs.Prelude.{◌≡◌, ◌≢◌, ℕ, ◌-◌, ◌≤◌, Bool, IsTrue, if◌then◌else◌, List, Option, Some, None, IfSome}
+use Rattle.std.specs.Prelude.{◌≡◌, ◌≢◌, ◌⊎◌, ℕ, ◌+◌, ◌-◌, ◌≤◌, Bool, IsTrue, if◌then◌else◌, List, Option, Some, None, IfSome}
 use Rattle.vx_base.specs.Named.{Word}
 use Rattle.vx_sector.specs.Fields.{zeros}
 use Rattle.vx_header.specs.Named.{Label, header_of, label_of}
@@ -8,6 +8,7 @@ use Rattle.vx_header.specs.Spelled.{sector_of_toggle, IsToggle}
 use Rattle.vx_header.specs.Places.{IsFirstBad, is_toggle_place, toggle_end}
 use Rattle.vx_piece.specs.Seen.{Seen, Keeps, IsRead}
 use Rattle.vx_copies.specs.Disks.{Drops}
+use Rattle.vx_copies.specs.Image.{text_sectors}
 use Rattle.vx_import.specs.declared.found.Found.{Found}
 use Rattle.vx_import.specs.declared.found.Reading.{Reading}
 use Rattle.vx_import.specs.declared.found.Reading.TheVariants.{Blank, Says, Damaged}
@@ -64,7 +65,13 @@ pub record IsOurs (group : Word) (f : Looked) : Type 0 where
 abbrev pub toggle_read : Looked → Option Said
 toggle_read f = if f.readable then said_in f.reading else None
 
--- what reading does to a device: it can be read until a read fails
+-- no more of the device was read than the text that its toggle names, and this only where it could be read
+abbrev pub IsTextRead : Looked → Looked → Type 0
+IsTextRead old new =
+    (new.seen.reads ≡ old.seen.reads)
+    ⊎ (IsTrue old.readable × IfSome old.seen.told (λ contents. new.seen.reads ≤ old.seen.reads + text_sectors (toggle_of (contents 1))))
+
+-- what the reading of a text does to a device: it can be read until a read fails
 pub record Reads (old new : Looked) : Type 0 where
   pub device : new.device ≡ old.device
   pub label : new.label ≡ old.label
@@ -72,3 +79,4 @@ pub record Reads (old new : Looked) : Type 0 where
   pub kept : Keeps old.seen new.seen
   pub same : IsRead old.seen new.seen
   pub readable : Drops old.readable new.readable old.seen new.seen
+  pub text : IsTextRead old new

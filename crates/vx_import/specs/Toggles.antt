@@ -1,21 +1,35 @@
 -- What the reading of the toggles leaves of the devices.
-use Rattle.std.specs.Prelude.{◌≡◌, true, IsTrue, List}
+use Rattle.std.specs.Prelude.{◌≡◌, ◌+◌, ◌≤◌, true, IsTrue, IfSome, List}
+use Rattle.vx_header.specs.Said.{toggle_of}
 use Rattle.vx_piece.specs.Seen.{Keeps, IsRead}
 use Rattle.vx_copies.specs.Lists.{AllOf, AnyOf}
 use Rattle.vx_copies.specs.Disks.{Drops}
+use Rattle.vx_copies.specs.Image.{text_sectors}
 use Rattle.vx_import.specs.Looks.{Looked, HasReading}
 use Rattle.vx_import.specs.declared.choosing.Taken.{Taken}
 use Rattle.vx_import.specs.declared.choosing.Taken.TheVariants as taken
 use Rattle.vx_import.specs.declared.toggles.Passed.{Passed}
 use Rattle.vx_import.specs.declared.toggles.Passed.TheVariants.{Done, Cut}
 
--- what an inspection does to a device: nothing is written, and it can be read until a read fails
+-- what the reading of its toggle does to a device: one sector is read at most, nothing is written, and it can be read until a
+-- read fails
+pub record Passes (old new : Looked) : Type 0 where
+  pub device : new.device ≡ old.device
+  pub label : new.label ≡ old.label
+  pub kept : Keeps old.seen new.seen
+  pub same : IsRead old.seen new.seen
+  pub readable : Drops old.readable new.readable old.seen new.seen
+  pub most : new.seen.reads ≤ old.seen.reads + 1
+
+-- what an inspection does to a device: its toggle and the text that this names are read at most, nothing is written, and it
+-- can be read until a read fails
 pub record Inspects (old new : Looked) : Type 0 where
   pub device : new.device ≡ old.device
   pub label : new.label ≡ old.label
   pub kept : Keeps old.seen new.seen
   pub same : IsRead old.seen new.seen
   pub readable : Drops old.readable new.readable old.seen new.seen
+  pub most : IfSome old.seen.told (λ contents. new.seen.reads ≤ old.seen.reads + 1 + text_sectors (toggle_of (contents 1)))
 
 -- no read of it has failed yet
 abbrev pub IsUnread : Looked → Type 0

@@ -15,5 +15,5 @@ pub use found::{Found, Reading, half_of};
 pub use inspecting::inspect;
 pub use judging::{Given, ImportFault};
 pub use naming::Damage;
-pub use reading::{find, read_text, read_toggle};
+pub use reading::{read_header, read_text, read_toggle};
 pub use taking::try_best;

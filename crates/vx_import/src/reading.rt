@@ -1,4 +1,5 @@
 ghost use Rattle.std.specs.Prelude.{◌≡◌, ◌+◌, ◌*◌, ◌<◌, ◌≤◌, length, take, IfOk, OnOk, IfSome, option_map};
+ghost use Rattle.vx_base.specs.Counts.{later_count};
 ghost use Rattle.vx_header.specs.Named.{header_of, label_of};
 ghost use Rattle.vx_header.specs.Said.{toggle_of};
 ghost use Rattle.vx_piece.specs.Seen.{Keeps, IsRead, HasCause};
@@ -10,29 +11,18 @@ use vx_header::{Header, HeaderFault, Toggle};
 use vx_piece::{Piece, PieceFault};
 
 /// What the header of a device says; None where sector 0 holds no header.
-pub fn find<P: Piece>(piece: &mut P) -> Result<Option<Header>, PieceFault>
+pub fn read_header<P: Piece>(piece: &mut P) -> Result<Option<Header>, PieceFault>
     requires some { 0 < (P.seen piece.old).sectors }
     ensures kept { Keeps (P.seen piece.old) (P.seen piece.new) }
     ensures same { IsRead (P.seen piece.old) (P.seen piece.new) }
+    ensures once { OnOk result ((P.seen piece.new).reads ≡ later_count (P.seen piece.old).reads 1) }
+    ensures most { (P.seen piece.new).reads ≤ (P.seen piece.old).reads + 1 }
     ensures header { IfOk result (λ h. IfSome (P.seen piece.old).told (λ contents. header_of (contents 0) ≡ option_map label_of h)) }
     ensures cause { HasCause (P.seen piece.old) (P.seen piece.new) result }
 {
     let mut sector = [0; 512];
-    read_header(piece, &mut sector)
-}
-
-/// The same, with room for a sector.
-pub fn read_header<P: Piece>(piece: &mut P, sector: &mut [u8]) -> Result<Option<Header>, PieceFault>
-    requires size { length sector.old ≡ 512 }
-    requires some { 0 < (P.seen piece.old).sectors }
-    ensures size { length sector.new ≡ 512 }
-    ensures kept { Keeps (P.seen piece.old) (P.seen piece.new) }
-    ensures same { IsRead (P.seen piece.old) (P.seen piece.new) }
-    ensures header { IfOk result (λ h. IfSome (P.seen piece.old).told (λ contents. header_of (contents 0) ≡ option_map label_of h)) }
-    ensures cause { HasCause (P.seen piece.old) (P.seen piece.new) result }
-{
-    match piece.read(0, sector) {
-        Ok(_) => Ok(header_in(sector)),
+    match piece.read(0, &mut sector) {
+        Ok(()) => Ok(header_in(&sector)),
         Err(fault) => Err(fault),
     }
 }

@@ -16,7 +16,7 @@ use vx_base::OutOfMemory;
 use vx_house::Stop;
 use vx_names::Name;
 use vx_objects::{Config, Object, Rule};
-use vx_plans::refusal_by;
+use vx_plans::refusal_from;
 use vx_rules::{first_broken_by, first_had, firsts};
 use vx_started::Started;
 
@@ -124,10 +124,8 @@ fn had(alloc: Global, group: &[Object], added: &[Object]) -> Result<Option<Refus
     requires group { repeated_after [] group.now ≡ None }
     ensures { IfOk result (λ refusal. refusal ≡ refusal_from (first_of (had_fault group.now) added.now)) }
 {
-    match first_had(alloc, group, added)? {
-        None => Ok(None),
-        Some(fault) => refusal_by(&fault),
-    }
+    let broken = first_had(alloc, group, added)?;
+    refusal_from(&broken)
 }
 
 fn behind_uses<P>(
@@ -181,10 +179,8 @@ fn broken(
     requires differ { repeated_after [] known.now ≡ None }
     ensures { IfOk result (λ refusal. refusal ≡ refusal_from (first_broken_by rules.now known.now all.now)) }
 {
-    match first_broken_by(alloc, rules, known, all)? {
-        None => Ok(None),
-        Some(fault) => refusal_by(&fault),
-    }
+    let broken = first_broken_by(alloc, rules, known, all)?;
+    refusal_from(&broken)
 }
 
 /// The refusal of the first volume that has the name of a started one.

@@ -13,7 +13,7 @@ use Rattle.vx_header.specs.Said.{toggle_of}
 use Rattle.vx_header.specs.Spelled.{IsToggle}
 use Rattle.vx_header.specs.Places.{IsFirstBad, is_toggle_place, toggle_end}
 use Rattle.vx_copies.specs.Lists.{AllOf, AnyOf}
-use Rattle.vx_copies.specs.Image.{Offer, offer_in, highest}
+use Rattle.vx_copies.specs.Image.{Offer, offer_in, names_group, text_sectors, highest}
 use Rattle.vx_record.specs.Content.{Content}
 use Rattle.vx_record.specs.Grammar.{Spells, IsBadLine}
 use Rattle.vx_record.specs.declared.kind.Kind.{Kind}
@@ -76,6 +76,11 @@ pub record Found (group : Word) (w : World) (old new : Counts) : Type 0 where
   pub shelf : RoseBy (length excused) old.shelf new.shelf
   pub counted : List Candidate
   pub count : AreCounted group absent w counted
+
+-- so many sectors of a device an import reads at most: its header, and where this names the group the toggle and the text
+-- that the toggle names
+abbrev pub import_sectors : Word → Device → ℕ
+import_sectors dg d = if names_group dg (header_of (d.contents 0)) then 2 + text_sectors (toggle_of (d.contents 1)) else 1
 
 -- what those that can be read offer
 abbrev pub offers_of : Word → (Word → Bool) → List Candidate → List (Option Offer)

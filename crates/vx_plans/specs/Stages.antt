@@ -29,7 +29,7 @@ use Rattle.vx_moments.specs.Holding.{IsHeld, is_among}
 use Rattle.vx_moments.specs.Leaving.{group_gone}
 use Rattle.vx_moments.specs.Copies.{IsTextOf}
 use Rattle.vx_moments.specs.Commit.{Writing, IsCommitted, IsStopped}
-use Rattle.vx_plans.specs.Finding.{Found, Finds, group_found, import_records}
+use Rattle.vx_plans.specs.Finding.{Found, Finds, group_found, import_records, import_sectors}
 use Rattle.vx_plans.specs.Making.{Adds, adding_refusal, is_started}
 use Rattle.vx_plans.specs.Records.{devices_of, sectors_at, disk_record, member_at, next_slot, new_records, new_members}
 use Rattle.vx_plans.specs.Refusals.{refusal_from}
@@ -92,6 +92,12 @@ pub record WritesAtMost (name : Word) (old new : Counts) : Type 0 where
   pub others : (other : Word) → bytes_eq name other ≡ false → new.writes other ≡ old.writes other
   pub reads : (other : Word) → new.reads other ≡ old.reads other
 
+-- one sector of each of these devices was read at most, and nothing else was called
+pub record ReadsAtMost (names : List Word) (old new : Counts) : Type 0 where
+  pub these : (name : Word) → is_among name names ≡ true → new.reads name ≤ old.reads name + 1
+  pub others : (name : Word) → is_among name names ≡ false → new.reads name ≡ old.reads name
+  pub writes : WritesNone old new
+
 -- the device of the name has these contents, and all else is as before
 pub record HasContents (name : Word) (R : Contents → Contents → Type 0) (old new : World) : Type 0 where
   pub device : Device
@@ -130,6 +136,18 @@ pub record SearchCalls (taken : List Word) (w : World) (old new : Counts) : Type
   pub others : (name : Word) → (IsFree w taken name → ⊥) → new.reads name ≡ old.reads name
   pub writes : WritesNone old new
   pub quiet : IsQuiet old new
+
+-- one sector of each free device that is not taken was read at most, and nothing else was called
+pub record SearchesAtMost (taken : List Word) (w : World) (old new : Counts) : Type 0 where
+  pub these : (name : Word) → IsFree w taken name → new.reads name ≤ old.reads name + 1
+  pub others : (name : Word) → (IsFree w taken name → ⊥) → new.reads name ≡ old.reads name
+  pub writes : WritesNone old new
+
+-- no more of any free device was read than an import reads of it, and nothing else was called
+pub record ImportReads (dg : Word) (w : World) (old new : Counts) : Type 0 where
+  pub these : (name : Word) (d : Device) → w.devices name ≡ Some d → IsFree w [] name → new.reads name ≤ old.reads name + import_sectors dg d
+  pub others : (name : Word) → (IsFree w [] name → ⊥) → new.reads name ≡ old.reads name
+  pub writes : WritesNone old new
 
 -- the volume's edit, where it is recorded
 abbrev pub policy_edit : Option Vol → (Vol → Edit) → List Edit
@@ -205,10 +223,10 @@ pub record ImportRefused (dg : Word) (w : World) (end : End) (old new : Counts) 
   pub end_is : end ≡ refused why
   pub finds : Finds dg w found.unread found.counted (λ r. r ≡ why) (λ o config. (refusal_from (first_broken (import_records config)) ≡ Some why) ⊎ ((after : Config) × (objects_of after ≡ import_records config) × RefusedAsLong after end))
 
--- a moment between, to which nothing was written
-pub record IsBetween (old mid new : Moment) : Type 0 where
+-- a moment between, to which the devices of a group were read
+pub record IsBetween (dg : Word) (old mid new : Moment) : Type 0 where
   pub world : mid.world ≡ old.world
-  pub writes : WritesNone old.counts mid.counts
+  pub reads : ImportReads dg old.world old.counts mid.counts
   pub first : AreLater old.counts mid.counts
   pub rest : AreLater mid.counts new.counts
 
@@ -248,7 +266,7 @@ IsDone (stage.Change change) disks old new = CommitsBy (λ x. IsChange (edits_of
 IsDone (stage.Make text) disks old new = CommitsBy (λ x. IsMaking text old.world x) old new
 IsDone stage.Join disks old new = OnlyDisk disks (λ p. CommitsBy (λ x. IsJoining p old.world x) old new)
 IsDone (stage.Create dg) disks old new = (old.world.group ≡ None) × CommitsBy (λ x. IsCreating dg disks old.world x) old new
-IsDone (stage.Import dg) disks old new = (old.world.group ≡ None) × (mid : Moment) × IsBetween old mid new × CommitsBy (λ x. IsImporting dg old.world x old.counts mid.counts) mid new
+IsDone (stage.Import dg) disks old new = (old.world.group ≡ None) × (mid : Moment) × IsBetween dg old mid new × CommitsBy (λ x. IsImporting dg old.world x old.counts mid.counts) mid new
 IsDone stage.LetGo disks old new = (new.world ≡ group_gone old.world) × (new.counts ≡ old.counts)
 
 -- a device in hand ends the command: it has failed, or its power is gone
@@ -259,9 +277,9 @@ DeviceEnds name old end new = ((end ≡ fault_of name) × HasFailed old.counts n
 abbrev pub FailsAt : Word → Moment → End → Moment → Type 0
 FailsAt name old end new = ((end ≡ fault_of name) × HasFailedOrShelf old.counts new.counts name) ⊎ ((end ≡ lost) × (new.counts.cut name ≡ true))
 
--- the world is as before, and nothing was written
-abbrev pub OnlyReads : Moment → Moment → Type 0
-OnlyReads old new = (new.world ≡ old.world) × WritesNone old.counts new.counts
+-- the world is as before, and these devices were read at most
+abbrev pub LooksAtMost : List Word → Moment → Moment → Type 0
+LooksAtMost names old new = (new.world ≡ old.world) × ReadsAtMost names old.counts new.counts
 
 -- the shelf has failed as it was to hand a device over, or to make one
 abbrev pub ShelfFailsAt : Word → Moment → End → Moment → Type 0
@@ -308,11 +326,12 @@ abbrev pub Stops : Stage → List DiskAt → Moment → End → Moment → Type 
 Stops (stage.Gate test) disks old end new = (r : Refusal) × (fails test disks old.world ≡ Some r) × (end ≡ refused r) × (new ≡ old)
 Stops (stage.Take name) disks old end new = TakingStops [] (name ∷ []) old end new
 Stops stage.TakeDisks disks old end new = TakingStops [] (devices_of disks) old end new
-Stops (stage.LookBlank name) disks old end new = OnlyReads old new × LookingStops (name ∷ []) old end new
-Stops stage.LookDisks disks old end new = OnlyReads old new × LookingStops (devices_of disks) old end new
-Stops (stage.LookHeaded name) disks old end new = OnlyReads old new × ((HasNoHeader old.world name × (end ≡ refused (refusal.NotInitialised name))) ⊎ DeviceEnds name old end new)
+Stops (stage.LookBlank name) disks old end new = LooksAtMost (name ∷ []) old new × LookingStops (name ∷ []) old end new
+Stops stage.LookDisks disks old end new = LooksAtMost (devices_of disks) old new × LookingStops (devices_of disks) old end new
+Stops (stage.LookHeaded name) disks old end new = LooksAtMost (name ∷ []) old new × ((HasNoHeader old.world name × (end ≡ refused (refusal.NotInitialised name))) ⊎ DeviceEnds name old end new)
 Stops (stage.Search dg) disks old end new =
-    OnlyReads old new
+    (new.world ≡ old.world)
+    × SearchesAtMost (devices_of disks) old.world old.counts new.counts
     × (((name : Word) × IsFree old.world (devices_of disks) name × ((NamesGroup dg old.world name × (end ≡ refused (refusal.Exists dg))) ⊎ FailsAt name old end new))
     ⊎ ShelfEnds old end new)
 Stops (stage.MakeImage name sectors) disks old end new = (IsSome (old.world.devices name) × EndsIn (refusal.Exists name) old end new) ⊎ ShelfFailsAt name old end new
@@ -326,6 +345,6 @@ Stops stage.Join disks old end new = OnlyDisk disks (λ p. EditsStop (λ g. join
 Stops (stage.Create dg) disks old end new = GroupStops old end new ⊎ StopsBy (λ x. IsCreating dg disks old.world x) old end new
 Stops (stage.Import dg) disks old end new =
     GroupStops old end new
-    ⊎ ((OnlyReads old new × (ImportRefused dg old.world end old.counts new.counts ⊎ (ShelfEnds old end new ⊎ ((end ≡ lost) × ((name : Word) × (new.counts.cut name ≡ true))))))
-    ⊎ ((mid : Moment) × IsBetween old mid new × StopsBy (λ x. IsImporting dg old.world x old.counts mid.counts) mid end new))
+    ⊎ (((new.world ≡ old.world) × ImportReads dg old.world old.counts new.counts × (ImportRefused dg old.world end old.counts new.counts ⊎ (ShelfEnds old end new ⊎ ((end ≡ lost) × ((name : Word) × (new.counts.cut name ≡ true))))))
+    ⊎ ((mid : Moment) × IsBetween dg old mid new × StopsBy (λ x. IsImporting dg old.world x old.counts mid.counts) mid end new))
 Stops stage.LetGo disks old end new = ⊥

@@ -11,7 +11,7 @@ mod test;
 
 pub use laws::each_plan_is_complete;
 pub use planning::plan;
-pub use refusals::refusal_by;
+pub use refusals::{refusal_by, refusal_from};
 pub use stage::{Change, Stage};
 pub use stages::{Finish, Plan, Stages};
 pub use test::Test;

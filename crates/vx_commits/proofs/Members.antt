@@ -10,7 +10,7 @@ use Rattle.vx_mask.specs.Mask.{has}
 use Rattle.vx_piece.specs.Seen.{Seen}
 use Rattle.vx_header.specs.Named.{Label}
 use Rattle.vx_copies.specs.Disks.{Held, NamesHalf, HasSlot, Drops, is_good_slot, good_mask}
-use Rattle.vx_copies.specs.Chain.{OffersSince as OffersSinceIn, IsInOrder as IsInOrderIn, AreInOrder as AreInOrderIn, OneOffersSince as OneOffersSinceIn}
+use Rattle.vx_copies.specs.Chain.{OffersSince as OffersSinceIn, IsInOrder, AreInOrder as AreInOrderIn, OneOffersSince as OneOffersSinceIn}
 use Rattle.vx_copies.specs.Image.{Offer, offer_in, offer_told}
 use Rattle.vx_copies.specs.Lists.{AllOf, AnyOf, Each}
 use Rattle.vx_copies.specs.Written.{Touches}
@@ -21,7 +21,7 @@ use Rattle.vx_objects.specs.declared.config.Config.{Config}
 use Rattle.vx_moments.specs.World.{Device, Member, Group}
 use Rattle.vx_moments.specs.Moment.{Moment, HasFailed}
 use Rattle.vx_moments.specs.Copies.{IsTextOf, IsEntered, label_of}
-use Rattle.vx_moments.specs.Commit.{Writing, parties, is_slot_of, is_written_slot, IsMaskOf, NoneFailed, MemberGoes, JoinerGoes, IsNoDeviceOf, sectors_of, OffersSince, IsInOrder, AreInOrder, OneOffersSince, IsCommitting}
+use Rattle.vx_moments.specs.Commit.{Writing, parties, is_slot_of, is_written_slot, IsMaskOf, NoneFailed, MemberGoes, JoinerGoes, IsNoDeviceOf, sectors_of, OffersSince, AreInOrder, OneOffersSince, IsCommitting}
 use Rattle.vx_house.proofs.Listed.{all_front}
 use Rattle.vx_commits.proofs.Called.{IsPair}
 use Rattle.vx_commits.proofs.Slotted.{AreSlotted, mask_names, good_slots}
@@ -174,7 +174,7 @@ module _ (group : Group) (config : Config) (text : List ℕ) (carriers : List Me
           record { is = ap (offer_told config.group) gone.pair.tells ∙ ap (offer_in config.group) (sym contents) ∙ since.offers; newer = since.newer }
 
       abbrev TwoIn : Held → Held → Type 0
-      TwoIn a b = (o p : Offer) → OffersSinceIn config.group group.sequence a o → OffersSinceIn config.group group.sequence b p → IsInOrderIn o p b.slot
+      TwoIn a b = (o p : Offer) → OffersSinceIn config.group group.sequence a o → OffersSinceIn config.group group.sequence b p → IsInOrder o p b.slot
 
       abbrev Two : Member → Member → Type 0
       Two a b = (o p : Offer) → OffersSince here n.world a o → OffersSince here n.world b p → IsInOrder o p b.slot

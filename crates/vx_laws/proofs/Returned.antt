@@ -244,7 +244,7 @@ module _ (g : Group) (x : Writing) (old new : Moment) (left : IsLeftBehind g old
 
 -- ---- the command
 
-done_at : (g : Group) (old from new : Moment) (left : IsLeftBehind g old.world) → g.sequence ≤ 2 ^ 63 → WentWell old new → IsBetween old from new → (x : Writing) → IsImporting g.config.group old.world x old.counts from.counts → IsCommitted x from new → IsReturned g old.world new.world
+done_at : (g : Group) (old from new : Moment) (left : IsLeftBehind g old.world) → g.sequence ≤ 2 ^ 63 → WentWell old new → IsBetween g.config.group old from new → (x : Writing) → IsImporting g.config.group old.world x old.counts from.counts → IsCommitted x from new → IsReturned g old.world new.world
 done_at g old from new left low well between x writing committed =
     let first = well_before old from new between.first between.rest well in
     let rest = well_after old from new between.first between.rest well in

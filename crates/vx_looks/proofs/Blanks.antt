@@ -16,7 +16,7 @@ use Rattle.vx_moments.specs.World.{World}
 use Rattle.vx_moments.specs.Moment.{Moment}
 use Rattle.vx_moments.specs.Holding.{is_among}
 use Rattle.vx_plans.specs.Records.{devices_of}
-use Rattle.vx_plans.specs.Stages.{OfDevice, AreBlank, ReadsEach, HasHeader, LookingStops, DeviceEnds, OnlyReads, refused, IsDone, Stops}
+use Rattle.vx_plans.specs.Stages.{OfDevice, AreBlank, ReadsEach, HasHeader, LookingStops, DeviceEnds, ReadsAtMost, OnlyReads, refused, IsDone, Stops}
 use Rattle.vx_plans.specs.declared.stage.Stage.TheVariants as stage
 use Rattle.vx_house.specs.Goes.{Goes, StageGoes, IsBlankSeen, IsHandBlank, Still}
 use Rattle.vx_house.specs.Holders.{Holder, holders, hand_holder, hand_names, held_as, AreHeld}
@@ -31,12 +31,11 @@ use Rattle.vx_house.proofs.Ended.{keeps_ended, goes_ended}
 use Rattle.vx_house.proofs.Moments.{moment_at}
 use Rattle.vx_house.proofs.Scenes.{scene_of}
 use Rattle.vx_looks.specs.Looks.{IsOnlyRead, IsReadOnce, IsReadBlank, IsHeadedSeen, EndsBy, HandStops, HandLooks}
-use Rattle.vx_looks.proofs.Readings.{reads_self, IsCounted, reads_each, counted_on, counted_told, counted_self, counted_each, writes_none, reads_these, still_each}
+use Rattle.vx_looks.proofs.Readings.{IsCounted, counted_on, counted_told, counted_self, counted_each, reads_these, IsLooked, looked_on, looked_told, looked_self, looked_each, reads_most, still_each}
 use Rattle.vx_house.proofs.Steps.{IsStep}
 use Rattle.vx_copies.proofs.Going.{each_map}
 use Rattle.vx_copies.proofs.Ordering.{each_all}
 use Rattle.vx_house.proofs.Hands.{after, IsInWorld, volumes_held, group_held, volumes_others, group_others, hand_held, hand_in_world, hand_steps, hand_keeps, hand_faults, hand_later, hand_moment}
-use Rattle.vx_house.proofs.Reading.{IsReadOn, read_on, read_told}
 
 or_true : (a b : Bool) → b ≡ true → (a || b) ≡ true
 or_true true b e = refl
@@ -86,7 +85,7 @@ module _ {P : Type 0} (see : P → Seen) (shelf : Shelved) (hs ns : List Holder)
 module _ {P : Type 0} (see : P → Seen) where
   -- a hand of which one device ended the command was read at most
   read_same : (t : Taken P) → IsOnlyRead see t t
-  read_same t = record { device = refl; kept = record { device = refl; start = refl; sectors = refl; stop = refl; faults = omega arith; cut = λ c. c }; same = record { told = refl; writes = refl } }
+  read_same t = record { device = refl; kept = record { device = refl; start = refl; sectors = refl; stop = refl; faults = omega arith; cut = λ c. c }; same = record { told = refl; writes = refl }; most = omega arith }
 
   all_same : (ts : List (Taken P)) → Each (IsOnlyRead see) ts ts
   all_same [] = tt
@@ -160,25 +159,31 @@ module _ {P : Type 0} (see : P → Seen) (h k : House P) (shelf : Shelved) (are 
 
 -- The hand was read at most.
 module _ {P : Type 0} (see : P → Seen) (h k : House P) (shelf : Shelved) (are : AreHeld shelf.held (holders see h)) (keeps : KeepsHouse see h) (each : Each (IsOnlyRead see) h.hand.items k.hand.items) where
-  hand_on : Each (IsStep IsReadOn) (map (hand_holder see) h.hand.items) (map (hand_holder see) k.hand.items)
-  hand_on = reads_each see h.hand.items k.hand.items each
+  abbrev looked : List Word
+  looked = hand_names h
+
+  hand_on : Each (IsStep (IsLooked looked)) (map (hand_holder see) h.hand.items) (map (hand_holder see) k.hand.items)
+  hand_on = looked_each see looked h.hand.items k.hand.items (among_hand h.hand.items) each
 
   pub most_keeps : Keeps see (at shelf (after h k))
-  most_keeps = hand_keeps see h k IsReadOn read_on (reads_self (volumes_held see h)) (reads_self (group_held see h)) hand_on shelf are keeps
+  most_keeps = hand_keeps see h k (IsLooked looked) (looked_on looked) (looked_self looked (volumes_held see h)) (looked_self looked (group_held see h)) hand_on shelf are keeps
 
   pub most_faults : FaultsGoOn (scene see (at shelf h)) (scene see (at shelf (after h k)))
-  most_faults = hand_faults see h k IsReadOn read_on (reads_self (volumes_held see h)) (reads_self (group_held see h)) hand_on shelf
+  most_faults = hand_faults see h k (IsLooked looked) (looked_on looked) (looked_self looked (volumes_held see h)) (looked_self looked (group_held see h)) hand_on shelf
 
   -- each in hand is held under its name still
   pub most_held : AllOf (λ u. held_as (holders see (after h k)) u.device ≡ Some (see u.piece)) k.hand.items
   most_held = hand_held see (after h k) most_keeps.devices.apart
 
-  pub most_goes : (end : End) (Stops : Moment → End → Moment → Type 0) → ((m : Moment) → IsMoment see (at shelf h) m → Stops m end (moment_at m.world (scene see (at shelf (after h k))))) → Goes see (λ m n. OnlyReads m n × Stops m end n) (at shelf h) (at shelf (after h k))
+  pub most_goes : (end : End) (Stops : Moment → End → Moment → Type 0) → ((m : Moment) → IsMoment see (at shelf h) m → Stops m end (moment_at m.world (scene see (at shelf (after h k))))) → Goes see (λ m n. OnlyReads (ReadsAtMost looked) m n × Stops m end n) (at shelf h) (at shelf (after h k))
   most_goes end Stops stops m is = (
     moment_at m.world (scene see (at shelf (after h k))),
-    hand_moment see h k IsReadOn read_on (reads_self (volumes_held see h)) (reads_self (group_held see h)) hand_on read_told shelf m is,
-    hand_later see h k IsReadOn read_on (reads_self (volumes_held see h)) (reads_self (group_held see h)) hand_on shelf m is,
-    ((refl, writes_none see h k shelf m is IsReadOn (λ name s t q. q.same) (holders see (after h k)) (hand_steps see h k IsReadOn read_on (reads_self (volumes_held see h)) (reads_self (group_held see h)) hand_on)), stops m is),
+    hand_moment see h k (IsLooked looked) (looked_on looked) (looked_self looked (volumes_held see h)) (looked_self looked (group_held see h)) hand_on (looked_told looked) shelf m is,
+    hand_later see h k (IsLooked looked) (looked_on looked) (looked_self looked (volumes_held see h)) (looked_self looked (group_held see h)) hand_on shelf m is,
+    (
+      (refl, reads_most see h k shelf m is (holders see (after h k)) (hand_steps see h k (IsLooked looked) (looked_on looked) (looked_self looked (volumes_held see h)) (looked_self looked (group_held see h)) hand_on)),
+      stops m is,
+    ),
   )
 
 -- The stages.
@@ -197,7 +202,7 @@ module _ {P : Type 0} (see : P → Seen) (h k : House P) (shelf : Shelved) (are 
   blank_goes : Each (IsReadBlank see) h.hand.items k.hand.items → Goes see (λ m n. AreBlank m.world (hand_names h) × (n.world ≡ m.world) × ReadsEach (hand_names h) m.counts n.counts) (at shelf h) (at shelf (after h k))
   blank_goes each = once_goes see h k shelf are keeps (only_once each) (λ w. AreBlank w (hand_names h)) (λ m is. are_blank see m.world h.hand.items k.hand.items (hand_in_world see h shelf m are.apart is) each)
 
-  stop_goes : (end : End) → HandStops see h.hand.items (Ended end) k.hand.items → Goes see (λ m n. OnlyReads m n × LookingStops (hand_names h) m end n) (at shelf h) (at shelf (after h k))
+  stop_goes : (end : End) → HandStops see h.hand.items (Ended end) k.hand.items → Goes see (λ m n. OnlyReads (ReadsAtMost (hand_names h)) m n × LookingStops (hand_names h) m end n) (at shelf h) (at shelf (after h k))
   stop_goes end stops = most_goes see h k shelf are keeps (stops_read see end h.hand.items k.hand.items stops) end (LookingStops (hand_names h))
       (λ m is. stops_counted see shelf (holders see h) (holders see (after h k)) m end h.hand.items k.hand.items is.counts.faults (hand_in_world see h shelf m are.apart is) (hand_held see h are.apart) (most_held see h k shelf are keeps (stops_read see end h.hand.items k.hand.items stops)) stops)
 
@@ -215,7 +220,7 @@ module _ {P : Type 0} (see : P → Seen) (h k : House P) (shelf : Shelved) (are 
   }
   disks_look disks (Err (Ended end)) named stops = record {
     keeps = keeps_ended see end (at shelf (after h k)) (most_keeps see h k shelf are keeps (stops_read see end h.hand.items k.hand.items stops));
-    goes = goes_ended see (IsDone stage.LookDisks disks) (Stops stage.LookDisks disks) end (at shelf h) (at shelf (after h k)) (subst (λ ns. Goes see (λ m n. OnlyReads m n × LookingStops ns m end n) (at shelf h) (at shelf (after h k))) named (stop_goes end stops));
+    goes = goes_ended see (IsDone stage.LookDisks disks) (Stops stage.LookDisks disks) end (at shelf h) (at shelf (after h k)) (subst (λ ns. Goes see (λ m n. OnlyReads (ReadsAtMost ns) m n × LookingStops ns m end n) (at shelf h) (at shelf (after h k))) named (stop_goes end stops));
     gives = tt;
     still = λ _. tt;
     faults = most_faults see h k shelf are keeps (stops_read see end h.hand.items k.hand.items stops);
@@ -234,7 +239,7 @@ module _ {P : Type 0} (see : P → Seen) (h k : House P) (shelf : Shelved) (are 
   }
   blank_look name disks (Err (Ended end)) named stops = record {
     keeps = keeps_ended see end (at shelf (after h k)) (most_keeps see h k shelf are keeps (stops_read see end h.hand.items k.hand.items stops));
-    goes = goes_ended see (IsDone (stage.LookBlank name) disks) (Stops (stage.LookBlank name) disks) end (at shelf h) (at shelf (after h k)) (subst (λ ns. Goes see (λ m n. OnlyReads m n × LookingStops ns m end n) (at shelf h) (at shelf (after h k))) named (stop_goes end stops));
+    goes = goes_ended see (IsDone (stage.LookBlank name) disks) (Stops (stage.LookBlank name) disks) end (at shelf h) (at shelf (after h k)) (subst (λ ns. Goes see (λ m n. OnlyReads (ReadsAtMost ns) m n × LookingStops ns m end n) (at shelf h) (at shelf (after h k))) named (stop_goes end stops));
     gives = tt;
     still = λ _. tt;
     faults = most_faults see h k shelf are keeps (stops_read see end h.hand.items k.hand.items stops);

@@ -8,7 +8,7 @@ use Rattle.vx_script_words.specs.declared.value.DiskAt.{DiskAt}
 use Rattle.vx_answers.specs.declared.answer.End.{End}
 use Rattle.vx_answers.specs.declared.refusal.Refusal.TheVariants.{NotInitialised}
 use Rattle.vx_moments.specs.Moment.{Moment}
-use Rattle.vx_plans.specs.Stages.{HasHeader, HasNoHeader, DeviceEnds, ReadsEach, IsDone, Stops, refused}
+use Rattle.vx_plans.specs.Stages.{HasHeader, HasNoHeader, DeviceEnds, ReadsEach, ReadsAtMost, OnlyReads, IsDone, Stops, refused}
 use Rattle.vx_plans.specs.declared.stage.Stage.TheVariants as stage
 use Rattle.vx_house.specs.Goes.{Goes, StageGoes, IsBlankSeen}
 use Rattle.vx_house.specs.Holders.{holders, hand_names, AreHeld}
@@ -58,7 +58,8 @@ module _ {P : Type 0} (see : P → Seen) (h k : House P) (t u : Taken P) (was : 
   headed_look disks (Err (Ended end)) (read, ends) = record {
     keeps = keeps_ended see end (at shelf (after h k)) (most_keeps see h k shelf are keeps (each_one (IsOnlyRead see) read));
     goes = goes_ended see (IsDone (stage.LookHeaded t.device) disks) (Stops (stage.LookHeaded t.device) disks) end (at shelf h) (at shelf (after h k))
-        (most_goes see h k shelf are keeps (each_one (IsOnlyRead see) read) end (λ m e n. (HasNoHeader m.world t.device × (e ≡ refused (NotInitialised t.device))) ⊎ DeviceEnds t.device m e n) (headed_ends end read ends));
+        (subst (λ ns. Goes see (λ m n. OnlyReads (ReadsAtMost ns) m n × ((HasNoHeader m.world t.device × (end ≡ refused (NotInitialised t.device))) ⊎ DeviceEnds t.device m end n)) (at shelf h) (at shelf (after h k))) named
+        (most_goes see h k shelf are keeps (each_one (IsOnlyRead see) read) end (λ m e n. (HasNoHeader m.world t.device × (e ≡ refused (NotInitialised t.device))) ⊎ DeviceEnds t.device m e n) (headed_ends end read ends)));
     gives = tt;
     still = λ _. tt;
     faults = most_faults see h k shelf are keeps (each_one (IsOnlyRead see) read);

@@ -9,4 +9,3 @@ pub mod Bared
 pub mod Sought
 pub mod Searched
 pub mod Ends
-pub mod Sectors

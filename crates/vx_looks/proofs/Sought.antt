@@ -1,5 +1,5 @@
 -- A device that is taken from its shelf, read and given back, and one that is not.
-use Rattle.std.proofs.Common.{◌≡◌, ◌∙◌, ◌||◌, ◌≤◌, ◌↔◌, Bool, true, false, cond, [], ◌∷◌, Option, Some, None, Ok, Err, Result, refl, sym, ap, subst, arith, inl, inr}
+use Rattle.std.proofs.Common.{◌≡◌, ◌∙◌, ◌||◌, ◌≤◌, ◌↔◌, Bool, true, false, cond, List, [], ◌∷◌, Option, Some, None, Ok, Err, Result, refl, sym, ap, subst, arith, inl, inr}
 use Rattle.std.specs.Prelude.{IsSome, IfSome}
 use Rattle.std.specs.Str.{bytes_eq}
 use Rattle.std.proofs.lemmas.Bool.{cond-true, cond-false}
@@ -14,20 +14,21 @@ use Rattle.vx_plans.specs.Stages.{fault_of}
 use Rattle.vx_house.specs.Scene.{Shelved}
 use Rattle.vx_house.specs.declared.stop.Stop.{Stop}
 use Rattle.vx_house.specs.declared.stop.Stop.TheVariants.{Ended, OutOfMemory}
-use Rattle.vx_looks.specs.Seeks.{NamesSeen, IsSeenOnly, IsSoughtOnce, Claims, ClaimEnds, IsPlaceSeen, ArePlacesSeen, IsPlaceSought, ArePlacesSought, IsOnlySought, Seeks, SeekCause, SeekEnds, SeeksUnder}
+use Rattle.vx_looks.specs.Seeks.{NamesSeen, IsSeenOnly, IsSoughtOnce, Claims, ClaimEnds, IsPlace, ArePlaces, IsOnlySought, Seeks, SeekCause, SeekEnds, SeeksUnder}
 use Rattle.vx_copies.proofs.Going.{keeps_refl}
 use Rattle.vx_house.proofs.Steps.{each_name}
 
-seen_self : (s : Seen) → IsSeenOnly s s
-seen_self s = record { kept = keeps_refl s; same = record { told = refl; writes = refl } }
+pub seen_self : (s : Seen) → IsSeenOnly s s
+seen_self s = record { kept = keeps_refl s; same = record { told = refl; writes = refl }; most = omega arith }
 
-pub place_self : (o : Option Seen) → IsPlaceSeen o o
-place_self None = tt
-place_self (Some s) = seen_self s
+pub place_self : (b : Bool) (o : Option Seen) → IsPlace IsSeenOnly b o o
+place_self false o = refl
+place_self true None = tt
+place_self true (Some s) = seen_self s
 
-places_self : (o : Option (Word → Option Seen)) → ArePlacesSeen o o
-places_self None = tt
-places_self (Some devices) = λ name. place_self (devices name)
+places_self : (names : List Word) (o : Option (Word → Option Seen)) → ArePlaces IsSeenOnly names o o
+places_self names None = tt
+places_self names (Some devices) = λ name. place_self (is_among name names) (devices name)
 
 -- the name is the only one of its list
 pub among_one : (name other : Word) (b : Bool) → bytes_eq name other ≡ b → is_among other (name ∷ []) ≡ b
@@ -76,35 +77,22 @@ module _ (dg name : Word) (s t : Seen) (old mid new : Shelved) (back : IsBack na
     now_other : (other : Word) → bytes_eq name other ≡ false → n other ≡ a other
     now_other other e = comes other ∙ cond-false _ _ _ e ∙ left.1 other ∙ cond-false _ _ _ e
 
-    here_seen : IsPlaceSeen (a name) (n name)
-    here_seen = subst (λ o. IsPlaceSeen o (n name)) (sym left.0) (subst (λ o. IsPlaceSeen (Some s) o) (sym now_here) seen)
+    module _ (Became : Seen → Seen → Type 0) (became : Became s t) where
+      here : IsPlace Became true (a name) (n name)
+      here = subst (λ o. IsPlace Became true o (n name)) (sym left.0) (subst (λ o. IsPlace Became true (Some s) o) (sym now_here) became)
 
-    all_seen : (other : Word) → IsPlaceSeen (a other) (n other)
-    all_seen = each_name name (λ other. IsPlaceSeen (a other) (n other)) here_seen (λ other e. subst (IsPlaceSeen (a other)) (sym (now_other other e)) (place_self (a other)))
+      all_places : (other : Word) → IsPlace Became (is_among other (name ∷ [])) (a other) (n other)
+      all_places = each_name name (λ other. IsPlace Became (is_among other (name ∷ [])) (a other) (n other))
+          (subst (λ b. IsPlace Became b (a name) (n name)) (sym (among_one name name true (bytes_eq_self name))) here)
+          (λ other e. subst (λ b. IsPlace Became b (a other) (n other)) (sym (among_one name other false e)) (now_other other e))
 
-    here_sought : IsSoughtOnce dg s t → IsPlaceSought dg true (a name) (n name)
-    here_sought sought = subst (λ o. IsPlaceSought dg true o (n name)) (sym left.0) (subst (λ o. IsPlaceSought dg true (Some s) o) (sym now_here) sought)
-
-    all_sought : IsSoughtOnce dg s t → (other : Word) → IsPlaceSought dg (is_among other (name ∷ [])) (a other) (n other)
-    all_sought sought = each_name name (λ other. IsPlaceSought dg (is_among other (name ∷ [])) (a other) (n other))
-        (subst (λ b. IsPlaceSought dg b (a name) (n name)) (sym (among_one name name true (bytes_eq_self name))) (here_sought sought))
-        (λ other e. subst (λ b. IsPlaceSought dg b (a other) (n other)) (sym (among_one name other false e)) (now_other other e))
-
-  places_seen : (o p q : Option (Word → Option Seen)) → LeavesShelf name s o p → ComesToShelf name t p q → ArePlacesSeen o q
-  places_seen None None None left comes = tt
-  places_seen None None (Some q) left comes = absurd comes
-  places_seen None (Some p) q left comes = absurd left
-  places_seen (Some o) None q left comes = absurd left
-  places_seen (Some o) (Some p) None left comes = absurd comes
-  places_seen (Some o) (Some p) (Some q) left comes = all_seen o p q left comes
-
-  places_sought : IsSoughtOnce dg s t → (o p q : Option (Word → Option Seen)) → LeavesShelf name s o p → ComesToShelf name t p q → ArePlacesSought dg (name ∷ []) o q
-  places_sought sought None None None left comes = tt
-  places_sought sought None None (Some q) left comes = absurd comes
-  places_sought sought None (Some p) q left comes = absurd left
-  places_sought sought (Some o) None q left comes = absurd left
-  places_sought sought (Some o) (Some p) None left comes = absurd comes
-  places_sought sought (Some o) (Some p) (Some q) left comes = all_sought o p q left comes sought
+  places : (Became : Seen → Seen → Type 0) → Became s t → (o p q : Option (Word → Option Seen)) → LeavesShelf name s o p → ComesToShelf name t p q → ArePlaces Became (name ∷ []) o q
+  places Became became None None None left comes = tt
+  places Became became None None (Some q) left comes = absurd comes
+  places Became became None (Some p) q left comes = absurd left
+  places Became became (Some o) None q left comes = absurd left
+  places Became became (Some o) (Some p) None left comes = absurd comes
+  places Became became (Some o) (Some p) (Some q) left comes = all_places o p q left comes Became became
 
   -- what was told of the device, and is told
   was_told : (o p : Option (Word → Option Seen)) → LeavesShelf name s o p → IfSome o (λ devices. devices name ≡ Some s)
@@ -126,8 +114,8 @@ module _ (dg name : Word) (s t : Seen) (old mid new : Shelved) (back : IsBack na
   counted_same : t.faults ≡ s.faults → IsSome old.free → (other : Word) → new.counted other ≡ old.counted other
   counted_same quiet some = each_name name (λ other. new.counted other ≡ old.counted other) (counted_here ∙ quiet ∙ law_here old.free mid.free back.left back.law some) counted_other
 
-  only_back : IsOnlySought old new
-  only_back = record { held = held_back; told = places_seen old.free mid.free new.free back.left back.back; counted = counted_later; later = let e = faults_back in omega (arith, e) }
+  only_back : IsOnlySought (name ∷ []) old new
+  only_back = record { held = held_back; told = places IsSeenOnly seen old.free mid.free new.free back.left back.back; counted = counted_later; later = let e = faults_back in omega (arith, e) }
 
   some_told : (Q : Seen → Type 0) (x : Seen) → Q x → (o : Option (Word → Option Seen)) → IfSome o (λ devices. devices name ≡ Some x) → IfSome o (λ devices. (s : Seen) × (devices name ≡ Some s) × Q s)
   some_told Q x q None told = tt
@@ -141,7 +129,7 @@ module _ (dg name : Word) (s t : Seen) (old mid new : Shelved) (back : IsBack na
   pub looked_back : (result : Result (Unit {0}) Stop) → Claims dg name s result t → SeeksUnder dg name old result new
   looked_back (Ok u) sought = record {
     held = held_back;
-    told = places_sought sought old.free mid.free new.free back.left back.back;
+    told = places (IsSoughtOnce dg) sought old.free mid.free new.free back.left back.back;
     counted = counted_later;
     same = counted_same sought.quiet;
     quiet = faults_back;
@@ -160,35 +148,32 @@ claims_seen dg name s t (Err OutOfMemory) never = absurd never
 
 -- The shelf has handed nothing over.
 module _ (dg name : Word) (old new : Shelved) (held : SameUnder old.held new.held) (free : new.free ≡ old.free) (counts : SameCounts old.counted new.counted) where
-  seen_still : ArePlacesSeen old.free new.free
-  seen_still = subst (ArePlacesSeen old.free) (sym free) (places_self old.free)
+  pub only_still : (names : List Word) → old.faults ≤ new.faults → IsOnlySought names old new
+  only_still names later = record { held = held; told = subst (ArePlaces IsSeenOnly names old.free) (sym free) (places_self names old.free); counted = λ other. let e = counts other in omega (arith, e); later = later }
 
-  pub only_still : old.faults ≤ new.faults → IsOnlySought old new
-  only_still later = record { held = held; told = seen_still; counted = λ other. let e = counts other in omega (arith, e); later = later }
-
-  sought_none : (o : Option (Word → Option Seen)) → IfSome o (λ devices. devices name ≡ None) → ArePlacesSought dg (name ∷ []) o o
+  sought_none : (o : Option (Word → Option Seen)) → IfSome o (λ devices. devices name ≡ None) → ArePlaces (IsSoughtOnce dg) (name ∷ []) o o
   sought_none None none = tt
   sought_none (Some o) none = λ other. by_test other (bytes_eq name other) refl
     where
-      by_test : (other : Word) (b : Bool) → bytes_eq name other ≡ b → IsPlaceSought dg (is_among other (name ∷ [])) (o other) (o other)
-      by_test other true e = subst (λ b. IsPlaceSought dg b (o other) (o other)) (sym (among_one name other true e))
-          (subst (λ x. IsPlaceSought dg true x x) (sym (ap o (sym (bytes_eq_same name other e)) ∙ none)) tt)
-      by_test other false e = subst (λ b. IsPlaceSought dg b (o other) (o other)) (sym (among_one name other false e)) refl
+      by_test : (other : Word) (b : Bool) → bytes_eq name other ≡ b → IsPlace (IsSoughtOnce dg) (is_among other (name ∷ [])) (o other) (o other)
+      by_test other true e = subst (λ b. IsPlace (IsSoughtOnce dg) b (o other) (o other)) (sym (among_one name other true e))
+          (subst (λ x. IsPlace (IsSoughtOnce dg) true x x) (sym (ap o (sym (bytes_eq_same name other e)) ∙ none)) tt)
+      by_test other false e = subst (λ b. IsPlace (IsSoughtOnce dg) b (o other) (o other)) (sym (among_one name other false e)) refl
 
   -- no device of the name is told
   pub passed_by : IfSome old.free (λ devices. devices name ≡ None) → new.faults ≡ old.faults → Seeks dg (name ∷ []) old new
   passed_by none quiet = record {
     held = held;
-    told = subst (ArePlacesSought dg (name ∷ []) old.free) (sym free) (sought_none old.free none);
+    told = subst (ArePlaces (IsSoughtOnce dg) (name ∷ []) old.free) (sym free) (sought_none old.free none);
     counted = λ other. let e = counts other in omega (arith, e);
     same = λ some other. counts other;
     quiet = quiet;
   }
 
   -- the shelf has failed
-  pub shelf_failed : old.held name ≡ None → Rose old.faults new.faults → old.faults ≤ new.faults → SeekEnds dg name old (fault_of name) new
+  pub shelf_failed : old.held name ≡ None → Rose old.faults new.faults → old.faults ≤ new.faults → SeekEnds dg (name ∷ []) name old (fault_of name) new
   shelf_failed none rose later = record {
-    only = only_still later;
+    only = only_still (name ∷ []) later;
     none = none;
     cause = inr (inl (refl, inr rose));
   }

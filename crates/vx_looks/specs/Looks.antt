@@ -1,5 +1,5 @@
 -- What becomes of devices in hand whose headers are read.
-use Rattle.std.specs.Prelude.{◌≡◌, ◌⊎◌, true, List, [], ◌∷◌, Option, Result, Ok, Err, IfSome, IsSome, option_map}
+use Rattle.std.specs.Prelude.{◌≡◌, ◌⊎◌, ◌+◌, ◌≤◌, true, List, [], ◌∷◌, Option, Result, Ok, Err, IfSome, IsSome, option_map}
 use Rattle.vx_base.specs.Counts.{Rose, later_count}
 use Rattle.vx_header.specs.Named.{header_of, label_of}
 use Rattle.vx_header.specs.declared.header.Header.{Header}
@@ -13,11 +13,12 @@ use Rattle.vx_house.specs.declared.house.Taken.{Taken}
 use Rattle.vx_house.specs.declared.stop.Stop.{Stop}
 use Rattle.vx_house.specs.declared.stop.Stop.TheVariants.{Ended, OutOfMemory}
 
--- the device in hand was read at most
+-- one sector of the device in hand was read at most
 pub record IsOnlyRead {P : Type 0} (see : P → Seen) (old new : Taken P) : Type 0 where
   pub device : new.device ≡ old.device
   pub kept : Keeps (see old.piece) (see new.piece)
   pub same : IsRead (see old.piece) (see new.piece)
+  pub most : (see new.piece).reads ≤ (see old.piece).reads + 1
 
 -- one sector of it was read, and nothing failed
 pub record IsReadOnce {P : Type 0} (see : P → Seen) (old new : Taken P) : Type 0 where

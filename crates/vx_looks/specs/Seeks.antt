@@ -1,5 +1,5 @@
 -- Devices of a shelf whose headers are read, and whether one names a group.
-use Rattle.std.specs.Prelude.{◌≡◌, ◌⊎◌, ◌≤◌, Bool, true, false, List, [], ◌∷◌, Option, Some, None, IsSome, IfSome, Result, Ok, Err, option_map}
+use Rattle.std.specs.Prelude.{◌≡◌, ◌⊎◌, ◌+◌, ◌≤◌, Bool, true, false, List, [], ◌∷◌, Option, Some, None, IsSome, IfSome, Result, Ok, Err, option_map}
 use Rattle.vx_base.specs.Counts.{Rose, later_count}
 use Rattle.vx_base.specs.Named.{Word, SameUnder}
 use Rattle.vx_header.specs.Named.{header_of, label_of}
@@ -24,10 +24,11 @@ HeaderClaims dg header (Ok u) = names_group dg (option_map label_of header) ≡ 
 HeaderClaims dg header (Err (Ended end)) = (names_group dg (option_map label_of header) ≡ true) × (end ≡ refused (Exists dg))
 HeaderClaims dg header (Err OutOfMemory) = ⊥
 
--- the device was read at most
+-- one sector of the device was read at most
 pub record IsSeenOnly (old new : Seen) : Type 0 where
   pub kept : Keeps old new
   pub same : IsRead old new
+  pub most : new.reads ≤ old.reads + 1
 
 -- one sector of the device was read, nothing failed, and no header names the group
 pub record IsSoughtOnce (dg : Word) (old new : Seen) : Type 0 where
@@ -48,45 +49,32 @@ Claims dg name old (Ok u) new = IsSoughtOnce dg old new
 Claims dg name old (Err (Ended end)) new = IsSeenOnly old new × ClaimEnds dg name old end new
 Claims dg name old (Err OutOfMemory) new = ⊥
 
--- what stands under a name was read at most
-abbrev pub IsPlaceSeen : Option Seen → Option Seen → Type 0
-IsPlaceSeen None None = Unit {0}
-IsPlaceSeen None (Some t) = ⊥
-IsPlaceSeen (Some s) None = ⊥
-IsPlaceSeen (Some s) (Some t) = IsSeenOnly s t
+-- where it is among those sought, what stands under a name became this of what it was; else it is as it was
+abbrev pub IsPlace : (Seen → Seen → Type 0) → Bool → Option Seen → Option Seen → Type 0
+IsPlace Became false old new = new ≡ old
+IsPlace Became true None None = Unit {0}
+IsPlace Became true None (Some t) = ⊥
+IsPlace Became true (Some s) None = ⊥
+IsPlace Became true (Some s) (Some t) = Became s t
 
--- the devices that are told were read at most
-abbrev pub ArePlacesSeen : Option (Word → Option Seen) → Option (Word → Option Seen) → Type 0
-ArePlacesSeen None None = Unit {0}
-ArePlacesSeen None (Some new) = ⊥
-ArePlacesSeen (Some old) None = ⊥
-ArePlacesSeen (Some old) (Some new) = (name : Word) → IsPlaceSeen (old name) (new name)
+-- the devices of these names that are told became this of what they were, and no other is changed
+abbrev pub ArePlaces : (Seen → Seen → Type 0) → List Word → Option (Word → Option Seen) → Option (Word → Option Seen) → Type 0
+ArePlaces Became names None None = Unit {0}
+ArePlaces Became names None (Some new) = ⊥
+ArePlaces Became names (Some old) None = ⊥
+ArePlaces Became names (Some old) (Some new) = (name : Word) → IsPlace Became (is_among name names) (old name) (new name)
 
--- where it is among those sought, the device under a name was read once; else it is as it was
-abbrev pub IsPlaceSought : Word → Bool → Option Seen → Option Seen → Type 0
-IsPlaceSought dg false old new = new ≡ old
-IsPlaceSought dg true None None = Unit {0}
-IsPlaceSought dg true None (Some t) = ⊥
-IsPlaceSought dg true (Some s) None = ⊥
-IsPlaceSought dg true (Some s) (Some t) = IsSoughtOnce dg s t
-
-abbrev pub ArePlacesSought : Word → List Word → Option (Word → Option Seen) → Option (Word → Option Seen) → Type 0
-ArePlacesSought dg names None None = Unit {0}
-ArePlacesSought dg names None (Some new) = ⊥
-ArePlacesSought dg names (Some old) None = ⊥
-ArePlacesSought dg names (Some old) (Some new) = (name : Word) → IsPlaceSought dg (is_among name names) (old name) (new name)
-
--- Devices of a shelf were read at most, and are back.
-pub record IsOnlySought (old new : Shelved) : Type 0 where
+-- Devices of these names were read, each once at most, and are back.
+pub record IsOnlySought (names : List Word) (old new : Shelved) : Type 0 where
   pub held : SameUnder old.held new.held
-  pub told : ArePlacesSeen old.free new.free
+  pub told : ArePlaces IsSeenOnly names old.free new.free
   pub counted : (name : Word) → old.counted name ≤ new.counted name
   pub later : old.faults ≤ new.faults
 
 -- The devices of these names that nobody holds were read, each once, and none names the group.
 pub record Seeks (dg : Word) (names : List Word) (old new : Shelved) : Type 0 where
   pub held : SameUnder old.held new.held
-  pub told : ArePlacesSought dg names old.free new.free
+  pub told : ArePlaces (IsSoughtOnce dg) names old.free new.free
   pub counted : (name : Word) → old.counted name ≤ new.counted name
   pub same : IsSome old.free → (name : Word) → new.counted name ≡ old.counted name
   pub quiet : new.faults ≡ old.faults
@@ -98,20 +86,20 @@ SeekCause dg name old end new =
     ⊎ (((end ≡ fault_of name) × (Rose (old.counted name) (new.counted name) ⊎ Rose old.faults new.faults))
     ⊎ ((end ≡ lost) × IfSome new.free (λ devices. (t : Seen) × (devices name ≡ Some t) × (t.cut ≡ true))))
 
--- A device that nobody holds ends the search.
-pub record SeekEnds (dg name : Word) (old : Shelved) (end : End) (new : Shelved) : Type 0 where
-  pub only : IsOnlySought old new
+-- A device that nobody holds ends the search of these names.
+pub record SeekEnds (dg : Word) (names : List Word) (name : Word) (old : Shelved) (end : End) (new : Shelved) : Type 0 where
+  pub only : IsOnlySought names old new
   pub none : old.held name ≡ None
   pub cause : SeekCause dg name old end new
 
 -- the search of one name
 abbrev pub SeeksUnder : {T : Type 0} → Word → Word → Shelved → Result T Stop → Shelved → Type 0
 SeeksUnder dg name old (Ok u) new = Seeks dg (name ∷ []) old new
-SeeksUnder dg name old (Err (Ended end)) new = SeekEnds dg name old end new
-SeeksUnder dg name old (Err OutOfMemory) new = IsOnlySought old new
+SeeksUnder dg name old (Err (Ended end)) new = SeekEnds dg (name ∷ []) name old end new
+SeeksUnder dg name old (Err OutOfMemory) new = IsOnlySought (name ∷ []) old new
 
 -- the search of these names
 abbrev pub SeeksThrough : {T : Type 0} → Word → List Word → Shelved → Result T Stop → Shelved → Type 0
 SeeksThrough dg names old (Ok u) new = Seeks dg names old new
-SeeksThrough dg names old (Err (Ended end)) new = (name : Word) × (is_among name names ≡ true) × SeekEnds dg name old end new
-SeeksThrough dg names old (Err OutOfMemory) new = IsOnlySought old new
+SeeksThrough dg names old (Err (Ended end)) new = (name : Word) × (is_among name names ≡ true) × SeekEnds dg names name old end new
+SeeksThrough dg names old (Err OutOfMemory) new = IsOnlySought names old new

@@ -7,11 +7,11 @@ ghost use Rattle.vx_house.specs.Scene.{shelved};
 ghost use Rattle.vx_house.specs.View.{Keeps, at};
 ghost use Rattle.vx_looks.specs.Seeks.{HeaderClaims, Claims, SeeksUnder, SeeksThrough};
 
-use crate::header::read_header;
 use std::alloc::Global;
 use vx_answers::{End, Refusal};
 use vx_header::Header;
 use vx_house::{House, Stop, fault, lost, refused};
+use vx_import::read_header;
 use vx_names::Name;
 use vx_piece::{Piece, PieceFault};
 use vx_script_words::DiskAt;

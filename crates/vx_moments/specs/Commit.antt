@@ -6,6 +6,7 @@ use Rattle.vx_base.specs.Named.{Word}
 use Rattle.vx_mask.specs.Mask.{has}
 use Rattle.vx_header.specs.Named.{header_of}
 use Rattle.vx_copies.specs.Lists.{AllOf, AnyOf}
+use Rattle.vx_copies.specs.Chain.{IsInOrder}
 use Rattle.vx_copies.specs.Image.{Offer, offer_in, sectors_for}
 use Rattle.vx_objects.specs.declared.config.Config.{Config}
 use Rattle.vx_answers.specs.declared.answer.End.{End}
@@ -77,12 +78,7 @@ pub record OffersSince (x : Writing) (w : World) (m : Member) (o : Offer) : Type
   pub offers : offer_in x.config.group device.contents ≡ Some o
   pub newer : x.group.sequence < o.sequence
 
--- an offer that is older than another, or of the same attempt, names its slot; those of one attempt have one mask
-pub record IsInOrder (o p : Offer) (slot : ℕ) : Type 0 where
-  pub names : o.sequence ≤ p.sequence → has o.good slot ≡ true
-  pub one : o.sequence ≡ p.sequence → o.good ≡ p.good
-
--- so are any two offers that the commit leaves
+-- any two offers that the commit leaves are in order
 abbrev pub AreInOrder : Writing → World → Type 0
 AreInOrder x w = AllOf (λ a. AllOf (λ b. (o p : Offer) → OffersSince x w a o → OffersSince x w b p → IsInOrder o p b.slot) (parties x)) (parties x)
 

@@ -277,9 +277,9 @@ DeviceEnds name old end new = ((end ≡ fault_of name) × HasFailed old.counts n
 abbrev pub FailsAt : Word → Moment → End → Moment → Type 0
 FailsAt name old end new = ((end ≡ fault_of name) × HasFailedOrShelf old.counts new.counts name) ⊎ ((end ≡ lost) × (new.counts.cut name ≡ true))
 
--- the world is as before, and these devices were read at most
-abbrev pub LooksAtMost : List Word → Moment → Moment → Type 0
-LooksAtMost names old new = (new.world ≡ old.world) × ReadsAtMost names old.counts new.counts
+-- the world is as before, and these calls were made
+abbrev pub OnlyReads : (Counts → Counts → Type 0) → Moment → Moment → Type 0
+OnlyReads Calls old new = (new.world ≡ old.world) × Calls old.counts new.counts
 
 -- the shelf has failed as it was to hand a device over, or to make one
 abbrev pub ShelfFailsAt : Word → Moment → End → Moment → Type 0
@@ -326,12 +326,11 @@ abbrev pub Stops : Stage → List DiskAt → Moment → End → Moment → Type 
 Stops (stage.Gate test) disks old end new = (r : Refusal) × (fails test disks old.world ≡ Some r) × (end ≡ refused r) × (new ≡ old)
 Stops (stage.Take name) disks old end new = TakingStops [] (name ∷ []) old end new
 Stops stage.TakeDisks disks old end new = TakingStops [] (devices_of disks) old end new
-Stops (stage.LookBlank name) disks old end new = LooksAtMost (name ∷ []) old new × LookingStops (name ∷ []) old end new
-Stops stage.LookDisks disks old end new = LooksAtMost (devices_of disks) old new × LookingStops (devices_of disks) old end new
-Stops (stage.LookHeaded name) disks old end new = LooksAtMost (name ∷ []) old new × ((HasNoHeader old.world name × (end ≡ refused (refusal.NotInitialised name))) ⊎ DeviceEnds name old end new)
+Stops (stage.LookBlank name) disks old end new = OnlyReads (ReadsAtMost (name ∷ [])) old new × LookingStops (name ∷ []) old end new
+Stops stage.LookDisks disks old end new = OnlyReads (ReadsAtMost (devices_of disks)) old new × LookingStops (devices_of disks) old end new
+Stops (stage.LookHeaded name) disks old end new = OnlyReads (ReadsAtMost (name ∷ [])) old new × ((HasNoHeader old.world name × (end ≡ refused (refusal.NotInitialised name))) ⊎ DeviceEnds name old end new)
 Stops (stage.Search dg) disks old end new =
-    (new.world ≡ old.world)
-    × SearchesAtMost (devices_of disks) old.world old.counts new.counts
+    OnlyReads (SearchesAtMost (devices_of disks) old.world) old new
     × (((name : Word) × IsFree old.world (devices_of disks) name × ((NamesGroup dg old.world name × (end ≡ refused (refusal.Exists dg))) ⊎ FailsAt name old end new))
     ⊎ ShelfEnds old end new)
 Stops (stage.MakeImage name sectors) disks old end new = (IsSome (old.world.devices name) × EndsIn (refusal.Exists name) old end new) ⊎ ShelfFailsAt name old end new
@@ -345,6 +344,6 @@ Stops stage.Join disks old end new = OnlyDisk disks (λ p. EditsStop (λ g. join
 Stops (stage.Create dg) disks old end new = GroupStops old end new ⊎ StopsBy (λ x. IsCreating dg disks old.world x) old end new
 Stops (stage.Import dg) disks old end new =
     GroupStops old end new
-    ⊎ (((new.world ≡ old.world) × ImportReads dg old.world old.counts new.counts × (ImportRefused dg old.world end old.counts new.counts ⊎ (ShelfEnds old end new ⊎ ((end ≡ lost) × ((name : Word) × (new.counts.cut name ≡ true))))))
+    ⊎ ((OnlyReads (ImportReads dg old.world) old new × (ImportRefused dg old.world end old.counts new.counts ⊎ (ShelfEnds old end new ⊎ ((end ≡ lost) × ((name : Word) × (new.counts.cut name ≡ true))))))
     ⊎ ((mid : Moment) × IsBetween dg old mid new × StopsBy (λ x. IsImporting dg old.world x old.counts mid.counts) mid end new))
 Stops stage.LetGo disks old end new = ⊥

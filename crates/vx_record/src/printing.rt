@@ -20,12 +20,12 @@ pub fn print(records: &[Record], out: &mut Vec<u8>) -> Result<(), OutOfMemory>
     Ok(())
 }
 
-fn put_record(record: &Record, out: &mut Vec<u8>) -> Result<(), OutOfMemory>
-    ensures text { OnOk result (out.new.items ≡ out.old.items ++ record_text record.now) }
-    ensures form { OnOk result (IsRecord record.now) }
+fn put_record(entry: &Record, out: &mut Vec<u8>) -> Result<(), OutOfMemory>
+    ensures text { OnOk result (out.new.items ≡ out.old.items ++ record_text entry.now) }
+    ensures form { OnOk result (IsRecord entry.now) }
 {
-    put_head(record.kind, &record.name, out)?;
-    put_attrs(record.attrs.as_slice(), out)
+    put_head(entry.kind, &entry.name, out)?;
+    put_attrs(entry.attrs.as_slice(), out)
 }
 
 fn put_head(kind: Kind, name: &Name, out: &mut Vec<u8>) -> Result<(), OutOfMemory>

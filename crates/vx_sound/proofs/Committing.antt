@@ -6,6 +6,7 @@ use Rattle.vx_base.specs.Named.{Word}
 use Rattle.vx_mask.specs.Mask.{has}
 use Rattle.vx_mask.proofs.Tests.{true_or_false, not_both}
 use Rattle.vx_header.specs.Named.{Label, header_of}
+use Rattle.vx_copies.specs.Chain.{IsInOrder}
 use Rattle.vx_copies.specs.Image.{Offer, offer_of, offer_in, names_group, offer_if}
 use Rattle.vx_copies.specs.Lists.{AllOf}
 use Rattle.vx_copies.proofs.InGroup.{in_member}
@@ -13,7 +14,7 @@ use Rattle.vx_base.proofs.NamedLemmas.{bytes_eq_self, bytes_eq_same, name_cases}
 use Rattle.vx_moments.specs.World.{World, Device, Member}
 use Rattle.vx_moments.specs.Moment.{Moment}
 use Rattle.vx_moments.specs.Copies.{label_of}
-use Rattle.vx_moments.specs.Commit.{Writing, parties, MemberGoes, OffersSince, OneOffersSince, IsInOrder, is_slot_of, IsCommitting}
+use Rattle.vx_moments.specs.Commit.{Writing, parties, MemberGoes, OffersSince, OneOffersSince, is_slot_of, IsCommitting}
 use Rattle.vx_sound.specs.Offers.{IsHeaded, Offers}
 use Rattle.vx_sound.specs.Sound.{IsNewest, NamesNewer, NamesMissing, IsChained, RecordsSlot, AreSound}
 use Rattle.vx_sound.specs.Standing.{IsOwn}

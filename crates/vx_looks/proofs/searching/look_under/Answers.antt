@@ -1,4 +1,4 @@
-use Rattle.std.proofs.Common.{rules}
+use Rattle.std.proofs.Common.{[], ◌∷◌, rules}
 use Rattle.vx_house.specs.Scene.{shelved}
 use Rattle.vx_looks.proofs.Sought.{looked_back, claims_seen, only_still, passed_by, shelf_failed, not_held_so, held_told, none_told}
 use Rattle.vx_looks.proofs.searching.look_under.Goals as goal
@@ -25,7 +25,7 @@ returns-in-Ok g c =
 pub returns-in-Err-OutOfMemory : goal.returns-in-Err-OutOfMemory
 returns-in-Err-OutOfMemory g c =
     only_still c.args.dg.now c.args.name.now (shelved g.S.Shelf.free g.S.Shelf.held g.S.Shelf.counted g.S.Shelf.faults c.args.shelf.now) (shelved g.S.Shelf.free g.S.Shelf.held g.S.Shelf.counted g.S.Shelf.faults c.take.new.self)
-    c.in-Err-OutOfMemory.ensures.same c.in-Err-OutOfMemory.ensures.stays c.in-Err-OutOfMemory.ensures.counts c.in-Err-OutOfMemory.ensures.later
+    c.in-Err-OutOfMemory.ensures.same c.in-Err-OutOfMemory.ensures.stays c.in-Err-OutOfMemory.ensures.counts (c.args.name.now ∷ []) c.in-Err-OutOfMemory.ensures.later
 
 pub returns-in-Err-Failed : goal.returns-in-Err-Failed
 returns-in-Err-Failed g c = rw c.fault.ensures

@@ -1,4 +1,4 @@
-use Rattle.std.proofs.Common.{rules}
+use Rattle.std.proofs.Common.{[], rules}
 use Rattle.vx_house.specs.Scene.{shelved}
 use Rattle.vx_house.specs.View.{at}
 use Rattle.vx_looks.proofs.Sought.{only_still}
@@ -23,8 +23,8 @@ returns-in-Err-OutOfMemory g c =
     let old = shelved g.S.Shelf.free g.S.Shelf.held g.S.Shelf.counted g.S.Shelf.faults c.args.shelf.now in
     let mid = shelved g.S.Shelf.free g.S.Shelf.held g.S.Shelf.counted g.S.Shelf.faults c.names.new.self in
     record {
-      goes = refused_by g.S.P.Piece.seen (at old c.args._house.now) c.requires.keeps mid c.args.dg.now c.args._disks.now c.requires.ready.wants.0
-          (only_still c.args.dg.now c.args.dg.now old mid c.in-Err-OutOfMemory.ensures.same c.in-Err-OutOfMemory.ensures.stays c.in-Err-OutOfMemory.ensures.counts c.in-Err-OutOfMemory.ensures.later);
+      goes = refused_by g.S.P.Piece.seen (at old c.args._house.now) c.requires.keeps mid c.args.dg.now c.args._disks.now c.requires.ready.wants.0 []
+          (only_still c.args.dg.now c.args.dg.now old mid c.in-Err-OutOfMemory.ensures.same c.in-Err-OutOfMemory.ensures.stays c.in-Err-OutOfMemory.ensures.counts [] c.in-Err-OutOfMemory.ensures.later);
     }
 
 pub returns-in-Err-Failed : goal.returns-in-Err-Failed
@@ -34,5 +34,5 @@ returns-in-Err-Failed g c =
     let rose = rw c.in-Err-Failed.field-0-is at c.in-Err-Failed.ensures.cause in
     record {
       goes = shelf_ends g.S.P.Piece.seen (at old c.args._house.now) c.requires.keeps mid c.args.dg.now c.args._disks.now c.requires.ready.wants.0
-          (only_still c.args.dg.now c.args.dg.now old mid c.in-Err-Failed.ensures.same c.in-Err-Failed.ensures.stays c.in-Err-Failed.ensures.counts c.in-Err-Failed.ensures.later) rose;
+          (only_still c.args.dg.now c.args.dg.now old mid c.in-Err-Failed.ensures.same c.in-Err-Failed.ensures.stays c.in-Err-Failed.ensures.counts [] c.in-Err-Failed.ensures.later) rose;
     }

@@ -6,8 +6,7 @@ use Rattle.vx_rules.specs.Adding.{firsts}
 use Rattle.vx_rules.specs.References.{repeated_after}
 use Rattle.vx_rules.specs.Rules.{first_broken, is_valid}
 use Rattle.vx_rules.proofs.InOrder.{names_differ}
-use Rattle.vx_plans.specs.Making.{adding_refusal}
-use Rattle.vx_making.specs.Judging.{refusal_of}
+use Rattle.vx_plans.specs.Making.{adding_refusal, refusal_among}
 
 nothing : {A : Type 0} (o : Option A) → is_none o ≡ true → o ≡ None
 nothing None e = refl
@@ -21,5 +20,5 @@ none_broken all valid = nothing (first_broken all) valid
 pub own_names : (all same : List Object) → same ≡ all → is_valid all ≡ true → repeated_after [] same ≡ None
 own_names all same is valid = subst (λ l. repeated_after [] l ≡ None) (sym is) (names_differ all (none_broken all valid))
 
-pub same_refusal : (is_started : Word → Bool) (group added known all same : List Object) → same ≡ group → known ≡ firsts all → all ≡ same ++ added → refusal_of is_started same added known all ≡ adding_refusal is_started group added
+pub same_refusal : (is_started : Word → Bool) (group added known all same : List Object) → same ≡ group → known ≡ firsts all → all ≡ same ++ added → refusal_among is_started same added known all ≡ adding_refusal is_started group added
 same_refusal is_started group added known all same is firsts_are all_is = rw (firsts_are, all_is, is) refl

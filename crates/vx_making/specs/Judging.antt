@@ -1,5 +1,5 @@
 -- What becomes of the records of a text, before anything is written and behind it.
-use Rattle.std.specs.Prelude.{◌≡◌, ◌⊎◌, ℕ, Bool, is_some, Option, Some, None, List, [], ◌∷◌, Result, Ok, Err}
+use Rattle.std.specs.Prelude.{◌≡◌, ◌⊎◌, ℕ, Bool, is_some, Some, List, [], ◌∷◌, Result, Ok, Err}
 use Rattle.std.specs.BTreeMap.{BTreeMap, get}
 use Rattle.std.specs.Cmp.Lexicographic.{slice_cmp}
 use Rattle.std.specs.List.{filter_map}
@@ -9,8 +9,6 @@ use Rattle.vx_piece.specs.Seen.{Seen}
 use Rattle.vx_record.specs.Content.{Content}
 use Rattle.vx_record.specs.Grammar.{IsBadLine}
 use Rattle.vx_parts.specs.declared.object.Object.{Object}
-use Rattle.vx_rules.specs.Adding.{first_broken_by, had_fault}
-use Rattle.vx_rules.specs.Faults.{first_some, first_of}
 use Rattle.vx_objects.specs.declared.edit.Edit.TheVariants.{Make}
 use Rattle.vx_objects.specs.Config.{objects_of}
 use Rattle.vx_objects.specs.Printed.{AreReadAs}
@@ -18,8 +16,7 @@ use Rattle.vx_started.specs.declared.started.Started.{Started}
 use Rattle.vx_answers.specs.declared.answer.End.TheVariants as ends
 use Rattle.vx_answers.specs.declared.refusal.Refusal.{Refusal}
 use Rattle.vx_answers.specs.declared.refusal.Refusal.TheVariants as refusal
-use Rattle.vx_plans.specs.Making.{Adds, made, adding_refusal, limit_rules, reference_rules, space_rules, started_name}
-use Rattle.vx_plans.specs.Refusals.{refusal_from}
+use Rattle.vx_plans.specs.Making.{Adds, made, adding_refusal}
 use Rattle.vx_house.specs.declared.house.Imported.{Imported}
 use Rattle.vx_house.specs.declared.stop.Stop.{Stop}
 use Rattle.vx_house.specs.declared.stop.Stop.TheVariants as stops
@@ -28,19 +25,6 @@ use Rattle.vx_changes.specs.Changing.{ChangeEnds}
 -- a volume of the name is started
 abbrev pub is_running : {P : Type 0} → BTreeMap Word (Started P) → Word → Bool
 is_running volumes vol = is_some (get (slice_cmp nat_cmp) volumes vol)
-
--- the tests of records one behind the other, each with those that follow it
-abbrev pub behind_limits : (Word → Bool) → List Object → List Object → List Object → Option Refusal
-behind_limits is_started added known all = first_some (started_name is_started added) (refusal_from (first_broken_by space_rules known all))
-
-abbrev pub behind_uses : (Word → Bool) → List Object → List Object → List Object → Option Refusal
-behind_uses is_started added known all = first_some (refusal_from (first_broken_by limit_rules known all)) (behind_limits is_started added known all)
-
-abbrev pub behind_references : (Word → Bool) → List Object → List Object → List Object → List Object → Option Refusal
-behind_references is_started group added known all = first_some (refusal_from (first_of (had_fault group) added)) (behind_uses is_started added known all)
-
-abbrev pub refusal_of : (Word → Bool) → List Object → List Object → List Object → List Object → Option Refusal
-refusal_of is_started group added known all = first_some (refusal_from (first_broken_by reference_rules known all)) (behind_references is_started group added known all)
 
 -- the text adds these records, and no test refuses them
 pub record IsReady (is_started : Word → Bool) (text : List ℕ) (group added : List Object) : Type 0 where

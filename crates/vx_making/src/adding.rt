@@ -1,7 +1,6 @@
 //! The records that a text adds.
 ghost use Rattle.std.specs.Prelude.{◌≡◌, IfOk, IfErr};
 ghost use Rattle.std.specs.List.{filter_map};
-ghost use Rattle.vx_parts.specs.declared.state.VolState.TheVariants as vol_states;
 ghost use Rattle.vx_plans.specs.Making.{Adds, made, made_state};
 ghost use Rattle.vx_making.specs.Judging.{AddedOf, IsNoText};
 
@@ -48,48 +47,22 @@ fn made(object: &Object) -> Option<Object>
     match object {
         Object::GroupRecord(_) | Object::DiskRecord(_) | Object::SnapRecord(_) => None,
         Object::SubdiskRecord(_) | Object::DcoRecord(_) => Some(*object),
-        Object::PlexRecord(plex) => Some(Object::PlexRecord(made_plex(plex))),
-        Object::VolRecord(vol) => Some(Object::VolRecord(empty_volume(vol))),
-    }
-}
-
-fn made_plex(plex: &Plex) -> Plex
-    ensures { result ≡ record plex.now { state = made_state plex.now.kind plex.now.state } }
-{
-    Plex {
-        name: plex.name,
-        vol: plex.vol,
-        kind: plex.kind,
-        layout: plex.layout,
-        ncol: plex.ncol,
-        unit: plex.unit,
-        state: made_state(plex.kind, plex.state),
-        map: plex.map,
+        Object::PlexRecord(plex) => Some(Object::PlexRecord(Plex {
+            state: made_state(plex.kind, plex.state),
+            ..*plex
+        })),
+        Object::VolRecord(vol) => Some(Object::VolRecord(Vol {
+            state: VolState::Empty,
+            ..*vol
+        })),
     }
 }
 
 fn made_state(kind: PlexKind, state: PlexState) -> PlexState
     ensures { result ≡ made_state kind state }
 {
-    match kind {
-        PlexKind::Log => match state {
-            PlexState::DcoSnp => PlexState::DcoSnp,
-            _ => PlexState::Empty,
-        },
-        PlexKind::Data => PlexState::Empty,
-    }
-}
-
-fn empty_volume(vol: &Vol) -> Vol
-    ensures { result ≡ record vol.now { state = vol_states.Empty } }
-{
-    Vol {
-        name: vol.name,
-        len: vol.len,
-        region: vol.region,
-        rdpol: vol.rdpol,
-        prefer: vol.prefer,
-        state: VolState::Empty,
-        dco: vol.dco,
+    match (kind, state) {
+        (PlexKind::Log, PlexState::DcoSnp) => PlexState::DcoSnp,
+        _ => PlexState::Empty,
     }
 }

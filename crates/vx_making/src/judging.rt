@@ -1,12 +1,12 @@
 //! The tests of records that are to be added, in the order of the documentation.
 ghost use Rattle.std.specs.Prelude.{◌≡◌, ◌++◌, [], None, IfOk, IfErr};
 ghost use Rattle.vx_objects.specs.Config.{objects_of};
-ghost use Rattle.vx_plans.specs.Making.{adding_refusal, started_name};
+ghost use Rattle.vx_plans.specs.Making.{adding_refusal, broken, refusal_among, started_name};
 ghost use Rattle.vx_plans.specs.Refusals.{refusal_from};
-ghost use Rattle.vx_rules.specs.Adding.{first_broken_by, firsts, had_fault};
+ghost use Rattle.vx_rules.specs.Adding.{firsts, had_fault};
 ghost use Rattle.vx_rules.specs.Faults.{first_of};
 ghost use Rattle.vx_rules.specs.References.{repeated_after};
-ghost use Rattle.vx_making.specs.Judging.{behind_limits, behind_references, behind_uses, is_running, refusal_of, IsReady, IsUnready};
+ghost use Rattle.vx_making.specs.Judging.{is_running, IsReady, IsUnready};
 
 use crate::adding::added_by;
 use std::alloc::Global;
@@ -93,30 +93,21 @@ fn refusal_among<P>(
 ) -> Result<Option<Refusal>, OutOfMemory>
     requires group { repeated_after [] group.now ≡ None }
     requires differ { repeated_after [] known.now ≡ None }
-    ensures { IfOk result (λ refusal. refusal ≡ refusal_of (is_running volumes.now) group.now added.now known.now all.now) }
+    ensures { IfOk result (λ refusal. refusal ≡ refusal_among (is_running volumes.now) group.now added.now known.now all.now) }
 {
-    match broken(alloc, &REFERENCES, known, all)? {
-        Some(refusal) => Ok(Some(refusal)),
-        None => behind_references(alloc, volumes, group, added, known, all),
+    if let Some(refusal) = broken(alloc, &REFERENCES, known, all)? {
+        return Ok(Some(refusal));
     }
-}
-
-fn behind_references<P>(
-    alloc: Global,
-    volumes: &BTreeMap<Name, Started<P>>,
-    group: &[Object],
-    added: &[Object],
-    known: &[Object],
-    all: &[Object],
-) -> Result<Option<Refusal>, OutOfMemory>
-    requires group { repeated_after [] group.now ≡ None }
-    requires differ { repeated_after [] known.now ≡ None }
-    ensures { IfOk result (λ refusal. refusal ≡ behind_references (is_running volumes.now) group.now added.now known.now all.now) }
-{
-    match had(alloc, group, added)? {
-        Some(refusal) => Ok(Some(refusal)),
-        None => behind_uses(alloc, volumes, added, known, all),
+    if let Some(refusal) = had(alloc, group, added)? {
+        return Ok(Some(refusal));
     }
+    if let Some(refusal) = broken(alloc, &LIMITS, known, all)? {
+        return Ok(Some(refusal));
+    }
+    if let Some(refusal) = started_name(volumes, added) {
+        return Ok(Some(refusal));
+    }
+    broken(alloc, &SPACE, known, all)
 }
 
 /// The refusal of the first record that refers to what the group has already.
@@ -126,38 +117,6 @@ fn had(alloc: Global, group: &[Object], added: &[Object]) -> Result<Option<Refus
 {
     let broken = first_had(alloc, group, added)?;
     refusal_from(&broken)
-}
-
-fn behind_uses<P>(
-    alloc: Global,
-    volumes: &BTreeMap<Name, Started<P>>,
-    added: &[Object],
-    known: &[Object],
-    all: &[Object],
-) -> Result<Option<Refusal>, OutOfMemory>
-    requires differ { repeated_after [] known.now ≡ None }
-    ensures { IfOk result (λ refusal. refusal ≡ behind_uses (is_running volumes.now) added.now known.now all.now) }
-{
-    match broken(alloc, &LIMITS, known, all)? {
-        Some(refusal) => Ok(Some(refusal)),
-        None => behind_limits(alloc, volumes, added, known, all),
-    }
-}
-
-fn behind_limits<P>(
-    alloc: Global,
-    volumes: &BTreeMap<Name, Started<P>>,
-    added: &[Object],
-    known: &[Object],
-    all: &[Object],
-) -> Result<Option<Refusal>, OutOfMemory>
-    requires differ { repeated_after [] known.now ≡ None }
-    ensures { IfOk result (λ refusal. refusal ≡ behind_limits (is_running volumes.now) added.now known.now all.now) }
-{
-    match started_name(volumes, added) {
-        Some(refusal) => Ok(Some(refusal)),
-        None => broken(alloc, &SPACE, known, all),
-    }
 }
 
 /// The records of the group, and behind them those that are to be added.
@@ -177,7 +136,7 @@ fn broken(
     all: &[Object],
 ) -> Result<Option<Refusal>, OutOfMemory>
     requires differ { repeated_after [] known.now ≡ None }
-    ensures { IfOk result (λ refusal. refusal ≡ refusal_from (first_broken_by rules.now known.now all.now)) }
+    ensures { IfOk result (λ refusal. refusal ≡ broken rules.now known.now all.now) }
 {
     let broken = first_broken_by(alloc, rules, known, all)?;
     refusal_from(&broken)

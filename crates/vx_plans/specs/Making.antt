@@ -53,9 +53,9 @@ abbrev pub space_rules : List Rule
 space_rules =
     rule.NamesDiffer ∷ rule.SubdisksDoNotOverlap ∷ rule.SubdisksLieInside ∷ rule.PlexesAreWhole ∷ rule.LogsAreGood ∷ rule.RelatedVolumesHaveLogs ∷ rule.MapsAreGood ∷ []
 
--- The first of these rules that is broken. A name that two records have is that of the first.
+-- the refusal of the first of these rules that is broken
 abbrev pub broken : List Rule → List Object → List Object → Option Refusal
-broken rules group added = refusal_from (first_broken_by rules (firsts (group ++ added)) (group ++ added))
+broken rules known all = refusal_from (first_broken_by rules known all)
 
 -- the first volume that has the name of a started one
 abbrev pub started_name : (Word → Bool) → List Object → Option Refusal
@@ -64,14 +64,19 @@ started_name is_started (VolRecord v ∷ os) = if is_started v.name then Some (r
 started_name is_started (o ∷ os) = started_name is_started os
 
 -- The tests of records that are to be added, in their order: what they refer to is there; it is not the group's; limits
--- are kept; their names are free; they have space, logs and maps.
-abbrev pub adding_refusal : (Word → Bool) → List Object → List Object → Option Refusal
-adding_refusal is_started group added =
-    first_some (broken reference_rules group added)
+-- are kept; their names are free; they have space, logs and maps. The records with these are all, and those of them that are
+-- known by their names.
+abbrev pub refusal_among : (Word → Bool) → List Object → List Object → List Object → List Object → Option Refusal
+refusal_among is_started group added known all =
+    first_some (broken reference_rules known all)
     (first_some (refusal_from (first_of (had_fault group) added))
-    (first_some (broken limit_rules group added)
+    (first_some (broken limit_rules known all)
     (first_some (started_name is_started added)
-    (broken space_rules group added))))
+    (broken space_rules known all))))
+
+-- a name that two records have is that of the first
+abbrev pub adding_refusal : (Word → Bool) → List Object → List Object → Option Refusal
+adding_refusal is_started group added = refusal_among is_started group added (firsts (group ++ added)) (group ++ added)
 
 -- a volume of the name is started
 abbrev pub is_started : World → Word → Bool

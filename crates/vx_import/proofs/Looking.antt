@@ -1,38 +1,57 @@
 -- One device of the list is read.
 use Rattle.std.proofs.Common.{◌≡◌, ℕ, zero, suc, ◌+◌, ◌<◌, ◌≤◌, Bool, true, false, cond, List, [], ◌∷◌, length, map, take, get_or, set, Option, Some, None, refl, sym, ap, ◌∙◌, subst, arith, inl, inr}
-use Rattle.std.specs.Prelude.{IsTrue, IfSome, MatchOption}
-use Rattle.vx_base.specs.Blocks.{Contents}
-use Rattle.vx_base.specs.Named.{Word}
-use Rattle.vx_piece.specs.Seen.{Seen}
-use Rattle.vx_header.specs.Named.{header_of}
+use Rattle.std.specs.Prelude.{IsTrue, MatchOption}
+use Rattle.vx_piece.specs.Seen.{Seen, Keeps}
 use Rattle.vx_header.specs.Said.{Said}
+use Rattle.vx_copies.specs.Image.{text_sectors}
 use Rattle.vx_copies.specs.Lists.{Each, AllOf, AnyOf}
 use Rattle.vx_copies.specs.Disks.{Drops}
-use Rattle.vx_copies.proofs.Going.{keeps_refl, keeps_trans, drops_refl, drops_trans}
-use Rattle.vx_import.specs.Looks.{Looked, looked, IsPrivate, IsOurs, IsReading, Reads, toggle_read, said_in}
-use Rattle.vx_import.specs.Choice.{At, IfToggle, IsTop, Tells}
-use Rattle.vx_import.specs.Tries.{readable_count}
+use Rattle.vx_copies.proofs.Going.{keeps_refl, keeps_trans, drops_refl, drops_trans, each_refl, each_then, each_both}
+use Rattle.vx_import.specs.Looks.{Looked, looked, IsPrivate, Reads, toggle_read, said_in}
+use Rattle.vx_import.specs.Choice.{At, IfToggle, IsTop}
+use Rattle.vx_import.specs.Tries.{readable_count, IsSpent}
 use Rattle.vx_import.specs.declared.found.Found.{Found}
 use Rattle.vx_import.specs.declared.found.Reading.{Reading}
 
 pub reads_refl : (a : Looked) → Reads a a
-reads_refl a = record { device = refl; label = refl; reading = refl; kept = keeps_refl a.seen; same = record { told = refl; writes = refl }; readable = drops_refl a.readable a.seen }
+reads_refl a = record { device = refl; label = refl; reading = refl; kept = keeps_refl a.seen; same = record { told = refl; writes = refl }; readable = drops_refl a.readable a.seen; most = omega arith }
 
-pub reads_trans : (a b c : Looked) → Reads a b → Reads b c → Reads a c
-reads_trans a b c p q = record {
+pub spent_refl : (a : Looked) → IsSpent a a
+spent_refl a = omega arith
+
+pub spent_trans : (a b c : Looked) → IsSpent a b → IsSpent b c → IsSpent a c
+spent_trans a b c p q = omega (arith, p, q)
+
+-- a try that failed, and then another
+pub reads_then : (a b c : Looked) → Reads a b × IsSpent a b → Reads b c → Reads a c
+reads_then a b c (p, spent) q = record {
   device = q.device ∙ p.device;
   label = q.label ∙ p.label;
   reading = q.reading ∙ p.reading;
   kept = keeps_trans _ _ _ p.kept q.kept;
   same = record { told = q.same.told ∙ p.same.told; writes = q.same.writes ∙ p.same.writes };
   readable = drops_trans a.readable b.readable c.readable a.seen b.seen c.seen p.kept q.kept p.readable q.readable;
+  most = let more = q.most in omega (arith, spent, more);
 }
 
-pub each_refl : (fs : List Looked) → Each Reads fs fs
-each_refl [] = tt
-each_refl (f ∷ fs) = (reads_refl f, each_refl fs)
+pub tried_then : (xs ys zs : List Looked) → Each Reads xs ys → Each IsSpent xs ys → Each Reads ys zs → Each Reads xs zs
+tried_then xs ys zs p spent q = each_then (λ a b. Reads a b × IsSpent a b) Reads Reads reads_then xs ys zs (each_both Reads IsSpent xs ys p spent) q
 
-was_readable : (x y : Bool) (a b : Seen) → Drops x y a b → IsTrue y → IsTrue x
+-- the text of a device that cannot be read any more is not read again
+pub dropped_spent : (a b : Looked) → Reads a b → b.readable ≡ false → IsSpent a b
+dropped_spent a b is dropped =
+    let none : text_sectors (toggle_read b) ≡ 0 = ap (λ r. text_sectors (cond r (said_in b.reading) None)) dropped in
+    let most = is.most in omega (arith, none, most)
+
+-- a device whose toggle was read can be read
+said_readable : (f : Looked) (t : Said) → toggle_read f ≡ Some t → f.readable ≡ true
+said_readable f t = by f.readable
+  where
+    by : (b : Bool) → cond b (said_in f.reading) None ≡ Some t → b ≡ true
+    by true e = refl
+    by false e = cc
+
+pub was_readable : (x y : Bool) (a b : Seen) → Drops x y a b → IsTrue y → IsTrue x
 was_readable x true a b d is = d
 was_readable x false a b d is = cc
 
@@ -42,25 +61,15 @@ same_toggle a b is readable =
     let was : a.readable ≡ true = was_readable a.readable b.readable a.seen b.seen is.readable readable in
     ap (λ r. cond r (said_in b.reading) None) readable ∙ ap (λ (x : Reading). said_in x) is.reading ∙ ap (λ r. cond r (said_in a.reading) None) (sym was)
 
-module _ (Q : Looked → Type 0) (on : (a b : Looked) → Reads a b → Q a → Q b) where
-  pub all_on : (xs ys : List Looked) → Each Reads xs ys → AllOf Q xs → AllOf Q ys
+module _ (R : Looked → Looked → Type 0) (Q : Looked → Type 0) (on : (a b : Looked) → R a b → Q a → Q b) where
+  pub all_on : (xs ys : List Looked) → Each R xs ys → AllOf Q xs → AllOf Q ys
   all_on [] [] is all = tt
   all_on [] (y ∷ ys) is all = absurd is
   all_on (x ∷ xs) [] is all = absurd is
   all_on (x ∷ xs) (y ∷ ys) is all = (on x y is.0 all.0, all_on xs ys is.1 all.1)
 
-pub private_on : (a b : Looked) → Reads a b → IsPrivate a → IsPrivate b
-private_on a b is private = let same = is.kept.sectors in let more : 2048 ≤ b.seen.sectors = omega (arith, same, private) in more
-
-pub tells_on : (a b : Looked) → Reads a b → Tells a → Tells b
-tells_on a b is tells = subst (λ (o : Option Contents). MatchOption o ⊥ (λ c. Unit {0})) (sym is.same.told) tells
-
-pub ours_on : (group : Word) (a b : Looked) → Reads a b → IsOurs group a → IsOurs group b
-ours_on group a b is ours = record {
-  group_is = ap (λ l. l.group) is.label ∙ ours.group_is;
-  headed = subst (λ l. IfSome b.seen.told (λ c. header_of (c 0) ≡ Some l)) (sym is.label) (subst (λ (o : Option Contents). IfSome o (λ c. header_of (c 0) ≡ Some a.label)) (sym is.same.told) ours.headed);
-  reads = λ readable. subst (λ r. IfSome b.seen.told (λ c. IsReading r (c 1))) (sym is.reading) (subst (λ (o : Option Contents). IfSome o (λ c. IsReading a.reading (c 1))) (sym is.same.told) (ours.reads (was_readable a.readable b.readable a.seen b.seen is.readable readable)));
-}
+pub private_on : (a b : Looked) → Keeps a.seen b.seen → IsPrivate a → IsPrivate b
+private_on a b kept private = let same = kept.sectors in let more : 2048 ≤ b.seen.sectors = omega (arith, same, private) in more
 
 module _ {P : Type 0} (see : P → Seen) where
   pub all_at : (Q : Looked → Type 0) (fs : List (Found P)) (i : ℕ) (d : Found P) → i < length fs → AllOf Q (map (looked see) fs) → Q (looked see (get_or fs i d))
@@ -93,11 +102,11 @@ module _ {P : Type 0} (see : P → Seen) where
   take_set (x ∷ fs) zero d = refl
   take_set (x ∷ fs) (suc i) d = ap (λ ys. looked see x ∷ ys) (take_set fs i d)
 
-  pub read_on : (ls : List Looked) (fs : List (Found P)) (i : ℕ) (d e : Found P) → i < length fs → Each Reads ls (map (looked see) fs) → Reads (looked see (get_or fs i e)) (looked see d) → Each Reads ls (map (looked see) (set fs i d))
-  read_on ls [] i d e lt all is = absurd (omega (arith, lt))
-  read_on [] (x ∷ fs) i d e lt all is = absurd all
-  read_on (l ∷ ls) (x ∷ fs) zero d e lt all is = (reads_trans l (looked see x) (looked see d) all.0 is, all.1)
-  read_on (l ∷ ls) (x ∷ fs) (suc i) d e lt all is = (all.0, read_on ls fs i d e (omega (arith, lt)) all.1 is)
+  -- one device goes on so, and the others stay
+  pub one_on : (R : Looked → Looked → Type 0) → ((a : Looked) → R a a) → (fs : List (Found P)) (i : ℕ) (d e : Found P) → i < length fs → R (looked see (get_or fs i e)) (looked see d) → Each R (map (looked see) fs) (map (looked see) (set fs i d))
+  one_on R self [] i d e lt is = absurd (omega (arith, lt))
+  one_on R self (x ∷ fs) zero d e lt is = (is, each_refl R self (map (looked see) fs))
+  one_on R self (x ∷ fs) (suc i) d e lt is = (self (looked see x), one_on R self fs i d e (omega (arith, lt)) is)
 
   pub long_set : (fs : List (Found P)) (i : ℕ) (d : Found P) → length (set fs i d) ≡ length fs
   long_set [] i d = refl
@@ -114,19 +123,17 @@ module _ {P : Type 0} (see : P → Seen) where
       by false c w i = cc
   fewer (x ∷ fs) (suc i) d e lt was is = let less = fewer fs i d e (omega (arith, lt)) was is in omega (arith, less)
 
-  -- the highest toggle is that of a device that can be read
+  -- the highest toggle was read of that device
+  pub top_names : (fs : List (Found P)) (i : ℕ) (d : Found P) (t : Said) → IsTop i t (map (looked see) fs) → toggle_read (looked see (get_or fs i d)) ≡ Some t
+  top_names fs i d t top = at_at (λ f. toggle_read f ≡ Some t) fs i d top.place
+
   pub top_readable : (fs : List (Found P)) (i : ℕ) (d : Found P) (t : Said) → IsTop i t (map (looked see) fs) → (get_or fs i d).readable ≡ true
-  top_readable fs i d t top = by (get_or fs i d).readable (at_at (λ f. toggle_read f ≡ Some t) fs i d top.place)
-    where
-      by : (b : Bool) → cond b (said_in (get_or fs i d).reading) None ≡ Some t → b ≡ true
-      by true e = refl
-      by false e = cc
+  top_readable fs i d t top = said_readable (looked see (get_or fs i d)) t (top_names fs i d t top)
 
   -- it stays so where that device can still be read
   pub top_set : (fs : List (Found P)) (i : ℕ) (d e : Found P) (t : Said) → i < length fs → IsTop i t (map (looked see) fs) → toggle_read (looked see d) ≡ toggle_read (looked see (get_or fs i e)) → IsTop i t (map (looked see) (set fs i d))
   top_set fs i d e t lt top same =
-      let there : toggle_read (looked see (get_or fs i e)) ≡ Some t = at_at (λ f. toggle_read f ≡ Some t) fs i e top.place in
-      let now : toggle_read (looked see d) ≡ Some t = same ∙ there in
+      let now : toggle_read (looked see d) ≡ Some t = same ∙ top_names fs i e t top in
       let at_most : t.sequence ≤ t.sequence = omega arith in
       record {
         place = at_set (λ f. toggle_read f ≡ Some t) fs i d lt now;

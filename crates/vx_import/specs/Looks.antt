@@ -1,5 +1,5 @@
 -- What is read of the devices of a group.
-use Rattle.std.specs.Prelude.{◌≡◌, ◌≢◌, ◌⊎◌, ℕ, ◌+◌, ◌-◌, ◌≤◌, Bool, IsTrue, if◌then◌else◌, List, Option, Some, None, IfSome}
+use Rattle.std.specs.Prelude.{◌≡◌, ◌≢◌, ℕ, ◌+◌, ◌-◌, ◌≤◌, Bool, IsTrue, if◌then◌else◌, List, Option, Some, None, IfSome}
 use Rattle.vx_base.specs.Named.{Word}
 use Rattle.vx_sector.specs.Fields.{zeros}
 use Rattle.vx_header.specs.Named.{Label, header_of, label_of}
@@ -65,13 +65,11 @@ pub record IsOurs (group : Word) (f : Looked) : Type 0 where
 abbrev pub toggle_read : Looked → Option Said
 toggle_read f = if f.readable then said_in f.reading else None
 
--- no more of the device was read than the text that its toggle names, and this only where it could be read
-abbrev pub IsTextRead : Looked → Looked → Type 0
-IsTextRead old new =
-    (new.seen.reads ≡ old.seen.reads)
-    ⊎ (IsTrue old.readable × IfSome old.seen.told (λ contents. new.seen.reads ≤ old.seen.reads + text_sectors (toggle_of (contents 1))))
+-- the sectors that were read of the device, with those of the text that its toggle names, where it can still be read
+abbrev pub reads_with_text : Looked → ℕ
+reads_with_text f = f.seen.reads + text_sectors (toggle_read f)
 
--- what the reading of a text does to a device: it can be read until a read fails
+-- what the reading of a text does to a device: that text is read at most, and it can be read until a read fails
 pub record Reads (old new : Looked) : Type 0 where
   pub device : new.device ≡ old.device
   pub label : new.label ≡ old.label
@@ -79,4 +77,4 @@ pub record Reads (old new : Looked) : Type 0 where
   pub kept : Keeps old.seen new.seen
   pub same : IsRead old.seen new.seen
   pub readable : Drops old.readable new.readable old.seen new.seen
-  pub text : IsTextRead old new
+  pub most : new.seen.reads ≤ reads_with_text old

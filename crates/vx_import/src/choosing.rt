@@ -1,4 +1,4 @@
-ghost use Rattle.std.specs.Prelude.{◌≡◌, ◌+◌, ◌-◌, ◌<◌, ◌≤◌, ◌^◌, length, map, IfSome, true, option_map};
+ghost use Rattle.std.specs.Prelude.{◌≡◌, ◌+◌, ◌-◌, ◌<◌, ◌≤◌, ◌^◌, length, map, Some, IfSome, option_map};
 ghost use Rattle.vx_base.specs.Named.{Word};
 ghost use Rattle.vx_copies.specs.Lists.{Each, AllOf};
 ghost use Rattle.vx_import.specs.Looks.{looked, toggle_read, IsPrivate, IsOurs, Reads};
@@ -102,10 +102,10 @@ pub enum Tried {
     Cut,
 }
 
-/// Reads the text that a device's toggle names into a buffer, which has room for any text.
+/// Reads once the text that a device's toggle names into a buffer, which has room for any text.
 pub fn take_one<P: Piece>(found: &mut Found<P>, toggle: &Toggle, buffer: &mut [u8]) -> Tried
     requires private { 2048 ≤ (P.seen found.old.piece).sectors }
-    requires readable { found.old.readable ≡ true }
+    requires names { toggle_read (looked P.seen found.old) ≡ Some (said_of toggle.now) }
     requires room { length buffer.old ≡ 522240 }
     ensures room { length buffer.new ≡ 522240 }
     ensures reads { Reads (looked P.seen found.old) (looked P.seen found.new) }

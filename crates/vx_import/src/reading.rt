@@ -2,7 +2,7 @@ ghost use Rattle.std.specs.Prelude.{◌≡◌, ◌+◌, ◌*◌, ◌<◌, ◌≤
 ghost use Rattle.vx_base.specs.Counts.{later_count};
 ghost use Rattle.vx_header.specs.Named.{header_of, label_of};
 ghost use Rattle.vx_header.specs.Said.{toggle_of};
-ghost use Rattle.vx_piece.specs.Seen.{Keeps, IsRead, HasCause};
+ghost use Rattle.vx_piece.specs.Seen.{Keeps, IsRead, CountsRead, HasCause};
 ghost use Rattle.vx_copies.specs.Image.{text_in, sectors_for};
 ghost use Rattle.vx_import.specs.Looks.{IsReading};
 
@@ -44,6 +44,7 @@ pub fn read_toggle<P: Piece>(piece: &mut P, sector: &mut [u8]) -> Result<Reading
     ensures size { length sector.new ≡ 512 }
     ensures kept { Keeps (P.seen piece.old) (P.seen piece.new) }
     ensures same { IsRead (P.seen piece.old) (P.seen piece.new) }
+    ensures counted { CountsRead sector.old (P.seen piece.old) (P.seen piece.new) }
     ensures reading { IfOk result (λ r. IfSome (P.seen piece.old).told (λ contents. IsReading r (contents 1))) }
     ensures cause { HasCause (P.seen piece.old) (P.seen piece.new) result }
 {
@@ -76,6 +77,7 @@ pub fn read_text<P: Piece>(
     ensures size { length buffer.new ≡ length buffer.old }
     ensures kept { Keeps (P.seen piece.old) (P.seen piece.new) }
     ensures same { IsRead (P.seen piece.old) (P.seen piece.new) }
+    ensures counted { CountsRead buffer.old (P.seen piece.old) (P.seen piece.new) }
     ensures text { OnOk result (IfSome (P.seen piece.old).told (λ contents. text_in toggle.now.half toggle.now.length contents ≡ take toggle.now.length buffer.new)) }
     ensures cause { HasCause (P.seen piece.old) (P.seen piece.new) result }
 {

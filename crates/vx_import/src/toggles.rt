@@ -1,7 +1,7 @@
 ghost use Rattle.std.specs.Prelude.{◌≡◌, ◌+◌, ◌-◌, ◌<◌, ◌≤◌, length, map, true};
 ghost use Rattle.vx_copies.specs.Lists.{Each, AllOf};
 ghost use Rattle.vx_import.specs.Looks.{looked, IsPrivate};
-ghost use Rattle.vx_import.specs.Toggles.{IsUnread, Inspects, PassedOne, PassedAll};
+ghost use Rattle.vx_import.specs.Toggles.{IsUnread, Passes, PassedOne, PassedAll};
 
 use crate::found::Found;
 use crate::reading::read_toggle;
@@ -15,13 +15,13 @@ pub enum Passed {
     Cut,
 }
 
-/// Reads the toggle of each device of a group. Where a read fails the device cannot be read any more.
+/// Reads the toggle of each device of a group, once. Where a read fails the device cannot be read any more.
 pub fn read_toggles<P: Piece>(found: &mut [Found<P>], sector: &mut [u8]) -> Passed
     requires private { AllOf IsPrivate (map (looked P.seen) found.old) }
     requires unread { AllOf IsUnread (map (looked P.seen) found.old) }
     requires size { length sector.old ≡ 512 }
     ensures size { length sector.new ≡ 512 }
-    ensures inspects { Each Inspects (map (looked P.seen) found.old) (map (looked P.seen) found.new) }
+    ensures passes { Each Passes (map (looked P.seen) found.old) (map (looked P.seen) found.new) }
     ensures ends { PassedAll result (map (looked P.seen) found.new) }
 {
     let mut i = 0;
@@ -41,7 +41,7 @@ fn add_toggle<P: Piece>(found: &mut Found<P>, sector: &mut [u8]) -> Passed
     requires readable { found.old.readable ≡ true }
     requires size { length sector.old ≡ 512 }
     ensures size { length sector.new ≡ 512 }
-    ensures inspects { Inspects (looked P.seen found.old) (looked P.seen found.new) }
+    ensures passes { Passes (looked P.seen found.old) (looked P.seen found.new) }
     ensures ends { PassedOne result (looked P.seen found.new) }
 {
     match read_toggle(&mut found.piece, sector) {

@@ -1,20 +1,22 @@
 use Rattle.std.proofs.Common.{arith}
-use Rattle.vx_copies.proofs.Going.{each_trans}
+use Rattle.vx_copies.proofs.Going.{each_refl, each_trans}
 use Rattle.vx_import.specs.Looks.{IsPrivate, Reads}
-use Rattle.vx_import.proofs.Looking.{each_refl, reads_trans, all_on, private_on}
+use Rattle.vx_import.specs.Tries.{IsSpent}
+use Rattle.vx_import.proofs.Looking.{reads_refl, spent_refl, spent_trans, tried_then, all_on, private_on}
 use Rattle.vx_import.proofs.taking.take_text.Goals as goal
 
 pub tries-init : goal.tries-init
-tries-init g c = record { few = c.requires.few; private = c.requires.private; room = c.requires.room; reads = each_refl _ }
+tries-init g c = record { few = c.requires.few; private = c.requires.private; room = c.requires.room; reads = each_refl Reads reads_refl _; spent = each_refl IsSpent spent_refl _ }
 
 pub returns-in-Some-clause-reads : goal.returns-in-Some-clause-reads
-returns-in-Some-clause-reads g c = each_trans Reads reads_trans _ _ _ c.tries.invariant.reads c.try_best.ensures.reads
+returns-in-Some-clause-reads g c = tried_then _ _ _ c.tries.invariant.reads c.tries.invariant.spent c.try_best.ensures.reads
 
 pub tries-preserved : goal.tries-preserved
 tries-preserved g c =
     record {
       few = omega (arith, c.try_best.auto.found, c.tries.invariant.few);
-      private = all_on IsPrivate private_on _ _ c.try_best.ensures.reads c.tries.invariant.private;
+      private = all_on Reads IsPrivate (λ a b is. private_on a b is.kept) _ _ c.try_best.ensures.reads c.tries.invariant.private;
       room = c.try_best.ensures.room;
-      reads = each_trans Reads reads_trans _ _ _ c.tries.invariant.reads c.try_best.ensures.reads;
+      reads = tried_then _ _ _ c.tries.invariant.reads c.tries.invariant.spent c.try_best.ensures.reads;
+      spent = each_trans IsSpent spent_trans _ _ _ c.tries.invariant.spent c.in-None.ensures.ends.1;
     }

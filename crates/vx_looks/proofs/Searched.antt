@@ -183,7 +183,8 @@ weaker xs ys more (Some o) (Some p) seen = λ name. by (is_among name xs) (is_am
     by true y on a b place = subst (λ z. IsPlace IsSeenOnly z a b) (sym (on refl)) place
 
 among_take : (names : List Word) (i : ℕ) (name : Word) → is_among name (take i names) ≡ true → is_among name names ≡ true
-among_take [] i name is = is
+among_take [] zero name is = is
+among_take [] (suc i) name is = is
 among_take (n ∷ names) zero name is = cc
 among_take (n ∷ names) (suc i) name is = by (bytes_eq n name) (among_take names i name) is
   where

@@ -1,7 +1,6 @@
 -- A configuration that is planned, and why one is not.
-use Rattle.std.proofs.Common.{◌≡◌, ◌∙◌, List, Some, inl, inr, refl, sym, ap, subst}
+use Rattle.std.proofs.Common.{◌≡◌, ◌∙◌, List, Option, Some, None, inl, inr, refl, sym, ap, subst}
 use Rattle.vx_parts.specs.declared.fault.ObjectFault.{ObjectFault}
-use Rattle.vx_parts.specs.declared.fault.ObjectFault.TheVariants as fault
 use Rattle.vx_parts.specs.declared.object.Object.{Object}
 use Rattle.vx_objects.specs.declared.config.Config.{Config}
 use Rattle.vx_objects.specs.declared.edit.Edit.{Edit}
@@ -10,11 +9,11 @@ use Rattle.vx_objects.specs.Config.{objects_of, IsMadeOf}
 use Rattle.vx_objects.specs.Edits.{edited_by, refusal_of}
 use Rattle.vx_objects.specs.Parts.{in_kinds}
 use Rattle.vx_objects.proofs.InKinds.{are_sorted}
-use Rattle.vx_answers.specs.declared.refusal.Refusal.TheVariants as refusal
-use Rattle.vx_plans.specs.Refusals.{refusal_from}
+use Rattle.vx_answers.specs.declared.refusal.Refusal.{Refusal}
+use Rattle.vx_plans.specs.Refusals.{refusal_by, refusal_from}
 use Rattle.vx_house.specs.declared.stop.Stop.{Stop}
 use Rattle.vx_house.specs.declared.stop.Stop.TheVariants as stops
-use Rattle.vx_changes.specs.Planning.{broken_stop, IsUnedited, IsLong, IsUnplanned}
+use Rattle.vx_changes.specs.Planning.{broken_stop, stop_by, IsUnedited, IsLong, IsUnplanned}
 
 pub sorted : (config : Config) → in_kinds (objects_of config) ≡ objects_of config
 sorted c = are_sorted c.disks c.subdisks c.plexes c.volumes c.dcos c.snaps c.group c.version

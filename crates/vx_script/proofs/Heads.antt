@@ -22,7 +22,8 @@ use Rattle.vx_script_words.specs.declared.class.Sort.{Sort}
 use Rattle.vx_script_words.specs.declared.class.Sort.TheVariants as sort
 use Rattle.vx_script_words.proofs.Lines.{items_err}
 
-abbrev is_word : Sort → Bool
+-- nothing follows the front
+abbrev pub is_word : Sort → Bool
 is_word sort.Word = true
 is_word s = false
 
@@ -33,28 +34,13 @@ is_headed h is = false
 
 all_headed : (h : Head) → list_all (λ k. is_headed h (items_of k)) (kinds_of h) ≡ true
 all_headed head.Read = refl
-all_headed head.Write = refl
-all_headed head.Sessions = refl
-all_headed head.MkImage = refl
-all_headed head.Bare = refl
-all_headed head.Dg = refl
-all_headed head.DiskUnsetup = refl
-all_headed head.Make = refl
-all_headed head.Print = refl
-all_headed head.Assist = refl
-all_headed head.Vol = refl
-all_headed head.Plex = refl
-all_headed head.Snap = refl
-all_headed head.Recover = refl
-all_headed head.SnapAct = refl
-all_headed head.AssistAct = refl
-all_headed head.PlexAct = refl
+all_headed h = refl
 
 same_word : (v w : List ℕ) → bytes_eq v w ≡ true → v ≡ w
 same_word v w h = (bytes_eq-Decides v w).0 h
 
 -- a fixed word is no other word
-other_word : (front w : List ℕ) → bytes_eq w front ≡ false → value_behind sort.Word (behind front w) ≡ None
+pub other_word : (front w : List ℕ) → bytes_eq w front ≡ false → value_behind sort.Word (behind front w) ≡ None
 other_word front w other = elim (cases_Bool (bytes_eq (take (length front) w) front)) [
   | inl t ↦ ap (value_behind sort.Word) (cond-true _ (Some (drop (length front) w)) None t) ∙ by_rest t (drop (length front) w) refl
   | inr f ↦ ap (value_behind sort.Word) (cond-false _ (Some (drop (length front) w)) None f)

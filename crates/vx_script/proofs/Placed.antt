@@ -14,6 +14,7 @@ use Rattle.vx_script_words.specs.Spelling.{Behind, Spells}
 use Rattle.vx_script_words.specs.Words.{from_word, first_word}
 use Rattle.vx_script_words.proofs.Lined.{At, Ends, row_walks}
 use Rattle.vx_script_words.proofs.Opens.{are_sound, walk_opens}
+use Rattle.vx_script_words.proofs.Plain.{left_of, right_of}
 use Rattle.vx_script_words.proofs.Sorts.{all_joined}
 use Rattle.vx_script_words.specs.Spelling.{spelled}
 use Rattle.vx_script_words.proofs.Spelled.{is_word, later_less, less_behind, spelled_words, words_of}
@@ -41,10 +42,10 @@ abbrev pub In : Kind → List Kind → Type 0
 In k [] = ⊥
 In k (x ∷ xs) = (k ≡ x) ⊎ In k xs
 
-sound_in : (k : Kind) (kinds : List Kind) → In k kinds → list_all is_sound kinds ≡ true → are_sound (items_of k) ≡ true
-sound_in k [] i h = absurd i
-sound_in k (x ∷ xs) (inl e) h = subst (λ (y : Kind). are_sound (items_of y) ≡ true) (sym e) (and_parts (is_sound x) (list_all is_sound xs) h).0
-sound_in k (x ∷ xs) (inr i) h = sound_in k xs i (and_parts (is_sound x) (list_all is_sound xs) h).1
+pub in_all : (p : Kind → Bool) (k : Kind) (kinds : List Kind) → In k kinds → list_all p kinds ≡ true → p k ≡ true
+in_all p k [] i h = absurd i
+in_all p k (x ∷ xs) (inl e) h = ap p e ∙ left_of (p x) (list_all p xs) h
+in_all p k (x ∷ xs) (inr i) h = in_all p k xs i (right_of (p x) (list_all p xs) h)
 
 -- a row that fits
 pub record HasRow (may_be_cut : Bool) (kinds : List Kind) (text : List ℕ) : Type 0 where
@@ -127,7 +128,7 @@ fault_at may_be_cut k text ws left g h e = by_walk (row may_be_cut (items_of k) 
         let at : l ≡ left = cc in
         (bad, same, subst (λ (n : ℕ). At text ws n bad) at a)
 
-fit_walks : (may_be_cut : Bool) (k : Kind) (text : List ℕ) (ws : Words) (read : Read) → are_sound (items_of k) ≡ true → Spells text ws → row may_be_cut (items_of k) text ≡ Ok read → (vs : Words) × (walk may_be_cut (items_of k) ws ≡ Ok vs)
+pub fit_walks : (may_be_cut : Bool) (k : Kind) (text : List ℕ) (ws : Words) (read : Read) → are_sound (items_of k) ≡ true → Spells text ws → row may_be_cut (items_of k) text ≡ Ok read → (vs : Words) × (walk may_be_cut (items_of k) ws ≡ Ok vs)
 fit_walks may_be_cut k text ws read g h e = by_walk (row may_be_cut (items_of k) text) (walk may_be_cut (items_of k) ws) (row_walks may_be_cut (items_of k) text ws g h) e refl
   where
     by_walk : (r : Result Read ℕ) (w : Walked) → Ends text ws r w → r ≡ Ok read → walk may_be_cut (items_of k) ws ≡ w → (vs : Words) × (walk may_be_cut (items_of k) ws ≡ Ok vs)
@@ -183,7 +184,7 @@ module _ (may_be_cut : Bool) (kinds : List Kind) (line : List ℕ) (left : ℕ) 
   no_word [] parts left_words other more some h fit = omega (arith, place, some, ap (λ (x : List ℕ). length x) left_words)
   no_word (v ∷ back) parts left_words other more some h fit =
       let r = row_there may_be_cut kinds other (length (from_word other)) fit.0 fit.1 in
-      let g = sound_in r.kind kinds r.among sound in
+      let g = in_all is_sound r.kind kinds r.among sound in
       let fits = fit_walks may_be_cut r.kind other (front ++ first_word (from_word rest) ∷ more) r.read g h r.is in
       let f = least.all r.kind r.among in
       let a = fault_at may_be_cut r.kind line ws f.0.left g spells f.0.is in
@@ -196,7 +197,7 @@ module _ (may_be_cut : Bool) (kinds : List Kind) (line : List ℕ) (left : ℕ) 
   no_end (v ∷ back) parts left_words other none h fit = omega (arith, place, none, left_words.0)
   no_end [] parts left_words other none h fit =
       let r = row_there may_be_cut kinds other (length (from_word other)) fit.0 fit.1 in
-      let g = sound_in r.kind kinds r.among sound in
+      let g = in_all is_sound r.kind kinds r.among sound in
       let fits = fit_walks may_be_cut r.kind other front r.read g h r.is in
       let f = least.all r.kind r.among in
       let a = fault_at may_be_cut r.kind line ws f.0.left g spells f.0.is in
@@ -206,7 +207,7 @@ module _ (may_be_cut : Bool) (kinds : List Kind) (line : List ℕ) (left : ℕ) 
 
 begins_there : (may_be_cut : Bool) (kinds : List Kind) (k : Kind) (ws front bad : Words) → In k kinds → list_all is_sound kinds ≡ true → list_all is_word ws ≡ true → ws ≡ front ++ bad → walk may_be_cut (items_of k) ws ≡ Err bad → Begins may_be_cut kinds front
 begins_there may_be_cut kinds k ws front bad i sound real parts e =
-    let g = sound_in k kinds i sound in
+    let g = in_all is_sound k kinds i sound in
     let o = walk_opens may_be_cut (items_of k) g ws bad e in
     let same : o.front ≡ front = append_cancel_right o.front front bad (sym o.parts ∙ parts) in
     let words = front ++ o.more in
@@ -222,7 +223,7 @@ place_is may_be_cut kinds line left sound some e =
     let w = words_of line in
     let l = least_is may_be_cut kinds line (length (from_word line)) left e in
     let k = attained may_be_cut kinds line w.words left sound some w.spells l in
-    let a = fault_at may_be_cut k.0 line w.words left (sound_in k.0 kinds k.1 sound) w.spells k.2 in
+    let a = fault_at may_be_cut k.0 line w.words left (in_all is_sound k.0 kinds k.1 sound) w.spells k.2 in
     let at = a.2 in
     record {
       before = at.front;

@@ -8,44 +8,49 @@ use std::alloc::Global;
 use vx_script_forms::{Head, Kind, head_key, items_of, kinds_of};
 use vx_script_words::{Stop, Value, first_word, from_word, key_text, row};
 
-/// A line's form and what its words say.
-#[derive(Drop)]
+/// A line's form, and the N of its `cut=N`.
+#[derive(Clone, Copy)]
 pub struct Chosen {
     pub kind: Kind,
-    pub values: Vec<Value>,
     pub cut: Option<u64>,
 }
 
-/// The first of the kinds whose parts the line fits. Those that begin with another word than the line are not tried.
-pub fn choose(alloc: Global, may_be_cut: bool, heads: &[Head], text: &[u8]) -> Result<Chosen, Stop>
+/// The first of the kinds whose parts the line fits, and its values. Those that begin with another word than the line are
+/// not tried. What the values were is lost; their memory serves again.
+pub fn choose(
+    alloc: Global,
+    may_be_cut: bool,
+    heads: &[Head],
+    values: &mut Vec<Value>,
+    text: &[u8],
+) -> Result<Chosen, Stop>
     requires { IsTrue (are_apart heads.now) }
-    ensures { MatchResult result (λ chosen. choose may_be_cut (flat_map kinds_of heads.now) text.now ≡ Ok (record { kind = chosen.kind; values = chosen.values.items; cut = chosen.cut })) (λ stop. Fails stop (choose may_be_cut (flat_map kinds_of heads.now) text.now)) }
+    ensures { MatchResult result (λ chosen. choose may_be_cut (flat_map kinds_of heads.now) text.now ≡ Ok (record { kind = chosen.kind; values = values.new.items; cut = chosen.cut })) (λ stop. Fails stop (choose may_be_cut (flat_map kinds_of heads.now) text.now)) }
 {
     let from = from_word(text);
     let word = first_word(from);
     for head in heads {
         if word == key_text(head_key(*head)) {
-            return among(alloc, may_be_cut, kinds_of(*head), text);
+            return among(alloc, may_be_cut, kinds_of(*head), values, text);
         }
     }
     Err(Stop::Left(from.len()))
 }
 
-fn among(alloc: Global, may_be_cut: bool, kinds: &[Kind], text: &[u8]) -> Result<Chosen, Stop>
-    ensures { MatchResult result (λ chosen. choose may_be_cut kinds.now text.now ≡ Ok (record { kind = chosen.kind; values = chosen.values.items; cut = chosen.cut })) (λ stop. Fails stop (choose may_be_cut kinds.now text.now)) }
+fn among(
+    alloc: Global,
+    may_be_cut: bool,
+    kinds: &[Kind],
+    values: &mut Vec<Value>,
+    text: &[u8],
+) -> Result<Chosen, Stop>
+    ensures { MatchResult result (λ chosen. choose may_be_cut kinds.now text.now ≡ Ok (record { kind = chosen.kind; values = values.new.items; cut = chosen.cut })) (λ stop. Fails stop (choose may_be_cut kinds.now text.now)) }
 {
-    let mut values = Vec::new(alloc);
     let mut least = from_word(text).len();
     for kind in kinds {
         values.clear();
-        match row(alloc, may_be_cut, items_of(*kind), &mut values, text) {
-            Ok(cut) => {
-                return Ok(Chosen {
-                    kind: *kind,
-                    values,
-                    cut,
-                });
-            }
+        match row(alloc, may_be_cut, items_of(*kind), values, text) {
+            Ok(cut) => return Ok(Chosen { kind: *kind, cut }),
             Err(Stop::OutOfMemory) => return Err(Stop::OutOfMemory),
             Err(Stop::Left(left)) => least = least.min(left),
         }

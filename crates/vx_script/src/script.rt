@@ -28,11 +28,12 @@ pub fn read(alloc: Global, text: &[u8]) -> Result<Script, ScriptFault>
         done: Commands::from_vec(Vec::new(alloc)),
         begun: Open::Closed,
     };
+    let mut values = Vec::new(alloc);
     let mut rest = text;
     let mut number: u64 = 1;
     while rest.len() > 0 {
         let (line, next) = split_line(rest);
-        match step(alloc, reader, line) {
+        match step(alloc, &mut values, reader, line) {
             Ok(more) => reader = more,
             Err(Stop::OutOfMemory) => return Err(ScriptFault::OutOfMemory),
             Err(Stop::Left(left)) => {

@@ -16,16 +16,21 @@ use vx_script_forms::{
     ACTS, Admin, Block, Boxed, Bytes, CALLS, COMMANDS, Call, Form, Line, Lines, form_of, group_of,
     maybe_boxed,
 };
-use vx_script_words::{Stop, first_word, from_word, number_within, past_word};
+use vx_script_words::{Stop, Value, first_word, from_word, number_within, past_word};
 
-/// What a line does.
+/// What a line does. The vector of values is room that serves line by line.
 #[tactic(auto, unfolding(crate::specs::Steps::step))]
-pub fn step(alloc: Global, reader: Reader, line: &[u8]) -> Result<Reader, Stop>
+pub fn step(
+    alloc: Global,
+    values: &mut Vec<Value>,
+    reader: Reader,
+    line: &[u8],
+) -> Result<Reader, Stop>
     ensures { MatchResult result (λ next. step reader line.now ≡ Ok next) (λ stop. Fails stop (step reader line.now)) }
 {
     let Reader { done, begun } = reader;
     match begun {
-        Open::Closed => closed_step(alloc, done, line),
+        Open::Closed => closed_step(alloc, values, done, line),
         Open::Making { group, cut, text } => making_step(done, group, cut, text, line),
         Open::Inside {
             cut,
@@ -33,7 +38,9 @@ pub fn step(alloc: Global, reader: Reader, line: &[u8]) -> Result<Reader, Stop>
             lines,
             calls,
             sectors,
-        } => inside_step(alloc, done, cut, sessions, lines, calls, sectors, line),
+        } => inside_step(
+            alloc, values, done, cut, sessions, lines, calls, sectors, line,
+        ),
     }
 }
 
@@ -46,28 +53,38 @@ fn or_bad(reader: Reader, line: &[u8]) -> Result<Reader, Stop>
     }
 }
 
-fn closed_step(alloc: Global, done: Commands, line: &[u8]) -> Result<Reader, Stop>
+fn closed_step(
+    alloc: Global,
+    values: &mut Vec<Value>,
+    done: Commands,
+    line: &[u8],
+) -> Result<Reader, Stop>
     ensures { MatchResult result (λ reader. closed_step done line.now ≡ Ok reader) (λ stop. Fails stop (closed_step done line.now)) }
 {
     if is_passed_over(line) {
         let begun = Open::Closed;
         return or_bad(Reader { done, begun }, line);
     }
-    command_step(alloc, done, line)
+    command_step(alloc, values, done, line)
 }
 
 /// A command line. What the parts of a kind give is always a form of that kind, so the line is refused only where no
 /// kind fits it: then what is left begins with the first word that no command line with the same earlier words has.
 #[tactic(auto, unfolding(crate::specs::Steps::command_step))]
-fn command_step(alloc: Global, done: Commands, line: &[u8]) -> Result<Reader, Stop>
+fn command_step(
+    alloc: Global,
+    values: &mut Vec<Value>,
+    done: Commands,
+    line: &[u8],
+) -> Result<Reader, Stop>
     ensures value { MatchResult result (λ reader. command_step done line.now ≡ Ok reader) (λ stop. Fails stop (command_step done line.now)) }
     ensures place { (left : ℕ) → command_step done line.now ≡ Err left → IsPlace true commands line.now left }
 {
-    let chosen = choose(alloc, true, &COMMANDS, line)?;
-    let Some(group) = group_of(chosen.values.as_slice()) else {
+    let chosen = choose(alloc, true, &COMMANDS, values, line)?;
+    let Some(group) = group_of(values.as_slice()) else {
         return Err(Stop::Left(0));
     };
-    let Some(form) = form_of(alloc, chosen.kind, chosen.values.as_slice())? else {
+    let Some(form) = form_of(alloc, chosen.kind, values.as_slice())? else {
         return Err(Stop::Left(0));
     };
     Ok(opened(alloc, done, group, form, chosen.cut)?)
@@ -141,6 +158,7 @@ fn with_line(text: Bytes, line: &[u8]) -> Result<Bytes, OutOfMemory>
 
 fn inside_step(
     alloc: Global,
+    values: &mut Vec<Value>,
     done: Commands,
     cut: Option<u64>,
     sessions: u32,
@@ -165,7 +183,7 @@ fn inside_step(
     if first_word(text) == b"end".as_slice() {
         return ended(done, cut, sessions, lines, past_word(text));
     }
-    let read = session_line(alloc, sessions, text)?;
+    let read = session_line(alloc, values, sessions, text)?;
     added(done, cut, sessions, lines, calls, sectors, line.len(), read)
 }
 
@@ -190,38 +208,48 @@ fn ended(
 }
 
 #[tactic(auto, unfolding(crate::specs::Steps::session_line))]
-fn session_line(alloc: Global, sessions: u32, text: &[u8]) -> Result<Line, Stop>
+fn session_line(
+    alloc: Global,
+    values: &mut Vec<Value>,
+    sessions: u32,
+    text: &[u8],
+) -> Result<Line, Stop>
     ensures { MatchResult result (λ reader. session_line sessions text.now ≡ Ok reader) (λ stop. Fails stop (session_line sessions text.now)) }
 {
     match number_within(0, sessions as u64, first_word(text)) {
         None => Err(Stop::Left(text.len())),
-        Some(session) => line_behind(alloc, session as u32, past_word(text)),
+        Some(session) => line_behind(alloc, values, session as u32, past_word(text)),
     }
 }
 
 /// What follows the session. What the parts of a kind give is an act or a call, so here, too, a refusal is at the first
 /// word that no act, or no call, with the same earlier words has.
 #[tactic(auto, unfolding(crate::specs::Steps::line_behind))]
-fn line_behind(alloc: Global, session: u32, text: &[u8]) -> Result<Line, Stop>
+fn line_behind(
+    alloc: Global,
+    values: &mut Vec<Value>,
+    session: u32,
+    text: &[u8],
+) -> Result<Line, Stop>
     ensures value { MatchResult result (λ reader. line_behind session text.now ≡ Ok reader) (λ stop. Fails stop (line_behind session text.now)) }
     ensures place { (left : ℕ) → line_behind session text.now ≡ Err left → IsPlace false (if session == 0 then acts else calls) text.now left }
 {
     if session == 0 {
-        act_line(alloc, text)
+        act_line(alloc, values, text)
     } else {
-        call_line(alloc, session, text)
+        call_line(alloc, values, session, text)
     }
 }
 
 #[tactic(auto, unfolding(crate::specs::Steps::line_behind))]
-fn act_line(alloc: Global, text: &[u8]) -> Result<Line, Stop>
+fn act_line(alloc: Global, values: &mut Vec<Value>, text: &[u8]) -> Result<Line, Stop>
     ensures { MatchResult result (λ reader. line_behind 0 text.now ≡ Ok reader) (λ stop. Fails stop (line_behind 0 text.now)) }
 {
-    let chosen = choose(alloc, false, &ACTS, text)?;
-    let Some(group) = group_of(chosen.values.as_slice()) else {
+    let chosen = choose(alloc, false, &ACTS, values, text)?;
+    let Some(group) = group_of(values.as_slice()) else {
         return Err(Stop::Left(0));
     };
-    let Some(form) = form_of(alloc, chosen.kind, chosen.values.as_slice())? else {
+    let Some(form) = form_of(alloc, chosen.kind, values.as_slice())? else {
         return Err(Stop::Left(0));
     };
     match form {
@@ -234,12 +262,17 @@ fn act_line(alloc: Global, text: &[u8]) -> Result<Line, Stop>
 }
 
 #[tactic(auto, unfolding(crate::specs::Steps::line_behind))]
-fn call_line(alloc: Global, session: u32, text: &[u8]) -> Result<Line, Stop>
+fn call_line(
+    alloc: Global,
+    values: &mut Vec<Value>,
+    session: u32,
+    text: &[u8],
+) -> Result<Line, Stop>
     requires { 0 < session }
     ensures { MatchResult result (λ reader. line_behind session text.now ≡ Ok reader) (λ stop. Fails stop (line_behind session text.now)) }
 {
-    let chosen = choose(alloc, false, &CALLS, text)?;
-    match form_of(alloc, chosen.kind, chosen.values.as_slice())? {
+    let chosen = choose(alloc, false, &CALLS, values, text)?;
+    match form_of(alloc, chosen.kind, values.as_slice())? {
         Some(Form::Calling(call)) => Ok(Line::Session { session, call }),
         _ => Err(Stop::Left(0)),
     }

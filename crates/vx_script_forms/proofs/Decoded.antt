@@ -94,68 +94,41 @@ said_values (i ∷ is) x = item_value i x.0 ∷ said_values is x.1
 
 one_said : (s : Sort) (v : Value) → is_of s v ≡ true → (x : SaidOf s) × (v ≡ value_said s x)
 one_said sort.Word value.Word h = (tt, refl)
-one_said sort.Word v h = absurd cc
 one_said sort.Named (value.Named name) h = (name, refl)
-one_said sort.Named v h = absurd cc
 one_said (sort.Number low high) (value.Number n) h = (n, refl)
-one_said (sort.Number low high) v h = absurd cc
 one_said sort.Length (value.Number n) h = (n, refl)
-one_said sort.Length v h = absurd cc
 one_said sort.Byte (value.Number n) h = (n, refl)
-one_said sort.Byte v h = absurd cc
 one_said sort.Pair (value.Pair pair) h = (pair, refl)
-one_said sort.Pair v h = absurd cc
 one_said sort.BreakOff (value.BreakOff vol snap plex) h = (record { vol = vol; snap = snap; plex = plex }, refl)
-one_said sort.BreakOff v h = absurd cc
+one_said s v h = absurd cc
 
 nothing_said : (s : Sort) → (x : MaybeSaid s) × (value.Nothing ≡ maybe_said s x)
 nothing_said sort.Word = (false, refl)
-nothing_said sort.Named = (None, refl)
-nothing_said (sort.Number low high) = (None, refl)
-nothing_said sort.Length = (None, refl)
-nothing_said sort.Byte = (None, refl)
-nothing_said sort.Pair = (None, refl)
-nothing_said sort.BreakOff = (None, refl)
+nothing_said s = (None, refl)
 
 some_said : (s : Sort) (v : Value) → is_of s v ≡ true → (x : MaybeSaid s) × (v ≡ maybe_said s x)
 some_said sort.Word v h = (true, (one_said sort.Word v h).1)
-some_said sort.Named v h = let x = one_said sort.Named v h in (Some x.0, x.1)
-some_said (sort.Number low high) v h = let x = one_said (sort.Number low high) v h in (Some x.0, x.1)
-some_said sort.Length v h = let x = one_said sort.Length v h in (Some x.0, x.1)
-some_said sort.Byte v h = let x = one_said sort.Byte v h in (Some x.0, x.1)
-some_said sort.Pair v h = let x = one_said sort.Pair v h in (Some x.0, x.1)
-some_said sort.BreakOff v h = let x = one_said sort.BreakOff v h in (Some x.0, x.1)
+some_said s v h = let x = one_said s v h in (Some x.0, x.1)
 
 or_nothing : (s : Sort) (v : Value) → maybe_of s v ≡ true → (x : MaybeSaid s) × (v ≡ maybe_said s x)
 or_nothing s value.Nothing h = nothing_said s
-or_nothing s value.Word h = some_said s value.Word h
-or_nothing s (value.Named name) h = some_said s (value.Named name) h
-or_nothing s (value.Number n) h = some_said s (value.Number n) h
-or_nothing s (value.Pair pair) h = some_said s (value.Pair pair) h
-or_nothing s (value.BreakOff vol snap plex) h = some_said s (value.BreakOff vol snap plex) h
-or_nothing s (value.Names names) h = some_said s (value.Names names) h
-or_nothing s (value.Pairs pairs) h = some_said s (value.Pairs pairs) h
-or_nothing s (value.Blocks bytes) h = some_said s (value.Blocks bytes) h
+or_nothing s v h = some_said s v h
 
 item_said : (i : Item) (v : Value) → of_item i v ≡ true → (x : Said i) × (v ≡ item_value i x)
 item_said (One class) v h = one_said class.sort v h
 item_said (Maybe class) v h = or_nothing class.sort v h
 item_said Group v h = or_nothing sort.Named v h
 item_said NoGroup value.Nothing h = (tt, refl)
-item_said NoGroup v h = absurd cc
 item_said Names (value.Names names) h = (names, refl)
-item_said Names v h = absurd cc
 item_said Pairs (value.Pairs pairs) h = (pairs, refl)
-item_said Pairs v h = absurd cc
 item_said Blocks (value.Blocks bytes) h = (bytes, refl)
-item_said Blocks v h = absurd cc
+item_said i v h = absurd cc
 
 pub decoded : (is : List Item) (vs : List Value) → are_of is vs ≡ true → (x : Saids is) × (vs ≡ said_values is x)
 decoded [] [] h = (tt, refl)
-decoded [] (v ∷ vs) h = absurd cc
-decoded (i ∷ is) [] h = absurd cc
 decoded (i ∷ is) (v ∷ vs) h =
     let parts = and_parts (of_item i v) (are_of is vs) h in
     let first = item_said i v parts.0 in
     let rest = decoded is vs parts.1 in
     ((first.0, rest.0), ap₂ (λ (y : Value) (ys : List Value). y ∷ ys) first.1 rest.1)
+decoded is vs h = absurd cc

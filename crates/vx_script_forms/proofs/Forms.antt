@@ -201,86 +201,33 @@ module _ (g : Option (List ℕ)) (vol : List ℕ) (size : ℕ) (nmirror region l
 
 -- a form whose values are those of its parts is said by them, as far as its first line goes
 pub form_again : (g : Option (List ℕ)) (f : Form) → are_of (items_of (kind_of f)) (values_of g f) ≡ true → form_of (kind_of f) (values_of g f) ≡ Some (opening f)
-form_again g (form.MkImage device size) h = refl
-form_again g (form.Bare vol device) h = refl
-form_again g (form.DgInit dg disks) h = refl
-form_again g (form.DgAddDisk dg disk) h = refl
-form_again g (form.DgImport dg) h = refl
-form_again g (form.DgDeport dg) h = refl
-form_again g (form.DiskUnsetup device) h = refl
-form_again g (form.VxMake text) h = refl
 form_again g (form.PrintM vol) h = ap (option_and_then (λ v. Some (form.PrintM v))) (maybe_back vol)
 form_again g (form.PrintHt vol) h = ap (option_and_then (λ v. Some (form.PrintHt v))) (maybe_back vol)
 form_again g (form.AssistMake vol size a disks) h = make_again g vol size a.nmirror a.region a.ndcomirror disks a.layout a.ncol a.unit h
-form_again g (form.Mirror vol disks) h = refl
-form_again g (form.RemoveVolume vol) h = refl
-form_again g (form.Start vol) h = refl
-form_again g (form.Stop vol) h = refl
 form_again g (form.Rdpol vol policy.Round) h = refl
-form_again g (form.Rdpol vol policy.Select) h = refl
-form_again g (form.Rdpol vol (policy.Prefer plex)) h = refl
-form_again g (form.PlexDis plex false) h = refl
+form_again g (form.Rdpol vol p) h = refl
 form_again g (form.PlexDis plex true) h = refl
 form_again g (form.Prepare vol ndcomirs region) h = rw (count_back ndcomirs, count_back region) refl
-form_again g (form.Unprepare vol) h = refl
-form_again g (form.AddMir vol disks) h = refl
-form_again g (form.Dis snap) h = refl
-form_again g (form.Split snap) h = refl
 form_again g (form.PrintSnaps vol) h = ap (option_and_then (λ v. Some (form.PrintSnaps v))) (maybe_back vol)
 form_again g (form.Recover vol) h = ap (option_and_then (λ v. Some (form.Recover v))) (maybe_back vol)
-form_again g (form.Acting (act.SnapMake vol snap plex)) h = refl
-form_again g (form.Acting (act.Reattach snap vol)) h = refl
-form_again g (form.Acting (act.Restore vol snap)) h = refl
-form_again g (form.Acting (act.Snapback snap false)) h = refl
 form_again g (form.Acting (act.Snapback snap true)) h = refl
-form_again g (form.Acting (act.PlexDet plex)) h = refl
-form_again g (form.Acting (act.PlexAtt vol plex)) h = refl
-form_again g (form.Calling (call.Read vol start count)) h = refl
+form_again g (form.Acting a) h = refl
 form_again g (form.Calling (call.Fill vol start count byte)) h =
     let e = each (items_of kind.Fill) (values_of g (form.Calling (call.Fill vol start count byte))) h in
     ap (option_and_then (λ b. Some (form.Calling (call.Fill vol start count b)))) (byte_is byte e.1.1.1.1.1.1.0)
-form_again g (form.Calling (call.Data vol start blocks)) h = refl
+form_again g (form.Calling c) h = refl
 form_again g (form.Sessions block) h =
     let e = each (items_of kind.Sessions) (values_of g (form.Sessions block)) h in
     ap (option_and_then (λ n. Some (form.Sessions (record { sessions = n; lines = [] })))) (small_is 1 16 block.sessions (lit< tt) e.1.1.0)
+form_again g f h = refl
 
 -- the second value is the group
 pub group_again : (g : Option (List ℕ)) (f : Form) → maybe_name (values_of g f) 1 ≡ Some g
-group_again g (form.MkImage device size) = maybe_back g
-group_again g (form.Bare vol device) = maybe_back g
-group_again g (form.DgInit dg disks) = maybe_back g
-group_again g (form.DgAddDisk dg disk) = maybe_back g
-group_again g (form.DgImport dg) = maybe_back g
-group_again g (form.DgDeport dg) = maybe_back g
-group_again g (form.DiskUnsetup device) = maybe_back g
-group_again g (form.VxMake text) = maybe_back g
-group_again g (form.PrintM vol) = maybe_back g
-group_again g (form.PrintHt vol) = maybe_back g
-group_again g (form.AssistMake vol size a disks) = maybe_back g
-group_again g (form.Mirror vol disks) = maybe_back g
-group_again g (form.RemoveVolume vol) = maybe_back g
-group_again g (form.Start vol) = maybe_back g
-group_again g (form.Stop vol) = maybe_back g
 group_again g (form.Rdpol vol policy.Round) = maybe_back g
-group_again g (form.Rdpol vol policy.Select) = maybe_back g
-group_again g (form.Rdpol vol (policy.Prefer plex)) = maybe_back g
-group_again g (form.PlexDis plex false) = maybe_back g
+group_again g (form.Rdpol vol p) = maybe_back g
 group_again g (form.PlexDis plex true) = maybe_back g
-group_again g (form.Prepare vol ndcomirs region) = maybe_back g
-group_again g (form.Unprepare vol) = maybe_back g
-group_again g (form.AddMir vol disks) = maybe_back g
-group_again g (form.Dis snap) = maybe_back g
-group_again g (form.Split snap) = maybe_back g
-group_again g (form.PrintSnaps vol) = maybe_back g
-group_again g (form.Recover vol) = maybe_back g
-group_again g (form.Acting (act.SnapMake vol snap plex)) = maybe_back g
-group_again g (form.Acting (act.Reattach snap vol)) = maybe_back g
-group_again g (form.Acting (act.Restore vol snap)) = maybe_back g
-group_again g (form.Acting (act.Snapback snap false)) = maybe_back g
 group_again g (form.Acting (act.Snapback snap true)) = maybe_back g
-group_again g (form.Acting (act.PlexDet plex)) = maybe_back g
-group_again g (form.Acting (act.PlexAtt vol plex)) = maybe_back g
+group_again g (form.Acting a) = maybe_back g
 group_again g (form.Calling (call.Read vol start count)) = maybe_back g
-group_again g (form.Calling (call.Fill vol start count byte)) = maybe_back g
-group_again g (form.Calling (call.Data vol start blocks)) = maybe_back g
-group_again g (form.Sessions block) = maybe_back g
+group_again g (form.Calling c) = maybe_back g
+group_again g f = maybe_back g

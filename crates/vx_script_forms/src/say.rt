@@ -12,8 +12,21 @@ use std::alloc::Global;
 use vx_base::OutOfMemory;
 use vx_script_words::Value;
 
-/// The form that the values of a line say. There is none where they are not those of the kind.
+/// The form that the values of a line say. There is none where they are not those of the kind. Those of calls stand
+/// apart, since a script may have a million, and a function pays for all the forms that it may make.
 pub fn form_of(alloc: Global, kind: Kind, values: &[Value]) -> Result<Option<Form>, OutOfMemory>
+    ensures { IfOk result (λ found. found ≡ form_of kind values.now) }
+{
+    match kind {
+        Kind::Read => Ok(read_form(values)),
+        Kind::Fill => Ok(fill_form(values)),
+        Kind::Data => data_form(alloc, values),
+        _ => any_form(alloc, kind, values),
+    }
+}
+
+#[inline(never)]
+fn any_form(alloc: Global, kind: Kind, values: &[Value]) -> Result<Option<Form>, OutOfMemory>
     ensures { IfOk result (λ found. found ≡ form_of kind values.now) }
 {
     match kind {

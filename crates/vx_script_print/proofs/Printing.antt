@@ -1,13 +1,5 @@
 -- Words that are printed one behind the other.
-use Rattle.std.proofs.Common.{◌≡◌, ◌∙◌, sym, ap, refl, ℕ, zero, suc, ◌+◌, ◌*◌, ◌<◌, ◌≤◌, min, List, [], ◌∷◌, ◌++◌, length, map, take, drop, get_or, arith, append_assoc, append-nil}
-use Rattle.std.proofs.lemmas.Grind.{common_steps, take_at_read}
-use Rattle.std.proofs.lemmas.List.{drop-drop, map-append}
-use Rattle.vx_block.specs.Word.{block_word}
-use Rattle.vx_script_print.specs.Text.{cut_blocks, words_of, row_words}
-use Rattle.vx_script_words.specs.Blocks.{block_at}
-use Rattle.vx_script_words.specs.Spelling.{spelled, begun}
-use Rattle.vx_script_words.specs.declared.class.Item.{Item}
-use Rattle.vx_script_words.specs.declared.value.Value.{Value}
+use Rattle.vx_script_print.proofs.Terms.{◌≡◌, ◌∙◌, sym, ap, refl, ℕ, zero, suc, ◌+◌, ◌*◌, ◌<◌, ◌≤◌, min, List, [], ◌∷◌, ◌++◌, length, map, take, drop, get_or, arith, append_assoc, append-nil, common_steps, take_at_read, drop-drop, map-append, block_word, cut_blocks, words_of, row_words, block_at, spelled, begun, Item, Value}
 
 pub spelled_both : (xs ys : List (List ℕ)) → spelled (xs ++ ys) ≡ spelled xs ++ spelled ys
 spelled_both [] ys = refl

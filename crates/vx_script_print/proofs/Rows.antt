@@ -1,80 +1,26 @@
 -- What is printed of the values of parts is read back, and has no blank.
-use Rattle.std.proofs.Common.{◌≡◌, ◌∙◌, sym, ap, refl, ℕ, zero, suc, ◌-◌, ◌*◌, ◌/◌, ◌%◌, ◌^◌, ◌<◌, ◌≤◌, inl, inr, Bool, true, false, List, [], ◌∷◌, ◌++◌, length, take, drop, arith, Option, Some, None, subst, map, Ok, Err, ltb-true, eq-eqb, cond}
-use Rattle.std.specs.Prelude.{codes, decimal, is_some, not, nat_le, nat_lt, ◌==◌, ◌&&◌, ◌||◌, is_none}
-use Rattle.std.specs.List.{list_all}
-use Rattle.std.proofs.lemmas.Bool.{and_parts, not-true, and_from, or_cases, both_ways, cond-true, cond-false, eqb-true, leb-true, ltb-true, and_left, and_right, or_from, false_from_ne_true, ne_eqb}
-use Rattle.std.proofs.lemmas.Bool.Decides.{nat_tests}
-use Rattle.std.proofs.lemmas.List.{append-nil, append_assoc, length-append, take_all, drop_all, length-take, length-drop, length-map, map-id, take-append-drop}
-use Rattle.std.proofs.lemmas.List.Folds.{list_all-append, list_all-map}
-use Rattle.std.proofs.lemmas.Slice.Eq.{bytes_eq-Decides}
-use Rattle.vx_block.proofs.WordLemmas.{word_again}
-use Rattle.vx_block.specs.Reading.{AreBytes, spelled_block, is_hex_digit, is_short_word, is_long_word, is_block_word, byte_value}
-use Rattle.vx_block.specs.Word.{hex, hex_digit, block_word}
-use Rattle.vx_names.specs.Form.{is_name, is_name_byte}
-use Rattle.vx_names.specs.Length.{numeral_front}
-use Rattle.vx_names.specs.Number.{digits_value}
-use Rattle.vx_names.proofs.Lengths.{numeral_before}
-use Rattle.vx_names.proofs.Numbers.{decimal_number, decimal_numeral, decimal_value, decimal_name, decimal_short}
-use Rattle.vx_script_print.specs.Text.{value_text, class_word, plex_text, cut_blocks, words_of, row_words, cut_words}
-use Rattle.vx_script_words.specs.Class.{class_value, sort_value, value_behind, as_name, as_number, as_pair}
-use Rattle.vx_script_words.specs.Fits.{is_between, is_byte, is_pair, is_of, maybe_name, pair_word, are_blocks, of_item, are_of}
-use Rattle.vx_script_words.specs.Hex.{byte_of, block_of}
-use Rattle.vx_script_words.specs.Key.{text_of}
-use Rattle.vx_script_words.specs.Number.{number_of, within, units_of, length_of}
-use Rattle.vx_script_words.specs.Parts.{behind, name_of, name_behind, cut_of, pair_of, just, plex_of, break_off_of, number_behind}
-use Rattle.vx_script_words.specs.declared.class.Class.{Class}
-use Rattle.vx_script_words.specs.declared.class.Sort.{Sort}
-use Rattle.vx_script_words.specs.declared.value.DiskAt.{DiskAt}
-use Rattle.vx_script_words.specs.declared.value.Value.{Value}
-use Rattle.vx_script_words.proofs.Packing.{take_front, drop_front, up_to_is, past_is}
-use Rattle.vx_script_words.proofs.Plain.{is_dark, is_dark_word, is_not, all_by, name_without, name_dark, name_parts, name_word}
-use Rattle.std.specs.Str.{bytes_eq}
-use Rattle.vx_script.specs.Kept.{maybe_cut}
-use Rattle.vx_script_forms.specs.Table.{items_of}
-use Rattle.vx_script_forms.specs.declared.kind.Kind.{Kind}
-use Rattle.vx_script_words.specs.Row.{So, one, taken, with_value, or_else, further, gather, pushed, joined, said, at_least_one, any_name, item, items, row, Read, and_then, line_end, cut_end, uncut, nothing_left}
-use Rattle.vx_script_words.specs.Spelling.{Spells}
-use Rattle.vx_script_words.specs.Words.{from_word, first_word, past_word}
-use Rattle.vx_script_words.specs.declared.class.Item.{Item}
-use Rattle.vx_script_words.specs.declared.key.Key.{Key}
-use Rattle.vx_script_words.proofs.Spelled.{few_words}
-use Rattle.vx_script_words.proofs.Walk.{Words, Walked, Test, accepts, is_named, after, some_words, group_words, on, walk}
-
-pub left_of : (a b : Bool) → (a && b) ≡ true → a ≡ true
-left_of a b h = (and_parts a b h).0
-
-pub right_of : (a b : Bool) → (a && b) ≡ true → b ≡ true
-right_of a b h = (and_parts a b h).1
-
--- both sides of a test, and a test of both
-pub ruleset ands = (left_of, right_of, and_from)
-
-pub all_that : {X : Type 0} (p q : X → Bool) → ((x : X) → p x ≡ true → q x ≡ true) → (xs : List X) → list_all p xs ≡ true → list_all q xs ≡ true
-all_that p q each [] h = refl
-all_that p q each (x ∷ xs) h = and_from _ _ (each x (search ands)) (all_that p q each xs (search ands))
+use Rattle.vx_script_print.proofs.Terms.{◌≡◌, ◌∙◌, sym, ap, refl, ℕ, zero, suc, ◌-◌, ◌*◌, ◌/◌, ◌%◌, ◌^◌, ◌<◌, ◌≤◌, inl, inr, Bool, true, false, List, [], ◌∷◌, ◌++◌, length, take, drop, arith, Option, Some, None, subst, map, Ok, Err, ltb-true, eq-eqb, cond, codes, decimal, is_some, not, nat_le, nat_lt, ◌==◌, ◌&&◌, ◌||◌, is_none, list_all, and_parts, not-true, and_from, or_cases, both_ways, cond-true, cond-false, eqb-true, and_left, and_right, or_from, false_from_ne_true, ne_eqb, true_from_ne_false, nat_tests, append-nil, append_assoc, length-append, take_all, drop_all, length-take, length-drop, length-map, map-id, take-append-drop, list_all-append, list_all-map, bytes_eq-Decides, word_again, AreBytes, spelled_block, is_hex_digit, is_short_word, is_long_word, is_block_word, byte_value, hex, hex_digit, block_word, is_name, is_name_byte, numeral_front, digits_value, numeral_before, decimal_number, decimal_numeral, decimal_value, decimal_name, decimal_short, value_text, class_word, plex_text, cut_blocks, words_of, row_words, cut_words, class_value, sort_value, value_behind, as_name, as_number, as_pair, is_between, is_byte, is_pair, is_of, maybe_name, pair_word, are_blocks, of_item, are_of, byte_of, block_of, text_of, number_of, within, units_of, length_of, behind, name_of, name_behind, cut_of, pair_of, just, plex_of, break_off_of, number_behind, Class, Sort, DiskAt, Value, take_front, drop_front, up_to_is, past_is, is_dark, is_dark_word, is_not, all_by, name_without, name_dark, name_parts, name_word, ands, right_of, bytes_eq, maybe_cut, items_of, Kind, So, one, taken, with_value, or_else, further, gather, pushed, joined, said, at_least_one, any_name, item, items, row, Read, and_then, line_end, cut_end, uncut, nothing_left, Spells, from_word, first_word, past_word, Item, Key, few_words, Words, Walked, accepts, is_named, group_words, on, walk, is_fixed, other_word, refused_again}
+use Rattle.vx_script_print.proofs.Printing.{cut_length}
 
 -- ---- bytes without blanks
 
--- some bytes, none of them a blank
-pub record IsText (w : List ℕ) : Type 0 where
-  pub some : 0 < length w
-  pub dark : list_all is_dark w ≡ true
+pub word_bytes : (w : List ℕ) → is_dark_word w ≡ true → list_all is_dark w ≡ true
+word_bytes [] h = refl
+word_bytes (b ∷ bs) h = h
 
-pub text_word : (w : List ℕ) → IsText w → is_dark_word w ≡ true
-text_word [] t = absurd (omega (arith, t.some))
-text_word (b ∷ bs) t = t.dark
-
+-- a word with dark bytes behind it, and one behind them
 dark_both : (x y : List ℕ) → list_all is_dark x ≡ true → list_all is_dark y ≡ true → list_all is_dark (x ++ y) ≡ true
 dark_both x y h k = list_all-append is_dark x y ∙ and_from _ _ h k
 
-more_some : (x y : List ℕ) → 0 < length x → 0 < length (x ++ y)
-more_some x y h = omega (arith, h, length-append x y)
+word_more : (x y : List ℕ) → is_dark_word x ≡ true → list_all is_dark y ≡ true → is_dark_word (x ++ y) ≡ true
+word_more [] y h k = absurd (both_ways false refl h)
+word_more (b ∷ bs) y h k = dark_both (b ∷ bs) y h k
 
-name_some : (w : List ℕ) → is_name w ≡ true → 0 < length w
-name_some [] h = absurd (both_ways false refl h)
-name_some (b ∷ bs) h = omega arith
+word_behind : (x y : List ℕ) → list_all is_dark x ≡ true → is_dark_word y ≡ true → is_dark_word (x ++ y) ≡ true
+word_behind [] y h k = k
+word_behind (b ∷ bs) y h k = dark_both (b ∷ bs) y h (word_bytes y k)
 
-ruleset shown = (ands, name_some, more_some, name_dark, dark_both)
+ruleset shown = (ands, name_word, word_more, name_dark, dark_both)
 
 -- ---- names
 
@@ -90,7 +36,7 @@ pair_said pair h =
     let clean = name_without 61 (λ b plain e. plain.no_equals e) pair.disk (search ands) in
     cond-false _ _ _ (not-true (is_some (cut_of (pair_word pair))) (search ands)) ∙ rw (append_assoc pair.disk (61 ∷ []) pair.device, up_to_is 61 pair.disk pair.device clean, past_is 61 pair.disk pair.device clean, name_said pair.disk (search ands), name_said pair.device (search ands)) refl
 
-pub pair_shown : (pair : DiskAt) → is_pair pair ≡ true → IsText (pair_word pair)
+pair_shown : (pair : DiskAt) → is_pair pair ≡ true → is_dark_word (pair_word pair) ≡ true
 pair_shown pair h = search shown
 
 -- behind the last `/` of what a break-off names
@@ -102,9 +48,6 @@ plex_rest (Some plex) = codes "plex=" ++ plex
 plex_shown : (plex : Option (List ℕ)) → maybe_name plex ≡ true → (plex_text plex ≡ 47 ∷ plex_rest plex) × (plex_of (plex_rest plex) ≡ Some plex) × (list_all is_dark (plex_text plex) ≡ true)
 plex_shown None h = (refl, refl, refl)
 plex_shown (Some plex) h = (refl, ap (λ o. just (name_behind o)) (behind_front (codes "plex=") plex) ∙ ap just (name_said plex h), name_dark plex h)
-
-break_shown : (vol snap : List ℕ) (plex : Option (List ℕ)) → is_name vol ≡ true → is_name snap ≡ true → maybe_name plex ≡ true → IsText (vol ++ codes "/newvol=" ++ snap ++ plex_text plex)
-break_shown vol snap plex v s p = let last = (plex_shown plex p).2 in search shown
 
 break_off_said : (vol snap : List ℕ) (plex : Option (List ℕ)) → is_name vol ≡ true → is_name snap ≡ true → maybe_name plex ≡ true → break_off_of (vol ++ codes "/newvol=" ++ snap ++ plex_text plex) ≡ Some (Value.BreakOff vol snap plex)
 break_off_said vol snap plex v s p =
@@ -118,9 +61,6 @@ break_off_said vol snap plex v s p =
 
 pub number_said : (n : ℕ) → n < 2 ^ 40 → number_of (decimal n) ≡ Some n
 number_said n h = cond-true _ _ _ (decimal_number n h) ∙ ap Some (decimal_value n (omega (arith, h)))
-
-decimal_shown : (n : ℕ) → n < 2 ^ 64 → IsText (decimal n)
-decimal_shown n h = let name = decimal_name n h in search shown
 
 pub ranged_said : (low high n : ℕ) → n < 2 ^ 40 → is_between low high n ≡ true → within low high (number_of (decimal n)) ≡ Some n
 ranged_said low high n small h = ap (within low high) (number_said n small) ∙ cond-true _ _ _ h
@@ -181,18 +121,14 @@ abbrev is_fair : Sort → Bool
 is_fair (Sort.Number low high) = nat_le high (2 ^ 40 - 1)
 is_fair s = true
 
-abbrev pub is_fixed : Sort → Bool
-is_fixed Sort.Word = true
-is_fixed s = false
-
 -- a front without blanks, which is some bytes where nothing follows it
 abbrev pub is_fair_class : Class → Bool
-is_fair_class c = list_all is_dark (text_of c.front) && (is_fair c.sort && (not (is_fixed c.sort) || nat_lt 0 (length (text_of c.front))))
+is_fair_class c = list_all is_dark (text_of c.front) && (is_fair c.sort && (not (is_fixed c.sort) || is_dark_word (text_of c.front)))
 
 -- the text behind a front: none behind a fixed word
 abbrev IsBehind : Bool → List ℕ → Type 0
 IsBehind true w = w ≡ []
-IsBehind false w = IsText w
+IsBehind false w = is_dark_word w ≡ true
 
 -- the text of a value says it, and has no blank
 record Shown (s : Sort) (v : Value) : Type 0 where
@@ -202,13 +138,13 @@ record Shown (s : Sort) (v : Value) : Type 0 where
 value_shown : (s : Sort) (v : Value) → is_fair s ≡ true → is_of s v ≡ true → Shown s v
 value_shown Sort.Word Value.Word f h = record { says = refl; text = refl }
 value_shown Sort.Named (Value.Named name) f h = record { says = ap as_name (name_said name h); text = search shown }
-value_shown (Sort.Number low high) (Value.Number n) f h = record { says = ap as_number (ranged_said low high n (grind (arith, nat_tests)) h); text = decimal_shown n (grind (arith, nat_tests)) }
-value_shown Sort.Length (Value.Number n) f h = record { says = ap as_number (length_said n (grind (arith, nat_tests)) h); text = decimal_shown n (grind (arith, nat_tests)) }
+value_shown (Sort.Number low high) (Value.Number n) f h = record { says = ap as_number (ranged_said low high n (grind (arith, nat_tests)) h); text = name_word (decimal n) (decimal_name n (grind (arith, nat_tests))) }
+value_shown Sort.Length (Value.Number n) f h = record { says = ap as_number (length_said n (grind (arith, nat_tests)) h); text = name_word (decimal n) (decimal_name n (grind (arith, nat_tests))) }
 value_shown Sort.Byte (Value.Number n) f h =
     let same : n % 256 ≡ n = grind (arith, nat_tests) in
-    record { says = ap (λ m. as_number (byte_of (hex m))) same ∙ ap as_number (byte_said n (ltb-true n 256 h)); text = record { some = omega arith; dark = ap (λ m. list_all is_dark (hex m)) same ∙ all_by is_hex_digit is_dark hex_is_dark (hex n) (digits_hex n (ltb-true n 256 h)) } }
+    record { says = ap (λ m. as_number (byte_of (hex m))) same ∙ ap as_number (byte_said n (ltb-true n 256 h)); text = ap (λ m. list_all is_dark (hex m)) same ∙ all_by is_hex_digit is_dark hex_is_dark (hex n) (digits_hex n (ltb-true n 256 h)) }
 value_shown Sort.Pair (Value.Pair pair) f h = record { says = ap as_pair (pair_said pair h); text = pair_shown pair h }
-value_shown Sort.BreakOff (Value.BreakOff vol snap plex) f h = record { says = break_off_said vol snap plex (search ands) (search ands) (search ands); text = break_shown vol snap plex (search ands) (search ands) (search ands) }
+value_shown Sort.BreakOff (Value.BreakOff vol snap plex) f h = record { says = break_off_said vol snap plex (search ands) (search ands) (search ands); text = (let last = (plex_shown plex (search ands)).2 in search shown) }
 value_shown s v f h = absurd (both_ways false refl h)
 
 -- the word of a value of a class says it, and has no blank
@@ -220,11 +156,11 @@ pub class_shown : (c : Class) (v : Value) → is_fair_class c ≡ true → is_of
 unfolding class_value
 class_shown c v f h =
     let x = value_shown c.sort v (search ands) h in
-    record { says = ap (value_behind c.sort) (behind_front (text_of c.front) (value_text c.sort v)) ∙ x.says; dark = text_word (class_word c v) (with_front (is_fixed c.sort) (text_of c.front) (value_text c.sort v) (search ands) (search ands) x.text) }
+    record { says = ap (value_behind c.sort) (behind_front (text_of c.front) (value_text c.sort v)) ∙ x.says; dark = with_front (is_fixed c.sort) (text_of c.front) (value_text c.sort v) (search ands) (search ands) x.text }
   where
-    with_front : (q : Bool) (front w : List ℕ) → list_all is_dark front ≡ true → (not q || nat_lt 0 (length front)) ≡ true → IsBehind q w → IsText (front ++ w)
-    with_front true front w d h t = rw (t, append-nil) (record { some = ltb-true 0 (length front) h; dark = d })
-    with_front false front w d h t = record { some = omega (arith, t.some, length-append front w); dark = dark_both front w d t.dark }
+    with_front : (q : Bool) (front w : List ℕ) → list_all is_dark front ≡ true → (not q || is_dark_word front) ≡ true → IsBehind q w → is_dark_word (front ++ w) ≡ true
+    with_front true front w d h t = rw (t, append-nil) h
+    with_front false front w d h t = word_behind front w d t
 
 -- the first of the words, or nothing
 abbrev head_word : List (List ℕ) → List ℕ
@@ -358,11 +294,10 @@ module _ {X A : Type 0} (say : List ℕ → Option X) (put : A → X → A) (wor
 -- the blocks that so many bytes are cut into
 record AreBlocks (n : ℕ) (bytes : List ℕ) : Type 0 where
   pub good : list_all is_one_block (cut_blocks n bytes) ≡ true
-  pub count : length (cut_blocks n bytes) ≡ n
   pub whole : (all : List ℕ) → puts joined all (cut_blocks n bytes) ≡ all ++ bytes
 
 cut_up : (n : ℕ) (bytes : List ℕ) → length bytes ≡ 512 * n → list_all is_byte bytes ≡ true → AreBlocks n bytes
-cut_up zero [] e h = record { good = refl; count = refl; whole = λ all. sym (append-nil all) }
+cut_up zero [] e h = record { good = refl; whole = λ all. sym (append-nil all) }
 cut_up zero (b ∷ bs) e h = absurd (omega (arith, e))
 cut_up (suc n) bytes e h =
     let parts = and_parts (list_all is_byte (take 512 bytes)) (list_all is_byte (drop 512 bytes)) (sym (list_all-append is_byte (take 512 bytes) (drop 512 bytes)) ∙ ap (list_all is_byte) (take-append-drop 512 bytes) ∙ h) in
@@ -370,21 +305,14 @@ cut_up (suc n) bytes e h =
     let more = cut_up n (drop 512 bytes) (omega (arith, length-drop 512 bytes, e)) parts.1 in
     record {
       good = and_from _ _ (and_from _ _ (eq-eqb (length (take 512 bytes)) 512 size) parts.0) more.good;
-      count = ap suc more.count;
       whole = λ all. more.whole (all ++ take 512 bytes) ∙ append_assoc all (take 512 bytes) (drop 512 bytes) ∙ ap (λ t. all ++ t) (take-append-drop 512 bytes);
     }
 
--- 1 to 64 blocks
-record Whole (bytes : List ℕ) : Type 0 where
-  pub more : ℕ
-  pub few : more ≤ 63
-  pub count : length bytes / 512 ≡ suc more
-  pub blocks : AreBlocks (suc more) bytes
-
-whole_blocks : (bytes : List ℕ) → are_blocks bytes ≡ true → Whole bytes
+-- one block, and at most 63 more
+whole_blocks : (bytes : List ℕ) → are_blocks bytes ≡ true → (more : ℕ) × (more ≤ 63) × (length bytes / 512 ≡ suc more) × AreBlocks (suc more) bytes
 whole_blocks bytes h =
     let size : length bytes ≡ 512 * suc (length bytes / 512 - 1) = grind (arith, nat_tests) in
-    record { more = length bytes / 512 - 1; few = grind (arith, nat_tests); count = grind (arith, nat_tests); blocks = cut_up (suc (length bytes / 512 - 1)) bytes size (search ands) }
+    (length bytes / 512 - 1, grind (arith, nat_tests), grind (arith, nat_tests), cut_up (suc (length bytes / 512 - 1)) bytes size (search ands))
 
 -- ---- parts
 
@@ -404,7 +332,7 @@ part_said Item.Group is Value.Nothing ws f h = (refl, λ none t old s. (t, cond-
 part_said Item.Group is (Value.Named name) ws f h = (and_from _ _ (name_word name h) refl, λ none t old s. (past_word (from_word (past_word (from_word t))), cond-true _ _ _ (ap (λ w. bytes_eq w (codes "-g")) s.1) ∙ one_is any_name old (past_word (from_word t)) (name ∷ ws) (Some (Value.Named name)) s.2 (class_shown any_name (Value.Named name) refl h).says, s.2.2))
 part_said Item.NoGroup is Value.Nothing ws f h = (refl, λ none t old s. (t, refl, s))
 part_said Item.Names is (Value.Names names) ws f h = (
-  all_that is_name is_dark_word name_word names h,
+  all_by is_name is_dark_word name_word names h,
   λ none t old s.
       let few : length names ≤ length t = omega (arith, few_words t (names ++ ws) s, length-append names ws) in
       let g = gathers name_of pushed (λ w. w) is_name name_said ws none (length t) names [] t h few (subst (λ xs. Spells t (xs ++ ws)) (sym (map-id names)) s) in
@@ -412,7 +340,7 @@ part_said Item.Names is (Value.Names names) ws f h = (
 )
 part_said Item.Pairs is (Value.Pairs (p ∷ ps)) ws f h =
     let good = right_of (nat_lt 0 (length (p ∷ ps))) (list_all is_pair (p ∷ ps)) h in (
-      list_all-map is_dark_word pair_word (p ∷ ps) ∙ all_that is_pair (λ q. is_dark_word (pair_word q)) (λ q k. text_word (pair_word q) (pair_shown q k)) (p ∷ ps) good,
+      list_all-map is_dark_word pair_word (p ∷ ps) ∙ all_by is_pair (λ q. is_dark_word (pair_word q)) pair_shown (p ∷ ps) good,
       λ none t old s.
           let few : length ps ≤ length (past_word (from_word t)) = omega (arith, few_words (past_word (from_word t)) (map pair_word ps ++ ws) s.2, length-append (map pair_word ps) ws, length-map ps pair_word) in
           let g = some_gather pair_of pushed pair_word is_pair pair_said ws none (length (past_word (from_word t))) p ps (λ x. x ∷ []) Value.Pairs old t good few s in
@@ -420,10 +348,10 @@ part_said Item.Pairs is (Value.Pairs (p ∷ ps)) ws f h =
     )
 part_said Item.Blocks is (Value.Blocks bytes) ws f h =
     let w = whole_blocks bytes h in (
-      ap (λ n. list_all is_dark_word (map block_word (cut_blocks n bytes))) w.count ∙ list_all-map is_dark_word block_word (cut_blocks (suc w.more) bytes) ∙ all_that is_one_block (λ b. is_dark_word (block_word b)) block_is_word (cut_blocks (suc w.more) bytes) w.blocks.good,
+      ap (λ n. list_all is_dark_word (map block_word (cut_blocks n bytes))) w.2 ∙ list_all-map is_dark_word block_word (cut_blocks (suc w.0) bytes) ∙ all_by is_one_block (λ b. is_dark_word (block_word b)) block_is_word (cut_blocks (suc w.0) bytes) w.3.good,
       λ none t old s.
-          let g = some_gather block_of joined block_word is_one_block block_said ws none 63 (take 512 bytes) (cut_blocks w.more (drop 512 bytes)) (λ b. b) Value.Blocks old t w.blocks.good (omega (arith, w.few, w.blocks.count)) (subst (λ (n : ℕ). Spells t (map block_word (cut_blocks n bytes) ++ ws)) w.count s) in
-          (g.0, g.1 ∙ ap (λ xs. Ok (with_value old (Value.Blocks xs) g.0)) (w.blocks.whole []), g.2),
+          let g = some_gather block_of joined block_word is_one_block block_said ws none 63 (take 512 bytes) (cut_blocks w.0 (drop 512 bytes)) (λ b. b) Value.Blocks old t w.3.good (omega (arith, w.1, cut_length w.0 (drop 512 bytes))) (subst (λ (n : ℕ). Spells t (map block_word (cut_blocks n bytes) ++ ws)) w.2 s) in
+          (g.0, g.1 ∙ ap (λ xs. Ok (with_value old (Value.Blocks xs) g.0)) (w.3.whole []), g.2),
     )
 part_said i is v ws f h = absurd (both_ways false refl h)
 
@@ -485,27 +413,19 @@ are_apart b is js = false
 -- a fixed word is its front
 fixed_is : (k : Key) (s : Sort) (w : List ℕ) → is_fixed s ≡ true → accepts (record { front = k; sort = s }) w ≡ true → w ≡ text_of k
 unfolding class_value
-fixed_is k Sort.Word w f a = by_front (bytes_eq (take (length (text_of k)) w) (text_of k)) (drop (length (text_of k)) w) refl refl a
-  where
-    by_front : (q : Bool) (rest : List ℕ) → bytes_eq (take (length (text_of k)) w) (text_of k) ≡ q → drop (length (text_of k)) w ≡ rest → is_some (value_behind Sort.Word (cond q (Some rest) None)) ≡ true → w ≡ text_of k
-    by_front true [] same none a = sym (take-append-drop (length (text_of k)) w) ∙ ap (λ r. take (length (text_of k)) w ++ r) none ∙ append-nil (take (length (text_of k)) w) ∙ (bytes_eq-Decides _ (text_of k)).0 same
-    by_front q rest same none a = absurd cc
+fixed_is k Sort.Word w f a = (bytes_eq-Decides w (text_of k)).0 (true_from_ne_false _ (λ other. both_ways _ (ap is_some (other_word (text_of k) w other)) a))
 fixed_is k s w f a = absurd cc
 
 one_fits : (q : Bool) (w : List ℕ) (ws k : Words) (f : Words → Walked) → on (cond q (Ok ws) (Err (w ∷ ws))) f ≡ Ok k → (q ≡ true) × (f ws ≡ Ok k)
 one_fits true w ws k f e = (refl, e)
 one_fits false w ws k f e = absurd cc
 
-stays : (n : ℕ) (p : Test) (w : List ℕ) (ws : Words) → p w ≡ false → some_words n p (w ∷ ws) ≡ w ∷ ws
-stays zero p w ws e = refl
-stays (suc n) p w ws e = ap (λ r. after r (some_words n p) (w ∷ ws)) (cond-false _ _ _ e)
-
 refused : (b : Bool) (is : List Item) (w : List ℕ) (ws k : Words) → refuses b is w ≡ true → walk b is (w ∷ ws) ≡ Ok k → ⊥
 refused true [] w ws k r e = let bad = sym (cond-false _ _ _ (not-true (is_some (cut_of w)) r)) ∙ e in cc
 refused false [] w ws k r e = cc
 refused b (Item.One c ∷ is) w ws k r e = both_ways (accepts c w) (not-true (accepts c w) r) (one_fits (accepts c w) w ws k (walk b is) e).0
-refused b (Item.Maybe c ∷ is) w ws k r e = refused b is w ws k (search ands) (sym (ap (walk b is) (stays 1 (accepts c) w ws (not-true (accepts c w) (search ands)))) ∙ e)
-refused b (Item.Names ∷ is) w ws k r e = refused b is w ws k (search ands) (sym (ap (walk b is) (stays (length (w ∷ ws)) is_named w ws (not-true (is_named w) (search ands)))) ∙ e)
+refused b (Item.Maybe c ∷ is) w ws k r e = refused b is w ws k (search ands) (sym (ap (walk b is) (refused_again 0 (accepts c) w ws (not-true (accepts c w) (search ands)))) ∙ e)
+refused b (Item.Names ∷ is) w ws k r e = refused b is w ws k (search ands) (sym (ap (walk b is) (refused_again (length ws) is_named w ws (not-true (is_named w) (search ands)))) ∙ e)
 refused b (i ∷ is) w ws k r e = both_ways false refl r
 
 -- a fixed word of the second row

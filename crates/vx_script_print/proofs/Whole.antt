@@ -1,50 +1,7 @@
 -- A reader goes over the printed text of a script line by line, and has its commands at the end.
-use Rattle.std.proofs.Common.{◌≡◌, ◌∙◌, sym, ap, subst, refl, ℕ, ◌+◌, ◌<◌, inl, inr, true, false, List, [], ◌∷◌, ◌++◌, length, arith, Option, None, Ok, ◌≤◌, Bool, map, Some, min, Result, Err}
-use Rattle.std.specs.Prelude.{codes, is_none, ◌==◌, decimal, ◌&&◌, nat_le}
-use Rattle.std.specs.List.{list_all, flat_map, sum}
-use Rattle.std.specs.Str.{bytes_eq}
-use Rattle.std.proofs.lemmas.List.{append-nil, append_assoc}
-use Rattle.std.proofs.lemmas.List.Folds.{list_all-append}
-use Rattle.std.proofs.lemmas.Bool.{and_parts, and_from, both_ways, cases_Bool, cond-true, cond-false, eqb-true, ltb-true, ne_eqb, not-true, not_from_false, or_from, false_from_ne_true, leb-true, le-leb}
-use Rattle.vx_script.specs.Kept.{is_made, is_record_line, ends_line, is_said, is_line, is_command, is_kept, is_body, maybe_cut}
-use Rattle.vx_script.specs.Lines.{lines_from, lines_of, bad_word, begins_comment, is_passed_over}
-use Rattle.vx_script.specs.Script.{commands_from, stepped, script_of}
-use Rattle.vx_script.specs.Steps.{step, or_bad, command_step, opened, opened_by, line_behind, called, administered, session_line, line_of_session, added, line_calls, line_sectors}
-use Rattle.vx_script.specs.declared.command.Command.{Command}
-use Rattle.vx_script.specs.declared.reader.Reader.{Reader}
-use Rattle.vx_script_words.specs.Spelling.{Spells, spelled, begun}
-use Rattle.vx_script_words.specs.Words.{is_not_blank, from_word, first_word, past_word}
-use Rattle.vx_script_words.proofs.Plain.{is_dark, is_dark_word, is_not, all_by, name_word}
-use Rattle.vx_script_words.proofs.Spelled.{is_word, begun_words}
-use Rattle.vx_script_print.proofs.Rows.{ands, all_that, left_of, right_of, number_said, may_end, row_read, line_dark, all_clear, are_apart, rows_apart}
-use Rattle.vx_script.specs.declared.reader.Open.{Open}
-use Rattle.std.proofs.lemmas.List.Sums.{sum_by-cons}
-use Rattle.std.proofs.lemmas.Slice.Eq.{bytes_eq-Decides}
-use Rattle.vx_names.specs.Form.{is_name, is_letter_or_digit}
-use Rattle.vx_names.proofs.Numbers.{decimal_name}
-use Rattle.vx_script.specs.Choice.{choose, choice, or_others}
-use Rattle.vx_script.proofs.Placed.{In}
-use Rattle.vx_script_forms.specs.FormOf.{form_of}
-use Rattle.vx_script_forms.specs.Table.{items_of, commands, calls, acts}
+use Rattle.vx_script_print.proofs.Terms.{◌≡◌, ◌∙◌, sym, ap, subst, refl, ℕ, ◌+◌, ◌<◌, inl, inr, true, false, List, [], ◌∷◌, ◌++◌, length, arith, Option, None, Ok, ◌≤◌, Bool, map, Some, min, Result, Err, codes, ◌==◌, decimal, ◌&&◌, nat_le, list_all, flat_map, sum, bytes_eq, append-nil, append_assoc, list_all-append, and_parts, and_from, both_ways, cases_Bool, cond-true, cond-false, eqb-true, ltb-true, ne_eqb, not-true, not_from_false, or_from, false_from_ne_true, leb-true, le-leb, is_made, is_record_line, ends_line, is_said, is_line, is_command, is_kept, is_body, maybe_cut, lines_from, lines_of, bad_word, begins_comment, is_passed_over, commands_from, stepped, script_of, step, or_bad, command_step, opened, opened_by, line_behind, called, administered, session_line, line_of_session, added, line_calls, line_sectors, Command, Reader, Spells, spelled, begun, is_not_blank, from_word, first_word, past_word, is_dark, is_dark_word, is_not, all_by, name_word, ands, left_of, right_of, is_word, begun_words, Open, sum_by-cons, bytes_eq-Decides, is_name, is_letter_or_digit, decimal_name, choose, choice, or_others, In, in_all, fit_walks, is_sound, sound_commands, form_of, items_of, commands, calls, acts, kind_of, values_of, opening, act_kind, call_kind, Act, Call, Line, Form, Kind, form_again, group_again, class_word, value_text, row_words, form_words, cut_words, line_text, body_text, command_text, script_text, class_value, are_of, is_between, text_of, number_of, within, and_then, Read, row, Item, Value, are_sound, Words, whole_line, no_bad}
+use Rattle.vx_script_print.proofs.Rows.{number_said, may_end, row_read, line_dark, all_clear, are_apart, rows_apart, word_bytes}
 use Rattle.vx_script_forms.specs.Values.{maybe_name}
-use Rattle.vx_script_forms.specs.ValuesOf.{kind_of, values_of, opening, act_kind, call_kind}
-use Rattle.vx_script_forms.specs.declared.act.Act.{Act}
-use Rattle.vx_script_forms.specs.declared.call.Call.{Call}
-use Rattle.vx_script_forms.specs.declared.block.Line.{Line}
-use Rattle.vx_script_forms.specs.declared.form.Form.{Form}
-use Rattle.vx_script_forms.specs.declared.kind.Kind.{Kind}
-use Rattle.vx_script_forms.proofs.Forms.{form_again, group_again}
-use Rattle.vx_script_print.specs.Text.{class_word, value_text, row_words, form_words, cut_words, line_text, body_text, command_text, script_text}
-use Rattle.vx_script_words.specs.Class.{class_value}
-use Rattle.vx_script_words.specs.Fits.{are_of, is_between}
-use Rattle.vx_script_words.specs.Key.{text_of}
-use Rattle.vx_script_words.specs.Number.{number_of, within}
-use Rattle.vx_script_words.specs.Row.{and_then, Read, row}
-use Rattle.vx_script_words.specs.declared.class.Item.{Item}
-use Rattle.vx_script_words.specs.declared.value.Value.{Value}
-use Rattle.vx_script_words.proofs.Lined.{Ends, row_walks}
-use Rattle.vx_script_words.proofs.Opens.{are_sound}
-use Rattle.vx_script_words.proofs.Walk.{Words, Walked, walk}
 
 -- behind the text the reader is the other one, whatever comes then
 abbrev pub Reaches : Reader → List ℕ → Reader → Type 0
@@ -61,17 +18,12 @@ and_on r s t x y f g n rest =
 
 -- ---- one line
 
-line_from : (begun_ line rest : List ℕ) → list_all (is_not 10) line ≡ true → lines_from begun_ (line ++ 10 ∷ rest) ≡ (begun_ ++ line) ∷ lines_from [] rest
-line_from begun_ [] rest h = ap (λ b. b ∷ lines_from [] rest) (sym (append-nil begun_))
-line_from begun_ (b ∷ bs) rest h =
-    cond-false _ _ _ (not-true (b == 10) (search ands)) ∙ line_from (begun_ ++ b ∷ []) bs rest (search ands) ∙ ap (λ t. t ∷ lines_from [] rest) (append_assoc begun_ (b ∷ []) bs)
-
 pub one_line : (r next : Reader) (line : List ℕ) → list_all (is_not 10) line ≡ true → step r line ≡ Ok next → Reaches r (line ++ 10 ∷ []) next
 unfolding lines_of
 one_line r next line h e n rest = (
   n + 1,
   ap (λ z. commands_from r n (lines_of z)) (append_assoc line (10 ∷ []) rest)
-      ∙ ap (commands_from r n) (line_from [] line rest h)
+      ∙ ap (commands_from r n) (whole_line [] line rest h)
       ∙ ap (λ s. stepped s (λ after. commands_from after (n + 1) (lines_of rest)) n line) e,
 )
 
@@ -81,10 +33,6 @@ then_end r middle last text f e =
     subst (λ t. Reaches r t last) (sym (append_assoc text (codes "end") (10 ∷ []))) (and_on r middle last text (codes "end" ++ 10 ∷ []) f (one_line middle last (codes "end") refl e))
 
 -- ---- a line of words
-
-word_bytes : (w : List ℕ) → is_dark_word w ≡ true → list_all is_dark w ≡ true
-word_bytes [] h = refl
-word_bytes (b ∷ bs) h = h
 
 other_byte : (c b : ℕ) → c < 33 → is_dark b ≡ true → (b == c) ≡ false
 other_byte c b low h = let above : 32 < b = ltb-true 32 b h in ne_eqb b c (λ e. omega (arith, above, e, low))
@@ -100,7 +48,7 @@ real_word (b ∷ bs) h = all_by is_dark is_not_blank (λ c d. not_from_false _ (
 
 -- a printed line has its words
 pub begun_spells : (ws : List (List ℕ)) → list_all is_dark_word ws ≡ true → Spells (begun ws) ws
-begun_spells ws h = begun_words ws (all_that is_dark_word is_word real_word ws h)
+begun_spells ws h = begun_words ws (all_by is_dark_word is_word real_word ws h)
 
 pub words_line : (r next : Reader) (ws : List (List ℕ)) → list_all is_dark_word ws ≡ true → step r (begun ws) ≡ Ok next → Reaches r (begun ws ++ 10 ∷ []) next
 words_line r next [] h e = one_line r next [] refl e
@@ -119,10 +67,6 @@ ends_rest : (b : ℕ) (bs : List ℕ) → ends_line (b ∷ bs) ≡ true → ends
 ends_rest b [] h = refl
 ends_rest b (c ∷ cs) h = h
 
-none_is : (o : Option ℕ) → is_none o ≡ true → o ≡ None
-none_is None h = refl
-none_is o h = absurd (both_ways false refl h)
-
 module _ (done : List Command) (group : Option (List ℕ)) (cut : Option ℕ) where
   abbrev pub making : List ℕ → Reader
   making text = record { done = done; begun = Open.Making group cut text }
@@ -130,7 +74,7 @@ module _ (done : List Command) (group : Option (List ℕ)) (cut : Option ℕ) wh
   record_step : (text line : List ℕ) → is_record_line line ≡ true → step (making text) line ≡ Ok (making (text ++ line ++ 10 ∷ []))
   unfolding step
   record_step text line h =
-      cond-false _ _ _ (not-true (bytes_eq line (codes "end")) (search ands)) ∙ ap (λ o. or_bad o (making (text ++ line ++ 10 ∷ []))) (none_is (bad_word line) (search ands))
+      cond-false _ _ _ (not-true (bytes_eq line (codes "end")) (search ands)) ∙ ap (λ o. or_bad o (making (text ++ line ++ 10 ∷ []))) (no_bad (bad_word line) (search ands))
 
   -- the bytes that are left, behind those of a begun line
   takes : (text begun bs : List ℕ) → list_all is_record_line (lines_from begun bs) ≡ true → ends_line bs ≡ true → (bs ≡ [] → begun ≡ []) → (n : ℕ) (rest : List ℕ) → (k : ℕ) × (commands_from (making text) n (lines_from begun (bs ++ rest)) ≡ commands_from (making (text ++ (begun ++ bs))) k (lines_from [] rest))
@@ -179,23 +123,8 @@ in_acts (Act.SnapMake vol snap plex) = inl refl
 in_acts (Act.Snapback snap true) = inr (inr (inr (inr (inl refl))))
 in_acts a = search (inl, inr) depth 60 fits 4000
 
-in_list : (p : Kind → Bool) (ks : List Kind) (k : Kind) → list_all p ks ≡ true → In k ks → p k ≡ true
-in_list p [] k h i = absurd i
-in_list p (x ∷ xs) k h (inl e) = ap p e ∙ left_of (p x) (list_all p xs) h
-in_list p (x ∷ xs) k h (inr i) = in_list p xs k (search ands) i
-
 all_sound : (k : Kind) → are_sound (items_of k) ≡ true
-unfolding class_value
-all_sound Kind.Read = refl
-all_sound k = refl
-
--- the words of a line that is of these parts
-fit_words : (b : Bool) (k : Kind) (t : List ℕ) (ws : Words) (read : Read) → Spells t ws → row b (items_of k) t ≡ Ok read → (left : Words) × (walk b (items_of k) ws ≡ Ok left)
-fit_words b k t ws read s e = by_walk (walk b (items_of k) ws) refl (subst (λ (r : Result Read ℕ). Ends t ws r (walk b (items_of k) ws)) e (row_walks b (items_of k) t ws (all_sound k) s))
-  where
-    by_walk : (w : Walked) → walk b (items_of k) ws ≡ w → Ends t ws (let r : Result Read ℕ = Ok read in r) w → (left : Words) × (walk b (items_of k) ws ≡ Ok left)
-    by_walk (Ok left) e ends = (left, e)
-    by_walk (Err bad) e ends = absurd ends
+all_sound k = in_all is_sound k commands (in_commands k) sound_commands
 
 -- a line of a kind's parts is of that kind
 chosen : (b : Bool) (ks : List Kind) (k : Kind) (t : List ℕ) (ws : Words) (read : Read) (n : ℕ) → all_two b ks ≡ true → In k ks → Spells t ws → row b (items_of k) t ≡ Ok read → choice b ks t n ≡ Ok (record { kind = k; values = read.values; cut = read.cut })
@@ -205,7 +134,7 @@ chosen b (x ∷ xs) k t ws read n two (inr i) s says = by_row (row b (items_of x
   where
     by_row : (g : Result Read ℕ) → row b (items_of x) t ≡ g → ((m : ℕ) → choice b xs t m ≡ Ok (record { kind = k; values = read.values; cut = read.cut })) → or_others g x (choice b xs t) n ≡ Ok (record { kind = k; values = read.values; cut = read.cut })
     by_row (Err less) e more = more (min n less)
-    by_row (Ok other) e more = absurd (rows_apart b (items_of x) (items_of k) ws _ _ (in_list (λ j. are_apart b (items_of x) (items_of j)) xs k (search ands) i) (fit_words b x t ws other s e).1 (fit_words b k t ws read s says).1)
+    by_row (Ok other) e more = absurd (rows_apart b (items_of x) (items_of k) ws _ _ (in_all (λ j. are_apart b (items_of x) (items_of j)) k xs i (search ands)) (fit_walks b x t ws other (all_sound x) s e).1 (fit_walks b k t ws read (all_sound k) s says).1)
 
 -- ---- a line
 

@@ -43,14 +43,7 @@ one_gains class values text s e = by_value (class_value class (first_word (from_
 
 pub also_maybe : (s : Sort) (v : Value) → is_of s v ≡ true → maybe_of s v ≡ true
 also_maybe s value.Nothing h = refl
-also_maybe s value.Word h = h
-also_maybe s (value.Named name) h = h
-also_maybe s (value.Number n) h = h
-also_maybe s (value.Pair pair) h = h
-also_maybe s (value.BreakOff vol snap plex) h = h
-also_maybe s (value.Names names) h = h
-also_maybe s (value.Pairs pairs) h = h
-also_maybe s (value.Blocks bytes) h = h
+also_maybe s v h = h
 
 maybe_gains : (class : Class) (values : List Value) (text : List ℕ) (s : So) → maybe class values text ≡ Ok s → Gains (maybe_of class.sort) values s
 maybe_gains class values text s e = by_one (one class values text) (one_gains class values text) e

@@ -205,16 +205,12 @@ end_step true s (w ∷ ws) h =
         ends_behind s.rest (past_word (from_word s.rest)) (w ∷ ws) ws (ends read (past_word (from_word s.rest))) (no_words ws) (past_first s.rest w ws h) (no_step read (past_word (from_word s.rest)) ws h.2)
 
 rest_sound : (i : Item) (is : List Item) → are_sound (i ∷ is) ≡ true → are_sound is ≡ true
+rest_sound i [] h = refl
 rest_sound (One class) is h = (and_parts (is_sound_class class) _ h).1
 rest_sound (Maybe class) is h = (and_parts (is_sound_class class) _ h).1
 rest_sound Group is h = h
 rest_sound NoGroup is h = h
-rest_sound Names [] h = refl
-rest_sound Names (i ∷ is) h = absurd (true≢false (sym h))
-rest_sound Pairs [] h = refl
-rest_sound Pairs (i ∷ is) h = absurd (true≢false (sym h))
-rest_sound Blocks [] h = refl
-rest_sound Blocks (i ∷ is) h = absurd (true≢false (sym h))
+rest_sound i is h = absurd (true≢false (sym h))
 
 walk_step : (may_be_cut : Bool) (is : List Item) (s : So) (ws : Words) → are_sound is ≡ true → Spells s.rest ws → Ends s.rest ws (and_then (items is (Ok s)) (line_end may_be_cut)) (walk may_be_cut is ws)
 walk_step may_be_cut [] s ws g h = end_step may_be_cut s ws h

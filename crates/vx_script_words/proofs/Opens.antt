@@ -1,5 +1,5 @@
 -- The words before the first one that does not fit begin a line that fits.
-use Rattle.std.proofs.Common.{◌≡◌, ◌∙◌, sym, ap, subst, refl, ℕ, zero, suc, ◌+◌, ◌≤◌, Bool, true, false, cond, is_none, is_some, Ok, Err, List, [], ◌∷◌, ◌++◌, length, arith, codes}
+use Rattle.std.proofs.Common.{◌≡◌, ◌∙◌, sym, ap, refl, ℕ, zero, suc, ◌+◌, ◌≤◌, Bool, true, false, cond, is_none, is_some, Ok, Err, List, [], ◌∷◌, ◌++◌, length, arith, codes}
 use Rattle.std.specs.Prelude.{◌&&◌}
 use Rattle.std.specs.List.{list_all}
 use Rattle.std.specs.Str.{bytes_eq}
@@ -16,7 +16,7 @@ use Rattle.vx_script_words.specs.declared.class.Item.TheVariants.{One, Maybe, Gr
 use Rattle.vx_script_words.specs.declared.class.Sort.{Sort}
 use Rattle.vx_script_words.specs.declared.class.Sort.TheVariants as sort
 use Rattle.vx_script_words.proofs.Spelled.{is_word}
-use Rattle.vx_script_words.proofs.Walk.{Words, Walked, Test, accepts, is_named, is_paired, is_blocked, both_on, one_word, after, some_words, no_words, end_words, on, walk, enough}
+use Rattle.vx_script_words.proofs.Walk.{Words, Walked, Test, accepts, is_named, is_paired, is_blocked, both_on, one_word, after, some_words, no_words, end_words, on, walk, same_err, enough}
 
 -- a word of the sort, and one of the class
 abbrev pub sample : Sort → List ℕ
@@ -86,10 +86,6 @@ block_accepted = refl
 one_taken : (p : Test) (w : List ℕ) (ws : Words) → p w ≡ true → one_word p (w ∷ ws) ≡ Ok ws
 one_taken p w ws t = cond-true _ _ _ t
 
-last_is : (is : List Item) → is_last is ≡ true → is ≡ []
-last_is [] h = refl
-last_is (i ∷ is) h = absurd cc
-
 end_fits : (may_be_cut : Bool) → HasLeft (end_words may_be_cut) []
 end_fits false = record { left = []; is = refl }
 end_fits true = record { left = []; is = refl }
@@ -108,11 +104,10 @@ all_fit may_be_cut (Group ∷ is) h =
     let rest = all_fit may_be_cut is h in
     record { left = rest.left; is = ap (λ (r : Walked). on r (walk may_be_cut is)) (one_taken (accepts any_name) (codes "x") (examples is) name_accepted) ∙ rest.is }
 all_fit may_be_cut (NoGroup ∷ is) h = all_fit may_be_cut is h
-all_fit may_be_cut (Names ∷ is) h = subst (λ (x : List Item). HasLeft (walk may_be_cut (Names ∷ x)) (examples (Names ∷ x))) (sym (last_is is h)) (record { left = (end_fits may_be_cut).left; is = (end_fits may_be_cut).is })
-all_fit may_be_cut (Pairs ∷ is) h = subst (λ (x : List Item). HasLeft (walk may_be_cut (Pairs ∷ x)) (examples (Pairs ∷ x))) (sym (last_is is h)) (record { left = (end_fits may_be_cut).left; is = (end_fits may_be_cut).is })
-all_fit may_be_cut (Blocks ∷ is) h =
-    let one = ap (λ (r : Walked). on (on r (λ vs. Ok (some_words 63 is_blocked vs))) (walk may_be_cut [])) (one_taken is_blocked (codes "=00") [] block_accepted) in
-    subst (λ (x : List Item). HasLeft (walk may_be_cut (Blocks ∷ x)) (examples (Blocks ∷ x))) (sym (last_is is h)) (record { left = (end_fits may_be_cut).left; is = one ∙ (end_fits may_be_cut).is })
+all_fit may_be_cut (Names ∷ []) h = record { left = (end_fits may_be_cut).left; is = (end_fits may_be_cut).is }
+all_fit may_be_cut (Pairs ∷ []) h = record { left = (end_fits may_be_cut).left; is = (end_fits may_be_cut).is }
+all_fit may_be_cut (Blocks ∷ []) h = record { left = (end_fits may_be_cut).left; is = ap (λ (r : Walked). on (on r (λ vs. Ok (some_words 63 is_blocked vs))) (walk may_be_cut [])) (one_taken is_blocked (codes "=00") [] block_accepted) ∙ (end_fits may_be_cut).is }
+all_fit may_be_cut is h = absurd (true≢false (sym h))
 
 pub examples_real : (is : List Item) → are_sound is ≡ true → list_all is_word (examples is) ≡ true
 examples_real [] h = refl
@@ -124,9 +119,8 @@ examples_real (Maybe class ∷ is) h =
     and_from _ _ (sound_example class p.0).1 (examples_real is p.1)
 examples_real (Group ∷ is) h = examples_real is h
 examples_real (NoGroup ∷ is) h = examples_real is h
-examples_real (Names ∷ is) h = ap (λ (x : List Item). list_all is_word (examples x)) (last_is is h)
-examples_real (Pairs ∷ is) h = ap (λ (x : List Item). list_all is_word (examples x)) (last_is is h)
-examples_real (Blocks ∷ is) h = ap (λ (x : List Item). list_all is_word (examples x)) (last_is is h)
+examples_real (i ∷ []) h = refl
+examples_real is h = absurd (true≢false (sym h))
 
 -- ---- what begins a line that fits
 
@@ -138,9 +132,6 @@ pub record Opens (f : Words → Walked) (ws bad : Words) : Type 0 where
   pub real : list_all is_word more ≡ true
   pub left : Words
   pub fits : f (front ++ more) ≡ Ok left
-
-same_err : (x y : Words) → ◌≡◌ {A = Walked} (Err x) (Err y) → x ≡ y
-same_err x y e = cc
 
 no_opens : (ws bad : Words) → no_words ws ≡ Err bad → ws ≡ bad
 no_opens [] bad e = absurd cc
@@ -162,8 +153,12 @@ end_closes true (w ∷ ws) bad e = by_cut (is_some (cut_of w)) refl e
     by_cut true t e = record { front = w ∷ []; parts = ap (λ (x : Words). w ∷ x) (no_opens ws bad e); left = []; fits = cond-true _ _ _ t }
     by_cut false t e = record { front = []; parts = same_err _ _ e; left = []; fits = refl }
 
+nothing_before : (front bad : Words) → [] ≡ front ++ bad → [] ≡ bad
+nothing_before [] bad e = e
+nothing_before (x ∷ xs) bad e = absurd cc
+
 -- a word that was refused is refused again
-refused_again : (n : ℕ) (p : Test) (w : List ℕ) (front : Words) → p w ≡ false → some_words (suc n) p (w ∷ front) ≡ w ∷ front
+pub refused_again : (n : ℕ) (p : Test) (w : List ℕ) (front : Words) → p w ≡ false → some_words (suc n) p (w ∷ front) ≡ w ∷ front
 refused_again n p w front f = ap (λ (r : Walked). after r (some_words n p) (w ∷ front)) (cond-false _ _ _ f)
 
 accepted_again : (n : ℕ) (p : Test) (w : List ℕ) (front : Words) → p w ≡ true → some_words (suc n) p (w ∷ front) ≡ some_words n p front
@@ -175,11 +170,7 @@ some_close zero p may_be_cut ws bad e =
     record { front = c.front; parts = c.parts; left = c.left; fits = c.fits }
 some_close (suc n) p may_be_cut [] bad e =
     let c = end_closes may_be_cut [] bad e in
-    record { front = []; parts = nothing c.front bad c.parts; left = (end_fits may_be_cut).left; fits = (end_fits may_be_cut).is }
-  where
-    nothing : (front bad : Words) → [] ≡ front ++ bad → [] ≡ bad
-    nothing [] bad e = e
-    nothing (x ∷ xs) bad e = absurd cc
+    record { front = []; parts = nothing_before c.front bad c.parts; left = (end_fits may_be_cut).left; fits = (end_fits may_be_cut).is }
 some_close (suc n) p may_be_cut (w ∷ ws) bad e = by_test (p w) refl e (some_close n p may_be_cut ws bad)
   where
     by_end : p w ≡ false → (c : Closes (end_words may_be_cut) (w ∷ ws) bad) → (front : Words) → c.front ≡ front → Closes (λ x. end_words may_be_cut (some_words (suc n) p x)) (w ∷ ws) bad
@@ -210,10 +201,6 @@ from_start : (may_be_cut : Bool) (is : List Item) (ws bad : Words) → are_sound
 from_start may_be_cut is ws bad h e =
     let all = all_fit may_be_cut is h in
     record { front = []; more = examples is; parts = e; real = examples_real is h; left = all.left; fits = all.is }
-
-nothing_before : (front bad : Words) → [] ≡ front ++ bad → [] ≡ bad
-nothing_before [] bad e = e
-nothing_before (x ∷ xs) bad e = absurd cc
 
 -- a part that may be left out was left out
 left_out : (may_be_cut : Bool) (i : Item) (is : List Item) (ws bad : Words) → are_sound (i ∷ is) ≡ true → Opens (walk may_be_cut is) ws bad
@@ -298,8 +285,6 @@ walk_opens may_be_cut (NoGroup ∷ is) h ws bad e =
     let o = walk_opens may_be_cut is h ws bad e in
     record { front = o.front; more = o.more; parts = o.parts; real = o.real; left = o.left; fits = o.fits }
 walk_opens may_be_cut (Names ∷ []) h ws bad e = closed (λ x. end_words may_be_cut (some_words (length x) is_named x)) ws bad (any_close is_named may_be_cut ws bad e)
-walk_opens may_be_cut (Names ∷ (i ∷ is)) h ws bad e = absurd (true≢false (sym h))
 walk_opens may_be_cut (Pairs ∷ []) h ws bad e = list_opens is_paired (λ vs. some_words (length vs) is_paired vs) Pairs may_be_cut h (λ vs. both_on (one_word is_paired vs) _ (walk may_be_cut [])) (any_close is_paired may_be_cut) ws bad e
-walk_opens may_be_cut (Pairs ∷ (i ∷ is)) h ws bad e = absurd (true≢false (sym h))
 walk_opens may_be_cut (Blocks ∷ []) h ws bad e = list_opens is_blocked (some_words 63 is_blocked) Blocks may_be_cut h (λ vs. both_on (one_word is_blocked vs) _ (walk may_be_cut [])) (some_close 63 is_blocked may_be_cut) ws bad e
-walk_opens may_be_cut (Blocks ∷ (i ∷ is)) h ws bad e = absurd (true≢false (sym h))
+walk_opens may_be_cut is h ws bad e = absurd (true≢false (sym h))

@@ -1,6 +1,6 @@
 -- The bytes of names.
 use Rattle.std.proofs.Common.{◌≡◌, refl, ℕ, ◌<◌, ◌≤◌, inl, inr, Bool, true, false, List, [], ◌∷◌, arith}
-use Rattle.std.specs.Prelude.{nat_lt, not, ◌==◌}
+use Rattle.std.specs.Prelude.{nat_lt, not, ◌==◌, ◌&&◌}
 use Rattle.std.specs.List.{list_all}
 use Rattle.std.proofs.lemmas.Bool.{and_parts, and_from, leb-true, eqb-true, lt-ltb, or_cases, ne_eqb, not_from_false}
 use Rattle.vx_names.specs.Form.{is_name, is_name_byte, is_letter_or_digit, begins_well, is_within}
@@ -13,6 +13,15 @@ is_dark b = nat_lt 32 b
 abbrev pub is_dark_word : List ℕ → Bool
 is_dark_word [] = false
 is_dark_word (b ∷ bs) = list_all is_dark (b ∷ bs)
+
+pub left_of : (a b : Bool) → (a && b) ≡ true → a ≡ true
+left_of a b h = (and_parts a b h).0
+
+pub right_of : (a b : Bool) → (a && b) ≡ true → b ≡ true
+right_of a b h = (and_parts a b h).1
+
+-- both sides of a test, and a test of both
+pub ruleset ands = (left_of, right_of, and_from)
 
 pub record NameParts (w : List ℕ) : Type 0 where
   pub begins : begins_well w ≡ true
@@ -57,9 +66,9 @@ plain b h = elim (or_cases _ (b == 46) h) [
 abbrev pub is_not : ℕ → ℕ → Bool
 is_not b c = not (c == b)
 
-pub all_by : (p q : ℕ → Bool) → ((b : ℕ) → p b ≡ true → q b ≡ true) → (w : List ℕ) → list_all p w ≡ true → list_all q w ≡ true
+pub all_by : {X : Type 0} (p q : X → Bool) → ((x : X) → p x ≡ true → q x ≡ true) → (xs : List X) → list_all p xs ≡ true → list_all q xs ≡ true
 all_by p q each [] h = refl
-all_by p q each (b ∷ bs) h = let parts = and_parts (p b) (list_all p bs) h in and_from _ _ (each b parts.0) (all_by p q each bs parts.1)
+all_by p q each (x ∷ xs) h = and_from _ _ (each x (search ands)) (all_by p q each xs (search ands))
 
 -- a byte that no name has
 pub name_without : (c : ℕ) → ((b : ℕ) → IsPlain b → b ≡ c → ⊥) → (w : List ℕ) → is_name w ≡ true → list_all (is_not c) w ≡ true

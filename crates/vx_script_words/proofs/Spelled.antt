@@ -1,7 +1,7 @@
 -- Each text has words, and each list of words is that of a text.
 use Rattle.std.proofs.Common.{◌≡◌, ◌∙◌, sym, ap, subst, refl, ℕ, zero, suc, ◌≤◌, ◌<◌, ◌⊎◌, inl, inr, Bool, true, false, not, List, [], ◌∷◌, ◌++◌, length, take, drop, arith, length-drop, one-add}
 use Rattle.std.specs.List.{list_all, position_or_len}
-use Rattle.std.proofs.lemmas.Bool.{and_from, and_parts, cases_Bool, cond-true, cond-false}
+use Rattle.std.proofs.lemmas.Bool.{and_from, and_parts, cases_Bool, cond-true, cond-false, not-true}
 use Rattle.vx_script_words.specs.Spelling.{Behind, Spells, begun, spelled}
 use Rattle.vx_script_words.specs.Words.{is_blank, is_not_blank, from_word, first_word, past_word}
 
@@ -118,23 +118,15 @@ word_end [] [] h k = (refl, refl)
 word_end [] (b ∷ bs) h k = (ap (λ (n : ℕ). take n (b ∷ bs)) (stops b bs k), ap (λ (n : ℕ). drop n (b ∷ bs)) (stops b bs k))
 word_end (b ∷ bs) rest h k =
     let p = and_parts (not (is_blank b)) (list_all is_not_blank bs) h in
-    let dark : is_blank b ≡ false = not_dark (is_blank b) p.0 in
+    let dark : is_blank b ≡ false = not-true (is_blank b) p.0 in
     let more = word_end bs rest p.1 k in
     (first_more b (bs ++ rest) dark ∙ ap (λ (x : List ℕ). b ∷ x) more.0, past_more b (bs ++ rest) dark ∙ more.1)
-  where
-    not_dark : (x : Bool) → not x ≡ true → x ≡ false
-    not_dark true e = absurd cc
-    not_dark false e = refl
 
 word_start : (w rest : List ℕ) → is_word w ≡ true → from_word (32 ∷ (w ++ rest)) ≡ w ++ rest
 word_start [] rest h = absurd cc
 word_start (b ∷ bs) rest h =
     let p = and_parts (not (is_blank b)) (list_all is_not_blank bs) h in
-    blank_first 32 (b ∷ (bs ++ rest)) refl ∙ word_first b (bs ++ rest) (not_dark (is_blank b) p.0)
-  where
-    not_dark : (x : Bool) → not x ≡ true → x ≡ false
-    not_dark true e = absurd cc
-    not_dark false e = refl
+    blank_first 32 (b ∷ (bs ++ rest)) refl ∙ word_first b (bs ++ rest) (not-true (is_blank b) p.0)
 
 some_bytes : (w rest : List ℕ) → is_word w ≡ true → 0 < length (w ++ rest)
 some_bytes [] rest h = absurd cc

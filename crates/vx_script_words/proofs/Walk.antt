@@ -79,7 +79,7 @@ walk may_be_cut (i ∷ is) ws = on (item_words i ws) (walk may_be_cut is)
 abbrev pub IsShort : (Words → Walked) → Type 0
 IsShort f = (ws bad : Words) → f ws ≡ Err bad → length bad ≤ length ws
 
-same_err : (x y : Words) → ◌≡◌ {A = Walked} (Err x) (Err y) → x ≡ y
+pub same_err : (x y : Words) → ◌≡◌ {A = Walked} (Err x) (Err y) → x ≡ y
 same_err x y e = cc
 
 end_short : (may_be_cut : Bool) → IsShort (end_words may_be_cut)

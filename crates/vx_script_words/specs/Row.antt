@@ -28,6 +28,11 @@ and_then (Err left) f = Err left
 abbrev pub with_value : List Value → Value → List ℕ → So
 with_value values v rest = record { values = values ++ v ∷ []; rest = rest }
 
+-- the value, if there is one, behind the others
+abbrev pub with_said : Option Value → List Value → List Value
+with_said None values = values
+with_said (Some v) values = values ++ v ∷ []
+
 abbrev pub taken : Option Value → List Value → List ℕ → Going
 taken None values text = Err (length text)
 taken (Some v) values text = Ok (with_value values v (past_word text))

@@ -29,7 +29,6 @@ pub use line::row;
 pub use names::Names;
 pub use number::{length_of, number_within};
 pub use parts::cut_of;
-pub use read::class_value;
 pub use stop::Stop;
 pub use value::{DiskAt, Value};
 pub use words::{first_word, from_word, past, past_word, up_to};

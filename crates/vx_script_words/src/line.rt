@@ -6,8 +6,9 @@ ghost use Rattle.vx_script_words.specs.Row.{one, maybe, group, item, items, ends
 
 use crate::lists::{more_blocks, more_pairs, some_names};
 use crate::parts::pair_of;
-use crate::words::{first_word, from_word, past_word};
-use crate::{Blocks, Class, Disks, Item, Key, Sort, Stop, Value, block_of, class_value, cut_of};
+use crate::read::put_said;
+use crate::words::{first_word, from_word, past_word, split_word};
+use crate::{Blocks, Class, Disks, Item, Key, Sort, Stop, Value, block_of, cut_of};
 use std::alloc::Global;
 use vx_base::OutOfMemory;
 
@@ -145,12 +146,12 @@ fn taken<'a>(
     ensures found { IfOk result (λ found. MatchOption found (one class values.old.items text.now ≡ Err (length (from_word text.now))) (λ rest. one class values.old.items text.now ≡ Ok (record { values = values.new.items; rest = rest.now }))) }
     ensures kept { IfOk result (λ found. IfNone found (values.new.items ≡ values.old.items)) }
 {
-    let text = from_word(text);
-    let Some(value) = class_value(class, first_word(text)) else {
-        return Ok(None);
-    };
-    values.push(value)?;
-    Ok(Some(past_word(text)))
+    let (word, rest) = split_word(from_word(text));
+    if put_said(class, word, values)? {
+        Ok(Some(rest))
+    } else {
+        Ok(None)
+    }
 }
 
 fn names<'a>(alloc: Global, values: &mut Vec<Value>, text: &'a [u8]) -> Result<&'a [u8], Stop>

@@ -29,6 +29,14 @@ pub fn past_word(text: &[u8]) -> &[u8]
     &text[word_len(text)..]
 }
 
+/// The word that the text begins with, and what follows it.
+pub fn split_word(text: &[u8]) -> (&[u8], &[u8])
+    ensures word { result.0.now ≡ first_word text.now }
+    ensures rest { result.1.now ≡ past_word text.now }
+{
+    text.split_at(word_len(text))
+}
+
 /// What stands before the first such byte.
 pub fn up_to(byte: u8, text: &[u8]) -> &[u8]
     ensures { result.now ≡ up_to byte text.now }

@@ -11,7 +11,7 @@ returns-then-eq c =
     let word : c.first_word-word.result.now ≡ first_word (from_word c.args.text.now) = c.first_word-word.ensures ∙ ap first_word c.from_word-from.ensures in
     let key = c.key_text.ensures ∙ ap text_of c.head_key.ensures in
     let same = stops_here c.args.may_be_cut c.args.heads.now c.loop-head.head-index _ c.args.text.now c.first_word-word.result.now c.key_text.result.now c.kinds_of.result.now _ (omega arith) c.loop-head.invariant.same c.loop-head.invariant.apart word key (sym c.eq.ensures ∙ c.if-eq.true) c.kinds_of.ensures in
-    subst (λ (r : Result Choice ℕ). MatchResult c.among.result (λ chosen. r ≡ Ok (record { kind = chosen.kind; values = chosen.values.items; cut = chosen.cut })) (λ stop. Fails stop r)) same c.among.ensures
+    subst (λ (r : Result Choice ℕ). MatchResult c.among.result (λ chosen. r ≡ Ok (record { kind = chosen.kind; values = c.among.new.values.items; cut = chosen.cut })) (λ stop. Fails stop r)) same c.among.ensures
 
 pub loop-head-preserved : goal.loop-head-preserved
 loop-head-preserved c =

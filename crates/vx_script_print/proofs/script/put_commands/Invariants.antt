@@ -1,5 +1,4 @@
-use Rattle.std.proofs.Common.{◌≡◌, ◌++◌, take}
-use Rattle.vx_script_print.specs.Text.{script_text}
+use Rattle.vx_script_print.proofs.Terms.{◌≡◌, ◌++◌, take, script_text}
 use Rattle.vx_script_print.proofs.script.put_commands.Given as goal
 
 abbrev pub invariant-loop-command : goal.invariant-loop-command

@@ -1,6 +1,4 @@
-use Rattle.std.proofs.Common.{◌≡◌, ◌++◌, take}
-use Rattle.std.specs.List.{flat_map}
-use Rattle.vx_script_print.specs.Text.{line_text}
+use Rattle.vx_script_print.proofs.Terms.{◌≡◌, ◌++◌, take, flat_map, line_text}
 use Rattle.vx_script_print.proofs.script.put_lines.Given as goal
 
 abbrev pub invariant-loop-line : goal.invariant-loop-line

@@ -1,7 +1,4 @@
-use Rattle.std.proofs.Common.{◌≡◌, ◌++◌, ◌/◌, take, map, length}
-use Rattle.vx_block.specs.Word.{block_word}
-use Rattle.vx_script_print.specs.Text.{cut_blocks}
-use Rattle.vx_script_words.specs.Spelling.{spelled}
+use Rattle.vx_script_print.proofs.Terms.{◌≡◌, ◌++◌, ◌/◌, take, map, length, block_word, cut_blocks, spelled}
 use Rattle.vx_script_print.proofs.words.put_blocks.Given as goal
 
 abbrev pub invariant-loop-n : goal.invariant-loop-n

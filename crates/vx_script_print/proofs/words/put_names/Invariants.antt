@@ -1,5 +1,4 @@
-use Rattle.std.proofs.Common.{◌≡◌, ◌++◌, take}
-use Rattle.vx_script_words.specs.Spelling.{spelled}
+use Rattle.vx_script_print.proofs.Terms.{◌≡◌, ◌++◌, take, spelled}
 use Rattle.vx_script_print.proofs.words.put_names.Given as goal
 
 abbrev pub invariant-loop-name : goal.invariant-loop-name

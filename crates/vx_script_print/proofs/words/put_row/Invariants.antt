@@ -1,6 +1,4 @@
-use Rattle.std.proofs.Common.{◌≡◌, ◌++◌, take}
-use Rattle.vx_script_print.specs.Text.{row_words}
-use Rattle.vx_script_words.specs.Spelling.{spelled}
+use Rattle.vx_script_print.proofs.Terms.{◌≡◌, ◌++◌, take, row_words, spelled}
 use Rattle.vx_script_print.proofs.words.put_row.Given as goal
 
 abbrev pub invariant-loop-n : goal.invariant-loop-n

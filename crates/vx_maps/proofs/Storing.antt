@@ -1,6 +1,6 @@
 -- What a call on one page of a store is to the store.
 use Rattle.std.proofs.Common.{◌≡◌, ◌≢◌, inl, inr, ℕ, zero, suc, ◌+◌, ◌/◌, ◌<◌, ◌≤◌, Bool, true, false, refl, sym, ◌∙◌, ap, subst, arith, List, [], ◌∷◌, length, map, get_or, set, Option, Some, None, Result, Ok, Err}
-use Rattle.std.specs.Prelude.{◌&&◌, ◌||◌, nat_lt, is_some, if◌then◌else◌}
+use Rattle.std.specs.Prelude.{◌==◌, ◌&&◌, ◌||◌, nat_lt, is_some, if◌then◌else◌}
 use Rattle.std.proofs.lemmas.Bool.{eq-eqb, ltb-true}
 use Rattle.std.proofs.lemmas.Bool.Decides.{eqb_tells}
 use Rattle.vx_base.specs.Counts.{Rose}
@@ -12,6 +12,8 @@ use Rattle.vx_marks.specs.declared.marker.MarkFault.{MarkFault}
 use Rattle.vx_marks.specs.declared.marker.MarkFault.TheVariants.{Failed, PowerLost, Busy}
 use Rattle.vx_mapfmt.specs.Sizes.{page_count}
 use Rattle.vx_pages.specs.Page.{has_region}
+use Rattle.vx_pages.specs.Setting.{Come, Still, MarksBy, SetsSoFar, claim_by, come_on}
+use Rattle.vx_pages.proofs.Setting.{same_either}
 use Rattle.vx_maps.specs.Store.{no_page, page_at, marks_in, pages_tell, pages_faults, pages_cut, ArePages, store_log}
 use Rattle.vx_pages.proofs.Items.{at_is, at_set, at_other, set_size}
 
@@ -26,6 +28,12 @@ changes_in : (region : ℕ) (effect : Marks → Marks → Type 0) (a b : Option 
 changes_in region effect None b h t = cc
 changes_in region effect (Some a) None h t = absurd h
 changes_in region effect (Some a) (Some b) h t = (refl, record { here = h.here; elsewhere = h.elsewhere })
+
+set_in : (effect : ℕ → Marks → Marks → Type 0) (has : ℕ → Bool) (a b : Option (ℕ → Marks)) → OnMarks (λ was is. (region : ℕ) → has region ≡ true → effect region (was region) (is region)) a b → is_some a ≡ true →
+    (is_some b ≡ true) × ((region : ℕ) → has region ≡ true → effect region (marks_in a region) (marks_in b region))
+set_in effect has None b h t = cc
+set_in effect has (Some a) None h t = absurd h
+set_in effect has (Some a) (Some b) h t = (refl, λ region known. h region known)
 
 pub on_both : (fact : (ℕ → Marks) → (ℕ → Marks) → Type 0) (t t' : Bool) (old new : ℕ → Marks) → (t ≡ true → (t' ≡ true) × fact old new) → OnMarks fact (if t then Some old else None) (if t' then Some new else None)
 on_both fact true true old new h = (h refl).1
@@ -213,6 +221,58 @@ module _ {T : Type 0} (see : T → LogSeen) where
                   | inr page ↦ ap (λ (x : LogSeen). x.claims other k) (other_is (other / 4096) page.1)
                 ];
           }
+
+      module _ (at : ℕ) (bits : ℕ → Bool) (come : Come) (h : SetsSoFar at bits (λ r. come) (see p) (see q)) where
+        known_here : (other : ℕ) → other / 4096 ≡ region / 4096 → nat_lt other regions ≡ true → (see p).has_region other ≡ true
+        known_here other same known' =
+            ap (λ (x : LogSeen). x.has_region other) (sym i_is) ∙ paged.place (region / 4096) other inside
+            ∙ ap (λ (b : Bool). b && nat_lt other regions) (eq-eqb (other / 4096) (region / 4096) same) ∙ known'
+
+        abbrev claimed : ℕ → ℕ → Come → Bool → Bool
+        claimed other k c was = if k == at then claim_by c was (bits other) else was
+
+        set_claims : (other k : ℕ) → nat_lt other regions ≡ true → (page_at ys (other / 4096)).claims other k ≡ claimed other k (come_on come (region / 4096) other) ((page_at (map see xs) (other / 4096)).claims other k)
+        set_claims other k known' =
+            elim (eqb_tells (other / 4096) (region / 4096)) [
+              | inl same ↦
+                  ap (λ (n : ℕ). (page_at ys n).claims other k) same.1 ∙ ap (λ (x : LogSeen). x.claims other k) q_is ∙ h.claims other k (known_here other same.1 known')
+                  ∙ ap (λ (was : Bool). claimed other k come was) (ap (λ (x : LogSeen). x.claims other k) (sym i_is) ∙ ap (λ (n : ℕ). (page_at (map see xs) n).claims other k) (sym same.1))
+                  ∙ ap (λ (b : Bool). claimed other k (if b then come else Still) ((page_at (map see xs) (other / 4096)).claims other k)) (sym same.0)
+              | inr apart ↦
+                  ap (λ (x : LogSeen). x.claims other k) (other_is (other / 4096) apart.1) ∙ same_either (k == at) _
+                  ∙ ap (λ (b : Bool). claimed other k (if b then come else Still) ((page_at (map see xs) (other / 4096)).claims other k)) (sym apart.0)
+            ]
+
+        abbrev Marked : ℕ → Come → LogSeen → LogSeen → Type 0
+        Marked other c x y = MarksBy c at (x.claims other at) (bits other) (marks_in x.told other) (marks_in y.told other)
+
+        set_told : ((other : ℕ) → (see p).has_region other ≡ true → Marked other come (see p) (see q)) → (other : ℕ) → nat_lt other regions ≡ true →
+            Marked other (come_on come (region / 4096) other) (page_at (map see xs) (other / 4096)) (page_at ys (other / 4096))
+        set_told marked other known' =
+            elim (eqb_tells (other / 4096) (region / 4096)) [
+              | inl same ↦
+                  subst (λ (b : Bool). Marked other (if b then come else Still) (page_at (map see xs) (other / 4096)) (page_at ys (other / 4096))) (sym same.0)
+                  (subst (λ (n : ℕ). Marked other come (page_at (map see xs) n) (page_at ys n)) (sym same.1)
+                  (subst (λ (x : LogSeen). Marked other come x (page_at ys (region / 4096))) (sym i_is) (subst (λ (y : LogSeen). Marked other come (see p) y) (sym q_is) (marked other (known_here other same.1 known')))))
+              | inr apart ↦
+                  subst (λ (b : Bool). Marked other (if b then come else Still) (page_at (map see xs) (other / 4096)) (page_at ys (other / 4096))) (sym apart.0)
+                  (ap (λ (x : LogSeen). marks_in x.told other) (other_is (other / 4096) apart.1))
+            ]
+
+        pub store_set : SetsSoFar at bits (come_on come (region / 4096)) (store_log regions (map see xs)) (store_log regions ys)
+        store_set =
+            record {
+              claims = set_claims;
+              told =
+                  on_both
+                  (λ (was is : ℕ → Marks).
+                  (other : ℕ) → nat_lt other regions ≡ true →
+                  MarksBy (come_on come (region / 4096) other) at ((page_at (map see xs) (other / 4096)).claims other at) (bits other) (was other) (is other))
+                  (pages_tell (map see xs)) (pages_tell ys) (λ r. marks_in (page_at (map see xs) (r / 4096)).told r) (λ r. marks_in (page_at ys (r / 4096)).told r)
+                  (λ t.
+                  let parts = set_in (λ other. MarksBy come at ((see p).claims other at) (bits other)) (see p).has_region (see p).told (see q).told h.told (tells_here t) in
+                  (tell_set xs (region / 4096) q lt parts.0 t, set_told parts.1));
+            }
 
       pub store_cause : (result : Result (Unit {0}) MarkFault) → MarkHasCause (see p) (see q) result → MarkHasCause (store_log regions (map see xs)) (store_log regions ys) result
       store_cause (Ok u) cause = λ copy device. same_sum _ _ _ _ (sum copy device) (cause copy device)

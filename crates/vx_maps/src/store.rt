@@ -78,6 +78,39 @@ impl<P: LocalPiece> MapStore<P> {
     }
 }
 
+impl<P: LocalPiece> MapStore<P> {
+    ghost use Rattle.std.specs.Prelude.{◌<◌, length, true};
+    ghost use Rattle.vx_mapfmt.specs.Bits.{bit_in};
+    ghost use Rattle.vx_marks.specs.Log.{KeepsLog, MarkHasCause};
+    ghost use Rattle.vx_pages.specs.Sector.{KeepsPiece};
+    ghost use Rattle.vx_pages.specs.Setting.{IsSetOn};
+    ghost use Rattle.vx_maps.specs.Going.{StoreGoes};
+    ghost use Rattle.vx_maps.specs.Stores.{shape_of, store_seen};
+
+    /// The shape of the plex that holds its maps.
+    pub fn shape(&self) -> DcoShape
+        ensures { result ≡ shape_of self.now }
+    {
+        self.base.shape
+    }
+
+    /// Makes the bits that a map has on the page of a region those of 512 bytes. What failed calls have left open on the page is
+    /// written again first, and a sector that is these bytes already is not written. Where a write fails, the bits that differ
+    /// are left open.
+    pub fn set_page(&mut self, map: u32, region: u64, image: &[u8]) -> Result<(), MarkFault>
+        requires map { map < 32 }
+        requires known { (store_seen P.seen self.old).has_region region ≡ true }
+        requires whole { length image.now ≡ 512 }
+        ensures kept { KeepsLog (store_seen P.seen self.old) (store_seen P.seen self.new) }
+        ensures set { IsSetOn (region / 4096) map (bit_in image.now) result (store_seen P.seen self.old) (store_seen P.seen self.new) }
+        ensures cause { MarkHasCause (store_seen P.seen self.old) (store_seen P.seen self.new) result }
+        ensures goes { StoreGoes P.seen KeepsPiece self.old self.new }
+    {
+        let page = &mut self.pages[(region / 4096) as usize];
+        page.set(map, image)
+    }
+}
+
 impl<P: LocalPiece> Marker for MapStore<P> {
     ghost use Rattle.vx_maps.specs.Store.{store_log};
     ghost use Rattle.vx_pages.specs.Sector.{KeepsPiece};

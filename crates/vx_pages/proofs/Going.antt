@@ -10,14 +10,14 @@ use Rattle.vx_pages.specs.Sector.{AreSectors, IsMade, Copies, SectorSeen, tells,
 use Rattle.vx_pages.proofs.Bits.{no_bit}
 use Rattle.vx_pages.specs.Stays.{piece_same}
 
-abbrev seen : Copies → List ℕ → List ℕ → SectorSeen
+abbrev pub seen : Copies → List ℕ → List ℕ → SectorSeen
 seen c sure loose = record { copies = c; sure = sure; loose = loose }
 
 and_none : (x : Bool) → (x && not true) ≡ false
 and_none true = refl
 and_none false = refl
 
-and_all : (x : Bool) → (x && not false) ≡ x
+pub and_all : (x : Bool) → (x && not false) ≡ x
 and_all true = refl
 and_all false = refl
 
@@ -116,7 +116,7 @@ forget_formed c sure loose loose' len none firm formed =
 abbrev pub WithBit : ℕ → Bool → List ℕ → List ℕ → Type 0
 WithBit region on old new = (other : ℕ) → bit_in new other ≡ (if same_place region other then on else bit_in old other)
 
-firm_shows : (c : Copies) (sure loose : List ℕ) → IsFormed (seen c sure loose) → ((other : ℕ) → bit_in loose other ≡ false) → tells c ≡ true → (n region : ℕ) → shown c n region ≡ bit_in sure region
+pub firm_shows : (c : Copies) (sure loose : List ℕ) → IsFormed (seen c sure loose) → ((other : ℕ) → bit_in loose other ≡ false) → tells c ≡ true → (n region : ℕ) → shown c n region ≡ bit_in sure region
 firm_shows c sure loose formed clean t n region =
     sym (and_all _) ∙ ap (λ (l : Bool). shown c n region && not l) (sym (clean region)) ∙ formed.shows t n region
 
@@ -148,7 +148,7 @@ torn_bit a on x s x' s' firm is (inl same) = inl same
 torn_bit true on x s x' s' firm is (inr put) = inr (refl, put ∙ is)
 torn_bit false on x s x' s' firm is (inr put) = inl (put ∙ is ∙ sym firm)
 
-torn_page : (old new bytes : List ℕ) (region : ℕ) → (new ≡ old) ⊎ (new ≡ bytes) → (bit_in new region ≡ bit_in old region) ⊎ (bit_in new region ≡ bit_in bytes region)
+pub torn_page : (old new bytes : List ℕ) (region : ℕ) → (new ≡ old) ⊎ (new ≡ bytes) → (bit_in new region ≡ bit_in old region) ⊎ (bit_in new region ≡ bit_in bytes region)
 torn_page old new bytes region (inl same) = inl (ap (λ (page : List ℕ). bit_in page region) same)
 torn_page old new bytes region (inr is) = inr (ap (λ (page : List ℕ). bit_in page region) is)
 

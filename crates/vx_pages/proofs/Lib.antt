@@ -1,5 +1,6 @@
 pub mod Bits
 pub mod Clipping
+pub mod Differing
 pub mod Going
 pub mod Items
 pub mod Keeping
@@ -11,6 +12,7 @@ pub mod Opening
 pub mod Pairs
 pub mod Putting
 pub mod Rounds
+pub mod Setting
 pub mod Settling
 pub mod Staying
 pub mod Ways

@@ -21,7 +21,7 @@ use Rattle.vx_pages.proofs.Bits.{empty_bit}
 abbrev Kept : List SectorSeen → List SectorSeen → Type 0
 Kept xs ys = EachSector (λ map. KeepsSector) xs ys
 
-kept_of : (f : ℕ → ℕ → Bool → Bool → Bool → Bool → Type 0) (u : ℕ → ℕ → Bool → Bool → Bool → Type 0) (xs ys : List SectorSeen) → EachSector (λ map. Goes (f map) (u map)) xs ys → Kept xs ys
+pub kept_of : (f : ℕ → ℕ → Bool → Bool → Bool → Bool → Type 0) (u : ℕ → ℕ → Bool → Bool → Bool → Type 0) (xs ys : List SectorSeen) → EachSector (λ map. Goes (f map) (u map)) xs ys → Kept xs ys
 kept_of f u xs ys h = record { size = h.size; each = λ map lt. (h.each map lt).kept }
 
 tail_kept : (x y : SectorSeen) (xs ys : List SectorSeen) → Kept (x ∷ xs) (y ∷ ys) → Kept xs ys
@@ -46,7 +46,7 @@ cut_kept (x ∷ xs) (y ∷ ys) h is = later _ _ _ _ (head_kept x y xs ys h).cut 
     later false b true b' first last is = refl
     later false b false b' first last is = last is
 
-tells_kept : (xs ys : List SectorSeen) → Kept xs ys → all_tell ys ≡ all_tell xs
+pub tells_kept : (xs ys : List SectorSeen) → Kept xs ys → all_tell ys ≡ all_tell xs
 tells_kept [] [] h = refl
 tells_kept [] (y ∷ ys) h = let e = h.size in absurd (omega (arith, e))
 tells_kept (x ∷ xs) [] h = let e = h.size in absurd (omega (arith, e))
@@ -59,7 +59,7 @@ first_kept [] (y ∷ ys) h = let e = h.size in absurd (omega (arith, e))
 first_kept (x ∷ xs) [] h = let e = h.size in absurd (omega (arith, e))
 first_kept (x ∷ xs) (y ∷ ys) h = (head_kept x y xs ys h).pair
 
-page_kept : (index regions : ℕ) (xs ys : List SectorSeen) → Kept xs ys → KeepsLog (page_log index regions xs) (page_log index regions ys)
+pub page_kept : (index regions : ℕ) (xs ys : List SectorSeen) → Kept xs ys → KeepsLog (page_log index regions xs) (page_log index regions ys)
 page_kept index regions xs ys h =
     record {
       there = refl;
@@ -94,7 +94,7 @@ nothing_shown zero region = empty_bit region
 nothing_shown (suc n) region = empty_bit region
 
 module _ (f : ℕ → ℕ → Bool → Bool → Bool → Bool → Type 0) (u : ℕ → ℕ → Bool → Bool → Bool → Type 0) (xs ys : List SectorSeen) (size : length xs ≡ 32) (goes : EachSector (λ map. Goes (f map) (u map)) xs ys) where
-  bits_at : ((map region : ℕ) → 32 ≤ map → f map region false false false false) → (map region : ℕ) →
+  pub bits_at : ((map region : ℕ) → 32 ≤ map → f map region false false false false) → (map region : ℕ) →
       f map region (is_sure (sector_at xs map) region) (is_loose (sector_at xs map) region) (is_sure (sector_at ys map) region) (is_loose (sector_at ys map) region)
   bits_at none map region =
       elim (cases_lt map 32) [
@@ -104,7 +104,7 @@ module _ (f : ℕ → ℕ → Bool → Bool → Bool → Bool → Type 0) (u : �
             rw (beyond xs map (omega (arith, size)), beyond ys map (omega (arith, size, e)), empty_bit region) (none map region le)
       ]
 
-  shows_at : all_tell xs ≡ true → ((map region : ℕ) → 32 ≤ map → u map region false false false) → (map n region : ℕ) →
+  pub shows_at : all_tell xs ≡ true → ((map region : ℕ) → 32 ≤ map → u map region false false false) → (map n region : ℕ) →
       u map region (shown (sector_at xs map).copies n region) (is_loose (sector_at xs map) region) (shown (sector_at ys map).copies n region)
   shows_at t none map n region =
       elim (cases_lt map 32) [
@@ -178,7 +178,7 @@ goes_away false a on z x l x' none out is = refl
 goes_away true true on z x l x' none out is = not_both refl (out refl)
 goes_away true false on z x l x' none out is = is ∙ sym (ap (λ (c : Bool). (x && not l) && not c) none ∙ not_false _)
 
-guarded : (h l : Bool) → (h ≡ true → l ≡ false) → (h && l) ≡ false
+pub guarded : (h l : Bool) → (h ≡ true → l ≡ false) → (h && l) ≡ false
 guarded true l out = out refl
 guarded false l out = refl
 
@@ -236,7 +236,7 @@ less_claims false a s s' is there = there
 
 -- ---- the marks of all regions
 
-on_marks : (fact : (ℕ → Marks) → (ℕ → Marks) → Type 0) (t t' : Bool) (old new : ℕ → Marks) → t' ≡ t → (t ≡ true → fact old new) → OnMarks fact (if t then Some old else None) (if t' then Some new else None)
+pub on_marks : (fact : (ℕ → Marks) → (ℕ → Marks) → Type 0) (t t' : Bool) (old new : ℕ → Marks) → t' ≡ t → (t ≡ true → fact old new) → OnMarks fact (if t then Some old else None) (if t' then Some new else None)
 on_marks fact true true old new same h = h refl
 on_marks fact true false old new same h = cc
 on_marks fact false t' old new same h = tt
@@ -487,7 +487,7 @@ module _ (index regions : ℕ) (xs ys : List SectorSeen) (size : length xs ≡ 3
   pub firm_kept : (result : Result (Unit {0}) MarkFault) → IsFirmed result xs ys → KeepsLog (page_log index regions xs) (page_log index regions ys)
   firm_kept result all = page_kept index regions xs ys (kept_firmed result all)
 
-  firms_all : (result : Result (Unit {0}) MarkFault) → IsFirmed result xs ys → all_tell xs ≡ true → FirmsAll result (marks_of index regions xs) (marks_of index regions ys)
+  pub firms_all : (result : Result (Unit {0}) MarkFault) → IsFirmed result xs ys → all_tell xs ≡ true → FirmsAll result (marks_of index regions xs) (marks_of index regions ys)
   firms_all (Ok u) all t =
       λ other. record {
         shows = λ n k.

@@ -5,7 +5,7 @@ use Rattle.vx_pages.specs.Sector.{SectorSeen, KeepsSector}
 use Rattle.vx_pages.specs.Page.{EachSector, IsFirmed, IsMarkedIn, IsUnmarkedIn}
 use Rattle.vx_pages.specs.Page.{ArePairedAlike}
 
-paired_each : (fact : ℕ → SectorSeen → SectorSeen → Type 0) (xs ys : List SectorSeen) → ((m : ℕ) (a b : SectorSeen) → fact m a b → KeepsSector a b) → EachSector fact xs ys → ArePairedAlike xs → ArePairedAlike ys
+pub paired_each : (fact : ℕ → SectorSeen → SectorSeen → Type 0) (xs ys : List SectorSeen) → ((m : ℕ) (a b : SectorSeen) → fact m a b → KeepsSector a b) → EachSector fact xs ys → ArePairedAlike xs → ArePairedAlike ys
 paired_each fact xs ys keeps each pair m lt =
     let size = each.size in
     let some : 0 < length xs = omega (arith, size, lt) in

@@ -1,11 +1,11 @@
 -- That calls on a page keep it in its place, and its pieces.
-use Rattle.std.proofs.Common.{◌≡◌, ◌⊎◌, inl, inr, ℕ, ◌<◌, refl, sym, ◌∙◌, arith, List, length, Result, Ok, Err}
+use Rattle.std.proofs.Common.{inl, inr, ℕ, List, Result, Ok, Err}
 use Rattle.vx_marks.specs.declared.marker.MarkFault.{MarkFault}
 use Rattle.vx_pages.specs.Page.{EachSector, IsFirmed, IsMarkedIn, IsUnmarkedIn}
 use Rattle.vx_pages.specs.Pages.{RowGoes}
 use Rattle.vx_pages.specs.Sector.{KeepsPiece, KeepsSector, SectorSeen}
 
-goes_each : (fact : ℕ → SectorSeen → SectorSeen → Type 0) (xs ys : List SectorSeen) → ((m : ℕ) (a b : SectorSeen) → fact m a b → KeepsSector a b) → EachSector fact xs ys → RowGoes KeepsPiece xs ys
+pub goes_each : (fact : ℕ → SectorSeen → SectorSeen → Type 0) (xs ys : List SectorSeen) → ((m : ℕ) (a b : SectorSeen) → fact m a b → KeepsSector a b) → EachSector fact xs ys → RowGoes KeepsPiece xs ys
 goes_each fact xs ys keeps each = record { size = each.size; each = λ m lt. let k = keeps m _ _ (each.each m lt) in record { pair = k.pair; each = k.each } }
 
 pub firm_goes : (xs ys : List SectorSeen) (result : Result (Unit {0}) MarkFault) → IsFirmed result xs ys → RowGoes KeepsPiece xs ys

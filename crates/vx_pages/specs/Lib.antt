@@ -9,4 +9,5 @@ pub mod Pieces
 pub mod Reading
 pub mod Sector
 pub mod Sectors
+pub mod Setting
 pub mod Stays

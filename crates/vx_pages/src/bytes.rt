@@ -7,6 +7,7 @@ ghost use Rattle.vx_sector.specs.Fields.{zeros};
 ghost use Rattle.vx_pages.specs.Bytes.{full, same_place};
 ghost use Rattle.vx_pages.specs.Images.{images_seen};
 ghost use Rattle.vx_pages.specs.Reading.{AreImages, image_at};
+ghost use Rattle.vx_pages.specs.Setting.{differ};
 
 use std::alloc::Global;
 use vx_base::OutOfMemory;
@@ -71,6 +72,22 @@ pub fn put_none(page: &mut Vec<u8>)
     put_zeros(512, 0, page);
 }
 
+/// Leaves the bits open in which a page differs from these bytes: they are no longer sure, and loose.
+pub fn open_differing(sure: &mut Vec<u8>, loose: &mut Vec<u8>, image: &[u8])
+    requires sure { length sure.old.items ≡ 512 }
+    requires loose { length loose.old.items ≡ 512 }
+    requires image { length image.now ≡ 512 }
+    ensures sure { (region : ℕ) → bit_in sure.new.items region ≡ (bit_in sure.old.items region && bit_in image.now region) }
+    ensures loose { (region : ℕ) → bit_in loose.new.items region ≡ differ (bit_in sure.old.items region) (bit_in image.now region) }
+    ensures sure_length { length sure.new.items ≡ 512 }
+    ensures loose_length { length loose.new.items ≡ 512 }
+{
+    for place in 0..512 {
+        loose[place] = sure[place] ^ image[place];
+        sure[place] = sure[place] & image[place];
+    }
+}
+
 /// Takes away the bits behind those of the first so many regions of the page.
 pub fn clip(page: &mut Vec<u8>, inside: u64)
     requires { length page.old.items ≡ 512 }
@@ -95,7 +112,7 @@ pub fn clip_all(images: &mut Vec<Vec<u8>>, inside: u64)
 }
 
 /// The byte with one bit put to this value.
-fn with_bit(byte: u8, bit: u32, on: bool) -> u8
+pub fn with_bit(byte: u8, bit: u32, on: bool) -> u8
     requires { bit < 8 }
     ensures { (k : ℕ) → has result k ≡ (if bit == k then on else has byte k) }
 {

@@ -10,7 +10,7 @@ mod page;
 mod sector;
 mod sectors;
 
-pub use bytes::{clip_all, empty_page, full_page, has_bit};
+pub use bytes::{clip_all, empty_page, full_page, has_bit, with_bit};
 pub use create::{SectorRefused, create_sector};
 pub use local_piece::LocalPiece;
 pub use page::Page;

@@ -4,7 +4,9 @@ ghost use Rattle.vx_pages.specs.Page.{ArePairedAlike};
 
 use crate::local_piece::LocalPiece;
 use crate::sector::MapSector;
-use crate::sectors::{arm_all, fetch_all, firm_all, mark_all, marks_at, settle_all, unmark_all};
+use crate::sectors::{
+    arm_all, fetch_all, firm_all, mark_all, marks_at, set_all, settle_all, unmark_all,
+};
 use vx_marks::{MarkFault, Marker};
 
 /// A page of every map: the bits of 4,096 regions, the last page perhaps of fewer, with its sectors on each copy. It is a
@@ -23,6 +25,9 @@ impl<P: LocalPiece> Page<P> {
     ghost use Rattle.vx_pages.specs.Page.{page_log};
     ghost use Rattle.vx_pages.specs.Pages.{PageStays, page_seen};
     ghost use Rattle.vx_pages.specs.Firm.{FirmsAll};
+    ghost use Rattle.vx_mapfmt.specs.Bits.{bit_in};
+    ghost use Rattle.vx_pages.specs.Setting.{IsPageSet};
+    ghost use Rattle.std.specs.Prelude.{◌<◌};
 
     /// A page of a volume of so many regions, by its index, of its sectors in the order of the maps.
     pub fn of(index: u64, regions: u64, sectors: Vec<MapSector<P>>) -> Page<P>
@@ -56,6 +61,19 @@ impl<P: LocalPiece> Page<P> {
         ensures stays { PageStays P.seen self.old self.new }
     {
         firm_all(&mut self.sectors)
+    }
+
+    /// Makes the bits of a map on this page those of 512 bytes. What failed calls have left open is written again first, and a
+    /// sector that is these bytes already is not written. Where a write fails, the bits that differ are left open.
+    pub fn set(&mut self, map: u32, image: &[u8]) -> Result<(), MarkFault>
+        requires map { map < 32 }
+        requires whole { length image.now ≡ 512 }
+        ensures kept { KeepsLog (page_seen P.seen self.old) (page_seen P.seen self.new) }
+        ensures set { IsPageSet map (bit_in image.now) result (page_seen P.seen self.old) (page_seen P.seen self.new) }
+        ensures cause { MarkHasCause (page_seen P.seen self.old) (page_seen P.seen self.new) result }
+        ensures stays { PageStays P.seen self.old self.new }
+    {
+        set_all(&mut self.sectors, map, image)
     }
 }
 

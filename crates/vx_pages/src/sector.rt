@@ -2,11 +2,11 @@ ghost use Rattle.std.specs.Prelude.{◌≡◌, ℕ, false};
 ghost use Rattle.vx_pages.specs.Sector.{IsFormed};
 ghost use Rattle.vx_pages.specs.Pieces.{sector_of};
 
-use crate::bytes::{copy_page, has_bit, put_bit, put_none};
+use crate::bytes::{copy_page, has_bit, open_differing, put_bit, put_none};
 use crate::copies::{get, mend, put};
 use crate::local_piece::LocalPiece;
 use vx_marks::MarkFault;
-use vx_sector::is_zero;
+use vx_sector::{first_difference, is_zero};
 
 /// The sector of one map on one page: its piece on each copy, and in memory what is sure of it and what a failed call
 /// has left open.
@@ -78,7 +78,9 @@ impl<P: LocalPiece> MapSector<P> {
     ghost use Rattle.vx_pages.specs.Sectors.{sector_seen};
     ghost use Rattle.vx_pages.specs.Bytes.{same_place};
     ghost use Rattle.vx_pages.specs.Sector.{BitOpened, HasCause, IsBitPut, Turns, faults_at, is_cut, is_loose};
-    ghost use Rattle.std.specs.Prelude.{◌&&◌};
+    ghost use Rattle.std.specs.Prelude.{◌&&◌, true, length};
+    ghost use Rattle.vx_mapfmt.specs.Bits.{bit_in};
+    ghost use Rattle.vx_pages.specs.Setting.{SetsBits};
 
     /// Puts the bit of a region on every copy, if the map is asked for.
     pub fn put_if(&mut self, asked: bool, region: u64, on: bool) -> Result<(), MarkFault>
@@ -91,6 +93,24 @@ impl<P: LocalPiece> MapSector<P> {
         } else {
             Ok(())
         }
+    }
+
+    /// Makes the bits these of 512 bytes on every copy, where they are not. Where that fails, those that differ are loose.
+    pub fn set(&mut self, image: &[u8]) -> Result<(), MarkFault>
+        requires clean { (other : ℕ) → is_loose (sector_seen P.seen self.old) other ≡ false }
+        requires whole { length image.now ≡ 512 }
+        ensures goes { SetsBits true (bit_in image.now) result (sector_seen P.seen self.old) (sector_seen P.seen self.new) }
+        ensures cause { HasCause (faults_at (sector_seen P.seen self.old).copies) (faults_at (sector_seen P.seen self.new).copies) (is_cut (sector_seen P.seen self.new).copies) result }
+    {
+        if first_difference(&self.sure, image).is_none() {
+            return Ok(());
+        }
+        if let Err(fault) = put(&mut self.first, &mut self.second, image) {
+            open_differing(&mut self.sure, &mut self.loose, image);
+            return Err(fault);
+        }
+        copy_page(&mut self.sure, image);
+        Ok(())
     }
 
     /// Leaves the bit of a region open, if the map is asked for.

@@ -7,7 +7,9 @@ ghost use Rattle.vx_pages.specs.Page.{AreClean, EachSector, IsChanged, IsFirmed,
 ghost use Rattle.vx_pages.specs.Arming.{armed_sectors};
 ghost use Rattle.vx_pages.specs.Images.{images_seen};
 ghost use Rattle.vx_pages.specs.Reading.{AreImages, AreSettled, GiveCopy, HasRisen, IsCopyOf, IsFaultAt, ReadsSector};
+ghost use Rattle.vx_mapfmt.specs.Bits.{bit_in};
 ghost use Rattle.vx_pages.specs.Sector.{IsOpen};
+ghost use Rattle.vx_pages.specs.Setting.{IsSetIn, SetEach};
 ghost use Rattle.vx_pages.specs.Page.{AreAll};
 
 use crate::local_piece::LocalPiece;
@@ -134,6 +136,41 @@ pub fn unmark_all<P: LocalPiece>(
         return Err(fault);
     }
     change_all(sectors, region, bits, false)
+}
+
+/// Makes the bits of a map these of 512 bytes on every copy. Where that fails, those that differ are left open.
+pub fn set_all<P: LocalPiece>(
+    sectors: &mut Vec<MapSector<P>>,
+    map: u32,
+    image: &[u8],
+) -> Result<(), MarkFault>
+    requires maps { length sectors.old.items ≡ 32 }
+    requires map { map < 32 }
+    requires whole { length image.now ≡ 512 }
+    ensures each { IsSetIn map (bit_in image.now) result (sectors_seen P.seen sectors.old.items) (sectors_seen P.seen sectors.new.items) }
+    ensures cause { HasCause (faults_in (sectors_seen P.seen sectors.old.items)) (faults_in (sectors_seen P.seen sectors.new.items)) (cut_in (sectors_seen P.seen sectors.new.items)) result }
+{
+    if let Err(fault) = firm_all(sectors) {
+        return Err(fault);
+    }
+    set_one(sectors, map, image)
+}
+
+/// The same, where nothing is loose.
+fn set_one<P: LocalPiece>(
+    sectors: &mut Vec<MapSector<P>>,
+    map: u32,
+    image: &[u8],
+) -> Result<(), MarkFault>
+    requires maps { length sectors.old.items ≡ 32 }
+    requires clean { AreClean (sectors_seen P.seen sectors.old.items) }
+    requires map { map < 32 }
+    requires whole { length image.now ≡ 512 }
+    ensures each { SetEach map (bit_in image.now) result (sectors_seen P.seen sectors.old.items) (sectors_seen P.seen sectors.new.items) }
+    ensures cause { HasCause (faults_in (sectors_seen P.seen sectors.old.items)) (faults_in (sectors_seen P.seen sectors.new.items)) (cut_in (sectors_seen P.seen sectors.new.items)) result }
+{
+    let sector = &mut sectors[map as usize];
+    sector.set(image)
 }
 
 /// The maps that claim a mark of the region.

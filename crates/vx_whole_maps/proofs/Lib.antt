@@ -1,0 +1,4 @@
+pub mod Honest
+pub mod Listed
+pub mod LowBits
+pub mod PageByPage

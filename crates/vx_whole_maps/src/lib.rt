@@ -1,0 +1,10 @@
+//! Whole change maps of a store of pages: one is cleared, set from bytes, or listed.
+#![tactic(auto)]
+
+mod bytes;
+pub mod laws;
+mod listing;
+mod setting;
+
+pub use listing::list;
+pub use setting::{clear, set_from};

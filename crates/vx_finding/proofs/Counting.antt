@@ -23,16 +23,18 @@ use Rattle.vx_house.specs.Holders.{Holder, holders, volume_holder, held_as, AreA
 use Rattle.vx_house.specs.Scene.{Shelved, Scene, seen_in, seen_at, faults_in, faults_at, counts_of, FaultsGoOn}
 use Rattle.vx_house.specs.View.{IsMoment, IsDeviceOf, is_lent, at, scene}
 use Rattle.vx_house.specs.declared.house.House.{House}
-use Rattle.vx_house.proofs.Free.{held_out, held_in}
+use Rattle.vx_house.proofs.Free.{held_in}
 use Rattle.vx_house.proofs.Held.{IsApart, apart_turned}
-use Rattle.vx_house.proofs.Listed.{all_back, all_two, all_unmapped, held_each}
+use Rattle.vx_house.proofs.Listed.{all_back, all_two, all_unmapped}
 use Rattle.vx_finding.specs.Places.{ArePlaced}
 use Rattle.vx_finding.specs.Finds.{holder_of, holders_of, beside, contents_in, candidate_of, candidates_of, IsOfGroup, IsNaming}
 use Rattle.vx_finding.specs.Gathering.{IsMet}
-use Rattle.vx_finding.specs.Importing.{IsSince}
+use Rattle.vx_finding.specs.Importing.{all_read, IsSince}
+use Rattle.vx_finding.proofs.Inspected.{held_finds}
 use Rattle.vx_finding.proofs.Linking.{IsLinked}
 use Rattle.vx_finding.proofs.Passing.{self_up_to}
-use Rattle.vx_finding.proofs.Gathered.{or_true, or_first}
+use Rattle.vx_finding.proofs.ReadAtMost.{not_held_here}
+use Rattle.vx_finding.proofs.Names.{or_true, or_first}
 use Rattle.vx_house.specs.Reading.{Stays}
 
 -- the name is that of one of them
@@ -147,7 +149,7 @@ each_unread (f ∷ fs) apart = (here (bytes_eq_self f.device) (none_unread (hold
     others [] away all = tt
     others (g ∷ gs) away all = (ap (λ b. (b && not f.readable) || unread_by fs g.device) away.0 ∙ all.0, others gs away.1 all.1)
 
-module _ {P : Type 0} (see : P → Seen) (group : Word) (names : List Word) (first now : Shelved) (h : House P) (fs : List Looked) (since : IsSince see group names first now h fs) (m : Moment) (is : IsMoment see (at first h) m) where
+module _ {P : Type 0} (see : P → Seen) (group : Word) (names : List Word) (first now : Shelved) (h : House P) (fs : List Looked) (since : IsSince see all_read group names first now h fs) (m : Moment) (is : IsMoment see (at first h) m) where
   abbrev pub start : Scene
   start = scene see (at first h)
 
@@ -157,11 +159,6 @@ module _ {P : Type 0} (see : P → Seen) (group : Word) (names : List Word) (fir
   -- nothing is held under the name in the house: no volume has the device, and nobody else
   not_lent : (name : Word) → held_as (holders see h) name ≡ None → is_lent h name ≡ false
   not_lent name none = lent_held see h.volumes.entries _ name none
-
-  not_held_here : (name : Word) → held_as (holders see h) name ≡ None → IsHeld m.world name → ⊥
-  not_held_here name none held =
-      let out : IsSome (first.held name) = held_out see h m.world is.volumes_are is.group_is first.held since.keeps.devices.each name held in
-      let free : first.held name ≡ None = since.keeps.devices.only name none in cc
 
   not_in_house : (name : Word) → (IsHeld m.world name → ⊥) → held_as (holders see h) name ≡ None
   not_in_house name free = by (held_as (holders see h) name) refl
@@ -190,7 +187,7 @@ module _ {P : Type 0} (see : P → Seen) (group : Word) (names : List Word) (fir
       (all_two (λ f. held_as (holders see h) f.device ≡ None) (λ f. held_as (holders see h ++ holders_of fs) f.device ≡ Some f.seen) (λ f. (held_as (holders see h) f.device ≡ None) × (held_as (holders see h ++ holders_of fs) f.device ≡ Some f.seen))
       (λ f none at. (none, at)) fs
       (all_unmapped (λ o. held_as (holders see h) o.name ≡ None) holder_of fs (none_beside (holders see h) (holders_of fs) since.held.apart))
-      (all_unmapped (λ o. held_as (holders see h ++ holders_of fs) o.name ≡ Some o.seen) holder_of fs (all_back (λ o. held_as (holders see h ++ holders_of fs) o.name ≡ Some o.seen) (holders see h) (holders_of fs) (held_each (holders see h ++ holders_of fs) since.held.apart))))
+      (held_finds (holders see h) fs since.held.apart))
 
   -- what the world has of it
   pub record IsWorlds (f : Looked) : Type 0 where
@@ -209,10 +206,10 @@ module _ {P : Type 0} (see : P → Seen) (group : Word) (names : List Word) (fir
         device = d.1 ∙ ap (λ n. Some (let x : Device = record { sectors = n; contents = d.0.contents } in x)) sectors ∙ ap (λ c. Some (let x : Device = record { sectors = f.seen.sectors; contents = c } in x)) (sym (ap contents_in told));
       }
 
-  one_candidate : (absent : Word → Bool) (f : Looked) → IsThere f → absent f.device ≡ false → IsCandidate group absent m.world (candidate_of f)
+  pub one_candidate : (absent : Word → Bool) (f : Looked) → IsThere f → absent f.device ≡ false → IsCandidate group absent m.world (candidate_of f)
   one_candidate absent f there present =
       let d = found_device f there in record {
-        free = not_held_here f.device there.none;
+        free = not_held_here see group first h since.keeps m is f.device there.none;
         device_is = d.device;
         present = present;
         header = ap (λ c. header_of (c 0)) (ap contents_in d.told) ∙ subst (λ (o : Option Contents). IfSome o (λ c. header_of (c 0) ≡ Some f.label)) d.told there.of.headed;

@@ -1,5 +1,5 @@
 -- An import that ends with all devices back on the shelf.
-use Rattle.std.proofs.Common.{◌≡◌, ◌∙◌, true, false, Some, List, [], refl, sym, ap, inl, inr, arith}
+use Rattle.std.proofs.Common.{◌≡◌, ◌∙◌, true, false, Some, List, [], refl, ap, inl, inr, arith}
 use Rattle.std.specs.Prelude.{Err}
 use Rattle.vx_base.specs.Counts.{Rose}
 use Rattle.vx_base.specs.Named.{Word}
@@ -9,18 +9,19 @@ use Rattle.vx_answers.specs.declared.answer.End.{End}
 use Rattle.vx_answers.specs.declared.answer.End.TheVariants as ends
 use Rattle.vx_answers.specs.declared.refusal.Refusal.TheVariants.{InUse}
 use Rattle.vx_moments.specs.Moment.{Moment, AreLater, Rests}
-use Rattle.vx_plans.specs.Stages.{IsDone, Stops, OnlyReads, ImportRefused, GroupStops}
+use Rattle.vx_plans.specs.Stages.{IsDone, Stops, ImportReads, ImportRefused, GroupStops}
 use Rattle.vx_plans.specs.declared.stage.Stage.TheVariants as stage
 use Rattle.vx_house.specs.Goes.{StageGoes}
-use Rattle.vx_house.specs.Scene.{Shelved, Scene, seen_at, count_in, counts_of, IsBlamed}
+use Rattle.vx_house.specs.Scene.{Shelved, Scene, seen_at, count_in, reads_at, counts_of, IsBlamed}
 use Rattle.vx_house.specs.View.{Keeps, IsMoment, is_lent, at, scene, group_of}
 use Rattle.vx_house.specs.declared.house.House.{House}
 use Rattle.vx_house.specs.declared.house.Imported.{Imported}
 use Rattle.vx_house.specs.declared.stop.Stop.TheVariants as stops
 use Rattle.vx_house.proofs.Ended.{keeps_ended, goes_ended}
 use Rattle.vx_house.proofs.Moments.{counts_own, counts_later, later_refl, faults_refl, moment_at}
-use Rattle.vx_house.proofs.Reading.{stays_device, stays_place, stays_writes}
+use Rattle.vx_house.proofs.Reading.{stays_device, stays_place}
 use Rattle.vx_finding.specs.Gathering.{IsSomeCut}
+use Rattle.vx_finding.proofs.ReadAtMost.{reads_so}
 use Rattle.vx_house.specs.Reading.{AreRead}
 
 module _ {P : Type 0} (see : P → Seen) (group : Word) (disks : List DiskAt) (h : House P) (first new : Shelved) where
@@ -51,8 +52,9 @@ module _ {P : Type 0} (see : P → Seen) (group : Word) (disks : List DiskAt) (h
       pub read_later : AreLater m.counts ended_at.counts
       read_later = counts_later before after m.counts is.counts (λ name. stays_place (seen_at before name) (seen_at after name) (read.reads.seen is.told name)) read.reads.faults
 
-      pub read_only : OnlyReads m ended_at
-      read_only = (refl, λ name. stays_writes (seen_at before name) (seen_at after name) (read.reads.seen is.told name) ∙ sym (is.counts.writes name))
+    -- no more of the devices was read than an import reads
+    abbrev pub ReadsUpTo : Type 0
+    ReadsUpTo = (m : Moment) → IsMoment see (at first h) m → ImportReads group m.world m.counts (counts_of after)
 
     -- the command ends so
     pub ends_read : (end : End) → ((m : Moment) (is : IsMoment see (at first h) m) → Stops (stage.Import group) disks m end (moment_at m.world after)) → IsBlamed end before after → StageGoes {T = Unit {0}} see (stage.Import group) disks (Err (stops.Ended end)) (at first h) (at new h)
@@ -76,19 +78,22 @@ module _ {P : Type 0} (see : P → Seen) (group : Word) (disks : List DiskAt) (h
     }
 
     -- the power is gone
-    pub loses : IsSomeCut before after → StageGoes {T = Unit {0}} see (stage.Import group) disks (Err (stops.Ended (ends.Lost []))) (at first h) (at new h)
-    loses cut = ends_read (ends.Lost []) (λ m is. inr (inl (read_only m is, inr (inr (refl, cut_now m is))))) tt
+    pub loses : ReadsUpTo → IsSomeCut before after → StageGoes {T = Unit {0}} see (stage.Import group) disks (Err (stops.Ended (ends.Lost []))) (at first h) (at new h)
+    loses reads cut = ends_read (ends.Lost []) (λ m is. inr (inl ((refl, reads m is), inr (inr (refl, cut_now m is))))) tt
       where
         cut_now : (m : Moment) → IsMoment see (at first h) m → (name : Word) × (count_in (λ (seen : Seen). seen.cut) false (seen_at after name) ≡ true)
         cut_now m is = let one = cut is.told in (one.0, ap (count_in (λ (seen : Seen). seen.cut) false) one.2 ∙ one.3)
 
     -- the shelf cannot tell its devices
-    pub fails : Rose first.faults new.faults → StageGoes {T = Unit {0}} see (stage.Import group) disks (Err (stops.Ended ends.ShelfFailed)) (at first h) (at new h)
-    fails rose = ends_read ends.ShelfFailed (λ m is. inr (inl (read_only m is, inr (inl (refl, let e = is.counts.shelf in omega (arith, rose, e)))))) rose
+    pub fails : ((name : Word) → reads_at after name ≡ reads_at before name) → Rose first.faults new.faults → StageGoes {T = Unit {0}} see (stage.Import group) disks (Err (stops.Ended ends.ShelfFailed)) (at first h) (at new h)
+    fails unread rose = ends_read ends.ShelfFailed (λ m is. inr (inl ((refl, none_read m is), inr (inl (refl, let e = is.counts.shelf in omega (arith, rose, e)))))) rose
+      where
+        none_read : ReadsUpTo
+        none_read = λ m is. reads_so see group first h keeps m is after (λ name. read.reads.seen is.told name) (λ name. inl (unread name))
 
     -- what was found is refused
-    pub refuses : (end : End) → ((m : Moment) (is : IsMoment see (at first h) m) → ImportRefused group m.world end m.counts (counts_of after)) → IsBlamed end before after → StageGoes {T = Unit {0}} see (stage.Import group) disks (Err (stops.Ended end)) (at first h) (at new h)
-    refuses end refused blamed = ends_read end (λ m is. inr (inl (read_only m is, inl (refused m is)))) blamed
+    pub refuses : ReadsUpTo → (end : End) → ((m : Moment) (is : IsMoment see (at first h) m) → ImportRefused group m.world end m.counts (counts_of after)) → IsBlamed end before after → StageGoes {T = Unit {0}} see (stage.Import group) disks (Err (stops.Ended end)) (at first h) (at new h)
+    refuses reads end refused blamed = ends_read end (λ m is. inr (inl ((refl, reads m is), inl (refused m is)))) blamed
 
 -- a group is imported already
 pub stands : {P : Type 0} (see : P → Seen) (group : Word) (disks : List DiskAt) (h : House P) (shelf : Shelved) (imported : Imported P) → h.group ≡ Some imported → Keeps see (at shelf h) → StageGoes {T = Unit {0}} see (stage.Import group) disks (Err (stops.Ended (ends.Refused (InUse imported.config.group)))) (at shelf h) (at shelf h)

@@ -1,12 +1,8 @@
 -- Devices that were passed, one after the other.
-use Rattle.std.proofs.Common.{◌≡◌, ◌∙◌, ℕ, zero, suc, ◌<◌, ◌≤◌, ◌⊎◌, ◌||◌, Bool, true, false, cond, List, [], ◌∷◌, ◌++◌, length, map, take, get_or, Option, Some, None, refl, sym, ap, subst, arith, inl, inr}
+use Rattle.std.proofs.Common.{◌≡◌, ◌∙◌, ℕ, zero, suc, ◌<◌, ◌≤◌, ◌⊎◌, Bool, true, false, cond, List, [], ◌∷◌, ◌++◌, length, map, take, get_or, Option, Some, None, refl, sym, subst, arith, inl, inr}
 use Rattle.std.proofs.lemmas.List.{take_all, append-nil}
-use Rattle.std.specs.List.Sorted.{IsStrictlySortedBy}
-use Rattle.std.specs.List.{AllByRecursion}
+use Rattle.std.specs.Prelude.{IsSome}
 use Rattle.std.specs.Str.{bytes_eq}
-use Rattle.std.specs.Cmp.Lexicographic.{slice_cmp}
-use Rattle.std.specs.Ordering.{nat_cmp}
-use Rattle.std.specs.declared.cmp.Ordering.TheVariants.{Less}
 use Rattle.vx_base.specs.Counts.{Rose}
 use Rattle.vx_base.specs.Named.{Word}
 use Rattle.vx_base.proofs.NamedLemmas.{bytes_eq_self}
@@ -20,26 +16,15 @@ use Rattle.vx_moments.specs.Holding.{is_among}
 use Rattle.vx_house.specs.Holders.{Holder, held_as, AreHeld}
 use Rattle.vx_house.specs.Scene.{Shelved, Scene, seen_at}
 use Rattle.vx_finding.specs.Finds.{holders_of, beside, IsNaming, HasSlot, AllBefore}
-use Rattle.vx_finding.specs.Gathering.{IsMet, AreMet, GatherGoes, PassGoes}
+use Rattle.vx_finding.specs.Gathering.{HeadersRead, IsMet, AreMet, GatherGoes, PassGoes}
+use Rattle.vx_finding.specs.declared.gathering.Passed.{Passed}
 use Rattle.vx_finding.specs.declared.gathering.Passed.TheVariants.{Done, Cut, OutOfMemory}
+use Rattle.vx_finding.proofs.Headers.{headers_next, headers_all}
+use Rattle.vx_finding.proofs.Names.{or_true, or_first}
 use Rattle.vx_finding.proofs.Passing.{none_before}
 use Rattle.vx_house.specs.Reading.{Stays, OnlyRead}
 use Rattle.vx_house.proofs.Reading.{only_refl, only_trans}
 use Rattle.vx_house.proofs.NotHandedOver.{told_free}
-
--- of rising names each stands before those behind it
-pub rising_at : (names : List Word) (i j : ℕ) (d e : Word) → IsRising names → i < j → j < length names → slice_cmp nat_cmp (get_or names i d) (get_or names j e) ≡ Less
-unfolding IsStrictlySortedBy
-rising_at [] i j d e rising less lt = absurd (omega (arith, lt))
-rising_at (n ∷ names) zero zero d e rising less lt = absurd (omega (arith, less))
-rising_at (n ∷ names) zero (suc j) d e rising less lt = by names j rising.0 (omega (arith, lt))
-  where
-    by : (ns : List Word) (k : ℕ) → AllByRecursion (λ y. slice_cmp nat_cmp n y ≡ Less) ns → k < length ns → slice_cmp nat_cmp n (get_or ns k e) ≡ Less
-    by [] k all lt = absurd (omega (arith, lt))
-    by (m ∷ ns) zero all lt = all.0
-    by (m ∷ ns) (suc k) all lt = by ns k all.1 (omega (arith, lt))
-rising_at (n ∷ names) (suc i) zero d e rising less lt = absurd (omega (arith, less))
-rising_at (n ∷ names) (suc i) (suc j) d e rising less lt = rising_at names i j d e rising.1 (omega (arith, less)) (omega (arith, lt))
 
 -- one more name
 pub all_next : (Q R : Word → Type 0) → ((name : Word) → Q name → R name) → (names : List Word) (i : ℕ) (d : Word) → i < length names → AllOf Q (take i names) → R (get_or names i d) → AllOf R (take (suc i) names)
@@ -55,12 +40,13 @@ held_behind (x ∷ xs) ys name one two = by_test (bytes_eq x.name name) (held_be
     by_test true rest e = cc
     by_test false rest e = rest e two
 
-pub or_true : (b c : Bool) → c ≡ true → (b || c) ≡ true
-or_true true c e = refl
-or_true false c e = e
-
-pub or_first : (b c : Bool) → b ≡ true → (b || c) ≡ true
-or_first b c e = ap (λ x. x || c) e
+held_first : (xs ys : List Holder) (name : Word) → held_as (xs ++ ys) name ≡ None → held_as xs name ≡ None
+held_first [] ys name none = refl
+held_first (x ∷ xs) ys name none = by_test (bytes_eq x.name name) (held_first xs ys name) none
+  where
+    by_test : (b : Bool) → (held_as (xs ++ ys) name ≡ None → held_as xs name ≡ None) → cond b (Some x.seen) (held_as (xs ++ ys) name) ≡ None → cond b (Some x.seen) (held_as xs name) ≡ None
+    by_test true rest e = cc
+    by_test false rest e = rest e
 
 -- a device that stays names the group as before
 pub naming_on : (group : Word) (label : Label) (a b : Seen) → Stays (Some a) (Some b) → IsNaming group label a → IsNaming group label b
@@ -76,6 +62,10 @@ met_on group name old mid new fs gs reads more met = λ seen label none is namin
   | inl rose ↦ inl (let up = reads.faults.devices name in omega (arith, rose, up))
   | inr has ↦ inr (more label.slot has)
 ]
+
+-- the same passing, as its end and its name are known
+pub pass_named : (r s : Passed) (group name n : Word) (old new : Scene) (fs : List Looked) → r ≡ s → name ≡ n → PassGoes r group name old new fs → PassGoes s group n old new fs
+pass_named r s group name n old new fs ends named goes = subst (λ x. PassGoes x group n old new fs) ends (subst (λ x. PassGoes r group x old new fs) named goes)
 
 module _ (group : Word) (old : Shelved) (others : List Holder) (mid new : Shelved) (fs gs : List Looked) where
   abbrev first : Scene
@@ -96,10 +86,13 @@ module _ (group : Word) (old : Shelved) (others : List Holder) (mid new : Shelve
   abbrev pub will : List Word → Word → Type 0
   will excused name = (is_among name excused ≡ true) ⊎ IsMet group name first (beside new others gs) gs
 
+  headers_on : (names : List Word) (i : ℕ) (d : Word) → IsRising names → i < length names → OnlyRead first (beside mid others fs) → (IsSome old.free → HeadersRead (take i names) first (beside mid others fs)) → (IsSome mid.free → HeadersRead (get_or names i d ∷ []) (beside mid others fs) (beside new others gs)) → IsSome old.free → HeadersRead (take (suc i) names) first (beside new others gs)
+  headers_on names i d rising lt reads all one told = headers_next names i d first (beside mid others fs) (beside new others gs) rising lt (λ name none. held_first others (holders_of fs) name none) (all told) (one (reads.told told))
+
   -- one more device was passed
-  pub gather_next : (names : List Word) (i : ℕ) (d : Word) → i < length names → AllBefore fs (get_or names i d) → ((slot : ℕ) (other : Word) → HasSlot slot other fs → HasSlot slot other gs)
+  pub gather_next : (names : List Word) (i : ℕ) (d : Word) → IsRising names → i < length names → AllBefore fs (get_or names i d) → ((slot : ℕ) (other : Word) → HasSlot slot other fs → HasSlot slot other gs)
       → GatherGoes Done group (take i names) first (beside mid others fs) fs → PassGoes Done group (get_or names i d) (beside mid others fs) (beside new others gs) gs → GatherGoes Done group (take (suc i) names) first (beside new others gs) gs
-  gather_next names i d lt before more all one = record { held = one.held; reads = only_trans first (beside mid others fs) (beside new others gs) all.reads one.reads; ends = by one.ends }
+  gather_next names i d rising lt before more all one = record { held = one.held; reads = only_trans first (beside mid others fs) (beside new others gs) all.reads one.reads; headers = headers_on names i d rising lt all.reads all.headers one.headers; ends = by one.ends }
     where
       goes_on : (excused : List Word) → ((name : Word) → is_among name all.ends.excused ≡ true → is_among name excused ≡ true) → (name : Word) → was all.ends.excused name → will excused name
       goes_on excused within name (inl among) = inl (within name among)
@@ -118,18 +111,18 @@ module _ (group : Word) (old : Shelved) (others : List Holder) (mid new : Shelve
       }
 
   -- the power is gone
-  pub gather_cut : (names : List Word) (done : List Word) (name : Word) → GatherGoes Done group done first (beside mid others fs) fs → PassGoes Cut group name (beside mid others fs) (beside new others gs) gs → GatherGoes Cut group names first (beside new others gs) gs
-  gather_cut names done name all one = record { held = one.held; reads = only_trans first (beside mid others fs) (beside new others gs) all.reads one.reads; ends = λ told. one.ends (all.reads.told told) }
+  pub gather_cut : (names : List Word) (i : ℕ) (d : Word) → IsRising names → i < length names → GatherGoes Done group (take i names) first (beside mid others fs) fs → PassGoes Cut group (get_or names i d) (beside mid others fs) (beside new others gs) gs → GatherGoes Cut group names first (beside new others gs) gs
+  gather_cut names i d rising lt all one = record { held = one.held; reads = only_trans first (beside mid others fs) (beside new others gs) all.reads one.reads; headers = λ told. headers_all names (suc i) first (beside new others gs) (headers_on names i d rising lt all.reads all.headers one.headers told); ends = λ told. one.ends (all.reads.told told) }
 
-  pub gather_starved : (names : List Word) (done : List Word) (name : Word) → GatherGoes Done group done first (beside mid others fs) fs → PassGoes OutOfMemory group name (beside mid others fs) (beside new others gs) gs → GatherGoes OutOfMemory group names first (beside new others gs) gs
-  gather_starved names done name all one = record { held = one.held; reads = only_trans first (beside mid others fs) (beside new others gs) all.reads one.reads; ends = tt }
+  pub gather_starved : (names : List Word) (i : ℕ) (d : Word) → IsRising names → i < length names → GatherGoes Done group (take i names) first (beside mid others fs) fs → PassGoes OutOfMemory group (get_or names i d) (beside mid others fs) (beside new others gs) gs → GatherGoes OutOfMemory group names first (beside new others gs) gs
+  gather_starved names i d rising lt all one = record { held = one.held; reads = only_trans first (beside mid others fs) (beside new others gs) all.reads one.reads; headers = λ told. headers_all names (suc i) first (beside new others gs) (headers_on names i d rising lt all.reads all.headers one.headers told); ends = tt }
 
 -- none was passed yet
 pub gather_none : {P : Type 0} (see : P → Seen) (group : Word) (names : List Word) (shelf : Shelved) (others : List Holder) (fs : List (Found P)) → fs ≡ [] → AreHeld shelf.held others → GatherGoes Done group (take 0 names) (record { shelf = shelf; taken = others }) (beside shelf others (map (looked see) fs)) (map (looked see) fs)
 gather_none {P = P} see group names shelf others fs none are =
     subst (λ (xs : List (Found P)). GatherGoes Done group (take 0 names) (record { shelf = shelf; taken = others }) (beside shelf others (map (looked see) xs)) (map (looked see) xs)) (sym none)
     (subst (λ hs. GatherGoes Done group (take 0 names) (record { shelf = shelf; taken = others }) (record { shelf = shelf; taken = hs }) []) (sym (append-nil others))
-    (record { held = are; reads = only_refl (record { shelf = shelf; taken = others }); ends = record { excused = []; shelf = omega arith; met = tt } }))
+    (record { held = are; reads = only_refl (record { shelf = shelf; taken = others }); headers = λ told name. inl refl; ends = record { excused = []; shelf = omega arith; met = tt } }))
 
 pub gather_all : (group : Word) (names : List Word) (i : ℕ) (old new : Scene) (fs : List Looked) → length names ≤ i → GatherGoes Done group (take i names) old new fs → GatherGoes Done group names old new fs
 gather_all group names i old new fs le goes = subst (λ ns. GatherGoes Done group ns old new fs) (take_all i names le) goes

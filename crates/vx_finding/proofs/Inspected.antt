@@ -14,10 +14,11 @@ use Rattle.vx_import.specs.Toggles.{Inspects, IsUnread}
 use Rattle.vx_import.specs.Answers.{IsOf, IsRising}
 use Rattle.vx_import.specs.declared.found.Found.{Found}
 use Rattle.vx_plans.specs.Finding.{IsUpTo}
-use Rattle.vx_house.specs.Holders.{Holder, AreHeld}
+use Rattle.vx_house.specs.Holders.{Holder, held_as, AreApart, AreHeld}
 use Rattle.vx_house.proofs.Held.{later_held}
+use Rattle.vx_house.proofs.Listed.{all_back, all_unmapped, held_each}
 use Rattle.vx_finding.specs.Places.{slots_of, ArePlaced}
-use Rattle.vx_finding.specs.Finds.{holders_of, HasSlot, IsFind, IsOfGroup, AreFinds, AreLooked}
+use Rattle.vx_finding.specs.Finds.{holder_of, holders_of, HasSlot, IsFind, IsOfGroup, AreFinds, AreLooked}
 use Rattle.vx_finding.proofs.Placed.{all_low, few, slots_long}
 use Rattle.vx_house.proofs.Steps.{IsStep}
 use Rattle.vx_house.proofs.Reading.{IsReadOn, each_behind, each_later}
@@ -116,6 +117,12 @@ module _ {P : Type 0} (see : P → Seen) where
 -- as many are found once they are read
 pub few_looked : {P : Type 0} (see : P → Seen) (group : Word) (gs : List (Found P)) → AreLooked see group gs → length gs ≤ 32
 few_looked see group gs are = let a = few (slots_of gs) (all_low gs) are.rising in let b = slots_long gs in omega (arith, a, b)
+
+-- each of them is held under its own name
+pub held_finds : (others : List Holder) (fs : List Looked) → AreApart (others ++ holders_of fs) → AllOf (λ f. held_as (others ++ holders_of fs) f.device ≡ Some f.seen) fs
+held_finds others fs apart =
+    let all = held_each (others ++ holders_of fs) apart in
+    all_unmapped (λ o. held_as (others ++ holders_of fs) o.name ≡ Some o.seen) holder_of fs (all_back (λ o. held_as (others ++ holders_of fs) o.name ≡ Some o.seen) others (holders_of fs) all)
 
 pub read_each : (fs gs : List Looked) → Each Inspects fs gs → Each (IsStep IsReadOn) (holders_of fs) (holders_of gs)
 read_each [] [] each = tt

@@ -1,13 +1,17 @@
 pub mod Placed
 pub mod Verdicts
 pub mod PutAmong
+pub mod Names
+pub mod Headers
 pub mod Passing
 pub mod Gathered
 pub mod Back
 pub mod Linking
 pub mod Concluding
 pub mod Texts
+pub mod ReadAtMost
 pub mod Counting
+pub mod ReadFinds
 pub mod Searched
 pub mod Inspected
 pub mod Ending

@@ -1,6 +1,6 @@
 -- One device of the shelf is passed.
-use Rattle.std.proofs.Common.{◌≡◌, ◌∙◌, ◌≤◌, ℕ, true, false, List, [], ◌∷◌, ◌++◌, None, refl, sym, ap, subst, inl, inr, append_assoc}
-use Rattle.std.specs.Prelude.{IfSome}
+use Rattle.std.proofs.Common.{◌≡◌, ◌∙◌, ◌≤◌, ◌+◌, ℕ, true, false, List, [], ◌∷◌, ◌++◌, None, refl, sym, ap, subst, inl, inr, append_assoc}
+use Rattle.std.specs.Prelude.{IfSome, IsSome}
 use Rattle.std.specs.Str.{bytes_eq}
 use Rattle.std.specs.Cmp.Lexicographic.{slice_cmp}
 use Rattle.std.specs.Ordering.{nat_cmp, is_eq}
@@ -17,12 +17,14 @@ use Rattle.vx_shelf.specs.Shelf.{SameCounts}
 use Rattle.vx_import.specs.Looks.{Looked}
 use Rattle.vx_plans.specs.Finding.{IsUpTo}
 use Rattle.vx_house.specs.Holders.{Holder, held_as, AreHeld}
-use Rattle.vx_house.specs.Scene.{Shelved}
+use Rattle.vx_house.specs.Scene.{Shelved, seen_in}
 use Rattle.vx_house.proofs.Scenes.{scene_of, IsHanded}
 use Rattle.vx_finding.specs.Finds.{holder_of, holders_of, beside, IsNaming, HasSlot, AllBefore}
-use Rattle.vx_finding.specs.Gathering.{IsSlotUsed, WhyBack, IsFound, LookBy, PassedBy, PassGoes}
+use Rattle.vx_finding.specs.Gathering.{HeadersRead, IsSlotUsed, WhyBack, IsFound, LookBy, PassedBy, PassGoes}
 use Rattle.vx_finding.specs.declared.gathering.Passed.{Passed}
 use Rattle.vx_finding.specs.declared.gathering.Passed.TheVariants.{Done, Cut, OutOfMemory}
+use Rattle.vx_finding.proofs.Headers.{same_reads, header_kept, header_back}
+use Rattle.vx_finding.proofs.Names.{less_apart}
 use Rattle.vx_finding.proofs.PutAmong.{all_on_put, any_on_put, any_at_put}
 use Rattle.vx_house.proofs.NotHandedOver.{told_free, not_told, only_asked, held_asked}
 use Rattle.vx_house.proofs.TakenAndRead as took
@@ -41,9 +43,6 @@ self_up_to name other same = λ greater.
     let two : bytes_eq name other ≡ true = ap (bytes_eq name) (sym same) ∙ bytes_eq_self name in
     let three : is_eq (slice_cmp nat_cmp name other) ≡ false = ap is_eq greater in cc
 
-less_apart : (name other : Word) → slice_cmp nat_cmp name other ≡ Less → bytes_eq name other ≡ false
-less_apart name other less = sym (is_eq-slice_cmp name other) ∙ ap is_eq less
-
 pub none_before : (name : Word) (fs : List Looked) → AllBefore fs name → held_as (holders_of fs) name ≡ None
 none_before name [] before = refl
 none_before name (f ∷ fs) before = cond-false _ _ _ (less_apart f.device name before.0) ∙ none_before name fs before.1
@@ -56,7 +55,7 @@ has_slot slot name (f ∷ fs) before (inr used) = inr (has_slot slot name fs bef
 module _ (old new : Shelved) (same : SameUnder old.held new.held) (stays : new.free ≡ old.free) (counts : SameCounts old.counted new.counted) (later : old.faults ≤ new.faults) where
   module _ (group name : Word) (others : List Holder) (fs : List Looked) (are : AreHeld old.held (others ++ holders_of fs)) where
     missed : (result : Passed) → PassedBy result group name (beside old others fs) (beside new others fs) fs → PassGoes result group name (beside old others fs) (beside new others fs) fs
-    missed result ends = record { held = held_asked old new same stays counts later (others ++ holders_of fs) are; reads = only_asked old new same stays counts later (others ++ holders_of fs); ends = ends }
+    missed result ends = record { held = held_asked old new same stays counts later (others ++ holders_of fs) are; reads = only_asked old new same stays counts later (others ++ holders_of fs); headers = λ told other. inl (same_reads (beside old others fs) (beside new others fs) other (ap (λ f. seen_in (held_as (others ++ holders_of fs) other) f other) stays)); ends = ends }
 
     pub pass_absent : IfSome old.free (λ d. d name ≡ None) → PassGoes Done group name (beside old others fs) (beside new others fs) fs
     pass_absent gone = missed Done (inr (λ seen label none is naming. absurd (not_told (held_as (others ++ holders_of fs) name) old.free name seen gone none is)))
@@ -68,7 +67,7 @@ module _ (old new : Shelved) (same : SameUnder old.held new.held) (stays : new.f
     pass_starved = missed OutOfMemory tt
 
 module _ (group name : Word) (old mid new : Shelved) (fs fs' : List Looked) (seen after : Seen) (handed : IsHanded name seen old mid) (kept : Keeps seen after) (same : IsRead seen after) where
-  module _ (others : List Holder) (are : AreHeld old.held (others ++ holders_of fs)) (before : AllBefore fs name) where
+  module _ (most : after.reads ≤ seen.reads + 1) (others : List Holder) (are : AreHeld old.held (others ++ holders_of fs)) (before : AllBefore fs name) where
     abbrev hs : List Holder
     hs = others ++ holders_of fs
 
@@ -89,6 +88,7 @@ module _ (group name : Word) (old mid new : Shelved) (fs fs' : List Looked) (see
     pass_back result back why = record {
       held = took.held_back old mid [] hs name seen after are handed kept same new back;
       reads = took.read_back old mid [] hs name seen after are handed kept same new back;
+      headers = header_back old mid [] hs name seen after are handed kept same most new back;
       ends = back_by result back why;
     }
 
@@ -123,6 +123,7 @@ module _ (group name : Word) (old mid new : Shelved) (fs fs' : List Looked) (see
       pass_kept = record {
         held = subst (AreHeld mid.held) (sym new_is) (took.held_now old mid xs ys name seen after are_split handed kept same);
         reads = subst (λ ks. OnlyRead (scene_of old hs) (scene_of mid ks)) (sym new_is) (subst (λ ks. OnlyRead (scene_of old ks) (scene_of mid (xs ++ now ∷ ys))) (sym old_is) (took.read_now old mid xs ys name seen after are_split handed kept same));
+        headers = subst (λ ks. IsSome old.free → HeadersRead (name ∷ []) (scene_of old hs) (scene_of mid ks)) (sym new_is) (subst (λ ks. IsSome old.free → HeadersRead (name ∷ []) (scene_of old ks) (scene_of mid (xs ++ now ∷ ys))) (sym old_is) (header_kept old mid xs ys name seen after are_split handed kept same most));
         ends = inr (λ first label none is naming.
             let told = told_free (held_as hs name) old.free name first none is in
             let was = took.was_told old mid [] hs name seen after are handed kept same told in

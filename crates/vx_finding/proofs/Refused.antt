@@ -21,28 +21,30 @@ use Rattle.vx_answers.specs.declared.refusal.Refusal.{Refusal}
 use Rattle.vx_script_words.specs.declared.value.DiskAt.{DiskAt}
 use Rattle.vx_plans.specs.Finding.{Finds, import_records}
 use Rattle.vx_plans.specs.Refusals.{refusal_from}
-use Rattle.vx_plans.specs.Stages.{RefusedAsLong}
+use Rattle.vx_moments.specs.Moment.{Moment}
+use Rattle.vx_plans.specs.Stages.{ImportReads, RefusedAsLong}
 use Rattle.vx_plans.specs.declared.stage.Stage.TheVariants as stage
 use Rattle.vx_house.specs.Goes.{StageGoes}
 use Rattle.vx_house.specs.Holders.{holders, held_as, volume_at}
-use Rattle.vx_house.specs.Scene.{Shelved, seen_in, seen_at, FaultsGoOn}
-use Rattle.vx_house.specs.View.{at, scene}
+use Rattle.vx_house.specs.Scene.{Shelved, seen_in, seen_at, counts_of, FaultsGoOn}
+use Rattle.vx_house.specs.View.{IsMoment, at, scene}
 use Rattle.vx_house.specs.declared.house.House.{House}
 use Rattle.vx_house.specs.declared.stop.Stop.{Stop}
 use Rattle.vx_house.specs.declared.stop.Stop.TheVariants as stops
-use Rattle.vx_house.proofs.Listed.{all_back, all_each, all_unmapped, held_each}
+use Rattle.vx_house.proofs.Listed.{all_each}
 use Rattle.vx_house.proofs.Moments.{faults_moved}
-use Rattle.vx_finding.specs.Finds.{holder_of, holders_of, beside, candidates_of, IsOfGroup, AreLooked}
+use Rattle.vx_finding.specs.Finds.{holders_of, beside, candidates_of, IsOfGroup, AreLooked}
 use Rattle.vx_finding.specs.Giving.{IsBack, good_looks, disks_in, seen_disks}
-use Rattle.vx_finding.specs.Importing.{IsAsked, IsSince, EndIs, StopIs, SearchStops}
+use Rattle.vx_finding.specs.Importing.{all_read, IsAsked, IsSince, EndIs, StopIs, SearchStops}
 use Rattle.vx_finding.specs.Judging.{TextJudged, is_started, labels_of}
 use Rattle.vx_finding.specs.declared.judging.Judged.{Judged}
 use Rattle.vx_finding.specs.declared.judging.Judged.TheVariants as judged
 use Rattle.vx_finding.proofs.Counting.{unread_by, found_of, all_linked}
 use Rattle.vx_finding.proofs.Ending.{starves, loses, refuses}
 use Rattle.vx_finding.proofs.Goods.{good_few}
-use Rattle.vx_finding.proofs.Inspected.{few_looked}
-use Rattle.vx_finding.proofs.WhileSearching.{since_back, asked_read}
+use Rattle.vx_finding.proofs.Inspected.{few_looked, held_finds}
+use Rattle.vx_finding.proofs.ReadFinds.{import_reads}
+use Rattle.vx_finding.proofs.WhileSearching.{since_back, asked_read, asked_reads}
 use Rattle.vx_finding.proofs.Taken.{found_labels}
 use Rattle.vx_finding.proofs.Texts.{labels_in}
 use Rattle.vx_finding.proofs.Told.{started_same, refused_finds, fault_finds, given_finds}
@@ -66,9 +68,12 @@ few_disks see dg good ds es looks made =
     let c = looks_long see ds in
     let d = few_looked see dg ds looks in omega (arith, a, b, c, d)
 
-module _ {P : Type 0} (see : P → Seen) (dg : Word) (names : List Word) (disks : List DiskAt) (first now new : Shelved) (h : House P) (fs : List Looked) (since : IsSince see dg names first now h fs) (back : IsBack (beside now (holders see h) fs) (scene see (at new h))) where
+module _ {P : Type 0} (see : P → Seen) (dg : Word) (names : List Word) (disks : List DiskAt) (first now new : Shelved) (h : House P) (fs : List Looked) (since : IsSince see all_read dg names first now h fs) (back : IsBack (beside now (holders see h) fs) (scene see (at new h))) where
   read : AreRead (scene see (at first h)) (scene see (at new h))
   read = since_back see dg names first now new h fs since back
+
+  reads_back : (m : Moment) (is : IsMoment see (at first h) m) → ImportReads dg m.world m.counts (counts_of (scene see (at new h)))
+  reads_back m is = import_reads see dg names first now h fs since m is (scene see (at new h)) (back.moved.seen (since.reads.told is.told))
 
   -- memory is wanting
   pub starves_back : StageGoes {T = Unit {0}} see (stage.Import dg) disks (Err stops.OutOfMemory) (at first h) (at new h)
@@ -82,7 +87,7 @@ module _ {P : Type 0} (see : P → Seen) (dg : Word) (names : List Word) (disks 
 
   -- the text is refused
   pub refused_back : (given : Given) (why : Refusal) → IsGiven dg given fs → TextJudged dg (text_of given.text) given.good (labels_in (candidates_of fs)) (is_started h.volumes) (judged.Refused why) → StageGoes {T = Unit {0}} see (stage.Import dg) disks (Err (stops.Ended (ends.Refused why))) (at first h) (at new h)
-  refused_back given why is judges = refuses see dg disks h first new read since.keeps (ends.Refused why)
+  refused_back given why is judges = refuses see dg disks h first new read since.keeps reads_back (ends.Refused why)
       (λ m at_m. record {
         found = found_of see dg names first now h fs since m at_m (scene see (at new h)) later;
         why = why;
@@ -93,8 +98,7 @@ module _ {P : Type 0} (see : P → Seen) (dg : Word) (names : List Word) (disks 
 
   finds_seen : AllOf (λ f. seen_at (beside now (holders see h) fs) f.device ≡ Some f.seen) fs
   finds_seen =
-      all_each (λ f. held_as (holders see h ++ holders_of fs) f.device ≡ Some f.seen) (λ f. seen_at (beside now (holders see h) fs) f.device ≡ Some f.seen) (λ f at_f. ap (λ o. seen_in o now.free f.device) at_f) fs
-      (all_unmapped (λ o. held_as (holders see h ++ holders_of fs) o.name ≡ Some o.seen) holder_of fs (all_back (λ o. held_as (holders see h ++ holders_of fs) o.name ≡ Some o.seen) (holders see h) (holders_of fs) (held_each (holders see h ++ holders_of fs) since.held.apart)))
+      all_each (λ f. held_as (holders see h ++ holders_of fs) f.device ≡ Some f.seen) (λ f. seen_at (beside now (holders see h) fs) f.device ≡ Some f.seen) (λ f at_f. ap (λ o. seen_in o now.free f.device) at_f) fs (held_finds (holders see h) fs since.held.apart)
 
   one_off : (gs : List Looked) → AllOf (λ f. seen_at (beside now (holders see h) fs) f.device ≡ Some f.seen) gs → AnyOf IsOff gs → (name : Word) × (seen : Seen) × (seen_at (beside now (holders see h) fs) name ≡ Some seen) × (seen.cut ≡ true)
   one_off [] all any = absurd any
@@ -103,12 +107,12 @@ module _ {P : Type 0} (see : P → Seen) (dg : Word) (names : List Word) (disks 
 
   -- the power is gone
   lost_back : AnyOf IsOff fs → StageGoes {T = Unit {0}} see (stage.Import dg) disks (Err (stops.Ended (ends.Lost []))) (at first h) (at new h)
-  lost_back off = loses see dg disks h first new read since.keeps (λ told. let one = one_off fs finds_seen off in (one.0, one.1, back.moved.seen (since.reads.told told) one.0 ∙ one.2, one.3))
+  lost_back off = loses see dg disks h first new read since.keeps reads_back (λ told. let one = one_off fs finds_seen off in (one.0, one.1, back.moved.seen (since.reads.told told) one.0 ∙ one.2, one.3))
 
   fault_refused : (f : ImportFault) (end : End) → EndIs f dg end → (f ≡ fault.PowerLost → ⊥) → (is_refused : (why : Refusal) × (end ≡ ends.Refused why)) → Answers (Err f) dg fs → StageGoes {T = Unit {0}} see (stage.Import dg) disks (Err (stops.Ended end)) (at first h) (at new h)
   fault_refused f end is on refused answers =
       subst (λ e. StageGoes {T = Unit {0}} see (stage.Import dg) disks (Err (stops.Ended e)) (at first h) (at new h)) (sym refused.1)
-      (refuses see dg disks h first new read since.keeps (ends.Refused refused.0)
+      (refuses see dg disks h first new read since.keeps reads_back (ends.Refused refused.0)
       (λ m at_m.
       let told = fault_finds dg m.world (unread_by fs) fs (all_linked see dg names first now h fs since m at_m) ofs (λ o config. (refusal_from (first_broken (import_records config)) ≡ Some refused.0) ⊎ ((after : Config) × (objects_of after ≡ import_records config) × RefusedAsLong after (ends.Refused refused.0))) f (ends.Refused refused.0) (subst (EndIs f dg) refused.1 is) on answers in
       let same : told.0 ≡ refused.0 = let e = told.1 in cc in
@@ -140,8 +144,8 @@ pub judged_labels : {P : Type 0} (see : P → Seen) (dg : Word) (good : ℕ) (st
 judged_labels see dg good started j text ds judges = subst (λ ls. TextJudged dg text good ls started j) (found_labels see ds) judges
 
 -- the search found nothing
-pub searched_back : {P : Type 0} (see : P → Seen) (dg : Word) (names : List Word) (disks : List DiskAt) (first mid new : Shelved) (h : House P) → IsAsked see names first mid h → AreRead (scene see (at mid h)) (scene see (at new h)) → (stop : Stop) → SearchStops stop (scene see (at mid h)) (scene see (at new h)) → StageGoes {T = Unit {0}} see (stage.Import dg) disks (Err stop) (at first h) (at new h)
+pub searched_back : {P : Type 0} (see : P → Seen) (dg : Word) (names : List Word) (disks : List DiskAt) (first mid new : Shelved) (h : House P) → IsAsked see names first mid h → AreRead (scene see (at mid h)) (scene see (at new h)) → (stop : Stop) → SearchStops stop names (scene see (at mid h)) (scene see (at new h)) → StageGoes {T = Unit {0}} see (stage.Import dg) disks (Err stop) (at first h) (at new h)
 searched_back see dg names disks first mid new h asked read (stops.Ended end) is =
     subst (λ e. StageGoes {T = Unit {0}} see (stage.Import dg) disks (Err (stops.Ended e)) (at first h) (at new h)) (sym is.0)
-    (loses see dg disks h first new (asked_read see names first mid new h asked read) asked.keeps (λ told. is.1 (asked.still.reads.told told)))
+    (loses see dg disks h first new (asked_read see names first mid new h asked read) asked.keeps (asked_reads see dg names first mid new h asked read is.2) (λ told. is.1 (asked.still.reads.told told)))
 searched_back see dg names disks first mid new h asked read stops.OutOfMemory is = starves see dg disks h first new (asked_read see names first mid new h asked read) asked.keeps

@@ -39,7 +39,7 @@ use Rattle.vx_house.specs.declared.house.Imported.{Imported}
 use Rattle.vx_house.specs.declared.stop.Stop.{Stop}
 use Rattle.vx_house.specs.declared.stop.Stop.TheVariants as stops
 use Rattle.vx_house.proofs.Listed.{all_each}
-use Rattle.vx_house.proofs.Moments.{counts_own, counts_later, later_trans, faults_trans}
+use Rattle.vx_house.proofs.Moments.{counts_own, counts_later, later_trans, faults_moved, faults_trans}
 use Rattle.vx_house.proofs.Scenes.{scene_of}
 use Rattle.vx_commits.proofs.Alone.{IsWrittenIn, alone, x_alone, lost_alone, cut_alone, committed_alone}
 use Rattle.vx_commits.proofs.Joined.{held_on, faults_on, moment_on, later_on, but_group_on}
@@ -48,7 +48,7 @@ use Rattle.vx_commits.proofs.Members.{member_in}
 use Rattle.vx_commits.specs.Committing.{IsTried, IsFinished, IsWritable, CommitEnds}
 use Rattle.vx_finding.specs.Finds.{beside, IsOfGroup, AreLooked, candidate_of, candidates_of}
 use Rattle.vx_finding.specs.Giving.{IsBack, good_looks, disks_in, seen_disks, disk_holders}
-use Rattle.vx_finding.specs.Importing.{IsSince}
+use Rattle.vx_finding.specs.Importing.{all_read, IsSince}
 use Rattle.vx_finding.specs.Judging.{TextJudged, is_started, labels_of}
 use Rattle.vx_header.specs.Named.{label_of}
 use Rattle.vx_finding.specs.Readying.{IsReadied, AreCommittable}
@@ -59,11 +59,13 @@ use Rattle.vx_finding.proofs.Ending.{starves}
 use Rattle.vx_finding.proofs.Goods.{good_candidates}
 use Rattle.vx_finding.proofs.Linking.{IsLinked}
 use Rattle.vx_finding.proofs.Masked.{mask_is}
+use Rattle.vx_finding.proofs.ReadFinds.{import_reads}
 use Rattle.vx_finding.proofs.Readied.{committable, named, recorded_disks}
 use Rattle.vx_finding.proofs.Told.{started_same, ready_of, ready_finds, given_finds}
 use Rattle.vx_finding.proofs.Texts.{labels_in}
 use Rattle.vx_house.specs.Reading.{OnlyRead}
-use Rattle.vx_house.proofs.Reading.{stays_device, stays_place, stays_writes, only_trans, only_unmoved}
+use Rattle.vx_house.specs.Unmoved.{Unmoved}
+use Rattle.vx_house.proofs.Reading.{stays_device, stays_place, only_trans, only_unmoved}
 
 -- the disks beside a house without a group and with an empty hand are held as those of its group
 pub holders_taken : {P : Type 0} (see : P → Seen) (h : House P) (g : Imported P) → h.hand.items ≡ [] → h.group ≡ None → holders see h ++ disk_holders see g.base.disks.items ≡ holders see (record { volumes = h.volumes; group = Some g; hand = h.hand })
@@ -103,7 +105,7 @@ members_same good fs = mapped (good_looks good fs) ∙ ap (map member_of) (sym (
 
 -- the disks of a configuration that was found, as the house takes them in
 module _ {P : Type 0} (see : P → Seen) (dg : Word) (names : List Word) (disks : List DiskAt) (first now mid : Shelved) (h : House P) (ds : List (Found P)) (es : Vec (Disk P) Global) (given : Given) (after : Config) (v : Vec ℕ Global) (text : List ℕ) (text_is : text ≡ v.items)
-    (since : IsSince see dg names first now h (map (looked see) ds)) (looks : AreLooked see dg ds) (given_is : IsGiven dg given (map (looked see) ds))
+    (since : IsSince see all_read dg names first now h (map (looked see) ds)) (looks : AreLooked see dg ds) (given_is : IsGiven dg given (map (looked see) ds))
     (judged : TextJudged dg (text_of given.text) given.good (labels_in (candidates_of (map (looked see) ds))) (is_started h.volumes) (Ready after v))
     (back : IsBack (beside now (holders see h) (map (looked see) ds)) (scene_of mid (holders see h ++ disk_holders see es.items))) (made : seen_disks see es.items ≡ disks_in (good_looks given.good (map (looked see) ds))) where
   abbrev fs : List Looked
@@ -144,11 +146,11 @@ module _ {P : Type 0} (see : P → Seen) (dg : Word) (names : List Word) (disks 
   abbrev taken : Scene
   taken = scene see (at mid found_house)
 
-  moved : OnlyRead (beside now (holders see h) fs) taken
-  moved = subst (λ hs. OnlyRead (beside now (holders see h) fs) (scene_of mid hs)) same_holders (only_unmoved (beside now (holders see h) fs) (scene_of mid (holders see h ++ disk_holders see es.items)) back.moved)
+  moved : Unmoved (beside now (holders see h) fs) taken
+  moved = subst (λ hs. Unmoved (beside now (holders see h) fs) (scene_of mid hs)) same_holders back.moved
 
   read : OnlyRead start taken
-  read = only_trans start (beside now (holders see h) fs) taken since.reads moved
+  read = only_trans start (beside now (holders see h) fs) taken since.reads (only_unmoved (beside now (holders see h) fs) taken moved)
 
   module _ (m : Moment) (is : IsMoment see (at first h) m) where
     -- the moment before the commit
@@ -169,16 +171,16 @@ module _ {P : Type 0} (see : P → Seen) (dg : Word) (names : List Word) (disks 
     none_then : m.world.group ≡ None
     none_then = is.group_is ∙ ap (group_of see) since.none
 
-    pub is_between : (n : Moment) → AreLater (counts_of taken) n.counts → IsBetween m middle n
+    pub is_between : (n : Moment) → AreLater (counts_of taken) n.counts → IsBetween dg m middle n
     is_between n later = record {
       world = ap (λ (o : Option Group). let w : World = record { devices = m.world.devices; volumes = m.world.volumes; group = o } in w) (sym none_then);
-      writes = λ name. stays_writes (seen_at start name) (seen_at taken name) (read.seen is.told name) ∙ sym (is.counts.writes name);
+      reads = import_reads see dg names first now h fs since m is taken (moved.seen (since.reads.told is.told));
       first = later_found;
       rest = later;
     }
 
     abbrev found : Findings dg m.world m.counts (counts_of taken)
-    found = found_of see dg names first now h fs since m is taken moved.faults
+    found = found_of see dg names first now h fs since m is taken (faults_moved (beside now (holders see h) fs) taken moved)
 
     linked : AllOf (IsLinked (unread_by fs)) fs
     linked = all_linked see dg names first now h fs since m is

@@ -1,5 +1,5 @@
 -- What the looking at devices leaves.
-use Rattle.std.specs.Prelude.{◌≡◌, ◌⊎◌, ℕ, ◌+◌, ◌≤◌, true, false, List, [], ◌∷◌, ◌++◌, length, Some, None, IsSome}
+use Rattle.std.specs.Prelude.{◌≡◌, ◌⊎◌, ℕ, ◌+◌, ◌≤◌, true, List, [], ◌∷◌, ◌++◌, length, Some, None, IsSome}
 use Rattle.vx_base.specs.Counts.{Rose, RoseBy}
 use Rattle.vx_base.specs.Named.{Word}
 use Rattle.vx_header.specs.Named.{Label}
@@ -83,10 +83,13 @@ PassedBy Done group name old new fs = Rose old.shelf.faults new.shelf.faults ⊎
 PassedBy Cut group name old new fs = IsSomeCut old new
 PassedBy OutOfMemory group name old new fs = Unit {0}
 
--- one sector of each device of these names was read at most, and none of another
-pub record HeadersRead (names : List Word) (old new : Scene) : Type 0 where
-  pub these : (name : Word) → is_among name names ≡ true → reads_at new name ≤ reads_at old name + 1
-  pub others : (name : Word) → is_among name names ≡ false → reads_at new name ≡ reads_at old name
+-- the device was not read; or it is one of these, nobody held it, and one sector of it was read at most
+abbrev pub IsHeaderRead : List Word → Scene → Scene → Word → Type 0
+IsHeaderRead names old new name = (reads_at new name ≡ reads_at old name) ⊎ ((is_among name names ≡ true) × (held_as old.taken name ≡ None) × (reads_at new name ≤ reads_at old name + 1))
+
+-- of each of these devices that nobody held one sector was read at most, and nothing of another
+abbrev pub HeadersRead : List Word → Scene → Scene → Type 0
+HeadersRead names old new = (name : Word) → IsHeaderRead names old new name
 
 -- One device was passed: all that is held is held as whole devices, and each was only read.
 pub record PassGoes (result : Passed) (group name : Word) (old new : Scene) (fs : List Looked) : Type 0 where

@@ -1,6 +1,7 @@
 -- The import of a group, once its devices were looked for.
-use Rattle.std.specs.Prelude.{◌≡◌, ℕ, ◌+◌, ◌≤◌, true, false, List, [], ◌++◌, map, Option, Some, None, IsSome, IfSome}
+use Rattle.std.specs.Prelude.{◌≡◌, ℕ, ◌+◌, ◌≤◌, false, List, [], ◌++◌, map, Option, Some, None, IsSome, IfSome}
 use Rattle.vx_base.specs.Counts.{Rose}
+use Rattle.vx_base.specs.Blocks.{Contents}
 use Rattle.vx_base.specs.Named.{Word}
 use Rattle.vx_piece.specs.Seen.{Seen}
 use Rattle.vx_shelf.specs.Listed.{Lists}
@@ -14,7 +15,6 @@ use Rattle.vx_import.specs.declared.judging.ImportFault.TheVariants as fault
 use Rattle.vx_answers.specs.declared.answer.End.{End}
 use Rattle.vx_answers.specs.declared.answer.End.TheVariants as ends
 use Rattle.vx_answers.specs.declared.refusal.Refusal.TheVariants.{NoGroup, Damaged, Missing}
-use Rattle.vx_moments.specs.Holding.{is_among}
 use Rattle.vx_plans.specs.Finding.{IsDiskOf}
 use Rattle.vx_house.specs.Holders.{holders, held_as, AreHeld}
 use Rattle.vx_house.specs.Scene.{Shelved, Scene, faults_at, reads_at}
@@ -23,14 +23,14 @@ use Rattle.vx_house.specs.declared.house.House.{House}
 use Rattle.vx_house.specs.declared.stop.Stop.{Stop}
 use Rattle.vx_house.specs.declared.stop.Stop.TheVariants as stops
 use Rattle.vx_finding.specs.Places.{ArePlaced}
-use Rattle.vx_finding.specs.Finds.{holders_of, contents_in, beside, IsOfGroup}
-use Rattle.vx_finding.specs.Gathering.{AreMet, IsSomeCut}
+use Rattle.vx_finding.specs.Finds.{holders_of, beside, IsOfGroup}
+use Rattle.vx_finding.specs.Gathering.{IsHeaderRead, HeadersRead, AreMet, IsSomeCut}
 use Rattle.vx_house.specs.Reading.{OnlyRead, AreRead}
 
--- how a search ended that found nothing: the power is gone, or memory is wanting
-abbrev pub SearchStops : Stop → Scene → Scene → Type 0
-SearchStops (stops.Ended end) old new = (end ≡ ends.Lost []) × IsSomeCut old new
-SearchStops stops.OutOfMemory old new = Unit {0}
+-- how a search among these names ended that found nothing: the power is gone, and headers were read at most; or memory is wanting
+abbrev pub SearchStops : Stop → List Word → Scene → Scene → Type 0
+SearchStops (stops.Ended end) names old new = (end ≡ ends.Lost []) × IsSomeCut old new × (IsSome old.shelf.free → HeadersRead names old new)
+SearchStops stops.OutOfMemory names old new = Unit {0}
 
 -- The shelf has told its names, and nothing was taken.
 pub record IsAsked {P : Type 0} (see : P → Seen) (names : List Word) (first now : Shelved) (h : House P) : Type 0 where
@@ -39,25 +39,24 @@ pub record IsAsked {P : Type 0} (see : P → Seen) (names : List Word) (first no
   pub none : h.group ≡ None
   pub lists : IfSome first.free (λ devices. Lists names devices first.held)
   pub still : AreRead (scene see (at first h)) (scene see (at now h))
-  pub unread : IsSome first.free → (name : Word) → reads_at (scene see (at now h)) name ≡ reads_at (scene see (at first h)) name
+  pub unread : (name : Word) → reads_at (scene see (at now h)) name ≡ reads_at (scene see (at first h)) name
 
--- What was read of devices: so many sectors at most of each that was found, at most the header of others of these names, and
--- nothing of any other.
-pub record AreReadUpTo (most : Looked → ℕ) (names : List Word) (old new : Scene) (fs : List Looked) : Type 0 where
-  pub found : AllOf (λ f. f.seen.reads ≤ reads_at old f.device + most f) fs
-  pub these : (name : Word) → held_as (holders_of fs) name ≡ None → is_among name names ≡ true → reads_at new name ≤ reads_at old name + 1
-  pub others : (name : Word) → held_as (holders_of fs) name ≡ None → is_among name names ≡ false → reads_at new name ≡ reads_at old name
+-- What was read of devices: so many sectors at most of each that was found, by its contents; of each other one of these names
+-- that nobody held the header at most, and nothing of any other.
+pub record AreReadUpTo (most : Contents → ℕ) (names : List Word) (old new : Scene) (fs : List Looked) : Type 0 where
+  pub found : AllOf (λ f. IfSome f.seen.told (λ contents. f.seen.reads ≤ reads_at old f.device + most contents)) fs
+  pub others : (name : Word) → held_as (holders_of fs) name ≡ None → IsHeaderRead names old new name
 
 -- the header alone
-abbrev pub header_alone : Looked → ℕ
-header_alone f = 1
+abbrev pub header_alone : Contents → ℕ
+header_alone contents = 1
 
 -- the header, the toggle and the text that the toggle names
-abbrev pub all_read : Looked → ℕ
-all_read f = 2 + text_sectors (toggle_of (contents_in f.seen.told 1))
+abbrev pub all_read : Contents → ℕ
+all_read contents = 2 + text_sectors (toggle_of (contents 1))
 
 -- Since the shelf told its names, these devices of the group were found: each was met, and all were only read.
-pub record IsSince {P : Type 0} (see : P → Seen) (most : Looked → ℕ) (group : Word) (names : List Word) (first now : Shelved) (h : House P) (fs : List Looked) : Type 0 where
+pub record IsSince {P : Type 0} (see : P → Seen) (most : Contents → ℕ) (group : Word) (names : List Word) (first now : Shelved) (h : House P) (fs : List Looked) : Type 0 where
   pub keeps : Keeps see (at first h)
   pub ready : h.hand.items ≡ []
   pub none : h.group ≡ None

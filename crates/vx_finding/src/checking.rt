@@ -16,7 +16,7 @@ use vx_piece::Piece;
 use vx_started::Started;
 
 /// The disk of the first device whose slot is good and which the configuration does not record.
-pub fn first_stray<P: Piece>(found: &[Found<P>], good: u32, disks: &[Disk]) -> Option<Name>
+pub(crate) fn first_stray<P: Piece>(found: &[Found<P>], good: u32, disks: &[Disk]) -> Option<Name>
     ensures { result ≡ stray_in disks.now good (labels_of found.now) }
 {
     match found {
@@ -50,7 +50,7 @@ fn is_same_disk(disk: &Disk, header: &Header) -> bool
 }
 
 /// The first of the volumes that has the name of a started one.
-pub fn first_started<P>(vols: &[Vol], volumes: &BTreeMap<Name, Started<P>>) -> Option<Name>
+pub(crate) fn first_started<P>(vols: &[Vol], volumes: &BTreeMap<Name, Started<P>>) -> Option<Name>
     ensures { result ≡ started_in (is_started volumes.now) vols.now }
 {
     match vols {

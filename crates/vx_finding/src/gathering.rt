@@ -24,7 +24,7 @@ use vx_shelf::{Shelf, ShelfFault};
 
 /// How the looking at devices ended.
 #[derive(Clone, Copy, Debug, PartialEq, Eq)]
-pub enum Passed {
+pub(crate) enum Passed {
     Done,
     /// The power is gone.
     Cut,
@@ -34,7 +34,7 @@ pub enum Passed {
 
 /// Takes each device of these names and reads its header. Those of the group are kept, the first by name of each slot; the
 /// others are given back at once. A device that cannot be taken or read is passed over.
-pub fn gather<S: Shelf>(
+pub(crate) fn gather<S: Shelf>(
     shelf: &mut S,
     names: &[Name],
     dg: &Name,

@@ -11,7 +11,7 @@ use vx_import::Found;
 use vx_shelf::Shelf;
 
 /// Gives all devices back, each under its name. What else is held stays so.
-pub fn give_finds<S: Shelf>(finds: Vec<Found<S::P>>, shelf: &mut S)
+pub(crate) fn give_finds<S: Shelf>(finds: Vec<Found<S::P>>, shelf: &mut S)
     requires held { (others : List Holder) × AreHeld (S.held shelf.old) (others ++ holders_of (map (looked S.P.seen) finds.items)) }
     ensures goes { (others : List Holder) → AreHeld (S.held shelf.old) (others ++ holders_of (map (looked S.P.seen) finds.items)) →
         IsBack (beside (shelved S.free S.held S.counted S.faults shelf.old) others (map (looked S.P.seen) finds.items))

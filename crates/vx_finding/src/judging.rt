@@ -14,20 +14,21 @@ use vx_names::Name;
 use vx_objects::{Config, Object, ObjectFault, Vol, VolState};
 use vx_parts::same;
 use vx_piece::Piece;
+use vx_plans::refusal_by;
 use vx_print::print_m;
 use vx_record::{Record, RecordFault, read};
 use vx_started::Started;
 
 /// What becomes of a configuration's text.
 #[derive(Drop)]
-pub enum Judged {
+pub(crate) enum Judged {
     Refused(Refusal),
     /// The configuration to be committed, and its text.
     Ready(Config, Vec<u8>),
 }
 
 /// Reads the text of a configuration, and tells whether it can be that of the devices.
-pub fn judge<P: Piece>(
+pub(crate) fn judge<P: Piece>(
     alloc: Global,
     dg: &Name,
     text: &[u8],
@@ -71,17 +72,9 @@ fn judge_records<P: Piece>(
 fn refused_by(fault: &ObjectFault) -> Result<Judged, OutOfMemory>
     ensures { IfOk result (RefusedBy fault.now) }
 {
-    match fault {
-        ObjectFault::Exists(name) => Ok(Judged::Refused(Refusal::Exists(*name))),
-        ObjectFault::NoObject(name) => Ok(Judged::Refused(Refusal::NoObject(*name))),
-        ObjectFault::InUse(name) => Ok(Judged::Refused(Refusal::InUse(*name))),
-        ObjectFault::Overlap(name) => Ok(Judged::Refused(Refusal::Overlap(*name))),
-        ObjectFault::Outside(name) => Ok(Judged::Refused(Refusal::Outside(*name))),
-        ObjectFault::NoMap(name) => Ok(Judged::Refused(Refusal::NoMap(*name))),
-        ObjectFault::Limit(limit) => Ok(Judged::Refused(Refusal::Limit(*limit))),
-        ObjectFault::NotWhole(name) => Ok(Judged::Refused(Refusal::NotWhole(*name))),
-        ObjectFault::NoLog(name) => Ok(Judged::Refused(Refusal::NoLog(*name))),
-        ObjectFault::OutOfMemory => Err(OutOfMemory),
+    match refusal_by(fault) {
+        Some(refusal) => Ok(Judged::Refused(refusal)),
+        None => Err(OutOfMemory),
     }
 }
 

@@ -13,10 +13,4 @@ mod placing;
 mod searching;
 mod sorting;
 
-pub use checking::{first_started, first_stray};
-pub use gathering::{Passed, gather};
-pub use giving::give_finds;
 pub use importing::import;
-pub use judging::{Judged, judge};
-pub use naming::missing_disk;
-pub use placing::{place_of, put_in};

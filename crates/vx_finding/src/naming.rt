@@ -8,7 +8,11 @@ use vx_parts::same;
 use vx_record::{Kind, Record, RecordFault, read};
 
 /// The name of the slot's disk in a configuration's text; None where the text spells no records, or none of such a disk.
-pub fn missing_disk(alloc: Global, text: &[u8], slot: u8) -> Result<Option<Name>, OutOfMemory>
+pub(crate) fn missing_disk(
+    alloc: Global,
+    text: &[u8],
+    slot: u8,
+) -> Result<Option<Name>, OutOfMemory>
     ensures { IfOk result (IsDiskOf text.now slot) }
 {
     match read(alloc, text) {

@@ -5,7 +5,7 @@ use vx_import::Found;
 use vx_piece::Piece;
 
 /// Where a device of the slot goes among others, in the order of slots; None where one of them has the slot.
-pub fn place_of<P: Piece>(found: &[Found<P>], slot: u8) -> Option<usize>
+pub(crate) fn place_of<P: Piece>(found: &[Found<P>], slot: u8) -> Option<usize>
     requires { ArePlaced (slots_of found.now) }
     ensures { PlaceIs result slot (slots_of found.now) }
 {
@@ -24,7 +24,7 @@ pub fn place_of<P: Piece>(found: &[Found<P>], slot: u8) -> Option<usize>
 }
 
 /// Puts a device into its place, where there is room for it.
-pub fn put_in<P: Piece>(
+pub(crate) fn put_in<P: Piece>(
     finds: &mut Vec<Found<P>>,
     place: usize,
     found: Found<P>,

@@ -35,7 +35,7 @@ pub(crate) fn search_names<S: Shelf>(
         (map (looked S.P.seen) finds.items)) }
     ensures back { IfErr result (λ stop. (others : List Holder) → AreHeld (S.held shelf.old) others →
         AreRead (record { shelf = shelved S.free S.held S.counted S.faults shelf.old; taken = others }) (record { shelf = shelved S.free S.held S.counted S.faults shelf.new; taken = others })
-        × SearchStops stop (record { shelf = shelved S.free S.held S.counted S.faults shelf.old; taken = others }) (record { shelf = shelved S.free S.held S.counted S.faults shelf.new; taken = others })) }
+        × SearchStops stop names.now (record { shelf = shelved S.free S.held S.counted S.faults shelf.old; taken = others }) (record { shelf = shelved S.free S.held S.counted S.faults shelf.new; taken = others })) }
 {
     let Ok(finds) = Vec::with_capacity(alloc, 32) else {
         return Err(Stop::OutOfMemory);

@@ -4,10 +4,9 @@ use Rattle.std.specs.Ordering.{nat_cmp}
 use Rattle.std.specs.declared.cmp.Ordering.TheVariants.{Less}
 use Rattle.vx_import.specs.Looks.{looked}
 use Rattle.vx_house.specs.Scene.{shelved}
-use Rattle.vx_finding.specs.Finds.{beside, AllBefore}
-use Rattle.vx_finding.specs.Gathering.{PassGoes}
-use Rattle.vx_finding.specs.declared.gathering.Passed.TheVariants.{Done}
-use Rattle.vx_finding.proofs.Gathered.{rising_at, gather_next, gather_cut, gather_starved, gather_none, gather_all, before_first}
+use Rattle.vx_finding.specs.Finds.{AllBefore}
+use Rattle.vx_finding.proofs.Gathered.{pass_named, gather_next, gather_cut, gather_starved, gather_none, gather_all, before_first}
+use Rattle.vx_finding.proofs.Names.{rising_at}
 use Rattle.vx_finding.proofs.gathering.gather.Goals as goal
 
 pub names-init : goal.names-init
@@ -28,23 +27,24 @@ names-preserved g c = record {
       (gather_next c.args.dg.now (shelved g.S.Shelf.free g.S.Shelf.held g.S.Shelf.counted g.S.Shelf.faults c.args.shelf.now) others
       (shelved g.S.Shelf.free g.S.Shelf.held g.S.Shelf.counted g.S.Shelf.faults c.names.shelf) (shelved g.S.Shelf.free g.S.Shelf.held g.S.Shelf.counted g.S.Shelf.faults c.pass.new.shelf)
       (map (looked g.S.P.Piece.seen) c.names.finds.items) (map (looked g.S.P.Piece.seen) c.pass.new.finds.items)
-      c.args.names.now c.names.i c.index-names-i.result c.names-test.true (c.names.invariant.before c.names.i c.index-names-i.result (omega arith) c.names-test.true) c.pass.ensures.more
+      c.args.names.now c.names.i c.index-names-i.result c.requires.rising c.names-test.true (c.names.invariant.before c.names.i c.index-names-i.result (omega arith) c.names-test.true) c.pass.ensures.more
       (c.names.invariant.goes others are)
-      (let goes : PassGoes Done c.args.dg.now c.index-names-i.result (beside (shelved g.S.Shelf.free g.S.Shelf.held g.S.Shelf.counted g.S.Shelf.faults c.names.shelf) others (map (looked g.S.P.Piece.seen) c.names.finds.items)) (beside (shelved g.S.Shelf.free g.S.Shelf.held g.S.Shelf.counted g.S.Shelf.faults c.pass.new.shelf) others (map (looked g.S.P.Piece.seen) c.pass.new.finds.items)) (map (looked g.S.P.Piece.seen) c.pass.new.finds.items) = subst (λ r. PassGoes r c.args.dg.now c.index-names-i.result (beside (shelved g.S.Shelf.free g.S.Shelf.held g.S.Shelf.counted g.S.Shelf.faults c.names.shelf) others (map (looked g.S.P.Piece.seen) c.names.finds.items)) (beside (shelved g.S.Shelf.free g.S.Shelf.held g.S.Shelf.counted g.S.Shelf.faults c.pass.new.shelf) others (map (looked g.S.P.Piece.seen) c.pass.new.finds.items)) (map (looked g.S.P.Piece.seen) c.pass.new.finds.items)) c.in-Done.is (c.pass.ensures.goes others (c.names.invariant.goes others are).held) in
-      subst (λ n. PassGoes Done c.args.dg.now n (beside (shelved g.S.Shelf.free g.S.Shelf.held g.S.Shelf.counted g.S.Shelf.faults c.names.shelf) others (map (looked g.S.P.Piece.seen) c.names.finds.items)) (beside (shelved g.S.Shelf.free g.S.Shelf.held g.S.Shelf.counted g.S.Shelf.faults c.pass.new.shelf) others (map (looked g.S.P.Piece.seen) c.pass.new.finds.items)) (map (looked g.S.P.Piece.seen) c.pass.new.finds.items)) c.index-names-i.is goes));
+      (pass_named _ _ _ _ _ _ _ _ c.in-Done.is c.index-names-i.is (c.pass.ensures.goes others (c.names.invariant.goes others are).held)));
 }
 
 pub returns-in-Cut-clause-goes : goal.returns-in-Cut-clause-goes
 returns-in-Cut-clause-goes g c = λ others are.
     gather_cut c.args.dg.now (shelved g.S.Shelf.free g.S.Shelf.held g.S.Shelf.counted g.S.Shelf.faults c.args.shelf.now) others
     (shelved g.S.Shelf.free g.S.Shelf.held g.S.Shelf.counted g.S.Shelf.faults c.names.shelf) (shelved g.S.Shelf.free g.S.Shelf.held g.S.Shelf.counted g.S.Shelf.faults c.pass.new.shelf)
-    (map (looked g.S.P.Piece.seen) c.names.finds.items) (map (looked g.S.P.Piece.seen) c.pass.new.finds.items) c.args.names.now _ c.index-names-i.result (c.names.invariant.goes others are) (c.in-Cut.ensures.goes others (c.names.invariant.goes others are).held)
+    (map (looked g.S.P.Piece.seen) c.names.finds.items) (map (looked g.S.P.Piece.seen) c.pass.new.finds.items) c.args.names.now c.names.i c.index-names-i.result c.requires.rising c.names-test.true
+    (c.names.invariant.goes others are) (pass_named _ _ _ _ _ _ _ _ c.in-Cut.is c.index-names-i.is (c.pass.ensures.goes others (c.names.invariant.goes others are).held))
 
 pub returns-in-OutOfMemory-clause-goes : goal.returns-in-OutOfMemory-clause-goes
 returns-in-OutOfMemory-clause-goes g c = λ others are.
     gather_starved c.args.dg.now (shelved g.S.Shelf.free g.S.Shelf.held g.S.Shelf.counted g.S.Shelf.faults c.args.shelf.now) others
     (shelved g.S.Shelf.free g.S.Shelf.held g.S.Shelf.counted g.S.Shelf.faults c.names.shelf) (shelved g.S.Shelf.free g.S.Shelf.held g.S.Shelf.counted g.S.Shelf.faults c.pass.new.shelf)
-    (map (looked g.S.P.Piece.seen) c.names.finds.items) (map (looked g.S.P.Piece.seen) c.pass.new.finds.items) c.args.names.now _ c.index-names-i.result (c.names.invariant.goes others are) (c.in-OutOfMemory.ensures.goes others (c.names.invariant.goes others are).held)
+    (map (looked g.S.P.Piece.seen) c.names.finds.items) (map (looked g.S.P.Piece.seen) c.pass.new.finds.items) c.args.names.now c.names.i c.index-names-i.result c.requires.rising c.names-test.true
+    (c.names.invariant.goes others are) (pass_named _ _ _ _ _ _ _ _ c.in-OutOfMemory.is c.index-names-i.is (c.pass.ensures.goes others (c.names.invariant.goes others are).held))
 
 pub returns-clause-goes : goal.returns-clause-goes
 returns-clause-goes g c = λ others are. gather_all c.args.dg.now c.args.names.now c.names.i _ _ _ (omega (arith, c.names-test.false)) (c.names.invariant.goes others are)

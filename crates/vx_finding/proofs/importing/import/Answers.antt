@@ -2,7 +2,7 @@ use Rattle.std.proofs.Common.{refl, sym, subst, IfSome}
 use Rattle.vx_shelf.specs.Listed.{Lists}
 use Rattle.vx_house.specs.Scene.{shelved}
 use Rattle.vx_finding.proofs.Ending.{stands, fails}
-use Rattle.vx_finding.proofs.WhileSearching.{names_asked, still_asked}
+use Rattle.vx_finding.proofs.WhileSearching.{unread_asked, names_asked, still_asked}
 use Rattle.vx_finding.proofs.importing.import.Goals as goal
 
 pub returns-in-Some : goal.returns-in-Some
@@ -20,5 +20,6 @@ pub returns-in-Err-Failed : goal.returns-in-Err-Failed
 returns-in-Err-Failed g c = record {
   goes = fails g.S.P.Piece.seen c.args.dg.now c.args.disks.now c.args.house.now (shelved g.S.Shelf.free g.S.Shelf.held g.S.Shelf.counted g.S.Shelf.faults c.args.shelf.now) (shelved g.S.Shelf.free g.S.Shelf.held g.S.Shelf.counted g.S.Shelf.faults c.names.new.self)
       (still_asked g.S.P.Piece.seen (shelved g.S.Shelf.free g.S.Shelf.held g.S.Shelf.counted g.S.Shelf.faults c.args.shelf.now) (shelved g.S.Shelf.free g.S.Shelf.held g.S.Shelf.counted g.S.Shelf.faults c.names.new.self) c.args.house.now c.requires.keeps c.names.ensures.same c.names.ensures.stays c.names.ensures.counts c.names.ensures.later) c.requires.keeps
+      (unread_asked g.S.P.Piece.seen (shelved g.S.Shelf.free g.S.Shelf.held g.S.Shelf.counted g.S.Shelf.faults c.args.shelf.now) (shelved g.S.Shelf.free g.S.Shelf.held g.S.Shelf.counted g.S.Shelf.faults c.names.new.self) c.args.house.now c.names.ensures.stays)
       (rw c.in-Err-Failed.field-0-is at c.in-Err-Failed.ensures.cause);
 }

@@ -1,4 +1,4 @@
-use Rattle.vx_finding.proofs.Searched.{read_back, cut_back}
+use Rattle.vx_finding.proofs.Searched.{read_back, cut_back, headers_back}
 use Rattle.std.proofs.Common.{refl}
 use Rattle.vx_finding.proofs.searching.search_names.Goals as goal
 
@@ -12,7 +12,7 @@ pub returns-in-Cut-clause-back : goal.returns-in-Cut-clause-back
 returns-in-Cut-clause-back g c = rw c.lost.ensures (λ others are.
     let goes = c.in-Cut.ensures.goes others are in
     let back = c.give_finds.ensures.goes others goes.held in
-    (read_back _ _ _ _ _ _ _ goes back, (refl, cut_back _ _ _ _ _ _ goes back)))
+    (read_back _ _ _ _ _ _ _ goes back, (refl, cut_back _ _ _ _ _ _ goes back, headers_back _ _ _ _ _ _ _ goes back)))
 
 pub returns-in-OutOfMemory-clause-back : goal.returns-in-OutOfMemory-clause-back
 returns-in-OutOfMemory-clause-back g c = λ others are.

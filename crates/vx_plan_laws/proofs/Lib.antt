@@ -10,3 +10,4 @@ mod Removals
 mod Joins
 mod Makings
 mod Tested
+mod Refusals

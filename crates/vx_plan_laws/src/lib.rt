@@ -2,6 +2,7 @@
 //! promise them.
 #![tactic(auto)]
 
+ghost use Rattle.vx_plan_laws.specs.Refusing.{EachRefusalIsTested, EachCommandIsDoneOrTested};
 ghost use Rattle.vx_plan_laws.specs.Unbroken.{NoRuleRefusesAPolicy, NoRuleRefusesARemoval, NoRuleRefusesRecords, OnlyANameRefusesADisk};
 
 /// Where the group has the volume, and the plex that is to be preferred is a data plex of it, no rule refuses the policy.
@@ -22,4 +23,15 @@ pub fn no_rule_refuses_records()
 /// Where a disk that is to join keeps the limits, the rules refuse it exactly where its name is taken.
 pub fn only_a_name_refuses_a_disk()
     ensures { OnlyANameRefusesADisk }
+{}
+
+/// A command of a plan that is refused was refused by a test, as its text would be too long, or as the name of the disk
+/// that is to join is taken.
+pub fn each_refusal_is_tested()
+    ensures { EachRefusalIsTested }
+{}
+
+/// Where no device call failed and the power stayed, a command does all that it is asked, or is refused so.
+pub fn each_command_is_done_or_tested()
+    ensures { EachCommandIsDoneOrTested }
 {}

@@ -54,7 +54,7 @@ once_more before o once new name = by (bytes_eq (name_of o) name) refl
         let last : had_by name (before ++ o ∷ []) ≡ had_by name before + 0 = had_last name before o ∙ ap (λ (b : Bool). had_by name before + cond b 1 0) e in
         omega arith
 
-new_name : (before os : List Object) (o : Object) → repeated_after before (o ∷ os) ≡ None → has_name (name_of o) before ≡ false
+pub new_name : (before os : List Object) (o : Object) → repeated_after before (o ∷ os) ≡ None → has_name (name_of o) before ≡ false
 new_name before os o e =
     not_true (has_name (name_of o) before)
     (unless_none (not (has_name (name_of o) before)) (Exists (name_of o))

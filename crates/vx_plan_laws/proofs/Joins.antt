@@ -27,6 +27,7 @@ use Rattle.vx_objects.specs.Parts.{in_kinds}
 use Rattle.vx_plan_laws.proofs.Counts.{count_cons, count_append, none_counted, turned, all_map, all_append, all_both, IsAmong, each_among}
 use Rattle.vx_plan_laws.proofs.Differ.{AreOnce, had_by, has_had, once, once_more, twice}
 use Rattle.vx_plan_laws.proofs.Held.{IsFine, AreFine, each_holds, over_all, in_all}
+use Rattle.vx_plan_laws.proofs.OneRule.{EachName}
 use Rattle.vx_plan_laws.proofs.Keeps.{Keeps, IsSame, disk_fine, record_kept, group_over, over_kept}
 use Rattle.vx_plan_laws.proofs.Sorted.{all_same, slot_kept, count_in_kinds, is_on, sorted}
 
@@ -61,7 +62,7 @@ module _ (d : Disk) (old : List Object) where
   same : (test : Object → Bool) → test (DiskRecord d) ≡ false → IsSame old now test
   same test fails = joined test ∙ ap (λ (b : Bool). count_by test old + cond b 1 0) fails ∙ add-zero (count_by test old)
 
-  keeps : Keeps old now (λ vol. Unit {0}) (λ plex. Unit {0})
+  keeps : Keeps old now EachName EachName
   keeps = record {
     groups = λ test. same (λ o. is_group test o) refl;
     disks = λ test e. list_any-append (λ o. is_disk test o) old (DiskRecord d ∷ []) ∙ or_left (list_any (λ o. is_disk test o) old) (list_any (λ o. is_disk test o) (DiskRecord d ∷ [])) e;
@@ -93,13 +94,13 @@ module _ (d : Disk) (old : List Object) where
     fine_now =
         all_append (IsFine now) old (DiskRecord d ∷ [])
         (all_map (λ o. IsFine old o × IsAmong old o) (IsFine now) old
-        (λ o is. record_kept old now (λ vol. Unit {0}) (λ plex. Unit {0}) keeps o (is_on now (λ o. IsFine old o × IsAmong old o) own o is) is.0) (all_both (IsFine old) (IsAmong old) old each (each_among old)))
-        (disk_fine old now (λ vol. Unit {0}) (λ plex. Unit {0}) keeps d fits new_own short, tt)
+        (λ o is. record_kept old now EachName EachName keeps o (is_on now (λ o. IsFine old o × IsAmong old o) own o is) is.0) (all_both (IsFine old) (IsAmong old) old each (each_among old)))
+        (disk_fine old now EachName EachName keeps d fits new_own short, tt)
 
     free_kept : has_name d.name old ≡ false → first_broken (in_kinds now) ≡ None
     free_kept new =
         let once_now : AreOnce now = once_more old (DiskRecord d) single new in
-        sorted now (over_kept old now (λ vol. Unit {0}) (λ plex. Unit {0}) keeps once_now over) fine_now once_now
+        sorted now (over_kept old now EachName EachName keeps once_now over) fine_now once_now
 
     -- where the name is taken, it alone is had twice
     its_name : (name : Word) → 2 ≤ had_by name (in_kinds now) → name ≡ d.name
@@ -127,8 +128,8 @@ module _ (d : Disk) (old : List Object) where
     group_fine : unless (has_one_group (in_kinds now)) (Limit limit.Group) ≡ None
     unfolding fault_over
     group_fine =
-        group_over now (in_kinds now) (λ vol. Unit {0}) (λ plex. Unit {0}) (all_same now (in_kinds now) (λ test. count_in_kinds test now))
-        (group_over old now (λ vol. Unit {0}) (λ plex. Unit {0}) keeps (over rule.OneGroup))
+        group_over now (in_kinds now) EachName EachName (all_same now (in_kinds now) (λ test. count_in_kinds test now))
+        (group_over old now EachName EachName keeps (over rule.OneGroup))
 
     taken_kept : has_name d.name old ≡ true → first_broken (in_kinds now) ≡ Some (Exists d.name)
     taken_kept has = sym (broken_name (in_kinds now) (has_one_group (in_kinds now)) (unless (has_one_group (in_kinds now)) (Limit limit.Group)) (Exists d.name) refl refl (taken_name has) group_fine)

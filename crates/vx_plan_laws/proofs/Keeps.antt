@@ -37,7 +37,7 @@ use Rattle.vx_objects.proofs.OneGroup.{second_none, unless_none}
 use Rattle.vx_plan_laws.proofs.Counts.{and_kept, first_of_two, second_of_two, first_of_three, turned, same_number, any_counts, any_like, any_kept}
 use Rattle.vx_plan_laws.proofs.Differ.{AreOnce, none_repeated}
 use Rattle.vx_plan_laws.proofs.Held.{both_none, both_kept, unless_true, unless_kept, IsFine, AreFine}
-use Rattle.vx_plan_laws.proofs.OneRule.{OfName, of_any, missing_kept, plex_asks, subdisk_asks, subdisk_like, refuted, pieces_by, bad_plex, bad_snap, maps_by, with_policy, holds_steady, reaches, length_from, none_overlaps, none_found, overlap_none, fewer, some_still, none_fewer}
+use Rattle.vx_plan_laws.proofs.OneRule.{EachName, OfName, of_each, missing_kept, plex_asks, subdisk_asks, subdisk_like, refuted, pieces_by, bad_plex, bad_snap, maps_by, with_policy, holds_steady, reaches, length_from, none_overlaps, none_found, overlap_none, fewer, some_still, none_fewer}
 
 -- ---- what is as before
 
@@ -266,7 +266,7 @@ module _ (old new : List Object) (Vols Plexes : Word → Type 0) (k : Keeps old 
     unfolding fault_in
     vol_kept state rdpol prefer there fine rule.ReferencesAreThere =
         both_none (missing prefer (λ p. has_plex p new)) (missing v.dco (λ d. has_dco_of d v.name new)) (preferred v.name rdpol prefer there)
-        (missing_kept (λ d. Unit {0}) (λ d. has_dco_of d v.name old) (λ d. has_dco_of d v.name new) (λ d any. dco_there d) v.dco (of_any (λ d. Unit {0}) (λ d. tt) v.dco)
+        (missing_kept EachName (λ d. has_dco_of d v.name old) (λ d. has_dco_of d v.name new) (λ d any. dco_there d) v.dco (of_each v.dco)
         (second_none (missing v.prefer (λ p. has_plex p old)) (missing v.dco (λ d. has_dco_of d v.name old)) (fine rule.ReferencesAreThere)))
     vol_kept state rdpol prefer there fine rule.NumbersFit = fine rule.NumbersFit
     vol_kept state rdpol prefer there fine rule.NamesAreShort = fine rule.NamesAreShort

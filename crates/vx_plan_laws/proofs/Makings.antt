@@ -25,11 +25,10 @@ use Rattle.vx_rules.specs.Whole.{whole_fault, is_whole}
 use Rattle.vx_objects.specs.declared.edit.Edit.TheVariants.{Make}
 use Rattle.vx_objects.specs.Edits.{change, added, target_fault, refusal_of}
 use Rattle.vx_objects.specs.Parts.{in_kinds}
-use Rattle.vx_objects.proofs.OneGroup.{first_none, second_none, unless_none}
+use Rattle.vx_objects.proofs.OneGroup.{first_none, second_none}
 use Rattle.vx_plans.specs.Making.{reference_rules, limit_rules, space_rules, broken, started_name, adding_refusal}
 use Rattle.vx_plans.specs.Refusals.{refusal_from}
-use Rattle.vx_plan_laws.proofs.Counts.{not_true}
-use Rattle.vx_plan_laws.proofs.Differ.{once}
+use Rattle.vx_plan_laws.proofs.Differ.{new_name, once}
 use Rattle.vx_plan_laws.proofs.Held.{over_all, in_all}
 use Rattle.vx_plan_laws.proofs.Joins.{all_stay}
 use Rattle.vx_plan_laws.proofs.Sorted.{sorted}
@@ -187,8 +186,7 @@ every P a b c rule.MapsAreGood = c.1.1.1.1.1.1.0
 all_first : (before os : List Object) → repeated_after before os ≡ None → firsts_after before os ≡ os
 all_first before [] e = refl
 all_first before (o ∷ os) e =
-    let new : has_name (name_of o) before ≡ false = not_true (has_name (name_of o) before) (unless_none (not (has_name (name_of o) before)) (fault.Exists (name_of o)) (first_none (unless (not (has_name (name_of o) before)) (fault.Exists (name_of o))) (repeated_after (before ++ o ∷ []) os) e)) in
-    ap (λ (b : Bool). if b then firsts_after before os else o ∷ firsts_after (before ++ o ∷ []) os) new
+    ap (λ (b : Bool). if b then firsts_after before os else o ∷ firsts_after (before ++ o ∷ []) os) (new_name before os o e)
     ∙ ap (λ (rest : List Object). o ∷ rest) (all_first (before ++ o ∷ []) os (second_none (unless (not (has_name (name_of o) before)) (fault.Exists (name_of o))) (repeated_after (before ++ o ∷ []) os) e))
 
 module _ (all : List Object) (references : refusal_from (first_broken_by reference_rules (firsts all) all) ≡ None) (limits : refusal_from (first_broken_by limit_rules (firsts all) all) ≡ None) (space : refusal_from (first_broken_by space_rules (firsts all) all) ≡ None) where

@@ -28,9 +28,13 @@ abbrev pub OfName : (Word → Type 0) → Option Word → Type 0
 OfName P None = Unit {0}
 OfName P (Some name) = P name
 
-pub of_any : (P : Word → Type 0) → ((name : Word) → P name) → (a : Option Word) → OfName P a
-of_any P each None = tt
-of_any P each (Some name) = each name
+-- any name is such
+abbrev pub EachName : Word → Type 0
+EachName name = Unit {0}
+
+pub of_each : (a : Option Word) → OfName EachName a
+of_each None = tt
+of_each (Some name) = tt
 
 pub missing_kept : (P : Word → Type 0) (was is : Word → Bool) → ((name : Word) → P name → was name ≡ true → is name ≡ true) → (a : Option Word) → OfName P a → missing a was ≡ None → missing a is ≡ None
 missing_kept P was is kept None on e = refl

@@ -31,7 +31,7 @@ use Rattle.vx_objects.specs.Parts.{in_kinds}
 use Rattle.vx_plan_laws.proofs.Counts.{count_append, count_like, count_filter_map, all_append, all_filter_map}
 use Rattle.vx_plan_laws.proofs.Differ.{AreOnce, once}
 use Rattle.vx_plan_laws.proofs.Held.{IsFine, AreFine, unless_true, both_none, each_holds, over_all, in_all}
-use Rattle.vx_plan_laws.proofs.OneRule.{with_policy}
+use Rattle.vx_plan_laws.proofs.OneRule.{EachName, with_policy}
 use Rattle.vx_plan_laws.proofs.Keeps.{Keeps, IsSame, any_same, prefer_same, vol_kept, record_kept, over_kept}
 use Rattle.vx_plan_laws.proofs.Sorted.{is_on, slot_kept, sorted}
 
@@ -91,7 +91,7 @@ module _ (vol : Word) (next : VolState) (policy : PolicyName) where
         ∙ count_filter_map test (λ o. Some (set o)) old
         ∙ count_like (λ o. test (set o)) test old steady
 
-    keeps : Keeps old now (λ vol. Unit {0}) (λ plex. Unit {0})
+    keeps : Keeps old now EachName EachName
     keeps = record {
       groups = λ test. same (λ o. is_group test o) (set_group test);
       disks = λ test e. any_same old now (λ o. is_disk test o) (same (λ o. is_disk test o) (set_disk test)) ∙ e;
@@ -115,16 +115,16 @@ module _ (vol : Word) (next : VolState) (policy : PolicyName) where
     fine_now (VolRecord v) fine = by (bytes_eq v.name vol) refl
       where
         there : v.name ≡ vol → prefer_fault_of now v.name (policy_kind policy) (policy_plex policy) ≡ None
-        there is = prefer_same old now (λ vol. Unit {0}) (λ plex. Unit {0}) keeps v.name tt (policy_kind policy) (policy_plex policy) ∙ subst (λ (n : Word). prefer_fault_of old n (policy_kind policy) (policy_plex policy) ≡ None) (sym is) fits
+        there is = prefer_same old now EachName EachName keeps v.name tt (policy_kind policy) (policy_plex policy) ∙ subst (λ (n : Word). prefer_fault_of old n (policy_kind policy) (policy_plex policy) ≡ None) (sym is) fits
 
         by : (b : Bool) → bytes_eq v.name vol ≡ b → IsFine now (VolRecord (if b then with_policy v next (policy_kind policy) (policy_plex policy) else v))
-        by true e = vol_kept old now (λ vol. Unit {0}) (λ plex. Unit {0}) keeps v tt next (policy_kind policy) (policy_plex policy) (there (bytes_eq_same v.name vol e)) fine
-        by false e = record_kept old now (λ vol. Unit {0}) (λ plex. Unit {0}) keeps (VolRecord v) tt fine
-    fine_now o fine = record_kept old now (λ vol. Unit {0}) (λ plex. Unit {0}) keeps o (is_on now (IsFine old) own o fine) fine
+        by true e = vol_kept old now EachName EachName keeps v tt next (policy_kind policy) (policy_plex policy) (there (bytes_eq_same v.name vol e)) fine
+        by false e = record_kept old now EachName EachName keeps (VolRecord v) tt fine
+    fine_now o fine = record_kept old now EachName EachName keeps o (is_on now (IsFine old) own o fine) fine
 
     pub set_kept : first_broken (in_kinds now) ≡ None
     set_kept =
-        sorted now (over_kept old now (λ vol. Unit {0}) (λ plex. Unit {0}) keeps single_now over)
+        sorted now (over_kept old now EachName EachName keeps single_now over)
         (all_append (IsFine now) (filter_map (λ o. Some (set o)) old) [] (all_filter_map (IsFine old) (IsFine now) (λ o. Some (set o)) old (λ o p is fine. let same_as : set o ≡ p = cc in subst (IsFine now) same_as (fine_now o fine)) each) tt)
         single_now
 

@@ -23,7 +23,7 @@ use Rattle.vx_objects.specs.Parts.{as_group, as_disk, as_subdisk, as_plex, as_vo
 use Rattle.vx_plan_laws.proofs.Counts.{count_cons, count_append, all_map, all_append, all_mapped, all_filter_map}
 use Rattle.vx_plan_laws.proofs.Differ.{AreOnce}
 use Rattle.vx_plan_laws.proofs.Held.{IsFine, AreFine, none_broken}
-use Rattle.vx_plan_laws.proofs.OneRule.{of_any}
+use Rattle.vx_plan_laws.proofs.OneRule.{EachName, of_each}
 use Rattle.vx_plan_laws.proofs.Keeps.{Keeps, IsSame, IsOn, any_same, record_kept, over_kept}
 
 -- ---- counts
@@ -115,7 +115,7 @@ all_in_kinds P os all =
 -- ---- rules
 
 -- with each count as before, all is as before
-pub all_same : (old new : List Object) → ((test : Object → Bool) → IsSame old new test) → Keeps old new (λ vol. Unit {0}) (λ plex. Unit {0})
+pub all_same : (old new : List Object) → ((test : Object → Bool) → IsSame old new test) → Keeps old new EachName EachName
 all_same old new same = record {
   groups = λ test. same (λ o. is_group test o);
   disks = λ test e. any_same old new (λ o. is_disk test o) (same (λ o. is_disk test o)) ∙ e;
@@ -135,11 +135,11 @@ unfolding fault_in
 slot_kept old new d same fine = (λ i. nat_lt d.slot 32 && nat_le (same i) 1) ∙ unless_none (slot_is_own old (DiskRecord d)) (fault.Limit limit.Disks) (fine rule.SlotsDiffer)
 
 -- where all volumes and plexes are as before, a record is, but for the slot of a disk
-pub is_on : (new : List Object) (P : Object → Type 0) → ((d : Disk) → P (DiskRecord d) → slot_is_own new (DiskRecord d) ≡ true) → (o : Object) → P o → IsOn (λ vol. Unit {0}) (λ plex. Unit {0}) new o
+pub is_on : (new : List Object) (P : Object → Type 0) → ((d : Disk) → P (DiskRecord d) → slot_is_own new (DiskRecord d) ≡ true) → (o : Object) → P o → IsOn EachName EachName new o
 is_on new P own (GroupRecord g) is = tt
 is_on new P own (DiskRecord d) is = own d is
-is_on new P own (SubdiskRecord s) is = of_any (λ plex. Unit {0}) (λ plex. tt) s.plex
-is_on new P own (PlexRecord p) is = (of_any (λ vol. Unit {0}) (λ vol. tt) p.vol, tt)
+is_on new P own (SubdiskRecord s) is = of_each s.plex
+is_on new P own (PlexRecord p) is = (of_each p.vol, tt)
 is_on new P own (VolRecord v) is = tt
 is_on new P own (DcoRecord d) is = tt
 is_on new P own (SnapRecord s) is = (tt, tt)
@@ -148,7 +148,7 @@ module _ (os : List Object) (over : AreFine os) (each : AllOf (IsFine os) os) wh
   same : (test : Object → Bool) → IsSame os (in_kinds os) test
   same test = count_in_kinds test os
 
-  kept : Keeps os (in_kinds os) (λ vol. Unit {0}) (λ plex. Unit {0})
+  kept : Keeps os (in_kinds os) EachName EachName
   kept = all_same os (in_kinds os) same
 
   once_sorted : AreOnce os → AreOnce (in_kinds os)
@@ -159,6 +159,6 @@ module _ (os : List Object) (over : AreFine os) (each : AllOf (IsFine os) os) wh
 
   pub sorted : AreOnce os → first_broken (in_kinds os) ≡ None
   sorted one =
-      none_broken (in_kinds os) (over_kept os (in_kinds os) (λ vol. Unit {0}) (λ plex. Unit {0}) kept (once_sorted one) over)
+      none_broken (in_kinds os) (over_kept os (in_kinds os) EachName EachName kept (once_sorted one) over)
       (all_in_kinds (IsFine (in_kinds os)) os
-      (all_map (IsFine os) (IsFine (in_kinds os)) os (λ o fine. record_kept os (in_kinds os) (λ vol. Unit {0}) (λ plex. Unit {0}) kept o (is_on (in_kinds os) (IsFine os) own o fine) fine) each))
+      (all_map (IsFine os) (IsFine (in_kinds os)) os (λ o fine. record_kept os (in_kinds os) EachName EachName kept o (is_on (in_kinds os) (IsFine os) own o fine) fine) each))

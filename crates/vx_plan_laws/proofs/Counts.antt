@@ -1,5 +1,5 @@
 -- How many members of a list pass a test, and what follows for each.
-use Rattle.std.proofs.Common.{◌≡◌, ℕ, ◌+◌, ◌<◌, ◌≤◌, Bool, true, false, not, cond, ◌&&◌, ◌||◌, nat_lt, List, [], ◌∷◌, ◌++◌, map, Option, Some, None, refl, sym, ◌∙◌, ap, inl, inr, arith, zero-add}
+use Rattle.std.proofs.Common.{◌≡◌, ℕ, ◌+◌, ◌<◌, ◌≤◌, Bool, true, false, not, cond, ◌&&◌, ◌||◌, nat_lt, List, [], ◌∷◌, ◌++◌, Option, Some, None, refl, sym, ◌∙◌, ap, inl, inr, arith, zero-add}
 use Rattle.std.specs.List.{list_any, count_by, filter_map, cons_option}
 use Rattle.std.proofs.lemmas.Bool.{or_parts, or_left, or_right, or_cases, cases_order}
 use Rattle.std.proofs.lemmas.Bool.Decides.{nat_tests}
@@ -123,10 +123,6 @@ module _ {X : Type 0} where
   pub all_append : (P : X → Type 0) (xs ys : List X) → AllOf P xs → AllOf P ys → AllOf P (xs ++ ys)
   all_append P [] ys all more = more
   all_append P (x ∷ xs) ys all more = (all.0, all_append P xs ys all.1 more)
-
-  pub all_mapped : {Y : Type 0} (P : X → Type 0) (make : Y → X) (ys : List Y) → AllOf (λ y. P (make y)) ys → AllOf P (map make ys)
-  all_mapped P make [] all = tt
-  all_mapped P make (y ∷ ys) all = (all.0, all_mapped P make ys all.1)
 
   pub all_filter_map : {Y : Type 0} (P : X → Type 0) (Q : Y → Type 0) (h : X → Option Y) (xs : List X) → ((x : X) (y : Y) → h x ≡ Some y → P x → Q y) → AllOf P xs → AllOf Q (filter_map h xs)
   all_filter_map P Q h [] on all = tt

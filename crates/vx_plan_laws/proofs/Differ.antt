@@ -23,7 +23,7 @@ had_by name all = count_by (λ o. bytes_eq (name_of o) name) all
 abbrev pub AreOnce : List Object → Type 0
 AreOnce all = (name : Word) → had_by name all ≤ 1
 
-pub had_last : (name : Word) (before : List Object) (o : Object) → had_by name (before ++ o ∷ []) ≡ had_by name before + cond (bytes_eq (name_of o) name) 1 0
+had_last : (name : Word) (before : List Object) (o : Object) → had_by name (before ++ o ∷ []) ≡ had_by name before + cond (bytes_eq (name_of o) name) 1 0
 had_last name before o =
     count_append (λ o. bytes_eq (name_of o) name) before (o ∷ [])
     ∙ ap (λ (n : ℕ). had_by name before + n) (count_cons (λ o. bytes_eq (name_of o) name) o [] ∙ add-zero (cond (bytes_eq (name_of o) name) 1 0))

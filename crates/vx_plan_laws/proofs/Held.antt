@@ -41,7 +41,7 @@ none_of : (check : Object → Option ObjectFault) (os : List Object) → AllOf (
 none_of check [] all = refl
 none_of check (o ∷ os) all = both_none (check o) (first_of check os) all.0 (none_of check os all.1)
 
-gathered : (P : Rule → Object → Type 0) (os : List Object) → ((r : Rule) → AllOf (λ o. P r o) os) → AllOf (λ o. (r : Rule) → P r o) os
+pub gathered : (P : Rule → Object → Type 0) (os : List Object) → ((r : Rule) → AllOf (λ o. P r o) os) → AllOf (λ o. (r : Rule) → P r o) os
 gathered P [] each = tt
 gathered P (o ∷ os) each = ((λ r. (each r).0), gathered P os (λ r. (each r).1))
 

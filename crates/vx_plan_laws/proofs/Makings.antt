@@ -209,7 +209,7 @@ module _ (all : List Object) (references : refusal_from (first_broken_by referen
   unfolding fault_of
   hold r = subst (λ (known : List Object). fault_by r known all ≡ None) firsts_are (by_rule r)
 
-  pub added_kept : first_broken (in_kinds all) ≡ None
+  added_kept : first_broken (in_kinds all) ≡ None
   added_kept = sorted all (over_all all hold) (in_all all hold) (once all differ)
 
 none_first : {A : Type 0} (a b : Option A) → first_some a b ≡ None → (a ≡ None) × (b ≡ None)

@@ -5,16 +5,11 @@ use Rattle.std.specs.Str.{bytes_eq}
 use Rattle.vx_base.specs.Named.{Word}
 use Rattle.vx_base.proofs.NamedLemmas.{bytes_eq_same}
 use Rattle.vx_copies.specs.Lists.{AllOf}
-use Rattle.vx_parts.specs.declared.group.Group.{Group}
 use Rattle.vx_parts.specs.declared.disk.Disk.{Disk}
-use Rattle.vx_parts.specs.declared.subdisk.Subdisk.{Subdisk}
-use Rattle.vx_parts.specs.declared.plex.Plex.{Plex}
 use Rattle.vx_parts.specs.declared.vol.Vol.{Vol}
 use Rattle.vx_parts.specs.declared.vol.PolicyKind.{PolicyKind}
 use Rattle.vx_parts.specs.declared.vol.PolicyName.{PolicyName}
 use Rattle.vx_parts.specs.declared.state.VolState.{VolState}
-use Rattle.vx_parts.specs.declared.dco.Dco.{Dco}
-use Rattle.vx_parts.specs.declared.snap.Snap.{Snap}
 use Rattle.vx_parts.specs.declared.object.Object.{Object}
 use Rattle.vx_parts.specs.declared.object.Object.TheVariants.{DiskRecord, VolRecord}
 use Rattle.vx_parts.specs.declared.fault.ObjectFault.TheVariants.{NoObject}
@@ -39,31 +34,12 @@ module _ (vol : Word) (next : VolState) (policy : PolicyName) where
   abbrev set : Object → Object
   set o = set_vol vol next policy o
 
+  -- a test that no volume passes
+  untouched : (test : Object → Bool) → ((v : Vol) → test (VolRecord v) ≡ false) → (o : Object) → test (set o) ≡ test o
+  untouched test never (VolRecord v) = never (if bytes_eq v.name vol then with_policy v next (policy_kind policy) (policy_plex policy) else v) ∙ sym (never v)
+  untouched test never o = refl
+
   -- a test that asks for no state and no policy
-  set_group : (test : Group → Bool) (o : Object) → is_group test (set o) ≡ is_group test o
-  set_group test (VolRecord v) = refl
-  set_group test o = refl
-
-  set_disk : (test : Disk → Bool) (o : Object) → is_disk test (set o) ≡ is_disk test o
-  set_disk test (VolRecord v) = refl
-  set_disk test o = refl
-
-  set_subdisk : (test : Subdisk → Bool) (o : Object) → is_subdisk test (set o) ≡ is_subdisk test o
-  set_subdisk test (VolRecord v) = refl
-  set_subdisk test o = refl
-
-  set_plex : (test : Plex → Bool) (o : Object) → is_plex test (set o) ≡ is_plex test o
-  set_plex test (VolRecord v) = refl
-  set_plex test o = refl
-
-  set_dco : (test : Dco → Bool) (o : Object) → is_dco test (set o) ≡ is_dco test o
-  set_dco test (VolRecord v) = refl
-  set_dco test o = refl
-
-  set_snap : (test : Snap → Bool) (o : Object) → is_snap test (set o) ≡ is_snap test o
-  set_snap test (VolRecord v) = refl
-  set_snap test o = refl
-
   set_volume : (test : Vol → Bool) → ((v : Vol) (state : VolState) (rdpol : PolicyKind) (prefer : Option Word) → test (with_policy v state rdpol prefer) ≡ test v) → (o : Object) → is_vol test (set o) ≡ is_vol test o
   set_volume test steady (VolRecord v) = by (bytes_eq v.name vol)
     where
@@ -93,15 +69,15 @@ module _ (vol : Word) (next : VolState) (policy : PolicyName) where
 
     keeps : Keeps old now EachName EachName
     keeps = record {
-      groups = λ test. same (λ o. is_group test o) (set_group test);
-      disks = λ test e. any_same old now (λ o. is_disk test o) (same (λ o. is_disk test o) (set_disk test)) ∙ e;
-      subdisks = λ plex test on asks. same (λ o. is_subdisk test o) (set_subdisk test);
-      plexes = λ plex test on asks. same (λ o. is_plex test o) (set_plex test);
-      plexes_of = λ vol test on asks. same (λ o. is_plex test o) (set_plex test);
+      groups = λ test. same (λ o. is_group test o) (untouched (λ o. is_group test o) (λ v. refl));
+      disks = λ test e. any_same old now (λ o. is_disk test o) (same (λ o. is_disk test o) (untouched (λ o. is_disk test o) (λ v. refl))) ∙ e;
+      subdisks = λ plex test on asks. same (λ o. is_subdisk test o) (untouched (λ o. is_subdisk test o) (λ v. refl));
+      plexes = λ plex test on asks. same (λ o. is_plex test o) (untouched (λ o. is_plex test o) (λ v. refl));
+      plexes_of = λ vol test on asks. same (λ o. is_plex test o) (untouched (λ o. is_plex test o) (λ v. refl));
       volumes = λ vol test on asks. same (λ o. is_vol test o) (set_volume test asks.steady);
-      dcos = λ vol test on asks. same (λ o. is_dco test o) (set_dco test);
-      snaps = λ test. same (λ o. is_snap test o) (set_snap test);
-      few_subdisks = λ test. le_of_eq (same (λ o. is_subdisk test o) (set_subdisk test));
+      dcos = λ vol test on asks. same (λ o. is_dco test o) (untouched (λ o. is_dco test o) (λ v. refl));
+      snaps = λ test. same (λ o. is_snap test o) (untouched (λ o. is_snap test o) (λ v. refl));
+      few_subdisks = λ test. le_of_eq (same (λ o. is_subdisk test o) (untouched (λ o. is_subdisk test o) (λ v. refl)));
       few_volumes = le_of_eq (same (λ o. is_vol (λ v. true) o) (set_volume (λ v. true) (λ v state rdpol prefer. refl)));
     }
 
@@ -109,7 +85,7 @@ module _ (vol : Word) (next : VolState) (policy : PolicyName) where
     single_now name = subst (λ (n : ℕ). n ≤ 1) (sym (same (λ o. bytes_eq (name_of o) name) (λ o. ap (λ (n : Word). bytes_eq n name) (set_name o)))) (single name)
 
     own : (d : Disk) → IsFine old (DiskRecord d) → slot_is_own now (DiskRecord d) ≡ true
-    own d fine = slot_kept old now d (same (λ o. is_disk (λ e. e.slot == d.slot) o) (set_disk (λ e. e.slot == d.slot))) fine
+    own d fine = slot_kept old now d (same (λ o. is_disk (λ e. e.slot == d.slot) o) (untouched (λ o. is_disk (λ e. e.slot == d.slot) o) (λ v. refl))) fine
 
     fine_now : (o : Object) → IsFine old o → IsFine now (set o)
     fine_now (VolRecord v) fine = by (bytes_eq v.name vol) refl
@@ -122,7 +98,7 @@ module _ (vol : Word) (next : VolState) (policy : PolicyName) where
         by false e = record_kept old now EachName EachName keeps (VolRecord v) tt fine
     fine_now o fine = record_kept old now EachName EachName keeps o (is_on now (IsFine old) own o fine) fine
 
-    pub set_kept : first_broken (in_kinds now) ≡ None
+    set_kept : first_broken (in_kinds now) ≡ None
     set_kept =
         sorted now (over_kept old now EachName EachName keeps single_now over)
         (all_append (IsFine now) (filter_map (λ o. Some (set o)) old) [] (all_filter_map (IsFine old) (IsFine now) (λ o. Some (set o)) old (λ o p is fine. let same_as : set o ≡ p = cc in subst (IsFine now) same_as (fine_now o fine)) each) tt)

@@ -57,7 +57,7 @@ module _ (c : Config) where
   pub any_plex : (test : Plex → Bool) → list_any (λ o. is_plex test o) (objects_of c) ≡ list_any test c.plexes
   any_plex test = plex_among test (objects_of c) ∙ ap (λ (ps : List Plex). list_any test ps) (plexes_below c.disks c.subdisks c.plexes c.volumes c.dcos c.snaps)
 
-  pub any_vol : (test : Vol → Bool) → list_any (λ o. is_vol test o) (objects_of c) ≡ list_any test c.volumes
+  any_vol : (test : Vol → Bool) → list_any (λ o. is_vol test o) (objects_of c) ≡ list_any test c.volumes
   any_vol test = vol_among test (objects_of c) ∙ ap (λ (vs : List Vol). list_any test vs) (volumes_below c.disks c.subdisks c.plexes c.volumes c.dcos c.snaps)
 
   pub any_snap : (test : Snap → Bool) → list_any (λ o. is_snap test o) (objects_of c) ≡ list_any test c.snaps

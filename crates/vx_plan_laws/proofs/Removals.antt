@@ -184,7 +184,7 @@ module _ (vol : Word) (old : List Object) where
     once_now : AreOnce now
     once_now name = le_trans (fewer (λ o. bytes_eq (name_of o) name)) (once old differ name)
 
-    pub rest_kept : first_broken (in_kinds now) ≡ None
+    rest_kept : first_broken (in_kinds now) ≡ None
     rest_kept =
         sorted now (over_kept old now Vols Plexes keeps once_now over)
         (all_append (IsFine now) (filter_map (λ o. kept (stays o) o) old) []

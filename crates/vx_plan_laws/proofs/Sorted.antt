@@ -1,15 +1,10 @@
 -- Records that keep the rules keep them once they are sorted into their kinds.
-use Rattle.std.proofs.Common.{◌≡◌, ℕ, ◌+◌, ◌≤◌, Bool, true, ◌&&◌, ◌==◌, nat_lt, nat_le, Option, Some, None, List, [], ◌∷◌, ◌++◌, map, refl, sym, ◌∙◌, subst, arith, le_of_eq}
+use Rattle.std.proofs.Common.{◌≡◌, ℕ, ◌+◌, ◌≤◌, Bool, true, false, ◌&&◌, ◌==◌, nat_lt, nat_le, Option, Some, None, List, [], ◌∷◌, ◌++◌, map, refl, sym, ◌∙◌, ap, subst, is_some, arith, le_of_eq}
 use Rattle.std.specs.Str.{bytes_eq}
-use Rattle.std.specs.List.{count_by, filter_map}
+use Rattle.std.specs.List.{list_any, count_by, filter_map}
+use Rattle.std.proofs.lemmas.Bool.{or_parts, or_from}
 use Rattle.vx_copies.specs.Lists.{AllOf}
-use Rattle.vx_parts.specs.declared.group.Group.{Group}
 use Rattle.vx_parts.specs.declared.disk.Disk.{Disk}
-use Rattle.vx_parts.specs.declared.subdisk.Subdisk.{Subdisk}
-use Rattle.vx_parts.specs.declared.plex.Plex.{Plex}
-use Rattle.vx_parts.specs.declared.vol.Vol.{Vol}
-use Rattle.vx_parts.specs.declared.dco.Dco.{Dco}
-use Rattle.vx_parts.specs.declared.snap.Snap.{Snap}
 use Rattle.vx_parts.specs.declared.object.Object.{Object}
 use Rattle.vx_parts.specs.declared.object.Object.TheVariants.{GroupRecord, DiskRecord, SubdiskRecord, PlexRecord, VolRecord, DcoRecord, SnapRecord}
 use Rattle.vx_parts.specs.Objects.{name_of, is_group, is_disk, is_subdisk, is_plex, is_vol, is_dco, is_snap}
@@ -17,12 +12,13 @@ use Rattle.vx_rules.specs.Limits.{slot_is_own}
 use Rattle.vx_rules.specs.Rules.{fault_in, first_broken}
 use Rattle.vx_rules.specs.declared.rule.Rule.TheVariants as rule
 use Rattle.vx_parts.specs.declared.fault.Limit.TheVariants as limit
+use Rattle.vx_parts.specs.declared.fault.ObjectFault.{ObjectFault}
 use Rattle.vx_parts.specs.declared.fault.ObjectFault.TheVariants as fault
 use Rattle.vx_objects.proofs.OneGroup.{unless_none}
 use Rattle.vx_objects.specs.Parts.{as_group, as_disk, as_subdisk, as_plex, as_vol, as_dco, as_snap, in_kinds}
-use Rattle.vx_plan_laws.proofs.Counts.{count_cons, count_append, all_map, all_append, all_mapped, all_filter_map}
+use Rattle.vx_plan_laws.proofs.Counts.{count_cons, count_append, all_map}
 use Rattle.vx_plan_laws.proofs.Differ.{AreOnce}
-use Rattle.vx_plan_laws.proofs.Held.{IsFine, AreFine, none_broken}
+use Rattle.vx_plan_laws.proofs.Held.{IsFine, AreFine, gathered, none_broken}
 use Rattle.vx_plan_laws.proofs.OneRule.{EachName, of_each}
 use Rattle.vx_plan_laws.proofs.Keeps.{Keeps, IsSame, IsOn, any_same, record_kept, over_kept}
 
@@ -56,63 +52,34 @@ split test os =
     omega arith
 
 -- each record is of one kind
-gathered : (test : Object → Bool) (os : List Object) → parts test os ≡ count_by test os
-gathered test [] = refl
-gathered test (GroupRecord x ∷ os) = let more = gathered test os in let here = count_cons test (GroupRecord x) (map GroupRecord (filter_map as_group os)) in let all = count_cons test (GroupRecord x) os in omega arith
-gathered test (DiskRecord x ∷ os) = let more = gathered test os in let here = count_cons test (DiskRecord x) (map DiskRecord (filter_map as_disk os)) in let all = count_cons test (DiskRecord x) os in omega arith
-gathered test (SubdiskRecord x ∷ os) = let more = gathered test os in let here = count_cons test (SubdiskRecord x) (map SubdiskRecord (filter_map as_subdisk os)) in let all = count_cons test (SubdiskRecord x) os in omega arith
-gathered test (PlexRecord x ∷ os) = let more = gathered test os in let here = count_cons test (PlexRecord x) (map PlexRecord (filter_map as_plex os)) in let all = count_cons test (PlexRecord x) os in omega arith
-gathered test (VolRecord x ∷ os) = let more = gathered test os in let here = count_cons test (VolRecord x) (map VolRecord (filter_map as_vol os)) in let all = count_cons test (VolRecord x) os in omega arith
-gathered test (DcoRecord x ∷ os) = let more = gathered test os in let here = count_cons test (DcoRecord x) (map DcoRecord (filter_map as_dco os)) in let all = count_cons test (DcoRecord x) os in omega arith
-gathered test (SnapRecord x ∷ os) = let more = gathered test os in let here = count_cons test (SnapRecord x) (map SnapRecord (filter_map as_snap os)) in let all = count_cons test (SnapRecord x) os in omega arith
+all_parts : (test : Object → Bool) (os : List Object) → parts test os ≡ count_by test os
+all_parts test [] = refl
+all_parts test (GroupRecord x ∷ os) = let more = all_parts test os in let here = count_cons test (GroupRecord x) (map GroupRecord (filter_map as_group os)) in let all = count_cons test (GroupRecord x) os in omega arith
+all_parts test (DiskRecord x ∷ os) = let more = all_parts test os in let here = count_cons test (DiskRecord x) (map DiskRecord (filter_map as_disk os)) in let all = count_cons test (DiskRecord x) os in omega arith
+all_parts test (SubdiskRecord x ∷ os) = let more = all_parts test os in let here = count_cons test (SubdiskRecord x) (map SubdiskRecord (filter_map as_subdisk os)) in let all = count_cons test (SubdiskRecord x) os in omega arith
+all_parts test (PlexRecord x ∷ os) = let more = all_parts test os in let here = count_cons test (PlexRecord x) (map PlexRecord (filter_map as_plex os)) in let all = count_cons test (PlexRecord x) os in omega arith
+all_parts test (VolRecord x ∷ os) = let more = all_parts test os in let here = count_cons test (VolRecord x) (map VolRecord (filter_map as_vol os)) in let all = count_cons test (VolRecord x) os in omega arith
+all_parts test (DcoRecord x ∷ os) = let more = all_parts test os in let here = count_cons test (DcoRecord x) (map DcoRecord (filter_map as_dco os)) in let all = count_cons test (DcoRecord x) os in omega arith
+all_parts test (SnapRecord x ∷ os) = let more = all_parts test os in let here = count_cons test (SnapRecord x) (map SnapRecord (filter_map as_snap os)) in let all = count_cons test (SnapRecord x) os in omega arith
 
 pub count_in_kinds : (test : Object → Bool) (os : List Object) → count_by test (in_kinds os) ≡ count_by test os
-count_in_kinds test os = split test os ∙ gathered test os
-
--- ---- members
-
-of_kind : {A : Type 0} (P : Object → Type 0) (make : A → Object) (pick : Object → Option A) → ((o : Object) (a : A) → pick o ≡ Some a → o ≡ make a) → (os : List Object) → AllOf P os → AllOf P (map make (filter_map pick os))
-of_kind P make pick one os all = all_mapped P make (filter_map pick os) (all_filter_map P (λ a. P (make a)) pick os (λ o a e is. subst P (one o a e) is) all)
-
-a_group : (o : Object) (a : Group) → as_group o ≡ Some a → o ≡ GroupRecord a
-a_group (GroupRecord x) a e = cc
-a_group o a e = cc
-
-a_disk : (o : Object) (a : Disk) → as_disk o ≡ Some a → o ≡ DiskRecord a
-a_disk (DiskRecord x) a e = cc
-a_disk o a e = cc
-
-a_subdisk : (o : Object) (a : Subdisk) → as_subdisk o ≡ Some a → o ≡ SubdiskRecord a
-a_subdisk (SubdiskRecord x) a e = cc
-a_subdisk o a e = cc
-
-a_plex : (o : Object) (a : Plex) → as_plex o ≡ Some a → o ≡ PlexRecord a
-a_plex (PlexRecord x) a e = cc
-a_plex o a e = cc
-
-a_vol : (o : Object) (a : Vol) → as_vol o ≡ Some a → o ≡ VolRecord a
-a_vol (VolRecord x) a e = cc
-a_vol o a e = cc
-
-a_dco : (o : Object) (a : Dco) → as_dco o ≡ Some a → o ≡ DcoRecord a
-a_dco (DcoRecord x) a e = cc
-a_dco o a e = cc
-
-a_snap : (o : Object) (a : Snap) → as_snap o ≡ Some a → o ≡ SnapRecord a
-a_snap (SnapRecord x) a e = cc
-a_snap o a e = cc
-
-pub all_in_kinds : (P : Object → Type 0) (os : List Object) → AllOf P os → AllOf P (in_kinds os)
-all_in_kinds P os all =
-    all_append P (map GroupRecord (filter_map as_group os)) (map DiskRecord (filter_map as_disk os) ++ (map SubdiskRecord (filter_map as_subdisk os) ++ (map PlexRecord (filter_map as_plex os) ++ (map VolRecord (filter_map as_vol os) ++ (map DcoRecord (filter_map as_dco os) ++ map SnapRecord (filter_map as_snap os)))))) (of_kind P GroupRecord as_group a_group os all)
-    (all_append P (map DiskRecord (filter_map as_disk os)) (map SubdiskRecord (filter_map as_subdisk os) ++ (map PlexRecord (filter_map as_plex os) ++ (map VolRecord (filter_map as_vol os) ++ (map DcoRecord (filter_map as_dco os) ++ map SnapRecord (filter_map as_snap os))))) (of_kind P DiskRecord as_disk a_disk os all)
-    (all_append P (map SubdiskRecord (filter_map as_subdisk os)) (map PlexRecord (filter_map as_plex os) ++ (map VolRecord (filter_map as_vol os) ++ (map DcoRecord (filter_map as_dco os) ++ map SnapRecord (filter_map as_snap os)))) (of_kind P SubdiskRecord as_subdisk a_subdisk os all)
-    (all_append P (map PlexRecord (filter_map as_plex os)) (map VolRecord (filter_map as_vol os) ++ (map DcoRecord (filter_map as_dco os) ++ map SnapRecord (filter_map as_snap os))) (of_kind P PlexRecord as_plex a_plex os all)
-    (all_append P (map VolRecord (filter_map as_vol os)) (map DcoRecord (filter_map as_dco os) ++ map SnapRecord (filter_map as_snap os)) (of_kind P VolRecord as_vol a_vol os all)
-    (all_append P (map DcoRecord (filter_map as_dco os)) (map SnapRecord (filter_map as_snap os)) (of_kind P DcoRecord as_dco a_dco os all)
-    (of_kind P SnapRecord as_snap a_snap os all))))))
+count_in_kinds test os = split test os ∙ all_parts test os
 
 -- ---- rules
+
+is_nothing : {A : Type 0} (o : Option A) → is_some o ≡ false → o ≡ None
+is_nothing None e = refl
+is_nothing (Some x) e = cc
+
+none_some : (check : Object → Option ObjectFault) (os : List Object) → AllOf (λ o. check o ≡ None) os → list_any (λ o. is_some (check o)) os ≡ false
+none_some check [] all = refl
+none_some check (o ∷ os) all = or_from (is_some (check o)) (list_any (λ o. is_some (check o)) os) (ap is_some all.0) (none_some check os all.1)
+
+none_again : (check : Object → Option ObjectFault) (os : List Object) → list_any (λ o. is_some (check o)) os ≡ false → AllOf (λ o. check o ≡ None) os
+none_again check [] e = tt
+none_again check (o ∷ os) e =
+    let parts = or_parts (is_some (check o)) (list_any (λ o. is_some (check o)) os) e in
+    (is_nothing (check o) parts.0, none_again check os parts.1)
 
 -- with each count as before, all is as before
 pub all_same : (old new : List Object) → ((test : Object → Bool) → IsSame old new test) → Keeps old new EachName EachName
@@ -157,8 +124,13 @@ module _ (os : List Object) (over : AreFine os) (each : AllOf (IsFine os) os) wh
   own : (d : Disk) → IsFine os (DiskRecord d) → slot_is_own (in_kinds os) (DiskRecord d) ≡ true
   own d fine = slot_kept os (in_kinds os) d (same (λ o. is_disk (λ e. e.slot == d.slot) o)) fine
 
+  -- a rule that holds of each record holds of each where they are sorted
+  each_sorted : (check : Object → Option ObjectFault) → AllOf (λ o. check o ≡ None) os → AllOf (λ o. check o ≡ None) (in_kinds os)
+  each_sorted check all = none_again check (in_kinds os) (any_same os (in_kinds os) (λ o. is_some (check o)) (same (λ o. is_some (check o))) ∙ none_some check os all)
+
   pub sorted : AreOnce os → first_broken (in_kinds os) ≡ None
   sorted one =
       none_broken (in_kinds os) (over_kept os (in_kinds os) EachName EachName kept (once_sorted one) over)
-      (all_in_kinds (IsFine (in_kinds os)) os
-      (all_map (IsFine os) (IsFine (in_kinds os)) os (λ o fine. record_kept os (in_kinds os) EachName EachName kept o (is_on (in_kinds os) (IsFine os) own o fine) fine) each))
+      (gathered (λ r o. fault_in r (in_kinds os) o ≡ None) (in_kinds os)
+      (λ r. each_sorted (fault_in r (in_kinds os))
+      (all_map (IsFine os) (λ o. fault_in r (in_kinds os) o ≡ None) os (λ o fine. record_kept os (in_kinds os) EachName EachName kept o (is_on (in_kinds os) (IsFine os) own o fine) fine r) each)))

@@ -1,0 +1,13 @@
+mod Counts
+mod Held
+mod Differ
+mod OneRule
+mod Keeps
+mod Sorted
+mod Recorded
+mod Policies
+mod Removals
+mod Joins
+mod Makings
+mod Tested
+mod Refusals

@@ -1,0 +1,180 @@
+-- What the stages before one let through, and so why it refuses.
+use Rattle.std.proofs.Common.{◌≡◌, ◌⊎◌, Bool, true, false, Option, Some, None, List, [], ◌∷◌, refl, sym, ◌∙◌, ap, subst, inl, inr, if◌then◌else◌}
+use Rattle.vx_base.specs.Named.{Word}
+use Rattle.vx_copies.specs.Lists.{AnyOf}
+use Rattle.vx_parts.specs.declared.fault.ObjectFault.{ObjectFault}
+use Rattle.vx_parts.specs.declared.fault.ObjectFault.TheVariants.{Exists}
+use Rattle.vx_rules.specs.References.{has_name}
+use Rattle.vx_objects.specs.declared.edit.Edit.{Edit}
+use Rattle.vx_objects.specs.declared.edit.Edit.TheVariants.{Make}
+use Rattle.vx_objects.specs.Config.{objects_of}
+use Rattle.vx_plans.specs.Making.{is_started}
+use Rattle.vx_objects.specs.Edits.{refusal_of}
+use Rattle.vx_script_words.specs.declared.value.DiskAt.{DiskAt}
+use Rattle.vx_script_forms.specs.declared.form.Form.{Form}
+use Rattle.vx_script_forms.specs.declared.form.Form.TheVariants as form
+use Rattle.vx_script_forms.specs.declared.form.WordPolicy.{WordPolicy}
+use Rattle.vx_script_forms.specs.declared.form.WordPolicy.TheVariants as words
+use Rattle.vx_answers.specs.declared.answer.End.{End}
+use Rattle.vx_answers.specs.declared.answer.View.{View}
+use Rattle.vx_answers.specs.declared.refusal.Refusal.{Refusal}
+use Rattle.vx_answers.specs.declared.refusal.Refusal.TheVariants as refusal
+use Rattle.vx_answers.specs.declared.answer.End.TheVariants.{GroupLost, Lost}
+use Rattle.vx_moments.specs.Commit.{Writing, IsStopped, CarriersFailed, parties}
+use Rattle.vx_moments.specs.Moment.{Moment}
+use Rattle.vx_moments.specs.World.{World, Group}
+use Rattle.vx_plans.specs.Laws.{WentWell, IsDoneOrRefused, HasCarriers}
+use Rattle.vx_plans.specs.Plans.{plan_of, disks_of}
+use Rattle.vx_plans.specs.Refusals.{refusal_from}
+use Rattle.vx_plans.specs.Stages.{IsDone, Stops, EditsStop, IsChange, edits_of, joining_edit, refused}
+use Rattle.vx_plans.specs.Steps.{Runs, done}
+use Rattle.vx_plans.specs.declared.stage.Change.TheVariants as changes
+use Rattle.vx_plans.specs.declared.stage.Stage.{Stage}
+use Rattle.vx_plans.specs.declared.stage.Stage.TheVariants as stage
+use Rattle.vx_plans.specs.declared.stages.Finish.{Finish}
+use Rattle.vx_plans.specs.declared.stages.Plan.{Plan}
+use Rattle.vx_plans.specs.declared.test.Test.TheVariants as tests
+use Rattle.vx_plans.proofs.Complete.{keeps_world, kept_world, each_plan_is_complete}
+use Rattle.vx_plan_laws.specs.Refusing.{IsTooLong, OfGroup, Refuses, OneRefuses}
+use Rattle.vx_plan_laws.specs.Unbroken.{LetsThrough, PrefersItsPlex}
+use Rattle.vx_plan_laws.proofs.Makings.{making_kept}
+use Rattle.vx_plan_laws.proofs.Tested.{group_here, policy_law, removal_law, joining_law}
+
+-- ---- what a stage needs of those before it
+
+abbrev HasGroup : World → Type 0
+HasGroup w = (g : Group) × (w.group ≡ Some g)
+
+-- a stage that changes the configuration finds a group, and what its edits need
+abbrev Finds : Stage → List DiskAt → World → Type 0
+Finds (stage.Change (changes.Policy vol how)) disks w = HasGroup w × LetsThrough (tests.HasVolume vol) [] w × PrefersItsPlex vol how w
+Finds (stage.Change (changes.Remove vol)) disks w = HasGroup w × LetsThrough (tests.HasVolume vol) [] w × LetsThrough (tests.Unrelated vol) [] w
+Finds (stage.Make text) disks w = HasGroup w
+Finds stage.Join disks w = HasGroup w × LetsThrough tests.JoinLimits disks w
+Finds other disks w = Unit {0}
+
+not_done : (r : Refusal) → refused r ≡ done → ⊥
+not_done r e = cc
+
+-- a commit that is stopped is no refusal
+not_stopped : (x : Writing) (old : Moment) (r : Refusal) (new : Moment) → IsStopped x old (refused r) new → ⊥
+not_stopped x old r new stopped = by stopped.ends
+  where
+    by : ((refused r ≡ GroupLost) × CarriersFailed x old.counts new.counts) ⊎ ((refused r ≡ Lost []) × AnyOf (λ m. new.counts.cut m.device ≡ true) (parties x)) → ⊥
+    by (inl l) = let e = l.0 in cc
+    by (inr l) = let e = l.0 in cc
+
+same_refusal : (r s : Refusal) → refused r ≡ refused s → r ≡ s
+same_refusal r s e = cc
+
+no_refusal : (f : Option ObjectFault) (r : Refusal) → f ≡ None → refusal_from f ≡ Some r → ⊥
+no_refusal None r e is = cc
+no_refusal (Some f) r e is = cc
+
+by_name : (b : Bool) (f : Option ObjectFault) (name : Word) (r : Refusal) → f ≡ (if b then Some (Exists name) else None) → refusal_from f ≡ Some r → (b ≡ true) × (r ≡ refusal.Exists name)
+by_name b f name r is e = within b (subst (λ (f : Option ObjectFault). refusal_from f ≡ Some r) is e)
+  where
+    within : (b : Bool) → refusal_from (if b then Some (Exists name) else None) ≡ Some r → (b ≡ true) × (r ≡ refusal.Exists name)
+    within true e = (refl, cc)
+    within false e = absurd (cc)
+
+module _ (old : Moment) (r : Refusal) (new : Moment) where
+  -- edits that break no rule are refused as too long
+  too_long : (edits : Group → List Edit) (IsWriting : Writing → Type 0) → HasGroup old.world → ((g : Group) → old.world.group ≡ Some g → refusal_of (edits g) (objects_of g.config) ≡ None)
+      → EditsStop edits IsWriting old (refused r) new → OfGroup old.world (λ g. IsTooLong (edits g) g r)
+  too_long edits IsWriting (g, here) none (inl (gone, ends)) = cc
+  too_long edits IsWriting has none (inr (inl ((g, here, inl (s, e, is)), rests))) = absurd (no_refusal (refusal_of (edits g) (objects_of g.config)) s (none g here) e)
+  too_long edits IsWriting has none (inr (inl ((g, here, inr long), rests))) = (g, here, long)
+  too_long edits IsWriting has none (inr (inr (x, writing, stopped))) = absurd (not_stopped x old r new stopped)
+
+  refuses : (s : Stage) (disks : List DiskAt) → Finds s disks old.world → Stops s disks old (refused r) new → Refuses s disks old r new
+  refuses (stage.Change (changes.Policy vol how)) disks (has, there, prefers) stops =
+      too_long (λ g. edits_of (changes.Policy vol how) (Some g)) (λ x. IsChange (edits_of (changes.Policy vol how) old.world.group) old.world x) has (λ g here. policy_law old.world g here vol how there prefers) stops
+  refuses (stage.Change (changes.Remove vol)) disks (has, there, free) stops =
+      too_long (λ g. edits_of (changes.Remove vol) (Some g)) (λ x. IsChange (edits_of (changes.Remove vol) old.world.group) old.world x) has (λ g here. removal_law old.world g here vol there free) stops
+  refuses (stage.Make text) disks (g, here) (inl (gone, ends)) = absurd (cc)
+  refuses (stage.Make text) disks has (inr (inl ((g, here, inl (line, bad, is)), rests))) = inl (line, bad, same_refusal r (refusal.BadRecord line) is)
+  refuses (stage.Make text) disks has (inr (inl ((g, here, inr (added, adds, inl (s, e, is))), rests))) = inr (g, here, (added, adds, inl (e ∙ ap (λ (s : Refusal). Some s) (sym (same_refusal r s is)))))
+  refuses (stage.Make text) disks has (inr (inl ((g, here, inr (added, adds, inr (fine, inl (s, e, is)))), rests))) = absurd (no_refusal (refusal_of (Make added ∷ []) (objects_of g.config)) s (making_kept (is_started old.world) (objects_of g.config) added fine) e)
+  refuses (stage.Make text) disks has (inr (inl ((g, here, inr (added, adds, inr (fine, inr long))), rests))) = inr (g, here, (added, adds, inr long))
+  refuses (stage.Make text) disks has (inr (inr (x, making, stopped))) = absurd (not_stopped x old r new stopped)
+  refuses stage.Join [] finds stops = absurd stops
+  refuses stage.Join (p ∷ q ∷ ps) finds stops = absurd stops
+  refuses stage.Join (p ∷ []) ((g, here), limits) (inl (gone, ends)) = absurd (cc)
+  refuses stage.Join (p ∷ []) (has, limits) (inr (inl ((g, here, inl (s, e, is)), rests))) =
+      let taken = by_name (has_name p.disk (objects_of g.config)) (refusal_of (joining_edit p old.world g ∷ []) (objects_of g.config)) p.disk s (joining_law p old.world g here limits) e in
+      (g, here, inl (taken.0, same_refusal r s is ∙ taken.1))
+  refuses stage.Join (p ∷ []) (has, limits) (inr (inl ((g, here, inr long), rests))) = (g, here, inr long)
+  refuses stage.Join (p ∷ []) (has, limits) (inr (inr (x, writing, stopped))) = absurd (not_stopped x old r new stopped)
+  refuses s disks finds stops = stops
+
+-- ---- a plan
+
+-- what a stage that is done has let through
+abbrev Passed : Stage → List DiskAt → World → Type 0
+Passed (stage.Gate test) disks w = LetsThrough test disks w
+Passed other disks w = Unit {0}
+
+passed : (s : Stage) (disks : List DiskAt) (old mid : Moment) → IsDone s disks old mid → Passed s disks old.world
+passed (stage.Gate test) disks old mid is = is.0
+passed s disks old mid is = tt
+
+-- each stage finds what it needs, once those before it are done and have kept the world
+abbrev AreGuarded : List Stage → List DiskAt → World → Type 0
+AreGuarded [] disks w = Unit {0}
+AreGuarded (s ∷ []) disks w = Finds s disks w
+AreGuarded (s ∷ t ∷ ss) disks w = Finds s disks w × (keeps_world s ≡ true) × (Passed s disks w → AreGuarded (t ∷ ss) disks w)
+
+one_refuses : (disks : List DiskAt) (stages : List Stage) (finish : Finish) (w : World) (old : Moment) (views : List View) (r : Refusal) (new : Moment)
+    → old.world ≡ w → AreGuarded stages disks w → Runs disks stages finish old views (refused r) new → OneRefuses stages disks w r new
+one_refuses disks [] finish w old views r new same guarded (shows, is, stays) = absurd (not_done r is)
+one_refuses disks (s ∷ []) finish w old views r new same guarded (inl (mid, later, is, (shows, over, stays))) = absurd (not_done r over)
+one_refuses disks (s ∷ []) finish w old views r new same guarded (inr (none, later, stops)) = inl (old, same, refuses old r new s disks (subst (λ (x : World). Finds s disks x) (sym same) guarded) stops)
+one_refuses disks (s ∷ t ∷ ss) finish w old views r new same guarded (inl (mid, later, is, rest)) =
+    inr (one_refuses disks (t ∷ ss) finish w mid views r new (kept_world s disks old mid guarded.1 is ∙ same) (guarded.2 (subst (λ (x : World). Passed s disks x) same (passed s disks old mid is))) rest)
+one_refuses disks (s ∷ t ∷ ss) finish w old views r new same guarded (inr (none, later, stops)) = inl (old, same, refuses old r new s disks (subst (λ (x : World). Finds s disks x) (sym same) guarded.0) stops)
+
+-- each plan is guarded so
+abbrev IsGuarded : Option Plan → List DiskAt → World → Type 0
+IsGuarded None disks w = Unit {0}
+IsGuarded (Some plan) disks w = AreGuarded plan.stages disks w
+
+policy_guarded : (dg : Option Word) (vol : Word) (how : WordPolicy) (w : World) → IsGuarded (plan_of dg (form.Rdpol vol how)) [] w
+unfolding plan_of
+policy_guarded dg vol words.Round w = (tt, refl, λ here. (tt, refl, λ has. (group_here dg [] w here, has, tt)))
+policy_guarded dg vol words.Select w = (tt, refl, λ here. (tt, refl, λ has. (group_here dg [] w here, has, tt)))
+policy_guarded dg vol (words.Prefer plex) w = (tt, refl, λ here. (tt, refl, λ has. (tt, refl, λ there. (group_here dg [] w here, has, there))))
+
+print_guarded : (dg vol : Option Word) (w : World) → IsGuarded (plan_of dg (form.PrintM vol)) [] w
+unfolding plan_of
+print_guarded dg None w = tt
+print_guarded dg (Some vol) w = (tt, refl, λ here. tt)
+
+plan_guarded : (dg : Option Word) (f : Form) (w : World) → IsGuarded (plan_of dg f) (disks_of f) w
+unfolding plan_of
+plan_guarded dg (form.Bare vol device) w = (tt, refl, λ a. (tt, refl, λ b. (tt, refl, λ c. tt)))
+plan_guarded dg (form.DgInit name disks) w = (tt, refl, λ a. (tt, refl, λ b. (tt, refl, λ c. (tt, refl, λ d. (tt, refl, λ e. (tt, refl, λ f. tt))))))
+plan_guarded dg (form.DgAddDisk name disk) w = (tt, refl, λ a. (tt, refl, λ here. (tt, refl, λ c. (tt, refl, λ limits. (tt, refl, λ e. (group_here (Some name) (disk ∷ []) w here, limits))))))
+plan_guarded dg (form.DgDeport name) w = (tt, refl, λ a. (tt, refl, λ b. tt))
+plan_guarded dg (form.DiskUnsetup device) w = (tt, refl, λ a. (tt, refl, λ b. tt))
+plan_guarded dg (form.PrintM vol) w = print_guarded dg vol w
+plan_guarded dg (form.Rdpol vol how) w = policy_guarded dg vol how w
+plan_guarded dg (form.RemoveVolume vol) w = (tt, refl, λ here. (tt, refl, λ has. (tt, refl, λ stopped. (tt, refl, λ free. (group_here dg [] w here, has, free)))))
+plan_guarded dg (form.VxMake text) w = (tt, refl, λ here. group_here dg [] w here)
+plan_guarded dg f w = tt
+
+pub each_refusal_is_tested : (dg : Option Word) (f : Form) (plan : Plan) (old : Moment) (views : List View) (r : Refusal) (new : Moment)
+    → plan_of dg f ≡ Some plan → Runs (disks_of f) plan.stages plan.finish old views (refused r) new
+    → OneRefuses plan.stages (disks_of f) old.world r new
+each_refusal_is_tested dg f plan old views r new is runs =
+    one_refuses (disks_of f) plan.stages plan.finish old.world old views r new refl (subst (λ (o : Option Plan). IsGuarded o (disks_of f) old.world) is (plan_guarded dg f old.world)) runs
+
+pub done_or_tested : (dg : Option Word) (f : Form) (plan : Plan) (old : Moment) (views : List View) (end : End) (new : Moment)
+    → plan_of dg f ≡ Some plan → Runs (disks_of f) plan.stages plan.finish old views end new
+    → WentWell old new → HasCarriers f old.world
+    → (end ≡ done) ⊎ ((r : Refusal) × (end ≡ refused r) × OneRefuses plan.stages (disks_of f) old.world r new)
+done_or_tested dg f plan old views end new is runs well has = by (each_plan_is_complete dg f plan old views end new is runs well has)
+  where
+    by : IsDoneOrRefused end → (end ≡ done) ⊎ ((r : Refusal) × (end ≡ refused r) × OneRefuses plan.stages (disks_of f) old.world r new)
+    by (inl all) = inl all
+    by (inr (r, e)) = inr (r, e, each_refusal_is_tested dg f plan old views r new is (subst (λ (x : End). Runs (disks_of f) plan.stages plan.finish old views x new) e runs))

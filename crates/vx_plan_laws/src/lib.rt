@@ -1,0 +1,37 @@
+//! No rule of a configuration refuses what the tests of a command have let through: laws, as functions that do nothing and
+//! promise them.
+#![tactic(auto)]
+
+ghost use Rattle.vx_plan_laws.specs.Refusing.{EachRefusalIsTested, EachCommandIsDoneOrTested};
+ghost use Rattle.vx_plan_laws.specs.Unbroken.{NoRuleRefusesAPolicy, NoRuleRefusesARemoval, NoRuleRefusesRecords, OnlyANameRefusesADisk};
+
+/// Where the group has the volume, and the plex that is to be preferred is a data plex of it, no rule refuses the policy.
+pub fn no_rule_refuses_a_policy()
+    ensures { NoRuleRefusesAPolicy }
+{}
+
+/// Where the group has the volume, and it is in no relation, no rule refuses that it goes with all that belongs to it.
+pub fn no_rule_refuses_a_removal()
+    ensures { NoRuleRefusesARemoval }
+{}
+
+/// Where the tests of records that are to be added let them through, no rule refuses them.
+pub fn no_rule_refuses_records()
+    ensures { NoRuleRefusesRecords }
+{}
+
+/// Where a disk that is to join keeps the limits, the rules refuse it exactly where its name is taken.
+pub fn only_a_name_refuses_a_disk()
+    ensures { OnlyANameRefusesADisk }
+{}
+
+/// A command of a plan that is refused was refused by a test, as its text would be too long, or as the name of the disk
+/// that is to join is taken.
+pub fn each_refusal_is_tested()
+    ensures { EachRefusalIsTested }
+{}
+
+/// Where no device call failed and the power stayed, a command does all that it is asked, or is refused so.
+pub fn each_command_is_done_or_tested()
+    ensures { EachCommandIsDoneOrTested }
+{}

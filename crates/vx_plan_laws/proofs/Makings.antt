@@ -220,9 +220,11 @@ none_first (Some x) b e = absurd (cc)
 pub making_kept : (is_started : Word → Bool) (group made : List Object) → adding_refusal is_started group made ≡ None → refusal_of (Make made ∷ []) group ≡ None
 unfolding change added target_fault
 making_kept is_started group made e =
-    let a = none_first (broken reference_rules group made) (first_some (refusal_from (first_of (had_fault group) made)) (first_some (broken limit_rules group made) (first_some (started_name is_started made) (broken space_rules group made)))) e in
-    let b = none_first (refusal_from (first_of (had_fault group) made)) (first_some (broken limit_rules group made) (first_some (started_name is_started made) (broken space_rules group made))) a.1 in
-    let c = none_first (broken limit_rules group made) (first_some (started_name is_started made) (broken space_rules group made)) b.1 in
-    let d = none_first (started_name is_started made) (broken space_rules group made) c.1 in
+    let all : List Object = group ++ made in
+    let known : List Object = firsts all in
+    let a = none_first (broken reference_rules known all) (first_some (refusal_from (first_of (had_fault group) made)) (first_some (broken limit_rules known all) (first_some (started_name is_started made) (broken space_rules known all)))) e in
+    let b = none_first (refusal_from (first_of (had_fault group) made)) (first_some (broken limit_rules known all) (first_some (started_name is_started made) (broken space_rules known all))) a.1 in
+    let c = none_first (broken limit_rules known all) (first_some (started_name is_started made) (broken space_rules known all)) b.1 in
+    let d = none_first (started_name is_started made) (broken space_rules known all) c.1 in
     ap (λ (os : List Object). first_broken (in_kinds (os ++ made))) (all_stay group)
-    ∙ added_kept (group ++ made) a.0 c.0 d.1
+    ∙ added_kept all a.0 c.0 d.1

@@ -13,7 +13,7 @@ use vx_mapfmt::DcoShape;
 use vx_maps::{MapStore, StoreFault, StoreRefused};
 use vx_marks::{MarkFault, Marker};
 use vx_piece::MemPiece;
-use vx_whole_maps::{clear, list, set_from};
+use vx_whole_maps::WholeMaps;
 
 /// Maps 3 and 5.
 const BITS: u64 = 0x28;
@@ -133,12 +133,12 @@ fn make(store: &mut MapStore<MemPiece>, call: Call) -> bool
             let _ = store.mark(1, BITS);
             is_ok(store.firm())
         }
-        Call::Clear => is_ok(clear(store, 5)),
+        Call::Clear => is_ok(store.clear(5)),
         Call::MarkAndClear => {
             let _ = store.mark(1, BITS);
-            is_ok(clear(store, 5))
+            is_ok(store.clear(5))
         }
-        Call::Set(byte) => is_ok(set_from(store, 5, &[byte])),
+        Call::Set(byte) => is_ok(store.set_from(5, &[byte])),
     }
 }
 
@@ -146,7 +146,7 @@ fn make(store: &mut MapStore<MemPiece>, call: Call) -> bool
 fn lists(alloc: Global, store: &MapStore<MemPiece>) -> Result<[u8; 32], AllocError> {
     let mut listed = [0; 32];
     for map in 0..32u32 {
-        let Ok(bytes) = list(alloc, store, map) else {
+        let Ok(bytes) = store.list(alloc, map) else {
             return Err(AllocError);
         };
         match bytes.as_slice() {

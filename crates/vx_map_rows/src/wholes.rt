@@ -1,8 +1,6 @@
 //! Rows of a map that is set over two pages: the write of one page on one copy fails, and each row tells the answer, the regions
 //! that the store lists then, what each copy holds of the pages, and how many sectors were written since the store was created.
 
-ghost use Rattle.vx_piece.specs.MemPiece.{mem_seen};
-
 use crate::copies::{Fault, Held, are_copies, copy, page_of};
 use crate::rows::answer;
 use std::alloc::{AllocError, Global};
@@ -11,7 +9,7 @@ use vx_block::Geometry;
 use vx_mapfmt::DcoShape;
 use vx_maps::MapStore;
 use vx_piece::{MemPiece, Piece};
-use vx_whole_maps::{clear, list, set_from};
+use vx_whole_maps::WholeMaps;
 
 /// The map that is set.
 const MAP: u32 = 5;
@@ -62,11 +60,11 @@ fn row(rt: &HostRuntime, shape: &DcoShape, fault: Option<Fault>, cleared: bool) 
     let Some(mut store) = create(alloc, shape, fault)? else {
         return Ok(());
     };
-    answer(rt, "set", set_from(&mut store, MAP, &marks(alloc)?))?;
+    answer(rt, "set", store.set_from(MAP, &marks(alloc)?))?;
     if cleared {
-        answer(rt, "clear", clear(&mut store, MAP))?;
+        answer(rt, "clear", store.clear(MAP))?;
     }
-    let Ok(listed) = list(alloc, &store, MAP) else {
+    let Ok(listed) = store.list(alloc, MAP) else {
         return Ok(());
     };
     show_list(rt, &listed)?;

@@ -7,10 +7,12 @@ mod pages;
 mod rows;
 mod stores;
 mod sweeps;
+mod wholes;
 
 use std::io;
 
 fn main(rt: HostRuntime) -> io::Result<()> {
     rows::rows(&rt)?;
-    sweeps::rows(&rt)
+    sweeps::rows(&rt)?;
+    wholes::rows(&rt)
 }

@@ -94,7 +94,7 @@ fn firm_if(page: &mut Page<MemPiece>, asked: bool) -> Result<(), MarkFault>
     if asked { page.firm() } else { Ok(()) }
 }
 
-fn answer(rt: &HostRuntime, call: &str, answer: Result<(), MarkFault>) -> io::Result<()> {
+pub fn answer(rt: &HostRuntime, call: &str, answer: Result<(), MarkFault>) -> io::Result<()> {
     match answer {
         Ok(()) => println!(rt; "  {call}: ok"),
         Err(MarkFault::Failed { copy, device }) => println!(rt;

@@ -13,6 +13,7 @@ use vx_mapfmt::DcoShape;
 use vx_maps::{MapStore, StoreFault, StoreRefused};
 use vx_marks::{MarkFault, Marker};
 use vx_piece::MemPiece;
+use vx_whole_maps::WholeMaps;
 
 /// Maps 3 and 5.
 const BITS: u64 = 0x28;
@@ -26,15 +27,23 @@ pub enum Call {
     Unmark,
     /// A mark, and then what it left open is written again.
     Firm,
+    /// Map 5 is cleared.
+    Clear,
+    /// A mark, and then map 5 is cleared.
+    MarkAndClear,
+    /// Map 5 is set from this byte.
+    Set(u8),
 }
 
-/// How a trial ended: how many faults were counted, whether each call was answered Ok, and what each copy holds.
+/// How a trial ended: how many faults were counted, whether each call was answered Ok, of each map the byte that the store lists,
+/// and what each copy holds.
 #[derive(Drop)]
 pub struct Ended {
     pub faults: u64,
     pub opened: bool,
     pub done: bool,
     pub refused: Option<StoreFault>,
+    pub listed: [u8; 32],
     pub held: Vec<Option<Held>>,
 }
 
@@ -70,6 +79,7 @@ fn make_ended(
     opened: bool,
     done: bool,
     refused: Option<StoreFault>,
+    listed: [u8; 32],
     copies: &Vec<Vec<MemPiece>>,
 ) -> Result<Ended, AllocError> {
     let mut held = Vec::new(alloc);
@@ -83,6 +93,7 @@ fn make_ended(
         opened,
         done,
         refused,
+        listed,
         held,
     })
 }
@@ -122,7 +133,28 @@ fn make(store: &mut MapStore<MemPiece>, call: Call) -> bool
             let _ = store.mark(1, BITS);
             is_ok(store.firm())
         }
+        Call::Clear => is_ok(store.clear(5)),
+        Call::MarkAndClear => {
+            let _ = store.mark(1, BITS);
+            is_ok(store.clear(5))
+        }
+        Call::Set(byte) => is_ok(store.set_from(5, &[byte])),
     }
+}
+
+/// The one byte that the store lists of each map.
+fn lists(alloc: Global, store: &MapStore<MemPiece>) -> Result<[u8; 32], AllocError> {
+    let mut listed = [0; 32];
+    for map in 0..32u32 {
+        let Ok(bytes) = store.list(alloc, map) else {
+            return Err(AllocError);
+        };
+        match bytes.as_slice() {
+            [byte] => listed[map as usize] = *byte,
+            _ => return Err(AllocError),
+        }
+    }
+    Ok(listed)
 }
 
 /// The same, if the volume has region 1.
@@ -146,13 +178,14 @@ pub fn try_call(
     match open(alloc, shape, call, build(alloc, shape, start, fault)?)? {
         Ok(mut store) => {
             let done = make_if(&mut store, shape, call);
+            let listed = lists(alloc, &store)?;
             match store.into_copies(alloc) {
-                Ok(copies) => make_ended(alloc, shape, true, done, None, &copies),
+                Ok(copies) => make_ended(alloc, shape, true, done, None, listed, &copies),
                 Err(_) => Err(AllocError),
             }
         }
         Err(StoreRefused { fault, copies }) => {
-            make_ended(alloc, shape, false, false, Some(fault), &copies)
+            make_ended(alloc, shape, false, false, Some(fault), [0; 32], &copies)
         }
     }
 }

@@ -122,6 +122,34 @@ fn may_firm(start: &Start, held: &Held) -> bool {
             || mixed(held, &on, &off))
 }
 
+/// The maps with map 5 set from a byte, whose bits behind the four regions are none.
+fn set(held: &Held, byte: u8) -> Held {
+    let mut maps = held.maps;
+    maps[5] = byte & 15;
+    Held {
+        headed: held.headed,
+        maps,
+    }
+}
+
+/// Each map is as before, or as it is to be: `other` is with region 1 marked, if that was asked for first.
+fn may_set(start: &Start, held: &Held, other: &Held, byte: u8) -> bool {
+    held.headed && mixed(held, &start.first, &set(other, byte))
+}
+
+/// What the store lists is on the copy, and where all went well the copy holds no more.
+fn is_listed(listed: &[u8; 32], held: &Held, done: bool) -> bool {
+    for map in 0..32usize {
+        if listed[map] & held.maps[map] != listed[map] {
+            return false;
+        }
+        if done && listed[map] != held.maps[map] {
+            return false;
+        }
+    }
+    true
+}
+
 fn allowed(call: Call, start: &Start, ended: &Ended) -> bool {
     let mut number: usize = 0;
     let mut last = None;
@@ -135,8 +163,11 @@ fn allowed(call: Call, start: &Start, ended: &Ended) -> bool {
             Call::Mark => may_mark(start, held, true),
             Call::Firm => may_firm(start, held),
             Call::Unmark => may_mark(start, held, false),
+            Call::Clear => may_set(start, held, &start.first, 0),
+            Call::MarkAndClear => may_set(start, held, &put(&start.first, true), 0),
+            Call::Set(byte) => may_set(start, held, &start.first, byte),
         };
-        if !may {
+        if !may || !is_listed(&ended.listed, held, ended.done) {
             return false;
         }
         if ended.done {
@@ -172,6 +203,9 @@ fn is_done(call: Call, start: &Start, held: &Held) -> bool {
         Call::Mark => same_maps(held, &put(&start.first, true)),
         Call::Unmark => same_maps(held, &put(&start.first, false)),
         Call::Firm => true,
+        Call::Clear => same_maps(held, &set(&start.first, 0)),
+        Call::MarkAndClear => held.maps[5] == 0,
+        Call::Set(byte) => same_maps(held, &set(&start.first, byte)),
     }
 }
 
@@ -409,5 +443,25 @@ pub fn rows(rt: &HostRuntime) -> io::Result<()> {
     tell(rt, "mark on two copies", Call::Mark, &pair)?;
     tell(rt, "unmark on two copies", Call::Unmark, &pair)?;
     tell(rt, "mark and firm on two copies", Call::Firm, &pair)?;
-    tell(rt, "mark on one copy", Call::Mark, &alone)
+    tell(rt, "mark on one copy", Call::Mark, &alone)?;
+    whole_maps(rt, &pair, &alone)
+}
+
+/// Map 5 marks region 1 before.
+fn whole_maps(rt: &HostRuntime, pair: &Start, alone: &Start) -> io::Result<()> {
+    tell(rt, "clear on two copies", Call::Clear, pair)?;
+    tell(rt, "mark and clear on two copies", Call::MarkAndClear, pair)?;
+    tell(rt, "clear on one copy", Call::Clear, alone)?;
+    tell(
+        rt,
+        "set of regions 1 and 3, and of bits behind the last, on two copies",
+        Call::Set(0xfa),
+        pair,
+    )?;
+    tell(
+        rt,
+        "set of what is there, and of a bit behind the last, on two copies",
+        Call::Set(0x12),
+        pair,
+    )
 }

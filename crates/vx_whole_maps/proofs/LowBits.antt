@@ -1,5 +1,5 @@
 -- The lowest bits of a byte, and the bytes of a page.
-use Rattle.std.proofs.Common.{arith, ◌≡◌, inl, inr, ℕ, ◌+◌, ◌-◌, ◌*◌, ◌%◌, ◌<◌, ◌^◌, Bool, sym, ◌∙◌, ap, List, length, get_or, set}
+use Rattle.std.proofs.Common.{arith, ◌≡◌, inl, inr, ℕ, ◌+◌, ◌-◌, ◌*◌, ◌/◌, ◌%◌, ◌<◌, ◌^◌, Bool, sym, ◌∙◌, ap, List, length, get_or, set}
 use Rattle.std.specs.Prelude.{◌&&◌, bit_and, nat_lt}
 use Rattle.std.proofs.lemmas.Bool.{cases_lt, cases_order, le-ltb, lt-ltb}
 use Rattle.std.proofs.lemmas.List.{get_or-set_same, get_or-set_other}
@@ -32,3 +32,15 @@ byte_on want image place byte inside before here j k lt low =
       | inr (inl less) ↦ ap (λ (b : ℕ). has b k) (get_or-set_other image place j byte 0 (λ e. absurd (omega (arith, less, e)))) ∙ before j k less low
       | inr (inr more) ↦ absurd (omega (arith, lt, more))
     ]
+
+-- the bit of a region in the bytes of its page
+pub page_bit : (bytes : List ℕ) (page regions region : ℕ) → region / 4096 ≡ page →
+    (has (get_or bytes (512 * page + region % 4096 / 8) 0) (region % 8) && nat_lt (region % 8) (regions - 8 * (512 * page + region % 4096 / 8))) ≡ (has (get_or bytes (region / 8) 0) (region % 8) && nat_lt region regions)
+page_bit bytes page regions region same =
+    let at : 512 * page + region % 4096 / 8 ≡ region / 8 = omega (arith, same) in
+    ap (λ (n : ℕ). has (get_or bytes n 0) (region % 8) && nat_lt (region % 8) (regions - 8 * n)) at
+    ∙ ap (λ (b : Bool). has (get_or bytes (region / 8) 0) (region % 8) && b)
+    (elim (cases_lt region regions) [
+      | inl lt ↦ lt-ltb (region % 8) (regions - 8 * (region / 8)) (omega (arith, lt)) ∙ sym (lt-ltb region regions lt)
+      | inr le ↦ le-ltb (region % 8) (regions - 8 * (region / 8)) (omega (arith, le)) ∙ sym (le-ltb region regions le)
+    ])

@@ -1,6 +1,6 @@
 -- How one page of a map is set after another.
 use Rattle.std.proofs.Common.{arith, ◌≡◌, inl, inr, ℕ, ◌+◌, ◌*◌, ◌/◌, ◌%◌, ◌<◌, ◌≤◌, [], Bool, true, false, refl, sym, ◌∙◌, ap, subst, Option, Some, None, Result, Ok, Err}
-use Rattle.std.specs.Prelude.{◌==◌, nat_lt, if◌then◌else◌}
+use Rattle.std.specs.Prelude.{◌==◌, ◌&&◌, nat_lt, if◌then◌else◌}
 use Rattle.std.proofs.lemmas.Bool.{cases_order, le-ltb, lt-ltb, ltb-true}
 use Rattle.std.proofs.lemmas.Bool.Decides.{eqb_tells}
 use Rattle.vx_base.specs.Counts.{Rose}
@@ -90,8 +90,11 @@ starts at bits a =
     alike at bits bits (λ region. Still) (come_before 0) a a (λ region. refl) (λ region known. ap (λ (b : Bool). if b then Done else Still) (le-ltb (region / 4096) 0 (omega arith)))
     (record { claims = λ region k known. same_either (k == at) _; told = on_same (λ was is. (region : ℕ) → a.has_region region ≡ true → is region ≡ was region) (λ x region known. refl) a.told })
 
-module _ (at page : ℕ) (bits image : ℕ → Bool) (after : ℕ → Come) (come : Come) (a b c : LogSeen) (kept : KeepsLog a b) (first : SetsSoFar at bits (come_before page) a b) (last : SetsSoFar at image (come_on come page) b c)
+module _ (at page place : ℕ) (bits image : ℕ → Bool) (after : ℕ → Come) (come : Come) (a b c : LogSeen) (kept : KeepsLog a b) (first : SetsSoFar at bits (come_before page) a b) (here : place ≡ page) (there : SetsSoFar at image (come_on come place) b c)
     (is : (region : ℕ) → a.has_region region ≡ true → region / 4096 ≡ page → image region ≡ bits region) (how : (region : ℕ) → after region ≡ (if (region / 4096) == page then come else come_before page region)) where
+  last : SetsSoFar at image (come_on come page) b c
+  last = subst (λ (n : ℕ). SetsSoFar at image (come_on come n) b c) here there
+
   known_now : (region : ℕ) → a.has_region region ≡ true → b.has_region region ≡ true
   known_now region known = ap (λ (f : ℕ → Bool). f region) kept.has_region ∙ known
 
@@ -182,6 +185,11 @@ in_pages region regions pages page count le known = let lt : region < regions = 
 
 pub page_now : (page : ℕ) → 4096 * page / 4096 ≡ page
 page_now page = omega arith
+
+-- a region that is known lies before the last
+pub known_bit : (b : Bool) (region regions regions' : ℕ) → regions' ≡ regions → nat_lt region regions ≡ true → (b && nat_lt region regions') ≡ b
+known_bit true region regions regions' same known = ap (λ (n : ℕ). nat_lt region n) same ∙ known
+known_bit false region regions regions' same known = refl
 
 -- no bit is asked for
 pub clears : (at : ℕ) (a b : LogSeen) (result : Result (Unit {0}) MarkFault) → IsMapSet at (map_bit []) result a b → IsMapSet at (λ region. false) result a b

@@ -8,7 +8,7 @@ ghost use Rattle.vx_whole_maps.specs.Bytes.{map_bit};
 /// The bytes of a page of a map, without the bits behind the last region.
 pub fn page_of(bytes: &[u8], page: u64, regions: u64) -> [u8; 512]
     requires { 4096 * page < regions }
-    ensures { (region : ℕ) → region / 4096 ≡ page → region < regions → bit_in result region ≡ map_bit bytes.now region }
+    ensures { (region : ℕ) → region / 4096 ≡ page → bit_in result region ≡ (map_bit bytes.now region && nat_lt region regions) }
 {
     let mut image = [0; 512];
     for place in 0..512 {

@@ -5,6 +5,6 @@ mod bytes;
 pub mod laws;
 mod listing;
 mod setting;
+mod whole_maps;
 
-pub use listing::list;
-pub use setting::{clear, set_from};
+pub use whole_maps::WholeMaps;

@@ -11,8 +11,7 @@ use vx_marks::Marker;
 use vx_mask::contains;
 use vx_pages::{LocalPiece, with_bit};
 
-/// The marks of a map that are claimed, a bit for each region in whole bytes, the lowest region's the lowest of the first. Calls
-/// no device.
+/// The marks of a map that are claimed.
 pub fn list<P: LocalPiece>(
     alloc: Global,
     store: &MapStore<P>,

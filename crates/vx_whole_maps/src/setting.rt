@@ -1,4 +1,4 @@
-ghost use Rattle.std.specs.Prelude.{◌<◌, false};
+ghost use Rattle.std.specs.Prelude.{◌<◌};
 ghost use Rattle.vx_marks.specs.Log.{KeepsLog, MarkHasCause};
 ghost use Rattle.vx_pages.specs.Sector.{KeepsPiece};
 ghost use Rattle.vx_pages.specs.Setting.{IsMapSet};
@@ -11,20 +11,7 @@ use vx_maps::MapStore;
 use vx_marks::MarkFault;
 use vx_pages::LocalPiece;
 
-/// Takes the marks of a map away in all regions, on every copy. Goes page by page as `set_from` does.
-pub fn clear<P: LocalPiece>(store: &mut MapStore<P>, map: u32) -> Result<(), MarkFault>
-    requires { map < 32 }
-    ensures kept { KeepsLog (store_seen P.seen store.old) (store_seen P.seen store.new) }
-    ensures set { IsMapSet map (λ region. false) result (store_seen P.seen store.old) (store_seen P.seen store.new) }
-    ensures cause { MarkHasCause (store_seen P.seen store.old) (store_seen P.seen store.new) result }
-    ensures goes { StoreGoes P.seen KeepsPiece store.old store.new }
-{
-    set_from(store, map, &[])
-}
-
-/// Makes the marks of a map these, a bit for each region, on every copy; a region behind the last byte gets none. On each page
-/// what failed calls have left open is written again first; then the map's sector is written once on each copy, if it differs.
-/// Stops at the first page that fails.
+/// Sets the bits of a map page by page, and stops at the first page that fails.
 pub fn set_from<P: LocalPiece>(
     store: &mut MapStore<P>,
     map: u32,

@@ -1,7 +1,7 @@
-use Rattle.std.proofs.Common.{◌∙◌, ◌+◌, ◌-◌, ◌*◌, ◌<◌, ap, arith, rules, length, get_or}
+use Rattle.std.proofs.Common.{◌∙◌, ◌+◌, ◌-◌, ◌*◌, ◌/◌, ◌%◌, ◌<◌, ap, arith, rules, length, get_or}
 use Rattle.std.specs.Prelude.{◌&&◌, nat_lt}
 use Rattle.vx_mask.specs.Mask.{has}
-use Rattle.vx_whole_maps.proofs.LowBits.{byte_on}
+use Rattle.vx_whole_maps.proofs.LowBits.{byte_on, page_bit}
 use Rattle.vx_whole_maps.proofs.bytes.page_of.Goals as goal
 
 pub loop-place-preserved : goal.loop-place-preserved
@@ -15,3 +15,7 @@ loop-place-preserved c =
           c.low_bits.ensures k low ∙ ap (λ byte. has byte k && nat_lt k c.saturating_sub.result) c.byte_at.ensures
           ∙ ap (λ count. has (get_or c.args.bytes.now (512 * c.args.page + c.loop-place.place) 0) k && nat_lt k count) c.saturating_sub.ensures);
     }
+
+pub returns : goal.returns
+returns c region same =
+    c.loop-place.invariant.bits (region % 4096 / 8) (region % 8) (let e = c.loop-place-test.false in omega (arith, e)) (omega arith) ∙ page_bit c.args.bytes.now c.args.page c.args.regions region same

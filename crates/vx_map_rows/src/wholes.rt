@@ -1,0 +1,150 @@
+//! Rows of a map that is set over two pages: the write of one page on one copy fails, and each row tells the answer, the regions
+//! that the store lists then, what each copy holds of the pages, and how many sectors were written since the store was created.
+
+use crate::copies::{Fault, Held, are_copies, copy, page_of};
+use crate::rows::answer;
+use std::alloc::{AllocError, Global};
+use std::io;
+use vx_block::Geometry;
+use vx_mapfmt::DcoShape;
+use vx_maps::MapStore;
+use vx_piece::{MemPiece, Piece};
+use vx_whole_maps::WholeMaps;
+
+/// The map that is set.
+const MAP: u32 = 5;
+
+/// What a creation writes on two copies: of each map two pages, and the header twice.
+const CREATED: u64 = 132;
+
+/// A volume of 5,000 regions: each map has two pages, and its plex is as large as that of a small volume.
+fn shape() -> Option<DcoShape> {
+    let geometry = Geometry::new(320_000, 64)?;
+    DcoShape::of(&geometry, 32)
+}
+
+/// The writes of a set in their order: page 0 on each copy, and then page 1. Each page is written once before.
+fn fault_at(step: u32) -> Option<Fault> {
+    let (copy, page) = match step {
+        0 => (0, 0),
+        1 => (1, 0),
+        2 => (0, 1),
+        3 => (1, 1),
+        _ => return None,
+    };
+    Some(Fault {
+        copy,
+        sector: page_of(5) + page,
+        write: true,
+        passes: 1,
+    })
+}
+
+pub fn rows(rt: &HostRuntime) -> io::Result<()> {
+    let Some(shape) = shape() else {
+        return Ok(());
+    };
+    for step in 0..5 {
+        println!(rt; "set over two pages, write {step} fails")?;
+        row(rt, &shape, fault_at(step), false)?;
+    }
+    for step in 0..5 {
+        println!(rt; "set over two pages, write {step} fails, then clear")?;
+        row(rt, &shape, fault_at(step), true)?;
+    }
+    Ok(())
+}
+
+fn row(rt: &HostRuntime, shape: &DcoShape, fault: Option<Fault>, cleared: bool) -> io::Result<()> {
+    let alloc = rt.alloc();
+    let Some(mut store) = create(alloc, shape, fault)? else {
+        return Ok(());
+    };
+    answer(rt, "set", store.set_from(MAP, &marks(alloc)?))?;
+    if cleared {
+        answer(rt, "clear", store.clear(MAP))?;
+    }
+    let Ok(listed) = store.list(alloc, MAP) else {
+        return Ok(());
+    };
+    show_list(rt, &listed)?;
+    let Ok(copies) = store.into_copies(alloc) else {
+        return Ok(());
+    };
+    show(rt, &copies)
+}
+
+/// A store of two copies of which nothing is marked.
+fn create(
+    alloc: Global,
+    shape: &DcoShape,
+    fault: Option<Fault>,
+) -> Result<Option<MapStore<MemPiece>>, AllocError> {
+    let none = Held {
+        headed: false,
+        maps: [0; 32],
+    };
+    let mut copies = Vec::new(alloc);
+    copies.push(copy(alloc, shape, 0, &none, fault)?)?;
+    copies.push(copy(alloc, shape, 1, &none, fault)?)?;
+    if shape.map_bytes != 8192 || !are_copies(&copies, 16) {
+        return Ok(None);
+    }
+    match MapStore::create(alloc, *shape, copies) {
+        Ok(store) => Ok(Some(store)),
+        Err(_refused) => Ok(None),
+    }
+}
+
+/// Regions 7 and 4,103: the highest bit of the first byte of each page.
+fn marks(alloc: Global) -> Result<Vec<u8>, AllocError> {
+    let mut bytes = vec![in alloc; 0u8; 625]?;
+    bytes[0] = 0x80;
+    bytes[512] = 0x80;
+    Ok(bytes)
+}
+
+fn show_list(rt: &HostRuntime, listed: &Vec<u8>) -> io::Result<()> {
+    let count = listed.len();
+    print!(rt; "  {count} bytes list")?;
+    for place in 0..listed.len() {
+        let byte = listed[place];
+        if byte != 0 {
+            print!(rt; " {byte:#x} at {place}")?;
+        }
+    }
+    println!(rt; "")
+}
+
+fn show(rt: &HostRuntime, copies: &Vec<Vec<MemPiece>>) -> io::Result<()> {
+    let mut writes: u64 = 0;
+    let mut number: u64 = 0;
+    for pieces in copies {
+        let mut at: u64 = 0;
+        print!(rt; "  copy {number} holds")?;
+        for piece in pieces {
+            show_piece(rt, piece, at)?;
+            at = at.saturating_add(piece.sectors());
+            writes = writes.saturating_add(piece.counts().writes);
+        }
+        println!(rt; "")?;
+        number = number.saturating_add(1);
+    }
+    let more = writes.saturating_sub(CREATED);
+    println!(rt; "  {more} writes")
+}
+
+/// The first bytes of the pages of the map that lie in a piece, which begins at this sector of its copy.
+fn show_piece(rt: &HostRuntime, piece: &MemPiece, at: u64) -> io::Result<()> {
+    for page in 0..2u64 {
+        let sector = page_of(5) + page;
+        if sector < at {
+            continue;
+        }
+        let place = (sector - at).saturating_mul(512);
+        if let Some(byte) = piece.bytes().get(place as usize) {
+            print!(rt; " {byte:#x}")?;
+        }
+    }
+    Ok(())
+}

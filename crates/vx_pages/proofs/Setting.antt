@@ -24,42 +24,41 @@ none_lost x l none = ap (λ (b : Bool). x && not b) none ∙ and_all x
 
 -- ---- one sector
 
-module _ (c : Copies) (sure loose image : List ℕ) (formed : IsFormed (seen c sure loose)) (clean : (other : ℕ) → bit_in loose other ≡ false) where
-  module _ (c' : Copies) (sure' loose' : List ℕ) (fault : MarkFault) (put : IsPut {T = Unit {0}} image c c' (Err fault))
-      (fewer : (region : ℕ) → bit_in sure' region ≡ (bit_in sure region && bit_in image region)) (opened : (region : ℕ) → bit_in loose' region ≡ differ (bit_in sure region) (bit_in image region)) where
-    pub set_failed : SetsBits {T = Unit {0}} true (bit_in image) (Err fault) (seen c sure loose) (seen c' sure' loose')
-    set_failed =
-        record {
-          kept = copies_kept c c' sure loose sure' loose' put.kept;
-          bits = λ region. (fewer region, opened region);
-          shows = λ t n region.
-              elim (torn_page _ _ _ region (put.holds t n)) [
-                | inl same ↦ inl (same ∙ sym (none_lost (shown c n region) (bit_in loose region) (clean region)))
-                | inr is ↦ inr (refl, is)
-              ];
-        }
+module _ (c : Copies) (sure loose image : List ℕ) (formed : IsFormed (seen c sure loose)) (clean : (other : ℕ) → bit_in loose other ≡ false) (c' : Copies) (sure' loose' : List ℕ) (fault : MarkFault) (put : IsPut {T = Unit {0}} image c c' (Err fault))
+    (fewer : (region : ℕ) → bit_in sure' region ≡ (bit_in sure region && bit_in image region)) (opened : (region : ℕ) → bit_in loose' region ≡ differ (bit_in sure region) (bit_in image region)) where
+  pub set_failed : SetsBits {T = Unit {0}} true (bit_in image) (Err fault) (seen c sure loose) (seen c' sure' loose')
+  set_failed =
+      record {
+        kept = copies_kept c c' sure loose sure' loose' put.kept;
+        bits = λ region. (fewer region, opened region);
+        shows = λ t n region.
+            elim (torn_page _ _ _ region (put.holds t n)) [
+              | inl same ↦ inl (same ∙ sym (none_lost (shown c n region) (bit_in loose region) (clean region)))
+              | inr is ↦ inr (refl, is)
+            ];
+      }
 
-    pub failed_set_formed : length sure' ≡ 512 → length loose' ≡ 512 → IsFormed (seen c' sure' loose')
-    failed_set_formed len len' =
-        record {
-          sectors = put.kept.sectors formed.sectors;
-          sure = len;
-          loose = len';
-          shows = λ t n region.
-              let t' = sym put.kept.tells ∙ t in
-              ap (λ (l : Bool). shown c' n region && not l) (opened region)
-              ∙ in_both _ _ _ _ (firm_shows c sure loose formed clean t' n region) (torn_page _ _ _ region (put.holds t' n)) ∙ sym (fewer region);
-        }
-      where
-        in_both : (x x' s i : Bool) → x ≡ s → (x' ≡ x) ⊎ (x' ≡ i) → (x' && not (differ s i)) ≡ (s && i)
-        in_both x x' true true firm (inl same) = rw (same, firm) refl
-        in_both x x' true true firm (inr is) = rw is refl
-        in_both x true true false firm torn = refl
-        in_both x false true false firm torn = refl
-        in_both x true false true firm torn = refl
-        in_both x false false true firm torn = refl
-        in_both x x' false false firm (inl same) = rw (same, firm) refl
-        in_both x x' false false firm (inr is) = rw is refl
+  pub failed_set_formed : length sure' ≡ 512 → length loose' ≡ 512 → IsFormed (seen c' sure' loose')
+  failed_set_formed len len' =
+      record {
+        sectors = put.kept.sectors formed.sectors;
+        sure = len;
+        loose = len';
+        shows = λ t n region.
+            let t' = sym put.kept.tells ∙ t in
+            ap (λ (l : Bool). shown c' n region && not l) (opened region)
+            ∙ in_both _ _ _ _ (firm_shows c sure loose formed clean t' n region) (torn_page _ _ _ region (put.holds t' n)) ∙ sym (fewer region);
+      }
+    where
+      in_both : (x x' s i : Bool) → x ≡ s → (x' ≡ x) ⊎ (x' ≡ i) → (x' && not (differ s i)) ≡ (s && i)
+      in_both x x' true true firm (inl same) = rw (same, firm) refl
+      in_both x x' true true firm (inr is) = rw is refl
+      in_both x true true false firm torn = refl
+      in_both x false true false firm torn = refl
+      in_both x true false true firm torn = refl
+      in_both x false false true firm torn = refl
+      in_both x x' false false firm (inl same) = rw (same, firm) refl
+      in_both x x' false false firm (inr is) = rw is refl
 
 -- ---- the sectors of a page
 

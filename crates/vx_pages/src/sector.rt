@@ -95,6 +95,15 @@ impl<P: LocalPiece> MapSector<P> {
         }
     }
 
+    /// Leaves the bit of a region open, if the map is asked for.
+    pub fn open_if(&mut self, asked: bool, region: u64)
+        ensures { Turns (BitOpened (λ other. asked && same_place region other)) (sector_seen P.seen self.old) (sector_seen P.seen self.new) }
+    {
+        if asked {
+            self.open_mark(region);
+        }
+    }
+
     /// Makes the bits these of 512 bytes on every copy, where they are not. Where that fails, those that differ are loose.
     pub fn set(&mut self, image: &[u8]) -> Result<(), MarkFault>
         requires clean { (other : ℕ) → is_loose (sector_seen P.seen self.old) other ≡ false }
@@ -111,15 +120,6 @@ impl<P: LocalPiece> MapSector<P> {
         }
         copy_page(&mut self.sure, image);
         Ok(())
-    }
-
-    /// Leaves the bit of a region open, if the map is asked for.
-    pub fn open_if(&mut self, asked: bool, region: u64)
-        ensures { Turns (BitOpened (λ other. asked && same_place region other)) (sector_seen P.seen self.old) (sector_seen P.seen self.new) }
-    {
-        if asked {
-            self.open_mark(region);
-        }
     }
 }
 

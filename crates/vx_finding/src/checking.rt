@@ -1,6 +1,5 @@
-ghost use Rattle.std.specs.Prelude.{◌≡◌, ◌==◌, ◌&&◌, ◌-◌, map, is_some};
+ghost use Rattle.std.specs.Prelude.{◌≡◌, ◌==◌, ◌&&◌, ◌-◌};
 ghost use Rattle.std.specs.List.{list_any};
-ghost use Rattle.std.specs.Str.{bytes_eq};
 ghost use Rattle.vx_header.specs.Named.{label_of};
 ghost use Rattle.vx_mask.specs.Mask.{has};
 ghost use Rattle.vx_finding.specs.Judging.{labels_of, stray_in, is_disk_of, is_started, started_in};

@@ -1,4 +1,4 @@
-ghost use Rattle.std.specs.Prelude.{◌≡◌, ◌++◌, List, map};
+ghost use Rattle.std.specs.Prelude.{◌++◌, List, map};
 ghost use Rattle.vx_shelf.specs.Shelf.{IsWhole, IsOut};
 ghost use Rattle.vx_import.specs.Looks.{looked};
 ghost use Rattle.vx_house.specs.Holders.{Holder, AreHeld};

@@ -1,5 +1,5 @@
 //! What the devices that were found say of the group's configuration, or why none is there.
-ghost use Rattle.std.specs.Prelude.{◌≡◌, Err, IfErr, map, vec_capacity};
+ghost use Rattle.std.specs.Prelude.{◌≡◌, Err, map, vec_capacity};
 ghost use Rattle.vx_base.specs.Named.{Word};
 ghost use Rattle.vx_copies.specs.Lists.{Each};
 ghost use Rattle.vx_import.specs.Answers.{Answers};

@@ -1,5 +1,4 @@
-ghost use Rattle.std.specs.Prelude.{◌≡◌, ◌++◌, ◌∷◌, [], map, IfOk, length};
-ghost use Rattle.vx_moments.specs.Copies.{IsTextOf};
+ghost use Rattle.std.specs.Prelude.{◌≡◌, map, IfOk};
 ghost use Rattle.vx_plans.specs.Finding.{needs_sync, needs_sync_state};
 ghost use Rattle.vx_finding.specs.Judging.{labels_of, is_started, BadIs, RefusedBy, SizeJudged, CommitJudged, PrintJudged, ConfigJudged, RecordsJudged, TextJudged};
 

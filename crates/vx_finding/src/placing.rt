@@ -1,4 +1,4 @@
-ghost use Rattle.std.specs.Prelude.{◌≡◌, ◌<◌, ◌≤◌, length, map, insert, None, vec_len, vec_capacity, Option};
+ghost use Rattle.std.specs.Prelude.{◌≡◌, ◌<◌, ◌≤◌, length, insert, None, vec_len, vec_capacity, Option};
 ghost use Rattle.vx_finding.specs.Places.{slots_of, PlaceIs, ArePlaced};
 
 use vx_import::Found;

@@ -1,5 +1,5 @@
 //! The looking for the devices of a group.
-ghost use Rattle.std.specs.Prelude.{◌≡◌, ◌++◌, List, IfOk, IfErr, map, vec_capacity};
+ghost use Rattle.std.specs.Prelude.{List, IfOk, IfErr, map, vec_capacity};
 ghost use Rattle.vx_shelf.specs.Listed.{IsRising};
 ghost use Rattle.vx_import.specs.Looks.{looked};
 ghost use Rattle.vx_house.specs.Holders.{Holder, AreHeld};

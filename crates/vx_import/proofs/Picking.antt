@@ -58,10 +58,6 @@ choose_more see (x ∷ xs) d t behind some is e rest =
     let behind_is = subst (λ ys. BestIs behind (map (looked see) ys)) whole rest in
     best_more (looked see x) (map (looked see) xs) t behind (sym (e ∙ ap (λ f. toggle_read (looked see f)) is)) behind_is
 
-pub choose_none : {P : Type 0} (see : P → Seen) (xs : List (Found P)) → length xs < 1 → BestIs None (map (looked see) xs)
-choose_none see [] lt = tt
-choose_none see (x ∷ xs) lt = absurd (omega (arith, lt))
-
 pub rest_long : {P : Type 0} (xs : List (Found P)) → 1 ≤ length xs → length (take (length xs - 1) (drop 1 xs)) ≡ length xs - 1
 rest_long {P = P} [] some = absurd (omega (arith, some))
 rest_long {P = P} (x ∷ xs) some =

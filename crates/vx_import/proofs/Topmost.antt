@@ -86,31 +86,3 @@ is_newest group sequence good text fs rising chosen there = λ missing others te
 pub all_newest : (group : Word) (r : Result Given ImportFault) (fs : List Looked) → IsRising fs → Answers r group fs → IfOk r (λ g. IsNewestOf group g.sequence fs)
 all_newest group (Ok g) fs rising is = is_newest group g.sequence g.good (text_of g.text) fs rising is.chosen is.there
 all_newest group (Err e) fs rising is = tt
-
-each_by : (Q R : Looked → Type 0) (fs : List Looked) → ((f : Looked) → Q f → R f) → AllOf Q fs → AllOf R fs
-each_by Q R [] on all = tt
-each_by Q R (f ∷ fs) on all = (on f all.0, each_by Q R fs on all.1)
-
-both_all : (Q R : Looked → Type 0) (fs : List Looked) → AllOf Q fs → AllOf R fs → AllOf (λ f. Q f × R f) fs
-both_all Q R [] p q = tt
-both_all Q R (f ∷ fs) p q = ((p.0, q.0), both_all Q R fs p.1 q.1)
-
-read_here : (f : Looked) (fs : List Looked) (Q : ℕ → Type 0) → IsRising (f ∷ fs) → ((slot : ℕ) → Q slot → is_readable_slot slot (f ∷ fs) ≡ true) → Q f.label.slot → f.readable ≡ true
-read_here f fs Q rising there q = by f.readable refl
-  where
-    by : (b : Bool) → f.readable ≡ b → f.readable ≡ true
-    by true e = e
-    by false e = absurd (gone_here (f ∷ fs) Q rising there (inl (e, q)))
-
-read_all : (fs : List Looked) (Q : ℕ → Type 0) → IsRising fs → ((slot : ℕ) → Q slot → is_readable_slot slot fs ≡ true) → AllOf (λ f. Q f.label.slot → f.readable ≡ true) fs
-read_all [] Q rising there = tt
-read_all (f ∷ fs) Q rising there =
-    let behind_f = read_all fs (λ n. Q n × (f.label.slot < n)) rising.1 (λ slot q. behind f.readable (f.label.slot == slot) (is_readable_slot slot fs) (ne_eqb f.label.slot slot (λ e. let lt = q.1 in omega (arith, lt, e))) (there slot q.0)) in (
-      read_here f fs Q rising there,
-      each_by (λ g. (f.label.slot < g.label.slot) × ((Q g.label.slot × (f.label.slot < g.label.slot)) → g.readable ≡ true)) (λ g. Q g.label.slot → g.readable ≡ true) fs (λ g is q. is.1 (q, is.0))
-          (both_all (λ g. f.label.slot < g.label.slot) (λ g. (Q g.label.slot × (f.label.slot < g.label.slot)) → g.readable ≡ true) fs rising.0 behind_f),
-    )
-
--- where each slot that is named is there, each device that is named can be read
-pub named_readable : (good : ℕ) (fs : List Looked) → good < 2 ^ 32 → IsRising fs → AllThere 32 good fs → AllOf (λ f. has good f.label.slot ≡ true → f.readable ≡ true) fs
-named_readable good fs fits rising there = read_all fs (λ slot. has good slot ≡ true) rising (λ slot is. there slot (has_below good slot fits is) is)

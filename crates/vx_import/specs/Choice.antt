@@ -71,8 +71,3 @@ offers_read group (f ∷ fs) = (if f.readable then offer_told group f.seen.told 
 -- the configuration that the readable devices give
 abbrev pub given : Word → List Looked → Option Offer
 given group fs = highest (offers_read group fs)
-
-abbrev pub GivesTaken : Taken → Word → List ℕ → List Looked → Type 0
-GivesTaken (Text b) group buffer fs = given group fs ≡ Some (record { sequence = b.toggle.sequence; good = b.toggle.good; text = take b.toggle.length buffer })
-GivesTaken Nothing group buffer fs = given group fs ≡ None
-GivesTaken Cut group buffer fs = AnyOf (λ f. IsTrue f.seen.cut) fs

@@ -1,8 +1,6 @@
 ghost use Rattle.std.specs.Prelude.{◌≡◌, ◌+◌, ◌-◌, ◌<◌, ◌≤◌, ◌^◌, length, map, Some, IfSome, option_map};
-ghost use Rattle.vx_base.specs.Named.{Word};
-ghost use Rattle.vx_copies.specs.Lists.{Each, AllOf};
-ghost use Rattle.vx_import.specs.Looks.{looked, toggle_read, IsPrivate, IsOurs, Reads};
-ghost use Rattle.vx_import.specs.Choice.{BestIs, picked, At, TakenIs, TriedIs, GivesTaken, Tells};
+ghost use Rattle.vx_import.specs.Looks.{looked, toggle_read, Reads};
+ghost use Rattle.vx_import.specs.Choice.{BestIs, picked, TriedIs};
 ghost use Rattle.vx_header.specs.Said.{said_of};
 
 use crate::found::{Found, Reading};

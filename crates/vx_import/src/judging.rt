@@ -1,4 +1,4 @@
-ghost use Rattle.std.specs.Prelude.{◌≡◌, ◌<◌, ◌≤◌, ◌^◌, length, map, take};
+ghost use Rattle.std.specs.Prelude.{◌≡◌, ◌<◌, ◌^◌, length, map, take};
 ghost use Rattle.vx_base.specs.Named.{Word};
 ghost use Rattle.vx_header.specs.Said.{said_of};
 ghost use Rattle.vx_copies.specs.Lists.{AllOf};

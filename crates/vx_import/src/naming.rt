@@ -1,4 +1,4 @@
-ghost use Rattle.std.specs.Prelude.{◌≡◌, ◌<◌, ◌^◌, length, map, true, false};
+ghost use Rattle.std.specs.Prelude.{◌≡◌, ◌<◌, map, true, false};
 ghost use Rattle.vx_mask.specs.Mask.{has};
 ghost use Rattle.vx_import.specs.Looks.{looked};
 ghost use Rattle.vx_import.specs.Naming.{is_readable_slot, is_meant, MissingIs, HurtIs, DamageIs};

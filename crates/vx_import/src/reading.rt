@@ -1,7 +1,6 @@
 ghost use Rattle.std.specs.Prelude.{◌≡◌, ◌+◌, ◌*◌, ◌<◌, ◌≤◌, length, take, IfOk, OnOk, IfSome, option_map};
 ghost use Rattle.vx_base.specs.Counts.{later_count};
 ghost use Rattle.vx_header.specs.Named.{header_of, label_of};
-ghost use Rattle.vx_header.specs.Said.{toggle_of};
 ghost use Rattle.vx_piece.specs.Seen.{Keeps, IsRead, CountsRead, HasCause};
 ghost use Rattle.vx_copies.specs.Image.{text_in, sectors_for};
 ghost use Rattle.vx_import.specs.Looks.{IsReading};

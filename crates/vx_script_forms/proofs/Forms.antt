@@ -154,17 +154,21 @@ says kind.PrintSnaps (_, (g, (_, (vol, _)))) h = found (form.PrintSnaps vol) g (
 says kind.Recover (_, (g, (_, (vol, _)))) h = found (form.Recover vol) g (ap (option_and_then (λ v. Some (form.Recover v))) (maybe_back vol)) refl (maybe_back g) refl
 says kind.Prepare (_, (g, (_, (vol, (ndcomirs, (region, _)))))) h = found (form.Prepare vol ndcomirs region) g (rw (count_back ndcomirs, count_back region) refl) refl (maybe_back g) refl
 says kind.Fill x h =
-    let e = each (items_of kind.Fill) (said_values (items_of kind.Fill) x) h in
-    found (form.Calling (call.Fill x.1.1.0 x.1.1.1.0 x.1.1.1.1.0 x.1.1.1.1.1.1.0)) None (ap (option_and_then (λ b. Some (form.Calling (call.Fill x.1.1.0 x.1.1.1.0 x.1.1.1.1.0 b)))) (byte_is x.1.1.1.1.1.1.0 e.1.1.1.1.1.1.0)) refl refl refl
+    let (_, (_, (vol, (start, (count, (_, (byte, _))))))) = x in
+    let (_, (_, (_, (_, (_, (_, (fits, _))))))) = each (items_of kind.Fill) (said_values (items_of kind.Fill) x) h in
+    found (form.Calling (call.Fill vol start count byte)) None (ap (option_and_then (λ b. Some (form.Calling (call.Fill vol start count b)))) (byte_is byte fits)) refl refl refl
 says kind.Sessions x h =
-    let e = each (items_of kind.Sessions) (said_values (items_of kind.Sessions) x) h in
-    found (form.Sessions (record { sessions = x.1.1.0; lines = [] })) None (ap (option_and_then (λ n. Some (form.Sessions (record { sessions = n; lines = [] })))) (small_is 1 16 x.1.1.0 (lit< tt) e.1.1.0)) refl refl refl
+    let (_, (_, (sessions, _))) = x in
+    let (_, (_, (fits, _))) = each (items_of kind.Sessions) (said_values (items_of kind.Sessions) x) h in
+    found (form.Sessions (record { sessions = sessions; lines = [] })) None (ap (option_and_then (λ n. Some (form.Sessions (record { sessions = n; lines = [] })))) (small_is 1 16 sessions (lit< tt) fits)) refl refl refl
 says kind.MakeConcat x h =
-    let e = each (items_of kind.MakeConcat) (said_values (items_of kind.MakeConcat) x) h in
-    concat_says x.1.0 x.1.1.1.0 x.1.1.1.1.0 x.1.1.1.1.1.1.0 x.1.1.1.1.1.1.1.0 x.1.1.1.1.1.1.1.1.0 x.1.1.1.1.1.1.1.1.1.0 (few_of 1 8 x.1.1.1.1.1.1.0 (lit< tt) e.1.1.1.1.1.1.0) (few_of 0 2 x.1.1.1.1.1.1.1.1.0 (lit< tt) e.1.1.1.1.1.1.1.1.0) x.1.1.1.1.1.0
+    let (_, (g, (_, (vol, (size, (words, (nmirror, (region, (logs, (disks, _)))))))))) = x in
+    let (_, (_, (_, (_, (_, (_, (few, (_, (some_logs, _))))))))) = each (items_of kind.MakeConcat) (said_values (items_of kind.MakeConcat) x) h in
+    concat_says g vol size nmirror region logs disks (few_of 1 8 nmirror (lit< tt) few) (few_of 0 2 logs (lit< tt) some_logs) words
 says kind.MakeStripe x h =
-    let e = each (items_of kind.MakeStripe) (said_values (items_of kind.MakeStripe) x) h in
-    stripe_says x.1.0 x.1.1.1.0 x.1.1.1.1.0 x.1.1.1.1.1.1.1.1.0 x.1.1.1.1.1.1.1.1.1.0 x.1.1.1.1.1.1.1.1.1.1.0 x.1.1.1.1.1.1.1.1.1.1.1.0 (few_of 1 8 x.1.1.1.1.1.1.1.1.0 (lit< tt) e.1.1.1.1.1.1.1.1.0) (few_of 0 2 x.1.1.1.1.1.1.1.1.1.1.0 (lit< tt) e.1.1.1.1.1.1.1.1.1.1.0) x.1.1.1.1.1.1.0 x.1.1.1.1.1.1.1.0 (few_of 2 16 x.1.1.1.1.1.1.0 (lit< tt) e.1.1.1.1.1.1.0)
+    let (_, (g, (_, (vol, (size, (_, (ncol, (unit, (nmirror, (region, (logs, (disks, _)))))))))))) = x in
+    let (_, (_, (_, (_, (_, (_, (narrow, (_, (few, (_, (some_logs, _))))))))))) = each (items_of kind.MakeStripe) (said_values (items_of kind.MakeStripe) x) h in
+    stripe_says g vol size nmirror region logs disks (few_of 1 8 nmirror (lit< tt) few) (few_of 0 2 logs (lit< tt) some_logs) ncol unit (few_of 2 16 ncol (lit< tt) narrow)
 
 -- no value of a form is of another sort than its part
 pub form_ok : (k : Kind) (vs : List Value) → are_of (items_of k) vs ≡ true → SaysForm k vs
@@ -181,19 +185,19 @@ module _ (g : Option (List ℕ)) (vol : List ℕ) (size : ℕ) (nmirror region l
   -- columns or a stripe unit without `layout=stripe` are refused
   astray : (ncol unit : Option ℕ) → are_of (items_of kind.MakeStripe) (value.Word ∷ maybe_value g ∷ value.Word ∷ value.Named vol ∷ value.Number size ∷ value.Nothing ∷ count_value ncol ∷ count_value unit ∷ count_value nmirror ∷ count_value region ∷ count_value logs ∷ value.Names disks ∷ []) ≡ true → ⊥
   astray ncol unit h =
-      let e = each (items_of kind.MakeStripe) (value.Word ∷ maybe_value g ∷ value.Word ∷ value.Named vol ∷ value.Number size ∷ value.Nothing ∷ count_value ncol ∷ count_value unit ∷ count_value nmirror ∷ count_value region ∷ count_value logs ∷ value.Names disks ∷ []) h in
-      both_ways false refl e.1.1.1.1.1.0
+      let (_, (_, (_, (_, (_, (word, _)))))) = each (items_of kind.MakeStripe) (value.Word ∷ maybe_value g ∷ value.Word ∷ value.Named vol ∷ value.Number size ∷ value.Nothing ∷ count_value ncol ∷ count_value unit ∷ count_value nmirror ∷ count_value region ∷ count_value logs ∷ value.Names disks ∷ []) h in
+      both_ways false refl word
 
   make_again : (words : Option WordLayout) (ncol unit : Option ℕ) → are_of (items_of (make_kind words ncol unit)) (again words ncol unit) ≡ true → form_of (make_kind words ncol unit) (again words ncol unit) ≡ Some (form.AssistMake vol size (record { layout = words; ncol = ncol; unit = unit; nmirror = nmirror; region = region; ndcomirror = logs }) disks)
   make_again None None None h =
-      let e = each (items_of kind.MakeConcat) (again None None None) h in
-      plain_back g vol size nmirror region logs disks (few_of 1 8 nmirror (lit< tt) e.1.1.1.1.1.1.0) (few_of 0 2 logs (lit< tt) e.1.1.1.1.1.1.1.1.0)
+      let (_, (_, (_, (_, (_, (_, (few, (_, (some_logs, _))))))))) = each (items_of kind.MakeConcat) (again None None None) h in
+      plain_back g vol size nmirror region logs disks (few_of 1 8 nmirror (lit< tt) few) (few_of 0 2 logs (lit< tt) some_logs)
   make_again (Some layout.Concat) None None h =
-      let e = each (items_of kind.MakeConcat) (again (Some layout.Concat) None None) h in
-      concat_back g vol size nmirror region logs disks (few_of 1 8 nmirror (lit< tt) e.1.1.1.1.1.1.0) (few_of 0 2 logs (lit< tt) e.1.1.1.1.1.1.1.1.0)
+      let (_, (_, (_, (_, (_, (_, (few, (_, (some_logs, _))))))))) = each (items_of kind.MakeConcat) (again (Some layout.Concat) None None) h in
+      concat_back g vol size nmirror region logs disks (few_of 1 8 nmirror (lit< tt) few) (few_of 0 2 logs (lit< tt) some_logs)
   make_again (Some layout.Stripe) ncol unit h =
-      let e = each (items_of kind.MakeStripe) (again (Some layout.Stripe) ncol unit) h in
-      stripe_back g vol size nmirror region logs disks (few_of 1 8 nmirror (lit< tt) e.1.1.1.1.1.1.1.1.0) (few_of 0 2 logs (lit< tt) e.1.1.1.1.1.1.1.1.1.1.0) ncol unit (few_of 2 16 ncol (lit< tt) e.1.1.1.1.1.1.0)
+      let (_, (_, (_, (_, (_, (_, (narrow, (_, (few, (_, (some_logs, _))))))))))) = each (items_of kind.MakeStripe) (again (Some layout.Stripe) ncol unit) h in
+      stripe_back g vol size nmirror region logs disks (few_of 1 8 nmirror (lit< tt) few) (few_of 0 2 logs (lit< tt) some_logs) ncol unit (few_of 2 16 ncol (lit< tt) narrow)
   make_again None (Some n) unit h = absurd (astray (Some n) unit h)
   make_again None None (Some u) h = absurd (astray None (Some u) h)
   make_again (Some layout.Concat) (Some n) unit h = absurd (astray (Some n) unit h)
@@ -213,12 +217,12 @@ form_again g (form.Recover vol) h = ap (option_and_then (λ v. Some (form.Recove
 form_again g (form.Acting (act.Snapback snap true)) h = refl
 form_again g (form.Acting a) h = refl
 form_again g (form.Calling (call.Fill vol start count byte)) h =
-    let e = each (items_of kind.Fill) (values_of g (form.Calling (call.Fill vol start count byte))) h in
-    ap (option_and_then (λ b. Some (form.Calling (call.Fill vol start count b)))) (byte_is byte e.1.1.1.1.1.1.0)
+    let (_, (_, (_, (_, (_, (_, (fits, _))))))) = each (items_of kind.Fill) (values_of g (form.Calling (call.Fill vol start count byte))) h in
+    ap (option_and_then (λ b. Some (form.Calling (call.Fill vol start count b)))) (byte_is byte fits)
 form_again g (form.Calling c) h = refl
 form_again g (form.Sessions block) h =
-    let e = each (items_of kind.Sessions) (values_of g (form.Sessions block)) h in
-    ap (option_and_then (λ n. Some (form.Sessions (record { sessions = n; lines = [] })))) (small_is 1 16 block.sessions (lit< tt) e.1.1.0)
+    let (_, (_, (fits, _))) = each (items_of kind.Sessions) (values_of g (form.Sessions block)) h in
+    ap (option_and_then (λ n. Some (form.Sessions (record { sessions = n; lines = [] })))) (small_is 1 16 block.sessions (lit< tt) fits)
 form_again g f h = refl
 
 -- the second value is the group

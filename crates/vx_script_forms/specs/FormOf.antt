@@ -20,20 +20,23 @@ concat_of Nothing = Some None
 concat_of Word = Some (Some layout.Concat)
 concat_of v = None
 
--- the attributes, of which the last three are said by the mirrors, the region and the logs
+-- the attributes, of which these three values say the last
 abbrev pub with_mirrors : Option WordLayout → Option ℕ → Option ℕ → Value → Value → Value → Option MakeAttrs
 with_mirrors layout ncol unit mirrors size logs = option_and_then (λ nmirror. option_and_then (λ region. option_and_then (λ ndcomirror. Some (record { layout = layout; ncol = ncol; unit = unit; nmirror = nmirror; region = region; ndcomirror = ndcomirror })) (maybe_small logs)) (maybe_numbered size)) (maybe_small mirrors)
 
+-- the attributes of a line that is not striped
 abbrev pub concat_attrs : Value → Value → Value → Value → Option MakeAttrs
 concat_attrs words mirrors size logs = option_and_then (λ layout. with_mirrors layout None None mirrors size logs) (concat_of words)
 
+-- the attributes of a striped line
 abbrev pub stripe_attrs : Value → Value → Value → Value → Value → Option MakeAttrs
 stripe_attrs columns length mirrors size logs = option_and_then (λ ncol. option_and_then (λ unit. with_mirrors (Some layout.Stripe) ncol unit mirrors size logs) (maybe_numbered length)) (maybe_small columns)
 
+-- a volume that is made with the attributes, where there are any
 abbrev pub assist_make : List ℕ → ℕ → Option MakeAttrs → List (List ℕ) → Option Form
 assist_make vol length attrs disks = option_and_then (λ attrs. Some (form.AssistMake vol length attrs disks)) attrs
 
--- a line of a kind, its first word and its group before the others; nothing where a value is of another sort
+-- the form of a line: the value of its first word, that of its group, and the others; nothing where one is of another sort
 abbrev pub form_of : Kind → List Value → Option Form
 form_of kind.MkImage (_ ∷ _ ∷ Named device ∷ Number length ∷ _) = Some (form.MkImage device length)
 form_of kind.Bare (_ ∷ _ ∷ Named vol ∷ Named device ∷ _) = Some (form.Bare vol device)

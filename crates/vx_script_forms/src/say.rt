@@ -1,4 +1,4 @@
-ghost use Rattle.std.specs.Prelude.{◌≡◌, IfOk, Some, None, []};
+ghost use Rattle.std.specs.Prelude.{◌≡◌, IfOk};
 ghost use Rattle.vx_script_forms.specs.FormOf.{concat_of, with_mirrors, concat_attrs, stripe_attrs, assist_make, form_of};
 
 use crate::values::{byte, maybe_named, maybe_numbered, maybe_small, small};
@@ -110,7 +110,11 @@ fn any_form(alloc: Global, kind: Kind, values: &[Value]) -> Result<Option<Form>,
         Kind::Recover => form!(values; [_, _, _, vol, ..] =>
             Form::Recover { vol: said!(maybe_named(vol)) }),
         Kind::SnapMake => form!(*values; [_, _, _, BreakOff { vol, snap, plex }, ..] =>
-            Form::Acting(Act::SnapMake { vol: Boxed::new(alloc, vol)?, snap: Boxed::new(alloc, snap)?, plex: maybe_boxed(alloc, plex)? })),
+            Form::Acting(Act::SnapMake {
+                vol: Boxed::new(alloc, vol)?,
+                snap: Boxed::new(alloc, snap)?,
+                plex: maybe_boxed(alloc, plex)?,
+            })),
         Kind::Reattach => form!(*values; [_, _, _, Named(snap), Named(vol), ..] =>
             Form::Acting(Act::Reattach { snap, vol: Boxed::new(alloc, vol)? })),
         Kind::Restore => form!(*values; [_, _, _, Named(vol), Named(snap), ..] =>

@@ -1,4 +1,4 @@
-ghost use Rattle.std.specs.Prelude.{◌≡◌, Some, None};
+ghost use Rattle.std.specs.Prelude.{◌≡◌};
 ghost use Rattle.vx_script_forms.specs.Values.{numbered, maybe_named, maybe_numbered, small, byte, maybe_small, group_of};
 
 use vx_names::Name;

@@ -18,7 +18,7 @@ use Rattle.vx_script.specs.declared.reader.Reader.{Reader}
 use Rattle.vx_script.proofs.Made.{made_more}
 use Rattle.vx_script_forms.specs.FormOf.{form_of}
 use Rattle.vx_script_forms.specs.Table.{items_of, commands, calls, acts}
-use Rattle.vx_script_forms.specs.Values.{maybe_name}
+use Rattle.vx_script_forms.specs.Values.{group_of}
 use Rattle.vx_script_forms.specs.declared.block.Line.{Line}
 use Rattle.vx_script_forms.specs.declared.form.Form.{Form}
 use Rattle.vx_script_forms.specs.declared.form.Form.TheVariants as form
@@ -120,20 +120,20 @@ chosen_then may_be_cut kinds text f x P e k = by_choice (choose may_be_cut kinds
     by_choice (Ok c) is e = k c (is c refl) e
     by_choice (Err left) is e = absurd cc
 
-said_there : (c : Choice) → IsChoice c → Says (maybe_name c.values 1) (form_of c.kind c.values)
+said_there : (c : Choice) → IsChoice c → Says (group_of c.values) (form_of c.kind c.values)
 said_there c h f group e g =
     let k = form_ok c.kind c.values h.0 in
     let whole : is_said k.group k.form ≡ true = ap₂ (λ (kind : Kind) (vs : List Value). are_of (items_of kind) vs) k.kind k.values ∙ h.0 in
     subst (λ (x : Form). is_said group x ≡ true) (same_Some _ _ (sym k.is ∙ e)) (subst (λ (x : Option (List ℕ)). is_said x k.form ≡ true) (same_Some _ _ (sym k.group_is ∙ g)) whole)
 
 -- there is a group, or none
-grouped_there : (c : Choice) → IsChoice c → (group : Option (List ℕ)) × (maybe_name c.values 1 ≡ Some group)
+grouped_there : (c : Choice) → IsChoice c → (group : Option (List ℕ)) × (group_of c.values ≡ Some group)
 grouped_there c h = let k = form_ok c.kind c.values h.0 in (k.group, k.group_is)
 
 command_keeps : (done : List Command) (line : List ℕ) (next : Reader) → list_all is_command done ≡ true → command_step done line ≡ Ok next → Keeps next
 unfolding command_step
 command_keeps done line next h e =
-    chosen_then true commands line (λ c. opened_by done (maybe_name c.values 1) (form_of c.kind c.values) c.cut) next (Keeps next) e (λ c k f. opened_is done (maybe_name c.values 1) (form_of c.kind c.values) c.cut next h (cut_is c.cut k.1) (said_there c k) f)
+    chosen_then true commands line (λ c. opened_by done (group_of c.values) (form_of c.kind c.values) c.cut) next (Keeps next) e (λ c k f. opened_is done (group_of c.values) (form_of c.kind c.values) c.cut next h (cut_is c.cut k.1) (said_there c k) f)
 
 clean : (o : Option ℕ) (reader next : Reader) → or_bad o reader ≡ Ok next → (o ≡ None) × (reader ≡ next)
 clean None reader next e = (refl, same_ok _ _ e)
@@ -173,7 +173,7 @@ called_is sessions session group (Some f) line h a e = absurd cc
 line_behind_is : (sessions session : ℕ) (text : List ℕ) (line : Line) → session ≤ sessions → line_behind session text ≡ Ok line → is_line sessions line ≡ true
 unfolding line_behind
 line_behind_is sessions session text line h e = elim (chosen (eqb session 0) _ _ _ e) [
-  | inl c ↦ chosen_then false acts text (λ c. administered (maybe_name c.values 1) (form_of c.kind c.values)) line (is_line sessions line ≡ true) c.1 (λ c k f. administered_is sessions (maybe_name c.values 1) (form_of c.kind c.values) line (said_there c k) f)
+  | inl c ↦ chosen_then false acts text (λ c. administered (group_of c.values) (form_of c.kind c.values)) line (is_line sessions line ≡ true) c.1 (λ c k f. administered_is sessions (group_of c.values) (form_of c.kind c.values) line (said_there c k) f)
   | inr c ↦
       let other = eqb-false session 0 c.0 in
       let some : 1 ≤ session = omega arith in

@@ -9,7 +9,7 @@ use Rattle.vx_script.specs.declared.reader.Open.TheVariants.{Closed, Making, Ins
 use Rattle.vx_script.specs.declared.reader.Reader.{Reader}
 use Rattle.vx_script_forms.specs.FormOf.{form_of}
 use Rattle.vx_script_forms.specs.Table.{commands, calls, acts}
-use Rattle.vx_script_forms.specs.Values.{maybe_name}
+use Rattle.vx_script_forms.specs.Values.{group_of}
 use Rattle.vx_script_forms.specs.declared.block.Line.{Line}
 use Rattle.vx_script_forms.specs.declared.block.Line.TheVariants.{Session, Administer}
 use Rattle.vx_script_forms.specs.declared.call.Call.{Call}
@@ -32,7 +32,7 @@ opened_by done (Some group) None cut = Err 0
 opened_by done (Some group) (Some f) cut = Ok (opened done group f cut)
 
 unfoldable pub command_step : List Command → List ℕ → Result Reader ℕ
-command_step done line = and_then (choose true commands line) (λ c. opened_by done (maybe_name c.values 1) (form_of c.kind c.values) c.cut)
+command_step done line = and_then (choose true commands line) (λ c. opened_by done (group_of c.values) (form_of c.kind c.values) c.cut)
 
 abbrev pub or_bad : Option ℕ → Reader → Result Reader ℕ
 or_bad None reader = Ok reader
@@ -59,7 +59,7 @@ called session (Some f) = Err 0
 
 -- session 0 has acts, the others have calls
 unfoldable pub line_behind : ℕ → List ℕ → Result Line ℕ
-line_behind session text = if session == 0 then and_then (choose false acts text) (λ c. administered (maybe_name c.values 1) (form_of c.kind c.values)) else and_then (choose false calls text) (λ c. called session (form_of c.kind c.values))
+line_behind session text = if session == 0 then and_then (choose false acts text) (λ c. administered (group_of c.values) (form_of c.kind c.values)) else and_then (choose false calls text) (λ c. called session (form_of c.kind c.values))
 
 abbrev pub line_of_session : Option ℕ → List ℕ → Result Line ℕ
 line_of_session None text = Err (length text)

@@ -5,7 +5,7 @@ use Rattle.std.proofs.Math.Dec.{lit<}
 use Rattle.std.proofs.lemmas.Bool.{and_parts, both_ways, cond-true}
 use Rattle.vx_script_forms.specs.FormOf.{form_of}
 use Rattle.vx_script_forms.specs.Table.{items_of}
-use Rattle.vx_script_forms.specs.Values.{maybe_named, maybe_numbered, maybe_name, below, maybe_below}
+use Rattle.vx_script_forms.specs.Values.{maybe_named, maybe_numbered, group_of, below, maybe_below}
 use Rattle.vx_script_forms.specs.ValuesOf.{maybe_value, count_value, layout_values, make_kind, kind_of, values_of, opening}
 use Rattle.vx_script_forms.specs.declared.act.Act.TheVariants as act
 use Rattle.vx_script_forms.specs.declared.call.Call.TheVariants as call
@@ -92,10 +92,10 @@ pub record SaysForm (k : Kind) (vs : List Value) : Type 0 where
   pub is : form_of k vs ≡ Some form
   pub kind : kind_of form ≡ k
   pub group : Option (List ℕ)
-  pub group_is : maybe_name vs 1 ≡ Some group
+  pub group_is : group_of vs ≡ Some group
   pub values : values_of group form ≡ vs
 
-found : {k : Kind} {vs : List Value} (f : Form) (g : Option (List ℕ)) → form_of k vs ≡ Some f → kind_of f ≡ k → maybe_name vs 1 ≡ Some g → values_of g f ≡ vs → SaysForm k vs
+found : {k : Kind} {vs : List Value} (f : Form) (g : Option (List ℕ)) → form_of k vs ≡ Some f → kind_of f ≡ k → group_of vs ≡ Some g → values_of g f ≡ vs → SaysForm k vs
 found f g is kind group values = record { form = f; is = is; kind = kind; group = g; group_is = group; values = values }
 
 small_is : (low high n : ℕ) → high < 2 ^ 32 → is_between low high n ≡ true → below (2 ^ 32) (Some n) ≡ Some n
@@ -118,53 +118,57 @@ module _ (g : Option (List ℕ)) (vol : List ℕ) (size : ℕ) (nmirror region l
   stripe_says ncol unit narrow = found (made g vol size nmirror region logs disks few some_logs (Some layout.Stripe) ncol unit) g (stripe_back g vol size nmirror region logs disks few some_logs ncol unit narrow) refl (maybe_back g) refl
 
 says : (k : Kind) (x : Saids (items_of k)) → are_of (items_of k) (said_values (items_of k) x) ≡ true → SaysForm k (said_values (items_of k) x)
-says kind.MkImage x h = found (form.MkImage x.1.1.0 x.1.1.1.0) None refl refl refl refl
-says kind.Bare x h = found (form.Bare x.1.1.0 x.1.1.1.0) None refl refl refl refl
-says kind.DgInit x h = found (form.DgInit x.1.1.1.0 x.1.1.1.1.0) None refl refl refl refl
-says kind.DgAddDisk x h = found (form.DgAddDisk x.1.1.1.0 x.1.1.1.1.1.0) None refl refl refl refl
-says kind.DgImport x h = found (form.DgImport x.1.1.1.0) None refl refl refl refl
-says kind.DgDeport x h = found (form.DgDeport x.1.1.1.0) None refl refl refl refl
-says kind.DiskUnsetup x h = found (form.DiskUnsetup x.1.1.0) None refl refl refl refl
-says kind.VxMake x h = found (form.VxMake []) x.1.0 refl refl (maybe_back x.1.0) refl
-says kind.Mirror x h = found (form.Mirror x.1.1.1.0 x.1.1.1.1.0) x.1.0 refl refl (maybe_back x.1.0) refl
-says kind.RemoveVolume x h = found (form.RemoveVolume x.1.1.1.1.0) x.1.0 refl refl (maybe_back x.1.0) refl
-says kind.Start x h = found (form.Start x.1.1.1.0) x.1.0 refl refl (maybe_back x.1.0) refl
-says kind.Stop x h = found (form.Stop x.1.1.1.0) x.1.0 refl refl (maybe_back x.1.0) refl
-says kind.RdpolRound x h = found (form.Rdpol x.1.1.1.1.0 policy.Round) x.1.0 refl refl (maybe_back x.1.0) refl
-says kind.RdpolSelect x h = found (form.Rdpol x.1.1.1.1.0 policy.Select) x.1.0 refl refl (maybe_back x.1.0) refl
-says kind.RdpolPrefer x h = found (form.Rdpol x.1.1.1.1.0 (policy.Prefer x.1.1.1.1.1.0)) x.1.0 refl refl (maybe_back x.1.0) refl
-says kind.PlexDis x h = found (form.PlexDis x.1.1.1.0 false) x.1.0 refl refl (maybe_back x.1.0) refl
-says kind.PlexDisRm x h = found (form.PlexDis x.1.1.1.1.1.0 true) x.1.0 refl refl (maybe_back x.1.0) refl
-says kind.Unprepare x h = found (form.Unprepare x.1.1.1.0) x.1.0 refl refl (maybe_back x.1.0) refl
-says kind.AddMir x h = found (form.AddMir x.1.1.1.0 x.1.1.1.1.0) x.1.0 refl refl (maybe_back x.1.0) refl
-says kind.Dis x h = found (form.Dis x.1.1.1.0) x.1.0 refl refl (maybe_back x.1.0) refl
-says kind.Split x h = found (form.Split x.1.1.1.0) x.1.0 refl refl (maybe_back x.1.0) refl
-says kind.SnapMake x h = found (form.Acting (act.SnapMake x.1.1.1.0.vol x.1.1.1.0.snap x.1.1.1.0.plex)) x.1.0 refl refl (maybe_back x.1.0) refl
-says kind.Reattach x h = found (form.Acting (act.Reattach x.1.1.1.0 x.1.1.1.1.0)) x.1.0 refl refl (maybe_back x.1.0) refl
-says kind.Restore x h = found (form.Acting (act.Restore x.1.1.1.0 x.1.1.1.1.0)) x.1.0 refl refl (maybe_back x.1.0) refl
-says kind.Snapback x h = found (form.Acting (act.Snapback x.1.1.1.0 false)) x.1.0 refl refl (maybe_back x.1.0) refl
-says kind.SnapbackFromReplica x h = found (form.Acting (act.Snapback x.1.1.1.1.1.0 true)) x.1.0 refl refl (maybe_back x.1.0) refl
-says kind.PlexDet x h = found (form.Acting (act.PlexDet x.1.1.1.0)) x.1.0 refl refl (maybe_back x.1.0) refl
-says kind.PlexAtt x h = found (form.Acting (act.PlexAtt x.1.1.1.0 x.1.1.1.1.0)) x.1.0 refl refl (maybe_back x.1.0) refl
-says kind.Read x h = found (form.Calling (call.Read x.1.1.0 x.1.1.1.0 x.1.1.1.1.0)) None refl refl refl refl
-says kind.Data x h = found (form.Calling (call.Data x.1.1.0 x.1.1.1.0 x.1.1.1.1.1.0)) None refl refl refl refl
-says kind.PrintM x h = found (form.PrintM x.1.1.1.0) x.1.0 (ap (option_and_then (λ v. Some (form.PrintM v))) (maybe_back x.1.1.1.0)) refl (maybe_back x.1.0) refl
-says kind.PrintHt x h = found (form.PrintHt x.1.1.1.0) x.1.0 (ap (option_and_then (λ v. Some (form.PrintHt v))) (maybe_back x.1.1.1.0)) refl (maybe_back x.1.0) refl
-says kind.PrintSnaps x h = found (form.PrintSnaps x.1.1.1.0) x.1.0 (ap (option_and_then (λ v. Some (form.PrintSnaps v))) (maybe_back x.1.1.1.0)) refl (maybe_back x.1.0) refl
-says kind.Recover x h = found (form.Recover x.1.1.1.0) x.1.0 (ap (option_and_then (λ v. Some (form.Recover v))) (maybe_back x.1.1.1.0)) refl (maybe_back x.1.0) refl
-says kind.Prepare x h = found (form.Prepare x.1.1.1.0 x.1.1.1.1.0 x.1.1.1.1.1.0) x.1.0 (rw (count_back x.1.1.1.1.0, count_back x.1.1.1.1.1.0) refl) refl (maybe_back x.1.0) refl
+says kind.MkImage (_, (_, (device, (length, _)))) h = found (form.MkImage device length) None refl refl refl refl
+says kind.Bare (_, (_, (vol, (device, _)))) h = found (form.Bare vol device) None refl refl refl refl
+says kind.DgInit (_, (_, (_, (dg, (disks, _))))) h = found (form.DgInit dg disks) None refl refl refl refl
+says kind.DgAddDisk (_, (_, (_, (dg, (_, (disk, _)))))) h = found (form.DgAddDisk dg disk) None refl refl refl refl
+says kind.DgImport (_, (_, (_, (dg, _)))) h = found (form.DgImport dg) None refl refl refl refl
+says kind.DgDeport (_, (_, (_, (dg, _)))) h = found (form.DgDeport dg) None refl refl refl refl
+says kind.DiskUnsetup (_, (_, (device, _))) h = found (form.DiskUnsetup device) None refl refl refl refl
+says kind.VxMake (_, (g, (_, _))) h = found (form.VxMake []) g refl refl (maybe_back g) refl
+says kind.Mirror (_, (g, (_, (vol, (disks, _))))) h = found (form.Mirror vol disks) g refl refl (maybe_back g) refl
+says kind.RemoveVolume (_, (g, (_, (_, (vol, _))))) h = found (form.RemoveVolume vol) g refl refl (maybe_back g) refl
+says kind.Start (_, (g, (_, (vol, _)))) h = found (form.Start vol) g refl refl (maybe_back g) refl
+says kind.Stop (_, (g, (_, (vol, _)))) h = found (form.Stop vol) g refl refl (maybe_back g) refl
+says kind.RdpolRound (_, (g, (_, (_, (vol, _))))) h = found (form.Rdpol vol policy.Round) g refl refl (maybe_back g) refl
+says kind.RdpolSelect (_, (g, (_, (_, (vol, _))))) h = found (form.Rdpol vol policy.Select) g refl refl (maybe_back g) refl
+says kind.RdpolPrefer (_, (g, (_, (_, (vol, (plex, _)))))) h = found (form.Rdpol vol (policy.Prefer plex)) g refl refl (maybe_back g) refl
+says kind.PlexDis (_, (g, (_, (plex, _)))) h = found (form.PlexDis plex false) g refl refl (maybe_back g) refl
+says kind.PlexDisRm (_, (g, (_, (_, (_, (plex, _)))))) h = found (form.PlexDis plex true) g refl refl (maybe_back g) refl
+says kind.Unprepare (_, (g, (_, (vol, _)))) h = found (form.Unprepare vol) g refl refl (maybe_back g) refl
+says kind.AddMir (_, (g, (_, (vol, (disks, _))))) h = found (form.AddMir vol disks) g refl refl (maybe_back g) refl
+says kind.Dis (_, (g, (_, (snap, _)))) h = found (form.Dis snap) g refl refl (maybe_back g) refl
+says kind.Split (_, (g, (_, (snap, _)))) h = found (form.Split snap) g refl refl (maybe_back g) refl
+says kind.SnapMake (_, (g, (_, (parts, _)))) h = found (form.Acting (act.SnapMake parts.vol parts.snap parts.plex)) g refl refl (maybe_back g) refl
+says kind.Reattach (_, (g, (_, (snap, (vol, _))))) h = found (form.Acting (act.Reattach snap vol)) g refl refl (maybe_back g) refl
+says kind.Restore (_, (g, (_, (vol, (snap, _))))) h = found (form.Acting (act.Restore vol snap)) g refl refl (maybe_back g) refl
+says kind.Snapback (_, (g, (_, (snap, _)))) h = found (form.Acting (act.Snapback snap false)) g refl refl (maybe_back g) refl
+says kind.SnapbackFromReplica (_, (g, (_, (_, (_, (snap, _)))))) h = found (form.Acting (act.Snapback snap true)) g refl refl (maybe_back g) refl
+says kind.PlexDet (_, (g, (_, (plex, _)))) h = found (form.Acting (act.PlexDet plex)) g refl refl (maybe_back g) refl
+says kind.PlexAtt (_, (g, (_, (vol, (plex, _))))) h = found (form.Acting (act.PlexAtt vol plex)) g refl refl (maybe_back g) refl
+says kind.Read (_, (_, (vol, (start, (count, _))))) h = found (form.Calling (call.Read vol start count)) None refl refl refl refl
+says kind.Data (_, (_, (vol, (start, (_, (blocks, _)))))) h = found (form.Calling (call.Data vol start blocks)) None refl refl refl refl
+says kind.PrintM (_, (g, (_, (vol, _)))) h = found (form.PrintM vol) g (ap (option_and_then (λ v. Some (form.PrintM v))) (maybe_back vol)) refl (maybe_back g) refl
+says kind.PrintHt (_, (g, (_, (vol, _)))) h = found (form.PrintHt vol) g (ap (option_and_then (λ v. Some (form.PrintHt v))) (maybe_back vol)) refl (maybe_back g) refl
+says kind.PrintSnaps (_, (g, (_, (vol, _)))) h = found (form.PrintSnaps vol) g (ap (option_and_then (λ v. Some (form.PrintSnaps v))) (maybe_back vol)) refl (maybe_back g) refl
+says kind.Recover (_, (g, (_, (vol, _)))) h = found (form.Recover vol) g (ap (option_and_then (λ v. Some (form.Recover v))) (maybe_back vol)) refl (maybe_back g) refl
+says kind.Prepare (_, (g, (_, (vol, (ndcomirs, (region, _)))))) h = found (form.Prepare vol ndcomirs region) g (rw (count_back ndcomirs, count_back region) refl) refl (maybe_back g) refl
 says kind.Fill x h =
-    let e = each (items_of kind.Fill) (said_values (items_of kind.Fill) x) h in
-    found (form.Calling (call.Fill x.1.1.0 x.1.1.1.0 x.1.1.1.1.0 x.1.1.1.1.1.1.0)) None (ap (option_and_then (λ b. Some (form.Calling (call.Fill x.1.1.0 x.1.1.1.0 x.1.1.1.1.0 b)))) (byte_is x.1.1.1.1.1.1.0 e.1.1.1.1.1.1.0)) refl refl refl
+    let (_, (_, (vol, (start, (count, (_, (byte, _))))))) = x in
+    let (_, (_, (_, (_, (_, (_, (fits, _))))))) = each (items_of kind.Fill) (said_values (items_of kind.Fill) x) h in
+    found (form.Calling (call.Fill vol start count byte)) None (ap (option_and_then (λ b. Some (form.Calling (call.Fill vol start count b)))) (byte_is byte fits)) refl refl refl
 says kind.Sessions x h =
-    let e = each (items_of kind.Sessions) (said_values (items_of kind.Sessions) x) h in
-    found (form.Sessions (record { sessions = x.1.1.0; lines = [] })) None (ap (option_and_then (λ n. Some (form.Sessions (record { sessions = n; lines = [] })))) (small_is 1 16 x.1.1.0 (lit< tt) e.1.1.0)) refl refl refl
+    let (_, (_, (sessions, _))) = x in
+    let (_, (_, (fits, _))) = each (items_of kind.Sessions) (said_values (items_of kind.Sessions) x) h in
+    found (form.Sessions (record { sessions = sessions; lines = [] })) None (ap (option_and_then (λ n. Some (form.Sessions (record { sessions = n; lines = [] })))) (small_is 1 16 sessions (lit< tt) fits)) refl refl refl
 says kind.MakeConcat x h =
-    let e = each (items_of kind.MakeConcat) (said_values (items_of kind.MakeConcat) x) h in
-    concat_says x.1.0 x.1.1.1.0 x.1.1.1.1.0 x.1.1.1.1.1.1.0 x.1.1.1.1.1.1.1.0 x.1.1.1.1.1.1.1.1.0 x.1.1.1.1.1.1.1.1.1.0 (few_of 1 8 x.1.1.1.1.1.1.0 (lit< tt) e.1.1.1.1.1.1.0) (few_of 0 2 x.1.1.1.1.1.1.1.1.0 (lit< tt) e.1.1.1.1.1.1.1.1.0) x.1.1.1.1.1.0
+    let (_, (g, (_, (vol, (size, (words, (nmirror, (region, (logs, (disks, _)))))))))) = x in
+    let (_, (_, (_, (_, (_, (_, (few, (_, (some_logs, _))))))))) = each (items_of kind.MakeConcat) (said_values (items_of kind.MakeConcat) x) h in
+    concat_says g vol size nmirror region logs disks (few_of 1 8 nmirror (lit< tt) few) (few_of 0 2 logs (lit< tt) some_logs) words
 says kind.MakeStripe x h =
-    let e = each (items_of kind.MakeStripe) (said_values (items_of kind.MakeStripe) x) h in
-    stripe_says x.1.0 x.1.1.1.0 x.1.1.1.1.0 x.1.1.1.1.1.1.1.1.0 x.1.1.1.1.1.1.1.1.1.0 x.1.1.1.1.1.1.1.1.1.1.0 x.1.1.1.1.1.1.1.1.1.1.1.0 (few_of 1 8 x.1.1.1.1.1.1.1.1.0 (lit< tt) e.1.1.1.1.1.1.1.1.0) (few_of 0 2 x.1.1.1.1.1.1.1.1.1.1.0 (lit< tt) e.1.1.1.1.1.1.1.1.1.1.0) x.1.1.1.1.1.1.0 x.1.1.1.1.1.1.1.0 (few_of 2 16 x.1.1.1.1.1.1.0 (lit< tt) e.1.1.1.1.1.1.0)
+    let (_, (g, (_, (vol, (size, (_, (ncol, (unit, (nmirror, (region, (logs, (disks, _)))))))))))) = x in
+    let (_, (_, (_, (_, (_, (_, (narrow, (_, (few, (_, (some_logs, _))))))))))) = each (items_of kind.MakeStripe) (said_values (items_of kind.MakeStripe) x) h in
+    stripe_says g vol size nmirror region logs disks (few_of 1 8 nmirror (lit< tt) few) (few_of 0 2 logs (lit< tt) some_logs) ncol unit (few_of 2 16 ncol (lit< tt) narrow)
 
 -- no value of a form is of another sort than its part
 pub form_ok : (k : Kind) (vs : List Value) → are_of (items_of k) vs ≡ true → SaysForm k vs
@@ -181,19 +185,19 @@ module _ (g : Option (List ℕ)) (vol : List ℕ) (size : ℕ) (nmirror region l
   -- columns or a stripe unit without `layout=stripe` are refused
   astray : (ncol unit : Option ℕ) → are_of (items_of kind.MakeStripe) (value.Word ∷ maybe_value g ∷ value.Word ∷ value.Named vol ∷ value.Number size ∷ value.Nothing ∷ count_value ncol ∷ count_value unit ∷ count_value nmirror ∷ count_value region ∷ count_value logs ∷ value.Names disks ∷ []) ≡ true → ⊥
   astray ncol unit h =
-      let e = each (items_of kind.MakeStripe) (value.Word ∷ maybe_value g ∷ value.Word ∷ value.Named vol ∷ value.Number size ∷ value.Nothing ∷ count_value ncol ∷ count_value unit ∷ count_value nmirror ∷ count_value region ∷ count_value logs ∷ value.Names disks ∷ []) h in
-      both_ways false refl e.1.1.1.1.1.0
+      let (_, (_, (_, (_, (_, (word, _)))))) = each (items_of kind.MakeStripe) (value.Word ∷ maybe_value g ∷ value.Word ∷ value.Named vol ∷ value.Number size ∷ value.Nothing ∷ count_value ncol ∷ count_value unit ∷ count_value nmirror ∷ count_value region ∷ count_value logs ∷ value.Names disks ∷ []) h in
+      both_ways false refl word
 
   make_again : (words : Option WordLayout) (ncol unit : Option ℕ) → are_of (items_of (make_kind words ncol unit)) (again words ncol unit) ≡ true → form_of (make_kind words ncol unit) (again words ncol unit) ≡ Some (form.AssistMake vol size (record { layout = words; ncol = ncol; unit = unit; nmirror = nmirror; region = region; ndcomirror = logs }) disks)
   make_again None None None h =
-      let e = each (items_of kind.MakeConcat) (again None None None) h in
-      plain_back g vol size nmirror region logs disks (few_of 1 8 nmirror (lit< tt) e.1.1.1.1.1.1.0) (few_of 0 2 logs (lit< tt) e.1.1.1.1.1.1.1.1.0)
+      let (_, (_, (_, (_, (_, (_, (few, (_, (some_logs, _))))))))) = each (items_of kind.MakeConcat) (again None None None) h in
+      plain_back g vol size nmirror region logs disks (few_of 1 8 nmirror (lit< tt) few) (few_of 0 2 logs (lit< tt) some_logs)
   make_again (Some layout.Concat) None None h =
-      let e = each (items_of kind.MakeConcat) (again (Some layout.Concat) None None) h in
-      concat_back g vol size nmirror region logs disks (few_of 1 8 nmirror (lit< tt) e.1.1.1.1.1.1.0) (few_of 0 2 logs (lit< tt) e.1.1.1.1.1.1.1.1.0)
+      let (_, (_, (_, (_, (_, (_, (few, (_, (some_logs, _))))))))) = each (items_of kind.MakeConcat) (again (Some layout.Concat) None None) h in
+      concat_back g vol size nmirror region logs disks (few_of 1 8 nmirror (lit< tt) few) (few_of 0 2 logs (lit< tt) some_logs)
   make_again (Some layout.Stripe) ncol unit h =
-      let e = each (items_of kind.MakeStripe) (again (Some layout.Stripe) ncol unit) h in
-      stripe_back g vol size nmirror region logs disks (few_of 1 8 nmirror (lit< tt) e.1.1.1.1.1.1.1.1.0) (few_of 0 2 logs (lit< tt) e.1.1.1.1.1.1.1.1.1.1.0) ncol unit (few_of 2 16 ncol (lit< tt) e.1.1.1.1.1.1.0)
+      let (_, (_, (_, (_, (_, (_, (narrow, (_, (few, (_, (some_logs, _))))))))))) = each (items_of kind.MakeStripe) (again (Some layout.Stripe) ncol unit) h in
+      stripe_back g vol size nmirror region logs disks (few_of 1 8 nmirror (lit< tt) few) (few_of 0 2 logs (lit< tt) some_logs) ncol unit (few_of 2 16 ncol (lit< tt) narrow)
   make_again None (Some n) unit h = absurd (astray (Some n) unit h)
   make_again None None (Some u) h = absurd (astray None (Some u) h)
   make_again (Some layout.Concat) (Some n) unit h = absurd (astray (Some n) unit h)
@@ -213,16 +217,16 @@ form_again g (form.Recover vol) h = ap (option_and_then (λ v. Some (form.Recove
 form_again g (form.Acting (act.Snapback snap true)) h = refl
 form_again g (form.Acting a) h = refl
 form_again g (form.Calling (call.Fill vol start count byte)) h =
-    let e = each (items_of kind.Fill) (values_of g (form.Calling (call.Fill vol start count byte))) h in
-    ap (option_and_then (λ b. Some (form.Calling (call.Fill vol start count b)))) (byte_is byte e.1.1.1.1.1.1.0)
+    let (_, (_, (_, (_, (_, (_, (fits, _))))))) = each (items_of kind.Fill) (values_of g (form.Calling (call.Fill vol start count byte))) h in
+    ap (option_and_then (λ b. Some (form.Calling (call.Fill vol start count b)))) (byte_is byte fits)
 form_again g (form.Calling c) h = refl
 form_again g (form.Sessions block) h =
-    let e = each (items_of kind.Sessions) (values_of g (form.Sessions block)) h in
-    ap (option_and_then (λ n. Some (form.Sessions (record { sessions = n; lines = [] })))) (small_is 1 16 block.sessions (lit< tt) e.1.1.0)
+    let (_, (_, (fits, _))) = each (items_of kind.Sessions) (values_of g (form.Sessions block)) h in
+    ap (option_and_then (λ n. Some (form.Sessions (record { sessions = n; lines = [] })))) (small_is 1 16 block.sessions (lit< tt) fits)
 form_again g f h = refl
 
 -- the second value is the group
-pub group_again : (g : Option (List ℕ)) (f : Form) → maybe_name (values_of g f) 1 ≡ Some g
+pub group_again : (g : Option (List ℕ)) (f : Form) → group_of (values_of g f) ≡ Some g
 group_again g (form.Rdpol vol policy.Round) = maybe_back g
 group_again g (form.Rdpol vol p) = maybe_back g
 group_again g (form.PlexDis plex true) = maybe_back g

@@ -1,6 +1,6 @@
 -- The form that the values of a line say, by the kind of the line.
-use Rattle.std.specs.Prelude.{ℕ, ◌+◌, true, false, Option, Some, None, option_and_then, slice_get, List, []}
-use Rattle.vx_script_forms.specs.Values.{at, name, number, pair, maybe_name, maybe_number, small, byte, maybe_small, names, disks, blocks}
+use Rattle.std.specs.Prelude.{ℕ, true, false, Option, Some, None, option_and_then, List, [], ◌∷◌}
+use Rattle.vx_script_forms.specs.Values.{maybe_named, maybe_numbered, small, byte, maybe_small}
 use Rattle.vx_script_forms.specs.declared.act.Act.TheVariants as act
 use Rattle.vx_script_forms.specs.declared.call.Call.TheVariants as call
 use Rattle.vx_script_forms.specs.declared.form.Form.{Form}
@@ -12,178 +12,69 @@ use Rattle.vx_script_forms.specs.declared.form.WordPolicy.TheVariants as policy
 use Rattle.vx_script_forms.specs.declared.kind.Kind.{Kind}
 use Rattle.vx_script_forms.specs.declared.kind.Kind.TheVariants as kind
 use Rattle.vx_script_words.specs.declared.value.Value.{Value}
-use Rattle.vx_script_words.specs.declared.value.Value.TheVariants as value
+use Rattle.vx_script_words.specs.declared.value.Value.TheVariants.{Nothing, Word, Named, Number, Pair, BreakOff, Names, Pairs, Blocks}
 
-abbrev pub mk_image_form : List Value → Option Form
-mk_image_form values = option_and_then (λ device. option_and_then (λ length. Some (form.MkImage device length)) (number values 3)) (name values 2)
-
-abbrev pub bare_form : List Value → Option Form
-bare_form values = option_and_then (λ vol. option_and_then (λ device. Some (form.Bare vol device)) (name values 3)) (name values 2)
-
-abbrev pub dg_init_form : List Value → Option Form
-dg_init_form values = option_and_then (λ dg. option_and_then (λ disks. Some (form.DgInit dg disks)) (disks values 4)) (name values 3)
-
-abbrev pub dg_add_disk_form : List Value → Option Form
-dg_add_disk_form values = option_and_then (λ dg. option_and_then (λ disk. Some (form.DgAddDisk dg disk)) (pair values 5)) (name values 3)
-
-abbrev pub dg_import_form : List Value → Option Form
-dg_import_form values = option_and_then (λ dg. Some (form.DgImport dg)) (name values 3)
-
-abbrev pub dg_deport_form : List Value → Option Form
-dg_deport_form values = option_and_then (λ dg. Some (form.DgDeport dg)) (name values 3)
-
-abbrev pub disk_unsetup_form : List Value → Option Form
-disk_unsetup_form values = option_and_then (λ device. Some (form.DiskUnsetup device)) (name values 2)
-
-abbrev pub print_m_form : List Value → Option Form
-print_m_form values = option_and_then (λ vol. Some (form.PrintM vol)) (maybe_name values 3)
-
-abbrev pub print_ht_form : List Value → Option Form
-print_ht_form values = option_and_then (λ vol. Some (form.PrintHt vol)) (maybe_name values 3)
-
-abbrev pub mirror_form : List Value → Option Form
-mirror_form values = option_and_then (λ vol. option_and_then (λ disks. Some (form.Mirror vol disks)) (names values 4)) (name values 3)
-
-abbrev pub remove_volume_form : List Value → Option Form
-remove_volume_form values = option_and_then (λ vol. Some (form.RemoveVolume vol)) (name values 4)
-
-abbrev pub start_form : List Value → Option Form
-start_form values = option_and_then (λ vol. Some (form.Start vol)) (name values 3)
-
-abbrev pub stop_form : List Value → Option Form
-stop_form values = option_and_then (λ vol. Some (form.Stop vol)) (name values 3)
-
-abbrev pub plex_dis_form : List Value → Option Form
-plex_dis_form values = option_and_then (λ plex. Some (form.PlexDis plex false)) (name values 3)
-
-abbrev pub plex_dis_rm_form : List Value → Option Form
-plex_dis_rm_form values = option_and_then (λ plex. Some (form.PlexDis plex true)) (name values 5)
-
-abbrev pub prepare_form : List Value → Option Form
-prepare_form values = option_and_then (λ vol. option_and_then (λ ndcomirs. option_and_then (λ region. Some (form.Prepare vol ndcomirs region)) (maybe_number values 5)) (maybe_number values 4)) (name values 3)
-
-abbrev pub unprepare_form : List Value → Option Form
-unprepare_form values = option_and_then (λ vol. Some (form.Unprepare vol)) (name values 3)
-
-abbrev pub add_mir_form : List Value → Option Form
-add_mir_form values = option_and_then (λ vol. option_and_then (λ disks. Some (form.AddMir vol disks)) (names values 4)) (name values 3)
-
-abbrev pub dis_form : List Value → Option Form
-dis_form values = option_and_then (λ snap. Some (form.Dis snap)) (name values 3)
-
-abbrev pub split_form : List Value → Option Form
-split_form values = option_and_then (λ snap. Some (form.Split snap)) (name values 3)
-
-abbrev pub print_snaps_form : List Value → Option Form
-print_snaps_form values = option_and_then (λ vol. Some (form.PrintSnaps vol)) (maybe_name values 3)
-
-abbrev pub recover_form : List Value → Option Form
-recover_form values = option_and_then (λ vol. Some (form.Recover vol)) (maybe_name values 3)
-
-abbrev pub reattach_form : List Value → Option Form
-reattach_form values = option_and_then (λ snap. option_and_then (λ vol. Some (form.Acting (act.Reattach snap vol))) (name values 4)) (name values 3)
-
-abbrev pub restore_form : List Value → Option Form
-restore_form values = option_and_then (λ vol. option_and_then (λ snap. Some (form.Acting (act.Restore vol snap))) (name values 4)) (name values 3)
-
-abbrev pub snapback_form : List Value → Option Form
-snapback_form values = option_and_then (λ snap. Some (form.Acting (act.Snapback snap false))) (name values 3)
-
-abbrev pub snapback_from_replica_form : List Value → Option Form
-snapback_from_replica_form values = option_and_then (λ snap. Some (form.Acting (act.Snapback snap true))) (name values 5)
-
-abbrev pub plex_det_form : List Value → Option Form
-plex_det_form values = option_and_then (λ plex. Some (form.Acting (act.PlexDet plex))) (name values 3)
-
-abbrev pub plex_att_form : List Value → Option Form
-plex_att_form values = option_and_then (λ vol. option_and_then (λ plex. Some (form.Acting (act.PlexAtt vol plex))) (name values 4)) (name values 3)
-
-abbrev pub read_form : List Value → Option Form
-read_form values = option_and_then (λ vol. option_and_then (λ start. option_and_then (λ count. Some (form.Calling (call.Read vol start count))) (number values 4)) (number values 3)) (name values 2)
-
-abbrev pub fill_form : List Value → Option Form
-fill_form values = option_and_then (λ vol. option_and_then (λ start. option_and_then (λ count. option_and_then (λ byte. Some (form.Calling (call.Fill vol start count byte))) (byte values 6)) (number values 4)) (number values 3)) (name values 2)
-
-abbrev pub data_form : List Value → Option Form
-data_form values = option_and_then (λ vol. option_and_then (λ start. option_and_then (λ blocks. Some (form.Calling (call.Data vol start blocks))) (blocks values 5)) (number values 3)) (name values 2)
-
-abbrev pub vx_make_form : List Value → Option Form
-vx_make_form values = Some (form.VxMake [])
-
-abbrev pub sessions_form : List Value → Option Form
-sessions_form values = option_and_then (λ sessions. Some (form.Sessions (record { sessions = sessions; lines = [] }))) (small values 2)
-
-abbrev pub rdpol_round_form : List Value → Option Form
-rdpol_round_form values = option_and_then (λ vol. Some (form.Rdpol vol policy.Round)) (name values 4)
-
-abbrev pub rdpol_select_form : List Value → Option Form
-rdpol_select_form values = option_and_then (λ vol. Some (form.Rdpol vol policy.Select)) (name values 4)
-
-abbrev pub rdpol_prefer_form : List Value → Option Form
-rdpol_prefer_form values = option_and_then (λ vol. option_and_then (λ plex. Some (form.Rdpol vol (policy.Prefer plex))) (name values 5)) (name values 4)
-
-abbrev pub broken_off : Value → Option Form
-broken_off (value.BreakOff vol snap plex) = Some (form.Acting (act.SnapMake vol snap plex))
-broken_off v = None
-
-abbrev pub snap_make_form : List Value → Option Form
-snap_make_form values = at broken_off (slice_get values 3)
-
+-- the layout of a line that is not striped
 abbrev pub concat_of : Value → Option (Option WordLayout)
-concat_of value.Nothing = Some None
-concat_of value.Word = Some (Some layout.Concat)
+concat_of Nothing = Some None
+concat_of Word = Some (Some layout.Concat)
 concat_of v = None
 
--- the mirrors, the region and the logs from a place on
-abbrev pub with_mirrors : Option WordLayout → Option ℕ → Option ℕ → List Value → ℕ → Option MakeAttrs
-with_mirrors layout ncol unit values i = option_and_then (λ nmirror. option_and_then (λ region. option_and_then (λ ndcomirror. Some (record { layout = layout; ncol = ncol; unit = unit; nmirror = nmirror; region = region; ndcomirror = ndcomirror })) (maybe_small values (i + 2))) (maybe_number values (i + 1))) (maybe_small values i)
+-- the attributes, of which these three values say the last
+abbrev pub with_mirrors : Option WordLayout → Option ℕ → Option ℕ → Value → Value → Value → Option MakeAttrs
+with_mirrors layout ncol unit mirrors size logs = option_and_then (λ nmirror. option_and_then (λ region. option_and_then (λ ndcomirror. Some (record { layout = layout; ncol = ncol; unit = unit; nmirror = nmirror; region = region; ndcomirror = ndcomirror })) (maybe_small logs)) (maybe_numbered size)) (maybe_small mirrors)
 
-abbrev pub concat_attrs : List Value → Option MakeAttrs
-concat_attrs values = option_and_then (λ layout. with_mirrors layout None None values 6) (at concat_of (slice_get values 5))
+-- the attributes of a line that is not striped
+abbrev pub concat_attrs : Value → Value → Value → Value → Option MakeAttrs
+concat_attrs words mirrors size logs = option_and_then (λ layout. with_mirrors layout None None mirrors size logs) (concat_of words)
 
-abbrev pub stripe_attrs : List Value → Option MakeAttrs
-stripe_attrs values = option_and_then (λ ncol. option_and_then (λ unit. with_mirrors (Some layout.Stripe) ncol unit values 8) (maybe_number values 7)) (maybe_small values 6)
+-- the attributes of a striped line
+abbrev pub stripe_attrs : Value → Value → Value → Value → Value → Option MakeAttrs
+stripe_attrs columns length mirrors size logs = option_and_then (λ ncol. option_and_then (λ unit. with_mirrors (Some layout.Stripe) ncol unit mirrors size logs) (maybe_numbered length)) (maybe_small columns)
 
-abbrev pub assist_make : List Value → Option MakeAttrs → ℕ → Option Form
-assist_make values attrs i = option_and_then (λ attrs. option_and_then (λ vol. option_and_then (λ length. option_and_then (λ disks. Some (form.AssistMake vol length attrs disks)) (names values i)) (number values 4)) (name values 3)) attrs
+-- a volume that is made with the attributes, where there are any
+abbrev pub assist_make : List ℕ → ℕ → Option MakeAttrs → List (List ℕ) → Option Form
+assist_make vol length attrs disks = option_and_then (λ attrs. Some (form.AssistMake vol length attrs disks)) attrs
 
+-- the form of a line: the value of its first word, that of its group, and the others; nothing where one is of another sort
 abbrev pub form_of : Kind → List Value → Option Form
-form_of kind.MkImage values = mk_image_form values
-form_of kind.Bare values = bare_form values
-form_of kind.DgInit values = dg_init_form values
-form_of kind.DgAddDisk values = dg_add_disk_form values
-form_of kind.DgImport values = dg_import_form values
-form_of kind.DgDeport values = dg_deport_form values
-form_of kind.DiskUnsetup values = disk_unsetup_form values
-form_of kind.PrintM values = print_m_form values
-form_of kind.PrintHt values = print_ht_form values
-form_of kind.Mirror values = mirror_form values
-form_of kind.RemoveVolume values = remove_volume_form values
-form_of kind.Start values = start_form values
-form_of kind.Stop values = stop_form values
-form_of kind.PlexDis values = plex_dis_form values
-form_of kind.PlexDisRm values = plex_dis_rm_form values
-form_of kind.Prepare values = prepare_form values
-form_of kind.Unprepare values = unprepare_form values
-form_of kind.AddMir values = add_mir_form values
-form_of kind.Dis values = dis_form values
-form_of kind.Split values = split_form values
-form_of kind.PrintSnaps values = print_snaps_form values
-form_of kind.Recover values = recover_form values
-form_of kind.Reattach values = reattach_form values
-form_of kind.Restore values = restore_form values
-form_of kind.Snapback values = snapback_form values
-form_of kind.SnapbackFromReplica values = snapback_from_replica_form values
-form_of kind.PlexDet values = plex_det_form values
-form_of kind.PlexAtt values = plex_att_form values
-form_of kind.Read values = read_form values
-form_of kind.Fill values = fill_form values
-form_of kind.Data values = data_form values
-form_of kind.VxMake values = vx_make_form values
-form_of kind.Sessions values = sessions_form values
-form_of kind.RdpolRound values = rdpol_round_form values
-form_of kind.RdpolSelect values = rdpol_select_form values
-form_of kind.RdpolPrefer values = rdpol_prefer_form values
-form_of kind.SnapMake values = snap_make_form values
-form_of kind.MakeConcat values = assist_make values (concat_attrs values) 9
-form_of kind.MakeStripe values = assist_make values (stripe_attrs values) 11
+form_of kind.MkImage (_ ∷ _ ∷ Named device ∷ Number length ∷ _) = Some (form.MkImage device length)
+form_of kind.Bare (_ ∷ _ ∷ Named vol ∷ Named device ∷ _) = Some (form.Bare vol device)
+form_of kind.DgInit (_ ∷ _ ∷ _ ∷ Named dg ∷ Pairs disks ∷ _) = Some (form.DgInit dg disks)
+form_of kind.DgAddDisk (_ ∷ _ ∷ _ ∷ Named dg ∷ _ ∷ Pair disk ∷ _) = Some (form.DgAddDisk dg disk)
+form_of kind.DgImport (_ ∷ _ ∷ _ ∷ Named dg ∷ _) = Some (form.DgImport dg)
+form_of kind.DgDeport (_ ∷ _ ∷ _ ∷ Named dg ∷ _) = Some (form.DgDeport dg)
+form_of kind.DiskUnsetup (_ ∷ _ ∷ Named device ∷ _) = Some (form.DiskUnsetup device)
+form_of kind.PrintM (_ ∷ _ ∷ _ ∷ word ∷ _) = option_and_then (λ vol. Some (form.PrintM vol)) (maybe_named word)
+form_of kind.PrintHt (_ ∷ _ ∷ _ ∷ word ∷ _) = option_and_then (λ vol. Some (form.PrintHt vol)) (maybe_named word)
+form_of kind.MakeConcat (_ ∷ _ ∷ _ ∷ Named vol ∷ Number length ∷ words ∷ mirrors ∷ size ∷ logs ∷ Names disks ∷ _) = assist_make vol length (concat_attrs words mirrors size logs) disks
+form_of kind.MakeStripe (_ ∷ _ ∷ _ ∷ Named vol ∷ Number length ∷ _ ∷ columns ∷ unit ∷ mirrors ∷ size ∷ logs ∷ Names disks ∷ _) = assist_make vol length (stripe_attrs columns unit mirrors size logs) disks
+form_of kind.Mirror (_ ∷ _ ∷ _ ∷ Named vol ∷ Names disks ∷ _) = Some (form.Mirror vol disks)
+form_of kind.RemoveVolume (_ ∷ _ ∷ _ ∷ _ ∷ Named vol ∷ _) = Some (form.RemoveVolume vol)
+form_of kind.Start (_ ∷ _ ∷ _ ∷ Named vol ∷ _) = Some (form.Start vol)
+form_of kind.Stop (_ ∷ _ ∷ _ ∷ Named vol ∷ _) = Some (form.Stop vol)
+form_of kind.RdpolRound (_ ∷ _ ∷ _ ∷ _ ∷ Named vol ∷ _) = Some (form.Rdpol vol policy.Round)
+form_of kind.RdpolSelect (_ ∷ _ ∷ _ ∷ _ ∷ Named vol ∷ _) = Some (form.Rdpol vol policy.Select)
+form_of kind.RdpolPrefer (_ ∷ _ ∷ _ ∷ _ ∷ Named vol ∷ Named plex ∷ _) = Some (form.Rdpol vol (policy.Prefer plex))
+form_of kind.PlexDis (_ ∷ _ ∷ _ ∷ Named plex ∷ _) = Some (form.PlexDis plex false)
+form_of kind.PlexDisRm (_ ∷ _ ∷ _ ∷ _ ∷ _ ∷ Named plex ∷ _) = Some (form.PlexDis plex true)
+form_of kind.Prepare (_ ∷ _ ∷ _ ∷ Named vol ∷ logs ∷ size ∷ _) = option_and_then (λ ndcomirs. option_and_then (λ region. Some (form.Prepare vol ndcomirs region)) (maybe_numbered size)) (maybe_numbered logs)
+form_of kind.Unprepare (_ ∷ _ ∷ _ ∷ Named vol ∷ _) = Some (form.Unprepare vol)
+form_of kind.AddMir (_ ∷ _ ∷ _ ∷ Named vol ∷ Names disks ∷ _) = Some (form.AddMir vol disks)
+form_of kind.Dis (_ ∷ _ ∷ _ ∷ Named snap ∷ _) = Some (form.Dis snap)
+form_of kind.Split (_ ∷ _ ∷ _ ∷ Named snap ∷ _) = Some (form.Split snap)
+form_of kind.PrintSnaps (_ ∷ _ ∷ _ ∷ word ∷ _) = option_and_then (λ vol. Some (form.PrintSnaps vol)) (maybe_named word)
+form_of kind.Recover (_ ∷ _ ∷ _ ∷ word ∷ _) = option_and_then (λ vol. Some (form.Recover vol)) (maybe_named word)
+form_of kind.SnapMake (_ ∷ _ ∷ _ ∷ BreakOff vol snap plex ∷ _) = Some (form.Acting (act.SnapMake vol snap plex))
+form_of kind.Reattach (_ ∷ _ ∷ _ ∷ Named snap ∷ Named vol ∷ _) = Some (form.Acting (act.Reattach snap vol))
+form_of kind.Restore (_ ∷ _ ∷ _ ∷ Named vol ∷ Named snap ∷ _) = Some (form.Acting (act.Restore vol snap))
+form_of kind.Snapback (_ ∷ _ ∷ _ ∷ Named snap ∷ _) = Some (form.Acting (act.Snapback snap false))
+form_of kind.SnapbackFromReplica (_ ∷ _ ∷ _ ∷ _ ∷ _ ∷ Named snap ∷ _) = Some (form.Acting (act.Snapback snap true))
+form_of kind.PlexDet (_ ∷ _ ∷ _ ∷ Named plex ∷ _) = Some (form.Acting (act.PlexDet plex))
+form_of kind.PlexAtt (_ ∷ _ ∷ _ ∷ Named vol ∷ Named plex ∷ _) = Some (form.Acting (act.PlexAtt vol plex))
+form_of kind.Read (_ ∷ _ ∷ Named vol ∷ Number start ∷ Number count ∷ _) = Some (form.Calling (call.Read vol start count))
+form_of kind.Fill (_ ∷ _ ∷ Named vol ∷ Number start ∷ Number count ∷ _ ∷ filling ∷ _) = option_and_then (λ byte. Some (form.Calling (call.Fill vol start count byte))) (byte filling)
+form_of kind.Data (_ ∷ _ ∷ Named vol ∷ Number start ∷ _ ∷ Blocks blocks ∷ _) = Some (form.Calling (call.Data vol start blocks))
+form_of kind.Sessions (_ ∷ _ ∷ count ∷ _) = option_and_then (λ sessions. Some (form.Sessions (record { sessions = sessions; lines = [] }))) (small count)
+form_of kind.VxMake values = Some (form.VxMake [])
+form_of k values = None

@@ -1,19 +1,8 @@
-ghost use Rattle.std.specs.Prelude.{◌≡◌, IfOk, Some, None};
-ghost use Rattle.vx_script_forms.specs.Values.{named, numbered, paired, maybe_named, maybe_numbered, name, number, pair, maybe_name, maybe_number, small, byte, maybe_small, names, disks, blocks};
+ghost use Rattle.std.specs.Prelude.{◌≡◌};
+ghost use Rattle.vx_script_forms.specs.Values.{numbered, maybe_named, maybe_numbered, small, byte, maybe_small, group_of};
 
-use std::alloc::Global;
-use vx_base::OutOfMemory;
 use vx_names::Name;
-use vx_script_words::{Blocks, DiskAt, Disks, Names, Value};
-
-fn named(value: &Value) -> Option<Name>
-    ensures { result ≡ named value.now }
-{
-    match value {
-        Value::Named(name) => Some(*name),
-        _ => None,
-    }
-}
+use vx_script_words::Value;
 
 fn numbered(value: &Value) -> Option<u64>
     ensures { result ≡ numbered value.now }
@@ -24,16 +13,7 @@ fn numbered(value: &Value) -> Option<u64>
     }
 }
 
-fn paired(value: &Value) -> Option<DiskAt>
-    ensures { result ≡ paired value.now }
-{
-    match value {
-        Value::Pair(pair) => Some(*pair),
-        _ => None,
-    }
-}
-
-fn maybe_named(value: &Value) -> Option<Option<Name>>
+pub fn maybe_named(value: &Value) -> Option<Option<Name>>
     ensures { result ≡ maybe_named value.now }
 {
     match value {
@@ -43,7 +23,7 @@ fn maybe_named(value: &Value) -> Option<Option<Name>>
     }
 }
 
-fn maybe_numbered(value: &Value) -> Option<Option<u64>>
+pub fn maybe_numbered(value: &Value) -> Option<Option<u64>>
     ensures { result ≡ maybe_numbered value.now }
 {
     match value {
@@ -53,59 +33,24 @@ fn maybe_numbered(value: &Value) -> Option<Option<u64>>
     }
 }
 
-pub fn name(values: &[Value], at: usize) -> Option<Name>
-    ensures { result ≡ name values.now at }
+pub fn small(value: &Value) -> Option<u32>
+    ensures { result ≡ small value.now }
 {
-    let value = values.get(at)?;
-    named(value)
-}
-
-pub fn number(values: &[Value], at: usize) -> Option<u64>
-    ensures { result ≡ number values.now at }
-{
-    let value = values.get(at)?;
-    numbered(value)
-}
-
-pub fn pair(values: &[Value], at: usize) -> Option<DiskAt>
-    ensures { result ≡ pair values.now at }
-{
-    let value = values.get(at)?;
-    paired(value)
-}
-
-pub fn maybe_name(values: &[Value], at: usize) -> Option<Option<Name>>
-    ensures { result ≡ maybe_name values.now at }
-{
-    let value = values.get(at)?;
-    maybe_named(value)
-}
-
-pub fn maybe_number(values: &[Value], at: usize) -> Option<Option<u64>>
-    ensures { result ≡ maybe_number values.now at }
-{
-    let value = values.get(at)?;
-    maybe_numbered(value)
-}
-
-pub fn small(values: &[Value], at: usize) -> Option<u32>
-    ensures { result ≡ small values.now at }
-{
-    let n = number(values, at)?;
+    let n = numbered(value)?;
     if n < 1 << 32 { Some(n as u32) } else { None }
 }
 
-pub fn byte(values: &[Value], at: usize) -> Option<u8>
-    ensures { result ≡ byte values.now at }
+pub fn byte(value: &Value) -> Option<u8>
+    ensures { result ≡ byte value.now }
 {
-    let n = number(values, at)?;
+    let n = numbered(value)?;
     if n < 1 << 8 { Some(n as u8) } else { None }
 }
 
-pub fn maybe_small(values: &[Value], at: usize) -> Option<Option<u32>>
-    ensures { result ≡ maybe_small values.now at }
+pub fn maybe_small(value: &Value) -> Option<Option<u32>>
+    ensures { result ≡ maybe_small value.now }
 {
-    match maybe_number(values, at)? {
+    match maybe_numbered(value)? {
         None => Some(None),
         Some(n) => {
             if n < 1 << 32 {
@@ -117,36 +62,12 @@ pub fn maybe_small(values: &[Value], at: usize) -> Option<Option<u32>>
     }
 }
 
-pub fn names(alloc: Global, values: &[Value], at: usize) -> Result<Option<Names>, OutOfMemory>
-    ensures { IfOk result (λ found. found ≡ names values.now at) }
-{
-    match values.get(at) {
-        Some(Value::Names(names)) => Ok(Some(names.copy(alloc)?)),
-        _ => Ok(None),
-    }
-}
-
-pub fn disks(alloc: Global, values: &[Value], at: usize) -> Result<Option<Disks>, OutOfMemory>
-    ensures { IfOk result (λ found. found ≡ disks values.now at) }
-{
-    match values.get(at) {
-        Some(Value::Pairs(disks)) => Ok(Some(disks.copy(alloc)?)),
-        _ => Ok(None),
-    }
-}
-
-pub fn blocks(alloc: Global, values: &[Value], at: usize) -> Result<Option<Blocks>, OutOfMemory>
-    ensures { IfOk result (λ found. found ≡ blocks values.now at) }
-{
-    match values.get(at) {
-        Some(Value::Blocks(blocks)) => Ok(Some(blocks.copy(alloc)?)),
-        _ => Ok(None),
-    }
-}
-
-/// The word after `-g`, whose place is the second.
+/// The word after `-g`, which is the second value.
 pub fn group_of(values: &[Value]) -> Option<Option<Name>>
-    ensures { result ≡ maybe_name values.now 1 }
+    ensures { result ≡ group_of values.now }
 {
-    maybe_name(values, 1)
+    match values {
+        [_, word, ..] => maybe_named(word),
+        _ => None,
+    }
 }

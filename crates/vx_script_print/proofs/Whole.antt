@@ -1,7 +1,7 @@
 -- A reader goes over the printed text of a script line by line, and has its commands at the end.
 use Rattle.vx_script_print.proofs.Terms.{◌≡◌, ◌∙◌, sym, ap, subst, refl, ℕ, ◌+◌, ◌<◌, inl, inr, true, false, List, [], ◌∷◌, ◌++◌, length, arith, Option, None, Ok, ◌≤◌, Bool, map, Some, min, Result, Err, codes, ◌==◌, decimal, ◌&&◌, nat_le, list_all, flat_map, sum, bytes_eq, append-nil, append_assoc, list_all-append, and_parts, and_from, both_ways, cases_Bool, cond-true, cond-false, eqb-true, ltb-true, ne_eqb, not-true, not_from_false, or_from, false_from_ne_true, leb-true, le-leb, is_made, is_record_line, ends_line, is_said, is_line, is_command, is_kept, is_body, maybe_cut, lines_from, lines_of, bad_word, begins_comment, is_passed_over, commands_from, stepped, script_of, step, or_bad, command_step, opened, opened_by, line_behind, called, administered, session_line, line_of_session, added, line_calls, line_sectors, Command, Reader, Spells, spelled, begun, is_not_blank, from_word, first_word, past_word, is_dark, is_dark_word, is_not, all_by, name_word, ands, left_of, right_of, is_word, begun_words, Open, sum_by-cons, bytes_eq-Decides, is_name, is_letter_or_digit, decimal_name, choose, choice, or_others, In, in_all, fit_walks, is_sound, sound_commands, form_of, items_of, commands, calls, acts, kind_of, values_of, opening, act_kind, call_kind, Act, Call, Line, Form, Kind, form_again, group_again, class_word, value_text, row_words, form_words, cut_words, line_text, body_text, command_text, script_text, class_value, are_of, is_between, text_of, number_of, within, and_then, Read, row, Item, Value, are_sound, Words, whole_line, no_bad}
 use Rattle.vx_script_print.proofs.Rows.{number_said, may_end, row_read, line_dark, all_clear, are_apart, rows_apart, word_bytes}
-use Rattle.vx_script_forms.specs.Values.{maybe_name}
+use Rattle.vx_script_forms.specs.Values.{group_of}
 
 -- behind the text the reader is the other one, whatever comes then
 abbrev pub Reaches : Reader → List ℕ → Reader → Type 0
@@ -166,7 +166,7 @@ is_chosen b kinds g f cut t two i ends h s =
 command_said : (done : List Command) (g : Option (List ℕ)) (f : Form) (cut : Option ℕ) (t : List ℕ) → is_said g f ≡ true → maybe_cut cut ≡ true → Spells t (form_words g f ++ cut_words cut) → command_step done t ≡ Ok (opened done g (opening f) cut)
 unfolding command_step
 command_said done g f cut t h short s =
-    ap (λ r. and_then r (λ c. opened_by done (maybe_name c.values 1) (form_of c.kind c.values) c.cut)) (is_chosen true commands g f cut t told_apart.0 (in_commands (kind_of f)) (and_from _ _ short refl) h s)
+    ap (λ r. and_then r (λ c. opened_by done (group_of c.values) (form_of c.kind c.values) c.cut)) (is_chosen true commands g f cut t told_apart.0 (in_commands (kind_of f)) (and_from _ _ short refl) h s)
     ∙ ap (λ x. opened_by done x (form_of (kind_of f) (values_of g f)) cut) (group_again g f)
     ∙ ap (λ x. opened_by done (Some g) x cut) (form_again g f h)
 
@@ -210,7 +210,7 @@ module _ (done : List Command) (cut : Option ℕ) (sessions : ℕ) (most : sessi
   one_more lines calls_ sectors (Line.Administer admin) h few small =
       let f : Form = Form.Acting admin.act in
       line_read lines calls_ sectors (codes "0") 0 admin.group f (Line.Administer admin) refl refl (omega arith) h
-      (λ t s. ap (λ r. and_then r (λ x. administered (maybe_name x.values 1) (form_of x.kind x.values))) (is_chosen false acts admin.group f None t told_apart.2 (in_acts admin.act) refl h s) ∙ ap (λ g. administered g (form_of (kind_of f) (values_of admin.group f))) (group_again admin.group f) ∙ ap (administered (Some admin.group)) (form_again admin.group f h)) few small
+      (λ t s. ap (λ r. and_then r (λ x. administered (group_of x.values) (form_of x.kind x.values))) (is_chosen false acts admin.group f None t told_apart.2 (in_acts admin.act) refl h s) ∙ ap (λ g. administered g (form_of (kind_of f) (values_of admin.group f))) (group_again admin.group f) ∙ ap (administered (Some admin.group)) (form_again admin.group f h)) few small
 
   sum_more : (f : Line → ℕ) (l : Line) (ls : List Line) → sum (map f (l ∷ ls)) ≡ f l + sum (map f ls)
   sum_more f l ls = sum_by-cons (λ x. x) (f l) (map f ls)

@@ -7,9 +7,9 @@ use Rattle.vx_base.specs.Named.{Word}
 use Rattle.vx_base.specs.Blocks.{block_at, blocks_in}
 use Rattle.vx_block.specs.Word.{block_word}
 use Rattle.vx_life.specs.declared.Part.{Part}
-use Rattle.vx_parts.specs.Words.{plex_state_word, vol_state_word}
-use Rattle.vx_parts.specs.declared.fault.Limit.{Limit as Which}
-use Rattle.vx_parts.specs.declared.fault.Limit.TheVariants as limit
+use Rattle.vx_config_parts.specs.Words.{plex_state_word, vol_state_word}
+use Rattle.vx_config_parts.specs.declared.fault.Limit.{Limit as Which}
+use Rattle.vx_config_parts.specs.declared.fault.Limit.TheVariants as limit
 use Rattle.vx_answers.specs.declared.answer.Answer.{Answer}
 use Rattle.vx_answers.specs.declared.answer.Answer.TheVariants.{One, Block}
 use Rattle.vx_answers.specs.declared.answer.BlockLine.{BlockLine}

@@ -1,5 +1,5 @@
+use vx_config_parts::{Limit, PlexState, VolState};
 use vx_names::Name;
-use vx_parts::{Limit, PlexState, VolState};
 
 /// Why a command is refused. A refused command changes nothing.
 #[derive(Clone, Copy)]

@@ -1,14 +1,14 @@
 //! The words of a refusal.
 ghost use Rattle.std.specs.Prelude.{◌≡◌, ◌++◌, OnOk, codes};
 ghost use Rattle.std.specs.Fmt.{decimal};
-ghost use Rattle.vx_parts.specs.Words.{plex_state_word, vol_state_word};
+ghost use Rattle.vx_config_parts.specs.Words.{plex_state_word, vol_state_word};
 ghost use Rattle.vx_answers.specs.Lines.{refusal_words, limit_word, name_or_none};
 
 use crate::Refusal;
 use itoa::Buffer;
 use vx_base::OutOfMemory;
+use vx_config_parts::Limit;
 use vx_names::Name;
-use vx_parts::Limit;
 
 /// Appends the words of a refusal.
 pub fn put_refusal(refusal: &Refusal, out: &mut Vec<u8>) -> Result<(), OutOfMemory>

@@ -5,7 +5,7 @@ use Rattle.vx_piece.specs.Seen.{Seen}
 use Rattle.vx_copies.specs.Chain.{AreInOrder}
 use Rattle.vx_copies.specs.Commit.{HasRisen}
 use Rattle.vx_copies.specs.Config.{GivesNew}
-use Rattle.vx_copies.specs.Disks.{Held, Goes, HasSlot, IsReady, IsCut, good_mask}
+use Rattle.vx_copies.specs.Disks.{DiskSeen, CommitGoes, HasSlot, IsReady, IsCut, good_mask}
 use Rattle.vx_copies.specs.Lists.{AllOf, AnyOf, Each}
 use Rattle.vx_copies.specs.Written.{Touches, Turns, IsQuiet, CarriesIfGood}
 use Rattle.vx_copies.specs.Written.{IsMaskOf as IsMaskIn}
@@ -39,21 +39,21 @@ any_take Q (suc n) (x ∷ xs) (inl here) = inl here
 any_take Q (suc n) (x ∷ xs) (inr there) = inr (any_take Q n xs there)
 
 -- what is written of a disk that may be good
-pub touched_by : (first last : ℕ) (text : List ℕ) (Masks : ℕ → Type 0) (hs bs : List Held) → AllOf IsReady hs → Each (Goes first last text) hs bs → Each (Touches first last text Masks) hs bs → Each (IsTouched first last text Masks) hs bs
+pub touched_by : (first last : ℕ) (text : List ℕ) (Masks : ℕ → Type 0) (hs bs : List DiskSeen) → AllOf IsReady hs → Each (CommitGoes first last text) hs bs → Each (Touches first last text Masks) hs bs → Each (IsTouched first last text Masks) hs bs
 touched_by first last text Masks hs bs ready goes touches =
-    each_first IsReady (λ a b. Goes first last text a b × Touches first last text Masks a b) (IsTouched first last text Masks)
+    each_first IsReady (λ a b. CommitGoes first last text a b × Touches first last text Masks a b) (IsTouched first last text Masks)
     (λ a b ready facts. record { idle = facts.0.idle; names = ready.names; touches = facts.1 }) hs bs ready
-    (each_two (Goes first last text) (Touches first last text Masks) (λ a b. Goes first last text a b × Touches first last text Masks a b) (λ a b p q. (p, q)) hs bs goes touches)
+    (each_two (CommitGoes first last text) (Touches first last text Masks) (λ a b. CommitGoes first last text a b × Touches first last text Masks a b) (λ a b p q. (p, q)) hs bs goes touches)
 
-pub called_by : (first last : ℕ) (text : List ℕ) (Masks : ℕ → Type 0) (hs bs : List Held) → Each (Goes first last text) hs bs → Each (Touches first last text Masks) hs bs → Each IsCalled hs bs
+pub called_by : (first last : ℕ) (text : List ℕ) (Masks : ℕ → Type 0) (hs bs : List DiskSeen) → Each (CommitGoes first last text) hs bs → Each (Touches first last text Masks) hs bs → Each IsCalled hs bs
 called_by first last text Masks hs bs goes touches =
-    each_two (Goes first last text) (Touches first last text Masks) IsCalled
+    each_two (CommitGoes first last text) (Touches first last text Masks) IsCalled
     (λ a b goes touches. record { device = goes.device; kept = goes.kept; reads = touches.reads; tells = both_tell (Turns first last text Masks a b) a.seen.told b.seen.told touches.turns }) hs bs goes touches
 
-pub went_by : (first last : ℕ) (text : List ℕ) (hs bs : List Held) → Each (Goes first last text) hs bs → Each IsWent hs bs
-went_by first last text hs bs goes = each_map (Goes first last text) IsWent (λ a b goes. record { slot = goes.slot; good = goes.good }) hs bs goes
+pub went_by : (first last : ℕ) (text : List ℕ) (hs bs : List DiskSeen) → Each (CommitGoes first last text) hs bs → Each IsWent hs bs
+went_by first last text hs bs goes = each_map (CommitGoes first last text) IsWent (λ a b goes. record { slot = goes.slot; good = goes.good }) hs bs goes
 
-pub low_by : (hs : List Held) → AllOf IsReady hs → AllOf HasSlot hs
+pub low_by : (hs : List DiskSeen) → AllOf IsReady hs → AllOf HasSlot hs
 low_by hs ready = all_each IsReady HasSlot (λ h is. is.slot) hs ready
 
 -- The imported group of a house, to whose disks a text was written.
@@ -64,10 +64,10 @@ pub record IsWrittenIn {P : Type 0} (see : P → Seen) (shelf : Shelved) (old : 
   pub tried : IsTried see text g.base g'.base
 
 module _ {P : Type 0} {see : P → Seen} {shelf : Shelved} {old : House P} {g g' : Imported P} {text : List ℕ} (w : IsWrittenIn see shelf old g g' text) where
-  abbrev hs : List Held
+  abbrev hs : List DiskSeen
   hs = members see g.base
 
-  abbrev bs : List Held
+  abbrev bs : List DiskSeen
   bs = members see g'.base
 
   abbrev vs : List Holder
@@ -92,14 +92,14 @@ module _ {P : Type 0} {see : P → Seen} {shelf : Shelved} {old : House P} {g g'
   now_is : bs ++ [] ≡ bs
   now_is = append-nil bs
 
-  goes : Each (Goes first number text) hs bs
+  goes : Each (CommitGoes first number text) hs bs
   goes = w.tried.committed.goes
 
   touches : Each (Touches first number text (IsMaskIn hs bs)) hs bs
   touches = w.tried.recorded.touches
 
   long : length hs ≡ length bs
-  long = each_long (Goes first number text) hs bs goes
+  long = each_long (CommitGoes first number text) hs bs goes
 
   pub alone : AreCalled see shelf old house_now os hs bs [] []
   alone = record {

@@ -7,7 +7,7 @@ use Rattle.vx_base.specs.Blocks.{Contents}
 use Rattle.vx_base.specs.Named.{Word}
 use Rattle.vx_base.proofs.NamedLemmas.{bytes_eq_same}
 use Rattle.vx_piece.specs.Seen.{Seen, Keeps}
-use Rattle.vx_copies.specs.Disks.{Held}
+use Rattle.vx_copies.specs.Disks.{DiskSeen}
 use Rattle.vx_copies.specs.Lists.{AllOf, AnyOf, Each}
 use Rattle.vx_copies.specs.Written.{BothTell}
 use Rattle.vx_moments.specs.World.{Device, Group}
@@ -21,18 +21,18 @@ use Rattle.vx_copies.proofs.Going.{each_refl}
 use Rattle.vx_house.proofs.Lists.{each_two, each_first, each_second, each_append, each_mapped, apart_front, apart_back, held_around}
 
 -- a disk as a holder of its device
-abbrev pub holder_in : Held → Holder
+abbrev pub holder_in : DiskSeen → Holder
 holder_in h = record { name = h.device; seen = h.seen }
 
 -- the device of a disk that was written to, and not read; it tells its sectors as long as it did
-pub record IsCalled (a b : Held) : Type 0 where
+pub record IsCalled (a b : DiskSeen) : Type 0 where
   pub device : b.device ≡ a.device
   pub kept : Keeps a.seen b.seen
   pub reads : b.seen.reads ≡ a.seen.reads
   pub tells : BothTell (λ c d. Unit {0}) a.seen.told b.seen.told
 
 -- a disk before and now is the device of two moments
-pub record IsPair (m n : Moment) (a b : Held) : Type 0 where
+pub record IsPair (m n : Moment) (a b : DiskSeen) : Type 0 where
   pub before : Contents
   pub now : Contents
   pub told : a.seen.told ≡ Some before
@@ -55,12 +55,12 @@ now_device None old = old
 now_device (Some seen) old = told_device seen.told seen.sectors old
 
 -- a name is none of the disks', or it is one's
-abbrev pub IsOneOrNone : (Held → Held → Type 0) → Word → List Held → List Held → Type 0
+abbrev pub IsOneOrNone : (DiskSeen → DiskSeen → Type 0) → Word → List DiskSeen → List DiskSeen → Type 0
 IsOneOrNone F name hs bs =
     ((held_as (map holder_in hs) name ≡ None) × (held_as (map holder_in bs) name ≡ None))
-    ⊎ ((a : Held) × (b : Held) × (a.device ≡ name) × F a b × AnyOf (λ h. h.device ≡ name) hs)
+    ⊎ ((a : DiskSeen) × (b : DiskSeen) × (a.device ≡ name) × F a b × AnyOf (λ h. h.device ≡ name) hs)
 
-pub one_or_none : (F : Held → Held → Type 0) → ((a b : Held) → F a b → b.device ≡ a.device) → (name : Word) (hs bs : List Held) → Each F hs bs → IsOneOrNone F name hs bs
+pub one_or_none : (F : DiskSeen → DiskSeen → Type 0) → ((a b : DiskSeen) → F a b → b.device ≡ a.device) → (name : Word) (hs bs : List DiskSeen) → Each F hs bs → IsOneOrNone F name hs bs
 one_or_none F same name [] [] e = inl (refl, refl)
 one_or_none F same name [] (b ∷ bs) e = absurd e
 one_or_none F same name (a ∷ hs) [] e = absurd e
@@ -82,14 +82,14 @@ goes_told R (Some x) None c both e = absurd both
 goes_told R (Some x) (Some d) c both e = (d, refl)
 
 -- the devices of the world once these disks are seen so
-abbrev pub devices_now : List Held → (Word → Option Device) → Word → Option Device
+abbrev pub devices_now : List DiskSeen → (Word → Option Device) → Word → Option Device
 devices_now bs old name = now_device (held_as (map holder_in bs) name) (old name)
 
 -- the moment that these disks, and the others that are held, come to
-abbrev pub next : Shelved → List Holder → List Holder → List Held → Moment → Option Group → Moment
+abbrev pub next : Shelved → List Holder → List Holder → List DiskSeen → Moment → Option Group → Moment
 next shelf vs os bs m group = record { world = record m.world { devices = devices_now bs m.world.devices; group = group }; counts = counts_of (record { shelf = shelf; taken = vs ++ (map holder_in bs ++ os) }) }
 
-module _ (shelf : Shelved) (vs os : List Holder) (hs bs : List Held) where
+module _ (shelf : Shelved) (vs os : List Holder) (hs bs : List DiskSeen) where
   abbrev pub holders_then : List Holder
   holders_then = vs ++ (map holder_in hs ++ os)
 
@@ -114,7 +114,7 @@ module _ (shelf : Shelved) (vs os : List Holder) (hs bs : List Held) where
       pub apart_now : AreApart holders_now
       apart_now = later_apart holders_then holders_now goes_later apart
 
-      pub record IsPlaced (a b : Held) : Type 0 where
+      pub record IsPlaced (a b : DiskSeen) : Type 0 where
         pub goes : IsCalled a b
         pub then : held_as holders_then a.device ≡ Some a.seen
         pub now : held_as holders_now a.device ≡ Some b.seen
@@ -153,7 +153,7 @@ module _ (shelf : Shelved) (vs os : List Holder) (hs bs : List Held) where
           abbrev after : Moment
           after = next shelf vs os bs m group
 
-          one_pair : (a b : Held) → lent a.device ≡ false → IsPlaced a b → IsPair m after a b
+          one_pair : (a b : DiskSeen) → lent a.device ≡ false → IsPlaced a b → IsPair m after a b
           one_pair a b free is =
               let old : seen_at scene_then a.device ≡ Some a.seen = ap (λ o. seen_in o shelf.free a.device) is.then in
               let new : seen_at scene_now a.device ≡ Some b.seen = ap (λ o. seen_in o shelf.free a.device) is.now in

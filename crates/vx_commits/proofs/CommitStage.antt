@@ -5,7 +5,7 @@ use Rattle.std.specs.Cmp.Lexicographic.{slice_cmp}
 use Rattle.std.specs.Ordering.{nat_cmp}
 use Rattle.vx_base.specs.Named.{Word}
 use Rattle.vx_piece.specs.Seen.{Seen}
-use Rattle.vx_copies.specs.Disks.{Held}
+use Rattle.vx_copies.specs.Disks.{DiskSeen}
 use Rattle.vx_copies.specs.Lists.{AllOf}
 use Rattle.vx_script_words.specs.declared.value.DiskAt.{DiskAt}
 use Rattle.vx_answers.specs.declared.answer.End.TheVariants as ends
@@ -27,7 +27,7 @@ use Rattle.vx_commits.proofs.Joined.{AreCalled, held_on, faults_on, moment_on, l
 pub volumes_kept : {P : Type 0} (see : P → Seen) (old new : House P) → new.volumes ≡ old.volumes → KeepsHouse see old → (vol : Word) (b : Started P) → volume_at new vol ≡ Some b → IsSized (see b.piece) b.geometry.length
 volumes_kept see old new same keeps vol b e = keeps.volumes vol b (ap (λ v. volume_at (record { volumes = v; group = old.group; hand = old.hand }) vol) (sym same) ∙ e)
 
-module _ {P : Type 0} {see : P → Seen} {shelf : Shelved} {old new : House P} {os : List Holder} {hs bs js ks : List Held} (s : AreCalled see shelf old new os hs bs js ks) (stage : Stage) (disks : List DiskAt) (keeps : KeepsHouse see old) where
+module _ {P : Type 0} {see : P → Seen} {shelf : Shelved} {old new : House P} {os : List Holder} {hs bs js ks : List DiskSeen} (s : AreCalled see shelf old new os hs bs js ks) (stage : Stage) (disks : List DiskAt) (keeps : KeepsHouse see old) where
   module _ (hand : AllOf (λ t. 0 < (see t.piece).sectors) new.hand.items) where
     but_group : KeepsButGroup see (at shelf new)
     but_group = record { devices = held_on s; ordered = subst (IsOrdered (slice_cmp nat_cmp)) (sym s.volumes) keeps.ordered; hand = hand; volumes = volumes_kept see old new s.volumes keeps }

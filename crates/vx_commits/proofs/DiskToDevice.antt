@@ -6,7 +6,7 @@ use Rattle.vx_base.specs.Named.{Word}
 use Rattle.vx_header.specs.Named.{Label, header_of}
 use Rattle.vx_header.specs.Said.{Said}
 use Rattle.vx_sector.specs.Fields.{zeros}
-use Rattle.vx_copies.specs.Disks.{Held, NamesHalf}
+use Rattle.vx_copies.specs.Disks.{DiskSeen, NamesHalf}
 use Rattle.vx_copies.specs.Image.{toggle_at}
 use Rattle.vx_copies.specs.Written.{BothTell, Touches, Turns, HalfStays, OldOrText}
 use Rattle.vx_copies.specs.Written.{IsTurned as IsTurnedIn}
@@ -39,7 +39,7 @@ module _ (first last last' : ℕ) (up : last ≤ last') (text : List ℕ) (Masks
   }
 
   -- a good disk
-  pub struck : (a b : Held) (c d : Contents) → Touches first last text Masks a b → a.seen.told ≡ Some c → b.seen.told ≡ Some d → NamesHalf a.half a.seen.told → IsStruck first last' Masks' text c d
+  pub struck : (a b : DiskSeen) (c d : Contents) → Touches first last text Masks a b → a.seen.told ≡ Some c → b.seen.told ≡ Some d → NamesHalf a.half a.seen.told → IsStruck first last' Masks' text c d
   struck a b c d touches told tells names = record {
     only = both_at (OldOrText text) a.seen.told b.seen.told c d touches.only told tells;
     front = by (both_at (Turns first last text Masks a b) a.seen.told b.seen.told c d touches.turns told tells);
@@ -58,7 +58,7 @@ module _ (first last last' : ℕ) (up : last ≤ last') (text : List ℕ) (Masks
   same_comes label c d (inr (inr (header, inr to))) = inr (inr (header, inr (turned to.half d to.turned)))
 
   -- a disk that joins
-  pub entered : (group : Word) (a b : Held) (c d : Contents) → Enlists group first last text Masks a b → a.seen.told ≡ Some c → b.seen.told ≡ Some d → IsEntered (label_in group a) first last' Masks' text c d
+  pub entered : (group : Word) (a b : DiskSeen) (c d : Contents) → Enlists group first last text Masks a b → a.seen.told ≡ Some c → b.seen.told ≡ Some d → IsEntered (label_in group a) first last' Masks' text c d
   entered group a b c d enlists told tells = record {
     behind = both_at (BehindOldOrText text) a.seen.told b.seen.told c d enlists.only told tells;
     front = same_comes (label_in group a) c d (both_at (Comes (label_in group a) first last text Masks) a.seen.told b.seen.told c d enlists.comes told tells);

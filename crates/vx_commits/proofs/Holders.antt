@@ -2,7 +2,7 @@
 use Rattle.std.proofs.Common.{◌≡◌, ◌∙◌, ℕ, List, [], ◌∷◌, map, Option, Some, refl, ap}
 use Rattle.vx_base.specs.Blocks.{Contents}
 use Rattle.vx_piece.specs.Seen.{Seen}
-use Rattle.vx_copies.specs.Disks.{Held, held, Goes, good_mask}
+use Rattle.vx_copies.specs.Disks.{DiskSeen, disk_seen, CommitGoes, good_mask}
 use Rattle.vx_copies.specs.Lists.{Each}
 use Rattle.vx_copies.specs.Written.{BothTell}
 use Rattle.vx_copies.specs.declared.disk.Disk.{Disk}
@@ -19,16 +19,16 @@ use Rattle.vx_commits.proofs.Called.{holder_in}
 use Rattle.vx_commits.proofs.Members.{member_in}
 
 -- the devices of disks, and their members
-pub mapped_holders : {P : Type 0} (see : P → Seen) (ds : List (Disk P)) → map (disk_holder see) ds ≡ map holder_in (map (held see) ds)
+pub mapped_holders : {P : Type 0} (see : P → Seen) (ds : List (Disk P)) → map (disk_holder see) ds ≡ map holder_in (map (disk_seen see) ds)
 mapped_holders see [] = refl
 mapped_holders see (d ∷ ds) = ap (λ hs. disk_holder see d ∷ hs) (mapped_holders see ds)
 
-pub mapped_members : {P : Type 0} (see : P → Seen) (ds : List (Disk P)) → map member_of ds ≡ map member_in (map (held see) ds)
+pub mapped_members : {P : Type 0} (see : P → Seen) (ds : List (Disk P)) → map member_of ds ≡ map member_in (map (disk_seen see) ds)
 mapped_members see [] = refl
 mapped_members see (d ∷ ds) = ap (λ ms. member_of d ∷ ms) (mapped_members see ds)
 
 -- disks that went on are the same members
-pub same_members : (first last : ℕ) (text : List ℕ) (hs bs : List Held) → Each (Goes first last text) hs bs → map member_in bs ≡ map member_in hs
+pub same_members : (first last : ℕ) (text : List ℕ) (hs bs : List DiskSeen) → Each (CommitGoes first last text) hs bs → map member_in bs ≡ map member_in hs
 same_members first last text [] [] e = refl
 same_members first last text [] (b ∷ bs) e = absurd e
 same_members first last text (a ∷ hs) [] e = absurd e

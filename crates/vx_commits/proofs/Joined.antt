@@ -8,7 +8,7 @@ use Rattle.vx_piece.specs.Seen.{Seen}
 use Rattle.vx_copies.specs.Chain.{AreInOrder}
 use Rattle.vx_copies.specs.Commit.{HasRisen}
 use Rattle.vx_copies.specs.Config.{GivesNew}
-use Rattle.vx_copies.specs.Disks.{Held, HasSlot, IsCut, NamesHalf, Drops, good_mask}
+use Rattle.vx_copies.specs.Disks.{DiskSeen, HasSlot, IsCut, NamesHalf, Drops, good_mask}
 use Rattle.vx_copies.specs.Lists.{AllOf, AnyOf, Each}
 use Rattle.vx_copies.specs.Written.{Touches, IsQuiet, WritesJust, CarriesIfGood, sectors_of}
 use Rattle.vx_copies.specs.Written.{IsMaskOf as IsMaskIn}
@@ -36,30 +36,30 @@ use Rattle.vx_commits.proofs.Slotted.{AreSlotted}
 use Rattle.vx_house.proofs.Lists.{each_two, each_second, each_front, each_back, all_of_each, any_front, any_back}
 
 -- a disk keeps its slot, and is good unless it has failed
-pub record IsWent (a b : Held) : Type 0 where
+pub record IsWent (a b : DiskSeen) : Type 0 where
   pub slot : b.slot ≡ a.slot
   pub good : Drops a.good b.good a.seen b.seen
 
 -- what the attempts did to a disk of the group
-pub record IsTouched (first last : ℕ) (text : List ℕ) (Masks : ℕ → Type 0) (a b : Held) : Type 0 where
+pub record IsTouched (first last : ℕ) (text : List ℕ) (Masks : ℕ → Type 0) (a b : DiskSeen) : Type 0 where
   pub idle : a.good ≡ false → b.seen ≡ a.seen
   pub names : IsTrue a.good → NamesHalf a.half a.seen.told
   pub touches : Touches first last text Masks a b
 
 -- what they did to a disk that joins
-pub record IsEnlisted (group : Word) (first last : ℕ) (text : List ℕ) (Masks : ℕ → Type 0) (a b : Held) : Type 0 where
+pub record IsEnlisted (group : Word) (first last : ℕ) (text : List ℕ) (Masks : ℕ → Type 0) (a b : DiskSeen) : Type 0 where
   pub good : a.good ≡ true
   pub sectors : a.sectors ≡ a.seen.sectors
   pub enlists : Enlists group first last text Masks a b
 
 -- a disk that has joined keeps its name and size
-pub record IsNamedAs (a b : Held) : Type 0 where
+pub record IsNamedAs (a b : DiskSeen) : Type 0 where
   pub name : b.name ≡ a.name
   pub size : b.sectors ≡ a.sectors
   pub sectors : a.sectors ≡ a.seen.sectors
 
 -- A house whose disks were called: those of its group, which have become others, and those that join it.
-pub record AreCalled {P : Type 0} (see : P → Seen) (shelf : Shelved) (old new : House P) (os : List Holder) (hs bs js ks : List Held) : Type 0 where
+pub record AreCalled {P : Type 0} (see : P → Seen) (shelf : Shelved) (old new : House P) (os : List Holder) (hs bs js ks : List DiskSeen) : Type 0 where
   pub long : length hs ≡ length bs
   pub was : holders see old ≡ holders_then shelf (map (volume_holder see) old.volumes.entries) os (hs ++ js) (bs ++ ks)
   pub is : holders see new ≡ holders_now shelf (map (volume_holder see) old.volumes.entries) os (hs ++ js) (bs ++ ks)
@@ -72,7 +72,7 @@ pub record AreCalled {P : Type 0} (see : P → Seen) (shelf : Shelved) (old new 
   pub sound : AllOf (λ j. j.good ≡ true) js
 
 -- what the attempts up to a number have written, however the commit ended
-pub record AreWritten (group : Group) (config : Config) (text : List ℕ) (carriers : List Member) (number : ℕ) (hs bs js ks : List Held) : Type 0 where
+pub record AreWritten (group : Group) (config : Config) (text : List ℕ) (carriers : List Member) (number : ℕ) (hs bs js ks : List DiskSeen) : Type 0 where
   pub few : number ≤ group.sequence + 32
   pub once : Each IsQuiet (hs ++ js) (bs ++ ks) → number ≤ group.sequence + 1
   pub printed : IsTextOf config text
@@ -83,7 +83,7 @@ pub record AreWritten (group : Group) (config : Config) (text : List ℕ) (carri
   pub lead : AreLed config.group group.sequence carriers hs bs js ks
 
 -- what a commit that is done has left
-pub record AreDone (group : Group) (config : Config) (text : List ℕ) (number : ℕ) (hs bs js ks : List Held) : Type 0 where
+pub record AreDone (group : Group) (config : Config) (text : List ℕ) (number : ℕ) (hs bs js ks : List DiskSeen) : Type 0 where
   pub low : AllOf HasSlot (bs ++ ks)
   pub headed : AllOf (IsMemberOf config.group) (bs ++ ks)
   pub gives : GivesNew config.group (group.sequence + 1) number text (bs ++ ks)
@@ -103,7 +103,7 @@ max_most a b c p q = omega arith
 pub max_is : (a b : ℕ) → a + 1 ≤ b → max a b ≡ b
 max_is a b lt = omega arith
 
-module _ {P : Type 0} {see : P → Seen} {shelf : Shelved} {old new : House P} {os : List Holder} {hs bs js ks : List Held} (s : AreCalled see shelf old new os hs bs js ks) where
+module _ {P : Type 0} {see : P → Seen} {shelf : Shelved} {old new : House P} {os : List Holder} {hs bs js ks : List DiskSeen} (s : AreCalled see shelf old new os hs bs js ks) where
   abbrev vs : List Holder
   vs = map (volume_holder see) old.volumes.entries
 
@@ -219,7 +219,7 @@ module _ {P : Type 0} {see : P → Seen} {shelf : Shelved} {old new : House P} {
         abbrev good : ℕ
         good = good_mask (bs ++ ks)
 
-        abbrev IsKnownHere : Held → Held → Type 0
+        abbrev IsKnownHere : DiskSeen → DiskSeen → Type 0
         IsKnownHere a b = IsGone m n a b × (has good a.slot ≡ b.good)
 
         all_known : Each IsKnownHere (hs ++ js) (bs ++ ks)
@@ -232,7 +232,7 @@ module _ {P : Type 0} {see : P → Seen} {shelf : Shelved} {old new : House P} {
         back_known = each_back IsKnownHere hs bs js ks s.long all_known
 
         -- one of the carriers is good
-        some_by : (xs ys : List Held) → carriers ≡ map member_in xs → Each IsKnownHere xs ys → AnyOf (λ b. b.good ≡ true) ys → AnyOf (λ p. has good p.slot ≡ true) carriers
+        some_by : (xs ys : List DiskSeen) → carriers ≡ map member_in xs → Each IsKnownHere xs ys → AnyOf (λ b. b.good ≡ true) ys → AnyOf (λ p. has good p.slot ≡ true) carriers
         some_by xs ys are kinds any = subst (AnyOf (λ p. has good p.slot ≡ true)) (sym are) (one_good group config text carriers hs bs js ks s.low s.sound s.slots m n all_gone last d.low xs ys kinds any)
 
         headed_now : AllOf (IsHeaded x good n.world) x.joiners

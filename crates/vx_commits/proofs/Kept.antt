@@ -2,7 +2,7 @@
 use Rattle.std.proofs.Common.{◌≡◌, ◌≢◌, ◌∙◌, ℕ, ◌==◌, List, [], ◌∷◌, map, sym, ap}
 use Rattle.std.specs.List.{list_any}
 use Rattle.vx_piece.specs.Seen.{Seen}
-use Rattle.vx_copies.specs.Disks.{held, Goes}
+use Rattle.vx_copies.specs.Disks.{disk_seen, CommitGoes}
 use Rattle.vx_copies.specs.Lists.{AllOf, Each}
 use Rattle.vx_copies.specs.declared.disk.Disk.{Disk}
 use Rattle.vx_objects.specs.declared.config.Config.{Config}
@@ -11,7 +11,7 @@ use Rattle.vx_house.specs.View.{AreSized, HaveSlots, AreRecorded}
 -- the group's disks after a commit
 module _ (first last : ℕ) (text : List ℕ) {P : Type 0} (see : P → Seen) where
   abbrev pub AllGo : List (Disk P) → List (Disk P) → Type 0
-  AllGo ds es = Each (Goes first last text) (map (held see) ds) (map (held see) es)
+  AllGo ds es = Each (CommitGoes first last text) (map (disk_seen see) ds) (map (disk_seen see) es)
 
   pub sized_now : (ds es : List (Disk P)) → AllGo ds es → AreSized see ds → AreSized see es
   sized_now [] [] goes sized = tt

@@ -9,7 +9,7 @@ use Rattle.vx_base.specs.Named.{Word}
 use Rattle.vx_mask.specs.Mask.{has}
 use Rattle.vx_piece.specs.Seen.{Seen}
 use Rattle.vx_header.specs.Named.{Label}
-use Rattle.vx_copies.specs.Disks.{Held, NamesHalf, HasSlot, Drops, is_good_slot, good_mask}
+use Rattle.vx_copies.specs.Disks.{DiskSeen, NamesHalf, HasSlot, Drops, is_good_slot, good_mask}
 use Rattle.vx_copies.specs.Chain.{OffersSince as OffersSinceIn, IsInOrder, AreInOrder as AreInOrderIn, OneOffersSince as OneOffersSinceIn}
 use Rattle.vx_copies.specs.Image.{Offer, offer_in, offer_told}
 use Rattle.vx_copies.specs.Lists.{AllOf, AnyOf, Each}
@@ -30,24 +30,24 @@ use Rattle.vx_copies.proofs.Going.{each_map}
 use Rattle.vx_house.proofs.Lists.{each_two, each_first, all_of_each, all_before, all_of_pairs, any_mapped, any_of_each}
 
 -- a disk as the world's member
-abbrev pub member_in : Held → Member
+abbrev pub member_in : DiskSeen → Member
 member_in h = record { device = h.device; disk = h.name; slot = h.slot }
 
 -- a disk before and now: it has kept its slot, and it is good unless it has failed
-pub record IsGone (m n : Moment) (a b : Held) : Type 0 where
+pub record IsGone (m n : Moment) (a b : DiskSeen) : Type 0 where
   pub pair : IsPair m n a b
   pub slot : b.slot ≡ a.slot
   pub good : Drops a.good b.good a.seen b.seen
 
 -- a disk of the group that a commit has written, if it is good
-pub record IsMemberWritten (first last : ℕ) (text : List ℕ) (Masks : ℕ → Type 0) (m n : Moment) (a b : Held) : Type 0 where
+pub record IsMemberWritten (first last : ℕ) (text : List ℕ) (Masks : ℕ → Type 0) (m n : Moment) (a b : DiskSeen) : Type 0 where
   pub gone : IsGone m n a b
   pub idle : a.good ≡ false → b.seen ≡ a.seen
   pub names : IsTrue a.good → NamesHalf a.half a.seen.told
   pub touches : Touches first last text Masks a b
 
 -- a disk that joins by the commit
-pub record IsJoinerWritten (group : Word) (first last : ℕ) (text : List ℕ) (Masks : ℕ → Type 0) (m n : Moment) (a b : Held) : Type 0 where
+pub record IsJoinerWritten (group : Word) (first last : ℕ) (text : List ℕ) (Masks : ℕ → Type 0) (m n : Moment) (a b : DiskSeen) : Type 0 where
   pub gone : IsGone m n a b
   pub good : a.good ≡ true
   pub sectors : a.sectors ≡ a.seen.sectors
@@ -61,12 +61,12 @@ or_assoc : (a b c : Bool) → ((a || b) || c) ≡ (a || (b || c))
 or_assoc true b c = refl
 or_assoc false b c = refl
 
-good_append : (slot : ℕ) (hs js : List Held) → is_good_slot slot (hs ++ js) ≡ (is_good_slot slot hs || is_good_slot slot js)
+good_append : (slot : ℕ) (hs js : List DiskSeen) → is_good_slot slot (hs ++ js) ≡ (is_good_slot slot hs || is_good_slot slot js)
 good_append slot [] js = refl
 good_append slot (h ∷ hs) js = ap (λ b. (h.good && h.slot == slot) || b) (good_append slot hs js) ∙ sym (or_assoc (h.good && h.slot == slot) (is_good_slot slot hs) (is_good_slot slot js))
 
 -- all joiners are good
-joiner_slots : (slot : ℕ) (js : List Held) → AllOf (λ j. j.good ≡ true) js → is_slot_of (map member_in js) slot ≡ is_good_slot slot js
+joiner_slots : (slot : ℕ) (js : List DiskSeen) → AllOf (λ j. j.good ≡ true) js → is_slot_of (map member_in js) slot ≡ is_good_slot slot js
 joiner_slots slot [] all = refl
 joiner_slots slot (j ∷ js) all = ap (λ b. (j.slot == slot) || b) (joiner_slots slot js all.1) ∙ ap (λ g. (g && j.slot == slot) || is_good_slot slot js) (sym all.0)
 
@@ -80,7 +80,7 @@ rose_one old true a b drops p q = cc
 rose_one false new a b drops p q = cc
 
 -- the disks of the group carry the commit, of which one leads; or all its disks carry it
-abbrev pub AreLed : Word → ℕ → List Member → List Held → List Held → List Held → List Held → Type 0
+abbrev pub AreLed : Word → ℕ → List Member → List DiskSeen → List DiskSeen → List DiskSeen → List DiskSeen → Type 0
 AreLed group before carriers hs bs js ks =
     ((carriers ≡ map member_in hs) × (AllOf Tells hs → OneOffersSinceIn group before (bs ++ ks) → OneOffersSinceIn group before bs))
     ⊎ (carriers ≡ map member_in (hs ++ js))
@@ -93,7 +93,7 @@ any_after R P Q f g (x ∷ xs) (y ∷ ys) e (inl here) = inl (g x y e.0 here)
 any_after R P Q f g (x ∷ xs) (y ∷ ys) e (inr there) = inr (any_after R P Q f g xs ys e.1 there)
 
 -- what is written
-abbrev pub writing : Group → Config → List ℕ → List Member → List Held → List Held → Writing
+abbrev pub writing : Group → Config → List ℕ → List Member → List DiskSeen → List DiskSeen → Writing
 writing group config text carriers hs js = record {
   group = record { config = group.config; good = good_mask hs; members = map member_in hs; sequence = group.sequence };
   joiners = map member_in js;
@@ -102,7 +102,7 @@ writing group config text carriers hs js = record {
   carriers = carriers;
 }
 
-module _ (group : Group) (config : Config) (text : List ℕ) (carriers : List Member) (hs bs js ks : List Held) where
+module _ (group : Group) (config : Config) (text : List ℕ) (carriers : List Member) (hs bs js ks : List DiskSeen) where
   abbrev here : Writing
   here = writing group config text carriers hs js
 
@@ -117,7 +117,7 @@ module _ (group : Group) (config : Config) (text : List ℕ) (carriers : List Me
     pub written_good : AllOf (λ a. is_written_slot here a.slot ≡ true → a.good ≡ true) (hs ++ js)
     written_good = by (hs ++ js) (good_slots (hs ++ js) slots)
       where
-        by : (es : List Held) → AllOf (λ h. is_good_slot h.slot (hs ++ js) ≡ h.good) es → AllOf (λ a. is_written_slot here a.slot ≡ true → a.good ≡ true) es
+        by : (es : List DiskSeen) → AllOf (λ h. is_good_slot h.slot (hs ++ js) ≡ h.good) es → AllOf (λ a. is_written_slot here a.slot ≡ true → a.good ≡ true) es
         by [] is = tt
         by (e ∷ es) is = ((λ w. sym is.0 ∙ sym (written_slot e.slot) ∙ w), by es is.1)
 
@@ -129,7 +129,7 @@ module _ (group : Group) (config : Config) (text : List ℕ) (carriers : List Me
         or_first true c e = refl
         or_first false c e = cc
 
-        by : (es : List Held) → AllOf (λ h. is_good_slot h.slot (hs ++ js) ≡ h.good) es → AllOf (λ a. has (good_mask hs) a.slot ≡ true → a.good ≡ true) es
+        by : (es : List DiskSeen) → AllOf (λ h. is_good_slot h.slot (hs ++ js) ≡ h.good) es → AllOf (λ a. has (good_mask hs) a.slot ≡ true → a.good ≡ true) es
         by [] is = tt
         by (e ∷ es) is = ((λ w. sym is.0 ∙ good_append e.slot hs js ∙ or_first (is_good_slot e.slot hs) (is_good_slot e.slot js) (sym (mask_names hs low e.slot) ∙ w)), by es is.1)
 
@@ -140,14 +140,14 @@ module _ (group : Group) (config : Config) (text : List ℕ) (carriers : List Me
         or_right true b e = refl
         or_right false b e = e
 
-        at_slot : (e : Held) (es : List Held) (g t : Bool) → e.good ≡ g → (e.slot == e.slot) ≡ t → t ≡ true → ((slot : ℕ) → is_good_slot slot (e ∷ es) ≡ true → is_good_slot slot hs ≡ true) → has (good_mask hs) e.slot ≡ false → g ≡ false
+        at_slot : (e : DiskSeen) (es : List DiskSeen) (g t : Bool) → e.good ≡ g → (e.slot == e.slot) ≡ t → t ≡ true → ((slot : ℕ) → is_good_slot slot (e ∷ es) ≡ true → is_good_slot slot hs ≡ true) → has (good_mask hs) e.slot ≡ false → g ≡ false
         at_slot e es false t p q same f w = refl
         at_slot e es true t p q same f w =
             let on : (e.good && e.slot == e.slot) ≡ true = ap (λ x. x && e.slot == e.slot) p ∙ q ∙ same in
             let is : is_good_slot e.slot hs ≡ true = f e.slot (ap (λ x. x || is_good_slot e.slot es) on) in
             absurd (bool_false (has (good_mask hs) e.slot) (mask_names hs low e.slot ∙ is) w)
 
-        by : (es : List Held) → ((slot : ℕ) → is_good_slot slot es ≡ true → is_good_slot slot hs ≡ true) → AllOf (λ a. has (good_mask hs) a.slot ≡ false → a.good ≡ false) es
+        by : (es : List DiskSeen) → ((slot : ℕ) → is_good_slot slot es ≡ true → is_good_slot slot hs ≡ true) → AllOf (λ a. has (good_mask hs) a.slot ≡ false → a.good ≡ false) es
         by [] f = tt
         by (e ∷ es) f = (at_slot e es e.good (e.slot == e.slot) refl refl (eq-eqb e.slot e.slot refl) f, by es (λ slot is. f slot (or_right (e.good && e.slot == slot) (is_good_slot slot es) is)))
 
@@ -163,23 +163,23 @@ module _ (group : Group) (config : Config) (text : List ℕ) (carriers : List Me
             (each_two (IsGone m n) (λ a b. IsTrue a.good → has mask a.slot ≡ false → Rose a.seen.faults b.seen.faults) (λ a b. IsGone m n a b × (IsTrue a.good → has mask a.slot ≡ false → Rose a.seen.faults b.seen.faults)) (λ a b p q. (p, q)) (hs ++ js) (bs ++ ks) gone is.lacks)));
       }
         where
-          Lacks : Held → Held → Type 0
+          Lacks : DiskSeen → DiskSeen → Type 0
           Lacks a b = IsGone m n a b × (IsTrue a.good → has mask a.slot ≡ false → Rose a.seen.faults b.seen.faults) × (is_written_slot here a.slot ≡ true → a.good ≡ true)
 
       -- what the device of a disk offers now is what is told of it
-      offers_since : (a b : Held) → IsGone m n a b → (o : Offer) → OffersSince here n.world (member_in a) o → OffersSinceIn config.group group.sequence b o
+      offers_since : (a b : DiskSeen) → IsGone m n a b → (o : Offer) → OffersSince here n.world (member_in a) o → OffersSinceIn config.group group.sequence b o
       offers_since a b gone o since =
           let same : Some since.device ≡ Some (record { sectors = a.seen.sectors; contents = gone.pair.now }) = sym since.is ∙ gone.pair.is in
           let contents : since.device.contents ≡ gone.pair.now = cc in
           record { is = ap (offer_told config.group) gone.pair.tells ∙ ap (offer_in config.group) (sym contents) ∙ since.offers; newer = since.newer }
 
-      abbrev TwoIn : Held → Held → Type 0
+      abbrev TwoIn : DiskSeen → DiskSeen → Type 0
       TwoIn a b = (o p : Offer) → OffersSinceIn config.group group.sequence a o → OffersSinceIn config.group group.sequence b p → IsInOrder o p b.slot
 
       abbrev Two : Member → Member → Type 0
       Two a b = (o p : Offer) → OffersSince here n.world a o → OffersSince here n.world b p → IsInOrder o p b.slot
 
-      two : (a b c d : Held) → IsGone m n a c → IsGone m n b d → TwoIn c d → Two (member_in a) (member_in b)
+      two : (a b c d : DiskSeen) → IsGone m n a c → IsGone m n b d → TwoIn c d → Two (member_in a) (member_in b)
       two a b c d first second in_order o p f g =
           let is = in_order o p (offers_since a c first o f) (offers_since b d second p g) in
           record { names = λ le. ap (has o.good) (sym second.slot) ∙ is.names le; one = is.one }
@@ -192,7 +192,7 @@ module _ (group : Group) (config : Config) (text : List ℕ) (carriers : List Me
           (λ a c first row. all_before (IsGone m n) (TwoIn c) (Two (member_in a)) member_in (λ b d. two a b c d first) (hs ++ js) (bs ++ ks) gone row) (hs ++ js) (bs ++ ks) gone order)
 
       -- what is told of a disk is what its device offers now
-      since_offers : (a b : Held) → IsGone m n a b → (o : Offer) → OffersSinceIn config.group group.sequence b o → OffersSince here n.world (member_in a) o
+      since_offers : (a b : DiskSeen) → IsGone m n a b → (o : Offer) → OffersSinceIn config.group group.sequence b o → OffersSince here n.world (member_in a) o
       since_offers a b gone o since = record {
         device = record { sectors = a.seen.sectors; contents = gone.pair.now };
         is = gone.pair.is;
@@ -200,20 +200,20 @@ module _ (group : Group) (config : Config) (text : List ℕ) (carriers : List Me
         newer = since.newer;
       }
 
-      abbrev OneIn : Held → Type 0
+      abbrev OneIn : DiskSeen → Type 0
       OneIn b = (o : Offer) × OffersSinceIn config.group group.sequence b o
 
       abbrev One : Member → Type 0
       One a = (o : Offer) × OffersSince here n.world a o
 
-      one_told : (xs ys : List Held) → Each (IsGone m n) xs ys → OneOffersSince here n.world (map member_in xs) → OneOffersSinceIn config.group group.sequence ys
+      one_told : (xs ys : List DiskSeen) → Each (IsGone m n) xs ys → OneOffersSince here n.world (map member_in xs) → OneOffersSinceIn config.group group.sequence ys
       one_told xs ys gone any = any_after (IsGone m n) One OneIn member_in (λ a b is one. (one.0, offers_since a b is one.0 one.1)) xs ys gone any
 
-      one_offers : (xs ys : List Held) → Each (IsGone m n) xs ys → OneOffersSinceIn config.group group.sequence ys → OneOffersSince here n.world (map member_in xs)
+      one_offers : (xs ys : List DiskSeen) → Each (IsGone m n) xs ys → OneOffersSinceIn config.group group.sequence ys → OneOffersSince here n.world (map member_in xs)
       one_offers xs ys gone any = any_of_each (IsGone m n) OneIn One member_in (λ a b is one. (one.0, since_offers a b is one.0 one.1)) xs ys gone any
 
       -- a disk that was called tells what it holds
-      tells_one : (a b : Held) → IsGone m n a b → Tells a
+      tells_one : (a b : DiskSeen) → IsGone m n a b → Tells a
       tells_one a b is = subst (λ t. MatchOption t ⊥ (λ c. Unit {0})) (sym is.pair.told) tt
 
       -- where one of the devices offers something of the commit, one that carries it does
@@ -223,16 +223,16 @@ module _ (group : Group) (config : Config) (text : List ℕ) (carriers : List Me
       one_leads front gone (inr all) any = subst (OneOffersSince here n.world) (sym (map-append member_in hs js) ∙ sym all) any
 
       module _ (last last' : ℕ) (up : last ≤ last') (least : group.sequence ≤ last') (MasksIn : ℕ → Type 0) (masks : (mask : ℕ) → MasksIn mask → IsMaskOf here m.counts n.counts mask) where
-        abbrev IsWrittenHere : Held → Held → Type 0
+        abbrev IsWrittenHere : DiskSeen → DiskSeen → Type 0
         IsWrittenHere a b = IsMemberWritten (group.sequence + 1) last text MasksIn m n a b
 
-        abbrev IsEnteredHere : Held → Held → Type 0
+        abbrev IsEnteredHere : DiskSeen → DiskSeen → Type 0
         IsEnteredHere a b = IsJoinerWritten config.group (group.sequence + 1) last text MasksIn m n a b
 
         more_sectors : (last + 1 - (group.sequence + 1)) * sectors_of text ≤ (last' - group.sequence) * sectors_of text
         more_sectors = mul-le-mul_right (sectors_of text) (omega (arith, up))
 
-        member_goes : (a b : Held) → (has (good_mask hs) a.slot ≡ true → a.good ≡ true) → (has (good_mask hs) a.slot ≡ false → a.good ≡ false) → IsWrittenHere a b → MemberGoes here last' m n (member_in a)
+        member_goes : (a b : DiskSeen) → (has (good_mask hs) a.slot ≡ true → a.good ≡ true) → (has (good_mask hs) a.slot ≡ false → a.good ≡ false) → IsWrittenHere a b → MemberGoes here last' m n (member_in a)
         member_goes a b good bad is = record {
           good = λ e. record {
             before = record { sectors = a.seen.sectors; contents = is.gone.pair.before };
@@ -248,7 +248,7 @@ module _ (group : Group) (config : Config) (text : List ℕ) (carriers : List Me
               is.gone.pair.is ∙ ap (λ c. Some (let d : Device = record { sectors = a.seen.sectors; contents = c } in d)) one ∙ sym is.gone.pair.was;
         }
 
-        joiner_goes : (a b : Held) → IsEnteredHere a b → JoinerGoes here last' m n (member_in a)
+        joiner_goes : (a b : DiskSeen) → IsEnteredHere a b → JoinerGoes here last' m n (member_in a)
         joiner_goes a b is = record {
           before = record { sectors = a.seen.sectors; contents = is.gone.pair.before };
           after = record { sectors = a.seen.sectors; contents = is.gone.pair.now };
@@ -261,7 +261,7 @@ module _ (group : Group) (config : Config) (text : List ℕ) (carriers : List Me
               (entered (group.sequence + 1) last last' up text MasksIn (IsMaskOf here m.counts n.counts) masks config.group a b is.gone.pair.before is.gone.pair.now is.enlists is.gone.pair.told is.gone.pair.tells);
         }
 
-        writes_by : (a b : Held) (bound : ℕ) → IsPair m n a b → b.seen.writes ≤ a.seen.writes + bound → n.counts.writes a.device ≤ m.counts.writes a.device + bound
+        writes_by : (a b : DiskSeen) (bound : ℕ) → IsPair m n a b → b.seen.writes ≤ a.seen.writes + bound → n.counts.writes a.device ≤ m.counts.writes a.device + bound
         writes_by a b bound pair most = let x = pair.writes in let y = pair.writes' in omega (arith, x, y, most)
 
         -- what it leaves of all others
@@ -300,5 +300,5 @@ module _ (group : Group) (config : Config) (text : List ℕ) (carriers : List Me
               (λ a b is. writes_by a b ((last' - group.sequence) * sectors_of text + 2) is.gone.pair (let w = is.enlists.writes in omega (arith, w, more_sectors))) js ks joined;
         }
           where
-            Member_ : Held → Held → Type 0
+            Member_ : DiskSeen → DiskSeen → Type 0
             Member_ a b = (has (good_mask hs) a.slot ≡ true → a.good ≡ true) × (has (good_mask hs) a.slot ≡ false → a.good ≡ false) × IsWrittenHere a b

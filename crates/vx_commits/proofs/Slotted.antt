@@ -7,7 +7,7 @@ use Rattle.vx_piece.specs.Seen.{Seen}
 use Rattle.vx_mask.specs.Mask.{has, only, union}
 use Rattle.vx_mask.proofs.MaskLemmas.{has-union, has-only_same, has-only_other, has-zero}
 use Rattle.vx_copies.specs.Lists.{AllOf, Each}
-use Rattle.vx_copies.specs.Disks.{Held, held, HasSlot, is_good_slot, good_mask}
+use Rattle.vx_copies.specs.Disks.{DiskSeen, disk_seen, HasSlot, is_good_slot, good_mask}
 use Rattle.vx_copies.specs.declared.disk.Disk.{Disk}
 use Rattle.vx_house.specs.View.{HaveSlots}
 
@@ -18,7 +18,7 @@ has_only slot k lt = elim (cases_eq slot k) [
 ]
 
 -- the mask has the slots of good disks
-pub mask_names : (hs : List Held) → AllOf HasSlot hs → (slot : ℕ) → has (good_mask hs) slot ≡ is_good_slot slot hs
+pub mask_names : (hs : List DiskSeen) → AllOf HasSlot hs → (slot : ℕ) → has (good_mask hs) slot ≡ is_good_slot slot hs
 mask_names [] all slot = has-zero slot
 mask_names (h ∷ hs) all slot = by_good h.good (mask_names hs all.1 slot)
   where
@@ -27,19 +27,19 @@ mask_names (h ∷ hs) all slot = by_good h.good (mask_names hs all.1 slot)
     by_good true rest = has-union (good_mask hs) (only h.slot) slot ∙ ap (λ b. has (good_mask hs) slot || b) (has_only h.slot slot all.0) ∙ or_comm (has (good_mask hs) slot) (h.slot == slot) ∙ ap (λ b. (h.slot == slot) || b) rest
 
 -- the slots differ
-abbrev pub AreSlotted : List Held → Type 0
+abbrev pub AreSlotted : List DiskSeen → Type 0
 AreSlotted [] = Unit {0}
 AreSlotted (h ∷ hs) = AllOf (λ e. e.slot ≢ h.slot) hs × AreSlotted hs
 
-pub slotted : {P : Type 0} (see : P → Seen) (ds : List (Disk P)) → HaveSlots ds → AreSlotted (map (held see) ds)
+pub slotted : {P : Type 0} (see : P → Seen) (ds : List (Disk P)) → HaveSlots ds → AreSlotted (map (disk_seen see) ds)
 slotted see [] have = tt
 slotted {P = P} see (d ∷ ds) have = (all d.slot ds have.0, slotted see ds have.1)
   where
-    all : (slot : ℕ) (es : List (Disk P)) → AllOf (λ e. e.slot ≢ slot) es → AllOf (λ e. e.slot ≢ slot) (map (held see) es)
+    all : (slot : ℕ) (es : List (Disk P)) → AllOf (λ e. e.slot ≢ slot) es → AllOf (λ e. e.slot ≢ slot) (map (disk_seen see) es)
     all slot [] other = tt
     all slot (e ∷ es) other = (other.0, all slot es other.1)
 
-not_slot : (slot : ℕ) (hs : List Held) → AllOf (λ e. e.slot ≢ slot) hs → is_good_slot slot hs ≡ false
+not_slot : (slot : ℕ) (hs : List DiskSeen) → AllOf (λ e. e.slot ≢ slot) hs → is_good_slot slot hs ≡ false
 not_slot slot [] other = refl
 not_slot slot (e ∷ hs) other = by_test e.good (e.slot == slot) refl (not_slot slot hs other.1)
   where
@@ -48,7 +48,7 @@ not_slot slot (e ∷ hs) other = by_test e.good (e.slot == slot) refl (not_slot 
     by_test true false is rest = rest
     by_test true true is rest = absurd (other.0 (eqb-true e.slot slot is))
 
-good_on : (d : Held) (hs es : List Held) → AllOf (λ e. e.slot ≢ d.slot) es → AllOf (λ e. is_good_slot e.slot hs ≡ e.good) es → AllOf (λ e. is_good_slot e.slot (d ∷ hs) ≡ e.good) es
+good_on : (d : DiskSeen) (hs es : List DiskSeen) → AllOf (λ e. e.slot ≢ d.slot) es → AllOf (λ e. is_good_slot e.slot hs ≡ e.good) es → AllOf (λ e. is_good_slot e.slot (d ∷ hs) ≡ e.good) es
 good_on d hs [] other good = tt
 good_on d hs (e ∷ es) other good = (by_test d.good (d.slot == e.slot) refl, good_on d hs es other.1 good.1)
   where
@@ -58,7 +58,7 @@ good_on d hs (e ∷ es) other good = (by_test d.good (d.slot == e.slot) refl, go
     by_test true true is = absurd (other.0 (sym (eqb-true d.slot e.slot is)))
 
 -- the slot of a disk is that of a good one just where it is good
-pub good_slots : (hs : List Held) → AreSlotted hs → AllOf (λ h. is_good_slot h.slot hs ≡ h.good) hs
+pub good_slots : (hs : List DiskSeen) → AreSlotted hs → AllOf (λ h. is_good_slot h.slot hs ≡ h.good) hs
 good_slots [] slots = tt
 good_slots (h ∷ hs) slots = (by_test h.good (h.slot == h.slot) (eq-eqb h.slot h.slot refl), good_on h hs hs slots.0 (good_slots hs slots.1))
   where
@@ -68,21 +68,21 @@ good_slots (h ∷ hs) slots = (by_test h.good (h.slot == h.slot) (eq-eqb h.slot 
     by_test false b is = not_slot h.slot hs slots.0
 
 -- the mask of the good ones tells of each whether it is good
-pub mask_tells : (hs : List Held) → AllOf HasSlot hs → AreSlotted hs → AllOf (λ h. has (good_mask hs) h.slot ≡ h.good) hs
+pub mask_tells : (hs : List DiskSeen) → AllOf HasSlot hs → AreSlotted hs → AllOf (λ h. has (good_mask hs) h.slot ≡ h.good) hs
 mask_tells hs all slots = by hs (good_slots hs slots)
   where
-    by : (es : List Held) → AllOf (λ h. is_good_slot h.slot hs ≡ h.good) es → AllOf (λ h. has (good_mask hs) h.slot ≡ h.good) es
+    by : (es : List DiskSeen) → AllOf (λ h. is_good_slot h.slot hs ≡ h.good) es → AllOf (λ h. has (good_mask hs) h.slot ≡ h.good) es
     by [] is = tt
     by (e ∷ es) is = (mask_names hs all e.slot ∙ is.0, by es is.1)
 
 -- disks that keep their slots
-pub slots_kept : (hs bs : List Held) → Each (λ a b. b.slot ≡ a.slot) hs bs → AreSlotted hs → AreSlotted bs
+pub slots_kept : (hs bs : List DiskSeen) → Each (λ a b. b.slot ≡ a.slot) hs bs → AreSlotted hs → AreSlotted bs
 slots_kept [] [] same slots = tt
 slots_kept [] (b ∷ bs) same slots = absurd same
 slots_kept (a ∷ hs) [] same slots = absurd same
 slots_kept (a ∷ hs) (b ∷ bs) same slots = (all hs bs same.1 slots.0, slots_kept hs bs same.1 slots.1)
   where
-    all : (xs ys : List Held) → Each (λ a b. b.slot ≡ a.slot) xs ys → AllOf (λ e. e.slot ≢ a.slot) xs → AllOf (λ e. e.slot ≢ b.slot) ys
+    all : (xs ys : List DiskSeen) → Each (λ a b. b.slot ≡ a.slot) xs ys → AllOf (λ e. e.slot ≢ a.slot) xs → AllOf (λ e. e.slot ≢ b.slot) ys
     all [] [] same other = tt
     all [] (y ∷ ys) same other = absurd same
     all (x ∷ xs) [] same other = absurd same

@@ -6,7 +6,7 @@ use Rattle.vx_base.specs.Named.{Word}
 use Rattle.vx_piece.specs.Seen.{Seen}
 use Rattle.vx_copies.specs.Lists.{Each, AllOf, AnyOf}
 use Rattle.vx_copies.specs.Image.{Offer, offer_told, higher}
-use Rattle.vx_copies.specs.Disks.{Held, held, HasSlot, Goes, IsReady, IsBelow, IsCut}
+use Rattle.vx_copies.specs.Disks.{DiskSeen, disk_seen, HasSlot, CommitGoes, IsReady, IsBelow, IsCut}
 use Rattle.vx_copies.specs.Config.{configuration, GivesOldOrNew}
 use Rattle.vx_copies.specs.Chain.{Copy, copy_of, AreInOrder, AllUpTo, NamesNewer, NamesMissing, IsChained, AgreeIn, AllAgree, NamesGood, IsGoodMember, IsLed, IsSound}
 use Rattle.vx_copies.specs.declared.disk.Disk.{Disk}
@@ -41,8 +41,8 @@ pub map_last : {X Y : Type 0} (f : X → Y) (xs : List X) (x : X) → map f (xs 
 map_last f [] x = refl
 map_last f (y ∷ ys) x = ap (λ zs. f y ∷ zs) (map_last f ys x)
 
-pub mid_members : {P : Type 0} (see : P → Seen) (xs ys zs : List (Disk P)) (d : Disk P) → ys ≡ xs → zs ≡ ys ++ d ∷ [] → map (held see) zs ≡ map (held see) xs ++ held see d ∷ []
-mid_members see xs ys zs d e f = ap (map (held see)) f ∙ map_last (held see) ys d ∙ ap (λ ws. map (held see) ws ++ held see d ∷ []) e
+pub mid_members : {P : Type 0} (see : P → Seen) (xs ys zs : List (Disk P)) (d : Disk P) → ys ≡ xs → zs ≡ ys ++ d ∷ [] → map (disk_seen see) zs ≡ map (disk_seen see) xs ++ disk_seen see d ∷ []
+mid_members see xs ys zs d e f = ap (map (disk_seen see)) f ∙ map_last (disk_seen see) ys d ∙ ap (λ ws. map (disk_seen see) ws ++ disk_seen see d ∷ []) e
 
 take_first : {X : Type 0} (xs ys : List X) → take (length xs) (xs ++ ys) ≡ xs
 take_first [] ys = refl
@@ -52,7 +52,7 @@ pub first_of : {X : Type 0} (n : ℕ) (xs ys : List X) → n ≡ length xs → t
 first_of n xs ys e = ap (λ k. take k (xs ++ ys)) e ∙ take_first xs ys
 
 -- it changes no configuration
-pub same_configuration : (group : Word) (readable : ℕ → Bool) (hs : List Held) (h : Held) → OffersNone group h → configuration group readable (hs ++ h ∷ []) ≡ configuration group readable hs
+pub same_configuration : (group : Word) (readable : ℕ → Bool) (hs : List DiskSeen) (h : DiskSeen) → OffersNone group h → configuration group readable (hs ++ h ∷ []) ≡ configuration group readable hs
 same_configuration group readable [] h none = ap (λ o. higher o None) (none_if (readable h.slot) (offer_told group h.seen.told) none)
 same_configuration group readable (a ∷ hs) h none = ap (higher (cond (readable a.slot) (offer_told group a.seen.told) None)) (same_configuration group readable hs h none)
 
@@ -75,19 +75,19 @@ pub drop_first : {X : Type 0} (xs ys : List X) → drop (length xs) (xs ++ ys) �
 drop_first [] ys = refl
 drop_first (x ∷ xs) ys = drop_first xs ys
 
-pub old_go : (n f l : ℕ) (text : List ℕ) (hs ms new : List Held) (h : Held) → n ≡ length hs → ms ≡ hs ++ h ∷ [] → Each (Goes f l text) ms new → Each (Goes f l text) hs (take n new)
-old_go n f l text hs ms new h long is goes = subst (λ xs. Each (Goes f l text) xs (take n new)) (ap (take n) is ∙ first_of n hs (h ∷ []) long) (take_each (Goes f l text) n ms new goes)
+pub old_go : (n f l : ℕ) (text : List ℕ) (hs ms new : List DiskSeen) (h : DiskSeen) → n ≡ length hs → ms ≡ hs ++ h ∷ [] → Each (CommitGoes f l text) ms new → Each (CommitGoes f l text) hs (take n new)
+old_go n f l text hs ms new h long is goes = subst (λ xs. Each (CommitGoes f l text) xs (take n new)) (ap (take n) is ∙ first_of n hs (h ∷ []) long) (take_each (CommitGoes f l text) n ms new goes)
 
 -- the new disk, as it was written or not
-last_goes : (R : Held → Held → Type 0) (n : ℕ) (hs ms new : List Held) (h : Held) → n ≡ length hs → ms ≡ hs ++ h ∷ [] → Each R ms new → Each R (h ∷ []) (drop n new)
+last_goes : (R : DiskSeen → DiskSeen → Type 0) (n : ℕ) (hs ms new : List DiskSeen) (h : DiskSeen) → n ≡ length hs → ms ≡ hs ++ h ∷ [] → Each R ms new → Each R (h ∷ []) (drop n new)
 last_goes R n hs ms new h long is goes = subst (λ xs. Each R xs (drop n new)) (ap (drop n) is ∙ ap (λ k. drop k (hs ++ h ∷ [])) long ∙ drop_first hs (h ∷ [])) (drop_each R n ms new goes)
 
-pub new_joins : (r : Prepared) (group : Word) (n f l : ℕ) (text : List ℕ) (hs ms new : List Held) (h h' : Held) → n ≡ length hs → ms ≡ hs ++ h' ∷ [] → Prepares group h h' → PrepareEnds r group h' → (r ≡ Cut → new ≡ ms)
-    → Each (Goes f l text) ms new → Each (Joins group text) (h ∷ []) (drop n new)
+pub new_joins : (r : Prepared) (group : Word) (n f l : ℕ) (text : List ℕ) (hs ms new : List DiskSeen) (h h' : DiskSeen) → n ≡ length hs → ms ≡ hs ++ h' ∷ [] → Prepares group h h' → PrepareEnds r group h' → (r ≡ Cut → new ≡ ms)
+    → Each (CommitGoes f l text) ms new → Each (Joins group text) (h ∷ []) (drop n new)
 new_joins Done group n f l text hs ms new h h' long is prepares ends stays goes =
-    by (drop n new) (last_goes (Goes f l text) n hs ms new h' long is goes)
+    by (drop n new) (last_goes (CommitGoes f l text) n hs ms new h' long is goes)
   where
-    by : (xs : List Held) → Each (Goes f l text) (h' ∷ []) xs → Each (Joins group text) (h ∷ []) xs
+    by : (xs : List DiskSeen) → Each (CommitGoes f l text) (h' ∷ []) xs → Each (Joins group text) (h ∷ []) xs
     by [] all = absurd all
     by (x ∷ []) all = (written_joins group f l text h h' x prepares ends all.0, tt)
     by (x ∷ (y ∷ ys)) all = absurd all.1
@@ -139,24 +139,24 @@ module _ (x : Copy) (none : x.offer ≡ None) where
   pub agree_last : (cs : List Copy) → AllAgree cs → AllAgree (cs ++ x ∷ [])
   agree_last cs all = all_last _ cs x (all_map _ _ (λ c is. all_last _ cs x is (agree_with c.offer)) cs all) (with_all (cs ++ x ∷ []))
 
-  newest_by : (cs : List Copy) (hs : List Held) (c : Option Offer) → MatchOption c (Unit {0}) (λ o. AllUpTo o.sequence cs → NamesGood o hs) → MatchOption c (Unit {0}) (λ o. AllUpTo o.sequence (cs ++ x ∷ []) → NamesGood o hs)
+  newest_by : (cs : List Copy) (hs : List DiskSeen) (c : Option Offer) → MatchOption c (Unit {0}) (λ o. AllUpTo o.sequence cs → NamesGood o hs) → MatchOption c (Unit {0}) (λ o. AllUpTo o.sequence (cs ++ x ∷ []) → NamesGood o hs)
   newest_by cs hs None is = tt
   newest_by cs hs (Some o) is = λ top. is (up_to_first o.sequence cs top)
 
-  pub newest_last : (cs : List Copy) (hs : List Held) → AllOf (λ c. MatchOption c.offer (Unit {0}) (λ o. AllUpTo o.sequence cs → NamesGood o hs)) cs → AllOf (λ c. MatchOption c.offer (Unit {0}) (λ o. AllUpTo o.sequence (cs ++ x ∷ []) → NamesGood o hs)) (cs ++ x ∷ [])
+  pub newest_last : (cs : List Copy) (hs : List DiskSeen) → AllOf (λ c. MatchOption c.offer (Unit {0}) (λ o. AllUpTo o.sequence cs → NamesGood o hs)) cs → AllOf (λ c. MatchOption c.offer (Unit {0}) (λ o. AllUpTo o.sequence (cs ++ x ∷ []) → NamesGood o hs)) (cs ++ x ∷ [])
   newest_last cs hs all = all_last _ cs x (all_map _ _ (λ c. newest_by cs hs c.offer) cs all) (none_of _)
 
 append_last : {X : Type 0} (os cs : List X) (c : X) → os ++ (cs ++ c ∷ []) ≡ (os ++ cs) ++ c ∷ []
 append_last [] cs c = refl
 append_last (o ∷ os) cs c = ap (λ xs. o ∷ xs) (append_last os cs c)
 
-copies_last : (group : Word) (os : List Copy) (hs : List Held) (h : Held) → os ++ map (copy_of group) (hs ++ h ∷ []) ≡ (os ++ map (copy_of group) hs) ++ copy_of group h ∷ []
+copies_last : (group : Word) (os : List Copy) (hs : List DiskSeen) (h : DiskSeen) → os ++ map (copy_of group) (hs ++ h ∷ []) ≡ (os ++ map (copy_of group) hs) ++ copy_of group h ∷ []
 copies_last group os hs h = ap (λ cs. os ++ cs) (map_last (copy_of group) hs h) ∙ append_last os (map (copy_of group) hs) (copy_of group h)
 
-pub chain_with : (group : Word) (missing : ℕ) (os : List Copy) (last n : ℕ) (hs : List Held) (h : Held) → OffersNone group h → IsSound group missing os last n hs → IsChained missing (os ++ map (copy_of group) (hs ++ h ∷ []))
+pub chain_with : (group : Word) (missing : ℕ) (os : List Copy) (last n : ℕ) (hs : List DiskSeen) (h : DiskSeen) → OffersNone group h → IsSound group missing os last n hs → IsChained missing (os ++ map (copy_of group) (hs ++ h ∷ []))
 chain_with group missing os last n hs h none sound = subst (IsChained missing) (sym (copies_last group os hs h)) (chained_last (copy_of group h) none missing (os ++ map (copy_of group) hs) sound.chained)
 
-pub sound_with : (group : Word) (missing : ℕ) (os : List Copy) (last n : ℕ) (hs : List Held) (h : Held) → n ≡ length hs → OffersNone group h → IsGoodMember group h → IsSound group missing os last n hs → IsSound group missing os last n (hs ++ h ∷ [])
+pub sound_with : (group : Word) (missing : ℕ) (os : List Copy) (last n : ℕ) (hs : List DiskSeen) (h : DiskSeen) → n ≡ length hs → OffersNone group h → IsGoodMember group h → IsSound group missing os last n hs → IsSound group missing os last n (hs ++ h ∷ [])
 sound_with group missing os last n hs h long none member sound =
     let same = sym (copies_last group os hs h) in
     let whole : take n hs ≡ take n (hs ++ h ∷ []) = first_whole ∙ sym (first_of n hs (h ∷ []) long) in
@@ -172,12 +172,12 @@ sound_with group missing os last n hs h long none member sound =
     first_whole : take n hs ≡ hs
     first_whole = ap (λ k. take k hs) long ∙ take_own hs
       where
-        take_own : (xs : List Held) → take (length xs) xs ≡ xs
+        take_own : (xs : List DiskSeen) → take (length xs) xs ≡ xs
         take_own [] = refl
         take_own (y ∷ ys) = ap (λ zs. y ∷ zs) (take_own ys)
 
 -- one disk more has joined
-pub joined_is : {P : Type 0} (see : P → Seen) (r : Prepared) (mid : Group P) (hs : List Held) (h : Held) → members see mid ≡ hs ++ h ∷ [] → length mid.disks.items ≤ 32
+pub joined_is : {P : Type 0} (see : P → Seen) (r : Prepared) (mid : Group P) (hs : List DiskSeen) (h : DiskSeen) → members see mid ≡ hs ++ h ∷ [] → length mid.disks.items ≤ 32
     → AllOf IsReady hs → AllOf (IsMemberOf mid.name) hs → AllOf (IsBelow mid.name mid.sequence) hs → OffersNone mid.name h → HasSlot h → PrepareEnds r mid.name h → IsJoined see r mid
 joined_is see Done mid hs h is few ready headed below none slot ends = record {
   ready = subst (AllOf IsReady) (sym is) (all_last IsReady hs h ready ends.ready);
@@ -192,50 +192,50 @@ joined_is see Cut mid hs h is few ready headed below none slot ends = (
 )
 
 -- the disk as it joined
-pub member_by : (group : Word) (h h' : Held) → Prepares group h h' → Tells h → IsPrepared group h' → IsGoodMember group h'
+pub member_by : (group : Word) (h h' : DiskSeen) → Prepares group h h' → Tells h → IsPrepared group h' → IsGoodMember group h'
 member_by group h h' prepares tells prepared = λ good. member_one group (label_in group h') h'.seen.told refl (tells_still (label_in group h) h.seen.told h'.seen.told prepares.told tells) (prepared.headed good)
 
-pub chain_by : (r : Prepared) (group : Word) (missing : ℕ) (os : List Copy) (last later n : ℕ) (hs ms new : List Held) (h h' : Held) → ms ≡ hs ++ h' ∷ [] → n ≡ length hs → Prepares group h h' → OffersNone group h' → PrepareEnds r group h'
+pub chain_by : (r : Prepared) (group : Word) (missing : ℕ) (os : List Copy) (last later n : ℕ) (hs ms new : List DiskSeen) (h h' : DiskSeen) → ms ≡ hs ++ h' ∷ [] → n ≡ length hs → Prepares group h h' → OffersNone group h' → PrepareEnds r group h'
     → (r ≡ Cut → new ≡ ms) → (IsSound group missing os last n ms → IsSound group missing os later n new) → Tells h → IsSound group missing os last n hs → IsChained missing (os ++ map (copy_of group) new)
 chain_by Done group missing os last later n hs ms new h h' is long prepares none ends stays goes tells sound =
     (goes (subst (IsSound group missing os last n) (sym is) (sound_with group missing os last n hs h' long none (member_by group h h' prepares tells ends) sound))).chained
 chain_by Cut group missing os last later n hs ms new h h' is long prepares none ends stays goes tells sound =
     subst (λ xs. IsChained missing (os ++ map (copy_of group) xs)) (sym (stays refl ∙ is)) (chain_with group missing os last n hs h' none sound)
 
-pub whole_by : (r : Prepared) (group : Word) (missing : ℕ) (os : List Copy) (last later n k : ℕ) (hs ms new : List Held) (h h' : Held) → ms ≡ hs ++ h' ∷ [] → n ≡ length hs → Prepares group h h' → OffersNone group h' → PrepareEnds r group h'
+pub whole_by : (r : Prepared) (group : Word) (missing : ℕ) (os : List Copy) (last later n k : ℕ) (hs ms new : List DiskSeen) (h h' : DiskSeen) → ms ≡ hs ++ h' ∷ [] → n ≡ length hs → Prepares group h h' → OffersNone group h' → PrepareEnds r group h'
     → (r ≡ Cut → ⊥) → (IsSound group missing os last n ms → IsSound group missing os later k new) → Tells h → IsSound group missing os last n hs → IsSound group missing os later k new
 whole_by Done group missing os last later n k hs ms new h h' is long prepares none ends not goes tells sound =
     goes (subst (IsSound group missing os last n) (sym is) (sound_with group missing os last n hs h' long none (member_by group h h' prepares tells ends) sound))
 whole_by Cut group missing os last later n k hs ms new h h' is long prepares none ends not goes tells sound = absurd (not refl)
 
-pub taken_is : {P : Type 0} (see : P → Seen) (r : Prepared) (text : List ℕ) (disk d : Disk P) (old new : Group P) (ms : List Held) → ms ≡ members see old ++ held see d ∷ [] → Prepares old.name (held see disk) (held see d) → OffersNone old.name (held see d)
-    → PrepareEnds r old.name (held see d) → (r ≡ Cut → members see new ≡ ms)
-    → new.name ≡ old.name → Each (Goes (old.sequence + 1) new.sequence text) ms (members see new) → GivesOldOrNew old.name (old.sequence + 1) new.sequence text ms (members see new) → AreInOrder old.name old.sequence (members see new)
+pub taken_is : {P : Type 0} (see : P → Seen) (r : Prepared) (text : List ℕ) (disk d : Disk P) (old new : Group P) (ms : List DiskSeen) → ms ≡ members see old ++ disk_seen see d ∷ [] → Prepares old.name (disk_seen see disk) (disk_seen see d) → OffersNone old.name (disk_seen see d)
+    → PrepareEnds r old.name (disk_seen see d) → (r ≡ Cut → members see new ≡ ms)
+    → new.name ≡ old.name → Each (CommitGoes (old.sequence + 1) new.sequence text) ms (members see new) → GivesOldOrNew old.name (old.sequence + 1) new.sequence text ms (members see new) → AreInOrder old.name old.sequence (members see new)
     → (n : ℕ) → n ≡ length old.disks.items → (AllOf Tells (take n ms) → IsLed old.name old.sequence n (members see new)) → new.sequence ≤ old.sequence + 32
-    → ((missing : ℕ) (os : List Copy) → Tells (held see disk) → IsSound old.name missing os old.sequence (length old.disks.items) (members see old) → IsChained missing (os ++ map (copy_of old.name) (members see new))) → IsTaken see text disk old new
+    → ((missing : ℕ) (os : List Copy) → Tells (disk_seen see disk) → IsSound old.name missing os old.sequence (length old.disks.items) (members see old) → IsChained missing (os ++ map (copy_of old.name) (members see new))) → IsTaken see text disk old new
 taken_is see r text disk d old new ms is prepares none ends stays name goes gives order n size lead few chain =
-    let long : length old.disks.items ≡ length (members see old) = sym (length-map old.disks.items (held see)) in
+    let long : length old.disks.items ≡ length (members see old) = sym (length-map old.disks.items (disk_seen see)) in
     let led : AllOf Tells (take (length old.disks.items) ms) → IsLed old.name old.sequence (length old.disks.items) (members see new) = subst (λ k. AllOf Tells (take k ms) → IsLed old.name old.sequence k (members see new)) size lead in
     record {
       name = name;
-      goes = old_go (length old.disks.items) (old.sequence + 1) new.sequence text (members see old) ms (members see new) (held see d) long is goes;
-      joins = new_joins r old.name (length old.disks.items) (old.sequence + 1) new.sequence text (members see old) ms (members see new) (held see disk) (held see d) long is prepares ends stays goes;
+      goes = old_go (length old.disks.items) (old.sequence + 1) new.sequence text (members see old) ms (members see new) (disk_seen see d) long is goes;
+      joins = new_joins r old.name (length old.disks.items) (old.sequence + 1) new.sequence text (members see old) ms (members see new) (disk_seen see disk) (disk_seen see d) long is prepares ends stays goes;
       old_or_new = λ readable. elim (gives readable) [
-        | inl same ↦ inl (same ∙ ap (configuration old.name readable) is ∙ same_configuration old.name readable (members see old) (held see d) none)
+        | inl same ↦ inl (same ∙ ap (configuration old.name readable) is ∙ same_configuration old.name readable (members see old) (disk_seen see d) none)
         | inr new_is ↦ inr new_is
       ];
       order = order;
-      lead = λ tells. led (subst (AllOf Tells) (sym (ap (take (length old.disks.items)) is ∙ first_of (length old.disks.items) (members see old) (held see d ∷ []) long)) tells);
+      lead = λ tells. led (subst (AllOf Tells) (sym (ap (take (length old.disks.items)) is ∙ first_of (length old.disks.items) (members see old) (disk_seen see d ∷ []) long)) tells);
       few = few;
       chained = chain;
     }
 
-pub lost_taken : {P : Type 0} (see : P → Seen) (f : GroupFault) (n : ℕ) (text : List ℕ) (disk d : Disk P) (old mid new : Group P) → members see mid ≡ members see old ++ held see d ∷ [] → n ≡ length (members see old) → n ≡ length old.disks.items
+pub lost_taken : {P : Type 0} (see : P → Seen) (f : GroupFault) (n : ℕ) (text : List ℕ) (disk d : Disk P) (old mid new : Group P) → members see mid ≡ members see old ++ disk_seen see d ∷ [] → n ≡ length (members see old) → n ≡ length old.disks.items
     → IsTaken see text disk old new → WrittenBy see (Err f) n text mid new → AddGives see (Err (f, None)) text disk old new
 lost_taken see fault.OutOfMemory n text disk d old mid new is long size taken ends = absurd ends
 lost_taken see (fault.TooLong k) n text disk d old mid new is long size taken ends = absurd ends
 lost_taken see fault.GroupLost n text disk d old mid new is long size taken ends =
-    inr (refl, (taken, ends.0, subst (λ k. Each HasRisen (members see old) (take k (members see new))) size (subst (λ xs. Each HasRisen xs (take n (members see new))) (ap (take n) is ∙ first_of n (members see old) (held see d ∷ []) long) ends.1)))
+    inr (refl, (taken, ends.0, subst (λ k. Each HasRisen (members see old) (take k (members see new))) size (subst (λ xs. Each HasRisen xs (take n (members see new))) (ap (take n) is ∙ first_of n (members see old) (disk_seen see d ∷ []) long) ends.1)))
 lost_taken see fault.PowerLost n text disk d old mid new is long size taken ends = inr (refl, (taken, ends.0, ends.1))
 
 pub one_longer : {X : Type 0} (xs ys zs : List X) (x : X) → ys ≡ xs → zs ≡ ys ++ x ∷ [] → length zs ≡ length xs + 1
@@ -248,5 +248,5 @@ pub ok_not_err : {T E : Type 0} (r : Result T E) (u : T) (e : E) → r ≡ Ok u 
 ok_not_err (Ok v) u e is not = cc
 ok_not_err (Err f) u e is not = cc
 
-pub held_length : {P : Type 0} (see : P → Seen) (R : Held → Held → Type 0) (xs ys : List (Disk P)) → Each R (map (held see) xs) (map (held see) ys) → length ys ≡ length xs
-held_length see R xs ys is = sym (length-map ys (held see)) ∙ same_length R (map (held see) xs) (map (held see) ys) is ∙ length-map xs (held see)
+pub held_length : {P : Type 0} (see : P → Seen) (R : DiskSeen → DiskSeen → Type 0) (xs ys : List (Disk P)) → Each R (map (disk_seen see) xs) (map (disk_seen see) ys) → length ys ≡ length xs
+held_length see R xs ys is = sym (length-map ys (disk_seen see)) ∙ same_length R (map (disk_seen see) xs) (map (disk_seen see) ys) is ∙ length-map xs (disk_seen see)

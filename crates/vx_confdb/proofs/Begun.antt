@@ -9,7 +9,7 @@ use Rattle.vx_header.specs.Named.{Label, header_of}
 use Rattle.vx_piece.specs.Seen.{Seen, Keeps}
 use Rattle.vx_copies.specs.Lists.{Each, AllOf}
 use Rattle.vx_copies.specs.Image.{Offer, offer_of, offer_in, offer_told, names_group, higher}
-use Rattle.vx_copies.specs.Disks.{Held, held, Drops, Goes, Offers, IsReady, IsBelow, IsNew, IsMember}
+use Rattle.vx_copies.specs.Disks.{DiskSeen, disk_seen, Drops, CommitGoes, Offers, IsReady, IsBelow, IsNew, IsMember}
 use Rattle.vx_copies.specs.Config.{configuration, GivesOldOrNew}
 use Rattle.vx_copies.specs.Chain.{Copy, copy_of, AgreeIn, IsGoodMember, IsSound}
 use Rattle.vx_copies.proofs.Going.{keeps_trans, drops_trans, rest_trans, each_map}
@@ -35,21 +35,21 @@ none_told group label (Some t) (Some u) (how, rest) none = elim how [
 ]
 
 -- what offered nothing still does
-pub none_all : (group : Word) (hs bs : List Held) → Each (Prepares group) hs bs → AllOf (OffersNone group) hs → AllOf (OffersNone group) bs
+pub none_all : (group : Word) (hs bs : List DiskSeen) → Each (Prepares group) hs bs → AllOf (OffersNone group) hs → AllOf (OffersNone group) bs
 none_all group [] [] is all = tt
 none_all group [] (b ∷ bs) is all = absurd is
 none_all group (a ∷ hs) [] is all = absurd is
 none_all group (a ∷ hs) (b ∷ bs) is all = (none_told group (label_in group a) a.seen.told b.seen.told is.0.told all.0, none_all group hs bs is.1 all.1)
 
-pub none_below : (group : Word) (n : ℕ) (hs : List Held) → AllOf (OffersNone group) hs → AllOf (IsBelow group n) hs
+pub none_below : (group : Word) (n : ℕ) (hs : List DiskSeen) → AllOf (OffersNone group) hs → AllOf (IsBelow group n) hs
 none_below group n [] all = tt
 none_below group n (h ∷ hs) all = (subst (λ o. MatchOption o (Unit {0}) (λ x. x.sequence ≤ n)) (sym all.0) tt, none_below group n hs all.1)
 
-pub prepared_ready : (group : Word) (hs : List Held) → AllOf (IsPrepared group) hs → AllOf IsReady hs
+pub prepared_ready : (group : Word) (hs : List DiskSeen) → AllOf (IsPrepared group) hs → AllOf IsReady hs
 prepared_ready group [] all = tt
 prepared_ready group (h ∷ hs) all = (all.0.ready, prepared_ready group hs all.1)
 
-pub prepared_headed : (group : Word) (hs : List Held) → AllOf (IsPrepared group) hs → AllOf (IsMemberOf group) hs
+pub prepared_headed : (group : Word) (hs : List DiskSeen) → AllOf (IsPrepared group) hs → AllOf (IsMemberOf group) hs
 prepared_headed group [] all = tt
 prepared_headed group (h ∷ hs) all = (all.0.headed, prepared_headed group hs all.1)
 
@@ -57,7 +57,7 @@ pub none_if : (r : Bool) (o : Option Offer) → o ≡ None → cond r o None ≡
 none_if true o is = is
 none_if false o is = refl
 
-pub none_given : (group : Word) (readable : ℕ → Bool) (hs : List Held) → AllOf (OffersNone group) hs → configuration group readable hs ≡ None
+pub none_given : (group : Word) (readable : ℕ → Bool) (hs : List DiskSeen) → AllOf (OffersNone group) hs → configuration group readable hs ≡ None
 none_given group readable [] all = refl
 none_given group readable (h ∷ hs) all =
     ap (λ o. higher o (configuration group readable hs)) (none_if (readable h.slot) (offer_told group h.seen.told) all.0) ∙ none_given group readable hs all.1
@@ -66,13 +66,13 @@ new_text : (f l : ℕ) (text : List ℕ) (o : Option Offer) → IsNew f l text o
 new_text f l text None is = absurd is
 new_text f l text (Some x) is = inr (x, refl, is.2)
 
-pub none_or_text : (group : Word) (f l : ℕ) (text : List ℕ) (hs bs : List Held) → AllOf (OffersNone group) hs → GivesOldOrNew group f l text hs bs → GivesNoneOrText group text bs
+pub none_or_text : (group : Word) (f l : ℕ) (text : List ℕ) (hs bs : List DiskSeen) → AllOf (OffersNone group) hs → GivesOldOrNew group f l text hs bs → GivesNoneOrText group text bs
 none_or_text group f l text hs bs none gives = λ readable. elim (gives readable) [
   | inl same ↦ inl (same ∙ none_given group readable hs none)
   | inr new ↦ new_text f l text (configuration group readable bs) new
 ]
 
-pub none_still : (group : Word) (text : List ℕ) (hs : List Held) → AllOf (OffersNone group) hs → GivesNoneOrText group text hs
+pub none_still : (group : Word) (text : List ℕ) (hs : List DiskSeen) → AllOf (OffersNone group) hs → GivesNoneOrText group text hs
 none_still group text hs none = λ readable. inl (none_given group readable hs none)
 
 -- disks that joined, and then were written
@@ -84,7 +84,7 @@ begins_enters label text (Some t) (Some u) (inl same, rest) = (inl same, rest)
 begins_enters label text (Some t) (Some u) (inr (inl still), rest) = (inr (inl still), rest)
 begins_enters label text (Some t) (Some u) (inr (inr headed), rest) = (inr (inr (headed.0, inl headed.1)), rest)
 
-pub prepares_joins : (group : Word) (text : List ℕ) (a b : Held) → Prepares group a b → Joins group text a b
+pub prepares_joins : (group : Word) (text : List ℕ) (a b : DiskSeen) → Prepares group a b → Joins group text a b
 prepares_joins group text a b is = record { slot = is.slot; name = is.name; device = is.device; size = is.size; kept = is.kept; good = is.good; told = begins_enters (label_in group a) text a.seen.told b.seen.told is.told }
 
 new_text_of : (f l : ℕ) (text : List ℕ) (o : Option Offer) → IsNew f l text o → MatchOption o ⊥ (λ x. x.text ≡ text)
@@ -101,7 +101,7 @@ written_enters label f l text (Some t) (Some u) None begins blank says is = absu
 written_enters label f l text (Some t) (Some u) (Some v) begins blank says (header, inl same, rest) = (inr (inr (ap header_of header ∙ says, inl (same.0 ∙ blank))), rest_trans t u v begins.1 rest)
 written_enters label f l text (Some t) (Some u) (Some v) begins blank says (header, inr new, rest) = (inr (inr (ap header_of header ∙ says, inr (new_text_of f l text (offer_of v) new))), rest_trans t u v begins.1 rest)
 
-pub written_joins : (group : Word) (f l : ℕ) (text : List ℕ) (a b c : Held) → Prepares group a b → IsPrepared group b → Goes f l text b c → Joins group text a c
+pub written_joins : (group : Word) (f l : ℕ) (text : List ℕ) (a b c : DiskSeen) → Prepares group a b → IsPrepared group b → CommitGoes f l text b c → Joins group text a c
 written_joins group f l text a b c p prepared q = record {
   slot = q.slot ∙ p.slot;
   name = q.name ∙ p.name;
@@ -116,10 +116,10 @@ written_joins group f l text a b c p prepared q = record {
     by true good = written_enters (label_in group a) f l text a.seen.told b.seen.told c.seen.told p.told (prepared.blank good) (subst (λ x. Says x b.seen.told) (same_label group a b p.name p.slot p.size) (prepared.headed good)) q.offers
     by false bad = subst (λ (s : Seen). Enters (label_in group a) text a.seen.told s.told) (sym (q.idle bad)) (begins_enters (label_in group a) text a.seen.told b.seen.told p.told)
 
-pub all_prepare : (group : Word) (text : List ℕ) (hs bs : List Held) → Each (Prepares group) hs bs → Each (Joins group text) hs bs
+pub all_prepare : (group : Word) (text : List ℕ) (hs bs : List DiskSeen) → Each (Prepares group) hs bs → Each (Joins group text) hs bs
 all_prepare group text hs bs is = each_map (Prepares group) (Joins group text) (prepares_joins group text) hs bs is
 
-pub all_join : (group : Word) (f l : ℕ) (text : List ℕ) (hs bs cs : List Held) → Each (Prepares group) hs bs → AllOf (IsPrepared group) bs → Each (Goes f l text) bs cs → Each (Joins group text) hs cs
+pub all_join : (group : Word) (f l : ℕ) (text : List ℕ) (hs bs cs : List DiskSeen) → Each (Prepares group) hs bs → AllOf (IsPrepared group) bs → Each (CommitGoes f l text) bs cs → Each (Joins group text) hs cs
 all_join group f l text [] [] [] p prepared q = tt
 all_join group f l text [] [] (c ∷ cs) p prepared q = absurd q
 all_join group f l text [] (b ∷ bs) cs p prepared q = absurd p
@@ -128,7 +128,7 @@ all_join group f l text (a ∷ hs) (b ∷ bs) [] p prepared q = absurd q
 all_join group f l text (a ∷ hs) (b ∷ bs) (c ∷ cs) p prepared q = (written_joins group f l text a b c p.0 prepared.0 q.0, all_join group f l text hs bs cs p.1 prepared.1 q.1)
 
 -- the count of each that was good has risen
-risen_one : (group : Word) (a b c : Held) → Prepares group a b → Keeps b.seen c.seen → HasRisen b c → HasRisen a c
+risen_one : (group : Word) (a b c : DiskSeen) → Prepares group a b → Keeps b.seen c.seen → HasRisen b c → HasRisen a c
 risen_one group a b c p q rose = λ good. by a.good b.good good p.good rose
   where
     by : (x y : Bool) → IsTrue x → Drops x y a.seen b.seen → (IsTrue y → Rose b.seen.faults c.seen.faults) → Rose a.seen.faults c.seen.faults
@@ -136,7 +136,7 @@ risen_one group a b c p q rose = λ good. by a.good b.good good p.good rose
     by true false is drops rises = let f = q.faults in omega (arith, drops, f)
     by false y is drops rises = cc
 
-pub all_rose : (group : Word) (f l : ℕ) (text : List ℕ) (hs bs cs : List Held) → Each (Prepares group) hs bs → Each (Goes f l text) bs cs → Each HasRisen bs cs → Each HasRisen hs cs
+pub all_rose : (group : Word) (f l : ℕ) (text : List ℕ) (hs bs cs : List DiskSeen) → Each (Prepares group) hs bs → Each (CommitGoes f l text) bs cs → Each HasRisen bs cs → Each HasRisen hs cs
 all_rose group f l text [] [] [] p q rose = tt
 all_rose group f l text [] [] (c ∷ cs) p q rose = absurd q
 all_rose group f l text [] (b ∷ bs) cs p q rose = absurd p
@@ -150,7 +150,7 @@ tells_still label None u begins tells = absurd tells
 tells_still label (Some t) None begins tells = absurd begins
 tells_still label (Some t) (Some u) begins tells = tt
 
-pub tell_all : (group : Word) (hs bs : List Held) → Each (Prepares group) hs bs → AllOf Tells hs → AllOf Tells bs
+pub tell_all : (group : Word) (hs bs : List DiskSeen) → Each (Prepares group) hs bs → AllOf Tells hs → AllOf Tells bs
 tell_all group [] [] is all = tt
 tell_all group [] (b ∷ bs) is all = absurd is
 tell_all group (a ∷ hs) [] is all = absurd is
@@ -160,7 +160,7 @@ pub member_one : (group : Word) (label : Label) (t : Option Contents) → label.
 member_one group label None same tells is = absurd tells
 member_one group label (Some c) same tells is = ap (names_group group) is ∙ (bytes_eq-Decides label.group group).1 same
 
-pub members_of : (group : Word) (hs : List Held) → AllOf Tells hs → AllOf (IsMemberOf group) hs → AllOf (IsGoodMember group) hs
+pub members_of : (group : Word) (hs : List DiskSeen) → AllOf Tells hs → AllOf (IsMemberOf group) hs → AllOf (IsGoodMember group) hs
 members_of group [] tells all = tt
 members_of group (h ∷ hs) tells all = (λ good. member_one group (label_in group h) h.seen.told refl tells.0 (all.0 good), members_of group hs tells.1 all.1)
 
@@ -171,7 +171,7 @@ all_none : (Q : Offer → Type 0) (cs : List Copy) → AllOf (λ c. c.offer ≡ 
 all_none Q [] all = tt
 all_none Q (c ∷ cs) all = (none_of Q c all.0, all_none Q cs all.1)
 
-copies_none : (group : Word) (os : List Copy) (hs : List Held) → AllOf (λ c. c.offer ≡ None) os → AllOf (OffersNone group) hs → AllOf (λ c. c.offer ≡ None) (os ++ map (copy_of group) hs)
+copies_none : (group : Word) (os : List Copy) (hs : List DiskSeen) → AllOf (λ c. c.offer ≡ None) os → AllOf (OffersNone group) hs → AllOf (λ c. c.offer ≡ None) (os ++ map (copy_of group) hs)
 copies_none group [] [] others all = tt
 copies_none group [] (h ∷ hs) others all = (all.0, copies_none group [] hs others all.1)
 copies_none group (o ∷ os) hs others all = (others.0, copies_none group os hs others.1 all)
@@ -184,19 +184,19 @@ agree_none (c ∷ cs) ds all = (subst (λ o. AllOf (λ d. AgreeIn o d.offer) ds)
     nothing [] = tt
     nothing (e ∷ es) = (tt, nothing es)
 
-pub sound_none : (group : Word) (missing : ℕ) (os : List Copy) (n k : ℕ) (hs : List Held) → AllOf (λ c. c.offer ≡ None) os → AllOf (OffersNone group) hs → AllOf Tells hs → AllOf (IsMemberOf group) hs → IsSound group missing os n k hs
+pub sound_none : (group : Word) (missing : ℕ) (os : List Copy) (n k : ℕ) (hs : List DiskSeen) → AllOf (λ c. c.offer ≡ None) os → AllOf (OffersNone group) hs → AllOf Tells hs → AllOf (IsMemberOf group) hs → IsSound group missing os n k hs
 sound_none group missing os n k hs others none tells headed =
     let all = copies_none group os hs others none in
     record { members = members_of group hs tells headed; chained = all_none _ _ all; agree = agree_none _ _ all; newest = all_none _ _ all; up_to = all_none _ _ all }
 
 -- the answer of a lost commit
 pub refused_by : {P : Type 0} (see : P → Seen) (r : Result (Unit {0}) Lost) (l : Lost) (n k : ℕ) (name : Word) (text : List ℕ) (old mid new : List (Disk P)) → r ≡ Err l
-    → length (map (held see) mid) ≤ n → length (map (held see) new) ≤ n
-    → IsBegun name text (map (held see) old) (map (held see) new) → Each (Prepares name) (map (held see) old) (map (held see) mid) → Each (Goes 1 k text) (map (held see) mid) (map (held see) new)
-    → CommitEnds r n k text (map (held see) mid) (map (held see) new) → RefusedBy see (fault_of l) name text old new
+    → length (map (disk_seen see) mid) ≤ n → length (map (disk_seen see) new) ≤ n
+    → IsBegun name text (map (disk_seen see) old) (map (disk_seen see) new) → Each (Prepares name) (map (disk_seen see) old) (map (disk_seen see) mid) → Each (CommitGoes 1 k text) (map (disk_seen see) mid) (map (disk_seen see) new)
+    → CommitEnds r n k text (map (disk_seen see) mid) (map (disk_seen see) new) → RefusedBy see (fault_of l) name text old new
 refused_by see (Ok u) l n k name text old mid new is few few' begun prepares goes ends = cc
 refused_by see (Err lost.GroupLost) lost.GroupLost n k name text old mid new is few few' begun prepares goes ends =
-    (begun, all_rose name 1 k text _ _ _ prepares goes (subst (λ xs. Each HasRisen xs (map (held see) new)) (take_whole n (map (held see) mid) few) (subst (Each HasRisen (take n (map (held see) mid))) (take_whole n (map (held see) new) few') ends)))
+    (begun, all_rose name 1 k text _ _ _ prepares goes (subst (λ xs. Each HasRisen xs (map (disk_seen see) new)) (take_whole n (map (disk_seen see) mid) few) (subst (Each HasRisen (take n (map (disk_seen see) mid))) (take_whole n (map (disk_seen see) new) few') ends)))
 refused_by see (Err lost.PowerLost) lost.PowerLost n k name text old mid new is few few' begun prepares goes ends = (begun, ends)
 refused_by see (Err lost.GroupLost) lost.PowerLost n k name text old mid new is few few' begun prepares goes ends = cc
 refused_by see (Err lost.PowerLost) lost.GroupLost n k name text old mid new is few few' begun prepares goes ends = cc

@@ -7,7 +7,7 @@ use Rattle.vx_sector.specs.Fields.{zeros}
 use Rattle.vx_header.specs.Named.{Label, header_of}
 use Rattle.vx_piece.specs.Seen.{Seen}
 use Rattle.vx_copies.specs.Lists.{Each, AllOf}
-use Rattle.vx_copies.specs.Disks.{Held, Goes, Offers, good_count}
+use Rattle.vx_copies.specs.Disks.{DiskSeen, CommitGoes, Offers, good_count}
 use Rattle.vx_copies.specs.Written.{BothTell, OldOrText, Turns, Touches, IsMaskOf, IsQuiet, Recorded, WritesJust, IsDone, sectors_of}
 use Rattle.vx_copies.proofs.SectorsWritten.{both_same, tell_map, tell_trans, tell_refl}
 use Rattle.vx_copies.proofs.Going.{keeps_refl, drops_refl, each_refl, each_map, each_then, each_both, each_from}
@@ -29,12 +29,12 @@ module _ (group : Word) (f l : ℕ) (text : List ℕ) (M : ℕ → Type 0) where
   comes_begun label (Some c) (Some d) (inr (inl still), rest) = inr (inl still)
   comes_begun label (Some c) (Some d) (inr (inr headed), rest) = inr (inr (headed.0, inl headed.1))
 
-  comes_by : (label : Label) (b c : Held) (u v x : Contents) → u 1 ≡ x 1 → header_of (v 0) ≡ Some label → Turns f l text M b c u v → (header_of (v 0) ≡ Some label) × ((v 1 ≡ x 1) ⊎ IsTurnedTo f l text M v)
+  comes_by : (label : Label) (b c : DiskSeen) (u v x : Contents) → u 1 ≡ x 1 → header_of (v 0) ≡ Some label → Turns f l text M b c u v → (header_of (v 0) ≡ Some label) × ((v 1 ≡ x 1) ⊎ IsTurnedTo f l text M v)
   comes_by label b c u v x blank says (inl stay) = (says, inl (stay.toggle ∙ blank))
   comes_by label b c u v x blank says (inr (inl once)) = (says, inr (record { half = 1 - b.half; turned = once.turned }))
   comes_by label b c u v x blank says (inr (inr again)) = (says, inr (record { half = again.now; turned = again.turned }))
 
-  comes_written : (label : Label) (b c : Held) (t u v : Option Contents) → Begins label t u → IsBlank u → Says label u → Offers f l text u v → BothTell (Turns f l text M b c) u v → BothTell (Comes label f l text M) t v
+  comes_written : (label : Label) (b c : DiskSeen) (t u v : Option Contents) → Begins label t u → IsBlank u → Says label u → Offers f l text u v → BothTell (Turns f l text M b c) u v → BothTell (Comes label f l text M) t v
   comes_written label b c None None None begins blank says offers turns = tt
   comes_written label b c None None (Some z) begins blank says offers turns = absurd turns
   comes_written label b c None (Some y) v begins blank says offers turns = absurd begins
@@ -45,11 +45,11 @@ module _ (group : Word) (f l : ℕ) (text : List ℕ) (M : ℕ → Type 0) where
   behind : (x y z : Contents) → OnlyFront x y → OldOrText text y z → BehindOldOrText text x z
   behind x y z front only k le = elim (only k (λ e. omega (arith, le, e))) [ inl same ↦ inl (same ∙ front k le) | inr new ↦ inr (new ∙ both_same text x y k (inl (front k le))) ]
 
-  pub enlist_none : (a : Held) → Enlists group f l text M a a
+  pub enlist_none : (a : DiskSeen) → Enlists group f l text M a a
   enlist_none a = record { comes = tell_refl (Comes (label_in group a) f l text M) (λ c. inl refl) a.seen.told; only = tell_refl (BehindOldOrText text) (λ c k le. inl refl) a.seen.told; reads = refl; writes = omega arith }
 
   -- a disk that joined alone
-  pub enlist_begun : (a b : Held) → Prepares group a b → Fronts 2 a b → Enlists group f l text M a b
+  pub enlist_begun : (a b : DiskSeen) → Prepares group a b → Fronts 2 a b → Enlists group f l text M a b
   enlist_begun a b p fronts = record {
     comes = comes_begun (label_in group a) a.seen.told b.seen.told p.told;
     only = tell_map OnlyFront (BehindOldOrText text) (λ c d is k le. inl (is k le)) a.seen.told b.seen.told fronts.only;
@@ -58,7 +58,7 @@ module _ (group : Word) (f l : ℕ) (text : List ℕ) (M : ℕ → Type 0) where
   }
 
   -- and then was written
-  pub enlist_written : (a b c : Held) → Prepares group a b → Fronts 2 a b → IsPrepared group b → Goes f l text b c → Touches f l text M b c → Enlists group f l text M a c
+  pub enlist_written : (a b c : DiskSeen) → Prepares group a b → Fronts 2 a b → IsPrepared group b → CommitGoes f l text b c → Touches f l text M b c → Enlists group f l text M a c
   enlist_written a b c p fronts prepared goes touches = record {
     comes = by b.good refl;
     only = tell_trans OnlyFront (OldOrText text) (BehindOldOrText text) behind a.seen.told b.seen.told c.seen.told fronts.only touches.only;
@@ -70,13 +70,13 @@ module _ (group : Word) (f l : ℕ) (text : List ℕ) (M : ℕ → Type 0) where
       by true good = comes_written (label_in group a) b c a.seen.told b.seen.told c.seen.told p.told (prepared.blank good) (subst (λ x. Says x b.seen.told) (same_label group a b p.name p.slot p.size) (prepared.headed good)) goes.offers touches.turns
       by false bad = subst (λ (s : Seen). BothTell (Comes (label_in group a) f l text M) a.seen.told s.told) (sym (goes.idle bad)) (comes_begun (label_in group a) a.seen.told b.seen.told p.told)
 
-pub prepares_fade : (group : Word) (a b : Held) → Prepares group a b → Fades a b
+pub prepares_fade : (group : Word) (a b : DiskSeen) → Prepares group a b → Fades a b
 prepares_fade group a b is = record { slot = is.slot; kept = is.kept; good = is.good }
 
-just_then : (m n : ℕ) (a b c : Held) → WritesJust m a b → Fades b c × WritesJust n b c → WritesJust (m + n) a c
+just_then : (m n : ℕ) (a b c : DiskSeen) → WritesJust m a b → Fades b c × WritesJust n b c → WritesJust (m + n) a c
 just_then m n a b c p q good = let first = p (fades_good b c q.0 good) in let second = q.1 good in omega (arith, first, second)
 
-module _ (group : Word) (text : List ℕ) (hs ms : List Held) (prepares : Each (Prepares group) hs ms) (fronts : Each (Fronts 2) hs ms) where
+module _ (group : Word) (text : List ℕ) (hs ms : List DiskSeen) (prepares : Each (Prepares group) hs ms) (fronts : Each (Fronts 2) hs ms) where
   joined_fade : Each Fades hs ms
   joined_fade = each_map (Prepares group) Fades (prepares_fade group) hs ms prepares
 
@@ -87,13 +87,13 @@ module _ (group : Word) (text : List ℕ) (hs ms : List Held) (prepares : Each (
     once = λ quiet. omega arith;
   }
 
-  module _ (l : ℕ) (bs : List Held) (prepared : AllOf (IsPrepared group) ms) (goes : Each (Goes 1 l text) ms bs) (recorded : Recorded 1 l text ms bs) where
+  module _ (l : ℕ) (bs : List DiskSeen) (prepared : AllOf (IsPrepared group) ms) (goes : Each (CommitGoes 1 l text) ms bs) (recorded : Recorded 1 l text ms bs) where
     fade : Each Fades ms bs
-    fade = each_map (Goes 1 l text) Fades (goes_fade 1 l text) ms bs goes
+    fade = each_map (CommitGoes 1 l text) Fades (goes_fade 1 l text) ms bs goes
 
     pub all_enlisted : AreEnlisted group l text hs bs
     all_enlisted = record {
-      enlists = each_then (λ a b. Prepares group a b × Fronts 2 a b) (λ b c. IsPrepared group b × (Goes 1 l text b c × Touches 1 l text (IsMaskOf ms bs) b c)) (Enlists group 1 l text (IsMaskOf hs bs))
+      enlists = each_then (λ a b. Prepares group a b × Fronts 2 a b) (λ b c. IsPrepared group b × (CommitGoes 1 l text b c × Touches 1 l text (IsMaskOf ms bs) b c)) (Enlists group 1 l text (IsMaskOf hs bs))
           (λ a b c p q. enlist_written group 1 l text (IsMaskOf hs bs) a b c p.0 p.1 q.0 q.1.0 (touches_masks 1 l text (IsMaskOf ms bs) (IsMaskOf hs bs) (mask_before hs ms bs joined_fade fade) b c q.1.1)) hs ms bs
           (each_both _ _ hs ms prepares fronts) (each_from (IsPrepared group) _ ms bs prepared (each_both _ _ ms bs goes recorded.touches));
       once = λ quiet. recorded.once (quiet_after hs ms bs joined_fade fade quiet);
@@ -103,25 +103,25 @@ module _ (group : Word) (text : List ℕ) (hs ms : List Held) (prepares : Each (
     all_just m n first second quiet = each_then (WritesJust m) (λ b c. Fades b c × WritesJust n b c) (WritesJust (m + n)) (just_then m n) hs ms bs first (each_both Fades (WritesJust n) ms bs fade (second (quiet_after hs ms bs joined_fade fade quiet)))
 
 -- all disks are carriers
-pub done_all : (n s : ℕ) (text : List ℕ) (bs : List Held) → length bs ≤ n → IsDone n s text bs → IsDone (length bs) s text bs
+pub done_all : (n s : ℕ) (text : List ℕ) (bs : List DiskSeen) → length bs ≤ n → IsDone n s text bs → IsDone (length bs) s text bs
 done_all n s text bs le is = record {
   some = subst (λ xs. 0 < good_count xs) (take_all n bs le ∙ sym (take_all (length bs) bs (omega arith))) is.some;
   current = is.current;
 }
 
-pub all_none : (group : Word) (text : List ℕ) (hs : List Held) → AreEnlisted group 0 text hs hs
+pub all_none : (group : Word) (text : List ℕ) (hs : List DiskSeen) → AreEnlisted group 0 text hs hs
 all_none group text hs = record { enlists = each_refl _ (enlist_none group 1 0 text (IsMaskOf hs hs)) hs; once = λ quiet. omega arith }
 
 -- one disk that joins behind the others
-module _ (r : Prepared) (group : Word) (n f l : ℕ) (text : List ℕ) (hs ms bs : List Held) (h h' : Held) (long : n ≡ length hs) (is : ms ≡ hs ++ h' ∷ []) (prepares : Prepares group h h') (fronts : Fronts 2 h h') (ends : PrepareEnds r group h') (stays : r ≡ Cut → bs ≡ ms) (goes : Each (Goes f l text) ms bs) (recorded : Recorded f l text ms bs) where
-  fade_none : (a : Held) → Fades a a
+module _ (r : Prepared) (group : Word) (n f l : ℕ) (text : List ℕ) (hs ms bs : List DiskSeen) (h h' : DiskSeen) (long : n ≡ length hs) (is : ms ≡ hs ++ h' ∷ []) (prepares : Prepares group h h') (fronts : Fronts 2 h h') (ends : PrepareEnds r group h') (stays : r ≡ Cut → bs ≡ ms) (goes : Each (CommitGoes f l text) ms bs) (recorded : Recorded f l text ms bs) where
+  fade_none : (a : DiskSeen) → Fades a a
   fade_none a = record { slot = refl; kept = keeps_refl a.seen; good = drops_refl a.good a.seen }
 
   first_fade : Each Fades (hs ++ h ∷ []) ms
   first_fade = subst (Each Fades (hs ++ h ∷ [])) (sym is) (each_last Fades hs hs h h' (each_refl Fades fade_none hs) (prepares_fade group h h' prepares))
 
   next_fade : Each Fades ms bs
-  next_fade = each_map (Goes f l text) Fades (goes_fade f l text) ms bs goes
+  next_fade = each_map (CommitGoes f l text) Fades (goes_fade f l text) ms bs goes
 
   wider : (m : ℕ) → IsMaskOf ms bs m → IsMaskOf (hs ++ h ∷ []) bs m
   wider = mask_before (hs ++ h ∷ []) ms bs first_fade next_fade
@@ -129,23 +129,23 @@ module _ (r : Prepared) (group : Word) (n f l : ℕ) (text : List ℕ) (hs ms bs
   old_first : take n ms ≡ take n (hs ++ h ∷ [])
   old_first = ap (take n) is ∙ first_of n hs (h' ∷ []) long ∙ sym (first_of n hs (h ∷ []) long)
 
-  last_of : (x : Held) → drop n (hs ++ x ∷ []) ≡ x ∷ []
+  last_of : (x : DiskSeen) → drop n (hs ++ x ∷ []) ≡ x ∷ []
   last_of x = ap (λ k. drop k (hs ++ x ∷ [])) long ∙ drop_first hs (x ∷ [])
 
   -- the new disk among the lists that it ends
-  last_by : (R T : Held → Held → Type 0) → ((x : Held) → R h' x → T h x) → Each R ms bs → Each T (drop n (hs ++ h ∷ [])) (drop n bs)
+  last_by : (R T : DiskSeen → DiskSeen → Type 0) → ((x : DiskSeen) → R h' x → T h x) → Each R ms bs → Each T (drop n (hs ++ h ∷ [])) (drop n bs)
   last_by R T one all = subst (λ xs. Each T xs (drop n bs)) (sym (last_of h)) (by (drop n bs) (subst (λ xs. Each R xs (drop n bs)) (ap (drop n) is ∙ last_of h') (drop_each R n ms bs all)))
     where
-      by : (xs : List Held) → Each R (h' ∷ []) xs → Each T (h ∷ []) xs
+      by : (xs : List DiskSeen) → Each R (h' ∷ []) xs → Each T (h ∷ []) xs
       by [] all = absurd all
       by (x ∷ []) all = (one x all.0, tt)
       by (x ∷ (y ∷ ys)) all = absurd all.1
 
   new_enlists : (r' : Prepared) → PrepareEnds r' group h' → (r' ≡ Cut → bs ≡ ms) → Each (Enlists group f l text (IsMaskOf (hs ++ h ∷ []) bs)) (drop n (hs ++ h ∷ [])) (drop n bs)
-  new_enlists Done ends stays = last_by (λ b c. Goes f l text b c × Touches f l text (IsMaskOf ms bs) b c) (Enlists group f l text (IsMaskOf (hs ++ h ∷ []) bs))
+  new_enlists Done ends stays = last_by (λ b c. CommitGoes f l text b c × Touches f l text (IsMaskOf ms bs) b c) (Enlists group f l text (IsMaskOf (hs ++ h ∷ []) bs))
       (λ x both. enlist_written group f l text (IsMaskOf (hs ++ h ∷ []) bs) h h' x prepares fronts ends both.0 (touches_masks f l text (IsMaskOf ms bs) (IsMaskOf (hs ++ h ∷ []) bs) wider h' x both.1)) (each_both _ _ ms bs goes recorded.touches)
   new_enlists Cut ends stays = last_by (λ b c. c ≡ b) (Enlists group f l text (IsMaskOf (hs ++ h ∷ []) bs)) (λ x same. subst (Enlists group f l text (IsMaskOf (hs ++ h ∷ []) bs) h) (sym same) (enlist_begun group f l text (IsMaskOf (hs ++ h ∷ []) bs) h h' prepares fronts))
-      (subst (Each (λ b c. c ≡ b) ms) (sym (stays refl)) (each_refl (λ (b c : Held). c ≡ b) (λ b. refl) ms))
+      (subst (Each (λ b c. c ≡ b) ms) (sym (stays refl)) (each_refl (λ (b c : DiskSeen). c ≡ b) (λ b. refl) ms))
 
   pub is_enlisted : IsEnlisted group f l n text (hs ++ h ∷ []) bs
   is_enlisted = record {

@@ -4,7 +4,7 @@ use Rattle.std.proofs.lemmas.List.{take_at, take-replicate, length-append}
 use Rattle.vx_piece.specs.Seen.{Seen}
 use Rattle.vx_copies.specs.Image.{sectors_for, filled}
 use Rattle.vx_sector.specs.Fields.{zeros}
-use Rattle.vx_copies.specs.Disks.{held}
+use Rattle.vx_copies.specs.Disks.{disk_seen}
 use Rattle.vx_copies.specs.declared.disk.Disk.{Disk}
 use Rattle.vx_copies.specs.declared.writing.Lost.{Lost}
 use Rattle.vx_confdb.specs.Carried.{IsCarried}
@@ -37,8 +37,8 @@ module _ (text pad out : List ℕ) (n : ℕ) (is : out ≡ text ++ pad) (rest : 
 
 -- what is carried for equal disks and texts
 pub carried_in : {P : Type 0} (see : P → Seen) (r : Result (Unit {0}) Lost) (carriers before now : ℕ) (told text : List ℕ) (lent old out new : List (Disk P)) → told ≡ text → lent ≡ old → out ≡ new
-    → IsCarried r carriers before now told (map (held see) lent) (map (held see) out) → IsCarried r carriers before now text (map (held see) old) (map (held see) new)
+    → IsCarried r carriers before now told (map (disk_seen see) lent) (map (disk_seen see) out) → IsCarried r carriers before now text (map (disk_seen see) old) (map (disk_seen see) new)
 carried_in see r carriers before now told text lent old out new e f h is =
-    subst (λ x. IsCarried r carriers before now text (map (held see) old) (map (held see) x)) h
-    (subst (λ x. IsCarried r carriers before now text (map (held see) x) (map (held see) out)) f
-    (subst (λ x. IsCarried r carriers before now x (map (held see) lent) (map (held see) out)) e is))
+    subst (λ x. IsCarried r carriers before now text (map (disk_seen see) old) (map (disk_seen see) x)) h
+    (subst (λ x. IsCarried r carriers before now text (map (disk_seen see) x) (map (disk_seen see) out)) f
+    (subst (λ x. IsCarried r carriers before now x (map (disk_seen see) lent) (map (disk_seen see) out)) e is))

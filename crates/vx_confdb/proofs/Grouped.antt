@@ -7,7 +7,7 @@ use Rattle.vx_base.specs.Named.{Word}
 use Rattle.vx_header.specs.Named.{header_of}
 use Rattle.vx_piece.specs.Seen.{Seen}
 use Rattle.vx_copies.specs.Lists.{Each, AllOf}
-use Rattle.vx_copies.specs.Disks.{Held, HasSlot, IsReady, Drops, Goes, Offers}
+use Rattle.vx_copies.specs.Disks.{DiskSeen, HasSlot, IsReady, Drops, CommitGoes, Offers}
 use Rattle.vx_copies.specs.Commit.{CommitEnds, HasRisen}
 use Rattle.vx_copies.specs.declared.writing.Lost.{Lost}
 use Rattle.vx_copies.specs.declared.writing.Lost.TheVariants as lost
@@ -29,11 +29,11 @@ headed_told a b f l text None (Some d) same offers is = absurd offers
 headed_told a b f l text (Some c) None same offers is = absurd offers
 headed_told a b f l text (Some c) (Some d) same offers is = ap header_of offers.0 ∙ is ∙ ap Some (sym same)
 
-pub same_label : (group : Word) (a b : Held) → b.name ≡ a.name → b.slot ≡ a.slot → b.sectors ≡ a.sectors → label_in group b ≡ label_in group a
+pub same_label : (group : Word) (a b : DiskSeen) → b.name ≡ a.name → b.slot ≡ a.slot → b.sectors ≡ a.sectors → label_in group b ≡ label_in group a
 same_label group a b p q r = λ i. record { group = group; disk = p i; slot = q i; sectors = r i }
 
 -- headers stay
-pub headed_stays : (group : Word) (f l : ℕ) (text : List ℕ) (hs bs : List Held) → Each (Goes f l text) hs bs → AllOf (IsMemberOf group) hs → AllOf (IsMemberOf group) bs
+pub headed_stays : (group : Word) (f l : ℕ) (text : List ℕ) (hs bs : List DiskSeen) → Each (CommitGoes f l text) hs bs → AllOf (IsMemberOf group) hs → AllOf (IsMemberOf group) bs
 headed_stays group f l text [] [] goes all = tt
 headed_stays group f l text [] (b ∷ bs) goes all = absurd goes
 headed_stays group f l text (a ∷ hs) [] goes all = absurd goes
@@ -41,13 +41,13 @@ headed_stays group f l text (a ∷ hs) (b ∷ bs) goes all =
     (λ good. headed_told (label_in group a) (label_in group b) f l text a.seen.told b.seen.told (same_label group a b goes.0.name goes.0.slot goes.0.size) goes.0.offers (all.0 (was_good a.good b.good a.seen b.seen goes.0.good good)), headed_stays group f l text hs bs goes.1 all.1)
 
 -- slots stay
-pub slots_stay : (f l : ℕ) (text : List ℕ) (hs bs : List Held) → Each (Goes f l text) hs bs → AllOf HasSlot hs → AllOf HasSlot bs
+pub slots_stay : (f l : ℕ) (text : List ℕ) (hs bs : List DiskSeen) → Each (CommitGoes f l text) hs bs → AllOf HasSlot hs → AllOf HasSlot bs
 slots_stay f l text [] [] goes all = tt
 slots_stay f l text [] (b ∷ bs) goes all = absurd goes
 slots_stay f l text (a ∷ hs) [] goes all = absurd goes
 slots_stay f l text (a ∷ hs) (b ∷ bs) goes all = (subst (λ n. n < 32) (sym goes.0.slot) all.0, slots_stay f l text hs bs goes.1 all.1)
 
-pub ready_slots : (hs : List Held) → AllOf IsReady hs → AllOf HasSlot hs
+pub ready_slots : (hs : List DiskSeen) → AllOf IsReady hs → AllOf HasSlot hs
 ready_slots [] all = tt
 ready_slots (h ∷ hs) all = (all.0.slot, ready_slots hs all.1)
 

@@ -14,7 +14,7 @@ use Rattle.vx_base.specs.Counts.{later_count}
 use Rattle.vx_piece.specs.declared.piece.PieceFault.{PieceFault}
 use Rattle.vx_piece.specs.Seen.{Seen, Writes, IsWritten, IsOff}
 use Rattle.vx_copies.specs.Lists.{AllOf}
-use Rattle.vx_copies.specs.Disks.{Held, held, NamesHalf, RestStays}
+use Rattle.vx_copies.specs.Disks.{DiskSeen, disk_seen, NamesHalf, RestStays}
 use Rattle.vx_copies.specs.declared.disk.Disk.{Disk}
 use Rattle.vx_copies.specs.Image.{toggle_at, offer_by, offer_of, offer_if, names_group, offer_in}
 use Rattle.vx_copies.specs.Written.{BothTell, WritesJust}
@@ -131,32 +131,32 @@ module _ (sector : List ℕ) (size : length sector ≡ 512) where
   front_only at lt (Some c) (Some d) (Err e) writes = λ k le. beside at c d writes k (inr (omega (arith, lt, le)))
 
 -- one write of a sector in front, and one after another
-pub front_write : {T E : Type 0} (sector : List ℕ) (at : ℕ) (a b : Held) (result : Result T E) → length sector ≡ 512 → at < 2 → IsWritten at sector a.seen b.seen result → Fronts 1 a b
+pub front_write : {T E : Type 0} (sector : List ℕ) (at : ℕ) (a b : DiskSeen) (result : Result T E) → length sector ≡ 512 → at < 2 → IsWritten at sector a.seen b.seen result → Fronts 1 a b
 front_write sector at a b result size lt is = record { only = front_only sector size at lt a.seen.told b.seen.told result is.told; reads = is.reads; writes = most_writes a.seen.cut a.seen.writes b.seen.writes sector 1 (one_block sector size) is.writes }
 
-pub front_just : {T : Type 0} (sector : List ℕ) (at : ℕ) (a b : Held) (result : Result T PieceFault) (u : T) → length sector ≡ 512 → result ≡ Ok u → (IsTrue a.seen.cut → IsOff a.seen b.seen result) → IsWritten at sector a.seen b.seen result → b.seen.writes ≡ later_count a.seen.writes 1
+pub front_just : {T : Type 0} (sector : List ℕ) (at : ℕ) (a b : DiskSeen) (result : Result T PieceFault) (u : T) → length sector ≡ 512 → result ≡ Ok u → (IsTrue a.seen.cut → IsOff a.seen b.seen result) → IsWritten at sector a.seen b.seen result → b.seen.writes ≡ later_count a.seen.writes 1
 front_just sector at a b result u size ok off is = just_writes a.seen.cut a.seen.writes b.seen.writes sector 1 (one_block sector size) (ok_not_cut a.seen b.seen result u ok off) is.writes
 
-pub front_more : (m n : ℕ) (a b : Held) → m ≤ n → Fronts m a b → Fronts n a b
+pub front_more : (m n : ℕ) (a b : DiskSeen) → m ≤ n → Fronts m a b → Fronts n a b
 front_more m n a b le p = record { only = p.only; reads = p.reads; writes = let w = p.writes in omega (arith, w, le) }
 
-pub front_then : (a b c : Held) → Fronts 1 a b → Fronts 1 b c → Fronts 2 a c
+pub front_then : (a b c : DiskSeen) → Fronts 1 a b → Fronts 1 b c → Fronts 2 a c
 front_then a b c p q = record {
   only = tell_trans OnlyFront OnlyFront OnlyFront (λ x y z f g k le. g k le ∙ f k le) a.seen.told b.seen.told c.seen.told p.only q.only;
   reads = q.reads ∙ p.reads;
   writes = let v = p.writes in let w = q.writes in omega (arith, v, w);
 }
 
-pub front_none : (n : ℕ) (a : Held) → Fronts n a a
+pub front_none : (n : ℕ) (a : DiskSeen) → Fronts n a a
 front_none n a = record { only = tell_refl OnlyFront (λ c k le. refl) a.seen.told; reads = refl; writes = omega arith }
 
-abbrev pub FrontsJust : Held → Held → Type 0
+abbrev pub FrontsJust : DiskSeen → DiskSeen → Type 0
 FrontsJust a b = Fronts 2 a b × WritesJust 2 a b
 
-pub front_of : (a b : Held) → FrontsJust a b → Fronts 2 a b
+pub front_of : (a b : DiskSeen) → FrontsJust a b → Fronts 2 a b
 front_of a b is = is.0
 
-pub just_of : (a b : Held) → FrontsJust a b → WritesJust 2 a b
+pub just_of : (a b : DiskSeen) → FrontsJust a b → WritesJust 2 a b
 just_of a b is = is.1
 
 -- a disk whose toggle says nothing has no half that is named
@@ -200,7 +200,7 @@ begins_refl : (label : Label) (a : Option Contents) → Begins label a a
 begins_refl label None = tt
 begins_refl label (Some a) = (inl refl, rest_refl a)
 
-pub prepares_trans : (group : Word) (a b c : Held) → Prepares group a b → Prepares group b c → Prepares group a c
+pub prepares_trans : (group : Word) (a b c : DiskSeen) → Prepares group a b → Prepares group b c → Prepares group a c
 prepares_trans group a b c p q = record {
   slot = q.slot ∙ p.slot;
   name = q.name ∙ p.name;
@@ -212,7 +212,7 @@ prepares_trans group a b c p q = record {
   told = begins_trans (label_in group a) a.seen.told b.seen.told c.seen.told p.told (subst (λ l. Begins l b.seen.told c.seen.told) (same_label group a b p.name p.slot p.size) q.told);
 }
 
-pub prepares_refl : (group : Word) (a : Held) → Prepares group a a
+pub prepares_refl : (group : Word) (a : DiskSeen) → Prepares group a a
 prepares_refl group a = record { slot = refl; name = refl; device = refl; size = refl; half = refl; kept = keeps_refl a.seen; good = drops_refl a.good a.seen; told = begins_refl (label_in group a) a.seen.told }
 
 -- disks of the list
@@ -227,6 +227,6 @@ fresh_rest see group (x ∷ ds) zero d all = all.1
 fresh_rest see group (x ∷ ds) (suc i) d all = fresh_rest see group ds i d all
 
 -- what was joined of equal lists
-pub joined_in : {P : Type 0} (see : P → Seen) (r : Prepared) (group : Word) (lent old out new : List (Disk P)) → lent ≡ old → out ≡ new → AreJoined r group (map (held see) lent) (map (held see) out) → AreJoined r group (map (held see) old) (map (held see) new)
+pub joined_in : {P : Type 0} (see : P → Seen) (r : Prepared) (group : Word) (lent old out new : List (Disk P)) → lent ≡ old → out ≡ new → AreJoined r group (map (disk_seen see) lent) (map (disk_seen see) out) → AreJoined r group (map (disk_seen see) old) (map (disk_seen see) new)
 joined_in see r group lent old out new f h is =
-    subst (λ x. AreJoined r group (map (held see) old) (map (held see) x)) h (subst (λ x. AreJoined r group (map (held see) x) (map (held see) out)) f is)
+    subst (λ x. AreJoined r group (map (disk_seen see) old) (map (disk_seen see) x)) h (subst (λ x. AreJoined r group (map (disk_seen see) x) (map (disk_seen see) out)) f is)

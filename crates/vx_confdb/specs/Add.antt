@@ -2,7 +2,7 @@
 use Rattle.std.specs.Prelude.{◌≡◌, ◌⊎◌, ℕ, ◌+◌, ◌<◌, ◌≤◌, List, [], ◌∷◌, ◌++◌, length, map, take, drop, Option, Some, None, Result, Ok, Err}
 use Rattle.vx_piece.specs.Seen.{Seen}
 use Rattle.vx_copies.specs.Lists.{Each, AllOf, AnyOf}
-use Rattle.vx_copies.specs.Disks.{held, HasSlot, IsCut, IsBelow, Goes}
+use Rattle.vx_copies.specs.Disks.{disk_seen, HasSlot, IsCut, IsBelow, CommitGoes}
 use Rattle.vx_copies.specs.Config.{GivesOldOrNew}
 use Rattle.vx_copies.specs.Chain.{Copy, copy_of, AreInOrder, IsChained, IsLed, IsSound}
 use Rattle.vx_copies.specs.Commit.{HasRisen}
@@ -29,19 +29,19 @@ pub record IsSame {P : Type 0} (old new : Group P) : Type 0 where
 -- gave before, or the text, and the copies stay chained.
 pub record IsTaken {P : Type 0} (see : P → Seen) (text : List ℕ) (disk : Disk P) (old new : Group P) : Type 0 where
   pub name : new.name ≡ old.name
-  pub goes : Each (Goes (old.sequence + 1) new.sequence text) (members see old) (take (length old.disks.items) (members see new))
-  pub joins : Each (Joins old.name text) (held see disk ∷ []) (drop (length old.disks.items) (members see new))
+  pub goes : Each (CommitGoes (old.sequence + 1) new.sequence text) (members see old) (take (length old.disks.items) (members see new))
+  pub joins : Each (Joins old.name text) (disk_seen see disk ∷ []) (drop (length old.disks.items) (members see new))
   pub old_or_new : GivesOldOrNew old.name (old.sequence + 1) new.sequence text (members see old) (members see new)
   pub order : AreInOrder old.name old.sequence (members see new)
   -- one that was there leads, where they tell what they hold
   pub lead : AllOf Tells (members see old) → IsLed old.name old.sequence (length old.disks.items) (members see new)
   pub few : new.sequence ≤ old.sequence + 32
-  pub chained : (missing : ℕ) (others : List Copy) → Tells (held see disk) → IsSound old.name missing others old.sequence (length old.disks.items) (members see old) → IsChained missing (others ++ map (copy_of old.name) (members see new))
+  pub chained : (missing : ℕ) (others : List Copy) → Tells (disk_seen see disk) → IsSound old.name missing others old.sequence (length old.disks.items) (members see old) → IsChained missing (others ++ map (copy_of old.name) (members see new))
 
 abbrev pub TakenBy : {P : Type 0} → (P → Seen) → Result (Unit {0}) GroupFault → List ℕ → Disk P → Group P → Group P → Type 0
 TakenBy see (Ok u) text disk old new =
     IsTaken see text disk old new × CarriesText see (old.sequence + 1) text new
-    × ((missing : ℕ) (others : List Copy) → Tells (held see disk) → IsSound old.name missing others old.sequence (length old.disks.items) (members see old) → IsSound old.name missing others new.sequence (length new.disks.items) (members see new))
+    × ((missing : ℕ) (others : List Copy) → Tells (disk_seen see disk) → IsSound old.name missing others old.sequence (length old.disks.items) (members see old) → IsSound old.name missing others new.sequence (length new.disks.items) (members see new))
 TakenBy see (Err fault.OutOfMemory) text disk old new = ⊥
 TakenBy see (Err (fault.TooLong n)) text disk old new = ⊥
 TakenBy see (Err fault.GroupLost) text disk old new = IsTaken see text disk old new × (new.lost ≡ Some lost.GroupLost) × Each HasRisen (members see old) (take (length old.disks.items) (members see new))

@@ -7,7 +7,7 @@ use Rattle.vx_header.specs.Named.{Label, header_of}
 use Rattle.vx_piece.specs.Seen.{Seen, Keeps}
 use Rattle.vx_copies.specs.Lists.{Each, AnyOf}
 use Rattle.vx_copies.specs.Image.{Offer, offer_of}
-use Rattle.vx_copies.specs.Disks.{Held, held, Drops, IsCut, RestStays}
+use Rattle.vx_copies.specs.Disks.{DiskSeen, disk_seen, Drops, IsCut, RestStays}
 use Rattle.vx_copies.specs.Config.{configuration}
 use Rattle.vx_copies.specs.Chain.{AreInOrder}
 use Rattle.vx_copies.specs.Commit.{HasRisen}
@@ -33,7 +33,7 @@ Enters label text (Some old) (Some new) =
     ((new ≡ old) ⊎ ((new 0 ≡ old 0) × (new 1 ≡ zeros 512)) ⊎ ((header_of (new 0) ≡ Some label) × ((new 1 ≡ zeros 512) ⊎ OffersText text new))) × RestStays old new
 
 -- a disk that joins a group keeps its slot and its piece, and is good unless it failed
-pub record Joins (group : Word) (text : List ℕ) (old new : Held) : Type 0 where
+pub record Joins (group : Word) (text : List ℕ) (old new : DiskSeen) : Type 0 where
   pub slot : new.slot ≡ old.slot
   pub name : new.name ≡ old.name
   pub device : new.device ≡ old.device
@@ -43,11 +43,11 @@ pub record Joins (group : Word) (text : List ℕ) (old new : Held) : Type 0 wher
   pub told : Enters (label_in group old) text old.seen.told new.seen.told
 
 -- whichever disks can be read, they give no configuration of the group, or the text
-abbrev pub GivesNoneOrText : Word → List ℕ → List Held → Type 0
+abbrev pub GivesNoneOrText : Word → List ℕ → List DiskSeen → Type 0
 GivesNoneOrText name text hs = (readable : ℕ → Bool) → (configuration name readable hs ≡ None) ⊎ ((o : Offer) × (configuration name readable hs ≡ Some o) × (o.text ≡ text))
 
 -- what a group that was begun leaves of the disks
-pub record IsBegun (name : Word) (text : List ℕ) (old new : List Held) : Type 0 where
+pub record IsBegun (name : Word) (text : List ℕ) (old new : List DiskSeen) : Type 0 where
   pub joins : Each (Joins name text) old new
   pub none_or_text : GivesNoneOrText name text new
   pub order : AreInOrder name 0 new
@@ -55,13 +55,13 @@ pub record IsBegun (name : Word) (text : List ℕ) (old new : List Held) : Type 
 abbrev pub RefusedBy : {P : Type 0} → (P → Seen) → GroupFault → Word → List ℕ → List (Disk P) → List (Disk P) → Type 0
 RefusedBy see fault.OutOfMemory name text old new = new ≡ old
 RefusedBy see (fault.TooLong n) name text old new = (n ≡ length text) × (522240 < n) × (new ≡ old)
-RefusedBy see fault.GroupLost name text old new = IsBegun name text (map (held see) old) (map (held see) new) × Each HasRisen (map (held see) old) (map (held see) new)
-RefusedBy see fault.PowerLost name text old new = IsBegun name text (map (held see) old) (map (held see) new) × AnyOf IsCut (map (held see) new)
+RefusedBy see fault.GroupLost name text old new = IsBegun name text (map (disk_seen see) old) (map (disk_seen see) new) × Each HasRisen (map (disk_seen see) old) (map (disk_seen see) new)
+RefusedBy see fault.PowerLost name text old new = IsBegun name text (map (disk_seen see) old) (map (disk_seen see) new) × AnyOf IsCut (map (disk_seen see) new)
 
 pub record IsFounded {P : Type 0} (see : P → Seen) (name : Word) (text : List ℕ) (old : List (Disk P)) (g : Group P) : Type 0 where
   pub name_is : g.name ≡ name
   pub few : g.sequence ≤ 32
-  pub begun : IsBegun name text (map (held see) old) (members see g)
+  pub begun : IsBegun name text (map (disk_seen see) old) (members see g)
   pub carries : CarriesText see 1 text g
 
 -- the group carries the text, or the disks are given back

@@ -3,7 +3,7 @@ use Rattle.std.specs.Prelude.{◌≡◌, ◌⊎◌, ℕ, ◌+◌, ◌<◌, ◌�
 use Rattle.vx_base.specs.Named.{Word}
 use Rattle.vx_piece.specs.Seen.{Seen}
 use Rattle.vx_copies.specs.Lists.{Each, AllOf, AnyOf}
-use Rattle.vx_copies.specs.Disks.{Held, held, HasSlot, IsCut, IsReady, IsBelow, Goes}
+use Rattle.vx_copies.specs.Disks.{DiskSeen, disk_seen, HasSlot, IsCut, IsReady, IsBelow, CommitGoes}
 use Rattle.vx_copies.specs.Config.{GivesOldOrNew, GivesNew}
 use Rattle.vx_copies.specs.Chain.{AreInOrder, IsLed}
 use Rattle.vx_copies.specs.Commit.{AllOffer, HasRisen}
@@ -16,11 +16,11 @@ use Rattle.vx_confdb.specs.declared.fault.GroupFault.TheVariants as fault
 use Rattle.vx_confdb.specs.declared.group.Group.{Group}
 
 -- its disks, with what is seen of them
-abbrev pub members : {P : Type 0} → (P → Seen) → Group P → List Held
-members see g = map (held see) g.disks.items
+abbrev pub members : {P : Type 0} → (P → Seen) → Group P → List DiskSeen
+members see g = map (disk_seen see) g.disks.items
 
 -- where it is good, the disk is a member of the group
-abbrev pub IsMemberOf : Word → Held → Type 0
+abbrev pub IsMemberOf : Word → DiskSeen → Type 0
 IsMemberOf group h = IsTrue h.good → IsHeaded group h
 
 -- a group whose next commit can be written
@@ -37,7 +37,7 @@ IsGroup see g = MatchOption g.lost (IsAlive see g) (λ l. AllOf HasSlot (members
 -- what any commit does
 pub record IsCommitted {P : Type 0} (see : P → Seen) (text : List ℕ) (old new : Group P) : Type 0 where
   pub name : new.name ≡ old.name
-  pub goes : Each (Goes (old.sequence + 1) new.sequence text) (members see old) (members see new)
+  pub goes : Each (CommitGoes (old.sequence + 1) new.sequence text) (members see old) (members see new)
   pub old_or_new : GivesOldOrNew old.name (old.sequence + 1) new.sequence text (members see old) (members see new)
   pub order : AreInOrder old.name old.sequence (members see new)
   pub few : new.sequence ≤ old.sequence + 32

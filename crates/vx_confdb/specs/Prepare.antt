@@ -8,7 +8,7 @@ use Rattle.vx_piece.specs.Seen.{Seen, Keeps}
 use Rattle.vx_copies.specs.Lists.{Each, AllOf, AnyOf}
 use Rattle.vx_sector.specs.Fields.{zeros}
 use Rattle.vx_copies.specs.Image.{offer_told}
-use Rattle.vx_copies.specs.Disks.{Held, IsCut, IsReady, Drops, RestStays}
+use Rattle.vx_copies.specs.Disks.{DiskSeen, IsCut, IsReady, Drops, RestStays}
 use Rattle.vx_copies.specs.Written.{BothTell, WritesJust}
 use Rattle.vx_copies.specs.declared.disk.Disk.{Disk}
 use Rattle.vx_confdb.specs.declared.joining.Prepared.{Prepared}
@@ -31,7 +31,7 @@ IsBlank None = Unit {0}
 IsBlank (Some contents) = contents 1 ≡ zeros 512
 
 -- what the header of a member says
-abbrev pub label_in : Word → Held → Label
+abbrev pub label_in : Word → DiskSeen → Label
 label_in group h = record { group = group; disk = h.name; slot = h.slot; sectors = h.sectors }
 
 -- the header says this
@@ -40,7 +40,7 @@ Says label None = Unit {0}
 Says label (Some contents) = header_of (contents 0) ≡ Some label
 
 -- the header names the group, the disk, its slot and the sectors of its device
-abbrev pub IsHeaded : Word → Held → Type 0
+abbrev pub IsHeaded : Word → DiskSeen → Type 0
 IsHeaded group h = Says (label_in group h) h.seen.told
 
 -- The private region is as before; or its toggle is zero, and its header the old one or the label's. What is behind the
@@ -57,12 +57,12 @@ abbrev pub OnlyFront : Contents → Contents → Type 0
 OnlyFront old new = (k : ℕ) → 2 ≤ k → new k ≡ old k
 
 -- the header and the toggle alone are written, in so many sectors at most
-pub record Fronts (most : ℕ) (old new : Held) : Type 0 where
+pub record Fronts (most : ℕ) (old new : DiskSeen) : Type 0 where
   pub only : BothTell OnlyFront old.seen.told new.seen.told
   pub reads : new.seen.reads ≡ old.seen.reads
   pub writes : new.seen.writes ≤ old.seen.writes + most
 
-pub record Prepares (group : Word) (old new : Held) : Type 0 where
+pub record Prepares (group : Word) (old new : DiskSeen) : Type 0 where
   pub slot : new.slot ≡ old.slot
   pub name : new.name ≡ old.name
   pub device : new.device ≡ old.device
@@ -73,29 +73,29 @@ pub record Prepares (group : Word) (old new : Held) : Type 0 where
   pub told : Begins (label_in group old) old.seen.told new.seen.told
 
 -- ready for a commit, and a member without a configuration, where it is good
-pub record IsPrepared (group : Word) (h : Held) : Type 0 where
+pub record IsPrepared (group : Word) (h : DiskSeen) : Type 0 where
   pub ready : IsReady h
   pub blank : IsTrue h.good → IsBlank h.seen.told
   pub headed : IsTrue h.good → IsHeaded group h
 
-abbrev pub PrepareEnds : Prepared → Word → Held → Type 0
+abbrev pub PrepareEnds : Prepared → Word → DiskSeen → Type 0
 PrepareEnds Done group h = IsPrepared group h
 PrepareEnds Cut group h = IsCut h
 
-abbrev pub AllPrepared : Prepared → Word → List Held → Type 0
+abbrev pub AllPrepared : Prepared → Word → List DiskSeen → Type 0
 AllPrepared Done group hs = AllOf (IsPrepared group) hs
 AllPrepared Cut group hs = AnyOf IsCut hs
 
-pub record AreJoined (result : Prepared) (group : Word) (old new : List Held) : Type 0 where
+pub record AreJoined (result : Prepared) (group : Word) (old new : List DiskSeen) : Type 0 where
   pub prepares : Each (Prepares group) old new
   pub ends : AllPrepared result group new
   pub fronts : Each (Fronts 2) old new
   pub just : result ≡ Done → Each (WritesJust 2) old new
 
 -- the device offers nothing in the group
-abbrev pub OffersNone : Word → Held → Type 0
+abbrev pub OffersNone : Word → DiskSeen → Type 0
 OffersNone group h = offer_told group h.seen.told ≡ None
 
 -- the disk tells what it holds
-abbrev pub Tells : Held → Type 0
+abbrev pub Tells : DiskSeen → Type 0
 Tells h = MatchOption h.seen.told ⊥ (λ contents. Unit {0})

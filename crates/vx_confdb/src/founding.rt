@@ -1,6 +1,6 @@
 ghost use Rattle.std.specs.Prelude.{◌≡◌, ℕ, ◌<◌, ◌≤◌, List, length, map, None, IfOk};
 ghost use Rattle.vx_copies.specs.Lists.{AllOf};
-ghost use Rattle.vx_copies.specs.Disks.{held};
+ghost use Rattle.vx_copies.specs.Disks.{disk_seen};
 ghost use Rattle.vx_copies.specs.Chain.{Copy, IsSound};
 ghost use Rattle.vx_confdb.specs.Create.{CreateGives, IsTooLong};
 ghost use Rattle.vx_confdb.specs.Enlisted.{CreateWrites};
@@ -36,12 +36,12 @@ pub fn create<P: Piece>(
 ) -> Result<Group<P>, Refused<P>>
     requires few { length disks.items ≤ 32 }
     requires fresh { AllOf (IsFresh P.seen name) disks.items }
-    requires none { AllOf (OffersNone name) (map (held P.seen) disks.items) }
+    requires none { AllOf (OffersNone name) (map (disk_seen P.seen) disks.items) }
     ensures gives { CreateGives P.seen result name text.now disks.items }
     ensures writes { CreateWrites P.seen result name text.now disks.items }
     ensures too_long { 522240 < length text.now → IsTooLong (length text.now) result }
     ensures group { IfOk result (IsGroup P.seen) }
-    ensures sound { (missing : ℕ) (others : List Copy) → AllOf (λ c. c.offer ≡ None) others → AllOf Tells (map (held P.seen) disks.items) → IfOk result (λ group. IsSound name missing others group.sequence (length disks.items) (members P.seen group)) }
+    ensures sound { (missing : ℕ) (others : List Copy) → AllOf (λ c. c.offer ≡ None) others → AllOf Tells (map (disk_seen P.seen) disks.items) → IfOk result (λ group. IsSound name missing others group.sequence (length disks.items) (members P.seen group)) }
 {
     if text.len() > MOST_TEXT as usize {
         let fault = GroupFault::TooLong(text.len() as u64);
@@ -57,11 +57,11 @@ pub fn create<P: Piece>(
 fn found<P: Piece>(name: Name, disks: Vec<Disk<P>>, text: Text) -> Result<Group<P>, Refused<P>>
     requires few { length disks.items ≤ 32 }
     requires fresh { AllOf (IsFresh P.seen name) disks.items }
-    requires none { AllOf (OffersNone name) (map (held P.seen) disks.items) }
+    requires none { AllOf (OffersNone name) (map (disk_seen P.seen) disks.items) }
     ensures gives { CreateGives P.seen result name (text_of text) disks.items }
     ensures writes { CreateWrites P.seen result name (text_of text) disks.items }
     ensures group { IfOk result (IsGroup P.seen) }
-    ensures sound { (missing : ℕ) (others : List Copy) → AllOf (λ c. c.offer ≡ None) others → AllOf Tells (map (held P.seen) disks.items) → IfOk result (λ group. IsSound name missing others group.sequence (length disks.items) (members P.seen group)) }
+    ensures sound { (missing : ℕ) (others : List Copy) → AllOf (λ c. c.offer ≡ None) others → AllOf Tells (map (disk_seen P.seen) disks.items) → IfOk result (λ group. IsSound name missing others group.sequence (length disks.items) (members P.seen group)) }
 {
     let mut disks = disks;
     match join_all(&mut disks, &name) {

@@ -1,7 +1,7 @@
 ghost use Rattle.std.specs.Prelude.{◌≡◌, ◌+◌, ◌-◌, ◌<◌, ◌≤◌, ◌^◌, List, length, map, None, Some, Err, OnOk, OnErr, IfSome, is_some, ℕ, vec_len, vec_capacity, ◌++◌, ◌∷◌, []};
 ghost use Rattle.vx_copies.specs.Lists.{Each};
 ghost use Rattle.vx_mask.specs.Mask.{has};
-ghost use Rattle.vx_copies.specs.Disks.{held, Goes, good_count, is_good_slot, good_mask};
+ghost use Rattle.vx_copies.specs.Disks.{disk_seen, CommitGoes, good_count, is_good_slot, good_mask};
 ghost use Rattle.vx_copies.specs.Config.{GivesOldOrNew};
 ghost use Rattle.vx_copies.specs.Written.{Recorded, IsDone, IsQuiet, WritesJust, sectors_of};
 ghost use Rattle.vx_copies.specs.Chain.{Copy, IsSound};
@@ -22,7 +22,7 @@ use vx_header::MOST_TEXT;
 use vx_names::Name;
 use vx_piece::Piece;
 
-/// A disk group whose configuration copies are held.
+/// A disk group whose configuration copies are disk_seen.
 #[derive(Drop)]
 pub struct Group<P> {
     name: Name,
@@ -89,7 +89,7 @@ impl<P: Piece> Group<P> {
         requires low { self.old.sequence < 2 ^ 64 - 64 }
         requires room { length self.old.disks.items < 32 }
         requires fresh { IsFresh P.seen self.old.name disk }
-        requires none { OffersNone self.old.name (held P.seen disk) }
+        requires none { OffersNone self.old.name (disk_seen P.seen disk) }
         ensures group { IsGroup P.seen self.new }
         ensures ends { AddGives P.seen result text.now disk self.old self.new }
         ensures writes { AddWrites P.seen result text.now disk self.old self.new }

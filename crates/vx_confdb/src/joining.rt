@@ -1,6 +1,6 @@
 ghost use Rattle.std.specs.Prelude.{◌≡◌, ◌<◌, ◌≤◌, length, map};
 ghost use Rattle.vx_copies.specs.Lists.{Each, AllOf};
-ghost use Rattle.vx_copies.specs.Disks.{held};
+ghost use Rattle.vx_copies.specs.Disks.{disk_seen};
 ghost use Rattle.vx_copies.specs.Written.{WritesJust};
 ghost use Rattle.vx_confdb.specs.Prepare.{IsFresh, IsBlank, Fronts, Prepares, PrepareEnds, AllPrepared, AreJoined};
 
@@ -22,7 +22,7 @@ pub enum Prepared {
 /// Makes each disk a member of a group that carries no configuration yet.
 pub fn join_all<P: Piece>(disks: &mut Vec<Disk<P>>, group: &Name) -> Prepared
     requires fresh { AllOf (IsFresh P.seen group.now) disks.old.items }
-    ensures joined { AreJoined result group.now (map (held P.seen) disks.old.items) (map (held P.seen) disks.new.items) }
+    ensures joined { AreJoined result group.now (map (disk_seen P.seen) disks.old.items) (map (disk_seen P.seen) disks.new.items) }
     ensures long { length disks.new.items ≡ length disks.old.items }
 {
     let mut sector = [0; 512];
@@ -32,10 +32,10 @@ pub fn join_all<P: Piece>(disks: &mut Vec<Disk<P>>, group: &Name) -> Prepared
 /// The same of one disk.
 pub fn join_one<P: Piece>(disk: &mut Disk<P>, group: &Name) -> Prepared
     requires fresh { IsFresh P.seen group.now disk.old }
-    ensures prepares { Prepares group.now (held P.seen disk.old) (held P.seen disk.new) }
-    ensures ends { PrepareEnds result group.now (held P.seen disk.new) }
-    ensures fronts { Fronts 2 (held P.seen disk.old) (held P.seen disk.new) }
-    ensures just { result ≡ Prepared.Done → WritesJust 2 (held P.seen disk.old) (held P.seen disk.new) }
+    ensures prepares { Prepares group.now (disk_seen P.seen disk.old) (disk_seen P.seen disk.new) }
+    ensures ends { PrepareEnds result group.now (disk_seen P.seen disk.new) }
+    ensures fronts { Fronts 2 (disk_seen P.seen disk.old) (disk_seen P.seen disk.new) }
+    ensures just { result ≡ Prepared.Done → WritesJust 2 (disk_seen P.seen disk.old) (disk_seen P.seen disk.new) }
 {
     let mut sector = [0; 512];
     prepare(disk, group, &mut sector)
@@ -45,10 +45,10 @@ fn prepare_all<P: Piece>(disks: &mut [Disk<P>], group: &Name, sector: &mut [u8])
     requires fresh { AllOf (IsFresh P.seen group.now) disks.old }
     requires size { length sector.old ≡ 512 }
     ensures size { length sector.new ≡ 512 }
-    ensures prepares { Each (Prepares group.now) (map (held P.seen) disks.old) (map (held P.seen) disks.new) }
-    ensures ends { AllPrepared result group.now (map (held P.seen) disks.new) }
-    ensures fronts { Each (Fronts 2) (map (held P.seen) disks.old) (map (held P.seen) disks.new) }
-    ensures just { result ≡ Prepared.Done → Each (WritesJust 2) (map (held P.seen) disks.old) (map (held P.seen) disks.new) }
+    ensures prepares { Each (Prepares group.now) (map (disk_seen P.seen) disks.old) (map (disk_seen P.seen) disks.new) }
+    ensures ends { AllPrepared result group.now (map (disk_seen P.seen) disks.new) }
+    ensures fronts { Each (Fronts 2) (map (disk_seen P.seen) disks.old) (map (disk_seen P.seen) disks.new) }
+    ensures just { result ≡ Prepared.Done → Each (WritesJust 2) (map (disk_seen P.seen) disks.old) (map (disk_seen P.seen) disks.new) }
 {
     let mut i = 0;
     'disks: while i < disks.len() {
@@ -68,10 +68,10 @@ fn prepare<P: Piece>(disk: &mut Disk<P>, group: &Name, sector: &mut [u8]) -> Pre
     requires fresh { IsFresh P.seen group.now disk.old }
     requires size { length sector.old ≡ 512 }
     ensures size { length sector.new ≡ 512 }
-    ensures prepares { Prepares group.now (held P.seen disk.old) (held P.seen disk.new) }
-    ensures ends { PrepareEnds result group.now (held P.seen disk.new) }
-    ensures fronts { Fronts 2 (held P.seen disk.old) (held P.seen disk.new) }
-    ensures just { result ≡ Prepared.Done → WritesJust 2 (held P.seen disk.old) (held P.seen disk.new) }
+    ensures prepares { Prepares group.now (disk_seen P.seen disk.old) (disk_seen P.seen disk.new) }
+    ensures ends { PrepareEnds result group.now (disk_seen P.seen disk.new) }
+    ensures fronts { Fronts 2 (disk_seen P.seen disk.old) (disk_seen P.seen disk.new) }
+    ensures just { result ≡ Prepared.Done → WritesJust 2 (disk_seen P.seen disk.old) (disk_seen P.seen disk.new) }
 {
     put_zeros(512, 0, sector);
     match disk.piece.write(1, sector) {
@@ -90,10 +90,10 @@ fn put_header<P: Piece>(disk: &mut Disk<P>, group: &Name, sector: &mut [u8]) -> 
     requires blank { IsBlank (P.seen disk.old.piece).told }
     requires size { length sector.old ≡ 512 }
     ensures size { length sector.new ≡ 512 }
-    ensures prepares { Prepares group.now (held P.seen disk.old) (held P.seen disk.new) }
-    ensures ends { PrepareEnds result group.now (held P.seen disk.new) }
-    ensures fronts { Fronts 1 (held P.seen disk.old) (held P.seen disk.new) }
-    ensures just { result ≡ Prepared.Done → WritesJust 1 (held P.seen disk.old) (held P.seen disk.new) }
+    ensures prepares { Prepares group.now (disk_seen P.seen disk.old) (disk_seen P.seen disk.new) }
+    ensures ends { PrepareEnds result group.now (disk_seen P.seen disk.new) }
+    ensures fronts { Fronts 1 (disk_seen P.seen disk.old) (disk_seen P.seen disk.new) }
+    ensures just { result ≡ Prepared.Done → WritesJust 1 (disk_seen P.seen disk.old) (disk_seen P.seen disk.new) }
 {
     let header = Header {
         group: *group,

@@ -7,7 +7,7 @@ use Rattle.vx_mask.specs.Mask.{has}
 use Rattle.vx_piece.specs.Seen.{Seen}
 use Rattle.vx_copies.specs.Lists.{Each, AllOf, AnyOf}
 use Rattle.vx_copies.specs.Image.{Offer, offer_told, names_group}
-use Rattle.vx_copies.specs.Disks.{Held, Drops, Stays, StaysTold, Stamps, OffersJust, IsMember, good_count}
+use Rattle.vx_copies.specs.Disks.{DiskSeen, Drops, Stays, StaysTold, Stamps, OffersJust, IsMember, good_count}
 use Rattle.vx_copies.specs.Pass.{NowOffers, FirstTurned, KeepsOffer, TurnsFirst}
 use Rattle.vx_copies.proofs.InGroup.{in_same, in_just, in_member}
 use Rattle.vx_copies.proofs.Turning.{good_behind}
@@ -140,7 +140,7 @@ module _ (old : List Copy) (last sequence mask : ℕ) (text : List ℕ) (later :
     not_low o low (d ∷ ds) (inr any) top = not_low o low ds any top.1
     not_low o low (d ∷ ds) (inl new) top = let le : sequence ≤ o.sequence = if_offer (λ p. p.sequence ≤ o.sequence) d (record { sequence = sequence; good = mask; text = text }) new.offer top.0 in omega (arith, le, low, later)
 
-    newest_one : (bs : List Held) → AllOf (λ h. IsTrue h.good → has mask h.slot ≡ true) bs → (c d : Copy) → Turned c d → IfOffer (λ o. o.sequence ≤ last) c → IfOffer (λ o. AllUpTo o.sequence new → NamesGood o bs) d
+    newest_one : (bs : List DiskSeen) → AllOf (λ h. IsTrue h.good → has mask h.slot ≡ true) bs → (c d : Copy) → Turned c d → IfOffer (λ o. o.sequence ≤ last) c → IfOffer (λ o. AllUpTo o.sequence new → NamesGood o bs) d
     newest_one bs names c d (slot, inr is) low = subst (λ x. MatchOption x (Unit {0}) (λ o. AllUpTo o.sequence new → NamesGood o bs)) (sym is) (λ top. names)
     newest_one bs names c d (slot, inl same) low = subst (λ x. MatchOption x (Unit {0}) (λ o. AllUpTo o.sequence new → NamesGood o bs)) (sym same) (by c.offer low)
       where
@@ -148,7 +148,7 @@ module _ (old : List Copy) (last sequence mask : ℕ) (text : List ℕ) (later :
         by None low = tt
         by (Some o) low = λ top. absurd (not_low o low new any top)
 
-    pub newest_after : (bs : List Held) → AllOf (λ h. IsTrue h.good → has mask h.slot ≡ true) bs → (cs ds : List Copy) → Each Turned cs ds → AllUpTo last cs → AllOf (IfOffer (λ o. AllUpTo o.sequence new → NamesGood o bs)) ds
+    pub newest_after : (bs : List DiskSeen) → AllOf (λ h. IsTrue h.good → has mask h.slot ≡ true) bs → (cs ds : List Copy) → Each Turned cs ds → AllUpTo last cs → AllOf (IfOffer (λ o. AllUpTo o.sequence new → NamesGood o bs)) ds
     newest_after bs names [] [] is low = tt
     newest_after bs names [] (d ∷ ds) is low = absurd is
     newest_after bs names (c ∷ cs) [] is low = absurd is
@@ -171,36 +171,36 @@ told_kept group None (Some b) is = absurd is
 told_kept group (Some a) None is = absurd is
 told_kept group (Some a) (Some b) is = in_same group a b is.0 is.1.1
 
-pub copies_stay : (group : Word) (hs bs : List Held) → Each Stays hs bs → map (copy_of group) bs ≡ map (copy_of group) hs
+pub copies_stay : (group : Word) (hs bs : List DiskSeen) → Each Stays hs bs → map (copy_of group) bs ≡ map (copy_of group) hs
 copies_stay group [] [] is = refl
 copies_stay group [] (b ∷ bs) is = absurd is
 copies_stay group (a ∷ hs) [] is = absurd is
 copies_stay group (a ∷ hs) (b ∷ bs) is = ap (λ c. c ∷ map (copy_of group) bs) (same_copy (copy_of group a) (copy_of group b) is.0.slot (told_same group a.seen.told b.seen.told is.0.told)) ∙ ap (λ cs. copy_of group a ∷ cs) (copies_stay group hs bs is.1)
 
 -- a disk that is good was good, with its slot
-abbrev WasGood : Held → Held → Type 0
+abbrev WasGood : DiskSeen → DiskSeen → Type 0
 WasGood a b = (b.slot ≡ a.slot) × (IsTrue b.good → IsTrue a.good)
 
-pub still_named : (m : ℕ) (hs bs : List Held) → Each WasGood hs bs → AllOf (λ h. IsTrue h.good → has m h.slot ≡ true) hs → AllOf (λ h. IsTrue h.good → has m h.slot ≡ true) bs
+pub still_named : (m : ℕ) (hs bs : List DiskSeen) → Each WasGood hs bs → AllOf (λ h. IsTrue h.good → has m h.slot ≡ true) hs → AllOf (λ h. IsTrue h.good → has m h.slot ≡ true) bs
 still_named m [] [] is names = tt
 still_named m [] (b ∷ bs) is names = absurd is
 still_named m (a ∷ hs) [] is names = absurd is
 still_named m (a ∷ hs) (b ∷ bs) is names = (λ good. ap (has m) is.0.0 ∙ names.0 (is.0.1 good), still_named m hs bs is.1 names.1)
 
-pub stays_was : (hs bs : List Held) → Each Stays hs bs → Each WasGood hs bs
+pub stays_was : (hs bs : List DiskSeen) → Each Stays hs bs → Each WasGood hs bs
 stays_was [] [] is = tt
 stays_was [] (b ∷ bs) is = absurd is
 stays_was (a ∷ hs) [] is = absurd is
 stays_was (a ∷ hs) (b ∷ bs) is = ((is.0.slot, was_good a.good b.good a.seen b.seen is.0.good), stays_was hs bs is.1)
 
-pub stamps_was : (s m : ℕ) (text : List ℕ) (hs bs : List Held) → Each (Stamps s m text) hs bs → Each WasGood hs bs
+pub stamps_was : (s m : ℕ) (text : List ℕ) (hs bs : List DiskSeen) → Each (Stamps s m text) hs bs → Each WasGood hs bs
 stamps_was s m text [] [] is = tt
 stamps_was s m text [] (b ∷ bs) is = absurd is
 stamps_was s m text (a ∷ hs) [] is = absurd is
 stamps_was s m text (a ∷ hs) (b ∷ bs) is = ((is.0.slot, was_good a.good b.good a.seen b.seen is.0.good), stamps_was s m text hs bs is.1)
 
 -- the newest name the good disks that are left
-newest_left : (copies : List Copy) (hs bs : List Held) → Each WasGood hs bs → (cs : List Copy) → AllOf (IfOffer (λ o. AllUpTo o.sequence copies → NamesGood o hs)) cs → AllOf (IfOffer (λ o. AllUpTo o.sequence copies → NamesGood o bs)) cs
+newest_left : (copies : List Copy) (hs bs : List DiskSeen) → Each WasGood hs bs → (cs : List Copy) → AllOf (IfOffer (λ o. AllUpTo o.sequence copies → NamesGood o hs)) cs → AllOf (IfOffer (λ o. AllUpTo o.sequence copies → NamesGood o bs)) cs
 newest_left copies hs bs was cs all = all_map _ _ (λ c. by c.offer) cs all
   where
     by : (x : Option Offer) → MatchOption x (Unit {0}) (λ o. AllUpTo o.sequence copies → NamesGood o hs) → MatchOption x (Unit {0}) (λ o. AllUpTo o.sequence copies → NamesGood o bs)
@@ -233,7 +233,7 @@ member_stays group None (Some u) stays is = absurd stays
 member_stays group (Some t) None stays is = absurd stays
 member_stays group (Some t) (Some u) stays is = ap (λ s. names_group group (header_of s)) stays ∙ is
 
-members_stay : (group : Word) (hs bs : List Held) → Each WasGood hs bs → Each (λ a b. HeaderStays a.seen.told b.seen.told) hs bs → AllOf (IsGoodMember group) hs → AllOf (IsGoodMember group) bs
+members_stay : (group : Word) (hs bs : List DiskSeen) → Each WasGood hs bs → Each (λ a b. HeaderStays a.seen.told b.seen.told) hs bs → AllOf (IsGoodMember group) hs → AllOf (IsGoodMember group) bs
 members_stay group [] [] was stays all = tt
 members_stay group [] (b ∷ bs) was stays all = absurd was
 members_stay group (a ∷ hs) [] was stays all = absurd was
@@ -251,13 +251,13 @@ just_header s m text g None (Some u) is = absurd is
 just_header s m text g (Some t) None is = absurd is
 just_header s m text g (Some t) (Some u) is = is.0
 
-stays_headers : (hs bs : List Held) → Each Stays hs bs → Each (λ a b. HeaderStays a.seen.told b.seen.told) hs bs
+stays_headers : (hs bs : List DiskSeen) → Each Stays hs bs → Each (λ a b. HeaderStays a.seen.told b.seen.told) hs bs
 stays_headers [] [] is = tt
 stays_headers [] (b ∷ bs) is = absurd is
 stays_headers (a ∷ hs) [] is = absurd is
 stays_headers (a ∷ hs) (b ∷ bs) is = (told_header a.seen.told b.seen.told is.0.told, stays_headers hs bs is.1)
 
-stamps_headers : (s m : ℕ) (text : List ℕ) (hs bs : List Held) → Each (Stamps s m text) hs bs → Each (λ a b. HeaderStays a.seen.told b.seen.told) hs bs
+stamps_headers : (s m : ℕ) (text : List ℕ) (hs bs : List DiskSeen) → Each (Stamps s m text) hs bs → Each (λ a b. HeaderStays a.seen.told b.seen.told) hs bs
 stamps_headers s m text [] [] is = tt
 stamps_headers s m text [] (b ∷ bs) is = absurd is
 stamps_headers s m text (a ∷ hs) [] is = absurd is
@@ -268,7 +268,7 @@ pub now_in : (group : Word) (sequence mask : ℕ) (text : List ℕ) (t : Option 
 now_in group sequence mask text None member now = absurd now
 now_in group sequence mask text (Some c) member now = in_member group c member ∙ now
 
-pub sound_stays : (group : Word) (missing : ℕ) (others : List Copy) (last n : ℕ) (hs bs : List Held) → Each Stays hs bs → IsSound group missing others last n hs → IsSound group missing others last n bs
+pub sound_stays : (group : Word) (missing : ℕ) (others : List Copy) (last n : ℕ) (hs bs : List DiskSeen) → Each Stays hs bs → IsSound group missing others last n hs → IsSound group missing others last n bs
 sound_stays group missing others last n hs bs stays sound =
     let same : others ++ map (copy_of group) hs ≡ others ++ map (copy_of group) bs = ap (λ cs. others ++ cs) (sym (copies_stay group hs bs stays)) in
     record {
@@ -279,7 +279,7 @@ sound_stays group missing others last n hs bs stays sound =
       up_to = subst (AllUpTo last) same sound.up_to;
     }
 
-pub sound_later : (group : Word) (missing : ℕ) (others : List Copy) (last later n : ℕ) (hs : List Held) → last ≤ later → IsSound group missing others last n hs → IsSound group missing others later n hs
+pub sound_later : (group : Word) (missing : ℕ) (others : List Copy) (last later n : ℕ) (hs : List DiskSeen) → last ≤ later → IsSound group missing others last n hs → IsSound group missing others later n hs
 sound_later group missing others last later n hs le sound = record { members = sound.members; chained = sound.chained; agree = sound.agree; newest = sound.newest; up_to = all_map _ _ (λ c. by c.offer) _ sound.up_to }
   where
     by : (x : Option Offer) → MatchOption x (Unit {0}) (λ o. o.sequence ≤ last) → MatchOption x (Unit {0}) (λ o. o.sequence ≤ later)
@@ -287,7 +287,7 @@ sound_later group missing others last later n hs le sound = record { members = s
     by (Some o) is = let r : o.sequence ≤ later = omega (arith, is, le) in r
 
 module _ (group : Word) (missing : ℕ) (others : List Copy) (last sequence mask : ℕ) (text : List ℕ) (later : last < sequence) where
-  turn_one : (copies : List Copy) (a b : Held) → Stamps sequence mask text a b → Turned copies last sequence mask text later (copy_of group a) (copy_of group b)
+  turn_one : (copies : List Copy) (a b : DiskSeen) → Stamps sequence mask text a b → Turned copies last sequence mask text later (copy_of group a) (copy_of group b)
   turn_one copies a b is = (is.slot, by a.seen.told b.seen.told is.offers)
     where
       by : (t u : Option Contents) → OffersJust sequence mask text a.good t u → (offer_told group u ≡ offer_told group t) ⊎ (offer_told group u ≡ Some (record { sequence = sequence; good = mask; text = text }))
@@ -297,13 +297,13 @@ module _ (group : Word) (missing : ℕ) (others : List Copy) (last sequence mask
       by (Some t) (Some u) (header, inl same, rest) = inl (in_same group t u header same.1)
       by (Some t) (Some u) (header, inr just, rest) = in_just group t u (record { sequence = sequence; good = mask; text = text }) header just.1
 
-  turn_members : (copies : List Copy) (hs bs : List Held) → Each (Stamps sequence mask text) hs bs → Each (Turned copies last sequence mask text later) (map (copy_of group) hs) (map (copy_of group) bs)
+  turn_members : (copies : List Copy) (hs bs : List DiskSeen) → Each (Stamps sequence mask text) hs bs → Each (Turned copies last sequence mask text later) (map (copy_of group) hs) (map (copy_of group) bs)
   turn_members copies [] [] is = tt
   turn_members copies [] (b ∷ bs) is = absurd is
   turn_members copies (a ∷ hs) [] is = absurd is
   turn_members copies (a ∷ hs) (b ∷ bs) is = (turn_one copies a b is.0, turn_members copies hs bs is.1)
 
-  turn_all : (copies os : List Copy) (hs bs : List Held) → Each (Stamps sequence mask text) hs bs → Each (Turned copies last sequence mask text later) (os ++ map (copy_of group) hs) (os ++ map (copy_of group) bs)
+  turn_all : (copies os : List Copy) (hs bs : List DiskSeen) → Each (Stamps sequence mask text) hs bs → Each (Turned copies last sequence mask text later) (os ++ map (copy_of group) hs) (os ++ map (copy_of group) bs)
   turn_all copies [] hs bs is = turn_members copies hs bs is
   turn_all copies (o ∷ os) hs bs is = ((refl, inl refl), turn_all copies os hs bs is)
 
@@ -315,7 +315,7 @@ module _ (group : Word) (missing : ℕ) (others : List Copy) (last sequence mask
       by None is = tt
       by (Some o) is = λ top. f o (is top)
 
-  witness : (copies : List Copy) (n : ℕ) (hs bs : List Held) → Each (Stamps sequence mask text) hs bs → FirstTurned sequence mask text hs bs → 0 < good_count (take n hs) → AllOf (IsGoodMember group) hs
+  witness : (copies : List Copy) (n : ℕ) (hs bs : List DiskSeen) → Each (Stamps sequence mask text) hs bs → FirstTurned sequence mask text hs bs → 0 < good_count (take n hs) → AllOf (IsGoodMember group) hs
       → AllOf (IfOffer (λ o. AllUpTo o.sequence copies → NamesGood o (take n hs))) copies → AnyOf (IsTurned copies last sequence mask text later) (map (copy_of group) bs)
   witness copies n [] bs stamps first some members newest = absurd first
   witness copies n (a ∷ hs) [] stamps first some members newest = absurd first
@@ -329,7 +329,7 @@ module _ (group : Word) (missing : ℕ) (others : List Copy) (last sequence mask
   witness copies (suc n) (a ∷ hs) (b ∷ bs) stamps (inr is) some members newest =
       inr (witness copies n hs bs stamps.1 is.1 (good_behind a.good (good_count (take n hs)) is.0 some) members.1 (if_any (λ o. NamesGood o (a ∷ take n hs)) (λ o. NamesGood o (take n hs)) copies copies (λ o names. names.1) newest))
 
-  same_offers : (hs bs : List Held) → Each (Stamps sequence mask text) hs bs → Each (λ a b. KeepsOffer a.seen.told b.seen.told) hs bs → map (copy_of group) bs ≡ map (copy_of group) hs
+  same_offers : (hs bs : List DiskSeen) → Each (Stamps sequence mask text) hs bs → Each (λ a b. KeepsOffer a.seen.told b.seen.told) hs bs → map (copy_of group) bs ≡ map (copy_of group) hs
   same_offers [] [] stamps is = refl
   same_offers [] (b ∷ bs) stamps is = absurd stamps
   same_offers (a ∷ hs) [] stamps is = absurd stamps
@@ -339,7 +339,7 @@ module _ (group : Word) (missing : ℕ) (others : List Copy) (last sequence mask
   any_behind Q [] cs any = any
   any_behind Q (o ∷ os) cs any = inr (any_behind Q os cs any)
 
-  module _ (n : ℕ) (hs bs : List Held) (stamps : Each (Stamps sequence mask text) hs bs) (names : AllOf (λ h. IsTrue h.good → has mask h.slot ≡ true) hs) (sound : IsSound group missing others last n hs) where
+  module _ (n : ℕ) (hs bs : List DiskSeen) (stamps : Each (Stamps sequence mask text) hs bs) (names : AllOf (λ h. IsTrue h.good → has mask h.slot ≡ true) hs) (sound : IsSound group missing others last n hs) where
     old : List Copy
     old = others ++ map (copy_of group) hs
 

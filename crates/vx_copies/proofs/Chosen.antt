@@ -6,7 +6,7 @@ use Rattle.vx_base.specs.Blocks.{Contents}
 use Rattle.vx_copies.specs.Image.{Offer, offer_told, higher}
 use Rattle.vx_base.specs.Named.{Word}
 use Rattle.vx_copies.specs.Lists.{Each, AllOf}
-use Rattle.vx_copies.specs.Disks.{Held, Goes, Offers, IsNew, IsBelow}
+use Rattle.vx_copies.specs.Disks.{DiskSeen, CommitGoes, Offers, IsNew, IsBelow}
 use Rattle.vx_copies.proofs.InGroup.{in_goes}
 use Rattle.vx_copies.specs.Config.{configuration, GivesOldOrNew}
 
@@ -57,11 +57,11 @@ module _ (group : Word) (old last : ℕ) (text : List ℕ) where
   mask_under true a is = is
   mask_under false a is = tt
 
-  pub under_all : (readable : ℕ → Bool) (hs : List Held) → AllOf (IsBelow group old) hs → MatchOption (configuration group readable hs) (Unit {0}) (λ x. x.sequence ≤ old)
+  pub under_all : (readable : ℕ → Bool) (hs : List DiskSeen) → AllOf (IsBelow group old) hs → MatchOption (configuration group readable hs) (Unit {0}) (λ x. x.sequence ≤ old)
   under_all readable [] is = tt
   under_all readable (a ∷ hs) is = higher_under old _ _ (mask_under (readable a.slot) (offer_told group a.seen.told) is.0) (under_all readable hs is.1)
 
-  pub gives : (hs bs : List Held) → AllOf (IsBelow group old) hs → Each (Goes (old + 1) last text) hs bs → GivesOldOrNew group (old + 1) last text hs bs
+  pub gives : (hs bs : List DiskSeen) → AllOf (IsBelow group old) hs → Each (CommitGoes (old + 1) last text) hs bs → GivesOldOrNew group (old + 1) last text hs bs
   gives [] [] below goes readable = inl refl
   gives [] (b ∷ bs) below goes readable = absurd goes
   gives (a ∷ hs) [] below goes readable = absurd goes
@@ -78,7 +78,7 @@ module _ (group : Word) (old last : ℕ) (text : List ℕ) where
       let u : b.sequence ≤ old = subst (λ o. MatchOption o (Unit {0}) (λ z. z.sequence ≤ old)) (sym e) under in omega (arith, u)
   below_one a (Some b) under (inr new) le = new.1
 
-  pub below_all : (hs bs : List Held) → old ≤ last → AllOf (IsBelow group old) hs → Each (Goes (old + 1) last text) hs bs → AllOf (IsBelow group last) bs
+  pub below_all : (hs bs : List DiskSeen) → old ≤ last → AllOf (IsBelow group old) hs → Each (CommitGoes (old + 1) last text) hs bs → AllOf (IsBelow group last) bs
   below_all [] [] le below goes = tt
   below_all [] (b ∷ bs) le below goes = absurd goes
   below_all (a ∷ hs) [] le below goes = absurd goes

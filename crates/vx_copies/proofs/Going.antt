@@ -7,7 +7,7 @@ use Rattle.vx_piece.specs.Seen.{Seen, Keeps}
 use Rattle.vx_copies.specs.Lists.{Each, AllOf}
 use Rattle.vx_header.specs.Said.{Said, toggle_of}
 use Rattle.vx_copies.specs.Image.{Offer, half_start, toggle_at, offer_of}
-use Rattle.vx_copies.specs.Disks.{Held, Goes, Stays, Stamps, Drops, Offers, OffersJust, StaysTold, IsNew, KeepsNamed, SameOffer, RestStays}
+use Rattle.vx_copies.specs.Disks.{DiskSeen, CommitGoes, Stays, Stamps, Drops, Offers, OffersJust, StaysTold, IsNew, KeepsNamed, SameOffer, RestStays}
 use Rattle.vx_copies.specs.Commit.{HasRisen}
 
 pub keeps_trans : (a b c : Seen) → Keeps a b → Keeps b c → Keeps a c
@@ -107,7 +107,7 @@ stays_offers f l text None (Some b) is = absurd is
 stays_offers f l text (Some a) None is = absurd is
 stays_offers f l text (Some a) (Some b) is = (is.0, inl is.1, is.2)
 
-pub goes_trans : (f l : ℕ) (text : List ℕ) (a b c : Held) → Goes f l text a b → Goes f l text b c → Goes f l text a c
+pub goes_trans : (f l : ℕ) (text : List ℕ) (a b c : DiskSeen) → CommitGoes f l text a b → CommitGoes f l text b c → CommitGoes f l text a c
 goes_trans f l text a b c p q = record {
   slot = q.slot ∙ p.slot;
   name = q.name ∙ p.name;
@@ -119,13 +119,13 @@ goes_trans f l text a b c p q = record {
   idle = idle_trans a.good b.good a.seen b.seen c.seen p.good p.idle q.idle;
 }
 
-pub goes_wider : (f f' l l' : ℕ) (text : List ℕ) (a b : Held) → f' ≤ f → l ≤ l' → Goes f l text a b → Goes f' l' text a b
+pub goes_wider : (f f' l l' : ℕ) (text : List ℕ) (a b : DiskSeen) → f' ≤ f → l ≤ l' → CommitGoes f l text a b → CommitGoes f' l' text a b
 goes_wider f f' l l' text a b p q is = record { slot = is.slot; name = is.name; device = is.device; size = is.size; kept = is.kept; good = is.good; offers = offers_wider f f' l l' text _ _ p q is.offers; idle = is.idle }
 
-pub stays_goes : (f l : ℕ) (text : List ℕ) (a b : Held) → Stays a b → Goes f l text a b
+pub stays_goes : (f l : ℕ) (text : List ℕ) (a b : DiskSeen) → Stays a b → CommitGoes f l text a b
 stays_goes f l text a b is = record { slot = is.slot; name = is.name; device = is.device; size = is.size; kept = is.kept; good = is.good; offers = stays_offers f l text _ _ is.told; idle = is.idle }
 
-goes_refl : (f l : ℕ) (text : List ℕ) (a : Held) → Goes f l text a a
+goes_refl : (f l : ℕ) (text : List ℕ) (a : DiskSeen) → CommitGoes f l text a a
 goes_refl f l text a = record { slot = refl; name = refl; device = refl; size = refl; kept = keeps_refl a.seen; good = drops_refl a.good a.seen; offers = offers_refl f l text a.seen.told; idle = λ e. refl }
 
 -- a disk that stays
@@ -141,7 +141,7 @@ told_refl : (a : Option Contents) → StaysTold a a
 told_refl None = tt
 told_refl (Some a) = (refl, same_offer_refl a, rest_refl a)
 
-pub stays_trans : (a b c : Held) → Stays a b → Stays b c → Stays a c
+pub stays_trans : (a b c : DiskSeen) → Stays a b → Stays b c → Stays a c
 stays_trans a b c p q = record {
   slot = q.slot ∙ p.slot;
   name = q.name ∙ p.name;
@@ -154,7 +154,7 @@ stays_trans a b c p q = record {
   idle = idle_trans a.good b.good a.seen b.seen c.seen p.good p.idle q.idle;
 }
 
-pub stays_refl : (a : Held) → Stays a a
+pub stays_refl : (a : DiskSeen) → Stays a a
 stays_refl a = record { slot = refl; name = refl; device = refl; size = refl; half = refl; kept = keeps_refl a.seen; good = drops_refl a.good a.seen; told = told_refl a.seen.told; idle = λ e. refl }
 
 -- a disk that may get a toggle
@@ -191,7 +191,7 @@ pub if_good : (s m : ℕ) (text : List ℕ) (x : Bool) (a b : Option Contents) �
 if_good s m text true a b is just = just
 if_good s m text false a b is just = cc
 
-pub stamps_trans : (s m : ℕ) (text : List ℕ) (a b c : Held) → Stamps s m text a b → Stamps s m text b c → Stamps s m text a c
+pub stamps_trans : (s m : ℕ) (text : List ℕ) (a b c : DiskSeen) → Stamps s m text a b → Stamps s m text b c → Stamps s m text a c
 stamps_trans s m text a b c p q = record {
   slot = q.slot ∙ p.slot;
   name = q.name ∙ p.name;
@@ -203,17 +203,17 @@ stamps_trans s m text a b c p q = record {
   idle = idle_trans a.good b.good a.seen b.seen c.seen p.good p.idle q.idle;
 }
 
-pub stamps_refl : (s m : ℕ) (text : List ℕ) (a : Held) → Stamps s m text a a
+pub stamps_refl : (s m : ℕ) (text : List ℕ) (a : DiskSeen) → Stamps s m text a a
 stamps_refl s m text a = record { slot = refl; name = refl; device = refl; size = refl; kept = keeps_refl a.seen; good = drops_refl a.good a.seen; offers = just_refl s m text a.good a.seen.told; idle = λ e. refl }
 
-pub stamps_goes : (s m : ℕ) (text : List ℕ) (a b : Held) → Stamps s m text a b → Goes s s text a b
+pub stamps_goes : (s m : ℕ) (text : List ℕ) (a b : DiskSeen) → Stamps s m text a b → CommitGoes s s text a b
 stamps_goes s m text a b is = record { slot = is.slot; name = is.name; device = is.device; size = is.size; kept = is.kept; good = is.good; offers = just_offers s m text a.good _ _ is.offers; idle = is.idle }
 
 -- a disk that stays good, or not good
-pub same_refl : (a : Held) → a.good ≡ a.good
+pub same_refl : (a : DiskSeen) → a.good ≡ a.good
 same_refl a = refl
 
-pub same_trans : (a b c : Held) → b.good ≡ a.good → c.good ≡ b.good → c.good ≡ a.good
+pub same_trans : (a b c : DiskSeen) → b.good ≡ a.good → c.good ≡ b.good → c.good ≡ a.good
 same_trans a b c p q = q ∙ p
 
 -- what holds disk by disk holds of all
@@ -251,14 +251,14 @@ each_map R S one [] (b ∷ bs) is = absurd is
 each_map R S one (a ∷ hs) [] is = absurd is
 each_map R S one (a ∷ hs) (b ∷ bs) is = (one a b is.0, each_map R S one hs bs is.1)
 
-pub all_trans : (f l : ℕ) (text : List ℕ) (hs bs cs : List Held) → Each (Goes f l text) hs bs → Each (Goes f l text) bs cs → Each (Goes f l text) hs cs
-all_trans f l text hs bs cs p q = each_trans (Goes f l text) (goes_trans f l text) hs bs cs p q
+pub all_trans : (f l : ℕ) (text : List ℕ) (hs bs cs : List DiskSeen) → Each (CommitGoes f l text) hs bs → Each (CommitGoes f l text) bs cs → Each (CommitGoes f l text) hs cs
+all_trans f l text hs bs cs p q = each_trans (CommitGoes f l text) (goes_trans f l text) hs bs cs p q
 
-pub all_wider : (f f' l l' : ℕ) (text : List ℕ) (hs bs : List Held) → f' ≤ f → l ≤ l' → Each (Goes f l text) hs bs → Each (Goes f' l' text) hs bs
-all_wider f f' l l' text hs bs p q is = each_map (Goes f l text) (Goes f' l' text) (λ a b. goes_wider f f' l l' text a b p q) hs bs is
+pub all_wider : (f f' l l' : ℕ) (text : List ℕ) (hs bs : List DiskSeen) → f' ≤ f → l ≤ l' → Each (CommitGoes f l text) hs bs → Each (CommitGoes f' l' text) hs bs
+all_wider f f' l l' text hs bs p q is = each_map (CommitGoes f l text) (CommitGoes f' l' text) (λ a b. goes_wider f f' l l' text a b p q) hs bs is
 
-pub all_refl : (f l : ℕ) (text : List ℕ) (hs : List Held) → Each (Goes f l text) hs hs
-all_refl f l text hs = each_refl (Goes f l text) (goes_refl f l text) hs
+pub all_refl : (f l : ℕ) (text : List ℕ) (hs : List DiskSeen) → Each (CommitGoes f l text) hs hs
+all_refl f l text hs = each_refl (CommitGoes f l text) (goes_refl f l text) hs
 
 -- where no disk is good any more, the count of each that was has risen
 risen_one : (x y : Bool) (a b : Seen) → Drops x y a b → y ≡ false → IsTrue x → Rose a.faults b.faults
@@ -274,18 +274,18 @@ each_first R (suc n) [] (b ∷ bs) is = absurd is
 each_first R (suc n) (a ∷ hs) [] is = absurd is
 each_first R (suc n) (a ∷ hs) (b ∷ bs) is = (is.0, each_first R n hs bs is.1)
 
-pub all_risen : (f l : ℕ) (text : List ℕ) (hs bs : List Held) → Each (Goes f l text) hs bs → AllOf (λ h. h.good ≡ false) bs → Each HasRisen hs bs
+pub all_risen : (f l : ℕ) (text : List ℕ) (hs bs : List DiskSeen) → Each (CommitGoes f l text) hs bs → AllOf (λ h. h.good ≡ false) bs → Each HasRisen hs bs
 all_risen f l text [] [] is none = tt
 all_risen f l text [] (b ∷ bs) is none = absurd is
 all_risen f l text (a ∷ hs) [] is none = absurd is
 all_risen f l text (a ∷ hs) (b ∷ bs) is none = (risen_one a.good b.good a.seen b.seen is.0.good none.0, all_risen f l text hs bs is.1 none.1)
 
 -- a disk's slot stays
-pub slots_stay : (f l : ℕ) (text : List ℕ) (hs bs : List Held) → Each (Goes f l text) hs bs → Each (λ a b. b.slot ≡ a.slot) hs bs
-slots_stay f l text hs bs is = each_map (Goes f l text) (λ a b. b.slot ≡ a.slot) (λ a b goes. goes.slot) hs bs is
+pub slots_stay : (f l : ℕ) (text : List ℕ) (hs bs : List DiskSeen) → Each (CommitGoes f l text) hs bs → Each (λ a b. b.slot ≡ a.slot) hs bs
+slots_stay f l text hs bs is = each_map (CommitGoes f l text) (λ a b. b.slot ≡ a.slot) (λ a b goes. goes.slot) hs bs is
 
-pub stays_all : (f l : ℕ) (text : List ℕ) (hs bs : List Held) → Each Stays hs bs → Each (Goes f l text) hs bs
-stays_all f l text hs bs is = each_map Stays (Goes f l text) (stays_goes f l text) hs bs is
+pub stays_all : (f l : ℕ) (text : List ℕ) (hs bs : List DiskSeen) → Each Stays hs bs → Each (CommitGoes f l text) hs bs
+stays_all f l text hs bs is = each_map Stays (CommitGoes f l text) (stays_goes f l text) hs bs is
 
-pub stamps_all : (s m : ℕ) (text : List ℕ) (hs bs : List Held) → Each (Stamps s m text) hs bs → Each (Goes s s text) hs bs
-stamps_all s m text hs bs is = each_map (Stamps s m text) (Goes s s text) (stamps_goes s m text) hs bs is
+pub stamps_all : (s m : ℕ) (text : List ℕ) (hs bs : List DiskSeen) → Each (Stamps s m text) hs bs → Each (CommitGoes s s text) hs bs
+stamps_all s m text hs bs is = each_map (Stamps s m text) (CommitGoes s s text) (stamps_goes s m text) hs bs is

@@ -9,7 +9,7 @@ use Rattle.vx_header.specs.Said.{Said, toggle_of}
 use Rattle.vx_header.specs.Sectors.{toggle_sector}
 use Rattle.vx_header.proofs.Saying.{said_spells, said_back}
 use Rattle.vx_copies.specs.Image.{blocks_from, sectors_for, filled, half_start, text_in, toggle_at, offer_by, offer_of}
-use Rattle.vx_copies.specs.Disks.{Held, NamesHalf, HasText, StaysTold, OffersJust, KeepsNamed, SameOffer}
+use Rattle.vx_copies.specs.Disks.{DiskSeen, NamesHalf, HasText, StaysTold, OffersJust, KeepsNamed, SameOffer}
 use Rattle.vx_copies.specs.Pass.{IsPadded}
 use Rattle.vx_copies.specs.Written.{BothTell, Holds, HalfStays, OldOrText}
 use Rattle.vx_copies.specs.Steps.{HalfLeaves, ToggleLeaves, Says}
@@ -252,7 +252,7 @@ module _ (half sequence mask : ℕ) (text sector : List ℕ) (is_half : half < 2
   unfolding toggle_at
   toggle_new c d new = ap toggle_of (new ∙ there c) ∙ is
 
-  module _ (old new : Held) (names : old.half ≡ half) (was : IsTrue old.good) where
+  module _ (old new : DiskSeen) (names : old.half ≡ half) (was : IsTrue old.good) where
     leaves : (c d : Contents) → IsTorn 1 sector c d → ((d 1 ≡ c 1) → IsTrue new.good → new.half ≡ old.half) → ToggleLeaves sequence mask text old new c d
     leaves c d torn same = record {
       toggle = elim (torn 1) [ inl e ↦ inl (e, same e) | inr e ↦ inr (was, subst (λ h. Says sequence mask text (1 - h) d) (sym names) (toggle_new c d e)) ];

@@ -10,7 +10,7 @@ use Rattle.vx_piece.specs.Seen.{Seen}
 use Rattle.vx_mask.specs.Mask.{has, only, union}
 use Rattle.vx_mask.proofs.MaskLemmas.{has-union, has-only_same, has-only_other, has-zero}
 use Rattle.vx_copies.specs.Lists.{AllOf}
-use Rattle.vx_copies.specs.Disks.{Held, held, HasSlot, IsReady, is_good_slot, good_mask}
+use Rattle.vx_copies.specs.Disks.{DiskSeen, disk_seen, HasSlot, IsReady, is_good_slot, good_mask}
 use Rattle.vx_copies.specs.declared.disk.Disk.{Disk}
 
 only_is : (slot : ℕ) → slot < 32 → 1 * 2 ^ slot % 4294967296 ≡ only slot
@@ -36,72 +36,72 @@ unfolding union
 with_slot_just m n slot lt same = ap (λ x. bit_or m x) (only_is slot lt) ∙ ap (λ k. bit_or k (only slot)) same
 
 module _ {P : Type 0} (see : P → Seen) where
-  pub mask_none : (xs : List (Disk P)) → length xs < 1 → 0 ≡ good_mask (map (held see) xs)
+  pub mask_none : (xs : List (Disk P)) → length xs < 1 → 0 ≡ good_mask (map (disk_seen see) xs)
   mask_none [] lt = refl
   mask_none (x ∷ xs) lt = absurd (omega (arith, lt))
 
   module _ (m : ℕ) where
-    mask_behind : (x : Disk P) (xs : List (Disk P)) → m ≡ good_mask (map (held see) (take (length (x ∷ xs) - 1) (drop 1 (x ∷ xs)))) → m ≡ good_mask (map (held see) xs)
-    mask_behind x xs rest = rest ∙ ap (λ ys. good_mask (map (held see) ys)) (take_all (length (x ∷ xs) - 1) xs (omega arith))
+    mask_behind : (x : Disk P) (xs : List (Disk P)) → m ≡ good_mask (map (disk_seen see) (take (length (x ∷ xs) - 1) (drop 1 (x ∷ xs)))) → m ≡ good_mask (map (disk_seen see) xs)
+    mask_behind x xs rest = rest ∙ ap (λ ys. good_mask (map (disk_seen see) ys)) (take_all (length (x ∷ xs) - 1) xs (omega arith))
 
-    pub mask_more : (xs : List (Disk P)) (d : Disk P) → 1 ≤ length xs → d ≡ get_or xs 0 d → AllOf HasSlot (map (held see) xs)
-        → m ≡ good_mask (map (held see) (take (length xs - 1) (drop 1 xs))) → d.good ≡ true → bit_or m (1 * 2 ^ d.slot % 4294967296) ≡ good_mask (map (held see) xs)
+    pub mask_more : (xs : List (Disk P)) (d : Disk P) → 1 ≤ length xs → d ≡ get_or xs 0 d → AllOf HasSlot (map (disk_seen see) xs)
+        → m ≡ good_mask (map (disk_seen see) (take (length xs - 1) (drop 1 xs))) → d.good ≡ true → bit_or m (1 * 2 ^ d.slot % 4294967296) ≡ good_mask (map (disk_seen see) xs)
     mask_more [] d some is slots rest good = absurd (omega (arith, some))
     mask_more (x ∷ xs) d some is slots rest good =
         let number : d.slot ≡ x.slot = ap (λ (e : Disk P). e.slot) is in
         let is_good : x.good ≡ true = sym (ap (λ (e : Disk P). e.good) is) ∙ good in
-        ap (λ n. bit_or m (1 * 2 ^ n % 4294967296)) number ∙ with_slot_just m (good_mask (map (held see) xs)) x.slot slots.0 (mask_behind x xs rest)
-        ∙ ap (λ b. cond b (union (good_mask (map (held see) xs)) (only x.slot)) (good_mask (map (held see) xs))) (sym is_good)
+        ap (λ n. bit_or m (1 * 2 ^ n % 4294967296)) number ∙ with_slot_just m (good_mask (map (disk_seen see) xs)) x.slot slots.0 (mask_behind x xs rest)
+        ∙ ap (λ b. cond b (union (good_mask (map (disk_seen see) xs)) (only x.slot)) (good_mask (map (disk_seen see) xs))) (sym is_good)
 
     pub mask_same : (xs : List (Disk P)) (d : Disk P) → 1 ≤ length xs → d ≡ get_or xs 0 d
-        → m ≡ good_mask (map (held see) (take (length xs - 1) (drop 1 xs))) → d.good ≡ false → m ≡ good_mask (map (held see) xs)
+        → m ≡ good_mask (map (disk_seen see) (take (length xs - 1) (drop 1 xs))) → d.good ≡ false → m ≡ good_mask (map (disk_seen see) xs)
     mask_same [] d some is rest good = absurd (omega (arith, some))
     mask_same (x ∷ xs) d some is rest good =
         let is_bad : x.good ≡ false = sym (ap (λ (e : Disk P). e.good) is) ∙ good in
-        mask_behind x xs rest ∙ ap (λ b. cond b (union (good_mask (map (held see) xs)) (only x.slot)) (good_mask (map (held see) xs))) (sym is_bad)
+        mask_behind x xs rest ∙ ap (λ b. cond b (union (good_mask (map (disk_seen see) xs)) (only x.slot)) (good_mask (map (disk_seen see) xs))) (sym is_bad)
 
-  pub slots_none : (xs : List (Disk P)) → length xs < 1 → (slot : ℕ) → has 0 slot ≡ is_good_slot slot (map (held see) xs)
+  pub slots_none : (xs : List (Disk P)) → length xs < 1 → (slot : ℕ) → has 0 slot ≡ is_good_slot slot (map (disk_seen see) xs)
   slots_none [] lt slot = has-zero slot
   slots_none (x ∷ xs) lt slot = absurd (omega (arith, lt))
 
   module _ (m : ℕ) where
-    behind : (x : Disk P) (xs : List (Disk P)) → ((slot : ℕ) → has m slot ≡ is_good_slot slot (map (held see) (take (length (x ∷ xs) - 1) (drop 1 (x ∷ xs))))) → (slot : ℕ) → has m slot ≡ is_good_slot slot (map (held see) xs)
-    behind x xs rest slot = rest slot ∙ ap (λ ys. is_good_slot slot (map (held see) ys)) (take_all (length (x ∷ xs) - 1) xs (omega arith))
+    behind : (x : Disk P) (xs : List (Disk P)) → ((slot : ℕ) → has m slot ≡ is_good_slot slot (map (disk_seen see) (take (length (x ∷ xs) - 1) (drop 1 (x ∷ xs))))) → (slot : ℕ) → has m slot ≡ is_good_slot slot (map (disk_seen see) xs)
+    behind x xs rest slot = rest slot ∙ ap (λ ys. is_good_slot slot (map (disk_seen see) ys)) (take_all (length (x ∷ xs) - 1) xs (omega arith))
 
-    pub slots_more : (xs : List (Disk P)) (d : Disk P) → 1 ≤ length xs → d ≡ get_or xs 0 d → AllOf HasSlot (map (held see) xs)
-        → ((slot : ℕ) → has m slot ≡ is_good_slot slot (map (held see) (take (length xs - 1) (drop 1 xs))))
-        → d.good ≡ true → (slot : ℕ) → has (bit_or m (1 * 2 ^ d.slot % 4294967296)) slot ≡ is_good_slot slot (map (held see) xs)
+    pub slots_more : (xs : List (Disk P)) (d : Disk P) → 1 ≤ length xs → d ≡ get_or xs 0 d → AllOf HasSlot (map (disk_seen see) xs)
+        → ((slot : ℕ) → has m slot ≡ is_good_slot slot (map (disk_seen see) (take (length xs - 1) (drop 1 xs))))
+        → d.good ≡ true → (slot : ℕ) → has (bit_or m (1 * 2 ^ d.slot % 4294967296)) slot ≡ is_good_slot slot (map (disk_seen see) xs)
     slots_more [] d some is slots rest good slot = absurd (omega (arith, some))
     slots_more (x ∷ xs) d some is slots rest good slot =
         let number : d.slot ≡ x.slot = ap (λ (e : Disk P). e.slot) is in
         let is_good : x.good ≡ true = sym (ap (λ (e : Disk P). e.good) is) ∙ good in
         ap (λ n. has (bit_or m (1 * 2 ^ n % 4294967296)) slot) number ∙ with_slot m x.slot slot slots.0 ∙ ap (λ b. (x.slot == slot) || b) (behind x xs rest slot)
-        ∙ ap (λ b. (b && (x.slot == slot)) || is_good_slot slot (map (held see) xs)) (sym is_good)
+        ∙ ap (λ b. (b && (x.slot == slot)) || is_good_slot slot (map (disk_seen see) xs)) (sym is_good)
 
     pub slots_same : (xs : List (Disk P)) (d : Disk P) → 1 ≤ length xs → d ≡ get_or xs 0 d
-        → ((slot : ℕ) → has m slot ≡ is_good_slot slot (map (held see) (take (length xs - 1) (drop 1 xs))))
-        → d.good ≡ false → (slot : ℕ) → has m slot ≡ is_good_slot slot (map (held see) xs)
+        → ((slot : ℕ) → has m slot ≡ is_good_slot slot (map (disk_seen see) (take (length xs - 1) (drop 1 xs))))
+        → d.good ≡ false → (slot : ℕ) → has m slot ≡ is_good_slot slot (map (disk_seen see) xs)
     slots_same [] d some is rest good slot = absurd (omega (arith, some))
     slots_same (x ∷ xs) d some is rest good slot =
         let is_bad : x.good ≡ false = sym (ap (λ (e : Disk P). e.good) is) ∙ good in
-        behind x xs rest slot ∙ ap (λ b. (b && (x.slot == slot)) || is_good_slot slot (map (held see) xs)) (sym is_bad)
+        behind x xs rest slot ∙ ap (λ b. (b && (x.slot == slot)) || is_good_slot slot (map (disk_seen see) xs)) (sym is_bad)
 
 -- disks that are ready have slots of a mask
-pub ready_slots : (hs : List Held) → AllOf IsReady hs → AllOf HasSlot hs
+pub ready_slots : (hs : List DiskSeen) → AllOf IsReady hs → AllOf HasSlot hs
 ready_slots [] all = tt
 ready_slots (h ∷ hs) all = (all.0.slot, ready_slots hs all.1)
 
 -- a good disk's slot is a good slot
-pub good_named : (m : ℕ) (hs : List Held) → ((slot : ℕ) → has m slot ≡ is_good_slot slot hs) → AllOf (λ h. h.good ≡ true → has m h.slot ≡ true) hs
+pub good_named : (m : ℕ) (hs : List DiskSeen) → ((slot : ℕ) → has m slot ≡ is_good_slot slot hs) → AllOf (λ h. h.good ≡ true → has m h.slot ≡ true) hs
 good_named m hs names = each hs (λ slot there. names slot ∙ there)
   where
     or_right : (a b : Bool) → b ≡ true → (a || b) ≡ true
     or_right true b e = refl
     or_right false b e = e
 
-    here : (h : Held) (rest : Bool) → h.good ≡ true → ((h.good && (h.slot == h.slot)) || rest) ≡ true
+    here : (h : DiskSeen) (rest : Bool) → h.good ≡ true → ((h.good && (h.slot == h.slot)) || rest) ≡ true
     here h rest good = ap (λ b. (b && (h.slot == h.slot)) || rest) good ∙ ap (λ b. b || rest) (eq-eqb h.slot h.slot refl)
 
-    each : (bs : List Held) → ((slot : ℕ) → is_good_slot slot bs ≡ true → has m slot ≡ true) → AllOf (λ h. h.good ≡ true → has m h.slot ≡ true) bs
+    each : (bs : List DiskSeen) → ((slot : ℕ) → is_good_slot slot bs ≡ true → has m slot ≡ true) → AllOf (λ h. h.good ≡ true → has m h.slot ≡ true) bs
     each [] is = tt
     each (h ∷ bs) is = (λ good. is h.slot (here h (is_good_slot h.slot bs) good), each bs (λ slot there. is slot (or_right (h.good && (h.slot == slot)) (is_good_slot slot bs) there)))

@@ -6,7 +6,7 @@ use Rattle.vx_base.specs.Named.{Word}
 use Rattle.vx_mask.specs.Mask.{has}
 use Rattle.vx_copies.specs.Lists.{Each, AllOf}
 use Rattle.vx_copies.specs.Image.{Offer, offer_told}
-use Rattle.vx_copies.specs.Disks.{Held, Stays, Stamps, OffersJust, IsBelow}
+use Rattle.vx_copies.specs.Disks.{DiskSeen, Stays, Stamps, OffersJust, IsBelow}
 use Rattle.vx_copies.specs.Chain.{OffersSince, IsInOrder, AreInOrder, GoesOnBeside, IsOrdered}
 use Rattle.vx_copies.proofs.InGroup.{in_same, in_just}
 use Rattle.vx_copies.proofs.Going.{each_map, each_then, each_from}
@@ -33,40 +33,40 @@ same_some : (x : Option Offer) (o p : Offer) → x ≡ Some o → x ≡ Some p �
 same_some x o p e f = cc
 
 module _ (group : Word) (before : ℕ) where
-  pub below_none : (h : Held) → IsBelow group before h → (o : Offer) → OffersSince group before h o → ⊥
+  pub below_none : (h : DiskSeen) → IsBelow group before h → (o : Offer) → OffersSince group before h o → ⊥
   below_none h is o since =
       let le : o.sequence ≤ before = subst (λ x. MatchOption x (Unit {0}) (λ y. y.sequence ≤ before)) since.is is in
       let lt = since.newer in
       omega (arith, le, lt)
 
   -- where no offer is newer, all are in order
-  pub order_below : (last : ℕ) (hs : List Held) → AllOf (IsBelow group before) hs → IsOrdered group before last hs
+  pub order_below : (last : ℕ) (hs : List DiskSeen) → AllOf (IsBelow group before) hs → IsOrdered group before last hs
   order_below last hs below = record {
     up_to = all_one (IsBelow group before) _ (λ h is o since. absurd (below_none h is o since)) hs below;
     beside = all_one (IsBelow group before) _ (λ a is. all_one (IsBelow group before) _ (λ b _ o since. absurd (below_none a is o since)) hs below) hs below;
   }
 
-  pub in_order : (last : ℕ) (hs : List Held) → IsOrdered group before last hs → AreInOrder group before hs
+  pub in_order : (last : ℕ) (hs : List DiskSeen) → IsOrdered group before last hs → AreInOrder group before hs
   in_order last hs is = all_pair _ _ (λ a b beside o p f g. (beside o f).order p g) hs is.beside
 
-  pub none_newer : (hs : List Held) → AllOf (IsBelow group before) hs → AreInOrder group before hs
+  pub none_newer : (hs : List DiskSeen) → AllOf (IsBelow group before) hs → AreInOrder group before hs
   none_newer hs below = in_order before hs (order_below before hs below)
 
 module _ (group : Word) (sequence mask : ℕ) (text : List ℕ) where
   -- the disk offers what it did, or it was good and offers this
-  abbrev Turned : Held → Held → Type 0
+  abbrev Turned : DiskSeen → DiskSeen → Type 0
   Turned a b = (offer_told group b.seen.told ≡ offer_told group a.seen.told) ⊎ (IsTrue a.good × (offer_told group b.seen.told ≡ Some (record { sequence = sequence; good = mask; text = text })))
 
   -- what an attempt does to a disk
-  pub record Attempted (a b : Held) : Type 0 where
+  pub record Attempted (a b : DiskSeen) : Type 0 where
     pub slot : b.slot ≡ a.slot
     pub was : IsTrue b.good → IsTrue a.good
     pub turned : (offer_told group b.seen.told ≡ offer_told group a.seen.told) ⊎ (IsTrue a.good × (offer_told group b.seen.told ≡ Some (record { sequence = sequence; good = mask; text = text })))
 
-  stay_attempted : (a b : Held) → Stays a b → Attempted a b
+  stay_attempted : (a b : DiskSeen) → Stays a b → Attempted a b
   stay_attempted a b is = record { slot = is.slot; was = was_good a.good b.good a.seen b.seen is.good; turned = inl (told_same group a.seen.told b.seen.told is.told) }
 
-  stamp_turned : (a b : Held) → Stamps sequence mask text a b → Turned a b
+  stamp_turned : (a b : DiskSeen) → Stamps sequence mask text a b → Turned a b
   stamp_turned a b is = by a.seen.told b.seen.told is.offers
     where
       by : (t u : Option Contents) → OffersJust sequence mask text a.good t u → (offer_told group u ≡ offer_told group t) ⊎ (IsTrue a.good × (offer_told group u ≡ Some (record { sequence = sequence; good = mask; text = text })))
@@ -76,43 +76,43 @@ module _ (group : Word) (sequence mask : ℕ) (text : List ℕ) where
       by (Some t) (Some u) (header, inl same, rest) = inl (in_same group t u header same.1)
       by (Some t) (Some u) (header, inr just, rest) = elim (in_just group t u (record { sequence = sequence; good = mask; text = text }) header just.1) [ inl same ↦ inl same | inr is ↦ inr (just.0, is) ]
 
-  both_attempted : (a b c : Held) → Stays a b → Stamps sequence mask text b c → Attempted a c
+  both_attempted : (a b c : DiskSeen) → Stays a b → Stamps sequence mask text b c → Attempted a c
   both_attempted a b c p q = record {
     slot = q.slot ∙ p.slot;
     was = λ good. was_good a.good b.good a.seen b.seen p.good (was_good b.good c.good b.seen c.seen q.good good);
     turned = elim (stamp_turned b c q) [ inl same ↦ inl (same ∙ told_same group a.seen.told b.seen.told p.told) | inr new ↦ inr (was_good a.good b.good a.seen b.seen p.good new.0, new.1) ];
   }
 
-  pub all_stay : (hs bs : List Held) → Each Stays hs bs → Each Attempted hs bs
+  pub all_stay : (hs bs : List DiskSeen) → Each Stays hs bs → Each Attempted hs bs
   all_stay hs bs is = each_map Stays Attempted stay_attempted hs bs is
 
-  pub all_attempted : (hs ms bs : List Held) → Each Stays hs ms → Each (Stamps sequence mask text) ms bs → Each Attempted hs bs
+  pub all_attempted : (hs ms bs : List DiskSeen) → Each Stays hs ms → Each (Stamps sequence mask text) ms bs → Each Attempted hs bs
   all_attempted hs ms bs p q = each_then Stays (Stamps sequence mask text) Attempted both_attempted hs ms bs p q
 
   module _ (before last : ℕ) (later : last < sequence) where
     -- a disk that the mask names where it is good, and whose newer offer is of an attempt so far, goes through an attempt
-    record Goes (a b : Held) : Type 0 where
+    record Goes (a b : DiskSeen) : Type 0 where
       pub attempted : Attempted a b
       pub named : IsTrue a.good → has mask a.slot ≡ true
       pub up_to : (o : Offer) → OffersSince group before a o → o.sequence ≤ last
 
-    since : (a c : Held) (o : Offer) → offer_told group c.seen.told ≡ offer_told group a.seen.told → OffersSince group before c o → OffersSince group before a o
+    since : (a c : DiskSeen) (o : Offer) → offer_told group c.seen.told ≡ offer_told group a.seen.told → OffersSince group before c o → OffersSince group before a o
     since a c o same f = record { is = sym same ∙ f.is; newer = f.newer }
 
-    old_or_new : (a c : Held) (o : Offer) → Goes a c → OffersSince group before c o → OffersSince group before a o ⊎ (IsTrue a.good × (o ≡ record { sequence = sequence; good = mask; text = text }))
+    old_or_new : (a c : DiskSeen) (o : Offer) → Goes a c → OffersSince group before c o → OffersSince group before a o ⊎ (IsTrue a.good × (o ≡ record { sequence = sequence; good = mask; text = text }))
     old_or_new a c o go f = elim go.attempted.turned [
       | inl same ↦ inl (since a c o same f)
       | inr new ↦ inr (new.0, same_some (offer_told group c.seen.told) o _ f.is new.1)
     ]
 
-    up_to_one : (a c : Held) → Goes a c → (o : Offer) → OffersSince group before c o → o.sequence ≤ sequence
+    up_to_one : (a c : DiskSeen) → Goes a c → (o : Offer) → OffersSince group before c o → o.sequence ≤ sequence
     up_to_one a c go o f = elim (old_or_new a c o go f) [
       | inl old ↦ let le = go.up_to o old in omega (arith, le, later)
       | inr new ↦ let same : o.sequence ≡ sequence = ap (λ (x : Offer). x.sequence) new.1 in omega (arith, same)
     ]
 
     -- an offer that was there, beside one that was or a new one
-    old_beside : (b d : Held) (o : Offer) → Goes b d → o.sequence ≤ last → GoesOnBeside group before o b → GoesOnBeside group before o d
+    old_beside : (b d : DiskSeen) (o : Offer) → Goes b d → o.sequence ≤ last → GoesOnBeside group before o b → GoesOnBeside group before o d
     old_beside b d o go le is = record {
       names = λ good. ap (has o.good) go.attempted.slot ∙ is.names (go.attempted.was good);
       order = λ p g. elim (old_or_new b d p go g) [
@@ -122,7 +122,7 @@ module _ (group : Word) (sequence mask : ℕ) (text : List ℕ) where
     }
 
     -- a new offer
-    new_beside : (b d : Held) (o : Offer) → Goes b d → o ≡ record { sequence = sequence; good = mask; text = text } → GoesOnBeside group before o d
+    new_beside : (b d : DiskSeen) (o : Offer) → Goes b d → o ≡ record { sequence = sequence; good = mask; text = text } → GoesOnBeside group before o d
     new_beside b d o go is =
         let s : o.sequence ≡ sequence = ap (λ (x : Offer). x.sequence) is in
         let m : o.good ≡ mask = ap (λ (x : Offer). x.good) is in
@@ -135,13 +135,13 @@ module _ (group : Word) (sequence mask : ℕ) (text : List ℕ) where
           ];
         }
 
-    beside_one : (a b c d : Held) → Goes a c → Goes b d → ((o : Offer) → OffersSince group before a o → GoesOnBeside group before o b) → (o : Offer) → OffersSince group before c o → GoesOnBeside group before o d
+    beside_one : (a b c d : DiskSeen) → Goes a c → Goes b d → ((o : Offer) → OffersSince group before a o → GoesOnBeside group before o b) → (o : Offer) → OffersSince group before c o → GoesOnBeside group before o d
     beside_one a b c d go come is o f = elim (old_or_new a c o go f) [
       | inl old ↦ old_beside b d o come (go.up_to o old) (is o old)
       | inr new ↦ new_beside b d o come new.1
     ]
 
-    pub order_on : (hs bs : List Held) → Each Attempted hs bs → AllOf (λ h. IsTrue h.good → has mask h.slot ≡ true) hs → IsOrdered group before last hs → IsOrdered group before sequence bs
+    pub order_on : (hs bs : List DiskSeen) → Each Attempted hs bs → AllOf (λ h. IsTrue h.good → has mask h.slot ≡ true) hs → IsOrdered group before last hs → IsOrdered group before sequence bs
     order_on hs bs attempted named is =
         let go : Each Goes hs bs = each_map _ Goes (λ a b x. record { attempted = x.1.1; named = x.0; up_to = x.1.0 }) hs bs (each_from _ _ hs bs named (each_from _ Attempted hs bs is.up_to attempted)) in
         record {

@@ -4,7 +4,7 @@ use Rattle.std.specs.Prelude.{IsTrue, MatchOption}
 use Rattle.vx_base.specs.Blocks.{Contents}
 use Rattle.vx_copies.specs.Lists.{Each, AllOf}
 use Rattle.vx_copies.specs.Image.{half_start, sectors_for}
-use Rattle.vx_copies.specs.Disks.{Held, NamesHalf, IsReady, Goes, Drops}
+use Rattle.vx_copies.specs.Disks.{DiskSeen, NamesHalf, IsReady, CommitGoes, Drops}
 use Rattle.vx_copies.specs.Written.{BothTell, Holds, HalfStays, OldOrText, IsTurned, TurnedAgain, Turns, Touches, sectors_of, IsCurrent, CarriesIfGood, WritesJust}
 use Rattle.vx_copies.specs.Steps.{HalfLeaves, HalfPut, HalfDone, Says, ToggleLeaves, TogglePut, ToggleDone}
 use Rattle.vx_copies.proofs.Going.{same_toggle, each_then, each_both, each_from}
@@ -13,7 +13,7 @@ use Rattle.vx_copies.proofs.SectorsWritten.{only_refl, only_trans, tell_refl, te
 use Rattle.vx_copies.proofs.Counted.{more_calls}
 
 -- nothing was written
-pub half_none : (text : List ℕ) (a : Held) → HalfPut text a a
+pub half_none : (text : List ℕ) (a : DiskSeen) → HalfPut text a a
 half_none text a = record {
   half = refl;
   told = tell_refl (HalfLeaves a.half text) (λ c. record { toggle = refl; named = λ k le lt. refl; only = only_refl text c }) a.seen.told;
@@ -21,20 +21,20 @@ half_none text a = record {
   writes = omega arith;
 }
 
-pub toggle_none : (s m : ℕ) (text : List ℕ) (a : Held) → TogglePut s m text a a
+pub toggle_none : (s m : ℕ) (text : List ℕ) (a : DiskSeen) → TogglePut s m text a a
 toggle_none s m text a = record {
   told = tell_refl (ToggleLeaves s m text a a) (λ c. record { toggle = inl (refl, λ good. refl); others = λ k not. refl }) a.seen.told;
   reads = refl;
   writes = omega arith;
 }
 
-pub half_put : (text : List ℕ) (a b : Held) → HalfDone text a b → HalfPut text a b
+pub half_put : (text : List ℕ) (a b : DiskSeen) → HalfDone text a b → HalfPut text a b
 half_put text a b is = is.put
 
-pub toggle_put : (s m : ℕ) (text : List ℕ) (a b : Held) → ToggleDone s m text a b → TogglePut s m text a b
+pub toggle_put : (s m : ℕ) (text : List ℕ) (a b : DiskSeen) → ToggleDone s m text a b → TogglePut s m text a b
 toggle_put s m text a b is = is.put
 
-pub touches_none : (f l : ℕ) (text : List ℕ) (M : ℕ → Type 0) (a : Held) → Touches f l text M a a
+pub touches_none : (f l : ℕ) (text : List ℕ) (M : ℕ → Type 0) (a : DiskSeen) → Touches f l text M a a
 touches_none f l text M a = record {
   turns = tell_refl (Turns f l text M a a) (λ c. inl (record { toggle = refl; named = λ k le lt. refl; half = λ good. refl })) a.seen.told;
   only = tell_refl (OldOrText text) (only_refl text) a.seen.told;
@@ -46,7 +46,7 @@ touches_none f l text M a = record {
 turned_masks : (f l : ℕ) (text : List ℕ) (M K : ℕ → Type 0) → ((m : ℕ) → M m → K m) → (h : ℕ) (c : Contents) → IsTurned f l text M h c → IsTurned f l text K h c
 turned_masks f l text M K more h c is = record { sequence = is.sequence; mask = is.mask; from = is.from; up_to = is.up_to; masks = more is.mask is.masks; says = is.says; holds = is.holds }
 
-pub touches_masks : (f l : ℕ) (text : List ℕ) (M K : ℕ → Type 0) → ((m : ℕ) → M m → K m) → (a b : Held) → Touches f l text M a b → Touches f l text K a b
+pub touches_masks : (f l : ℕ) (text : List ℕ) (M K : ℕ → Type 0) → ((m : ℕ) → M m → K m) → (a b : DiskSeen) → Touches f l text M a b → Touches f l text K a b
 touches_masks f l text M K more a b is = record { turns = tell_map (Turns f l text M a b) (Turns f l text K a b) by a.seen.told b.seen.told is.turns; only = is.only; reads = is.reads; writes = is.writes }
   where
     by : (c d : Contents) → Turns f l text M a b c d → Turns f l text K a b c d
@@ -73,7 +73,7 @@ others_half half c d others k le lt = others k (far half k le)
 
 module _ (s : ℕ) (text : List ℕ) (M : ℕ → Type 0) where
   -- an attempt that wrote halves alone
-  pub half_touches : (a b : Held) → HalfPut text a b → Touches s s text M a b
+  pub half_touches : (a b : DiskSeen) → HalfPut text a b → Touches s s text M a b
   half_touches a b put = record {
     turns = tell_map (HalfLeaves a.half text) (Turns s s text M a b) (λ c d is. inl (record { toggle = is.toggle; named = is.named; half = λ good. put.half })) a.seen.told b.seen.told put.told;
     only = tell_map (HalfLeaves a.half text) (OldOrText text) (λ c d is. is.only) a.seen.told b.seen.told put.told;
@@ -81,7 +81,7 @@ module _ (s : ℕ) (text : List ℕ) (M : ℕ → Type 0) where
     writes = let le = put.writes in within s (sectors_of text) a.seen.writes b.seen.writes (omega (arith, le));
   }
 
-  module _ (m : ℕ) (is_mask : M m) (fits : length text ≤ 522240) (a mid b : Held) (half : HalfDone text a mid) where
+  module _ (m : ℕ) (is_mask : M m) (fits : length text ≤ 522240) (a mid b : DiskSeen) (half : HalfDone text a mid) where
     turned_by : (c e d : Contents) → HalfLeaves a.half text c e → ToggleLeaves s m text mid b e d → (IsTrue a.good → Holds text (1 - a.half) e) → Turns s s text M a b c d
     turned_by c e d first second holds = by second.toggle
       where
@@ -159,7 +159,7 @@ module _ (f l : ℕ) (text : List ℕ) (fits : length text ≤ 522240) (M N K : 
   named_is : (h b : ℕ) (c : Contents) → IsTurned f l text M h c → NamesHalf b (Some c) → h ≡ b
   named_is h b c is names = subst (λ o. MatchOption o (Unit {0}) (λ t. t.half ≡ b)) is.says names
 
-  module _ (a b c : Held) where
+  module _ (a b c : DiskSeen) where
     again_on : (h : ℕ) (y z : Contents) → IsTurned f l text M h y → NamesHalf b.half (Some y) → Turns (l + 1) (l + 1) text N b c y z → TurnedAgain f (l + 1) text K z
     again_on h y z is names (inl stay) = record {
       again = let from = is.from in let to = is.up_to in omega (arith, from, to);
@@ -196,7 +196,7 @@ module _ (f l : ℕ) (text : List ℕ) (fits : length text ≤ 522240) (M N K : 
     idle_on bad x y (inr (inl once)) = inr (inl (record { turned = turned_wider (1 - a.half) y once.turned; named = once.named }))
     idle_on bad x y (inr (inr more)) = inr (inr (record { again = let lt = more.again in omega (arith, lt); now = more.now; turned = turned_wider more.now y more.turned }))
 
-    turns_either : (g : Bool) → b.good ≡ g → IsReady b → Goes (l + 1) (l + 1) text b c → Touches f l text M a b → Touches (l + 1) (l + 1) text N b c → BothTell (Turns f (l + 1) text K a c) a.seen.told c.seen.told
+    turns_either : (g : Bool) → b.good ≡ g → IsReady b → CommitGoes (l + 1) (l + 1) text b c → Touches f l text M a b → Touches (l + 1) (l + 1) text N b c → BothTell (Turns f (l + 1) text K a c) a.seen.told c.seen.told
     turns_either true e ready goes p q = told_on e a.seen.told b.seen.told c.seen.told (ready.names e) p.turns q.turns
     turns_either false e ready goes p q =
         let same = goes.idle e in
@@ -207,7 +207,7 @@ module _ (f l : ℕ) (text : List ℕ) (fits : length text ≤ 522240) (M N K : 
         no_more false true e d is = cc
         no_more false false e d is = cc
 
-    pub touches_on : IsReady b → Goes (l + 1) (l + 1) text b c → Touches f l text M a b → Touches (l + 1) (l + 1) text N b c → Touches f (l + 1) text K a c
+    pub touches_on : IsReady b → CommitGoes (l + 1) (l + 1) text b c → Touches f l text M a b → Touches (l + 1) (l + 1) text N b c → Touches f (l + 1) text K a c
     touches_on ready goes p q = record {
       turns = turns_either b.good refl ready goes p q;
       only = tell_trans (OldOrText text) (OldOrText text) (OldOrText text) (only_trans text) a.seen.told b.seen.told c.seen.told p.only q.only;
@@ -215,7 +215,7 @@ module _ (f l : ℕ) (text : List ℕ) (fits : length text ≤ 522240) (M N K : 
       writes = more_calls a.seen.writes b.seen.writes c.seen.writes f l (sectors_of text) le p.writes q.writes;
     }
 
-  pub all_on : (hs ms bs : List Held) → AllOf IsReady ms → Each (Goes (l + 1) (l + 1) text) ms bs → Each (Touches f l text M) hs ms → Each (Touches (l + 1) (l + 1) text N) ms bs → Each (Touches f (l + 1) text K) hs bs
+  pub all_on : (hs ms bs : List DiskSeen) → AllOf IsReady ms → Each (CommitGoes (l + 1) (l + 1) text) ms bs → Each (Touches f l text M) hs ms → Each (Touches (l + 1) (l + 1) text N) ms bs → Each (Touches f (l + 1) text K) hs bs
   all_on hs ms bs ready goes p q =
-      each_then (Touches f l text M) (λ b c. IsReady b × (Goes (l + 1) (l + 1) text b c × Touches (l + 1) (l + 1) text N b c)) (Touches f (l + 1) text K) (λ a b c first next. touches_on a b c next.0 next.1.0 first next.1.1) hs ms bs p
+      each_then (Touches f l text M) (λ b c. IsReady b × (CommitGoes (l + 1) (l + 1) text b c × Touches (l + 1) (l + 1) text N b c)) (Touches f (l + 1) text K) (λ a b c first next. touches_on a b c next.0 next.1.0 first next.1.1) hs ms bs p
       (each_from IsReady _ ms bs ready (each_both _ _ ms bs goes q))

@@ -4,14 +4,14 @@ use Rattle.vx_base.specs.Named.{Word}
 use Rattle.vx_mask.specs.Mask.{has}
 use Rattle.vx_copies.specs.Lists.{AllOf, AnyOf}
 use Rattle.vx_copies.specs.Image.{Offer, offer_told}
-use Rattle.vx_copies.specs.Disks.{Held, IsMember}
+use Rattle.vx_copies.specs.Disks.{DiskSeen, IsMember}
 
 -- a device of the group, by its slot, and what it offers
 pub record Copy : Type 0 where
   pub slot : ℕ
   pub offer : Option Offer
 
-abbrev pub copy_of : Word → Held → Copy
+abbrev pub copy_of : Word → DiskSeen → Copy
 copy_of group h = record { slot = h.slot; offer = offer_told group h.seen.told }
 
 -- no offer has a higher sequence
@@ -40,16 +40,16 @@ abbrev pub AllAgree : List Copy → Type 0
 AllAgree copies = AllOf (λ c. AllOf (λ d. AgreeIn c.offer d.offer) copies) copies
 
 -- the offer names each good disk
-abbrev pub NamesGood : Offer → List Held → Type 0
+abbrev pub NamesGood : Offer → List DiskSeen → Type 0
 NamesGood o disks = AllOf (λ h. IsTrue h.good → has o.good h.slot ≡ true) disks
 
 -- where it is good, the disk is a member of the group
-abbrev pub IsGoodMember : Word → Held → Type 0
+abbrev pub IsGoodMember : Word → DiskSeen → Type 0
 IsGoodMember group h = IsTrue h.good → IsMember group h.seen.told
 
 -- The members of the group and its other devices, up to a sequence, where the disks of a mask are missing: their copies are
 -- chained and agree, and the newest name each good one of the first `carriers` members.
-pub record IsSound (group : Word) (missing : ℕ) (others : List Copy) (last carriers : ℕ) (disks : List Held) : Type 0 where
+pub record IsSound (group : Word) (missing : ℕ) (others : List Copy) (last carriers : ℕ) (disks : List DiskSeen) : Type 0 where
   pub members : AllOf (IsGoodMember group) disks
   pub chained : IsChained missing (others ++ map (copy_of group) disks)
   pub agree : AllAgree (others ++ map (copy_of group) disks)
@@ -57,7 +57,7 @@ pub record IsSound (group : Word) (missing : ℕ) (others : List Copy) (last car
   pub up_to : AllUpTo last (others ++ map (copy_of group) disks)
 
 -- what a disk offers of the group, where it is newer than this
-pub record OffersSince (group : Word) (before : ℕ) (h : Held) (o : Offer) : Type 0 where
+pub record OffersSince (group : Word) (before : ℕ) (h : DiskSeen) (o : Offer) : Type 0 where
   pub is : offer_told group h.seen.told ≡ Some o
   pub newer : before < o.sequence
 
@@ -67,23 +67,23 @@ pub record IsInOrder (o p : Offer) (slot : ℕ) : Type 0 where
   pub one : o.sequence ≡ p.sequence → o.good ≡ p.good
 
 -- so are any two offers of the disks that are newer than this
-abbrev pub AreInOrder : Word → ℕ → List Held → Type 0
+abbrev pub AreInOrder : Word → ℕ → List DiskSeen → Type 0
 AreInOrder group before disks = AllOf (λ a. AllOf (λ b. (o p : Offer) → OffersSince group before a o → OffersSince group before b p → IsInOrder o p b.slot) disks) disks
 
 -- one of the disks offers something that is newer than this
-abbrev pub OneOffersSince : Word → ℕ → List Held → Type 0
+abbrev pub OneOffersSince : Word → ℕ → List DiskSeen → Type 0
 OneOffersSince group before disks = AnyOf (λ h. (o : Offer) × OffersSince group before h o) disks
 
 -- where one of the disks offers something that is newer than this, one of the first `carriers` does
-abbrev pub IsLed : Word → ℕ → ℕ → List Held → Type 0
+abbrev pub IsLed : Word → ℕ → ℕ → List DiskSeen → Type 0
 IsLed group before carriers disks = OneOffersSince group before disks → OneOffersSince group before (take carriers disks)
 
 -- beside a disk the offer goes on: it names the disk where it is good, and is in order with what the disk offers
-pub record GoesOnBeside (group : Word) (before : ℕ) (o : Offer) (h : Held) : Type 0 where
+pub record GoesOnBeside (group : Word) (before : ℕ) (o : Offer) (h : DiskSeen) : Type 0 where
   pub names : IsTrue h.good → has o.good h.slot ≡ true
   pub order : (p : Offer) → OffersSince group before h p → IsInOrder o p h.slot
 
 -- what a commit keeps from one attempt to the next: the newer offers are of the attempts so far, and each goes on beside each disk
-pub record IsOrdered (group : Word) (before last : ℕ) (disks : List Held) : Type 0 where
+pub record IsOrdered (group : Word) (before last : ℕ) (disks : List DiskSeen) : Type 0 where
   pub up_to : AllOf (λ h. (o : Offer) → OffersSince group before h o → o.sequence ≤ last) disks
   pub beside : AllOf (λ a. AllOf (λ b. (o : Offer) → OffersSince group before a o → GoesOnBeside group before o b) disks) disks

@@ -10,7 +10,7 @@ use Rattle.vx_copies.specs.Image.{Offer, toggle_at, half_start, offer_of, offer_
 use Rattle.vx_copies.specs.declared.disk.Disk.{Disk}
 
 -- a disk with what is seen of its piece
-pub record Held : Type 0 where
+pub record DiskSeen : Type 0 where
   pub name : Word
   -- the device that it lies on
   pub device : Word
@@ -20,25 +20,25 @@ pub record Held : Type 0 where
   pub half : ℕ
   pub seen : Seen
 
-abbrev pub held : {P : Type 0} → (P → Seen) → Disk P → Held
-held see d = record { name = d.name; device = d.device; slot = d.slot; sectors = d.sectors; good = d.good; half = d.half; seen = see d.piece }
+abbrev pub disk_seen : {P : Type 0} → (P → Seen) → Disk P → DiskSeen
+disk_seen see d = record { name = d.name; device = d.device; slot = d.slot; sectors = d.sectors; good = d.good; half = d.half; seen = see d.piece }
 
 -- the power is gone
-abbrev pub IsCut : Held → Type 0
+abbrev pub IsCut : DiskSeen → Type 0
 IsCut h = IsTrue h.seen.cut
 
 -- how many disks are good
-abbrev pub good_count : List Held → ℕ
+abbrev pub good_count : List DiskSeen → ℕ
 good_count [] = 0
 good_count (h ∷ hs) = (if h.good then 1 else 0) + good_count hs
 
 -- a good disk has the slot
-abbrev pub is_good_slot : ℕ → List Held → Bool
+abbrev pub is_good_slot : ℕ → List DiskSeen → Bool
 is_good_slot slot [] = false
 is_good_slot slot (h ∷ hs) = (h.good && h.slot == slot) || is_good_slot slot hs
 
 -- the slots of the good disks, as a mask
-abbrev pub good_mask : List Held → ℕ
+abbrev pub good_mask : List DiskSeen → ℕ
 good_mask [] = 0
 good_mask (h ∷ hs) = if h.good then union (good_mask hs) (only h.slot) else good_mask hs
 
@@ -48,11 +48,11 @@ NamesHalf half None = Unit {0}
 NamesHalf half (Some contents) = MatchOption (toggle_at contents) (Unit {0}) (λ t. t.half ≡ half)
 
 -- the slot of a disk is one of a mask's
-abbrev pub HasSlot : Held → Type 0
+abbrev pub HasSlot : DiskSeen → Type 0
 HasSlot h = h.slot < 32
 
 -- a good disk's half is the one that its toggle names; the piece has a private region
-pub record IsReady (h : Held) : Type 0 where
+pub record IsReady (h : DiskSeen) : Type 0 where
   pub slot : h.slot < 32
   pub half : h.half < 2
   pub sectors : 2048 ≤ h.seen.sectors
@@ -63,7 +63,7 @@ HasText half text None = Unit {0}
 HasText half text (Some contents) = text_in half (length text) contents ≡ text
 
 -- the spare half of a good disk holds the text
-abbrev pub HasSpare : List ℕ → Held → Type 0
+abbrev pub HasSpare : List ℕ → DiskSeen → Type 0
 HasSpare text h = IsTrue h.good → HasText (1 - h.half) text h.seen.told
 
 -- the half that the toggle names stays
@@ -105,7 +105,7 @@ Drops false false before now = Unit {0}
 Drops true false before now = Rose before.faults now.faults
 
 -- what a commit does to a disk at every device call
-pub record Goes (first last : ℕ) (text : List ℕ) (old new : Held) : Type 0 where
+pub record CommitGoes (first last : ℕ) (text : List ℕ) (old new : DiskSeen) : Type 0 where
   pub slot : new.slot ≡ old.slot
   pub name : new.name ≡ old.name
   pub device : new.device ≡ old.device
@@ -117,7 +117,7 @@ pub record Goes (first last : ℕ) (text : List ℕ) (old new : Held) : Type 0 w
   pub idle : old.good ≡ false → new.seen ≡ old.seen
 
 -- what the writing of a toggle does to a disk
-pub record Stamps (sequence mask : ℕ) (text : List ℕ) (old new : Held) : Type 0 where
+pub record Stamps (sequence mask : ℕ) (text : List ℕ) (old new : DiskSeen) : Type 0 where
   pub slot : new.slot ≡ old.slot
   pub name : new.name ≡ old.name
   pub device : new.device ≡ old.device
@@ -136,7 +136,7 @@ StaysTold (Some old) None = ⊥
 StaysTold (Some old) (Some new) = (new 0 ≡ old 0) × SameOffer old new × RestStays old new
 
 -- what the writing of a spare half does to a disk
-pub record Stays (old new : Held) : Type 0 where
+pub record Stays (old new : DiskSeen) : Type 0 where
   pub slot : new.slot ≡ old.slot
   pub name : new.name ≡ old.name
   pub device : new.device ≡ old.device
@@ -148,11 +148,11 @@ pub record Stays (old new : Held) : Type 0 where
   pub idle : old.good ≡ false → new.seen ≡ old.seen
 
 -- where it is good, the disk offers just this
-abbrev pub IsOffer : ℕ → ℕ → List ℕ → Held → Type 0
+abbrev pub IsOffer : ℕ → ℕ → List ℕ → DiskSeen → Type 0
 IsOffer sequence mask text h = IsTrue h.good → MatchOption h.seen.told (Unit {0}) (λ contents. offer_of contents ≡ Some (record { sequence = sequence; good = mask; text = text }))
 
 -- its offer has a sequence up to this one
-abbrev pub IsBelow : Word → ℕ → Held → Type 0
+abbrev pub IsBelow : Word → ℕ → DiskSeen → Type 0
 IsBelow group last h = MatchOption (offer_told group h.seen.told) (Unit {0}) (λ o. o.sequence ≤ last)
 
 -- the disk tells what it holds, and its header names the group

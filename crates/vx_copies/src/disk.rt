@@ -1,5 +1,5 @@
 ghost use Rattle.std.specs.Prelude.{◌≡◌, ◌<◌, ◌≤◌, ◌^◌, length, map};
-ghost use Rattle.vx_copies.specs.Disks.{held, Stamps, Stays, IsReady, HasSpare};
+ghost use Rattle.vx_copies.specs.Disks.{disk_seen, Stamps, Stays, IsReady, HasSpare};
 ghost use Rattle.vx_copies.specs.Pass.{IsPadded, HalfEnds, ToggleEnds};
 ghost use Rattle.vx_copies.specs.Steps.{HalfPut, HalfDone, TogglePut, ToggleDone};
 
@@ -44,12 +44,12 @@ pub enum Pass {
 
 /// Writes the text into the spare half of a good disk.
 pub fn put_half<P: Piece>(disk: &mut Disk<P>, text: &[u8], padded: &[u8]) -> Pass
-    requires ready { IsReady (held P.seen disk.old) }
+    requires ready { IsReady (disk_seen P.seen disk.old) }
     requires padded { IsPadded text.now padded.now }
-    ensures stays { Stays (held P.seen disk.old) (held P.seen disk.new) }
-    ensures ends { HalfEnds result text.now (held P.seen disk.old) (held P.seen disk.new) }
-    ensures put { HalfPut text.now (held P.seen disk.old) (held P.seen disk.new) }
-    ensures done { result ≡ Pass.Done → HalfDone text.now (held P.seen disk.old) (held P.seen disk.new) }
+    ensures stays { Stays (disk_seen P.seen disk.old) (disk_seen P.seen disk.new) }
+    ensures ends { HalfEnds result text.now (disk_seen P.seen disk.old) (disk_seen P.seen disk.new) }
+    ensures put { HalfPut text.now (disk_seen P.seen disk.old) (disk_seen P.seen disk.new) }
+    ensures done { result ≡ Pass.Done → HalfDone text.now (disk_seen P.seen disk.old) (disk_seen P.seen disk.new) }
 {
     if !disk.good {
         return Pass::Done;
@@ -73,16 +73,16 @@ pub fn put_toggle<P: Piece>(
     text: &[u8],
     sector: &mut [u8],
 ) -> Pass
-    requires ready { IsReady (held P.seen disk.old) }
-    requires spare { HasSpare text.now (held P.seen disk.old) }
+    requires ready { IsReady (disk_seen P.seen disk.old) }
+    requires spare { HasSpare text.now (disk_seen P.seen disk.old) }
     requires some { 0 < sequence }
     requires fits { length text.now ≤ 522240 }
     requires size { length sector.old ≡ 512 }
     ensures size { length sector.new ≡ 512 }
-    ensures stamps { Stamps sequence mask text.now (held P.seen disk.old) (held P.seen disk.new) }
-    ensures ends { ToggleEnds result sequence mask text.now (held P.seen disk.old) (held P.seen disk.new) }
-    ensures put { TogglePut sequence mask text.now (held P.seen disk.old) (held P.seen disk.new) }
-    ensures done { result ≡ Pass.Done → ToggleDone sequence mask text.now (held P.seen disk.old) (held P.seen disk.new) }
+    ensures stamps { Stamps sequence mask text.now (disk_seen P.seen disk.old) (disk_seen P.seen disk.new) }
+    ensures ends { ToggleEnds result sequence mask text.now (disk_seen P.seen disk.old) (disk_seen P.seen disk.new) }
+    ensures put { TogglePut sequence mask text.now (disk_seen P.seen disk.old) (disk_seen P.seen disk.new) }
+    ensures done { result ≡ Pass.Done → ToggleDone sequence mask text.now (disk_seen P.seen disk.old) (disk_seen P.seen disk.new) }
 {
     if !disk.good {
         return Pass::Done;

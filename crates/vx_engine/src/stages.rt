@@ -8,16 +8,16 @@ ghost use Rattle.vx_plans.specs.declared.stage.Stage.TheVariants as stages;
 ghost use Rattle.vx_script_words.specs.declared.value.DiskAt.{DiskAt};
 
 use std::alloc::Global;
-use vx_changes::{change, create, join};
-use vx_finding::import;
-use vx_gates::failing;
 use vx_house::{House, Stop, give_group, refused, take, take_disks};
-use vx_looks::{look_blank, look_disks, look_headed, make_image, search, start_bare, wipe};
-use vx_making::make;
 use vx_piece::Piece;
 use vx_plans::{Stage, Test};
 use vx_script_words::DiskAt;
 use vx_shelf::Shelf;
+use vx_stage_changes::{change, create, join};
+use vx_stage_devices::{look_blank, look_disks, look_headed, make_image, search, start_bare, wipe};
+use vx_stage_gates::failing;
+use vx_stage_import::import;
+use vx_stage_records::make;
 
 /// Runs a stage.
 pub(crate) fn run_stage<S: Shelf>(

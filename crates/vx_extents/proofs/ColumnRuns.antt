@@ -4,10 +4,10 @@ use Rattle.std.specs.List.{list_any, list_all, count_by, fold}
 use Rattle.std.specs.Option.{is_some}
 use Rattle.std.proofs.lemmas.Bool.{and_parts, eqb-true}
 use Rattle.vx_base.specs.Named.{Word}
-use Rattle.vx_parts.specs.declared.subdisk.Subdisk.{Subdisk}
-use Rattle.vx_parts.specs.declared.object.Object.{Object}
-use Rattle.vx_parts.specs.declared.object.Object.TheVariants.{SubdiskRecord}
-use Rattle.vx_parts.specs.Objects.{is_subdisk, refers}
+use Rattle.vx_config_parts.specs.declared.subdisk.Subdisk.{Subdisk}
+use Rattle.vx_config_parts.specs.declared.object.Object.{Object}
+use Rattle.vx_config_parts.specs.declared.object.Object.TheVariants.{SubdiskRecord}
+use Rattle.vx_config_parts.specs.Objects.{is_subdisk, refers}
 use Rattle.vx_extents.specs.declared.piece.Piece.{Piece}
 use Rattle.vx_extents.specs.declared.column.Column.{Column}
 use Rattle.vx_extents.specs.Keys.{Key}

@@ -8,9 +8,9 @@ use Rattle.std.proofs.lemmas.List.Folds.{list_any-append}
 use Rattle.std.proofs.lemmas.List.Sorted.{list_any-IsPermutation}
 use Rattle.vx_base.specs.Named.{Word}
 use Rattle.vx_base.proofs.NamedLemmas.{bytes_eq_self, bytes_eq_same}
-use Rattle.vx_parts.specs.declared.object.Object.{Object}
-use Rattle.vx_parts.specs.declared.object.Object.TheVariants.{SubdiskRecord}
-use Rattle.vx_parts.specs.Objects.{is_subdisk, comes_before}
+use Rattle.vx_config_parts.specs.declared.object.Object.{Object}
+use Rattle.vx_config_parts.specs.declared.object.Object.TheVariants.{SubdiskRecord}
+use Rattle.vx_config_parts.specs.Objects.{is_subdisk, comes_before}
 use Rattle.vx_extents.specs.declared.extent.Extent.{Extent}
 use Rattle.vx_extents.specs.Overlap.{lesser, first_overlap_with, first_overlap}
 use Rattle.vx_extents.specs.Extents.{extent_of, extents, meets, rises_from, names_rise, first_clash}

@@ -12,10 +12,10 @@ use Rattle.std.proofs.lemmas.Cmp.{nat_list_cmp_total, tied_itself}
 use Rattle.std.proofs.lemmas.Map.Keys.{le_from_not_gt}
 use Rattle.vx_base.specs.Named.{Word}
 use Rattle.vx_base.proofs.NamedLemmas.{bytes_eq_self, bytes_eq_same}
-use Rattle.vx_parts.specs.declared.subdisk.Subdisk.{Subdisk}
-use Rattle.vx_parts.specs.declared.object.Object.{Object}
-use Rattle.vx_parts.specs.declared.object.Object.TheVariants.{SubdiskRecord}
-use Rattle.vx_parts.specs.Objects.{is_subdisk, refers}
+use Rattle.vx_config_parts.specs.declared.subdisk.Subdisk.{Subdisk}
+use Rattle.vx_config_parts.specs.declared.object.Object.{Object}
+use Rattle.vx_config_parts.specs.declared.object.Object.TheVariants.{SubdiskRecord}
+use Rattle.vx_config_parts.specs.Objects.{is_subdisk, refers}
 use Rattle.vx_extents.specs.declared.column.Column.{Column}
 use Rattle.vx_extents.specs.Keys.{Key, key_cmp}
 use Rattle.vx_extents.specs.Columns.{is_in_column}

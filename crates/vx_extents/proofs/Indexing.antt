@@ -7,7 +7,7 @@ use Rattle.std.specs.BTreeMap.{BTreeMap, get}
 use Rattle.std.proofs.lemmas.Bool.{and_parts, and_from, le-leb, ltb-true, ltb-false, lt-ltb, le-ltb}
 use Rattle.std.proofs.lemmas.List.Sorted.{IsNonDecreasingBy-drop, sum_by-IsPermutation, list_any-IsPermutation}
 use Rattle.vx_base.specs.Named.{Word}
-use Rattle.vx_parts.specs.declared.object.Object.{Object}
+use Rattle.vx_config_parts.specs.declared.object.Object.{Object}
 use Rattle.vx_extents.specs.declared.piece.Piece.{Piece}
 use Rattle.vx_extents.specs.declared.column.Column.{Column}
 use Rattle.vx_extents.specs.Keys.{Key, key_cmp}

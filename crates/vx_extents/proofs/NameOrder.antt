@@ -6,7 +6,7 @@ use Rattle.std.proofs.lemmas.Bool.{false≢true, false_from_ne_true, cases_Bool}
 use Rattle.std.proofs.lemmas.Cmp.{nat_list_cmp_total, tied_itself}
 use Rattle.std.proofs.lemmas.Map.Lookups.{exact_bytes}
 use Rattle.vx_base.specs.Named.{Word}
-use Rattle.vx_parts.specs.Objects.{comes_before}
+use Rattle.vx_config_parts.specs.Objects.{comes_before}
 
 is_less : (o : Ordering) → is_lt o ≡ true → o ≡ Less
 is_less Less h = refl

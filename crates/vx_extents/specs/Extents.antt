@@ -3,10 +3,10 @@ use Rattle.std.specs.Prelude.{◌+◌, Bool, true, Option, Some, None, List, [],
 use Rattle.std.specs.List.{list_any}
 use Rattle.std.specs.Str.{bytes_eq}
 use Rattle.vx_base.specs.Named.{Word}
-use Rattle.vx_parts.specs.declared.subdisk.Subdisk.{Subdisk}
-use Rattle.vx_parts.specs.declared.object.Object.{Object}
-use Rattle.vx_parts.specs.declared.object.Object.TheVariants.{SubdiskRecord}
-use Rattle.vx_parts.specs.Objects.{comes_before}
+use Rattle.vx_config_parts.specs.declared.subdisk.Subdisk.{Subdisk}
+use Rattle.vx_config_parts.specs.declared.object.Object.{Object}
+use Rattle.vx_config_parts.specs.declared.object.Object.TheVariants.{SubdiskRecord}
+use Rattle.vx_config_parts.specs.Objects.{comes_before}
 use Rattle.vx_extents.specs.declared.extent.Extent.{Extent}
 
 -- where the subdisk lies

@@ -3,9 +3,9 @@ use Rattle.std.specs.Prelude.{◌≡◌, ℕ, ◌<◌, Bool, true, List, ◌&&�
 use Rattle.std.specs.List.{list_any, list_all}
 use Rattle.std.specs.BTreeMap.{BTreeMap, get}
 use Rattle.vx_base.specs.Named.{Word}
-use Rattle.vx_parts.specs.declared.object.Object.{Object}
-use Rattle.vx_parts.specs.declared.object.Object.TheVariants.{SubdiskRecord}
-use Rattle.vx_parts.specs.Objects.{is_subdisk, refers}
+use Rattle.vx_config_parts.specs.declared.object.Object.{Object}
+use Rattle.vx_config_parts.specs.declared.object.Object.TheVariants.{SubdiskRecord}
+use Rattle.vx_config_parts.specs.Objects.{is_subdisk, refers}
 use Rattle.vx_extents.specs.declared.column.Column.{Column}
 use Rattle.vx_extents.specs.Keys.{Key, key_cmp}
 use Rattle.vx_extents.specs.Columns.{is_in_column, column_begins, piece_follows, column_length}

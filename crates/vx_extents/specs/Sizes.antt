@@ -3,11 +3,11 @@ use Rattle.std.specs.Prelude.{ℕ, ◌/◌, Bool, true, false, ◌&&◌, nat_le}
 use Rattle.vx_block.specs.Geometry.{is_geometry}
 use Rattle.vx_block.specs.Regions.{region_count}
 use Rattle.vx_mapfmt.specs.Sizes.{map_bytes_of, plex_bytes_of}
-use Rattle.vx_parts.specs.declared.plex.PlexKind.{PlexKind}
-use Rattle.vx_parts.specs.declared.plex.PlexKind.TheVariants.{Data, Log}
-use Rattle.vx_parts.specs.declared.plex.PlexLayout.{PlexLayout}
-use Rattle.vx_parts.specs.declared.plex.PlexLayout.TheVariants.{Concat, Stripe}
-use Rattle.vx_parts.specs.declared.vol.Vol.{Vol}
+use Rattle.vx_config_parts.specs.declared.plex.PlexKind.{PlexKind}
+use Rattle.vx_config_parts.specs.declared.plex.PlexKind.TheVariants.{Data, Log}
+use Rattle.vx_config_parts.specs.declared.plex.PlexLayout.{PlexLayout}
+use Rattle.vx_config_parts.specs.declared.plex.PlexLayout.TheVariants.{Concat, Stripe}
+use Rattle.vx_config_parts.specs.declared.vol.Vol.{Vol}
 
 -- the sectors of a log plex, which holds 32 change maps
 abbrev pub log_length : ℕ → ℕ → ℕ

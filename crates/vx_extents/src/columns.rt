@@ -1,6 +1,6 @@
 ghost use Rattle.std.specs.Prelude.{◌≡◌, ◌==◌, ◌&&◌, ◌<◌, List, IfOk};
 ghost use Rattle.std.specs.BTreeMap.{get};
-ghost use Rattle.vx_parts.specs.declared.object.Object.{Object};
+ghost use Rattle.vx_config_parts.specs.declared.object.Object.{Object};
 ghost use Rattle.vx_extents.specs.Below.{all_below};
 ghost use Rattle.vx_extents.specs.Keys.{Key, key_cmp};
 ghost use Rattle.vx_extents.specs.Columns.{column_length, columns_are_good, plex_length};
@@ -13,8 +13,8 @@ use crate::piece::Piece;
 use std::alloc::Global;
 use std::collections::BTreeMap;
 use vx_base::OutOfMemory;
+use vx_config_parts::{Plex, same};
 use vx_names::Name;
-use vx_parts::{Plex, same};
 
 /// The columns that have pieces, by their plexes and their numbers.
 #[derive(Drop)]

@@ -3,8 +3,8 @@ ghost use Rattle.vx_extents.specs.Extents.{extents};
 
 use std::alloc::Global;
 use vx_base::OutOfMemory;
+use vx_config_parts::{Object, Subdisk};
 use vx_names::Name;
-use vx_parts::{Object, Subdisk};
 
 /// Where a subdisk lies on a disk.
 #[derive(Clone, Copy)]

@@ -7,8 +7,8 @@ use crate::extent::Extent;
 use std::alloc::Global;
 use std::collections::BTreeMap;
 use vx_base::OutOfMemory;
+use vx_config_parts::same;
 use vx_names::Name;
-use vx_parts::same;
 
 /// Extents of which none meets another.
 #[derive(Drop)]

@@ -1,8 +1,8 @@
 ghost use Rattle.std.specs.Prelude.{◌≡◌, List};
-ghost use Rattle.vx_parts.specs.declared.object.Object.{Object};
+ghost use Rattle.vx_config_parts.specs.declared.object.Object.{Object};
 ghost use Rattle.vx_extents.specs.Columns.{column_length, layout_is_good};
 
-use vx_parts::{Plex, PlexLayout};
+use vx_config_parts::{Plex, PlexLayout};
 
 /// The plex has the columns and the unit that its layout wants, where its first column has so many sectors.
 pub(crate) fn layout_fits(plex: &Plex, length: u128) -> bool

@@ -1,6 +1,6 @@
 ghost use Rattle.std.specs.Prelude.{◌≡◌, ◌&&◌, ◌+◌, ℕ, nat_lt, [], IfOk, true};
 ghost use Rattle.std.specs.List.{list_any, list_all};
-ghost use Rattle.vx_parts.specs.Objects.{is_subdisk, comes_before};
+ghost use Rattle.vx_config_parts.specs.Objects.{is_subdisk, comes_before};
 ghost use Rattle.vx_extents.specs.Overlap.{shares_sector, overlaps_earlier, lesser, first_overlap_with, first_overlap, overlap_of, overlap_fault};
 ghost use Rattle.vx_extents.specs.Extents.{has_sector, names_rise, rises_from, first_clash};
 
@@ -8,8 +8,8 @@ use crate::extent::{Extent, extents_of};
 use crate::laid::Laid;
 use std::alloc::Global;
 use vx_base::OutOfMemory;
+use vx_config_parts::{Object, ObjectFault, Subdisk, comes_before, same};
 use vx_names::Name;
-use vx_parts::{Object, ObjectFault, Subdisk, comes_before, same};
 
 /// The first subdisk by name that overlaps one that comes before it by name.
 pub fn overlap_fault(alloc: Global, all: &[Object]) -> Result<Option<ObjectFault>, OutOfMemory>

@@ -4,8 +4,8 @@ ghost use Rattle.vx_extents.specs.Pieces.{piece_before, pieces, is_filled};
 
 use std::alloc::Global;
 use vx_base::OutOfMemory;
+use vx_config_parts::{Object, Subdisk};
 use vx_names::Name;
-use vx_parts::{Object, Subdisk};
 
 /// A subdisk as a piece of a plex's column.
 #[derive(Clone, Copy)]

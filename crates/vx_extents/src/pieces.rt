@@ -8,7 +8,7 @@ use crate::scans;
 use std::alloc::Global;
 use std::marker::Model;
 use vx_base::OutOfMemory;
-use vx_parts::{Object, Plex};
+use vx_config_parts::{Object, Plex};
 
 /// The columns of the plexes of a configuration, found in one walk over the pieces.
 #[derive(Drop)]
@@ -20,7 +20,7 @@ pub struct Pieces<'a> {
 
 impl<'a> Model for Pieces<'a> {
     ghost use Rattle.std.specs.Prelude.{List, IfSome};
-    ghost use Rattle.vx_parts.specs.declared.object.Object.{Object};
+    ghost use Rattle.vx_config_parts.specs.declared.object.Object.{Object};
     ghost use Rattle.vx_extents.specs.Indexed.{IsIndexed};
 
     ghost Value = { List Object };

@@ -1,11 +1,11 @@
 ghost use Rattle.std.specs.Prelude.{◌≡◌, ◌&&◌, ◌||◌, ◌==◌, ◌+◌, ℕ, ◌<◌};
 ghost use Rattle.std.specs.List.{list_any, list_all, count_by};
-ghost use Rattle.vx_parts.specs.Objects.{is_subdisk};
+ghost use Rattle.vx_config_parts.specs.Objects.{is_subdisk};
 ghost use Rattle.vx_extents.specs.Columns.{is_in_column, column_begins, piece_follows, all_pieces_good, end_with, column_length, columns_are_equal, columns_are_good, plex_length};
 
 use crate::layout::layout_fits;
+use vx_config_parts::{Object, Plex, Subdisk, refers};
 use vx_names::Name;
-use vx_parts::{Object, Plex, Subdisk, refers};
 
 /// The plex has the columns that its layout wants, of one length, and its pieces lie in them without holes.
 pub(crate) fn columns_are_good(all: &[Object], plex: &Plex) -> bool

@@ -2,8 +2,8 @@ ghost use Rattle.std.specs.Prelude.{◌≡◌};
 ghost use Rattle.vx_extents.specs.Sizes.{log_length, holds, layout_fits_kind};
 
 use vx_block::Geometry;
+use vx_config_parts::{PlexKind, PlexLayout, Vol};
 use vx_mapfmt::DcoShape;
-use vx_parts::{PlexKind, PlexLayout, Vol};
 
 /// A plex of that kind and so many sectors is long enough for the volume.
 pub fn holds(kind: PlexKind, size: u128, vol: &Vol) -> bool

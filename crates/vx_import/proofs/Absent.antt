@@ -7,7 +7,7 @@ use Rattle.vx_mask.specs.Mask.{has}
 use Rattle.vx_import.specs.Looks.{Looked, looked}
 use Rattle.vx_import.specs.Choice.{At}
 use Rattle.vx_import.specs.Naming.{is_readable_slot, AllThere, IsWhole, DamageIs}
-use Rattle.vx_import.specs.declared.found.Found.{Found}
+use Rattle.vx_import.specs.declared.device.GroupDevice.{GroupDevice}
 use Rattle.vx_import.specs.declared.naming.Damage.{Damage}
 
 pub there_none : (mask : ℕ) (fs : List Looked) → AllThere 0 mask fs
@@ -27,19 +27,19 @@ module _ {P : Type 0} (see : P → Seen) (meant : Option ℕ) where
   damage_one None f fs whole rest = (whole, rest)
   damage_one (Some d) f fs whole rest = (rest.0 + 1, rw add-one rest.1, rw add-one (whole, rest.2))
 
-  pub damage_more : (r : Option Damage) (xs : List (Found P)) (d : Found P) → 1 ≤ length xs → d ≡ get_or xs 0 d → IsWhole meant (looked see d) → DamageIs r meant (map (looked see) (take (length xs - 1) (drop 1 xs))) → DamageIs r meant (map (looked see) xs)
+  pub damage_more : (r : Option Damage) (xs : List (GroupDevice P)) (d : GroupDevice P) → 1 ≤ length xs → d ≡ get_or xs 0 d → IsWhole meant (looked see d) → DamageIs r meant (map (looked see) (take (length xs - 1) (drop 1 xs))) → DamageIs r meant (map (looked see) xs)
   damage_more r [] d some is whole rest = absurd (omega (arith, some))
   damage_more r (x ∷ xs) d some is whole rest =
       let all : take (length (x ∷ xs) - 1) (drop 1 (x ∷ xs)) ≡ xs = take_all (length (x ∷ xs) - 1) xs (omega arith) in
       damage_one r (looked see x) (map (looked see) xs) (subst (λ e. IsWhole meant (looked see e)) is whole) (subst (λ ys. DamageIs r meant (map (looked see) ys)) all rest)
 
 module _ {P : Type 0} (see : P → Seen) (Q : Looked → Type 0) where
-  pub at_below : (fs : List (Found P)) (i : ℕ) → At i Q (map (looked see) fs) → i < length fs
+  pub at_below : (fs : List (GroupDevice P)) (i : ℕ) → At i Q (map (looked see) fs) → i < length fs
   at_below [] i is = absurd is
   at_below (x ∷ fs) zero is = omega arith
   at_below (x ∷ fs) (suc i) is = let lt = at_below fs i is in omega (arith, lt)
 
-  pub at_here : (fs : List (Found P)) (i : ℕ) (d : Found P) → i < length fs → Q (looked see (get_or fs i d)) → At i Q (map (looked see) fs)
+  pub at_here : (fs : List (GroupDevice P)) (i : ℕ) (d : GroupDevice P) → i < length fs → Q (looked see (get_or fs i d)) → At i Q (map (looked see) fs)
   at_here [] i d lt is = absurd (omega (arith, lt))
   at_here (x ∷ fs) zero d lt is = is
   at_here (x ∷ fs) (suc i) d lt is = at_here fs i d (omega (arith, lt)) is

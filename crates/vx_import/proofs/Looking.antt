@@ -10,8 +10,8 @@ use Rattle.vx_copies.proofs.Going.{keeps_refl, keeps_trans, drops_refl, drops_tr
 use Rattle.vx_import.specs.Looks.{Looked, looked, IsPrivate, Reads, toggle_read, said_in}
 use Rattle.vx_import.specs.Choice.{At, IfToggle, IsTop}
 use Rattle.vx_import.specs.Tries.{readable_count, IsSpent}
-use Rattle.vx_import.specs.declared.found.Found.{Found}
-use Rattle.vx_import.specs.declared.found.Reading.{Reading}
+use Rattle.vx_import.specs.declared.device.GroupDevice.{GroupDevice}
+use Rattle.vx_import.specs.declared.device.Reading.{Reading}
 
 pub reads_refl : (a : Looked) → Reads a a
 reads_refl a = record { device = refl; label = refl; reading = refl; kept = keeps_refl a.seen; same = record { told = refl; writes = refl }; readable = drops_refl a.readable a.seen; most = omega arith }
@@ -72,48 +72,48 @@ pub private_on : (a b : Looked) → Keeps a.seen b.seen → IsPrivate a → IsPr
 private_on a b kept private = let same = kept.sectors in let more : 2048 ≤ b.seen.sectors = omega (arith, same, private) in more
 
 module _ {P : Type 0} (see : P → Seen) where
-  pub all_at : (Q : Looked → Type 0) (fs : List (Found P)) (i : ℕ) (d : Found P) → i < length fs → AllOf Q (map (looked see) fs) → Q (looked see (get_or fs i d))
+  pub all_at : (Q : Looked → Type 0) (fs : List (GroupDevice P)) (i : ℕ) (d : GroupDevice P) → i < length fs → AllOf Q (map (looked see) fs) → Q (looked see (get_or fs i d))
   all_at Q [] i d lt all = absurd (omega (arith, lt))
   all_at Q (x ∷ fs) zero d lt all = all.0
   all_at Q (x ∷ fs) (suc i) d lt all = all_at Q fs i d (omega (arith, lt)) all.1
 
-  pub at_at : (Q : Looked → Type 0) (fs : List (Found P)) (i : ℕ) (d : Found P) → At i Q (map (looked see) fs) → Q (looked see (get_or fs i d))
+  pub at_at : (Q : Looked → Type 0) (fs : List (GroupDevice P)) (i : ℕ) (d : GroupDevice P) → At i Q (map (looked see) fs) → Q (looked see (get_or fs i d))
   at_at Q [] i d is = absurd is
   at_at Q (x ∷ fs) zero d is = is
   at_at Q (x ∷ fs) (suc i) d is = at_at Q fs i d is
 
-  pub at_set : (Q : Looked → Type 0) (fs : List (Found P)) (i : ℕ) (d : Found P) → i < length fs → Q (looked see d) → At i Q (map (looked see) (set fs i d))
+  pub at_set : (Q : Looked → Type 0) (fs : List (GroupDevice P)) (i : ℕ) (d : GroupDevice P) → i < length fs → Q (looked see d) → At i Q (map (looked see) (set fs i d))
   at_set Q [] i d lt is = absurd (omega (arith, lt))
   at_set Q (x ∷ fs) zero d lt is = is
   at_set Q (x ∷ fs) (suc i) d lt is = at_set Q fs i d (omega (arith, lt)) is
 
-  pub all_set : (Q : Looked → Type 0) (fs : List (Found P)) (i : ℕ) (d : Found P) → AllOf Q (map (looked see) fs) → Q (looked see d) → AllOf Q (map (looked see) (set fs i d))
+  pub all_set : (Q : Looked → Type 0) (fs : List (GroupDevice P)) (i : ℕ) (d : GroupDevice P) → AllOf Q (map (looked see) fs) → Q (looked see d) → AllOf Q (map (looked see) (set fs i d))
   all_set Q [] i d all is = all
   all_set Q (x ∷ fs) zero d all is = (is, all.1)
   all_set Q (x ∷ fs) (suc i) d all is = (all.0, all_set Q fs i d all.1 is)
 
-  pub any_set : (Q : Looked → Type 0) (fs : List (Found P)) (i : ℕ) (d : Found P) → i < length fs → Q (looked see d) → AnyOf Q (map (looked see) (set fs i d))
+  pub any_set : (Q : Looked → Type 0) (fs : List (GroupDevice P)) (i : ℕ) (d : GroupDevice P) → i < length fs → Q (looked see d) → AnyOf Q (map (looked see) (set fs i d))
   any_set Q [] i d lt is = absurd (omega (arith, lt))
   any_set Q (x ∷ fs) zero d lt is = inl is
   any_set Q (x ∷ fs) (suc i) d lt is = inr (any_set Q fs i d (omega (arith, lt)) is)
 
-  take_set : (fs : List (Found P)) (i : ℕ) (d : Found P) → take i (map (looked see) (set fs i d)) ≡ take i (map (looked see) fs)
+  take_set : (fs : List (GroupDevice P)) (i : ℕ) (d : GroupDevice P) → take i (map (looked see) (set fs i d)) ≡ take i (map (looked see) fs)
   take_set [] i d = refl
   take_set (x ∷ fs) zero d = refl
   take_set (x ∷ fs) (suc i) d = ap (λ ys. looked see x ∷ ys) (take_set fs i d)
 
   -- one device goes on so, and the others stay
-  pub one_on : (R : Looked → Looked → Type 0) → ((a : Looked) → R a a) → (fs : List (Found P)) (i : ℕ) (d e : Found P) → i < length fs → R (looked see (get_or fs i e)) (looked see d) → Each R (map (looked see) fs) (map (looked see) (set fs i d))
+  pub one_on : (R : Looked → Looked → Type 0) → ((a : Looked) → R a a) → (fs : List (GroupDevice P)) (i : ℕ) (d e : GroupDevice P) → i < length fs → R (looked see (get_or fs i e)) (looked see d) → Each R (map (looked see) fs) (map (looked see) (set fs i d))
   one_on R self [] i d e lt is = absurd (omega (arith, lt))
   one_on R self (x ∷ fs) zero d e lt is = (is, each_refl R self (map (looked see) fs))
   one_on R self (x ∷ fs) (suc i) d e lt is = (self (looked see x), one_on R self fs i d e (omega (arith, lt)) is)
 
-  pub long_set : (fs : List (Found P)) (i : ℕ) (d : Found P) → length (set fs i d) ≡ length fs
+  pub long_set : (fs : List (GroupDevice P)) (i : ℕ) (d : GroupDevice P) → length (set fs i d) ≡ length fs
   long_set [] i d = refl
   long_set (x ∷ fs) zero d = refl
   long_set (x ∷ fs) (suc i) d = let same = long_set fs i d in omega (arith, same)
 
-  pub fewer : (fs : List (Found P)) (i : ℕ) (d e : Found P) → i < length fs → IsTrue (get_or fs i e).readable → d.readable ≡ false → readable_count (map (looked see) (set fs i d)) < readable_count (map (looked see) fs)
+  pub fewer : (fs : List (GroupDevice P)) (i : ℕ) (d e : GroupDevice P) → i < length fs → IsTrue (get_or fs i e).readable → d.readable ≡ false → readable_count (map (looked see) (set fs i d)) < readable_count (map (looked see) fs)
   fewer [] i d e lt was is = absurd (omega (arith, lt))
   fewer (x ∷ fs) zero d e lt was is = by x.readable d.readable was is
     where
@@ -124,14 +124,14 @@ module _ {P : Type 0} (see : P → Seen) where
   fewer (x ∷ fs) (suc i) d e lt was is = let less = fewer fs i d e (omega (arith, lt)) was is in omega (arith, less)
 
   -- the highest toggle was read of that device
-  pub top_names : (fs : List (Found P)) (i : ℕ) (d : Found P) (t : Said) → IsTop i t (map (looked see) fs) → toggle_read (looked see (get_or fs i d)) ≡ Some t
+  pub top_names : (fs : List (GroupDevice P)) (i : ℕ) (d : GroupDevice P) (t : Said) → IsTop i t (map (looked see) fs) → toggle_read (looked see (get_or fs i d)) ≡ Some t
   top_names fs i d t top = at_at (λ f. toggle_read f ≡ Some t) fs i d top.place
 
-  pub top_readable : (fs : List (Found P)) (i : ℕ) (d : Found P) (t : Said) → IsTop i t (map (looked see) fs) → (get_or fs i d).readable ≡ true
+  pub top_readable : (fs : List (GroupDevice P)) (i : ℕ) (d : GroupDevice P) (t : Said) → IsTop i t (map (looked see) fs) → (get_or fs i d).readable ≡ true
   top_readable fs i d t top = said_readable (looked see (get_or fs i d)) t (top_names fs i d t top)
 
   -- it stays so where that device can still be read
-  pub top_set : (fs : List (Found P)) (i : ℕ) (d e : Found P) (t : Said) → i < length fs → IsTop i t (map (looked see) fs) → toggle_read (looked see d) ≡ toggle_read (looked see (get_or fs i e)) → IsTop i t (map (looked see) (set fs i d))
+  pub top_set : (fs : List (GroupDevice P)) (i : ℕ) (d e : GroupDevice P) (t : Said) → i < length fs → IsTop i t (map (looked see) fs) → toggle_read (looked see d) ≡ toggle_read (looked see (get_or fs i e)) → IsTop i t (map (looked see) (set fs i d))
   top_set fs i d e t lt top same =
       let now : toggle_read (looked see d) ≡ Some t = same ∙ top_names fs i e t top in
       let at_most : t.sequence ≤ t.sequence = omega arith in

@@ -17,9 +17,9 @@ use Rattle.vx_import.specs.Looks.{Looked, looked, IsOurs, HasReading, IsReading,
 use Rattle.vx_import.specs.Choice.{IfToggle}
 use Rattle.vx_import.specs.Answers.{IsOf, disk_of}
 use Rattle.vx_import.proofs.Giving.{IfOffer, offer_if_toggle}
-use Rattle.vx_import.specs.declared.found.Found.{Found}
-use Rattle.vx_import.specs.declared.found.Reading.{Reading}
-use Rattle.vx_import.specs.declared.found.Reading.TheVariants as reading
+use Rattle.vx_import.specs.declared.device.GroupDevice.{GroupDevice}
+use Rattle.vx_import.specs.declared.device.Reading.{Reading}
+use Rattle.vx_import.specs.declared.device.Reading.TheVariants as reading
 
 -- contents that agree on the private region offer the same
 module _ (c d : Contents) (same : (k : ℕ) → k < 2048 → d k ≡ c k) where
@@ -82,7 +82,7 @@ pub own_front : (told : Option Contents) → IsPartTold 0 2048 told told
 own_front None = tt
 own_front (Some c) = λ k lt. let here : 0 + k ≡ k = omega arith in sym (ap c here)
 
-module _ {P : Type 0} (see : P → Seen) (group : Word) (f : Found P) (private : Seen) (wide : 2048 ≤ private.sectors) (front : IsPartTold 0 2048 (see f.piece).told private.told) where
+module _ {P : Type 0} (see : P → Seen) (group : Word) (f : GroupDevice P) (private : Seen) (wide : 2048 ≤ private.sectors) (front : IsPartTold 0 2048 (see f.piece).told private.told) where
   -- what the device offers
   pub offer_kept : offer_told group private.told ≡ offer_told group (see f.piece).told
   offer_kept = told_same group (see f.piece).told private.told front

@@ -16,8 +16,8 @@ use Rattle.vx_import.specs.Answers.{IsOf, IsRising}
 use Rattle.vx_import.proofs.Looking.{all_on, was_readable}
 use Rattle.vx_import.specs.declared.choosing.Taken.{Taken}
 use Rattle.vx_import.specs.declared.choosing.Taken.TheVariants as taken
-use Rattle.vx_import.specs.declared.found.Found.{Found}
-use Rattle.vx_import.specs.declared.found.Reading.{Reading}
+use Rattle.vx_import.specs.declared.device.GroupDevice.{GroupDevice}
+use Rattle.vx_import.specs.declared.device.Reading.{Reading}
 
 pub inspects_refl : (a : Looked) → Inspects a a
 inspects_refl a = record { device = refl; label = refl; kept = keeps_refl a.seen; same = record { told = refl; writes = refl }; readable = drops_refl a.readable a.seen; most = few a.seen.told }
@@ -89,25 +89,25 @@ all_ours group [] of read = tt
 all_ours group (f ∷ fs) of read = (record { group_is = of.0.group_is; headed = of.0.headed; reads = read.0 }, all_ours group fs of.1 read.1)
 
 module _ {P : Type 0} (see : P → Seen) where
-  pub all_more : (Q : Looked → Type 0) (fs : List (Found P)) (i : ℕ) (d : Found P) → AllOf Q (map (looked see) (take i fs)) → Q (looked see d) → AllOf Q (map (looked see) (take (suc i) (set fs i d)))
+  pub all_more : (Q : Looked → Type 0) (fs : List (GroupDevice P)) (i : ℕ) (d : GroupDevice P) → AllOf Q (map (looked see) (take i fs)) → Q (looked see d) → AllOf Q (map (looked see) (take (suc i) (set fs i d)))
   all_more Q [] i d all is = tt
   all_more Q (x ∷ fs) zero d all is = (is, tt)
   all_more Q (x ∷ fs) (suc i) d all is = (all.0, all_more Q fs i d all.1 is)
 
   -- devices that were passed, of which those from one on are as they were
-  pub first_same : (Q : Looked → Type 0) (ls : List Looked) (fs : List (Found P)) (i : ℕ) (d : Found P) → i < length fs → Each Passes ls (map (looked see) fs) → drop i (map (looked see) fs) ≡ drop i ls → AllOf Q ls → Q (looked see (get_or fs i d))
+  pub first_same : (Q : Looked → Type 0) (ls : List Looked) (fs : List (GroupDevice P)) (i : ℕ) (d : GroupDevice P) → i < length fs → Each Passes ls (map (looked see) fs) → drop i (map (looked see) fs) ≡ drop i ls → AllOf Q ls → Q (looked see (get_or fs i d))
   first_same Q ls [] i d lt all rest was = absurd (omega (arith, lt))
   first_same Q [] (x ∷ fs) i d lt all rest was = absurd all
   first_same Q (l ∷ ls) (x ∷ fs) zero d lt all rest was = let here : l ≡ looked see x = cc in subst Q here was.0
   first_same Q (l ∷ ls) (x ∷ fs) (suc i) d lt all rest was = first_same Q ls fs i d (omega (arith, lt)) all.1 rest was.1
 
-  pub pass_next : (ls : List Looked) (fs : List (Found P)) (i : ℕ) (d e : Found P) → i < length fs → Each Passes ls (map (looked see) fs) → drop i (map (looked see) fs) ≡ drop i ls → Passes (looked see (get_or fs i e)) (looked see d) → Each Passes ls (map (looked see) (set fs i d))
+  pub pass_next : (ls : List Looked) (fs : List (GroupDevice P)) (i : ℕ) (d e : GroupDevice P) → i < length fs → Each Passes ls (map (looked see) fs) → drop i (map (looked see) fs) ≡ drop i ls → Passes (looked see (get_or fs i e)) (looked see d) → Each Passes ls (map (looked see) (set fs i d))
   pass_next ls [] i d e lt all rest is = absurd (omega (arith, lt))
   pass_next [] (x ∷ fs) i d e lt all rest is = absurd all
   pass_next (l ∷ ls) (x ∷ fs) zero d e lt all rest is = let here : looked see x ≡ l = cc in (subst (λ a. Passes a (looked see d)) here is, all.1)
   pass_next (l ∷ ls) (x ∷ fs) (suc i) d e lt all rest is = (all.0, pass_next ls fs i d e (omega (arith, lt)) all.1 rest is)
 
-  pub rest_next : (ls : List Looked) (fs : List (Found P)) (i : ℕ) (d : Found P) → Each Passes ls (map (looked see) fs) → drop i (map (looked see) fs) ≡ drop i ls → drop (suc i) (map (looked see) (set fs i d)) ≡ drop (suc i) ls
+  pub rest_next : (ls : List Looked) (fs : List (GroupDevice P)) (i : ℕ) (d : GroupDevice P) → Each Passes ls (map (looked see) fs) → drop i (map (looked see) fs) ≡ drop i ls → drop (suc i) (map (looked see) (set fs i d)) ≡ drop (suc i) ls
   rest_next [] [] i d all rest = refl
   rest_next (l ∷ ls) [] i d all rest = absurd all
   rest_next [] (x ∷ fs) i d all rest = absurd all

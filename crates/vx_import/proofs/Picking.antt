@@ -10,7 +10,7 @@ use Rattle.vx_copies.specs.Lists.{AllOf}
 use Rattle.vx_import.specs.Looks.{Looked, looked, toggle_read}
 use Rattle.vx_import.specs.Choice.{IfToggle, IsTop, HasNone, BestIs, picked}
 use Rattle.vx_import.specs.declared.choosing.Best.{Best}
-use Rattle.vx_import.specs.declared.found.Found.{Found}
+use Rattle.vx_import.specs.declared.device.GroupDevice.{GroupDevice}
 
 if_none : (Q : ℕ → Type 0) (f : Looked) → toggle_read f ≡ None → IfToggle Q f
 if_none Q f e = subst (λ (o : Option Said). MatchOption o (Unit {0}) (λ t. Q t.sequence)) (sym e) tt
@@ -50,7 +50,7 @@ best_more f fs (Some t) (Some b) e rest = by (ltb t.sequence b.toggle.sequence) 
         let le : b.toggle.sequence ≤ t.sequence = ltb-false _ _ not_less in
         here f fs (said_of t) e (all_up_to b.toggle.sequence t.sequence fs le rest.up_to)
 
-pub choose_more : {P : Type 0} (see : P → Seen) (xs : List (Found P)) (d : Found P) (t : Option Toggle) (behind : Option Best) → 1 ≤ length xs → d ≡ get_or xs 0 d → option_map said_of t ≡ toggle_read (looked see d)
+pub choose_more : {P : Type 0} (see : P → Seen) (xs : List (GroupDevice P)) (d : GroupDevice P) (t : Option Toggle) (behind : Option Best) → 1 ≤ length xs → d ≡ get_or xs 0 d → option_map said_of t ≡ toggle_read (looked see d)
     → BestIs behind (map (looked see) (take (length xs - 1) (drop 1 xs))) → BestIs (picked t behind) (map (looked see) xs)
 choose_more see [] d t behind some is e rest = absurd (omega (arith, some))
 choose_more see (x ∷ xs) d t behind some is e rest =
@@ -58,11 +58,11 @@ choose_more see (x ∷ xs) d t behind some is e rest =
     let behind_is = subst (λ ys. BestIs behind (map (looked see) ys)) whole rest in
     best_more (looked see x) (map (looked see) xs) t behind (sym (e ∙ ap (λ f. toggle_read (looked see f)) is)) behind_is
 
-pub rest_long : {P : Type 0} (xs : List (Found P)) → 1 ≤ length xs → length (take (length xs - 1) (drop 1 xs)) ≡ length xs - 1
+pub rest_long : {P : Type 0} (xs : List (GroupDevice P)) → 1 ≤ length xs → length (take (length xs - 1) (drop 1 xs)) ≡ length xs - 1
 rest_long {P = P} [] some = absurd (omega (arith, some))
 rest_long {P = P} (x ∷ xs) some =
     let whole : take (length (x ∷ xs) - 1) (drop 1 (x ∷ xs)) ≡ xs = take_all (length (x ∷ xs) - 1) xs (omega arith) in
-    let long : length (take (length (x ∷ xs) - 1) (drop 1 (x ∷ xs))) ≡ length xs = ap (λ (ys : List (Found P)). length ys) whole in
+    let long : length (take (length (x ∷ xs) - 1) (drop 1 (x ∷ xs))) ≡ length xs = ap (λ (ys : List (GroupDevice P)). length ys) whole in
     omega (arith, long)
 
 abbrev pub IsIn : ℕ → Option Best → Type 0

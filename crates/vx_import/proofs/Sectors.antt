@@ -14,7 +14,7 @@ use Rattle.vx_header.specs.declared.fault.HeaderFault.TheVariants.{BadHeader}
 use Rattle.vx_copies.specs.Image.{text_in, sectors_for, half_start}
 use Rattle.vx_copies.proofs.Halves.{blocks_are, one_sector, few_sectors}
 use Rattle.vx_import.specs.Looks.{IsReading}
-use Rattle.vx_import.specs.declared.found.Reading.TheVariants.{Damaged}
+use Rattle.vx_import.specs.declared.device.Reading.TheVariants.{Damaged}
 
 sector_is : (sector : List ℕ) (c : Contents) (at : ℕ) → length sector ≡ 512 → AreBlocks sector c at → sector ≡ c at
 sector_is sector c at size are =

@@ -5,7 +5,7 @@ use Rattle.vx_header.specs.Named.{header_of}
 use Rattle.vx_header.specs.Said.{Said}
 use Rattle.vx_piece.specs.Seen.{Seen}
 use Rattle.vx_mask.specs.Mask.{has}
-use Rattle.vx_copies.specs.Disks.{Held}
+use Rattle.vx_copies.specs.Disks.{DiskSeen}
 use Rattle.vx_copies.specs.Lists.{AllOf, AnyOf}
 use Rattle.vx_copies.specs.Chain.{Copy, AllUpTo, IsChained}
 use Rattle.vx_confdb.specs.Texts.{text_of}
@@ -124,5 +124,5 @@ abbrev pub IsNewestOf : Word → ℕ → List Looked → Type 0
 IsNewestOf group sequence fs = (missing : ℕ) (others : List Copy) → AllOf Tells fs → AreApart missing fs → AllOf (IsElsewhere fs) others → IsChained missing (copies_with group others fs) → AllUpTo sequence (copies_with group others fs)
 
 -- the disk that a device becomes, with the private region that was split off
-abbrev pub disk_of : Bool → Word → Looked → Seen → Held
+abbrev pub disk_of : Bool → Word → Looked → Seen → DiskSeen
 disk_of good device f private = record { name = f.label.disk; device = device; slot = f.label.slot; sectors = f.label.sectors; good = good; half = half_in f.reading; seen = private }

@@ -9,9 +9,9 @@ use Rattle.vx_header.specs.Places.{IsFirstBad, is_toggle_place, toggle_end}
 use Rattle.vx_piece.specs.Seen.{Seen, Keeps, IsRead}
 use Rattle.vx_copies.specs.Disks.{Drops}
 use Rattle.vx_copies.specs.Image.{text_sectors}
-use Rattle.vx_import.specs.declared.found.Found.{Found}
-use Rattle.vx_import.specs.declared.found.Reading.{Reading}
-use Rattle.vx_import.specs.declared.found.Reading.TheVariants.{Blank, Says, Damaged}
+use Rattle.vx_import.specs.declared.device.GroupDevice.{GroupDevice}
+use Rattle.vx_import.specs.declared.device.Reading.{Reading}
+use Rattle.vx_import.specs.declared.device.Reading.TheVariants.{Blank, Says, Damaged}
 
 -- the toggle that was read
 abbrev pub said_in : Reading → Option Said
@@ -44,7 +44,7 @@ pub record Looked : Type 0 where
   pub reading : Reading
   pub seen : Seen
 
-abbrev pub looked : {P : Type 0} → (P → Seen) → Found P → Looked
+abbrev pub looked : {P : Type 0} → (P → Seen) → GroupDevice P → Looked
 looked see f = record { device = f.device; label = label_of f.header; readable = f.readable; reading = f.reading; seen = see f.piece }
 
 -- the device has a private region

@@ -4,8 +4,8 @@ use Rattle.vx_mask.specs.Mask.{has}
 use Rattle.vx_copies.specs.Lists.{AllOf}
 use Rattle.vx_import.specs.Looks.{Looked}
 use Rattle.vx_import.specs.Choice.{At}
-use Rattle.vx_import.specs.declared.found.Reading.{Reading}
-use Rattle.vx_import.specs.declared.found.Reading.TheVariants.{Blank, Says, Damaged}
+use Rattle.vx_import.specs.declared.device.Reading.{Reading}
+use Rattle.vx_import.specs.declared.device.Reading.TheVariants.{Blank, Says, Damaged}
 use Rattle.vx_import.specs.declared.naming.Damage.{Damage}
 
 -- a device of the slot can be read

@@ -3,7 +3,7 @@ ghost use Rattle.vx_import.specs.Looks.{looked, toggle_read, Reads};
 ghost use Rattle.vx_import.specs.Choice.{BestIs, picked, TriedIs};
 ghost use Rattle.vx_header.specs.Said.{said_of};
 
-use crate::found::{Found, Reading};
+use crate::device::{GroupDevice, Reading};
 use crate::reading::read_text;
 use vx_confdb::sectors_for;
 use vx_header::Toggle;
@@ -28,7 +28,7 @@ pub enum Taken {
 }
 
 /// The device that can be read and whose toggle has the highest sequence, the first of those.
-pub fn choose<P: Piece>(found: &[Found<P>]) -> Option<Best>
+pub fn choose<P: Piece>(found: &[GroupDevice<P>]) -> Option<Best>
     requires few { length found.now < 2 ^ 64 }
     ensures inside { IfSome result (λ b. b.index < length found.now) }
     ensures best { BestIs result (map (looked P.seen) found.now) }
@@ -43,7 +43,7 @@ pub fn choose<P: Piece>(found: &[Found<P>]) -> Option<Best>
     }
 }
 
-fn readable_toggle<P: Piece>(found: &Found<P>) -> Option<Toggle>
+fn readable_toggle<P: Piece>(found: &GroupDevice<P>) -> Option<Toggle>
     ensures { option_map said_of result ≡ toggle_read (looked P.seen found.now) }
 {
     if !found.readable {
@@ -101,7 +101,7 @@ pub enum Tried {
 }
 
 /// Reads once the text that a device's toggle names into a buffer, which has room for any text.
-pub fn take_one<P: Piece>(found: &mut Found<P>, toggle: &Toggle, buffer: &mut [u8]) -> Tried
+pub fn take_one<P: Piece>(found: &mut GroupDevice<P>, toggle: &Toggle, buffer: &mut [u8]) -> Tried
     requires private { 2048 ≤ (P.seen found.old.piece).sectors }
     requires names { toggle_read (looked P.seen found.old) ≡ Some (said_of toggle.now) }
     requires room { length buffer.old ≡ 522240 }

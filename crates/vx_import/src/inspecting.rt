@@ -7,7 +7,7 @@ ghost use Rattle.vx_import.specs.Toggles.{IsUnread, Inspects, ReadBy};
 ghost use Rattle.vx_import.specs.Answers.{IsOf, IsRising, Answers, IsNewestOf};
 
 use crate::choosing::Taken;
-use crate::found::Found;
+use crate::device::GroupDevice;
 use crate::judging::{Given, ImportFault, judge};
 use crate::taking::take_text;
 use crate::toggles::{Passed, read_toggles};
@@ -21,7 +21,7 @@ use vx_piece::Piece;
 /// again once a read of it has failed. The text is not taken where its toggle names a device that is damaged, or a slot
 /// without a device that can be read; where both are so the damage is told. Takes 522,240 bytes before the first read and
 /// gives them back, and for a text that is taken or told as much as it needs.
-pub fn inspect<P: Piece>(alloc: Global, found: &mut [Found<P>]) -> Result<Given, ImportFault>
+pub fn inspect<P: Piece>(alloc: Global, found: &mut [GroupDevice<P>]) -> Result<Given, ImportFault>
     requires few { length found.old ≤ 32 }
     requires private { AllOf IsPrivate (map (looked P.seen) found.old) }
     requires unread { AllOf IsUnread (map (looked P.seen) found.old) }
@@ -48,7 +48,7 @@ fn text_room(alloc: Global) -> Result<Vec<u8>, OutOfMemory>
 }
 
 /// Reads the toggles, and then the text of the highest of them into a buffer.
-fn take_newest<P: Piece>(found: &mut [Found<P>], buffer: &mut [u8]) -> Taken
+fn take_newest<P: Piece>(found: &mut [GroupDevice<P>], buffer: &mut [u8]) -> Taken
     requires few { length found.old ≤ 32 }
     requires private { AllOf IsPrivate (map (looked P.seen) found.old) }
     requires unread { AllOf IsUnread (map (looked P.seen) found.old) }

@@ -8,7 +8,7 @@ ghost use Rattle.vx_import.specs.Toggles.{ReadBy};
 ghost use Rattle.vx_import.specs.Answers.{IsOf, Answers, RefusedIs};
 
 use crate::choosing::{Best, Taken};
-use crate::found::Found;
+use crate::device::GroupDevice;
 use crate::naming::{Damage, first_damage, first_missing};
 use std::alloc::Global;
 use vx_confdb::Text;
@@ -54,7 +54,7 @@ pub enum ImportFault {
 /// What the devices give, where their toggles were read and what is taken of them stands in the buffer.
 pub fn judge<P: Piece>(
     alloc: Global,
-    found: &[Found<P>],
+    found: &[GroupDevice<P>],
     taken: Taken,
     buffer: &[u8],
 ) -> Result<Given, ImportFault>
@@ -70,7 +70,7 @@ pub fn judge<P: Piece>(
     }
 }
 
-fn judge_nothing<P: Piece>(found: &[Found<P>]) -> ImportFault
+fn judge_nothing<P: Piece>(found: &[GroupDevice<P>]) -> ImportFault
     requires none { AllOf HasNone (map (looked P.seen) found.now) }
     requires read { AllOf HasReading (map (looked P.seen) found.now) }
     ensures answers { (group : Word) → AllOf (IsOf group) (map (looked P.seen) found.now) → Answers (Err result) group (map (looked P.seen) found.now) }
@@ -92,7 +92,7 @@ fn damaged(damage: Damage) -> ImportFault
 
 fn judge_text<P: Piece>(
     alloc: Global,
-    found: &[Found<P>],
+    found: &[GroupDevice<P>],
     best: Best,
     buffer: &[u8],
 ) -> Result<Given, ImportFault>
@@ -121,7 +121,7 @@ fn judge_text<P: Piece>(
 }
 
 /// The damage for which a chosen configuration is not taken.
-fn refused<P: Piece>(found: &[Found<P>], best: &Best) -> Option<Damage>
+fn refused<P: Piece>(found: &[GroupDevice<P>], best: &Best) -> Option<Damage>
     requires top { IsTop best.now.index (said_of best.now.toggle) (map (looked P.seen) found.now) }
     ensures { RefusedIs result best.now.index (said_of best.now.toggle) (map (looked P.seen) found.now) }
 {

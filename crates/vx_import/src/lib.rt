@@ -2,7 +2,7 @@
 #![tactic(auto)]
 
 mod choosing;
-mod found;
+mod device;
 mod inspecting;
 mod judging;
 mod naming;
@@ -11,7 +11,7 @@ mod taking;
 mod toggles;
 
 pub use choosing::{Best, Taken, Tried, choose, take_one};
-pub use found::{Found, Reading, half_of};
+pub use device::{GroupDevice, Reading, half_of};
 pub use inspecting::inspect;
 pub use judging::{Given, ImportFault};
 pub use naming::Damage;

@@ -3,7 +3,7 @@ ghost use Rattle.vx_mask.specs.Mask.{has};
 ghost use Rattle.vx_import.specs.Looks.{looked};
 ghost use Rattle.vx_import.specs.Naming.{is_readable_slot, is_meant, MissingIs, HurtIs, DamageIs};
 
-use crate::found::{Found, Reading};
+use crate::device::{GroupDevice, Reading};
 use vx_mask::contains;
 use vx_names::Name;
 use vx_piece::Piece;
@@ -16,7 +16,7 @@ pub struct Damage {
 }
 
 /// The lowest slot that the mask names and of which no device can be read.
-pub fn first_missing<P: Piece>(found: &[Found<P>], mask: u32) -> Option<u8>
+pub fn first_missing<P: Piece>(found: &[GroupDevice<P>], mask: u32) -> Option<u8>
     ensures { MissingIs result mask (map (looked P.seen) found.now) }
 {
     let mut slot = 0;
@@ -29,7 +29,7 @@ pub fn first_missing<P: Piece>(found: &[Found<P>], mask: u32) -> Option<u8>
     None
 }
 
-fn is_missing<P: Piece>(found: &[Found<P>], mask: u32, slot: u8) -> bool
+fn is_missing<P: Piece>(found: &[GroupDevice<P>], mask: u32, slot: u8) -> bool
     ensures named { result ≡ true → has mask slot ≡ true }
     ensures gone { result ≡ true → is_readable_slot slot (map (looked P.seen) found.now) ≡ false }
     ensures there { result ≡ false → has mask slot ≡ true → is_readable_slot slot (map (looked P.seen) found.now) ≡ true }
@@ -37,7 +37,7 @@ fn is_missing<P: Piece>(found: &[Found<P>], mask: u32, slot: u8) -> bool
     contains(mask as u64, slot as u32) && !has_slot(found, slot)
 }
 
-fn has_slot<P: Piece>(found: &[Found<P>], slot: u8) -> bool
+fn has_slot<P: Piece>(found: &[GroupDevice<P>], slot: u8) -> bool
     ensures { result ≡ is_readable_slot slot (map (looked P.seen) found.now) }
 {
     match found {
@@ -47,7 +47,7 @@ fn has_slot<P: Piece>(found: &[Found<P>], slot: u8) -> bool
 }
 
 /// The first device that can be read and whose toggle is none, of all devices or of those that a mask names.
-pub fn first_damage<P: Piece>(found: &[Found<P>], meant: Option<u32>) -> Option<Damage>
+pub fn first_damage<P: Piece>(found: &[GroupDevice<P>], meant: Option<u32>) -> Option<Damage>
     ensures { DamageIs result meant (map (looked P.seen) found.now) }
 {
     match found {
@@ -59,7 +59,7 @@ pub fn first_damage<P: Piece>(found: &[Found<P>], meant: Option<u32>) -> Option<
     }
 }
 
-fn damage_of<P: Piece>(found: &Found<P>, meant: Option<u32>) -> Option<Damage>
+fn damage_of<P: Piece>(found: &GroupDevice<P>, meant: Option<u32>) -> Option<Damage>
     ensures { HurtIs result meant (looked P.seen found.now) }
 {
     if !found.readable || !means(meant, found.header.slot) {

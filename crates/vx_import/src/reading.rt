@@ -5,7 +5,7 @@ ghost use Rattle.vx_piece.specs.Seen.{Keeps, IsRead, CountsRead, HasCause};
 ghost use Rattle.vx_copies.specs.Image.{text_in, sectors_for};
 ghost use Rattle.vx_import.specs.Looks.{IsReading};
 
-use crate::found::Reading;
+use crate::device::Reading;
 use vx_header::{Header, HeaderFault, Toggle};
 use vx_piece::{Piece, PieceFault};
 

@@ -6,12 +6,12 @@ ghost use Rattle.vx_import.specs.Choice.{IsTop, TakenIs};
 ghost use Rattle.vx_import.specs.Tries.{TriesIs};
 
 use crate::choosing::{Best, Taken, Tried, choose, take_one};
-use crate::found::Found;
+use crate::device::GroupDevice;
 use vx_piece::Piece;
 
 /// Takes the text of the highest sequence among the devices that can be read, into the front of a buffer that has room
 /// for any text. None where its read failed: the device cannot be read any more, and one may try again.
-pub fn try_best<P: Piece>(found: &mut [Found<P>], buffer: &mut [u8]) -> Option<Taken>
+pub fn try_best<P: Piece>(found: &mut [GroupDevice<P>], buffer: &mut [u8]) -> Option<Taken>
     requires few { length found.old < 2 ^ 64 }
     requires private { AllOf IsPrivate (map (looked P.seen) found.old) }
     requires room { length buffer.old ≡ 522240 }
@@ -25,7 +25,7 @@ pub fn try_best<P: Piece>(found: &mut [Found<P>], buffer: &mut [u8]) -> Option<T
     }
 }
 
-fn try_at<P: Piece>(found: &mut [Found<P>], best: Best, buffer: &mut [u8]) -> Option<Taken>
+fn try_at<P: Piece>(found: &mut [GroupDevice<P>], best: Best, buffer: &mut [u8]) -> Option<Taken>
     requires inside { best.index < length found.old }
     requires top { IsTop best.index (said_of best.toggle) (map (looked P.seen) found.old) }
     requires private { AllOf IsPrivate (map (looked P.seen) found.old) }
@@ -45,7 +45,7 @@ fn try_at<P: Piece>(found: &mut [Found<P>], best: Best, buffer: &mut [u8]) -> Op
 
 /// Takes the text of the highest sequence among the devices that can be read. Where a read fails the device cannot be
 /// read any more, and the choice starts again. The text stands at the front of the buffer, which has room for any text.
-pub fn take_text<P: Piece>(found: &mut [Found<P>], buffer: &mut [u8]) -> Taken
+pub fn take_text<P: Piece>(found: &mut [GroupDevice<P>], buffer: &mut [u8]) -> Taken
     requires few { length found.old < 2 ^ 64 }
     requires private { AllOf IsPrivate (map (looked P.seen) found.old) }
     requires room { length buffer.old ≡ 522240 }

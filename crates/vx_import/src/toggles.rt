@@ -3,7 +3,7 @@ ghost use Rattle.vx_copies.specs.Lists.{Each, AllOf};
 ghost use Rattle.vx_import.specs.Looks.{looked, IsPrivate};
 ghost use Rattle.vx_import.specs.Toggles.{IsUnread, Passes, PassedOne, PassedAll};
 
-use crate::found::Found;
+use crate::device::GroupDevice;
 use crate::reading::read_toggle;
 use vx_piece::{Piece, PieceFault};
 
@@ -16,7 +16,7 @@ pub enum Passed {
 }
 
 /// Reads the toggle of each device of a group, once. Where a read fails the device cannot be read any more.
-pub fn read_toggles<P: Piece>(found: &mut [Found<P>], sector: &mut [u8]) -> Passed
+pub fn read_toggles<P: Piece>(found: &mut [GroupDevice<P>], sector: &mut [u8]) -> Passed
     requires private { AllOf IsPrivate (map (looked P.seen) found.old) }
     requires unread { AllOf IsUnread (map (looked P.seen) found.old) }
     requires size { length sector.old ≡ 512 }
@@ -36,7 +36,7 @@ pub fn read_toggles<P: Piece>(found: &mut [Found<P>], sector: &mut [u8]) -> Pass
     Passed::Done
 }
 
-fn add_toggle<P: Piece>(found: &mut Found<P>, sector: &mut [u8]) -> Passed
+fn add_toggle<P: Piece>(found: &mut GroupDevice<P>, sector: &mut [u8]) -> Passed
     requires private { 2048 ≤ (P.seen found.old.piece).sectors }
     requires readable { found.old.readable ≡ true }
     requires size { length sector.old ≡ 512 }

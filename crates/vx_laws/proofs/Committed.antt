@@ -19,7 +19,7 @@ use Rattle.vx_moments.specs.Moment.{Moment, HasFailed}
 use Rattle.vx_moments.specs.Holding.{IsLent, IsHeld}
 use Rattle.vx_moments.specs.Leaving.{group_gone}
 use Rattle.vx_moments.specs.Copies.{label_of, IsCurrent}
-use Rattle.vx_moments.specs.Commit.{Writing, parties, is_written_slot, Goes, MemberGoes, JoinerGoes, IsNoDeviceOf, NoneFailed, IsCarrying, IsHeaded, IsCommitted}
+use Rattle.vx_moments.specs.Commit.{Writing, parties, is_written_slot, DeviceGoes, MemberGoes, JoinerGoes, IsNoDeviceOf, NoneFailed, IsCarrying, IsHeaded, IsCommitted}
 use Rattle.vx_plans.specs.Finding.{Candidate, IsCandidate, is_recorded}
 use Rattle.vx_laws.specs.Returning.{SlotsRise, HasJustDisks, HasSamePublic, IsKeptOn, IsDeviceOf, nobody, IsOutdated, IsLeftOn, IsLeftBehind}
 use Rattle.vx_laws.proofs.ListFacts.{either, both_ways, all_all, all_pass, all_append, all_front, all_behind}
@@ -84,19 +84,19 @@ found_as : (P : Device → Type 0) (o : Option Device) (d : Device) → o ≡ So
 found_as P o d is h = let Q : Option Device → Type 0 = λ x. MatchOption x ⊥ P in subst Q is h
 
 -- it goes so, too
-goes_so : {R S : Device → Device → Type 0} (name : Word) (old new : World) (g : Goes R name old new) → S g.before g.after → Goes S name old new
+goes_so : {R S : Device → Device → Type 0} (name : Word) (old new : World) (g : DeviceGoes R name old new) → S g.before g.after → DeviceGoes S name old new
 goes_so name old new g goes = record { before = g.before; after = g.after; was = g.was; is = g.is; sectors = g.sectors; goes = goes }
 
 -- the member's device has its header, and offers the text
 abbrev IsWritten : Writing → ℕ → ℕ → World → World → Member → Type 0
-IsWritten x last good old new m = Goes (λ d e. (header_of (e.contents 0) ≡ Some (label_of x.config.group m e)) × IsCurrent last good x.text e.contents) m.device old new
+IsWritten x last good old new m = DeviceGoes (λ d e. (header_of (e.contents 0) ≡ Some (label_of x.config.group m e)) × IsCurrent last good x.text e.contents) m.device old new
 
 -- the device of the member has its header
 abbrev pub HasItsHeader : Writing → World → Member → Type 0
 HasItsHeader x w m = (d : Device) → w.devices m.device ≡ Some d → header_of (d.contents 0) ≡ Some (label_of x.config.group m d)
 
 module _ (x : Writing) (last good : ℕ) (old new : Moment) where
-  written_by : {R : Device → Device → Type 0} (m : Member) → has good m.slot ≡ true → IsCarrying x last good new.world m → (g : Goes R m.device old.world new.world) → header_of (g.after.contents 0) ≡ Some (label_of x.config.group m g.after) → IsWritten x last good old.world new.world m
+  written_by : {R : Device → Device → Type 0} (m : Member) → has good m.slot ≡ true → IsCarrying x last good new.world m → (g : DeviceGoes R m.device old.world new.world) → header_of (g.after.contents 0) ≡ Some (label_of x.config.group m g.after) → IsWritten x last good old.world new.world m
   written_by m is carrying g header = goes_so m.device old.world new.world g (header, found_as (λ d. IsCurrent last good x.text d.contents) (new.world.devices m.device) g.after g.is (carrying is))
 
   members_written : (ms : List Member) → AllOf (λ m. has x.group.good m.slot ≡ true) ms → AllOf (HasItsHeader x old.world) ms → AllOf (MemberGoes x last old new) ms → AllOf (λ m. has good m.slot ≡ true) ms → AllOf (IsCarrying x last good new.world) ms → AllOf (IsWritten x last good old.world new.world) ms
@@ -114,7 +114,7 @@ module _ (x : Writing) (last good : ℕ) (old new : Moment) where
       (written_by m is.0 carrying.0 goes.0 header, joiners_written ms headed.1 goes.1 is.1 carrying.1)
 
   -- the public sectors of the members' devices stay
-  pub public_kept : (ms : List Member) → length x.text ≤ 522240 → AllOf (λ m. has x.group.good m.slot ≡ true) ms → AllOf (MemberGoes x last old new) ms → AllOf (λ m. Goes HasSamePublic m.device old.world new.world) ms
+  pub public_kept : (ms : List Member) → length x.text ≤ 522240 → AllOf (λ m. has x.group.good m.slot ≡ true) ms → AllOf (MemberGoes x last old new) ms → AllOf (λ m. DeviceGoes HasSamePublic m.device old.world new.world) ms
   public_kept [] short was goes = tt
   public_kept (m ∷ ms) short was goes =
       let g = goes.0.good was.0 in

@@ -17,8 +17,8 @@ use Rattle.vx_copies.specs.Lists.{AllOf, AnyOf}
 use Rattle.vx_copies.specs.Image.{Offer, offer_in, offer_of, offer_if, offer_by, toggle_at, names_group, text_in, higher, highest}
 use Rattle.vx_record.specs.Content.{Content}
 use Rattle.vx_record.proofs.Stopped.{spells_one, not_bad}
-use Rattle.vx_parts.specs.declared.vol.Vol.{Vol}
-use Rattle.vx_parts.specs.declared.object.Object.{Object}
+use Rattle.vx_config_parts.specs.declared.vol.Vol.{Vol}
+use Rattle.vx_config_parts.specs.declared.object.Object.{Object}
 use Rattle.vx_objects.specs.declared.config.Config.{Config}
 use Rattle.vx_objects.specs.Config.{objects_of}
 use Rattle.vx_objects.specs.Printed.{record_of, IsReadOf}

@@ -11,10 +11,10 @@ use Rattle.vx_mask.specs.Mask.{has}
 use Rattle.vx_mask.proofs.MaskLemmas.{has-zero}
 use Rattle.vx_copies.specs.Lists.{AllOf, AnyOf}
 use Rattle.vx_copies.specs.Image.{names_group}
-use Rattle.vx_parts.specs.declared.disk.Disk.{Disk}
-use Rattle.vx_parts.specs.declared.object.Object.{Object}
-use Rattle.vx_parts.specs.declared.object.Object.TheVariants.{GroupRecord, DiskRecord}
-use Rattle.vx_parts.specs.Objects.{is_disk}
+use Rattle.vx_config_parts.specs.declared.disk.Disk.{Disk}
+use Rattle.vx_config_parts.specs.declared.object.Object.{Object}
+use Rattle.vx_config_parts.specs.declared.object.Object.TheVariants.{GroupRecord, DiskRecord}
+use Rattle.vx_config_parts.specs.Objects.{is_disk}
 use Rattle.vx_script_words.specs.declared.value.DiskAt.{DiskAt}
 use Rattle.vx_script_forms.specs.declared.form.Form.TheVariants.{DgInit, DgAddDisk}
 use Rattle.vx_moments.specs.World.{World, Device, Member, Group}

@@ -9,14 +9,14 @@ use Rattle.std.proofs.lemmas.List.Sorted.{list_any-IsPermutation, sum_by-IsPermu
 use Rattle.std.proofs.lemmas.Map.Keys.{IsDistinct-IsPermutation}
 use Rattle.vx_base.specs.Named.{Word}
 use Rattle.vx_base.proofs.NamedLemmas.{bytes_eq_self, bytes_eq_same}
-use Rattle.vx_parts.specs.declared.group.Group.{Group}
-use Rattle.vx_parts.specs.declared.disk.Disk.{Disk}
-use Rattle.vx_parts.specs.declared.object.Object.{Object}
-use Rattle.vx_parts.specs.declared.object.Object.TheVariants.{GroupRecord, DiskRecord}
-use Rattle.vx_parts.specs.declared.fault.Limit.TheVariants as limit
-use Rattle.vx_parts.specs.declared.fault.ObjectFault.{ObjectFault}
-use Rattle.vx_parts.specs.declared.fault.ObjectFault.TheVariants.{Limit, Exists}
-use Rattle.vx_parts.specs.Objects.{name_of, is_group, is_disk, is_vol}
+use Rattle.vx_config_parts.specs.declared.group.Group.{Group}
+use Rattle.vx_config_parts.specs.declared.disk.Disk.{Disk}
+use Rattle.vx_config_parts.specs.declared.object.Object.{Object}
+use Rattle.vx_config_parts.specs.declared.object.Object.TheVariants.{GroupRecord, DiskRecord}
+use Rattle.vx_config_parts.specs.declared.fault.Limit.TheVariants as limit
+use Rattle.vx_config_parts.specs.declared.fault.ObjectFault.{ObjectFault}
+use Rattle.vx_config_parts.specs.declared.fault.ObjectFault.TheVariants.{Limit, Exists}
+use Rattle.vx_config_parts.specs.Objects.{name_of, is_group, is_disk, is_vol}
 use Rattle.vx_extents.specs.Overlap.{first_overlap_with, overlap_of}
 use Rattle.vx_rules.specs.declared.rule.Rule.{Rule}
 use Rattle.vx_rules.specs.declared.rule.Rule.TheVariants as rule

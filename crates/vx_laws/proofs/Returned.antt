@@ -7,7 +7,7 @@ use Rattle.vx_base.proofs.NamedLemmas.{bytes_eq_same, bytes_eq_self}
 use Rattle.vx_mask.specs.Mask.{has}
 use Rattle.vx_copies.specs.Lists.{AllOf, AnyOf}
 use Rattle.vx_copies.specs.Image.{Offer, offer_in}
-use Rattle.vx_parts.specs.declared.object.Object.{Object}
+use Rattle.vx_config_parts.specs.declared.object.Object.{Object}
 use Rattle.vx_rules.specs.Rules.{first_broken}
 use Rattle.vx_objects.specs.declared.config.Config.{Config}
 use Rattle.vx_objects.specs.Config.{objects_of}
@@ -21,7 +21,7 @@ use Rattle.vx_moments.specs.Moment.{Moment, HasFailed}
 use Rattle.vx_moments.specs.Holding.{IsMemberDevice, is_among}
 use Rattle.vx_moments.specs.Leaving.{group_gone}
 use Rattle.vx_moments.specs.Copies.{IsTextOf}
-use Rattle.vx_moments.specs.Commit.{Writing, parties, is_written_slot, is_slot_of, Goes, NoneFailed, IsCommitted}
+use Rattle.vx_moments.specs.Commit.{Writing, parties, is_written_slot, is_slot_of, DeviceGoes, NoneFailed, IsCommitted}
 use Rattle.vx_plans.specs.Finding.{Candidate, IsCandidate, AreCounted, Found, Finds, group_found, import_records}
 use Rattle.vx_plans.specs.Plans.{plan_of, plan_deport}
 use Rattle.vx_plans.specs.Records.{next_slot}
@@ -40,7 +40,7 @@ use Rattle.vx_laws.proofs.Recorded.{same_recorded}
 use Rattle.vx_laws.proofs.Runs.{served, left_so, well_before, same_well, none_failed, well_from}
 use Rattle.vx_laws.proofs.Found.{current_short, members_back, in_text, same_objects, named, disks_alone, finds_taken}
 use Rattle.vx_laws.proofs.Committed.{same_candidate, HasItsHeader, IsRecorded, CanBeWritten, can_be, kept_as, group_now, all_good, one_more, public_kept, each_other, left_behind}
-use Rattle.vx_parts.specs.declared.vol.Vol.{Vol}
+use Rattle.vx_config_parts.specs.declared.vol.Vol.{Vol}
 use Rattle.vx_answers.specs.declared.refusal.Refusal.TheVariants.{NoGroup}
 use Rattle.vx_plans.specs.Tests.{fails, unless, is_here, in_use_by, started_of, first_started}
 use Rattle.vx_plans.specs.declared.test.Test.TheVariants as tests
@@ -233,9 +233,9 @@ module _ (g : Group) (x : Writing) (old new : Moment) (left : IsLeftBehind g old
     good = slots_same;
     members = are;
     sequence = one_more x old new can c none ∙ ap (λ (n : ℕ). n + 1) same.sequence;
-    public = all_append (λ m. Goes HasSamePublic m.device old.world new.world) x.group.members x.joiners
+    public = all_append (λ m. DeviceGoes HasSamePublic m.device old.world new.world) x.group.members x.joiners
         (public_kept x c.last c.good old new x.group.members c.committing.short can.good c.committing.members)
-        (subst (AllOf (λ m. Goes HasSamePublic m.device old.world new.world)) (sym same.joiners) tt);
+        (subst (AllOf (λ m. DeviceGoes HasSamePublic m.device old.world new.world)) (sym same.joiners) tt);
     others = c.committing.others;
     volumes = c.committing.volumes;
     left = left_again;

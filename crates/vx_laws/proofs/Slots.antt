@@ -5,7 +5,7 @@ use Rattle.std.specs.List.{list_any}
 use Rattle.std.specs.List.Sorted.{IsPermutation}
 use Rattle.std.proofs.lemmas.Bool.{cases_lt}
 use Rattle.std.proofs.lemmas.List.Sorted.{list_any-IsPermutation}
-use Rattle.vx_parts.specs.Objects.{is_disk}
+use Rattle.vx_config_parts.specs.Objects.{is_disk}
 use Rattle.vx_objects.specs.declared.config.Config.{Config}
 use Rattle.vx_objects.specs.Config.{objects_of}
 use Rattle.vx_plans.specs.Records.{free_slot_from, slot_or_last, next_slot}

@@ -20,7 +20,7 @@ use Rattle.vx_moments.specs.Moment.{Moment}
 use Rattle.vx_moments.specs.Holding.{IsHeld, IsLent}
 use Rattle.vx_moments.specs.Leaving.{group_gone, PowerGoes}
 use Rattle.vx_moments.specs.Copies.{IsTextOf, label_of, IsCurrent}
-use Rattle.vx_moments.specs.Commit.{Goes, IsNoDeviceOf}
+use Rattle.vx_moments.specs.Commit.{DeviceGoes, IsNoDeviceOf}
 use Rattle.vx_plans.specs.Finding.{Candidate, IsCandidate, is_recorded}
 use Rattle.vx_plans.specs.Records.{next_slot}
 use Rattle.vx_plans.specs.Steps.{Step, IsTranscript, done}
@@ -112,7 +112,7 @@ pub record IsReturned (g : Group) (old new : World) : Type 0 where
   pub good : (slot : ℕ) → has now.good slot ≡ has g.good slot
   pub members : now.members ≡ good_members g
   pub sequence : now.sequence ≡ g.sequence + 1
-  pub public : AllOf (λ m. Goes HasSamePublic m.device old new) now.members
+  pub public : AllOf (λ m. DeviceGoes HasSamePublic m.device old new) now.members
   pub others : (name : Word) → IsNoDeviceOf now.members name → new.devices name ≡ old.devices name
   pub volumes : new.volumes ≡ old.volumes
   pub left : IsLeftBehind now (group_gone new)

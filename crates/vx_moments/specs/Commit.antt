@@ -42,7 +42,7 @@ pub record IsMaskOf (x : Writing) (old new : Counts) (mask : ℕ) : Type 0 where
   pub lacks : AllOf (λ m. is_written_slot x m.slot ≡ true → has mask m.slot ≡ false → HasFailed old new m.device) (parties x)
 
 -- the device is there before and after, with its sectors, and so its contents go
-pub record Goes (R : Device → Device → Type 0) (name : Word) (old new : World) : Type 0 where
+pub record DeviceGoes (R : Device → Device → Type 0) (name : Word) (old new : World) : Type 0 where
   pub before : Device
   pub after : Device
   pub was : old.devices name ≡ Some before
@@ -52,12 +52,12 @@ pub record Goes (R : Device → Device → Type 0) (name : Word) (old new : Worl
 
 -- a member that is good is written, another is let alone
 pub record MemberGoes (x : Writing) (last : ℕ) (old new : Moment) (m : Member) : Type 0 where
-  pub good : has x.group.good m.slot ≡ true → Goes (λ d e. IsStruck (x.group.sequence + 1) last (IsMaskOf x old.counts new.counts) x.text d.contents e.contents) m.device old.world new.world
+  pub good : has x.group.good m.slot ≡ true → DeviceGoes (λ d e. IsStruck (x.group.sequence + 1) last (IsMaskOf x old.counts new.counts) x.text d.contents e.contents) m.device old.world new.world
   pub idle : has x.group.good m.slot ≡ false → new.world.devices m.device ≡ old.world.devices m.device
 
 -- a member that joins
 abbrev pub JoinerGoes : Writing → ℕ → Moment → Moment → Member → Type 0
-JoinerGoes x last old new m = Goes (λ d e. IsEntered (label_of x.config.group m d) (x.group.sequence + 1) last (IsMaskOf x old.counts new.counts) x.text d.contents e.contents) m.device old.world new.world
+JoinerGoes x last old new m = DeviceGoes (λ d e. IsEntered (label_of x.config.group m d) (x.group.sequence + 1) last (IsMaskOf x old.counts new.counts) x.text d.contents e.contents) m.device old.world new.world
 
 -- the device is none of these members'
 abbrev pub IsNoDeviceOf : List Member → Word → Type 0

@@ -8,11 +8,11 @@ use Rattle.std.proofs.lemmas.Bool.Decides.{nat_tests}
 use Rattle.std.proofs.lemmas.List.{get_or-map, length-map}
 use mathlib.Core.HLevel.{is_prop→PathP}
 use Rattle.vx_record.specs.Content.{Content}
-use Rattle.vx_parts.specs.declared.group.Group.{Group}
-use Rattle.vx_parts.specs.declared.object.Object.{Object}
-use Rattle.vx_parts.specs.declared.object.Object.TheVariants.{GroupRecord, DiskRecord, SubdiskRecord, PlexRecord, VolRecord, DcoRecord, SnapRecord}
-use Rattle.vx_parts.specs.declared.fault.ObjectFault.{ObjectFault}
-use Rattle.vx_parts.specs.declared.fault.ObjectFault.TheVariants.{OutOfMemory}
+use Rattle.vx_config_parts.specs.declared.group.Group.{Group}
+use Rattle.vx_config_parts.specs.declared.object.Object.{Object}
+use Rattle.vx_config_parts.specs.declared.object.Object.TheVariants.{GroupRecord, DiskRecord, SubdiskRecord, PlexRecord, VolRecord, DcoRecord, SnapRecord}
+use Rattle.vx_config_parts.specs.declared.fault.ObjectFault.{ObjectFault}
+use Rattle.vx_config_parts.specs.declared.fault.ObjectFault.TheVariants.{OutOfMemory}
 use Rattle.vx_rules.specs.Limits.{is_short, fits_byte, fits_word, map_fits}
 use Rattle.vx_rules.specs.Rules.{first_broken, is_valid}
 use Rattle.vx_objects.specs.declared.config.Config.{Config}

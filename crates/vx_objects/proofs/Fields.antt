@@ -17,19 +17,19 @@ use Rattle.vx_record.specs.declared.kind.Kind.{Kind}
 use Rattle.vx_record.specs.declared.kind.Kind.TheVariants as kinds
 use Rattle.vx_record.specs.declared.label.Label.{Label}
 use Rattle.vx_record.specs.declared.label.Label.TheVariants as labels
-use Rattle.vx_parts.specs.declared.plex.PlexKind.{PlexKind}
-use Rattle.vx_parts.specs.declared.plex.PlexKind.TheVariants as kind
-use Rattle.vx_parts.specs.declared.plex.PlexLayout.{PlexLayout}
-use Rattle.vx_parts.specs.declared.plex.PlexLayout.TheVariants as layout
-use Rattle.vx_parts.specs.declared.state.PlexState.{PlexState}
-use Rattle.vx_parts.specs.declared.state.PlexState.TheVariants as plex
-use Rattle.vx_parts.specs.declared.state.VolState.{VolState}
-use Rattle.vx_parts.specs.declared.state.VolState.TheVariants as vol
-use Rattle.vx_parts.specs.declared.vol.PolicyKind.{PolicyKind}
-use Rattle.vx_parts.specs.declared.vol.PolicyKind.TheVariants as policy
-use Rattle.vx_parts.specs.Words.{plex_kind_word, layout_word, plex_state_word, vol_state_word, policy_word}
+use Rattle.vx_config_parts.specs.declared.plex.PlexKind.{PlexKind}
+use Rattle.vx_config_parts.specs.declared.plex.PlexKind.TheVariants as kind
+use Rattle.vx_config_parts.specs.declared.plex.PlexLayout.{PlexLayout}
+use Rattle.vx_config_parts.specs.declared.plex.PlexLayout.TheVariants as layout
+use Rattle.vx_config_parts.specs.declared.state.PlexState.{PlexState}
+use Rattle.vx_config_parts.specs.declared.state.PlexState.TheVariants as plex
+use Rattle.vx_config_parts.specs.declared.state.VolState.{VolState}
+use Rattle.vx_config_parts.specs.declared.state.VolState.TheVariants as vol
+use Rattle.vx_config_parts.specs.declared.vol.PolicyKind.{PolicyKind}
+use Rattle.vx_config_parts.specs.declared.vol.PolicyKind.TheVariants as policy
+use Rattle.vx_config_parts.specs.Words.{plex_kind_word, layout_word, plex_state_word, vol_state_word, policy_word}
 use Rattle.vx_objects.specs.Fields.{HasValue, column_at}
-use Rattle.vx_parts.specs.declared.object.Object.TheVariants.{GroupRecord}
+use Rattle.vx_config_parts.specs.declared.object.Object.TheVariants.{GroupRecord}
 use Rattle.vx_objects.specs.Printed.{attr, numeral, record_of}
 
 pub fit_length : (cs : List Column) (xs : List Attr) → attrs_fit cs xs ≡ true → length xs ≡ length cs

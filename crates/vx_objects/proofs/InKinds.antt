@@ -9,14 +9,14 @@ use Rattle.std.proofs.lemmas.List.Elements.{filter_map-append}
 use Rattle.std.proofs.lemmas.List.MinMax.{IsStrictWeakOrder-by_number}
 use Rattle.std.proofs.lemmas.List.Sorted.{sorted_far}
 use Rattle.vx_base.specs.Named.{Word}
-use Rattle.vx_parts.specs.declared.disk.Disk.{Disk}
-use Rattle.vx_parts.specs.declared.subdisk.Subdisk.{Subdisk}
-use Rattle.vx_parts.specs.declared.plex.Plex.{Plex}
-use Rattle.vx_parts.specs.declared.vol.Vol.{Vol}
-use Rattle.vx_parts.specs.declared.dco.Dco.{Dco}
-use Rattle.vx_parts.specs.declared.snap.Snap.{Snap}
-use Rattle.vx_parts.specs.declared.object.Object.{Object}
-use Rattle.vx_parts.specs.declared.object.Object.TheVariants.{GroupRecord, DiskRecord, SubdiskRecord, PlexRecord, VolRecord, DcoRecord, SnapRecord}
+use Rattle.vx_config_parts.specs.declared.disk.Disk.{Disk}
+use Rattle.vx_config_parts.specs.declared.subdisk.Subdisk.{Subdisk}
+use Rattle.vx_config_parts.specs.declared.plex.Plex.{Plex}
+use Rattle.vx_config_parts.specs.declared.vol.Vol.{Vol}
+use Rattle.vx_config_parts.specs.declared.dco.Dco.{Dco}
+use Rattle.vx_config_parts.specs.declared.snap.Snap.{Snap}
+use Rattle.vx_config_parts.specs.declared.object.Object.{Object}
+use Rattle.vx_config_parts.specs.declared.object.Object.TheVariants.{GroupRecord, DiskRecord, SubdiskRecord, PlexRecord, VolRecord, DcoRecord, SnapRecord}
 use Rattle.vx_objects.specs.Laws.{place_of}
 use Rattle.vx_objects.specs.Parts.{as_group, as_disk, as_subdisk, as_plex, as_vol, as_dco, as_snap, records_below, records_of, in_kinds}
 use Rattle.vx_objects.specs.Printed.{kind_of}

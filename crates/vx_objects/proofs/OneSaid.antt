@@ -9,26 +9,26 @@ use Rattle.std.proofs.lemmas.Fmt.{decimal_injective}
 use Rattle.vx_base.specs.Named.{Word}
 use Rattle.vx_names.specs.declared.attr.Attr.{Attr}
 use Rattle.vx_record.specs.Content.{Content}
-use Rattle.vx_parts.specs.declared.group.Group.{Group}
-use Rattle.vx_parts.specs.declared.disk.Disk.{Disk}
-use Rattle.vx_parts.specs.declared.subdisk.Subdisk.{Subdisk}
-use Rattle.vx_parts.specs.declared.plex.Plex.{Plex}
-use Rattle.vx_parts.specs.declared.plex.PlexKind.{PlexKind}
-use Rattle.vx_parts.specs.declared.plex.PlexKind.TheVariants as kind
-use Rattle.vx_parts.specs.declared.plex.PlexLayout.{PlexLayout}
-use Rattle.vx_parts.specs.declared.plex.PlexLayout.TheVariants as layout
-use Rattle.vx_parts.specs.declared.state.PlexState.{PlexState}
-use Rattle.vx_parts.specs.declared.state.PlexState.TheVariants as plex
-use Rattle.vx_parts.specs.declared.state.VolState.{VolState}
-use Rattle.vx_parts.specs.declared.state.VolState.TheVariants as vol
-use Rattle.vx_parts.specs.declared.vol.PolicyKind.{PolicyKind}
-use Rattle.vx_parts.specs.declared.vol.PolicyKind.TheVariants as policy
-use Rattle.vx_parts.specs.declared.vol.Vol.{Vol}
-use Rattle.vx_parts.specs.declared.dco.Dco.{Dco}
-use Rattle.vx_parts.specs.declared.snap.Snap.{Snap}
-use Rattle.vx_parts.specs.declared.object.Object.{Object}
-use Rattle.vx_parts.specs.declared.object.Object.TheVariants.{GroupRecord, DiskRecord, SubdiskRecord, PlexRecord, VolRecord, DcoRecord, SnapRecord}
-use Rattle.vx_parts.specs.Words.{plex_kind_word, layout_word, plex_state_word, vol_state_word, policy_word}
+use Rattle.vx_config_parts.specs.declared.group.Group.{Group}
+use Rattle.vx_config_parts.specs.declared.disk.Disk.{Disk}
+use Rattle.vx_config_parts.specs.declared.subdisk.Subdisk.{Subdisk}
+use Rattle.vx_config_parts.specs.declared.plex.Plex.{Plex}
+use Rattle.vx_config_parts.specs.declared.plex.PlexKind.{PlexKind}
+use Rattle.vx_config_parts.specs.declared.plex.PlexKind.TheVariants as kind
+use Rattle.vx_config_parts.specs.declared.plex.PlexLayout.{PlexLayout}
+use Rattle.vx_config_parts.specs.declared.plex.PlexLayout.TheVariants as layout
+use Rattle.vx_config_parts.specs.declared.state.PlexState.{PlexState}
+use Rattle.vx_config_parts.specs.declared.state.PlexState.TheVariants as plex
+use Rattle.vx_config_parts.specs.declared.state.VolState.{VolState}
+use Rattle.vx_config_parts.specs.declared.state.VolState.TheVariants as vol
+use Rattle.vx_config_parts.specs.declared.vol.PolicyKind.{PolicyKind}
+use Rattle.vx_config_parts.specs.declared.vol.PolicyKind.TheVariants as policy
+use Rattle.vx_config_parts.specs.declared.vol.Vol.{Vol}
+use Rattle.vx_config_parts.specs.declared.dco.Dco.{Dco}
+use Rattle.vx_config_parts.specs.declared.snap.Snap.{Snap}
+use Rattle.vx_config_parts.specs.declared.object.Object.{Object}
+use Rattle.vx_config_parts.specs.declared.object.Object.TheVariants.{GroupRecord, DiskRecord, SubdiskRecord, PlexRecord, VolRecord, DcoRecord, SnapRecord}
+use Rattle.vx_config_parts.specs.Words.{plex_kind_word, layout_word, plex_state_word, vol_state_word, policy_word}
 use Rattle.vx_rules.specs.Limits.{is_short}
 use Rattle.vx_objects.specs.Printed.{record_of, numeral_or_none, map_is_short, can_be_said}
 

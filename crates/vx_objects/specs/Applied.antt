@@ -1,7 +1,7 @@
 -- What becomes of a configuration by edits.
 use Rattle.std.specs.Prelude.{◌≡◌, ◌⊎◌, Some, List}
-use Rattle.vx_parts.specs.declared.fault.ObjectFault.{ObjectFault}
-use Rattle.vx_parts.specs.declared.fault.ObjectFault.TheVariants.{OutOfMemory}
+use Rattle.vx_config_parts.specs.declared.fault.ObjectFault.{ObjectFault}
+use Rattle.vx_config_parts.specs.declared.fault.ObjectFault.TheVariants.{OutOfMemory}
 use Rattle.vx_objects.specs.declared.edit.Edit.{Edit}
 use Rattle.vx_objects.specs.declared.config.Config.{Config}
 use Rattle.vx_objects.specs.Parts.{in_kinds}

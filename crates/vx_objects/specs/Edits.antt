@@ -3,17 +3,17 @@ use Rattle.std.specs.Prelude.{ℕ, Bool, true, Option, Some, None, List, [], ◌
 use Rattle.std.specs.List.{list_any, filter_map}
 use Rattle.std.specs.Str.{bytes_eq}
 use Rattle.vx_base.specs.Named.{Word}
-use Rattle.vx_parts.specs.declared.vol.PolicyKind.{PolicyKind}
-use Rattle.vx_parts.specs.declared.vol.PolicyKind.TheVariants as kind
-use Rattle.vx_parts.specs.declared.vol.PolicyName.{PolicyName}
-use Rattle.vx_parts.specs.declared.vol.PolicyName.TheVariants as policy
-use Rattle.vx_parts.specs.declared.state.PlexState.{PlexState}
-use Rattle.vx_parts.specs.declared.state.VolState.{VolState}
-use Rattle.vx_parts.specs.declared.object.Object.{Object}
-use Rattle.vx_parts.specs.declared.object.Object.TheVariants.{DiskRecord, SubdiskRecord, PlexRecord, VolRecord, DcoRecord, SnapRecord}
-use Rattle.vx_parts.specs.declared.fault.ObjectFault.{ObjectFault}
-use Rattle.vx_parts.specs.declared.fault.ObjectFault.TheVariants.{NoObject}
-use Rattle.vx_parts.specs.Objects.{is_plex, is_dco, is_snap, refers}
+use Rattle.vx_config_parts.specs.declared.vol.PolicyKind.{PolicyKind}
+use Rattle.vx_config_parts.specs.declared.vol.PolicyKind.TheVariants as kind
+use Rattle.vx_config_parts.specs.declared.vol.PolicyName.{PolicyName}
+use Rattle.vx_config_parts.specs.declared.vol.PolicyName.TheVariants as policy
+use Rattle.vx_config_parts.specs.declared.state.PlexState.{PlexState}
+use Rattle.vx_config_parts.specs.declared.state.VolState.{VolState}
+use Rattle.vx_config_parts.specs.declared.object.Object.{Object}
+use Rattle.vx_config_parts.specs.declared.object.Object.TheVariants.{DiskRecord, SubdiskRecord, PlexRecord, VolRecord, DcoRecord, SnapRecord}
+use Rattle.vx_config_parts.specs.declared.fault.ObjectFault.{ObjectFault}
+use Rattle.vx_config_parts.specs.declared.fault.ObjectFault.TheVariants.{NoObject}
+use Rattle.vx_config_parts.specs.Objects.{is_plex, is_dco, is_snap, refers}
 use Rattle.vx_rules.specs.Faults.{first_some, unless}
 use Rattle.vx_rules.specs.References.{has_plex, has_vol}
 use Rattle.vx_rules.specs.Rules.{first_broken}

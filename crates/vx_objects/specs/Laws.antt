@@ -4,8 +4,8 @@ use Rattle.std.specs.List.Sorted.{IsSortedBy}
 use Rattle.vx_record.specs.Content.{Content}
 use Rattle.vx_record.specs.declared.kind.Kind.{Kind}
 use Rattle.vx_record.specs.declared.kind.Kind.TheVariants as kinds
-use Rattle.vx_parts.specs.declared.fault.ObjectFault.{ObjectFault}
-use Rattle.vx_parts.specs.declared.fault.ObjectFault.TheVariants.{OutOfMemory}
+use Rattle.vx_config_parts.specs.declared.fault.ObjectFault.{ObjectFault}
+use Rattle.vx_config_parts.specs.declared.fault.ObjectFault.TheVariants.{OutOfMemory}
 use Rattle.vx_objects.specs.declared.config.Config.{Config}
 use Rattle.vx_objects.specs.Printed.{IsReadOf, IsUnreadOf, records_in}
 

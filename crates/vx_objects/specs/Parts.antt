@@ -2,15 +2,15 @@
 use Rattle.std.specs.Prelude.{ℕ, Option, Some, None, List, ◌∷◌, ◌++◌, map}
 use Rattle.std.specs.List.{filter_map}
 use Rattle.vx_base.specs.Named.{Word}
-use Rattle.vx_parts.specs.declared.group.Group.{Group}
-use Rattle.vx_parts.specs.declared.disk.Disk.{Disk}
-use Rattle.vx_parts.specs.declared.subdisk.Subdisk.{Subdisk}
-use Rattle.vx_parts.specs.declared.plex.Plex.{Plex}
-use Rattle.vx_parts.specs.declared.vol.Vol.{Vol}
-use Rattle.vx_parts.specs.declared.dco.Dco.{Dco}
-use Rattle.vx_parts.specs.declared.snap.Snap.{Snap}
-use Rattle.vx_parts.specs.declared.object.Object.{Object}
-use Rattle.vx_parts.specs.declared.object.Object.TheVariants.{GroupRecord, DiskRecord, SubdiskRecord, PlexRecord, VolRecord, DcoRecord, SnapRecord}
+use Rattle.vx_config_parts.specs.declared.group.Group.{Group}
+use Rattle.vx_config_parts.specs.declared.disk.Disk.{Disk}
+use Rattle.vx_config_parts.specs.declared.subdisk.Subdisk.{Subdisk}
+use Rattle.vx_config_parts.specs.declared.plex.Plex.{Plex}
+use Rattle.vx_config_parts.specs.declared.vol.Vol.{Vol}
+use Rattle.vx_config_parts.specs.declared.dco.Dco.{Dco}
+use Rattle.vx_config_parts.specs.declared.snap.Snap.{Snap}
+use Rattle.vx_config_parts.specs.declared.object.Object.{Object}
+use Rattle.vx_config_parts.specs.declared.object.Object.TheVariants.{GroupRecord, DiskRecord, SubdiskRecord, PlexRecord, VolRecord, DcoRecord, SnapRecord}
 
 abbrev pub as_group : Object → Option Group
 as_group (GroupRecord g) = Some g

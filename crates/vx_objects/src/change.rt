@@ -2,7 +2,7 @@
 ghost use Rattle.std.specs.Prelude.{◌≡◌, ◌++◌, ◌&&◌, IfOk, OnOk, ℕ};
 ghost use Rattle.std.specs.List.{filter_map, list_any};
 ghost use Rattle.std.specs.Str.{bytes_eq};
-ghost use Rattle.vx_parts.specs.Objects.{is_plex, is_vol, is_dco, is_snap, refers};
+ghost use Rattle.vx_config_parts.specs.Objects.{is_plex, is_vol, is_dco, is_snap, refers};
 ghost use Rattle.vx_rules.specs.Faults.{unless};
 ghost use Rattle.vx_rules.specs.References.{has_plex, has_vol};
 ghost use Rattle.vx_objects.specs.Edits.{set_plex, policy_kind, policy_plex, set_vol, set_region, set_dco, without_dco, stays_without_plex, names_plex_of, stays_without_vol, stays_without_snap, kept, change, added, edited, has_dco, has_snap, target_fault};
@@ -12,8 +12,8 @@ use crate::parts::join;
 use crate::{Object, ObjectFault, Plex, PlexState, PolicyKind, PolicyName, Vol, VolState};
 use std::alloc::{AllocError, Global};
 use vx_base::OutOfMemory;
+use vx_config_parts::{refers, same};
 use vx_names::Name;
-use vx_parts::{refers, same};
 
 /// The records after an edit.
 pub(crate) fn edited(alloc: Global, edit: &Edit, all: &[Object]) -> Result<Vec<Object>, OutOfMemory>

@@ -16,7 +16,7 @@ pub use edit::Edit;
 pub use lists::Listed;
 pub use printed::record_of;
 pub use records::{objects_of, records_of};
-pub use vx_parts::{
+pub use vx_config_parts::{
     Dco, Disk, Group, Limit, Object, ObjectFault, Plex, PlexKind, PlexLayout, PlexState,
     PolicyKind, PolicyName, Snap, Subdisk, Vol, VolState,
 };

@@ -5,7 +5,7 @@ ghost use Rattle.vx_names.specs.Number.{is_number};
 ghost use Rattle.vx_record.specs.Content.{HasForm};
 ghost use Rattle.vx_record.specs.Table.{columns, value_fits, is_one_of, plex_states, volume_states};
 ghost use Rattle.vx_record.specs.declared.column.Form.TheVariants as forms;
-ghost use Rattle.vx_parts.specs.Words.{plex_kind_word, layout_word, plex_state_word, vol_state_word, policy_word};
+ghost use Rattle.vx_config_parts.specs.Words.{plex_kind_word, layout_word, plex_state_word, vol_state_word, policy_word};
 ghost use Rattle.vx_objects.specs.Fields.{HasValue, column_at};
 ghost use Rattle.vx_rules.specs.Limits.{is_short};
 ghost use Rattle.vx_objects.specs.Printed.{IsReadAs, map_is_short, cut_byte, cut_word, cut_map, numeral, numeral_or_none};

@@ -5,10 +5,10 @@ use Rattle.std.specs.Str.{bytes_eq}
 use Rattle.std.proofs.lemmas.Bool.Decides.{nat_tests}
 use Rattle.vx_base.specs.Named.{Word}
 use Rattle.vx_base.proofs.NamedLemmas.{bytes_eq_self, bytes_eq_same}
-use Rattle.vx_parts.specs.declared.object.Object.{Object}
-use Rattle.vx_parts.specs.declared.fault.ObjectFault.{ObjectFault}
-use Rattle.vx_parts.specs.declared.fault.ObjectFault.TheVariants.{Exists}
-use Rattle.vx_parts.specs.Objects.{name_of}
+use Rattle.vx_config_parts.specs.declared.object.Object.{Object}
+use Rattle.vx_config_parts.specs.declared.fault.ObjectFault.{ObjectFault}
+use Rattle.vx_config_parts.specs.declared.fault.ObjectFault.TheVariants.{Exists}
+use Rattle.vx_config_parts.specs.Objects.{name_of}
 use Rattle.vx_rules.specs.Faults.{unless, first_some}
 use Rattle.vx_rules.specs.References.{has_name, repeated_after}
 use Rattle.vx_objects.proofs.OneGroup.{first_none, second_none, unless_none}

@@ -3,14 +3,14 @@ use Rattle.std.proofs.Common.{◌≡◌, Bool, true, false, not, ◌||◌, is_so
 use Rattle.vx_base.specs.Named.{Word}
 use Rattle.vx_copies.specs.Lists.{AllOf}
 use Rattle.vx_extents.specs.Overlap.{first_overlap, overlap_of}
-use Rattle.vx_parts.specs.declared.fault.Limit.TheVariants as limit
-use Rattle.vx_parts.specs.declared.fault.ObjectFault.{ObjectFault}
-use Rattle.vx_parts.specs.declared.fault.ObjectFault.TheVariants as fault
-use Rattle.vx_parts.specs.declared.vol.PolicyKind.{PolicyKind}
-use Rattle.vx_parts.specs.declared.vol.PolicyKind.TheVariants as kind
-use Rattle.vx_parts.specs.declared.object.Object.{Object}
-use Rattle.vx_parts.specs.declared.object.Object.TheVariants.{GroupRecord, DiskRecord, SubdiskRecord, PlexRecord, VolRecord, DcoRecord, SnapRecord}
-use Rattle.vx_parts.specs.Objects.{name_of}
+use Rattle.vx_config_parts.specs.declared.fault.Limit.TheVariants as limit
+use Rattle.vx_config_parts.specs.declared.fault.ObjectFault.{ObjectFault}
+use Rattle.vx_config_parts.specs.declared.fault.ObjectFault.TheVariants as fault
+use Rattle.vx_config_parts.specs.declared.vol.PolicyKind.{PolicyKind}
+use Rattle.vx_config_parts.specs.declared.vol.PolicyKind.TheVariants as kind
+use Rattle.vx_config_parts.specs.declared.object.Object.{Object}
+use Rattle.vx_config_parts.specs.declared.object.Object.TheVariants.{GroupRecord, DiskRecord, SubdiskRecord, PlexRecord, VolRecord, DcoRecord, SnapRecord}
+use Rattle.vx_config_parts.specs.Objects.{name_of}
 use Rattle.vx_rules.specs.declared.rule.Rule.{Rule}
 use Rattle.vx_rules.specs.declared.rule.Rule.TheVariants as rule
 use Rattle.vx_rules.specs.Adding.{firsts_after, firsts, fault_by, first_broken_by, had_fault}

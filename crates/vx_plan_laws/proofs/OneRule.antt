@@ -6,18 +6,18 @@ use Rattle.vx_base.specs.Named.{Word}
 use Rattle.vx_extents.specs.Columns.{is_in_column, piece_is_good, all_pieces_good, end_with}
 use Rattle.vx_extents.specs.Overlap.{overlaps_earlier, first_overlap_with, overlap_of}
 use Rattle.vx_extents.specs.Sizes.{holds}
-use Rattle.vx_parts.specs.declared.subdisk.Subdisk.{Subdisk}
-use Rattle.vx_parts.specs.declared.plex.Plex.{Plex}
-use Rattle.vx_parts.specs.declared.plex.PlexKind.{PlexKind}
-use Rattle.vx_parts.specs.declared.plex.PlexKind.TheVariants.{Data, Log}
-use Rattle.vx_parts.specs.declared.vol.Vol.{Vol}
-use Rattle.vx_parts.specs.declared.vol.PolicyKind.{PolicyKind}
-use Rattle.vx_parts.specs.declared.state.VolState.{VolState}
-use Rattle.vx_parts.specs.declared.snap.Snap.{Snap}
-use Rattle.vx_parts.specs.declared.object.Object.{Object}
-use Rattle.vx_parts.specs.declared.object.Object.TheVariants.{SubdiskRecord, PlexRecord, SnapRecord}
-use Rattle.vx_parts.specs.declared.fault.ObjectFault.TheVariants as fault
-use Rattle.vx_parts.specs.Objects.{is_subdisk, is_plex, is_snap, comes_before}
+use Rattle.vx_config_parts.specs.declared.subdisk.Subdisk.{Subdisk}
+use Rattle.vx_config_parts.specs.declared.plex.Plex.{Plex}
+use Rattle.vx_config_parts.specs.declared.plex.PlexKind.{PlexKind}
+use Rattle.vx_config_parts.specs.declared.plex.PlexKind.TheVariants.{Data, Log}
+use Rattle.vx_config_parts.specs.declared.vol.Vol.{Vol}
+use Rattle.vx_config_parts.specs.declared.vol.PolicyKind.{PolicyKind}
+use Rattle.vx_config_parts.specs.declared.state.VolState.{VolState}
+use Rattle.vx_config_parts.specs.declared.snap.Snap.{Snap}
+use Rattle.vx_config_parts.specs.declared.object.Object.{Object}
+use Rattle.vx_config_parts.specs.declared.object.Object.TheVariants.{SubdiskRecord, PlexRecord, SnapRecord}
+use Rattle.vx_config_parts.specs.declared.fault.ObjectFault.TheVariants as fault
+use Rattle.vx_config_parts.specs.Objects.{is_subdisk, is_plex, is_snap, comes_before}
 use Rattle.vx_rules.specs.Maps.{maps_fit}
 use Rattle.vx_rules.specs.References.{missing}
 use Rattle.vx_plan_laws.proofs.Counts.{or_never}

@@ -3,13 +3,13 @@ use Rattle.std.proofs.Common.{◌≡◌, Bool, true, false, is_some, is_none, �
 use Rattle.std.specs.List.{list_any, filter_map}
 use Rattle.std.specs.Str.{bytes_eq}
 use Rattle.vx_base.specs.Named.{Word}
-use Rattle.vx_parts.specs.declared.disk.Disk.{Disk}
-use Rattle.vx_parts.specs.declared.plex.Plex.{Plex}
-use Rattle.vx_parts.specs.declared.vol.Vol.{Vol}
-use Rattle.vx_parts.specs.declared.snap.Snap.{Snap}
-use Rattle.vx_parts.specs.declared.object.Object.{Object}
-use Rattle.vx_parts.specs.declared.object.Object.TheVariants.{DiskRecord, PlexRecord, VolRecord, SnapRecord}
-use Rattle.vx_parts.specs.Objects.{is_disk, is_plex, is_vol, is_snap}
+use Rattle.vx_config_parts.specs.declared.disk.Disk.{Disk}
+use Rattle.vx_config_parts.specs.declared.plex.Plex.{Plex}
+use Rattle.vx_config_parts.specs.declared.vol.Vol.{Vol}
+use Rattle.vx_config_parts.specs.declared.snap.Snap.{Snap}
+use Rattle.vx_config_parts.specs.declared.object.Object.{Object}
+use Rattle.vx_config_parts.specs.declared.object.Object.TheVariants.{DiskRecord, PlexRecord, VolRecord, SnapRecord}
+use Rattle.vx_config_parts.specs.Objects.{is_disk, is_plex, is_vol, is_snap}
 use Rattle.vx_rules.specs.References.{has_vol}
 use Rattle.vx_rules.specs.Rules.{first_broken, is_valid}
 use Rattle.vx_objects.specs.declared.config.Config.{Config}

@@ -6,17 +6,17 @@ use Rattle.std.proofs.lemmas.Bool.{or_parts, and_from}
 use Rattle.vx_base.specs.Named.{Word}
 use Rattle.vx_base.proofs.NamedLemmas.{bytes_eq_self, bytes_eq_same}
 use Rattle.vx_copies.specs.Lists.{AllOf}
-use Rattle.vx_parts.specs.declared.group.Group.{Group}
-use Rattle.vx_parts.specs.declared.disk.Disk.{Disk}
-use Rattle.vx_parts.specs.declared.subdisk.Subdisk.{Subdisk}
-use Rattle.vx_parts.specs.declared.plex.Plex.{Plex}
-use Rattle.vx_parts.specs.declared.vol.Vol.{Vol}
-use Rattle.vx_parts.specs.declared.dco.Dco.{Dco}
-use Rattle.vx_parts.specs.declared.snap.Snap.{Snap}
-use Rattle.vx_parts.specs.declared.object.Object.{Object}
-use Rattle.vx_parts.specs.declared.object.Object.TheVariants.{GroupRecord, DiskRecord, SubdiskRecord, PlexRecord, VolRecord, DcoRecord, SnapRecord}
-use Rattle.vx_parts.specs.declared.fault.ObjectFault.TheVariants.{NoObject}
-use Rattle.vx_parts.specs.Objects.{name_of, is_group, is_disk, is_subdisk, is_plex, is_vol, is_dco, is_snap, refers}
+use Rattle.vx_config_parts.specs.declared.group.Group.{Group}
+use Rattle.vx_config_parts.specs.declared.disk.Disk.{Disk}
+use Rattle.vx_config_parts.specs.declared.subdisk.Subdisk.{Subdisk}
+use Rattle.vx_config_parts.specs.declared.plex.Plex.{Plex}
+use Rattle.vx_config_parts.specs.declared.vol.Vol.{Vol}
+use Rattle.vx_config_parts.specs.declared.dco.Dco.{Dco}
+use Rattle.vx_config_parts.specs.declared.snap.Snap.{Snap}
+use Rattle.vx_config_parts.specs.declared.object.Object.{Object}
+use Rattle.vx_config_parts.specs.declared.object.Object.TheVariants.{GroupRecord, DiskRecord, SubdiskRecord, PlexRecord, VolRecord, DcoRecord, SnapRecord}
+use Rattle.vx_config_parts.specs.declared.fault.ObjectFault.TheVariants.{NoObject}
+use Rattle.vx_config_parts.specs.Objects.{name_of, is_group, is_disk, is_subdisk, is_plex, is_vol, is_dco, is_snap, refers}
 use Rattle.vx_rules.specs.Faults.{unless}
 use Rattle.vx_rules.specs.Named.{first_named, as_plex}
 use Rattle.vx_rules.specs.References.{has_vol, repeated_after}

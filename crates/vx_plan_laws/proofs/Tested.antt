@@ -7,14 +7,14 @@ use Rattle.std.proofs.lemmas.Bool.Decides.{nat_tests}
 use Rattle.vx_base.specs.Named.{Word}
 use Rattle.vx_names.specs.Form.{is_name}
 use Rattle.vx_header.specs.Sectors.{is_short_name}
-use Rattle.vx_parts.specs.declared.plex.PlexKind.{PlexKind}
-use Rattle.vx_parts.specs.declared.plex.PlexKind.TheVariants.{Data, Log}
-use Rattle.vx_parts.specs.declared.vol.Vol.{Vol}
-use Rattle.vx_parts.specs.declared.vol.PolicyName.{PolicyName}
-use Rattle.vx_parts.specs.declared.vol.PolicyName.TheVariants as policy
-use Rattle.vx_parts.specs.declared.fault.Limit.TheVariants as limit
-use Rattle.vx_parts.specs.declared.fault.ObjectFault.TheVariants.{NoObject, Exists}
-use Rattle.vx_parts.specs.Objects.{refers, is_data_plex_of, is_data as holds_data}
+use Rattle.vx_config_parts.specs.declared.plex.PlexKind.{PlexKind}
+use Rattle.vx_config_parts.specs.declared.plex.PlexKind.TheVariants.{Data, Log}
+use Rattle.vx_config_parts.specs.declared.vol.Vol.{Vol}
+use Rattle.vx_config_parts.specs.declared.vol.PolicyName.{PolicyName}
+use Rattle.vx_config_parts.specs.declared.vol.PolicyName.TheVariants as policy
+use Rattle.vx_config_parts.specs.declared.fault.Limit.TheVariants as limit
+use Rattle.vx_config_parts.specs.declared.fault.ObjectFault.TheVariants.{NoObject, Exists}
+use Rattle.vx_config_parts.specs.Objects.{refers, is_data_plex_of, is_data as holds_data}
 use Rattle.vx_rules.specs.Maps.{has_data_plex, prefer_fault_of}
 use Rattle.vx_rules.specs.References.{has_name}
 use Rattle.vx_objects.specs.declared.config.Config.{Config}

@@ -1,10 +1,10 @@
 -- The edits of a command break no rule of a configuration, where its tests have let it through.
 use Rattle.std.specs.Prelude.{◌≡◌, Bool, if◌then◌else◌, Some, None, List, [], ◌∷◌}
 use Rattle.vx_base.specs.Named.{Word}
-use Rattle.vx_parts.specs.declared.object.Object.{Object}
-use Rattle.vx_parts.specs.declared.vol.PolicyName.{PolicyName}
-use Rattle.vx_parts.specs.declared.vol.PolicyName.TheVariants as policy
-use Rattle.vx_parts.specs.declared.fault.ObjectFault.TheVariants.{Exists}
+use Rattle.vx_config_parts.specs.declared.object.Object.{Object}
+use Rattle.vx_config_parts.specs.declared.vol.PolicyName.{PolicyName}
+use Rattle.vx_config_parts.specs.declared.vol.PolicyName.TheVariants as policy
+use Rattle.vx_config_parts.specs.declared.fault.ObjectFault.TheVariants.{Exists}
 use Rattle.vx_rules.specs.References.{has_name}
 use Rattle.vx_objects.specs.declared.edit.Edit.TheVariants.{Make}
 use Rattle.vx_objects.specs.Config.{objects_of}

@@ -19,10 +19,10 @@ use Rattle.vx_record.specs.Grammar.{Spells, IsBadLine}
 use Rattle.vx_record.specs.declared.kind.Kind.{Kind}
 use Rattle.vx_record.specs.declared.kind.Kind.TheVariants as kinds
 use Rattle.vx_names.specs.declared.attr.Attr.{Attr}
-use Rattle.vx_parts.specs.declared.object.Object.{Object}
-use Rattle.vx_parts.specs.declared.object.Object.TheVariants.{VolRecord}
-use Rattle.vx_parts.specs.declared.state.VolState.{VolState}
-use Rattle.vx_parts.specs.declared.state.VolState.TheVariants as states
+use Rattle.vx_config_parts.specs.declared.object.Object.{Object}
+use Rattle.vx_config_parts.specs.declared.object.Object.TheVariants.{VolRecord}
+use Rattle.vx_config_parts.specs.declared.state.VolState.{VolState}
+use Rattle.vx_config_parts.specs.declared.state.VolState.TheVariants as states
 use Rattle.vx_rules.specs.Rules.{first_broken}
 use Rattle.vx_objects.specs.declared.config.Config.{Config}
 use Rattle.vx_objects.specs.Config.{objects_of}

@@ -4,13 +4,13 @@ use Rattle.std.specs.List.{filter_map}
 use Rattle.vx_base.specs.Named.{Word}
 use Rattle.vx_record.specs.Content.{Content}
 use Rattle.vx_record.specs.Grammar.{Spells}
-use Rattle.vx_parts.specs.declared.object.Object.{Object}
-use Rattle.vx_parts.specs.declared.object.Object.TheVariants.{GroupRecord, DiskRecord, SubdiskRecord, PlexRecord, VolRecord, DcoRecord, SnapRecord}
-use Rattle.vx_parts.specs.declared.plex.PlexKind.{PlexKind}
-use Rattle.vx_parts.specs.declared.plex.PlexKind.TheVariants as plex_kind
-use Rattle.vx_parts.specs.declared.state.PlexState.{PlexState}
-use Rattle.vx_parts.specs.declared.state.PlexState.TheVariants as plex_state
-use Rattle.vx_parts.specs.declared.state.VolState.TheVariants as vol_state
+use Rattle.vx_config_parts.specs.declared.object.Object.{Object}
+use Rattle.vx_config_parts.specs.declared.object.Object.TheVariants.{GroupRecord, DiskRecord, SubdiskRecord, PlexRecord, VolRecord, DcoRecord, SnapRecord}
+use Rattle.vx_config_parts.specs.declared.plex.PlexKind.{PlexKind}
+use Rattle.vx_config_parts.specs.declared.plex.PlexKind.TheVariants as plex_kind
+use Rattle.vx_config_parts.specs.declared.state.PlexState.{PlexState}
+use Rattle.vx_config_parts.specs.declared.state.PlexState.TheVariants as plex_state
+use Rattle.vx_config_parts.specs.declared.state.VolState.TheVariants as vol_state
 use Rattle.vx_rules.specs.Adding.{first_broken_by, firsts, had_fault}
 use Rattle.vx_rules.specs.Faults.{first_some, first_of}
 use Rattle.vx_rules.specs.declared.rule.Rule.{Rule}

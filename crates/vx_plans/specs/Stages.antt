@@ -8,8 +8,8 @@ use Rattle.vx_base.specs.Named.{Word, put}
 use Rattle.vx_header.specs.Named.{header_of}
 use Rattle.vx_life.specs.Life.{begun}
 use Rattle.vx_copies.specs.Image.{names_group}
-use Rattle.vx_parts.specs.declared.object.Object.{Object}
-use Rattle.vx_parts.specs.declared.vol.Vol.{Vol}
+use Rattle.vx_config_parts.specs.declared.object.Object.{Object}
+use Rattle.vx_config_parts.specs.declared.vol.Vol.{Vol}
 use Rattle.vx_record.specs.Grammar.{IsBadLine}
 use Rattle.vx_rules.specs.Rules.{first_broken}
 use Rattle.vx_objects.specs.declared.config.Config.{Config}

@@ -5,11 +5,11 @@ use Rattle.std.specs.Str.{bytes_eq}
 use Rattle.vx_base.specs.Named.{Word}
 use Rattle.vx_block.specs.Geometry.{is_geometry}
 use Rattle.vx_header.specs.Sectors.{is_short_name}
-use Rattle.vx_parts.specs.declared.plex.PlexKind.{PlexKind}
-use Rattle.vx_parts.specs.declared.plex.PlexKind.TheVariants.{Data, Log}
-use Rattle.vx_parts.specs.declared.vol.Vol.{Vol}
-use Rattle.vx_parts.specs.declared.fault.Limit.TheVariants as limit
-use Rattle.vx_parts.specs.Objects.{refers, comes_before}
+use Rattle.vx_config_parts.specs.declared.plex.PlexKind.{PlexKind}
+use Rattle.vx_config_parts.specs.declared.plex.PlexKind.TheVariants.{Data, Log}
+use Rattle.vx_config_parts.specs.declared.vol.Vol.{Vol}
+use Rattle.vx_config_parts.specs.declared.fault.Limit.TheVariants as limit
+use Rattle.vx_config_parts.specs.Objects.{refers, comes_before}
 use Rattle.vx_rules.specs.Rules.{first_broken}
 use Rattle.vx_script_words.specs.declared.value.DiskAt.{DiskAt}
 use Rattle.vx_answers.specs.declared.refusal.Refusal.{Refusal}

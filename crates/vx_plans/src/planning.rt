@@ -8,8 +8,8 @@ ghost use Rattle.vx_plans.specs.declared.stage.Stage.TheVariants as stages;
 use crate::{Change, Finish, Plan, Stage, Stages, Test};
 use std::alloc::Global;
 use vx_base::OutOfMemory;
+use vx_config_parts::PolicyName;
 use vx_names::Name;
-use vx_parts::PolicyName;
 use vx_script_forms::{Form, WordPolicy};
 use vx_script_words::Bytes;
 

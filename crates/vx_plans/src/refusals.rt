@@ -4,7 +4,7 @@ ghost use Rattle.vx_plans.specs.Refusals.{refusal_by, refusal_from};
 
 use vx_answers::Refusal;
 use vx_base::OutOfMemory;
-use vx_parts::ObjectFault;
+use vx_config_parts::ObjectFault;
 
 /// Why a broken rule refuses a command. None for want of memory, which is no refusal.
 pub fn refusal_by(fault: &ObjectFault) -> Option<Refusal>

@@ -1,6 +1,6 @@
 use crate::Test;
+use vx_config_parts::PolicyName;
 use vx_names::Name;
-use vx_parts::PolicyName;
 use vx_script_words::Bytes;
 
 /// A change of the group's configuration.

@@ -6,9 +6,9 @@ use Rattle.vx_base.specs.Named.{Word}
 use Rattle.vx_layout.specs.declared.strip.Strip.{Strip}
 use Rattle.vx_layout.specs.Valid.{is_strip, is_apart, are_apart}
 use Rattle.vx_base.proofs.NamedLemmas.{bytes_eq_same}
-use Rattle.vx_parts.specs.declared.plex.Plex.{Plex}
-use Rattle.vx_parts.specs.declared.subdisk.Subdisk.{Subdisk}
-use Rattle.vx_parts.specs.Objects.{refers}
+use Rattle.vx_config_parts.specs.declared.plex.Plex.{Plex}
+use Rattle.vx_config_parts.specs.declared.subdisk.Subdisk.{Subdisk}
+use Rattle.vx_config_parts.specs.Objects.{refers}
 use Rattle.vx_extents.specs.Columns.{is_in_column}
 use Rattle.vx_objects.specs.declared.config.Config.{Config}
 use Rattle.vx_plexes.specs.Lies.{strips_of, slot_of, strip_of, strip_then, strips_from, columns_from, is_on_disk, are_on_disks}

@@ -4,7 +4,7 @@ use Rattle.std.specs.List.{find, count_by}
 use Rattle.std.proofs.lemmas.Bool.{false≢true, and_parts, and_from, cases_lt, le-leb, leb-true, eq-eqb, eqb-true, false_from_ne_true}
 use Rattle.vx_base.specs.Named.{Word}
 use Rattle.vx_layout.specs.Columns.{column_length}
-use Rattle.vx_parts.specs.declared.subdisk.Subdisk.{Subdisk}
+use Rattle.vx_config_parts.specs.declared.subdisk.Subdisk.{Subdisk}
 use Rattle.vx_extents.specs.Columns.{is_in_column}
 use Rattle.vx_extents.proofs.ListTests.{count_more}
 use Rattle.vx_objects.specs.declared.config.Config.{Config}

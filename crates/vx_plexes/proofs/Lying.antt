@@ -7,14 +7,14 @@ use Rattle.vx_base.specs.Named.{Word}
 use Rattle.vx_base.proofs.NamedLemmas.{bytes_eq_same}
 use Rattle.vx_layout.specs.Columns as layout
 use Rattle.vx_layout.specs.Valid.{is_column, are_apart, is_layout}
-use Rattle.vx_parts.specs.declared.object.Object.TheVariants.{PlexRecord, VolRecord}
-use Rattle.vx_parts.specs.declared.plex.Plex.{Plex}
-use Rattle.vx_parts.specs.declared.plex.PlexKind.{PlexKind}
-use Rattle.vx_parts.specs.declared.plex.PlexKind.TheVariants.{Data, Log}
-use Rattle.vx_parts.specs.declared.plex.PlexLayout.{PlexLayout}
-use Rattle.vx_parts.specs.declared.plex.PlexLayout.TheVariants.{Concat, Stripe}
-use Rattle.vx_parts.specs.declared.vol.Vol.{Vol}
-use Rattle.vx_parts.specs.Objects.{refers, is_data}
+use Rattle.vx_config_parts.specs.declared.object.Object.TheVariants.{PlexRecord, VolRecord}
+use Rattle.vx_config_parts.specs.declared.plex.Plex.{Plex}
+use Rattle.vx_config_parts.specs.declared.plex.PlexKind.{PlexKind}
+use Rattle.vx_config_parts.specs.declared.plex.PlexKind.TheVariants.{Data, Log}
+use Rattle.vx_config_parts.specs.declared.plex.PlexLayout.{PlexLayout}
+use Rattle.vx_config_parts.specs.declared.plex.PlexLayout.TheVariants.{Concat, Stripe}
+use Rattle.vx_config_parts.specs.declared.vol.Vol.{Vol}
+use Rattle.vx_config_parts.specs.Objects.{refers, is_data}
 use Rattle.vx_extents.specs.Below.{all_below}
 use Rattle.vx_extents.specs.Columns as extents
 use Rattle.vx_extents.specs.Columns.{is_in_column, all_pieces_good, column_begins, columns_are_equal, columns_are_good, layout_is_good, plex_length}

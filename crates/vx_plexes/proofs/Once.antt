@@ -7,10 +7,10 @@ use Rattle.std.specs.Str.{bytes_eq}
 use Rattle.std.proofs.lemmas.Bool.{false≢true}
 use Rattle.vx_base.specs.Named.{Word}
 use Rattle.vx_base.proofs.NamedLemmas.{bytes_eq_self}
-use Rattle.vx_parts.specs.declared.object.Object.{Object}
-use Rattle.vx_parts.specs.declared.object.Object.TheVariants.{GroupRecord, DiskRecord, SubdiskRecord, PlexRecord, VolRecord, DcoRecord, SnapRecord}
-use Rattle.vx_parts.specs.declared.subdisk.Subdisk.{Subdisk}
-use Rattle.vx_parts.specs.Objects.{is_subdisk, comes_before}
+use Rattle.vx_config_parts.specs.declared.object.Object.{Object}
+use Rattle.vx_config_parts.specs.declared.object.Object.TheVariants.{GroupRecord, DiskRecord, SubdiskRecord, PlexRecord, VolRecord, DcoRecord, SnapRecord}
+use Rattle.vx_config_parts.specs.declared.subdisk.Subdisk.{Subdisk}
+use Rattle.vx_config_parts.specs.Objects.{is_subdisk, comes_before}
 use Rattle.vx_extents.specs.Overlap.{shares_sector, overlaps_earlier, first_overlap_with, first_overlap}
 use Rattle.vx_extents.proofs.NameOrder.{same_place}
 use Rattle.vx_rules.specs.Rules.{first_broken, fault_of, fault_over, rules}

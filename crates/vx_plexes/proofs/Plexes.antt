@@ -8,12 +8,12 @@ use Rattle.vx_base.specs.Named.{Word}
 use Rattle.vx_base.proofs.NamedLemmas.{bytes_eq_self, bytes_eq_same}
 use Rattle.vx_layout.specs.Columns as layout
 use Rattle.vx_layout.specs.Valid.{is_apart}
-use Rattle.vx_parts.specs.declared.object.Object.{Object}
-use Rattle.vx_parts.specs.declared.object.Object.TheVariants.{DiskRecord, SubdiskRecord}
-use Rattle.vx_parts.specs.declared.subdisk.Subdisk.{Subdisk}
-use Rattle.vx_parts.specs.declared.disk.Disk.{Disk}
-use Rattle.vx_parts.specs.declared.plex.Plex.{Plex}
-use Rattle.vx_parts.specs.Objects.{is_subdisk, is_disk, refers, name_of}
+use Rattle.vx_config_parts.specs.declared.object.Object.{Object}
+use Rattle.vx_config_parts.specs.declared.object.Object.TheVariants.{DiskRecord, SubdiskRecord}
+use Rattle.vx_config_parts.specs.declared.subdisk.Subdisk.{Subdisk}
+use Rattle.vx_config_parts.specs.declared.disk.Disk.{Disk}
+use Rattle.vx_config_parts.specs.declared.plex.Plex.{Plex}
+use Rattle.vx_config_parts.specs.Objects.{is_subdisk, is_disk, refers, name_of}
 use Rattle.vx_extents.specs.Columns as extents
 use Rattle.vx_extents.specs.Columns.{is_in_column, piece_follows, piece_is_good, all_pieces_good, end_with}
 use Rattle.vx_rules.specs.Limits.{is_short, fits_byte, fits_word}

@@ -9,8 +9,8 @@ use Rattle.vx_layout.specs.declared.strip.Strip.{Strip}
 use Rattle.vx_layout.specs.declared.layout.Layout.{Layout}
 use Rattle.vx_carve.specs.Strips.{EachStrip, HasNumber, IsFreeStrip, IsOpenRun, ArePlexes, AreApartStrips, lies_in, all_lie_in}
 use Rattle.vx_carve.proofs.Room.{strips_free}
-use Rattle.vx_parts.specs.declared.disk.Disk.{Disk}
-use Rattle.vx_parts.specs.declared.plex.Plex.{Plex}
+use Rattle.vx_config_parts.specs.declared.disk.Disk.{Disk}
+use Rattle.vx_config_parts.specs.declared.plex.Plex.{Plex}
 use Rattle.vx_objects.specs.declared.config.Config.{Config}
 use Rattle.vx_plexes.specs.Lies.{is_on_disk, are_on_disks, columns_of}
 use Rattle.vx_plexes.specs.Room.{public_of, AreLayoutsOf}

@@ -7,7 +7,7 @@ use Rattle.std.proofs.lemmas.List.Folds.{find-append}
 use Rattle.std.proofs.lemmas.List.{append_assoc, append-nil}
 use Rattle.vx_base.specs.Named.{Word}
 use Rattle.vx_layout.specs.declared.strip.Strip.{Strip}
-use Rattle.vx_parts.specs.declared.subdisk.Subdisk.{Subdisk}
+use Rattle.vx_config_parts.specs.declared.subdisk.Subdisk.{Subdisk}
 use Rattle.vx_extents.specs.Columns.{is_in_column}
 use Rattle.vx_objects.specs.declared.config.Config.{Config}
 use Rattle.vx_plexes.specs.Lies.{strip_of, strip_then, strips_from, columns_from}

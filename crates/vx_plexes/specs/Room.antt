@@ -6,8 +6,8 @@ use Rattle.vx_layout.specs.declared.strip.Strip.{Strip}
 use Rattle.vx_layout.specs.declared.run.Run.{Run}
 use Rattle.vx_layout.specs.declared.layout.Layout.{Layout}
 use Rattle.vx_carve.specs.Strips.{EachStrip, HasNumber, IsFreeStrip, IsOpenRun, ArePlexes}
-use Rattle.vx_parts.specs.declared.disk.Disk.{Disk}
-use Rattle.vx_parts.specs.declared.plex.Plex.{Plex}
+use Rattle.vx_config_parts.specs.declared.disk.Disk.{Disk}
+use Rattle.vx_config_parts.specs.declared.plex.Plex.{Plex}
 use Rattle.vx_objects.specs.declared.config.Config.{Config}
 use Rattle.vx_plexes.specs.Lies.{are_on_disks, columns_of}
 

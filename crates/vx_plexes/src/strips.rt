@@ -3,7 +3,7 @@ ghost use Rattle.std.specs.BTreeMap.{get};
 ghost use Rattle.std.specs.List.{find};
 ghost use Rattle.std.specs.Option.{option_or};
 ghost use Rattle.std.specs.Ordering.{nat_cmp};
-ghost use Rattle.vx_parts.specs.declared.subdisk.Subdisk.{Subdisk};
+ghost use Rattle.vx_config_parts.specs.declared.subdisk.Subdisk.{Subdisk};
 ghost use Rattle.vx_base.specs.Named.{Word};
 ghost use Rattle.vx_extents.specs.Columns.{is_in_column};
 ghost use Rattle.vx_plexes.specs.Lies.{slot_of, strip_of, strips_from};
@@ -11,10 +11,10 @@ ghost use Rattle.vx_plexes.specs.Lies.{slot_of, strip_of, strips_from};
 use std::alloc::Global;
 use std::collections::BTreeMap;
 use vx_base::OutOfMemory;
+use vx_config_parts::{refers, same};
 use vx_layout::Strip;
 use vx_names::Name;
 use vx_objects::{Config, Disk, Subdisk};
-use vx_parts::{refers, same};
 
 /// The pieces of a column of a plex, by their first sectors in it.
 pub(crate) fn pieces_of(

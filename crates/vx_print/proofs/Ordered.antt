@@ -4,7 +4,7 @@ use Rattle.std.specs.List.{filter}
 use Rattle.std.specs.List.Sorted.{IsPermutation, IsSorted}
 use Rattle.std.proofs.Common.{◌≡◌, ℕ, Option, Result, Ok, Err, List, ◌++◌, map, ◌∙◌, ap, subst}
 use Rattle.vx_base.specs.Named.{Word}
-use Rattle.vx_parts.specs.declared.object.Object.{Object}
+use Rattle.vx_config_parts.specs.declared.object.Object.{Object}
 use Rattle.vx_record.specs.Content.{Content}
 use Rattle.vx_record.specs.Grammar.{AreRecords, records_text}
 use Rattle.vx_objects.specs.Printed.{record_of}

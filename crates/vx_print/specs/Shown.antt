@@ -7,9 +7,9 @@ use Rattle.std.specs.Cmp.Lexicographic.{slice_cmp}
 use Rattle.std.specs.declared.cmp.Ordering.{Ordering}
 use Rattle.std.specs.Ordering.{nat_cmp, ordering_then}
 use Rattle.vx_base.specs.Named.{Word}
-use Rattle.vx_parts.specs.declared.object.Object.{Object}
-use Rattle.vx_parts.specs.declared.object.Object.TheVariants.{SubdiskRecord, PlexRecord, VolRecord, DcoRecord}
-use Rattle.vx_parts.specs.Objects.{is_plex, refers}
+use Rattle.vx_config_parts.specs.declared.object.Object.{Object}
+use Rattle.vx_config_parts.specs.declared.object.Object.TheVariants.{SubdiskRecord, PlexRecord, VolRecord, DcoRecord}
+use Rattle.vx_config_parts.specs.Objects.{is_plex, refers}
 use Rattle.vx_record.specs.Content.{Content}
 use Rattle.vx_record.specs.Grammar.{AreRecords, records_text}
 use Rattle.vx_objects.specs.declared.config.Config.{Config}

@@ -11,9 +11,9 @@ use crate::fault::PrintFault;
 use crate::shown::shown;
 use std::alloc::Global;
 use vx_base::OutOfMemory;
+use vx_config_parts::same;
 use vx_names::Name;
 use vx_objects::{Config, Vol, records_of};
-use vx_parts::same;
 use vx_record::{Kind, print};
 
 /// Appends all records, or, with a volume, the subdisk, plex, volume and DCO records of it: kind by kind, and within a

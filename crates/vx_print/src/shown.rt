@@ -12,9 +12,9 @@ ghost use Rattle.vx_print.specs.Shown.{is_shown, is_of, names_one, plex_of};
 use std::alloc::{AllocError, Global};
 use std::collections::BTreeSet;
 use vx_base::OutOfMemory;
+use vx_config_parts::{refers, same};
 use vx_names::Name;
 use vx_objects::{Config, Object};
-use vx_parts::{refers, same};
 
 /// The objects that are shown.
 pub(crate) fn shown(

@@ -5,8 +5,8 @@ use Rattle.std.proofs.lemmas.List.Sums.{count_by_more_yes, count_by_more_no}
 use Rattle.std.specs.List.{count_by, list_all}
 use Rattle.std.specs.Str.{bytes_eq}
 use Rattle.vx_base.specs.Named.{Word}
-use Rattle.vx_parts.specs.declared.object.Object.{Object}
-use Rattle.vx_parts.specs.Objects.{is_plex, is_snap, is_data_plex_of}
+use Rattle.vx_config_parts.specs.declared.object.Object.{Object}
+use Rattle.vx_config_parts.specs.Objects.{is_plex, is_snap, is_data_plex_of}
 use Rattle.vx_rules.specs.Maps.{has_map, map_uses}
 
 count_more : (p : Object → Bool) (xs : List Object) (i : ℕ) (o : Object) → i < length xs → o ≡ get_or xs i o → count_by p (take (i + 1) xs) ≡ count_by p (take i xs) + (if p o then 1 else 0)

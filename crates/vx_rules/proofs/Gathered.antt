@@ -8,9 +8,9 @@ use Rattle.std.specs.Ordering.{nat_cmp, is_eq}
 use Rattle.std.specs.Str.{bytes_eq}
 use Rattle.vx_base.specs.Named.{Word}
 use Rattle.vx_base.proofs.NamedLemmas.{bytes_eq_self, name_cases}
-use Rattle.vx_parts.specs.declared.object.Object.{Object}
-use Rattle.vx_parts.specs.declared.fault.ObjectFault.TheVariants.{Exists}
-use Rattle.vx_parts.specs.Objects.{name_of}
+use Rattle.vx_config_parts.specs.declared.object.Object.{Object}
+use Rattle.vx_config_parts.specs.declared.fault.ObjectFault.TheVariants.{Exists}
+use Rattle.vx_config_parts.specs.Objects.{name_of}
 use Rattle.vx_rules.specs.Faults.{first_some, unless}
 use Rattle.vx_rules.specs.Named.{first_named}
 use Rattle.vx_rules.specs.References.{has_name, repeated_after}

@@ -1,11 +1,11 @@
 -- Records that are to be added to those of a group.
 use Rattle.std.specs.Prelude.{Bool, ◌||◌, is_some, if◌then◌else◌, Option, Some, None, List, [], ◌∷◌, ◌++◌}
 use Rattle.vx_base.specs.Named.{Word}
-use Rattle.vx_parts.specs.declared.object.Object.{Object}
-use Rattle.vx_parts.specs.declared.object.Object.TheVariants.{GroupRecord, DiskRecord, SubdiskRecord, PlexRecord, VolRecord, DcoRecord, SnapRecord}
-use Rattle.vx_parts.specs.declared.fault.ObjectFault.{ObjectFault}
-use Rattle.vx_parts.specs.declared.fault.ObjectFault.TheVariants.{InUse}
-use Rattle.vx_parts.specs.Objects.{name_of}
+use Rattle.vx_config_parts.specs.declared.object.Object.{Object}
+use Rattle.vx_config_parts.specs.declared.object.Object.TheVariants.{GroupRecord, DiskRecord, SubdiskRecord, PlexRecord, VolRecord, DcoRecord, SnapRecord}
+use Rattle.vx_config_parts.specs.declared.fault.ObjectFault.{ObjectFault}
+use Rattle.vx_config_parts.specs.declared.fault.ObjectFault.TheVariants.{InUse}
+use Rattle.vx_config_parts.specs.Objects.{name_of}
 use Rattle.vx_rules.specs.declared.rule.Rule.{Rule}
 use Rattle.vx_rules.specs.Faults.{first_some, first_of}
 use Rattle.vx_rules.specs.Named.{first_named, as_plex, as_vol, as_dco}

@@ -1,7 +1,7 @@
 -- The fault of a record under a rule, and the first of several.
 use Rattle.std.specs.Prelude.{Bool, Option, Some, None, List, [], ◌∷◌, if◌then◌else◌}
-use Rattle.vx_parts.specs.declared.fault.ObjectFault.{ObjectFault}
-use Rattle.vx_parts.specs.declared.object.Object.{Object}
+use Rattle.vx_config_parts.specs.declared.fault.ObjectFault.{ObjectFault}
+use Rattle.vx_config_parts.specs.declared.object.Object.{Object}
 
 -- the first, where it is there, else the second
 abbrev pub first_some : {A : Type 0} → Option A → Option A → Option A

@@ -3,9 +3,9 @@ use Rattle.std.specs.Prelude.{ℕ, Bool, true, Option, Some, None, List, length,
 use Rattle.std.specs.List.{list_any, count_by}
 use Rattle.vx_block.specs.Geometry.{is_region_size, is_geometry}
 use Rattle.vx_base.specs.Named.{Word}
-use Rattle.vx_parts.specs.declared.object.Object.{Object}
-use Rattle.vx_parts.specs.declared.object.Object.TheVariants.{GroupRecord, DiskRecord, SubdiskRecord, PlexRecord, VolRecord, DcoRecord, SnapRecord}
-use Rattle.vx_parts.specs.Objects.{is_group, is_disk, is_plex, is_vol, refers, is_data_plex_of}
+use Rattle.vx_config_parts.specs.declared.object.Object.{Object}
+use Rattle.vx_config_parts.specs.declared.object.Object.TheVariants.{GroupRecord, DiskRecord, SubdiskRecord, PlexRecord, VolRecord, DcoRecord, SnapRecord}
+use Rattle.vx_config_parts.specs.Objects.{is_group, is_disk, is_plex, is_vol, refers, is_data_plex_of}
 
 -- there is one group record, and it has version 1
 abbrev pub has_one_group : List Object → Bool

@@ -3,18 +3,18 @@ use Rattle.std.specs.Prelude.{ℕ, ◌+◌, Bool, true, false, Option, Some, Non
 use Rattle.std.specs.List.{list_any, list_all, count_by}
 use Rattle.std.specs.Str.{bytes_eq}
 use Rattle.vx_base.specs.Named.{Word}
-use Rattle.vx_parts.specs.declared.plex.PlexKind.{PlexKind}
-use Rattle.vx_parts.specs.declared.plex.PlexKind.TheVariants.{Data, Log}
-use Rattle.vx_parts.specs.declared.vol.Vol.{Vol}
-use Rattle.vx_parts.specs.declared.vol.PolicyKind.{PolicyKind}
-use Rattle.vx_parts.specs.declared.vol.PolicyKind.TheVariants.{Round, Prefer, Select}
-use Rattle.vx_parts.specs.declared.state.PlexState.{PlexState}
-use Rattle.vx_parts.specs.declared.state.PlexState.TheVariants as state
-use Rattle.vx_parts.specs.declared.object.Object.{Object}
-use Rattle.vx_parts.specs.declared.object.Object.TheVariants.{PlexRecord, VolRecord, SnapRecord}
-use Rattle.vx_parts.specs.declared.fault.ObjectFault.{ObjectFault}
-use Rattle.vx_parts.specs.declared.fault.ObjectFault.TheVariants.{NoMap, NoLog, NoObject}
-use Rattle.vx_parts.specs.Objects.{is_plex, is_snap, refers, is_data_plex_of, is_log_plex_of}
+use Rattle.vx_config_parts.specs.declared.plex.PlexKind.{PlexKind}
+use Rattle.vx_config_parts.specs.declared.plex.PlexKind.TheVariants.{Data, Log}
+use Rattle.vx_config_parts.specs.declared.vol.Vol.{Vol}
+use Rattle.vx_config_parts.specs.declared.vol.PolicyKind.{PolicyKind}
+use Rattle.vx_config_parts.specs.declared.vol.PolicyKind.TheVariants.{Round, Prefer, Select}
+use Rattle.vx_config_parts.specs.declared.state.PlexState.{PlexState}
+use Rattle.vx_config_parts.specs.declared.state.PlexState.TheVariants as state
+use Rattle.vx_config_parts.specs.declared.object.Object.{Object}
+use Rattle.vx_config_parts.specs.declared.object.Object.TheVariants.{PlexRecord, VolRecord, SnapRecord}
+use Rattle.vx_config_parts.specs.declared.fault.ObjectFault.{ObjectFault}
+use Rattle.vx_config_parts.specs.declared.fault.ObjectFault.TheVariants.{NoMap, NoLog, NoObject}
+use Rattle.vx_config_parts.specs.Objects.{is_plex, is_snap, refers, is_data_plex_of, is_log_plex_of}
 use Rattle.vx_rules.specs.Faults.{unless}
 use Rattle.vx_extents.specs.Below.{all_below}
 

@@ -2,13 +2,13 @@
 use Rattle.std.specs.Prelude.{Option, Some, None, List, [], ◌∷◌, if◌then◌else◌}
 use Rattle.std.specs.Str.{bytes_eq}
 use Rattle.vx_base.specs.Named.{Word}
-use Rattle.vx_parts.specs.declared.disk.Disk.{Disk}
-use Rattle.vx_parts.specs.declared.plex.Plex.{Plex}
-use Rattle.vx_parts.specs.declared.vol.Vol.{Vol}
-use Rattle.vx_parts.specs.declared.dco.Dco.{Dco}
-use Rattle.vx_parts.specs.declared.object.Object.{Object}
-use Rattle.vx_parts.specs.declared.object.Object.TheVariants.{DiskRecord, PlexRecord, VolRecord, DcoRecord}
-use Rattle.vx_parts.specs.Objects.{name_of}
+use Rattle.vx_config_parts.specs.declared.disk.Disk.{Disk}
+use Rattle.vx_config_parts.specs.declared.plex.Plex.{Plex}
+use Rattle.vx_config_parts.specs.declared.vol.Vol.{Vol}
+use Rattle.vx_config_parts.specs.declared.dco.Dco.{Dco}
+use Rattle.vx_config_parts.specs.declared.object.Object.{Object}
+use Rattle.vx_config_parts.specs.declared.object.Object.TheVariants.{DiskRecord, PlexRecord, VolRecord, DcoRecord}
+use Rattle.vx_config_parts.specs.Objects.{name_of}
 
 -- the first record of the name
 abbrev pub first_named : Word → List Object → Option Object

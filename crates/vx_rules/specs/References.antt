@@ -3,11 +3,11 @@ use Rattle.std.specs.Prelude.{Bool, Option, Some, None, List, [], ◌∷◌, ◌
 use Rattle.std.specs.List.{list_any}
 use Rattle.std.specs.Str.{bytes_eq}
 use Rattle.vx_base.specs.Named.{Word}
-use Rattle.vx_parts.specs.declared.object.Object.{Object}
-use Rattle.vx_parts.specs.declared.object.Object.TheVariants.{GroupRecord, DiskRecord, SubdiskRecord, PlexRecord, VolRecord, DcoRecord, SnapRecord}
-use Rattle.vx_parts.specs.declared.fault.ObjectFault.{ObjectFault}
-use Rattle.vx_parts.specs.declared.fault.ObjectFault.TheVariants.{Exists, NoObject}
-use Rattle.vx_parts.specs.Objects.{name_of, is_disk, is_plex, is_vol, is_dco, refers}
+use Rattle.vx_config_parts.specs.declared.object.Object.{Object}
+use Rattle.vx_config_parts.specs.declared.object.Object.TheVariants.{GroupRecord, DiskRecord, SubdiskRecord, PlexRecord, VolRecord, DcoRecord, SnapRecord}
+use Rattle.vx_config_parts.specs.declared.fault.ObjectFault.{ObjectFault}
+use Rattle.vx_config_parts.specs.declared.fault.ObjectFault.TheVariants.{Exists, NoObject}
+use Rattle.vx_config_parts.specs.Objects.{name_of, is_disk, is_plex, is_vol, is_dco, refers}
 use Rattle.vx_rules.specs.Faults.{first_some, unless}
 
 -- some record has the name

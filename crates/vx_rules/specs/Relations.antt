@@ -3,13 +3,13 @@ use Rattle.std.specs.Prelude.{ℕ, Bool, Option, None, List, ◌==◌, ◌&&◌,
 use Rattle.std.specs.List.{list_any, count_by}
 use Rattle.std.specs.Str.{bytes_eq}
 use Rattle.vx_base.specs.Named.{Word}
-use Rattle.vx_parts.specs.declared.snap.Snap.{Snap}
-use Rattle.vx_parts.specs.declared.object.Object.{Object}
-use Rattle.vx_parts.specs.declared.object.Object.TheVariants.{SnapRecord}
-use Rattle.vx_parts.specs.declared.fault.Limit.TheVariants.{Region}
-use Rattle.vx_parts.specs.declared.fault.ObjectFault.{ObjectFault}
-use Rattle.vx_parts.specs.declared.fault.ObjectFault.TheVariants.{InUse, NoLog, Limit}
-use Rattle.vx_parts.specs.Objects.{is_vol, is_snap}
+use Rattle.vx_config_parts.specs.declared.snap.Snap.{Snap}
+use Rattle.vx_config_parts.specs.declared.object.Object.{Object}
+use Rattle.vx_config_parts.specs.declared.object.Object.TheVariants.{SnapRecord}
+use Rattle.vx_config_parts.specs.declared.fault.Limit.TheVariants.{Region}
+use Rattle.vx_config_parts.specs.declared.fault.ObjectFault.{ObjectFault}
+use Rattle.vx_config_parts.specs.declared.fault.ObjectFault.TheVariants.{InUse, NoLog, Limit}
+use Rattle.vx_config_parts.specs.Objects.{is_vol, is_snap}
 use Rattle.vx_rules.specs.Faults.{first_some, unless}
 
 -- the snapshot has one relation, and its original is no snapshot

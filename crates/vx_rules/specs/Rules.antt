@@ -1,12 +1,12 @@
 -- What a valid configuration keeps: a list of rules. The first that is broken is answered, with the first record that
 -- breaks it.
 use Rattle.std.specs.Prelude.{Bool, Option, None, List, [], ◌∷◌, is_none}
-use Rattle.vx_parts.specs.declared.object.Object.{Object}
+use Rattle.vx_config_parts.specs.declared.object.Object.{Object}
 use Rattle.vx_rules.specs.declared.rule.Rule.{Rule}
 use Rattle.vx_rules.specs.declared.rule.Rule.TheVariants as rule
-use Rattle.vx_parts.specs.declared.fault.Limit.TheVariants as limit
-use Rattle.vx_parts.specs.declared.fault.ObjectFault.{ObjectFault}
-use Rattle.vx_parts.specs.declared.fault.ObjectFault.TheVariants.{Limit}
+use Rattle.vx_config_parts.specs.declared.fault.Limit.TheVariants as limit
+use Rattle.vx_config_parts.specs.declared.fault.ObjectFault.{ObjectFault}
+use Rattle.vx_config_parts.specs.declared.fault.ObjectFault.TheVariants.{Limit}
 use Rattle.vx_rules.specs.Faults.{first_some, unless, first_of}
 use Rattle.vx_rules.specs.References.{repeated_after, reference_fault}
 use Rattle.vx_rules.specs.Limits.{has_one_group, numbers_fit, slot_is_own, volumes_are_few, name_is_short, region_is_good, regions_are_good, plexes_are_good}

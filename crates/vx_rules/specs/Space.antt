@@ -2,12 +2,12 @@
 use Rattle.std.specs.Prelude.{◌+◌, Bool, Option, None, List, ◌&&◌, nat_le, nat_lt}
 use Rattle.std.specs.List.{list_any}
 use Rattle.std.specs.Str.{bytes_eq}
-use Rattle.vx_parts.specs.declared.subdisk.Subdisk.{Subdisk}
-use Rattle.vx_parts.specs.declared.object.Object.{Object}
-use Rattle.vx_parts.specs.declared.object.Object.TheVariants.{SubdiskRecord}
-use Rattle.vx_parts.specs.declared.fault.ObjectFault.{ObjectFault}
-use Rattle.vx_parts.specs.declared.fault.ObjectFault.TheVariants.{Outside}
-use Rattle.vx_parts.specs.Objects.{is_disk}
+use Rattle.vx_config_parts.specs.declared.subdisk.Subdisk.{Subdisk}
+use Rattle.vx_config_parts.specs.declared.object.Object.{Object}
+use Rattle.vx_config_parts.specs.declared.object.Object.TheVariants.{SubdiskRecord}
+use Rattle.vx_config_parts.specs.declared.fault.ObjectFault.{ObjectFault}
+use Rattle.vx_config_parts.specs.declared.fault.ObjectFault.TheVariants.{Outside}
+use Rattle.vx_config_parts.specs.Objects.{is_disk}
 use Rattle.vx_rules.specs.Faults.{unless}
 
 -- its disk reaches to the end of the subdisk

@@ -13,9 +13,9 @@ use crate::limits::{has_one_group, volumes_are_few};
 use std::alloc::Global;
 use std::collections::BTreeMap;
 use vx_base::OutOfMemory;
+use vx_config_parts::{Limit, Object, ObjectFault};
 use vx_extents::overlap_fault;
 use vx_names::Name;
-use vx_parts::{Limit, Object, ObjectFault};
 
 /// The first record of each name, in order.
 pub fn firsts(alloc: Global, all: &[Object]) -> Result<Vec<Object>, OutOfMemory>

@@ -15,8 +15,8 @@ use crate::space::outside_fault;
 use crate::whole::whole_fault;
 use std::alloc::Global;
 use vx_base::OutOfMemory;
+use vx_config_parts::{Limit, Object, ObjectFault};
 use vx_extents::overlap_fault;
-use vx_parts::{Limit, Object, ObjectFault};
 
 const RULES: [Rule; 19] = [
     Rule::OneGroup,

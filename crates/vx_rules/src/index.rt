@@ -9,9 +9,9 @@ ghost use Rattle.vx_rules.specs.References.{repeated_after};
 use std::alloc::Global;
 use std::collections::BTreeMap;
 use vx_base::OutOfMemory;
+use vx_config_parts::{Dco, Disk, Object, ObjectFault, Plex, Vol};
 use vx_extents::Pieces;
 use vx_names::Name;
-use vx_parts::{Dco, Disk, Object, ObjectFault, Plex, Vol};
 
 /// The records of a configuration whose names differ: each is found by its name, and the columns of a plex by its own.
 #[derive(Drop)]

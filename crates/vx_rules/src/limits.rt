@@ -1,11 +1,11 @@
 ghost use Rattle.std.specs.Prelude.{◌≡◌, ◌==◌, ◌&&◌, ℕ, true};
-ghost use Rattle.vx_parts.specs.Objects.{is_group, is_disk, is_plex, is_vol, refers, is_data_plex_of};
+ghost use Rattle.vx_config_parts.specs.Objects.{is_group, is_disk, is_plex, is_vol, refers, is_data_plex_of};
 ghost use Rattle.std.specs.List.{count_by, list_any};
 ghost use Rattle.vx_rules.specs.Limits.{has_one_group, is_short, fits_word, map_fits, numbers_fit, slot_is_own, volumes_are_few, is_short_name, name_is_short, region_is_good, regions_are_good, plexes_are_good};
 
 use vx_block::Geometry;
+use vx_config_parts::{Object, Plex, PlexKind, Subdisk, refers};
 use vx_names::Name;
-use vx_parts::{Object, Plex, PlexKind, Subdisk, refers};
 
 /// There is one group record, of version 1.
 pub(crate) fn has_one_group(all: &[Object]) -> bool

@@ -1,14 +1,14 @@
 ghost use Rattle.std.specs.Prelude.{◌≡◌, ◌&&◌, ◌==◌, ℕ};
 ghost use Rattle.std.specs.List.{list_any, list_all, count_by};
 ghost use Rattle.std.specs.Str.{bytes_eq};
-ghost use Rattle.vx_parts.specs.Objects.{is_plex, is_vol, is_snap, refers, is_data_plex_of, is_log_plex_of};
+ghost use Rattle.vx_config_parts.specs.Objects.{is_plex, is_vol, is_snap, refers, is_data_plex_of, is_log_plex_of};
 ghost use Rattle.vx_rules.specs.Maps.{has_map, map_uses, plex_map_fits, maps_fit, maps_differ, maps_are_good, map_fault, is_in_use, log_count, data_count, logs_are_good, log_fault, has_data_plex, prefer_fault_of, prefer_fault};
 
 use crate::index::Index;
 use crate::limits::{is_data_of, is_data_plex_of};
 use crate::uses::uses_of_maps;
+use vx_config_parts::{Object, ObjectFault, PlexKind, PlexState, PolicyKind, Vol, refers, same};
 use vx_names::Name;
-use vx_parts::{Object, ObjectFault, PlexKind, PlexState, PolicyKind, Vol, refers, same};
 
 /// The maps of a volume are 0 to 29 and differ, and stand exactly where they are needed.
 pub(crate) fn map_fault(all: &[Object], object: &Object) -> Option<ObjectFault>

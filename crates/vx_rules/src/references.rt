@@ -2,8 +2,8 @@ ghost use Rattle.std.specs.Prelude.{◌≡◌};
 ghost use Rattle.vx_rules.specs.References.{has_disk, has_plex, has_vol, has_dco_of, has_vol_with, missing, reference_fault};
 
 use crate::index::Index;
+use vx_config_parts::{Object, ObjectFault, refers, same};
 use vx_names::Name;
-use vx_parts::{Object, ObjectFault, refers, same};
 
 /// The first name of a record that refers to nothing of the kind that it needs.
 pub(crate) fn reference_fault(index: &Index, object: &Object) -> Option<ObjectFault>

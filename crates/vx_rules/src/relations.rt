@@ -1,13 +1,13 @@
 ghost use Rattle.std.specs.Prelude.{◌≡◌, ◌&&◌, ◌==◌, ℕ};
 ghost use Rattle.std.specs.List.{list_any, count_by};
 ghost use Rattle.std.specs.Str.{bytes_eq};
-ghost use Rattle.vx_parts.specs.Objects.{is_snap};
+ghost use Rattle.vx_config_parts.specs.Objects.{is_snap};
 ghost use Rattle.vx_rules.specs.Faults.{first_some, unless};
 ghost use Rattle.vx_rules.specs.Relations.{relation_is_alone, relation_fault, is_prepared, relation_log_fault, has_shape, shapes_are_equal, shape_fault};
 
 use crate::index::Index;
+use vx_config_parts::{Limit, Object, ObjectFault, Snap, same};
 use vx_names::Name;
-use vx_parts::{Limit, Object, ObjectFault, Snap, same};
 
 /// A snapshot has one relation, and its original is no snapshot. So at most as many relations are looked at as there are
 /// volumes, and one more.

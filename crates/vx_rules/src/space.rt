@@ -2,7 +2,7 @@ ghost use Rattle.std.specs.Prelude.{◌≡◌, ◌+◌, nat_le};
 ghost use Rattle.vx_rules.specs.Space.{has_room, lies_inside, outside_fault};
 
 use crate::index::Index;
-use vx_parts::{Object, ObjectFault, Subdisk};
+use vx_config_parts::{Object, ObjectFault, Subdisk};
 
 /// The subdisk has a sector, and lies in the public region of its disk.
 pub(crate) fn outside_fault(index: &Index, object: &Object) -> Option<ObjectFault>

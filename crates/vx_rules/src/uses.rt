@@ -1,11 +1,11 @@
 ghost use Rattle.std.specs.Prelude.{◌≡◌, ◌&&◌, ◌==◌, ◌<◌, ◌+◌, ℕ, min, slice_index, if◌then◌else◌};
 ghost use Rattle.std.specs.Str.{bytes_eq};
-ghost use Rattle.vx_parts.specs.Objects.{is_plex, is_snap, is_data_plex_of};
+ghost use Rattle.vx_config_parts.specs.Objects.{is_plex, is_snap, is_data_plex_of};
 ghost use Rattle.vx_rules.specs.Maps.{has_map, map_uses};
 
 use crate::limits::is_data_of;
+use vx_config_parts::{Object, same};
 use vx_names::Name;
-use vx_parts::{Object, same};
 
 /// How often each of the maps 0 to 29 is used in the volume; 255 stands for more too.
 pub(crate) fn uses_of_maps(all: &[Object], vol: &Name) -> [u8; 30]

@@ -2,9 +2,9 @@ ghost use Rattle.std.specs.Prelude.{◌≡◌};
 ghost use Rattle.vx_rules.specs.Whole.{has_volume_within, holds_volume, is_whole, whole_fault};
 
 use crate::index::Index;
+use vx_config_parts::{Object, ObjectFault, Plex, PlexKind};
 use vx_extents::{holds, layout_fits_kind};
 use vx_names::Name;
-use vx_parts::{Object, ObjectFault, Plex, PlexKind};
 
 /// The plex has columns without holes and of one length, which hold what it is for.
 pub(crate) fn whole_fault(index: &Index, object: &Object) -> Option<ObjectFault>

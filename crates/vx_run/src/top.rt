@@ -13,7 +13,7 @@ use crate::words::folder_of;
 use std::alloc::Global;
 use vx_flow::{Sink, Source};
 use vx_script::{ScriptFault, read};
-use vx_serve::{Stop, run_commands};
+use vx_serve::{ServeFault, run_commands};
 use vx_shelf::Shelf;
 
 /// Runs the script of the source on the shelf, and writes the line of each answer to the sink. It answers the status:
@@ -120,8 +120,8 @@ fn run_bytes<S: Shelf, B: Sink>(alloc: Global, shelf: &mut S, sink: &mut B, byte
         Ok(script) => match run_commands(alloc, shelf, sink, script.commands.as_slice()) {
             Ok(true) => 0,
             Ok(false) => 5,
-            Err(Stop::OutOfMemory) => 6,
-            Err(Stop::SinkFailed) => 4,
+            Err(ServeFault::OutOfMemory) => 6,
+            Err(ServeFault::SinkFailed) => 4,
         },
     }
 }

@@ -7,9 +7,9 @@ use Rattle.vx_script.specs.declared.command.Command.{Command}
 use Rattle.vx_script.specs.declared.reader.Open.{Open}
 use Rattle.vx_script.specs.declared.reader.Reader.{Reader}
 use Rattle.vx_script_words.specs.Gives.{Fails}
-use Rattle.vx_script_words.specs.declared.stop.Stop.{Stop}
+use Rattle.vx_script_words.specs.declared.fault.LineFault.{LineFault}
 
-pub carried : (r : Result Reader Stop) (x y : Result Reader ℕ) → x ≡ y → MatchResult r (λ next. x ≡ Ok next) (λ stop. Fails stop x) → MatchResult r (λ next. y ≡ Ok next) (λ stop. Fails stop y)
+pub carried : (r : Result Reader LineFault) (x y : Result Reader ℕ) → x ≡ y → MatchResult r (λ next. x ≡ Ok next) (λ stop. Fails stop x) → MatchResult r (λ next. y ≡ Ok next) (λ stop. Fails stop y)
 carried r x y e h =
     let P : Result Reader ℕ → Type 0 = λ z. MatchResult r (λ next. z ≡ Ok next) (λ stop. Fails stop z) in
     subst P e h

@@ -6,7 +6,7 @@ ghost use Rattle.vx_script_words.specs.Gives.{Fails};
 
 use std::alloc::Global;
 use vx_script_forms::{Head, Kind, head_key, items_of, kinds_of};
-use vx_script_words::{Stop, Value, first_word, from_word, key_text, row};
+use vx_script_words::{LineFault, Value, first_word, from_word, key_text, row};
 
 /// A line's form, and the N of its `cut=N`.
 #[derive(Clone, Copy)]
@@ -23,7 +23,7 @@ pub fn choose(
     heads: &[Head],
     values: &mut Vec<Value>,
     text: &[u8],
-) -> Result<Chosen, Stop>
+) -> Result<Chosen, LineFault>
     requires { IsTrue (are_apart heads.now) }
     ensures { MatchResult result (λ chosen. choose may_be_cut (flat_map kinds_of heads.now) text.now ≡ Ok (record { kind = chosen.kind; values = values.new.items; cut = chosen.cut })) (λ stop. Fails stop (choose may_be_cut (flat_map kinds_of heads.now) text.now)) }
 {
@@ -34,7 +34,7 @@ pub fn choose(
             return among(alloc, may_be_cut, kinds_of(*head), values, text);
         }
     }
-    Err(Stop::Left(from.len()))
+    Err(LineFault::Left(from.len()))
 }
 
 fn among(
@@ -43,7 +43,7 @@ fn among(
     kinds: &[Kind],
     values: &mut Vec<Value>,
     text: &[u8],
-) -> Result<Chosen, Stop>
+) -> Result<Chosen, LineFault>
     ensures { MatchResult result (λ chosen. choose may_be_cut kinds.now text.now ≡ Ok (record { kind = chosen.kind; values = values.new.items; cut = chosen.cut })) (λ stop. Fails stop (choose may_be_cut kinds.now text.now)) }
 {
     let mut least = from_word(text).len();
@@ -51,9 +51,9 @@ fn among(
         values.clear();
         match row(alloc, may_be_cut, items_of(*kind), values, text) {
             Ok(cut) => return Ok(Chosen { kind: *kind, cut }),
-            Err(Stop::OutOfMemory) => return Err(Stop::OutOfMemory),
-            Err(Stop::Left(left)) => least = least.min(left),
+            Err(LineFault::OutOfMemory) => return Err(LineFault::OutOfMemory),
+            Err(LineFault::Left(left)) => least = least.min(left),
         }
     }
-    Err(Stop::Left(least))
+    Err(LineFault::Left(least))
 }

@@ -8,7 +8,7 @@ use crate::reader::{Open, Reader};
 use crate::steps::step;
 use crate::{Commands, ScriptFault};
 use std::alloc::Global;
-use vx_script_words::Stop;
+use vx_script_words::LineFault;
 
 /// The commands of a script, in the order of their lines. Names, numbers and blocks are in the ranges of the language.
 #[derive(Drop)]
@@ -35,8 +35,8 @@ pub fn read(alloc: Global, text: &[u8]) -> Result<Script, ScriptFault>
         let (line, next) = split_line(rest);
         match step(alloc, &mut values, reader, line) {
             Ok(more) => reader = more,
-            Err(Stop::OutOfMemory) => return Err(ScriptFault::OutOfMemory),
-            Err(Stop::Left(left)) => {
+            Err(LineFault::OutOfMemory) => return Err(ScriptFault::OutOfMemory),
+            Err(LineFault::Left(left)) => {
                 let column = line.len().saturating_sub(left) as u64 + 1;
                 return Err(ScriptFault::Script(number, column));
             }

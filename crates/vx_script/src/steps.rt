@@ -16,7 +16,7 @@ use vx_script_forms::{
     ACTS, Admin, Block, Boxed, Bytes, CALLS, COMMANDS, Call, Form, Line, Lines, form_of, group_of,
     maybe_boxed,
 };
-use vx_script_words::{Stop, Value, first_word, from_word, number_within, past_word};
+use vx_script_words::{LineFault, Value, first_word, from_word, number_within, past_word};
 
 /// What a line does. The vector of values is room that serves line by line.
 #[tactic(auto, unfolding(crate::specs::Steps::step))]
@@ -25,7 +25,7 @@ pub fn step(
     values: &mut Vec<Value>,
     reader: Reader,
     line: &[u8],
-) -> Result<Reader, Stop>
+) -> Result<Reader, LineFault>
     ensures { MatchResult result (λ next. step reader line.now ≡ Ok next) (λ stop. Fails stop (step reader line.now)) }
 {
     let Reader { done, begun } = reader;
@@ -44,12 +44,12 @@ pub fn step(
     }
 }
 
-fn or_bad(reader: Reader, line: &[u8]) -> Result<Reader, Stop>
+fn or_bad(reader: Reader, line: &[u8]) -> Result<Reader, LineFault>
     ensures { MatchResult result (λ next. or_bad (bad_word line.now) reader ≡ Ok next) (λ stop. Fails stop (or_bad (bad_word line.now) reader)) }
 {
     match bad_word(line) {
         None => Ok(reader),
-        Some(left) => Err(Stop::Left(left)),
+        Some(left) => Err(LineFault::Left(left)),
     }
 }
 
@@ -58,7 +58,7 @@ fn closed_step(
     values: &mut Vec<Value>,
     done: Commands,
     line: &[u8],
-) -> Result<Reader, Stop>
+) -> Result<Reader, LineFault>
     ensures { MatchResult result (λ reader. closed_step done line.now ≡ Ok reader) (λ stop. Fails stop (closed_step done line.now)) }
 {
     if is_passed_over(line) {
@@ -76,16 +76,16 @@ fn command_step(
     values: &mut Vec<Value>,
     done: Commands,
     line: &[u8],
-) -> Result<Reader, Stop>
+) -> Result<Reader, LineFault>
     ensures value { MatchResult result (λ reader. command_step done line.now ≡ Ok reader) (λ stop. Fails stop (command_step done line.now)) }
     ensures place { (left : ℕ) → command_step done line.now ≡ Err left → IsPlace true commands line.now left }
 {
     let chosen = choose(alloc, true, &COMMANDS, values, line)?;
     let Some(group) = group_of(values.as_slice()) else {
-        return Err(Stop::Left(0));
+        return Err(LineFault::Left(0));
     };
     let Some(form) = form_of(alloc, chosen.kind, values.as_slice())? else {
-        return Err(Stop::Left(0));
+        return Err(LineFault::Left(0));
     };
     Ok(opened(alloc, done, group, form, chosen.cut)?)
 }
@@ -135,7 +135,7 @@ fn making_step(
     cut: Option<u64>,
     text: Bytes,
     line: &[u8],
-) -> Result<Reader, Stop>
+) -> Result<Reader, LineFault>
     ensures { MatchResult result (λ reader. making_step done group cut text line.now ≡ Ok reader) (λ stop. Fails stop (making_step done group cut text line.now)) }
 {
     if line == b"end".as_slice() {
@@ -166,7 +166,7 @@ fn inside_step(
     calls: u64,
     sectors: u64,
     line: &[u8],
-) -> Result<Reader, Stop>
+) -> Result<Reader, LineFault>
     ensures { MatchResult result (λ reader. inside_step done cut sessions lines calls sectors line.now ≡ Ok reader) (λ stop. Fails stop (inside_step done cut sessions lines calls sectors line.now)) }
 {
     if is_passed_over(line) {
@@ -193,7 +193,7 @@ fn ended(
     sessions: u32,
     lines: Lines,
     rest: &[u8],
-) -> Result<Reader, Stop>
+) -> Result<Reader, LineFault>
     ensures { MatchResult result (λ reader. ended done cut sessions lines rest.now ≡ Ok reader) (λ stop. Fails stop (ended done cut sessions lines rest.now)) }
 {
     let rest = from_word(rest);
@@ -203,7 +203,7 @@ fn ended(
             let group = None;
             Ok(with_command(done, Command { group, form, cut })?)
         }
-        _ => Err(Stop::Left(rest.len())),
+        _ => Err(LineFault::Left(rest.len())),
     }
 }
 
@@ -213,11 +213,11 @@ fn session_line(
     values: &mut Vec<Value>,
     sessions: u32,
     text: &[u8],
-) -> Result<Line, Stop>
+) -> Result<Line, LineFault>
     ensures { MatchResult result (λ reader. session_line sessions text.now ≡ Ok reader) (λ stop. Fails stop (session_line sessions text.now)) }
 {
     match number_within(0, sessions as u64, first_word(text)) {
-        None => Err(Stop::Left(text.len())),
+        None => Err(LineFault::Left(text.len())),
         Some(session) => line_behind(alloc, values, session as u32, past_word(text)),
     }
 }
@@ -230,7 +230,7 @@ fn line_behind(
     values: &mut Vec<Value>,
     session: u32,
     text: &[u8],
-) -> Result<Line, Stop>
+) -> Result<Line, LineFault>
     ensures value { MatchResult result (λ reader. line_behind session text.now ≡ Ok reader) (λ stop. Fails stop (line_behind session text.now)) }
     ensures place { (left : ℕ) → line_behind session text.now ≡ Err left → IsPlace false (if session == 0 then acts else calls) text.now left }
 {
@@ -242,22 +242,22 @@ fn line_behind(
 }
 
 #[tactic(auto, unfolding(crate::specs::Steps::line_behind))]
-fn act_line(alloc: Global, values: &mut Vec<Value>, text: &[u8]) -> Result<Line, Stop>
+fn act_line(alloc: Global, values: &mut Vec<Value>, text: &[u8]) -> Result<Line, LineFault>
     ensures { MatchResult result (λ reader. line_behind 0 text.now ≡ Ok reader) (λ stop. Fails stop (line_behind 0 text.now)) }
 {
     let chosen = choose(alloc, false, &ACTS, values, text)?;
     let Some(group) = group_of(values.as_slice()) else {
-        return Err(Stop::Left(0));
+        return Err(LineFault::Left(0));
     };
     let Some(form) = form_of(alloc, chosen.kind, values.as_slice())? else {
-        return Err(Stop::Left(0));
+        return Err(LineFault::Left(0));
     };
     match form {
         Form::Acting(act) => {
             let group = maybe_boxed(alloc, group)?;
             Ok(Line::Administer(Admin { group, act }))
         }
-        _ => Err(Stop::Left(0)),
+        _ => Err(LineFault::Left(0)),
     }
 }
 
@@ -267,14 +267,14 @@ fn call_line(
     values: &mut Vec<Value>,
     session: u32,
     text: &[u8],
-) -> Result<Line, Stop>
+) -> Result<Line, LineFault>
     requires { 0 < session }
     ensures { MatchResult result (λ reader. line_behind session text.now ≡ Ok reader) (λ stop. Fails stop (line_behind session text.now)) }
 {
     let chosen = choose(alloc, false, &CALLS, values, text)?;
     match form_of(alloc, chosen.kind, values.as_slice())? {
         Some(Form::Calling(call)) => Ok(Line::Session { session, call }),
-        _ => Err(Stop::Left(0)),
+        _ => Err(LineFault::Left(0)),
     }
 }
 
@@ -317,13 +317,13 @@ fn added(
     sectors: u64,
     whole: usize,
     line: Line,
-) -> Result<Reader, Stop>
+) -> Result<Reader, LineFault>
     ensures { MatchResult result (λ reader. added done cut sessions lines calls sectors whole line ≡ Ok reader) (λ stop. Fails stop (added done cut sessions lines calls sectors whole line)) }
 {
     let calls = calls.saturating_add(line_calls(&line));
     let sectors = sectors.saturating_add(line_sectors(&line));
     if calls > 65_536 || sectors > 262_144 {
-        return Err(Stop::Left(whole));
+        return Err(LineFault::Left(whole));
     }
     let mut lines = lines;
     lines.push(line)?;

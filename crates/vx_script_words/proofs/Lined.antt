@@ -5,7 +5,7 @@ use Rattle.std.proofs.lemmas.Bool.{and_parts, true≢false}
 use Rattle.vx_script_words.specs.Class.{class_value}
 use Rattle.vx_script_words.specs.Parts.{cut_of, name_of, pair_of}
 use Rattle.vx_script_words.specs.Hex.{block_of}
-use Rattle.vx_script_words.specs.Row.{So, Going, and_then, with_value, taken, one, or_else, maybe, further, gather, pushed, Found, at_least_one, any_name, group, item, items, Read, ends, nothing_left, cut_end, uncut, line_end, row}
+use Rattle.vx_script_words.specs.Row.{So, Going, and_then, with_value, taken, one, or_else, maybe, further, gather, pushed, Gathered, at_least_one, any_name, group, item, items, Read, ends, nothing_left, cut_end, uncut, line_end, row}
 use Rattle.vx_script_words.specs.Row.{joined as bytes_joined}
 use Rattle.vx_script_words.specs.Spelling.{Behind, Spells}
 use Rattle.vx_script_words.specs.Words.{from_word, first_word, past_word}
@@ -115,7 +115,7 @@ gather_step {X = X} say put (suc n) so text (w ∷ ws) none h =
     by_value (Some x) more = joined text (past_word (from_word text)) _ (w ∷ ws) ws _ (past_first text w ws h) (more x)
 
 -- a list that has a word at least
-list_step : {X A : Type 0} (say : List ℕ → Option X) (more : List ℕ → X → Found A) (g : Words → Words) (values : List Value) (make : A → Value) (text : List ℕ) (ws : Words) → say [] ≡ None → Spells text ws
+list_step : {X A : Type 0} (say : List ℕ → Option X) (more : List ℕ → X → Gathered A) (g : Words → Words) (values : List Value) (make : A → Value) (text : List ℕ) (ws : Words) → say [] ≡ None → Spells text ws
     → ((x : X) (vs : Words) → Spells (past_word (from_word text)) vs → Reaches (past_word (from_word text)) vs (more (past_word (from_word text)) x).rest (g vs))
     → Step text ws (at_least_one (say (first_word (from_word text))) (from_word text) (more (past_word (from_word text))) values make) (on (one_word (λ w. is_some (say w)) ws) (λ vs. Ok (g vs)))
 list_step say more g values make text [] none h goes =

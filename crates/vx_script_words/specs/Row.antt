@@ -50,16 +50,16 @@ abbrev pub maybe : Class → List Value → List ℕ → Going
 maybe class values text = or_else (one class values text) (with_value values value.Nothing text)
 
 -- things that words say, and the rest of the line
-pub record Found (A : Type 0) : Type 0 where
+pub record Gathered (A : Type 0) : Type 0 where
   pub list : A
   pub rest : List ℕ
 
-abbrev pub further : {X A : Type 0} → Option X → Found A → (X → Found A) → Found A
+abbrev pub further : {X A : Type 0} → Option X → Gathered A → (X → Gathered A) → Gathered A
 further None so more = so
 further (Some x) so more = more x
 
 -- what words say, put behind what there is, as long as they say something, but no more of them than the limit
-unfoldable pub gather : {X A : Type 0} → (List ℕ → Option X) → (A → X → A) → ℕ → A → List ℕ → Found A
+unfoldable pub gather : {X A : Type 0} → (List ℕ → Option X) → (A → X → A) → ℕ → A → List ℕ → Gathered A
 gather say put zero so text = record { list = so; rest = text }
 gather say put (suc n) so text = further (say (first_word (from_word text))) (record { list = so; rest = text }) (λ x. gather say put n (put so x) (past_word (from_word text)))
 
@@ -69,11 +69,11 @@ pushed xs x = xs ++ x ∷ []
 abbrev pub joined : List ℕ → List ℕ → List ℕ
 joined bytes more = bytes ++ more
 
-abbrev pub said : {A : Type 0} → List Value → (A → Value) → Found A → So
+abbrev pub said : {A : Type 0} → List Value → (A → Value) → Gathered A → So
 said values make found = with_value values (make found.list) found.rest
 
 -- a list whose first word has to say something
-abbrev pub at_least_one : {X A : Type 0} → Option X → List ℕ → (X → Found A) → List Value → (A → Value) → Going
+abbrev pub at_least_one : {X A : Type 0} → Option X → List ℕ → (X → Gathered A) → List Value → (A → Value) → Going
 at_least_one None text more values make = Err (length text)
 at_least_one (Some x) text more values make = Ok (said values make (more x))
 

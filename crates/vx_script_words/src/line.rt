@@ -8,7 +8,7 @@ use crate::lists::{more_blocks, more_pairs, some_names};
 use crate::parts::pair_of;
 use crate::read::put_said;
 use crate::words::{first_word, from_word, past_word, split_word};
-use crate::{Blocks, Class, Disks, Item, Key, Sort, Stop, Value, block_of, cut_of};
+use crate::{Blocks, Class, Disks, Item, Key, LineFault, Sort, Value, block_of, cut_of};
 use std::alloc::Global;
 use vx_base::OutOfMemory;
 
@@ -22,7 +22,7 @@ pub fn row(
     form: &[Item],
     values: &mut Vec<Value>,
     text: &[u8],
-) -> Result<Option<u64>, Stop>
+) -> Result<Option<u64>, LineFault>
     requires { values.old.items ≡ [] }
     ensures { MatchResult result (λ cut. row may_be_cut form.now text.now ≡ Ok (record { values = values.new.items; cut = cut })) (λ stop. Fails stop (row may_be_cut form.now text.now)) }
 {
@@ -30,7 +30,7 @@ pub fn row(
     line_end(may_be_cut, rest)
 }
 
-fn line_end(may_be_cut: bool, text: &[u8]) -> Result<Option<u64>, Stop>
+fn line_end(may_be_cut: bool, text: &[u8]) -> Result<Option<u64>, LineFault>
     ensures { (values : List Value) → MatchResult result (λ cut. line_end may_be_cut (record { values = values; rest = text.now }) ≡ Ok (record { values = values; cut = cut })) (λ stop. Fails stop (line_end may_be_cut (record { values = values; rest = text.now }))) }
 {
     if may_be_cut {
@@ -40,7 +40,7 @@ fn line_end(may_be_cut: bool, text: &[u8]) -> Result<Option<u64>, Stop>
     }
 }
 
-fn may_cut(text: &[u8]) -> Result<Option<u64>, Stop>
+fn may_cut(text: &[u8]) -> Result<Option<u64>, LineFault>
     ensures { (values : List Value) → MatchResult result (λ cut. may_cut (record { values = values; rest = text.now }) ≡ Ok (record { values = values; cut = cut })) (λ stop. Fails stop (may_cut (record { values = values; rest = text.now }))) }
 {
     let text = from_word(text);
@@ -51,13 +51,13 @@ fn may_cut(text: &[u8]) -> Result<Option<u64>, Stop>
 }
 
 /// Nothing but blanks.
-fn ends(cut: Option<u64>, text: &[u8]) -> Result<Option<u64>, Stop>
+fn ends(cut: Option<u64>, text: &[u8]) -> Result<Option<u64>, LineFault>
     ensures { (values : List Value) → MatchResult result (λ read. ends {A = Read} (record { values = values; cut = cut }) text.now ≡ Ok (record { values = values; cut = read })) (λ stop. Fails stop (ends {A = Read} (record { values = values; cut = cut }) text.now)) }
 {
     let text = from_word(text);
     match text {
         [] => Ok(cut),
-        _ => Err(Stop::Left(text.len())),
+        _ => Err(LineFault::Left(text.len())),
     }
 }
 
@@ -66,7 +66,7 @@ fn items<'a>(
     form: &[Item],
     values: &mut Vec<Value>,
     text: &'a [u8],
-) -> Result<&'a [u8], Stop>
+) -> Result<&'a [u8], LineFault>
     ensures { MatchResult result (λ rest. items form.now (Ok (record { values = values.old.items; rest = text.now })) ≡ Ok (record { values = values.new.items; rest = rest.now })) (λ stop. Fails stop (items form.now (Ok (record { values = values.old.items; rest = text.now })))) }
 {
     let mut rest = text;
@@ -84,7 +84,7 @@ fn item<'a>(
     part: Item,
     values: &mut Vec<Value>,
     text: &'a [u8],
-) -> Result<&'a [u8], Stop>
+) -> Result<&'a [u8], LineFault>
     ensures { MatchResult result (λ rest. item part values.old.items text.now ≡ Ok (record { values = values.new.items; rest = rest.now })) (λ stop. Fails stop (item part values.old.items text.now)) }
 {
     match part {
@@ -98,14 +98,14 @@ fn item<'a>(
     }
 }
 
-fn nothing<'a>(values: &mut Vec<Value>, text: &'a [u8]) -> Result<&'a [u8], Stop>
+fn nothing<'a>(values: &mut Vec<Value>, text: &'a [u8]) -> Result<&'a [u8], LineFault>
     ensures { MatchResult result (λ rest. item Item.NoGroup values.old.items text.now ≡ Ok (record { values = values.new.items; rest = rest.now })) (λ stop. Fails stop (item Item.NoGroup values.old.items text.now)) }
 {
     values.push(Value::Nothing)?;
     Ok(text)
 }
 
-fn group<'a>(values: &mut Vec<Value>, text: &'a [u8]) -> Result<&'a [u8], Stop>
+fn group<'a>(values: &mut Vec<Value>, text: &'a [u8]) -> Result<&'a [u8], LineFault>
     ensures { MatchResult result (λ rest. group values.old.items text.now ≡ Ok (record { values = values.new.items; rest = rest.now })) (λ stop. Fails stop (group values.old.items text.now)) }
 {
     let from = from_word(text);
@@ -119,16 +119,16 @@ fn group<'a>(values: &mut Vec<Value>, text: &'a [u8]) -> Result<&'a [u8], Stop>
     one(class, values, past_word(from))
 }
 
-fn one<'a>(class: Class, values: &mut Vec<Value>, text: &'a [u8]) -> Result<&'a [u8], Stop>
+fn one<'a>(class: Class, values: &mut Vec<Value>, text: &'a [u8]) -> Result<&'a [u8], LineFault>
     ensures { MatchResult result (λ rest. one class values.old.items text.now ≡ Ok (record { values = values.new.items; rest = rest.now })) (λ stop. Fails stop (one class values.old.items text.now)) }
 {
     match taken(class, values, text)? {
         Some(rest) => Ok(rest),
-        None => Err(Stop::Left(from_word(text).len())),
+        None => Err(LineFault::Left(from_word(text).len())),
     }
 }
 
-fn maybe<'a>(class: Class, values: &mut Vec<Value>, text: &'a [u8]) -> Result<&'a [u8], Stop>
+fn maybe<'a>(class: Class, values: &mut Vec<Value>, text: &'a [u8]) -> Result<&'a [u8], LineFault>
     ensures { MatchResult result (λ rest. maybe class values.old.items text.now ≡ Ok (record { values = values.new.items; rest = rest.now })) (λ stop. Fails stop (maybe class values.old.items text.now)) }
 {
     match taken(class, values, text)? {
@@ -154,7 +154,7 @@ fn taken<'a>(
     }
 }
 
-fn names<'a>(alloc: Global, values: &mut Vec<Value>, text: &'a [u8]) -> Result<&'a [u8], Stop>
+fn names<'a>(alloc: Global, values: &mut Vec<Value>, text: &'a [u8]) -> Result<&'a [u8], LineFault>
     ensures { MatchResult result (λ rest. item Item.Names values.old.items text.now ≡ Ok (record { values = values.new.items; rest = rest.now })) (λ stop. Fails stop (item Item.Names values.old.items text.now)) }
 {
     let (names, rest) = some_names(alloc, text)?;
@@ -162,12 +162,12 @@ fn names<'a>(alloc: Global, values: &mut Vec<Value>, text: &'a [u8]) -> Result<&
     Ok(rest)
 }
 
-fn pairs<'a>(alloc: Global, values: &mut Vec<Value>, text: &'a [u8]) -> Result<&'a [u8], Stop>
+fn pairs<'a>(alloc: Global, values: &mut Vec<Value>, text: &'a [u8]) -> Result<&'a [u8], LineFault>
     ensures { MatchResult result (λ rest. item Item.Pairs values.old.items text.now ≡ Ok (record { values = values.new.items; rest = rest.now })) (λ stop. Fails stop (item Item.Pairs values.old.items text.now)) }
 {
     let text = from_word(text);
     let Some(first) = pair_of(first_word(text)) else {
-        return Err(Stop::Left(text.len()));
+        return Err(LineFault::Left(text.len()));
     };
     let disks = Disks::new(alloc).with(first)?;
     let (disks, rest) = more_pairs(disks, past_word(text))?;
@@ -175,12 +175,12 @@ fn pairs<'a>(alloc: Global, values: &mut Vec<Value>, text: &'a [u8]) -> Result<&
     Ok(rest)
 }
 
-fn blocks<'a>(alloc: Global, values: &mut Vec<Value>, text: &'a [u8]) -> Result<&'a [u8], Stop>
+fn blocks<'a>(alloc: Global, values: &mut Vec<Value>, text: &'a [u8]) -> Result<&'a [u8], LineFault>
     ensures { MatchResult result (λ rest. item Item.Blocks values.old.items text.now ≡ Ok (record { values = values.new.items; rest = rest.now })) (λ stop. Fails stop (item Item.Blocks values.old.items text.now)) }
 {
     let text = from_word(text);
     let Some(first) = block_of(alloc, first_word(text))? else {
-        return Err(Stop::Left(text.len()));
+        return Err(LineFault::Left(text.len()));
     };
     let blocks = Blocks::new(alloc).with(first)?;
     let (blocks, rest) = more_blocks(alloc, blocks, past_word(text))?;

@@ -1,7 +1,7 @@
 ghost use Rattle.std.specs.Prelude.{◌≡◌, ◌≤◌, IfOk, [], length};
 ghost use Rattle.vx_script_words.specs.Parts.{name_of, pair_of};
 ghost use Rattle.vx_script_words.specs.Hex.{block_of};
-ghost use Rattle.vx_script_words.specs.Row.{gather, pushed, joined, Found};
+ghost use Rattle.vx_script_words.specs.Row.{gather, pushed, joined, Gathered};
 
 use crate::parts::{name_of, pair_of};
 use crate::words::{first_word, from_word, past_word};

@@ -7,4 +7,4 @@ mod lines;
 
 pub use fine::is_fine;
 pub use laws::each_told_shelf_is_a_moment;
-pub use lines::{Stop, run_commands};
+pub use lines::{ServeFault, run_commands};

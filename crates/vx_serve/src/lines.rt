@@ -12,7 +12,7 @@ ghost use Rattle.vx_serve.specs.Fine.{is_fine};
 ghost use Rattle.vx_serve.specs.Run.{HasRun, HasRunPartly};
 ghost use Rattle.vx_serve.specs.Ends.{CarriesOut, StopsShort};
 ghost use Rattle.vx_serve.specs.Soundly.{StaysSound};
-ghost use Rattle.vx_serve.specs.declared.lines.Stop.TheVariants as stops;
+ghost use Rattle.vx_serve.specs.declared.lines.ServeFault.TheVariants as stops;
 
 use crate::fine::is_fine;
 use std::alloc::Global;
@@ -26,35 +26,39 @@ use vx_shelf::Shelf;
 
 /// Why a run ends before its last command.
 #[derive(Clone, Copy, Debug, PartialEq, Eq)]
-pub enum Stop {
+pub enum ServeFault {
     OutOfMemory,
     /// The sink failed, and its count of faults rose.
     SinkFailed,
 }
 
-impl From<OutOfMemory> for Stop {
+impl From<OutOfMemory> for ServeFault {
     ghost from_gives = { λ _ e. e ≡ stops.OutOfMemory };
 
-    fn from(_refused: OutOfMemory) -> Stop {
-        Stop::OutOfMemory
+    fn from(_refused: OutOfMemory) -> ServeFault {
+        ServeFault::OutOfMemory
     }
 }
 
 /// Writes the line of an answer, and tells whether it is fine. The line's memory is used again for the next one.
-fn write_line<B: Sink>(sink: &mut B, line: &mut Vec<u8>, answer: &Answer) -> Result<bool, Stop>
+fn write_line<B: Sink>(
+    sink: &mut B,
+    line: &mut Vec<u8>,
+    answer: &Answer,
+) -> Result<bool, ServeFault>
     ensures written { OnOk result ((text : List ℕ) → B.taken sink.old ≡ Some text → B.taken sink.new ≡ Some (text ++ lines_of answer.now)) }
     ensures partly { OnErr result ((text : List ℕ) → B.taken sink.old ≡ Some text → (n : ℕ) × (B.taken sink.new ≡ Some (text ++ take n (lines_of answer.now)))) }
     ensures fine { IfOk result (λ fine. fine ≡ is_fine answer.now) }
-    ensures cause { IsErrOf result Stop.SinkFailed → Rose (B.faults sink.old) (B.faults sink.new) }
+    ensures cause { IsErrOf result ServeFault.SinkFailed → Rose (B.faults sink.old) (B.faults sink.new) }
     ensures quiet { OnOk result (B.faults sink.new ≡ B.faults sink.old) }
-    ensures quiet_refused { IsErrOf result Stop.OutOfMemory → B.faults sink.new ≡ B.faults sink.old }
+    ensures quiet_refused { IsErrOf result ServeFault.OutOfMemory → B.faults sink.new ≡ B.faults sink.old }
     ensures later { B.faults sink.old ≤ B.faults sink.new }
 {
     line.clear();
     put_answer(answer, line)?;
     match sink.write(line) {
         Ok(()) => Ok(is_fine(answer)),
-        Err(_) => Err(Stop::SinkFailed),
+        Err(_) => Err(ServeFault::SinkFailed),
     }
 }
 
@@ -66,7 +70,7 @@ fn one_line<S: Shelf, B: Sink>(
     sink: &mut B,
     line: &mut Vec<u8>,
     command: &Command,
-) -> Result<bool, Stop>
+) -> Result<bool, ServeFault>
     requires kept { IsTrue (is_command command.now) }
     requires keeps { Keeps S.P.seen (at (shelved S.free S.held S.counted S.faults shelf.old) house.old) }
     requires empty { house.old.hand.items ≡ [] }
@@ -78,9 +82,9 @@ fn one_line<S: Shelf, B: Sink>(
     ensures partly { OnErr result ((place : ℕ) → HasRunPartly S.P.seen place (command.now ∷ [])
         (at (shelved S.free S.held S.counted S.faults shelf.old) house.old) (B.taken sink.old)
         (at (shelved S.free S.held S.counted S.faults shelf.new) house.new) (B.taken sink.new)) }
-    ensures cause { IsErrOf result Stop.SinkFailed → Rose (B.faults sink.old) (B.faults sink.new) }
+    ensures cause { IsErrOf result ServeFault.SinkFailed → Rose (B.faults sink.old) (B.faults sink.new) }
     ensures quiet { OnOk result (B.faults sink.new ≡ B.faults sink.old) }
-    ensures quiet_refused { IsErrOf result Stop.OutOfMemory → B.faults sink.new ≡ B.faults sink.old }
+    ensures quiet_refused { IsErrOf result ServeFault.OutOfMemory → B.faults sink.new ≡ B.faults sink.old }
     ensures later { B.faults sink.old ≤ B.faults sink.new }
 {
     let answer = execute(alloc, house, shelf, command)?;
@@ -100,7 +104,7 @@ fn all_lines<S: Shelf, B: Sink>(
     shelf: &mut S,
     sink: &mut B,
     commands: &[Command],
-) -> Result<bool, Stop>
+) -> Result<bool, ServeFault>
     requires kept { IsTrue (is_kept commands.now) }
     requires keeps { Keeps S.P.seen (at (shelved S.free S.held S.counted S.faults shelf.old) house.old) }
     requires empty { house.old.hand.items ≡ [] }
@@ -111,9 +115,9 @@ fn all_lines<S: Shelf, B: Sink>(
     ensures partly { OnErr result (HasRunPartly S.P.seen 0 commands.now
         (at (shelved S.free S.held S.counted S.faults shelf.old) house.old) (B.taken sink.old)
         (at (shelved S.free S.held S.counted S.faults shelf.new) house.new) (B.taken sink.new)) }
-    ensures cause { IsErrOf result Stop.SinkFailed → Rose (B.faults sink.old) (B.faults sink.new) }
+    ensures cause { IsErrOf result ServeFault.SinkFailed → Rose (B.faults sink.old) (B.faults sink.new) }
     ensures quiet { OnOk result (B.faults sink.new ≡ B.faults sink.old) }
-    ensures quiet_refused { IsErrOf result Stop.OutOfMemory → B.faults sink.new ≡ B.faults sink.old }
+    ensures quiet_refused { IsErrOf result ServeFault.OutOfMemory → B.faults sink.new ≡ B.faults sink.old }
     ensures later { B.faults sink.old ≤ B.faults sink.new }
 {
     let mut fine = true;
@@ -140,7 +144,7 @@ pub fn run_commands<S: Shelf, B: Sink>(
     shelf: &mut S,
     sink: &mut B,
     commands: &[Command],
-) -> Result<bool, Stop>
+) -> Result<bool, ServeFault>
     requires kept { IsTrue (is_kept commands.now) }
     requires here { NoneHeld (S.held shelf.old) }
     ensures run { IfOk result (λ fine. CarriesOut commands.now
@@ -151,9 +155,9 @@ pub fn run_commands<S: Shelf, B: Sink>(
         (shelved S.free S.held S.counted S.faults shelf.new) (B.taken sink.new)) }
     ensures sound { StaysSound commands.now (shelved S.free S.held S.counted S.faults shelf.old) (shelved S.free S.held S.counted S.faults shelf.new) }
     ensures back { NoneHeld (S.held shelf.new) }
-    ensures cause { IsErrOf result Stop.SinkFailed → Rose (B.faults sink.old) (B.faults sink.new) }
+    ensures cause { IsErrOf result ServeFault.SinkFailed → Rose (B.faults sink.old) (B.faults sink.new) }
     ensures quiet { OnOk result (B.faults sink.new ≡ B.faults sink.old) }
-    ensures quiet_refused { IsErrOf result Stop.OutOfMemory → B.faults sink.new ≡ B.faults sink.old }
+    ensures quiet_refused { IsErrOf result ServeFault.OutOfMemory → B.faults sink.new ≡ B.faults sink.old }
     ensures later { B.faults sink.old ≤ B.faults sink.new }
 {
     let mut house = House::new(alloc);

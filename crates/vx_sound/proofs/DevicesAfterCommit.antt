@@ -19,7 +19,7 @@ use Rattle.vx_copies.proofs.Halves.{offer_same}
 use Rattle.vx_moments.specs.World.{Device, Member, Volume}
 use Rattle.vx_moments.specs.Moment.{Moment}
 use Rattle.vx_moments.specs.Copies.{label_of, KeepsToggle, IsTurned, IsStruck}
-use Rattle.vx_moments.specs.Commit.{Writing, parties, IsMaskOf, Goes, MemberGoes, JoinerGoes, IsNoDeviceOf, IsCommitting}
+use Rattle.vx_moments.specs.Commit.{Writing, parties, IsMaskOf, DeviceGoes, MemberGoes, JoinerGoes, IsNoDeviceOf, IsCommitting}
 use Rattle.vx_moments.specs.Holding.{IsLent}
 use Rattle.vx_sound.specs.Offers.{IsHeaded, Offers}
 use Rattle.vx_sound.proofs.Headed.{some_same}
@@ -140,7 +140,7 @@ module _ (x : Writing) (last : ℕ) (old new : Moment) (c : IsCommitting x last 
   member_fate : (m : Member) → AnyOf (λ n. n ≡ m) x.group.members → MemberGoes x last old new m → (has x.group.good m.slot ≡ true → IsHeadedAs x.config.group old.world m) → Fate x last old new m.device
   member_fate m listed goes good = by (true_or_false (has x.group.good m.slot))
     where
-      struck : has x.group.good m.slot ≡ true → Goes (λ d e. IsStruck (x.group.sequence + 1) last (IsMaskOf x old.counts new.counts) x.text d.contents e.contents) m.device old.world new.world → IsHeadedAs x.config.group old.world m → KeepsHeader x last old new m.device
+      struck : has x.group.good m.slot ≡ true → DeviceGoes (λ d e. IsStruck (x.group.sequence + 1) last (IsMaskOf x old.counts new.counts) x.text d.contents e.contents) m.device old.world new.world → IsHeadedAs x.config.group old.world m → KeepsHeader x last old new m.device
       struck is went (d, headed) =
           let same : went.before ≡ d = some_same went.before d (sym went.was ∙ headed.device) in
           let before : IsHeaded x.config.group old.world m.device m.slot went.before = subst (λ (e : Device). IsHeaded x.config.group old.world m.device m.slot e) (sym same) headed in

@@ -13,7 +13,7 @@ use Rattle.vx_life.specs.Entry.{Entry, candidates_after, ReadsAmong}
 use Rattle.vx_life.specs.Life.{Life, life_after}
 use Rattle.vx_life.proofs.History.{goes_on_more}
 use Rattle.vx_plans.specs.Calls.{IsPart, AreParts, IsOf, AreOf}
-use Rattle.vx_started.specs.Stands.{IsAmongTold, StandsFor, IsDrawn, AreBelow, entry_of, PartGoes, Goes}
+use Rattle.vx_started.specs.Stands.{IsAmongTold, StandsFor, IsDrawn, AreBelow, entry_of, PartGoes, CallGoes}
 
 parts_more : (size start count index : ℕ) (es : List Entry) (e : Entry) → AreParts size start count index es → IsPart size start count (index + length es) e → AreParts size start count index (es ++ e ∷ [])
 parts_more size start count index [] e h p = (subst (λ i. IsPart size start count i e) (omega arith) p, tt)
@@ -63,14 +63,14 @@ pub entries_are_parts : (es : List Entry) (parts : List Part) → map (λ e. e.p
 entries_are_parts es parts told = sym (length-map es (λ e. e.part)) ∙ ap length told
 
 module _ (n size start count : ℕ) (kind : EntryKind) (values : Contents) where
-  pub none_gone : (piece : Seen) (numbers : List ℕ) → Goes n size start count kind values piece numbers piece numbers []
+  pub none_gone : (piece : Seen) (numbers : List ℕ) → CallGoes n size start count kind values piece numbers piece numbers []
   none_gone piece numbers place before stands = record { entries = []; life = before; first = tt; each = tt; told = refl; goes_on = refl; stands = stands }
 
   pub gone_more : (old_piece piece new : Seen) (old_numbers numbers later : List ℕ) (parts : List Part) (part : Part) (span : Span)
-      → Goes n size start count kind values old_piece old_numbers piece numbers parts
+      → CallGoes n size start count kind values old_piece old_numbers piece numbers parts
       → part_at size start count (length parts) ≡ Some span → part.region ≡ start / size + length parts
       → PartGoes n span kind values piece numbers new later part
-      → Goes n size start count kind values old_piece old_numbers new later (parts ++ part ∷ [])
+      → CallGoes n size start count kind values old_piece old_numbers new later (parts ++ part ∷ [])
   gone_more old_piece piece new old_numbers numbers later parts part span goes range region more place before stands =
       let gone = goes place before stands in
       let e : Entry = entry_of place part kind span values in

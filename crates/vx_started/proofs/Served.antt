@@ -17,7 +17,7 @@ use Rattle.vx_answers.specs.declared.answer.End.{End}
 use Rattle.vx_answers.specs.declared.answer.End.TheVariants.{Done, Fault, Lost}
 use Rattle.vx_moments.specs.World.{Volume, Lies, OnDevice}
 use Rattle.vx_plans.specs.Calls.{LiesOn, start_of, count_of, values_of, failed_kind, AreParts, AreOf}
-use Rattle.vx_started.specs.Stands.{IsAmongTold, Goes, Serves}
+use Rattle.vx_started.specs.Stands.{IsAmongTold, CallGoes, Serves}
 use Rattle.vx_started.specs.Buffers.{HoldsFirst}
 use Rattle.vx_started.proofs.Chosen.{is_in_bounds}
 use Rattle.vx_started.proofs.Gone.{entries_are_parts}
@@ -44,7 +44,7 @@ each_held place size start count index contents blocks (e ∷ es) sized some hol
     )
 
 module _ (v : Volume) (device : List ℕ) (lies : v.lies ≡ OnDevice device) (end_told : End) (old new : Seen) (numbers later : List ℕ) (parts : List Part) where
-  pub served_read : (vol : List ℕ) (start count total : ℕ) (blocks : List ℕ) → 0 < v.region → 0 < count → ((contents : Contents) → old.told ≡ Some contents → Goes v.length v.region start count kinds.Read contents old numbers new later parts) → HoldsFirst blocks old.told start count → part_at v.region start count total ≡ None → length parts ≡ total → length blocks ≡ 512 * count → end_told ≡ Done None parts blocks → Serves (calls.Read vol start count) end_told old numbers new later v
+  pub served_read : (vol : List ℕ) (start count total : ℕ) (blocks : List ℕ) → 0 < v.region → 0 < count → ((contents : Contents) → old.told ≡ Some contents → CallGoes v.length v.region start count kinds.Read contents old numbers new later parts) → HoldsFirst blocks old.told start count → part_at v.region start count total ≡ None → length parts ≡ total → length blocks ≡ 512 * count → end_told ≡ Done None parts blocks → Serves (calls.Read vol start count) end_told old numbers new later v
   served_read vol start count total blocks sized some goes holds end all long is place stands =
       let told = told_some v.length old.told v.life.candidates stands.told in
       let gone = goes told.0 told.1 place v.life stands in
@@ -67,7 +67,7 @@ module _ (v : Volume) (device : List ℕ) (lies : v.lies ≡ OnDevice device) (e
         gone.stands,
       )
 
-  pub served_fill : (vol : List ℕ) (start count byte total : ℕ) → Goes v.length v.region start count kinds.Write (λ _. replicate 512 byte) old numbers new later parts → part_at v.region start count total ≡ None → length parts ≡ total → end_told ≡ Done None parts [] → Serves (calls.Fill vol start count byte) end_told old numbers new later v
+  pub served_fill : (vol : List ℕ) (start count byte total : ℕ) → CallGoes v.length v.region start count kinds.Write (λ _. replicate 512 byte) old numbers new later parts → part_at v.region start count total ≡ None → length parts ≡ total → end_told ≡ Done None parts [] → Serves (calls.Fill vol start count byte) end_told old numbers new later v
   served_fill vol start count byte total goes end all is place stands =
       let gone = goes place v.life stands in (
         gone.life,
@@ -84,7 +84,7 @@ module _ (v : Volume) (device : List ℕ) (lies : v.lies ≡ OnDevice device) (e
         gone.stands,
       )
 
-  pub served_failed : (call : Call) → Goes v.length v.region (start_of call) (count_of call) (failed_kind call) (values_of call []) old numbers new later parts → 0 < length parts → (end_told ≡ Fault device device parts) ⊎ (end_told ≡ Lost parts) → Serves call end_told old numbers new later v
+  pub served_failed : (call : Call) → CallGoes v.length v.region (start_of call) (count_of call) (failed_kind call) (values_of call []) old numbers new later parts → 0 < length parts → (end_told ≡ Fault device device parts) ⊎ (end_told ≡ Lost parts) → Serves call end_told old numbers new later v
   served_failed call goes some (inl is) place stands =
       let gone = goes place v.life stands in
       let on_device : LiesOn v.lies device = subst (λ (l : Lies). LiesOn l device) (sym lies) refl in
@@ -95,17 +95,17 @@ module _ (v : Volume) (device : List ℕ) (lies : v.lies ≡ OnDevice device) (e
       (gone.life, record { entries = gone.entries; parts = gone.first; told = rw is (gone.told, gone.each); goes_on = gone.goes_on }, gone.stands)
 
 -- the same, told of the volume's own length and regions
-at_shape : (v : Volume) (n size start count : ℕ) (kind : EntryKind) (values : Contents) (old new : Seen) (numbers later : List ℕ) (parts : List Part) → v.length ≡ n → v.region ≡ size → Goes n size start count kind values old numbers new later parts → Goes v.length v.region start count kind values old numbers new later parts
+at_shape : (v : Volume) (n size start count : ℕ) (kind : EntryKind) (values : Contents) (old new : Seen) (numbers later : List ℕ) (parts : List Part) → v.length ≡ n → v.region ≡ size → CallGoes n size start count kind values old numbers new later parts → CallGoes v.length v.region start count kind values old numbers new later parts
 at_shape v n size start count kind values old new numbers later parts length_is region_is goes =
-    subst (λ m. Goes m v.region start count kind values old numbers new later parts) (sym length_is) (subst (λ s. Goes n s start count kind values old numbers new later parts) (sym region_is) goes)
+    subst (λ m. CallGoes m v.region start count kind values old numbers new later parts) (sym length_is) (subst (λ s. CallGoes n s start count kind values old numbers new later parts) (sym region_is) goes)
 
 module _ (v : Volume) (device : List ℕ) (n size : ℕ) (lies : v.lies ≡ OnDevice device) (length_is : v.length ≡ n) (region_is : v.region ≡ size) (sized : 0 < size) (end_told : End) (old new : Seen) (numbers later : List ℕ) (parts : List Part) (total start count : ℕ) (some : 0 < count) (end : part_at size start count total ≡ None) where
   here : part_at v.region start count total ≡ None
   here = ap (λ s. part_at s start count total) region_is ∙ end
 
   pub read_served : {T : Type 0} (vol : List ℕ) (blocks : List ℕ) (outcome : Result T PieceFault)
-      → OnOk outcome ((contents : Contents) → old.told ≡ Some contents → Goes n size start count kinds.Read contents old numbers new later parts) → OnOk outcome (HoldsFirst blocks old.told start count) → OnOk outcome (length parts ≡ total) → length blocks ≡ 512 * count → OnOk outcome (end_told ≡ Done None parts blocks)
-      → OnErr outcome (Goes n size start count kinds.Missed (λ k. block_at [] (k - start)) old numbers new later parts) → OnErr outcome (0 < length parts) → OnErr outcome ((end_told ≡ Fault device device parts) ⊎ (end_told ≡ Lost parts))
+      → OnOk outcome ((contents : Contents) → old.told ≡ Some contents → CallGoes n size start count kinds.Read contents old numbers new later parts) → OnOk outcome (HoldsFirst blocks old.told start count) → OnOk outcome (length parts ≡ total) → length blocks ≡ 512 * count → OnOk outcome (end_told ≡ Done None parts blocks)
+      → OnErr outcome (CallGoes n size start count kinds.Missed (λ k. block_at [] (k - start)) old numbers new later parts) → OnErr outcome (0 < length parts) → OnErr outcome ((end_told ≡ Fault device device parts) ⊎ (end_told ≡ Lost parts))
       → Serves (calls.Read vol start count) end_told old numbers new later v
   read_served vol blocks (Ok u) goes holds all long is failed begun told =
       served_read v device lies end_told old new numbers later parts vol start count total blocks (subst (λ s. 0 < s) (sym region_is) sized) some
@@ -114,8 +114,8 @@ module _ (v : Volume) (device : List ℕ) (n size : ℕ) (lies : v.lies ≡ OnDe
       served_failed v device lies end_told old new numbers later parts (calls.Read vol start count) (at_shape v n size start count kinds.Missed (λ k. block_at [] (k - start)) old new numbers later parts length_is region_is failed) begun told
 
   pub fill_served : {T : Type 0} (vol : List ℕ) (byte : ℕ) (blocks : List ℕ) (outcome : Result T PieceFault)
-      → OnOk outcome (Goes n size start count kinds.Write (λ _. replicate 512 byte) old numbers new later parts) → OnOk outcome (length parts ≡ total) → blocks ≡ [] → OnOk outcome (end_told ≡ Done None parts blocks)
-      → OnErr outcome (Goes n size start count kinds.Torn (λ _. replicate 512 byte) old numbers new later parts) → OnErr outcome (0 < length parts) → OnErr outcome ((end_told ≡ Fault device device parts) ⊎ (end_told ≡ Lost parts))
+      → OnOk outcome (CallGoes n size start count kinds.Write (λ _. replicate 512 byte) old numbers new later parts) → OnOk outcome (length parts ≡ total) → blocks ≡ [] → OnOk outcome (end_told ≡ Done None parts blocks)
+      → OnErr outcome (CallGoes n size start count kinds.Torn (λ _. replicate 512 byte) old numbers new later parts) → OnErr outcome (0 < length parts) → OnErr outcome ((end_told ≡ Fault device device parts) ⊎ (end_told ≡ Lost parts))
       → Serves (calls.Fill vol start count byte) end_told old numbers new later v
   fill_served vol byte blocks (Ok u) goes all none is failed begun told =
       served_fill v device lies end_told old new numbers later parts vol start count byte total (at_shape v n size start count kinds.Write (λ _. replicate 512 byte) old new numbers later parts length_is region_is goes) here all (is ∙ ap (λ b. Done None parts b) none)

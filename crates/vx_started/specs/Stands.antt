@@ -66,8 +66,8 @@ pub record HasGone (place n size start count : ℕ) (before : Life) (kind : Entr
   pub stands : StandsFor n piece numbers life
 
 -- each life that a piece with its numbers stood for has gone so far
-abbrev pub Goes : ℕ → ℕ → ℕ → ℕ → EntryKind → Contents → Seen → List ℕ → Seen → List ℕ → List Part → Type 0
-Goes n size start count kind values old_piece old_numbers piece numbers parts =
+abbrev pub CallGoes : ℕ → ℕ → ℕ → ℕ → EntryKind → Contents → Seen → List ℕ → Seen → List ℕ → List Part → Type 0
+CallGoes n size start count kind values old_piece old_numbers piece numbers parts =
     (place : ℕ) (before : Life) → StandsFor n old_piece old_numbers before → HasGone place n size start count before kind values piece numbers parts
 
 -- each volume that a piece with its numbers stood for has lived on as the answer tells, and they stand for it now

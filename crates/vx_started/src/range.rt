@@ -4,7 +4,7 @@ ghost use Rattle.vx_base.specs.Blocks.{Contents, block_at};
 ghost use Rattle.vx_block.specs.Regions.{region_count, part_at};
 ghost use Rattle.vx_piece.specs.Seen.{Keeps, IsRead, HasCause};
 ghost use Rattle.vx_life.specs.declared.EntryKind.TheVariants as kinds;
-ghost use Rattle.vx_started.specs.Stands.{CallsAtMost, AreBelow, Goes, IsSized};
+ghost use Rattle.vx_started.specs.Stands.{CallsAtMost, AreBelow, CallGoes, IsSized};
 ghost use Rattle.vx_started.specs.Buffers.{HoldsFirst};
 
 use crate::part::{fill_part, read_part};
@@ -45,9 +45,9 @@ pub fn fill_range<P: Piece>(
     ensures below { AreBelow (most + 262144) numbers.new.items }
 
     // Done, all parts are written; else the parts that were begun are torn.
-    ensures done { OnOk result (Goes geometry.now.length geometry.now.region start count kinds.Write (λ _. replicate 512 byte) (P.seen piece.old) numbers.old.items (P.seen piece.new) numbers.new.items parts.new.items) }
+    ensures done { OnOk result (CallGoes geometry.now.length geometry.now.region start count kinds.Write (λ _. replicate 512 byte) (P.seen piece.old) numbers.old.items (P.seen piece.new) numbers.new.items parts.new.items) }
     ensures all { OnOk result (vec_len parts.new ≡ total) }
-    ensures failed { OnErr result (Goes geometry.now.length geometry.now.region start count kinds.Torn (λ _. replicate 512 byte) (P.seen piece.old) numbers.old.items (P.seen piece.new) numbers.new.items parts.new.items) }
+    ensures failed { OnErr result (CallGoes geometry.now.length geometry.now.region start count kinds.Torn (λ _. replicate 512 byte) (P.seen piece.old) numbers.old.items (P.seen piece.new) numbers.new.items parts.new.items) }
     ensures begun { OnErr result (0 < vec_len parts.new) }
 {
     for index in 0..total {
@@ -97,10 +97,10 @@ pub fn read_range<P: Piece>(
     ensures blocks { vec_len blocks.new ≡ 512 * count }
 
     // Done, all parts are read, and the buffer holds them; else the parts that were begun are missed.
-    ensures done { OnOk result ((contents : Contents) → (P.seen piece.old).told ≡ Some contents → Goes geometry.now.length geometry.now.region start count kinds.Read contents (P.seen piece.old) numbers.old.items (P.seen piece.new) numbers.new.items parts.new.items) }
+    ensures done { OnOk result ((contents : Contents) → (P.seen piece.old).told ≡ Some contents → CallGoes geometry.now.length geometry.now.region start count kinds.Read contents (P.seen piece.old) numbers.old.items (P.seen piece.new) numbers.new.items parts.new.items) }
     ensures holds { OnOk result (HoldsFirst blocks.new.items (P.seen piece.old).told start count) }
     ensures all { OnOk result (vec_len parts.new ≡ total) }
-    ensures failed { OnErr result (Goes geometry.now.length geometry.now.region start count kinds.Missed (λ k. block_at [] (k - start)) (P.seen piece.old) numbers.old.items (P.seen piece.new) numbers.new.items parts.new.items) }
+    ensures failed { OnErr result (CallGoes geometry.now.length geometry.now.region start count kinds.Missed (λ k. block_at [] (k - start)) (P.seen piece.old) numbers.old.items (P.seen piece.new) numbers.new.items parts.new.items) }
     ensures begun { OnErr result (0 < vec_len parts.new) }
 {
     for index in 0..total {

@@ -1,6 +1,6 @@
 use Rattle.std.proofs.Common.{◌≡◌, false, length, rules, refl, sym, ◌∙◌, arith}
 use Rattle.std.proofs.lemmas.List.{take_all}
-use Rattle.vx_copies.specs.Disks.{held}
+use Rattle.vx_copies.specs.Disks.{disk_seen}
 use Rattle.vx_sector.specs.Fields.{zeros}
 use Rattle.vx_confdb.proofs.Preparing.{front_write, front_just, front_more, front_then, zero_begins, zero_blank, prepares_trans}
 use Rattle.vx_confdb.proofs.joining.prepare.Goals as goal
@@ -48,16 +48,16 @@ returns-in-Err-PowerLost-clause-prepares g c =
     }
 
 pub returns-in-Err-Failed-clause-fronts : goal.returns-in-Err-Failed-clause-fronts
-returns-in-Err-Failed-clause-fronts g c = front_more 1 2 _ _ (omega arith) (front_write c.put_zeros.new.out 1 (held g.P.Piece.seen c.args.disk.now) (record { name = c.args.disk.now.name; device = c.args.disk.now.device; slot = c.args.disk.now.slot; sectors = c.args.disk.now.sectors; good = false; half = c.args.disk.now.half; seen = g.P.Piece.seen c.write.new.self }) c.write.result (omega (arith, c.put_zeros.auto.out, c.requires.size)) (omega arith) c.write.ensures.told)
+returns-in-Err-Failed-clause-fronts g c = front_more 1 2 _ _ (omega arith) (front_write c.put_zeros.new.out 1 (disk_seen g.P.Piece.seen c.args.disk.now) (record { name = c.args.disk.now.name; device = c.args.disk.now.device; slot = c.args.disk.now.slot; sectors = c.args.disk.now.sectors; good = false; half = c.args.disk.now.half; seen = g.P.Piece.seen c.write.new.self }) c.write.result (omega (arith, c.put_zeros.auto.out, c.requires.size)) (omega arith) c.write.ensures.told)
 
 pub returns-in-Err-PowerLost-clause-fronts : goal.returns-in-Err-PowerLost-clause-fronts
-returns-in-Err-PowerLost-clause-fronts g c = front_more 1 2 _ _ (omega arith) (front_write c.put_zeros.new.out 1 (held g.P.Piece.seen c.args.disk.now) (record { name = c.args.disk.now.name; device = c.args.disk.now.device; slot = c.args.disk.now.slot; sectors = c.args.disk.now.sectors; good = c.args.disk.now.good; half = c.args.disk.now.half; seen = g.P.Piece.seen c.write.new.self }) c.write.result (omega (arith, c.put_zeros.auto.out, c.requires.size)) (omega arith) c.write.ensures.told)
+returns-in-Err-PowerLost-clause-fronts g c = front_more 1 2 _ _ (omega arith) (front_write c.put_zeros.new.out 1 (disk_seen g.P.Piece.seen c.args.disk.now) (record { name = c.args.disk.now.name; device = c.args.disk.now.device; slot = c.args.disk.now.slot; sectors = c.args.disk.now.sectors; good = c.args.disk.now.good; half = c.args.disk.now.half; seen = g.P.Piece.seen c.write.new.self }) c.write.result (omega (arith, c.put_zeros.auto.out, c.requires.size)) (omega arith) c.write.ensures.told)
 
 pub returns-in-Ok-clause-fronts : goal.returns-in-Ok-clause-fronts
-returns-in-Ok-clause-fronts g c = front_then _ _ _ (front_write c.put_zeros.new.out 1 (held g.P.Piece.seen c.args.disk.now) (record { name = c.args.disk.now.name; device = c.args.disk.now.device; slot = c.args.disk.now.slot; sectors = c.args.disk.now.sectors; good = c.args.disk.now.good; half = c.args.disk.now.half; seen = g.P.Piece.seen c.write.new.self }) c.write.result (omega (arith, c.put_zeros.auto.out, c.requires.size)) (omega arith) c.write.ensures.told) c.put_header.ensures.fronts
+returns-in-Ok-clause-fronts g c = front_then _ _ _ (front_write c.put_zeros.new.out 1 (disk_seen g.P.Piece.seen c.args.disk.now) (record { name = c.args.disk.now.name; device = c.args.disk.now.device; slot = c.args.disk.now.slot; sectors = c.args.disk.now.sectors; good = c.args.disk.now.good; half = c.args.disk.now.half; seen = g.P.Piece.seen c.write.new.self }) c.write.result (omega (arith, c.put_zeros.auto.out, c.requires.size)) (omega arith) c.write.ensures.told) c.put_header.ensures.fronts
 
 pub returns-in-Ok-clause-just : goal.returns-in-Ok-clause-just
 returns-in-Ok-clause-just g c = λ done good.
-    let first = front_just c.put_zeros.new.out 1 (held g.P.Piece.seen c.args.disk.now) (record { name = c.args.disk.now.name; device = c.args.disk.now.device; slot = c.args.disk.now.slot; sectors = c.args.disk.now.sectors; good = c.args.disk.now.good; half = c.args.disk.now.half; seen = g.P.Piece.seen c.write.new.self }) c.write.result c.in-Ok.field-0 (omega (arith, c.put_zeros.auto.out, c.requires.size)) c.in-Ok.is c.write.ensures.off c.write.ensures.told in
+    let first = front_just c.put_zeros.new.out 1 (disk_seen g.P.Piece.seen c.args.disk.now) (record { name = c.args.disk.now.name; device = c.args.disk.now.device; slot = c.args.disk.now.slot; sectors = c.args.disk.now.sectors; good = c.args.disk.now.good; half = c.args.disk.now.half; seen = g.P.Piece.seen c.write.new.self }) c.write.result c.in-Ok.field-0 (omega (arith, c.put_zeros.auto.out, c.requires.size)) c.in-Ok.is c.write.ensures.off c.write.ensures.told in
     let second = c.put_header.ensures.just done good in
     omega (arith, first, second)

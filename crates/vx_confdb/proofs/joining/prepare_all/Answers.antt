@@ -1,5 +1,5 @@
 use Rattle.std.proofs.Common.{refl, rules, arith, add-one}
-use Rattle.vx_copies.specs.Disks.{held, IsCut}
+use Rattle.vx_copies.specs.Disks.{disk_seen, IsCut}
 use Rattle.vx_copies.proofs.Going.{each_refl, each_map}
 use Rattle.vx_copies.specs.Written.{WritesJust}
 use Rattle.vx_copies.proofs.Passing.{pass_next, pass_stop, pass_all}
@@ -20,12 +20,12 @@ returns-in-Cut-clause-prepares g c = go_on g.P.Piece.seen (Prepares c.args.group
 
 pub returns-in-Cut-clause-ends : goal.returns-in-Cut-clause-ends
 returns-in-Cut-clause-ends g c =
-    let ends : PrepareEnds Cut c.args.group.now (held g.P.Piece.seen c.prepare.new.disk) = rw c.in-Cut.is at c.prepare.ensures.ends in
+    let ends : PrepareEnds Cut c.args.group.now (disk_seen g.P.Piece.seen c.prepare.new.disk) = rw c.in-Cut.is at c.prepare.ensures.ends in
     any_set g.P.Piece.seen IsCut c.disks.disks c.disks.i c.prepare.new.disk c.disks-test.true ends
 
 pub disks-preserved : goal.disks-preserved
 disks-preserved g c =
-    let ends : PrepareEnds Done c.args.group.now (held g.P.Piece.seen c.prepare.new.disk) = rw c.in-Done.is at c.prepare.ensures.ends in
+    let ends : PrepareEnds Done c.args.group.now (disk_seen g.P.Piece.seen c.prepare.new.disk) = rw c.in-Done.is at c.prepare.ensures.ends in
     record {
       most = search rules;
       size = search rules;

@@ -1,6 +1,6 @@
 use Rattle.vx_copies.proofs.Halves.{wide_on}
 use Rattle.std.proofs.Common.{◌≡◌, false, arith, rules, refl, ◌∙◌, ap, Some}
-use Rattle.vx_copies.specs.Disks.{held}
+use Rattle.vx_copies.specs.Disks.{disk_seen}
 use Rattle.vx_header.specs.Named.{Label, header_of}
 use Rattle.vx_header.proofs.Naming.{header_back}
 use Rattle.vx_confdb.proofs.Preparing.{front_write, front_just, header_begins, header_blank, header_named, blank_names}
@@ -63,13 +63,13 @@ returns-in-Ok-clause-ends g c =
     }
 
 pub returns-in-Ok-clause-fronts : goal.returns-in-Ok-clause-fronts
-returns-in-Ok-clause-fronts g c = front_write c.put.new.out 0 (held g.P.Piece.seen c.args.disk.now) (record { name = c.args.disk.now.name; device = c.args.disk.now.device; slot = c.args.disk.now.slot; sectors = c.args.disk.now.sectors; good = c.args.disk.now.good; half = c.args.disk.now.half; seen = g.P.Piece.seen c.write.new.self }) c.write.result (c.put.auto.out ∙ c.requires.size) (omega arith) c.write.ensures.told
+returns-in-Ok-clause-fronts g c = front_write c.put.new.out 0 (disk_seen g.P.Piece.seen c.args.disk.now) (record { name = c.args.disk.now.name; device = c.args.disk.now.device; slot = c.args.disk.now.slot; sectors = c.args.disk.now.sectors; good = c.args.disk.now.good; half = c.args.disk.now.half; seen = g.P.Piece.seen c.write.new.self }) c.write.result (c.put.auto.out ∙ c.requires.size) (omega arith) c.write.ensures.told
 
 pub returns-in-Err-Failed-clause-fronts : goal.returns-in-Err-Failed-clause-fronts
-returns-in-Err-Failed-clause-fronts g c = front_write c.put.new.out 0 (held g.P.Piece.seen c.args.disk.now) (record { name = c.args.disk.now.name; device = c.args.disk.now.device; slot = c.args.disk.now.slot; sectors = c.args.disk.now.sectors; good = false; half = c.args.disk.now.half; seen = g.P.Piece.seen c.write.new.self }) c.write.result (c.put.auto.out ∙ c.requires.size) (omega arith) c.write.ensures.told
+returns-in-Err-Failed-clause-fronts g c = front_write c.put.new.out 0 (disk_seen g.P.Piece.seen c.args.disk.now) (record { name = c.args.disk.now.name; device = c.args.disk.now.device; slot = c.args.disk.now.slot; sectors = c.args.disk.now.sectors; good = false; half = c.args.disk.now.half; seen = g.P.Piece.seen c.write.new.self }) c.write.result (c.put.auto.out ∙ c.requires.size) (omega arith) c.write.ensures.told
 
 pub returns-in-Err-PowerLost-clause-fronts : goal.returns-in-Err-PowerLost-clause-fronts
-returns-in-Err-PowerLost-clause-fronts g c = front_write c.put.new.out 0 (held g.P.Piece.seen c.args.disk.now) (record { name = c.args.disk.now.name; device = c.args.disk.now.device; slot = c.args.disk.now.slot; sectors = c.args.disk.now.sectors; good = c.args.disk.now.good; half = c.args.disk.now.half; seen = g.P.Piece.seen c.write.new.self }) c.write.result (c.put.auto.out ∙ c.requires.size) (omega arith) c.write.ensures.told
+returns-in-Err-PowerLost-clause-fronts g c = front_write c.put.new.out 0 (disk_seen g.P.Piece.seen c.args.disk.now) (record { name = c.args.disk.now.name; device = c.args.disk.now.device; slot = c.args.disk.now.slot; sectors = c.args.disk.now.sectors; good = c.args.disk.now.good; half = c.args.disk.now.half; seen = g.P.Piece.seen c.write.new.self }) c.write.result (c.put.auto.out ∙ c.requires.size) (omega arith) c.write.ensures.told
 
 pub returns-in-Ok-clause-just : goal.returns-in-Ok-clause-just
-returns-in-Ok-clause-just g c = λ done good. front_just c.put.new.out 0 (held g.P.Piece.seen c.args.disk.now) (record { name = c.args.disk.now.name; device = c.args.disk.now.device; slot = c.args.disk.now.slot; sectors = c.args.disk.now.sectors; good = c.args.disk.now.good; half = c.args.disk.now.half; seen = g.P.Piece.seen c.write.new.self }) c.write.result c.in-Ok.field-0 (c.put.auto.out ∙ c.requires.size) c.in-Ok.is c.write.ensures.off c.write.ensures.told
+returns-in-Ok-clause-just g c = λ done good. front_just c.put.new.out 0 (disk_seen g.P.Piece.seen c.args.disk.now) (record { name = c.args.disk.now.name; device = c.args.disk.now.device; slot = c.args.disk.now.slot; sectors = c.args.disk.now.sectors; good = c.args.disk.now.good; half = c.args.disk.now.half; seen = g.P.Piece.seen c.write.new.self }) c.write.result c.in-Ok.field-0 (c.put.auto.out ∙ c.requires.size) c.in-Ok.is c.write.ensures.off c.write.ensures.told

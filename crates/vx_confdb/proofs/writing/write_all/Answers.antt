@@ -1,6 +1,6 @@
 use Rattle.std.proofs.Common.{◌≡◌, ◌∙◌, sym, ap, length}
 use Rattle.std.proofs.lemmas.List.{with_items_is, length-map}
-use Rattle.vx_copies.specs.Disks.{held}
+use Rattle.vx_copies.specs.Disks.{disk_seen}
 use Rattle.vx_confdb.proofs.Filling.{carried_in}
 use Rattle.vx_confdb.proofs.writing.write_all.Goals as goal
 
@@ -19,7 +19,7 @@ returns g c =
             sound = c.commit.ensures.sound;
             order = c.commit.ensures.order;
             lead = c.commit.ensures.lead;
-            all = rw (length-map c.deref_mut.result.now (held g.P.Piece.seen)) c.commit.ensures.all;
+            all = rw (length-map c.deref_mut.result.now (disk_seen g.P.Piece.seen)) c.commit.ensures.all;
             recorded = c.commit.ensures.recorded;
             done = c.commit.ensures.done;
             exact = c.commit.ensures.exact;

@@ -1,5 +1,5 @@
 use Rattle.std.proofs.Common.{◌≡◌, refl, get_or, rules, arith, add-one}
-use Rattle.vx_copies.specs.Disks.{held, Stays, IsReady, HasSpare}
+use Rattle.vx_copies.specs.Disks.{disk_seen, Stays, IsReady, HasSpare}
 use Rattle.vx_copies.specs.Pass.{HalfEnds}
 use Rattle.vx_copies.specs.declared.disk.Pass.TheVariants.{Done}
 use Rattle.vx_copies.proofs.Going.{each_refl, each_map, stays_refl, stays_trans, same_refl, same_trans}
@@ -26,7 +26,7 @@ returns-in_default g c = record {
 
 pub halves-preserved : goal.halves-preserved
 halves-preserved g c =
-    let ends : HalfEnds Done c.args.text.now (held g.P.Piece.seen (get_or c.halves.disks c.halves.i c.index-disks-i.result)) (held g.P.Piece.seen c.put_half.new.disk) = rw c.in-Done.is at c.put_half.ensures.ends in
+    let ends : HalfEnds Done c.args.text.now (disk_seen g.P.Piece.seen (get_or c.halves.disks c.halves.i c.index-disks-i.result)) (disk_seen g.P.Piece.seen c.put_half.new.disk) = rw c.in-Done.is at c.put_half.ensures.ends in
     record {
       most = search rules;
       stays = go_on g.P.Piece.seen Stays stays_trans _ c.halves.disks c.halves.i c.put_half.new.disk c.index-disks-i.result c.halves-test.true c.halves.invariant.stays c.put_half.ensures.stays;

@@ -1,7 +1,7 @@
 use Rattle.std.proofs.Common.{◌≡◌, refl, get_or, rules, arith, add-one, ap, subst, map}
 use Rattle.vx_copies.specs.Lists.{AllOf}
 use Rattle.std.proofs.lemmas.List.{take_all}
-use Rattle.vx_copies.specs.Disks.{held, Stamps, IsReady, HasSpare, IsOffer}
+use Rattle.vx_copies.specs.Disks.{disk_seen, Stamps, IsReady, HasSpare, IsOffer}
 use Rattle.vx_copies.specs.Pass.{ToggleEnds}
 use Rattle.vx_copies.specs.declared.disk.Pass.TheVariants.{Done}
 use Rattle.vx_copies.proofs.Going.{each_refl, each_map, stamps_refl, stamps_trans, same_refl, same_trans}
@@ -30,7 +30,7 @@ returns-in_default-clause-ends g c = toggles_stop g.P.Piece.seen c.args.text.now
 
 pub toggles-preserved : goal.toggles-preserved
 toggles-preserved g c =
-    let ends : ToggleEnds Done c.args.sequence c.args.mask c.args.text.now (held g.P.Piece.seen (get_or c.toggles.disks c.toggles.i c.index-disks-i.result)) (held g.P.Piece.seen c.put_toggle.new.disk) = rw c.in-Done.is at c.put_toggle.ensures.ends in
+    let ends : ToggleEnds Done c.args.sequence c.args.mask c.args.text.now (disk_seen g.P.Piece.seen (get_or c.toggles.disks c.toggles.i c.index-disks-i.result)) (disk_seen g.P.Piece.seen c.put_toggle.new.disk) = rw c.in-Done.is at c.put_toggle.ensures.ends in
     record {
       most = search rules;
       size = search rules;
@@ -51,7 +51,7 @@ returns-in_default-clause-first g c = λ tells.
 
 pub returns-clause-first : goal.returns-clause-first
 returns-clause-first g c = λ tells. all_turned c.args.sequence c.args.mask c.args.text.now _ _ c.toggles.invariant.stamps c.toggles.invariant.good tells
-    (subst (AllOf (IsOffer c.args.sequence c.args.mask c.args.text.now)) (ap (map (held g.P.Piece.seen)) (take_all c.toggles.i c.toggles.disks c.toggles-test.false)) c.toggles.invariant.offer)
+    (subst (AllOf (IsOffer c.args.sequence c.args.mask c.args.text.now)) (ap (map (disk_seen g.P.Piece.seen)) (take_all c.toggles.i c.toggles.disks c.toggles-test.false)) c.toggles.invariant.offer)
 
 pub returns-in_default-clause-puts : goal.returns-in_default-clause-puts
 returns-in_default-clause-puts g c = pass_stop g.P.Piece.seen (ToggleDone c.args.sequence c.args.mask c.args.text.now) (TogglePut c.args.sequence c.args.mask c.args.text.now) (toggle_put c.args.sequence c.args.mask c.args.text.now) (toggle_none c.args.sequence c.args.mask c.args.text.now) _ c.toggles.disks c.toggles.i c.put_toggle.new.disk c.index-disks-i.result c.toggles-test.true c.toggles.invariant.done c.put_toggle.ensures.put

@@ -1,6 +1,6 @@
 use Rattle.std.proofs.Common.{◌≡◌, ◌∙◌, ◌<◌, map, take, sym, subst, arith}
 use Rattle.vx_copies.specs.Lists.{AllOf}
-use Rattle.vx_copies.specs.Disks.{held, Goes, good_count, good_mask}
+use Rattle.vx_copies.specs.Disks.{disk_seen, CommitGoes, good_count, good_mask}
 use Rattle.vx_copies.specs.Chain.{IsGoodMember}
 use Rattle.vx_copies.specs.Commit.{AttemptEnds}
 use Rattle.vx_copies.specs.Written.{IsMaskOf, CarriesIfGood}
@@ -22,26 +22,26 @@ returns-in-Done-clause-goes g c = all_trans c.args.sequence c.args.sequence c.ar
 
 pub returns-in-Done-clause-sound : goal.returns-in-Done-clause-sound
 returns-in-Done-clause-sound g c = λ group missing others last carriers lt some sound.
-    let ends : HalvesEnd Done c.args.text.now (map (held g.P.Piece.seen) c.args.disks.now) (map (held g.P.Piece.seen) c.put_halves.new.disks) = rw c.in-Done.is at c.put_halves.ensures.ends in
+    let ends : HalvesEnd Done c.args.text.now (map (disk_seen g.P.Piece.seen) c.args.disks.now) (map (disk_seen g.P.Piece.seen) c.put_halves.new.disks) = rw c.in-Done.is at c.put_halves.ensures.ends in
     let mid = sound_stays group missing others last carriers _ _ c.put_halves.ensures.stays sound in
-    let same : good_count (take carriers (map (held g.P.Piece.seen) c.put_halves.new.disks)) ≡ good_count (take carriers (map (held g.P.Piece.seen) c.args.disks.now)) = same_count _ _ (each_first _ carriers _ _ ends.2) in
+    let same : good_count (take carriers (map (disk_seen g.P.Piece.seen) c.put_halves.new.disks)) ≡ good_count (take carriers (map (disk_seen g.P.Piece.seen) c.args.disks.now)) = same_count _ _ (each_first _ carriers _ _ ends.2) in
     let names = still_named c.good_slots-mask.result _ _ (stays_was _ _ c.put_halves.ensures.stays) (good_named c.good_slots-mask.result _ c.good_slots-mask.ensures.names) in
     let first = c.put_toggles.ensures.first (all_tell _ (tells_if_good group _ mid.members)) in
     sound_stamps group missing others last c.args.sequence c.good_slots-mask.result c.args.text.now lt carriers _ _ c.put_toggles.ensures.stamps names mid (omega (arith, same, some)) first
 
 pub returns-in-Done-clause-all : goal.returns-in-Done-clause-all
 returns-in-Done-clause-all g c = λ group missing others last carriers lt some sound done.
-    let ends : HalvesEnd Done c.args.text.now (map (held g.P.Piece.seen) c.args.disks.now) (map (held g.P.Piece.seen) c.put_halves.new.disks) = rw c.in-Done.is at c.put_halves.ensures.ends in
+    let ends : HalvesEnd Done c.args.text.now (map (disk_seen g.P.Piece.seen) c.args.disks.now) (map (disk_seen g.P.Piece.seen) c.put_halves.new.disks) = rw c.in-Done.is at c.put_halves.ensures.ends in
     let mid = sound_stays group missing others last carriers _ _ c.put_halves.ensures.stays sound in
-    let same : good_count (take carriers (map (held g.P.Piece.seen) c.put_halves.new.disks)) ≡ good_count (take carriers (map (held g.P.Piece.seen) c.args.disks.now)) = same_count _ _ (each_first _ carriers _ _ ends.2) in
+    let same : good_count (take carriers (map (disk_seen g.P.Piece.seen) c.put_halves.new.disks)) ≡ good_count (take carriers (map (disk_seen g.P.Piece.seen) c.args.disks.now)) = same_count _ _ (each_first _ carriers _ _ ends.2) in
     let names = still_named c.good_slots-mask.result _ _ (stays_was _ _ c.put_halves.ensures.stays) (good_named c.good_slots-mask.result _ c.good_slots-mask.ensures.names) in
-    let whole : TogglesEnd Done c.args.sequence c.good_slots-mask.result c.args.text.now (map (held g.P.Piece.seen) c.put_halves.new.disks) (map (held g.P.Piece.seen) c.put_toggles.new.disks) = rw done at c.put_toggles.ensures.ends in
+    let whole : TogglesEnd Done c.args.sequence c.good_slots-mask.result c.args.text.now (map (disk_seen g.P.Piece.seen) c.put_halves.new.disks) (map (disk_seen g.P.Piece.seen) c.put_toggles.new.disks) = rw done at c.put_toggles.ensures.ends in
     sound_turned group missing others last c.args.sequence c.good_slots-mask.result c.args.text.now lt carriers _ _ c.put_toggles.ensures.stamps names mid _ (omega (arith, same, some))
-    (first_done c.args.sequence c.good_slots-mask.result c.args.text.now _ _ c.put_toggles.ensures.stamps whole.2 (tells_if_good group _ mid.members) whole.1 (omega (arith, same, some, count_first carriers (map (held g.P.Piece.seen) c.put_halves.new.disks))))
+    (first_done c.args.sequence c.good_slots-mask.result c.args.text.now _ _ c.put_toggles.ensures.stamps whole.2 (tells_if_good group _ mid.members) whole.1 (omega (arith, same, some, count_first carriers (map (disk_seen g.P.Piece.seen) c.put_halves.new.disks))))
 
 pub returns-in-Done-clause-ends : goal.returns-in-Done-clause-ends
 returns-in-Done-clause-ends g c =
-    let ends : HalvesEnd Done c.args.text.now (map (held g.P.Piece.seen) c.args.disks.now) (map (held g.P.Piece.seen) c.put_halves.new.disks) = rw c.in-Done.is at c.put_halves.ensures.ends in
+    let ends : HalvesEnd Done c.args.text.now (map (disk_seen g.P.Piece.seen) c.args.disks.now) (map (disk_seen g.P.Piece.seen) c.put_halves.new.disks) = rw c.in-Done.is at c.put_halves.ensures.ends in
     toggles_tried c.put_toggles.result c.args.sequence c.good_slots-mask.result c.args.text.now _ _ _ ends.2
     (slots_stay c.args.sequence c.args.sequence c.args.text.now _ _ (all_trans c.args.sequence c.args.sequence c.args.text.now _ _ _ (stays_all c.args.sequence c.args.sequence c.args.text.now _ _ c.put_halves.ensures.stays) (stamps_all c.args.sequence c.good_slots-mask.result c.args.text.now _ _ c.put_toggles.ensures.stamps)))
     c.good_slots-mask.ensures.names c.good_slots-mask.ensures.just c.put_toggles.ensures.ends
@@ -62,20 +62,20 @@ returns-in_default g c = record {
 pub returns-in-Done-clause-touches : goal.returns-in-Done-clause-touches
 returns-in-Done-clause-touches g c =
     let halves = c.put_halves.ensures.done c.in-Done.is in
-    let goes = each_map (Goes c.args.sequence c.args.sequence c.args.text.now) Fades (goes_fade c.args.sequence c.args.sequence c.args.text.now) _ _ (all_trans c.args.sequence c.args.sequence c.args.text.now _ _ _ (stays_all c.args.sequence c.args.sequence c.args.text.now _ _ c.put_halves.ensures.stays) (stamps_all c.args.sequence c.good_slots-mask.result c.args.text.now _ _ c.put_toggles.ensures.stamps)) in
-    let mask : IsMaskOf (map (held g.P.Piece.seen) c.args.disks.now) (map (held g.P.Piece.seen) c.put_toggles.new.disks) c.good_slots-mask.result = mask_of c.good_slots-mask.result _ _ goes c.good_slots-mask.ensures.names (good_named c.good_slots-mask.result _ c.good_slots-mask.ensures.names) in
-    all_touch c.args.sequence c.args.text.now (IsMaskOf (map (held g.P.Piece.seen) c.args.disks.now) (map (held g.P.Piece.seen) c.put_toggles.new.disks)) c.good_slots-mask.result mask c.requires.padded.fits _ _ _ halves c.put_toggles.ensures.puts
+    let goes = each_map (CommitGoes c.args.sequence c.args.sequence c.args.text.now) Fades (goes_fade c.args.sequence c.args.sequence c.args.text.now) _ _ (all_trans c.args.sequence c.args.sequence c.args.text.now _ _ _ (stays_all c.args.sequence c.args.sequence c.args.text.now _ _ c.put_halves.ensures.stays) (stamps_all c.args.sequence c.good_slots-mask.result c.args.text.now _ _ c.put_toggles.ensures.stamps)) in
+    let mask : IsMaskOf (map (disk_seen g.P.Piece.seen) c.args.disks.now) (map (disk_seen g.P.Piece.seen) c.put_toggles.new.disks) c.good_slots-mask.result = mask_of c.good_slots-mask.result _ _ goes c.good_slots-mask.ensures.names (good_named c.good_slots-mask.result _ c.good_slots-mask.ensures.names) in
+    all_touch c.args.sequence c.args.text.now (IsMaskOf (map (disk_seen g.P.Piece.seen) c.args.disks.now) (map (disk_seen g.P.Piece.seen) c.put_toggles.new.disks)) c.good_slots-mask.result mask c.requires.padded.fits _ _ _ halves c.put_toggles.ensures.puts
 
 pub returns-in-Done-clause-done : goal.returns-in-Done-clause-done
 returns-in-Done-clause-done g c = λ done.
     let halves = c.put_halves.ensures.done c.in-Done.is in
-    let goes = each_map (Goes c.args.sequence c.args.sequence c.args.text.now) Fades (goes_fade c.args.sequence c.args.sequence c.args.text.now) _ _ (all_trans c.args.sequence c.args.sequence c.args.text.now _ _ _ (stays_all c.args.sequence c.args.sequence c.args.text.now _ _ c.put_halves.ensures.stays) (stamps_all c.args.sequence c.good_slots-mask.result c.args.text.now _ _ c.put_toggles.ensures.stamps)) in
-    let mask : IsMaskOf (map (held g.P.Piece.seen) c.args.disks.now) (map (held g.P.Piece.seen) c.put_toggles.new.disks) c.good_slots-mask.result = mask_of c.good_slots-mask.result _ _ goes c.good_slots-mask.ensures.names (good_named c.good_slots-mask.result _ c.good_slots-mask.ensures.names) in
+    let goes = each_map (CommitGoes c.args.sequence c.args.sequence c.args.text.now) Fades (goes_fade c.args.sequence c.args.sequence c.args.text.now) _ _ (all_trans c.args.sequence c.args.sequence c.args.text.now _ _ _ (stays_all c.args.sequence c.args.sequence c.args.text.now _ _ c.put_halves.ensures.stays) (stamps_all c.args.sequence c.good_slots-mask.result c.args.text.now _ _ c.put_toggles.ensures.stamps)) in
+    let mask : IsMaskOf (map (disk_seen g.P.Piece.seen) c.args.disks.now) (map (disk_seen g.P.Piece.seen) c.put_toggles.new.disks) c.good_slots-mask.result = mask_of c.good_slots-mask.result _ _ goes c.good_slots-mask.ensures.names (good_named c.good_slots-mask.result _ c.good_slots-mask.ensures.names) in
     let toggles = c.put_toggles.ensures.done done in
-    let ends : AttemptEnds Done c.args.sequence c.args.text.now (map (held g.P.Piece.seen) c.args.disks.now) (map (held g.P.Piece.seen) c.put_toggles.new.disks) = rw done at (returns-in-Done-clause-ends g c) in
-    let just : c.good_slots-mask.result ≡ good_mask (map (held g.P.Piece.seen) c.put_toggles.new.disks) = c.good_slots-mask.ensures.just ∙ sym (same_mask _ _ (each_map Fades (λ a b. b.slot ≡ a.slot) (λ a b is. is.slot) _ _ goes) ends.2) in (
-      all_once c.args.sequence c.args.text.now (IsMaskOf (map (held g.P.Piece.seen) c.args.disks.now) (map (held g.P.Piece.seen) c.put_toggles.new.disks)) c.good_slots-mask.result mask c.requires.padded.fits _ _ _ halves toggles,
-      subst (λ m. AllOf (CarriesIfGood c.args.sequence m c.args.text.now) (map (held g.P.Piece.seen) c.put_toggles.new.disks)) just (all_carry c.args.sequence c.args.text.now (IsMaskOf (map (held g.P.Piece.seen) c.args.disks.now) (map (held g.P.Piece.seen) c.put_toggles.new.disks)) c.good_slots-mask.result mask c.requires.padded.fits _ _ _ halves toggles),
+    let ends : AttemptEnds Done c.args.sequence c.args.text.now (map (disk_seen g.P.Piece.seen) c.args.disks.now) (map (disk_seen g.P.Piece.seen) c.put_toggles.new.disks) = rw done at (returns-in-Done-clause-ends g c) in
+    let just : c.good_slots-mask.result ≡ good_mask (map (disk_seen g.P.Piece.seen) c.put_toggles.new.disks) = c.good_slots-mask.ensures.just ∙ sym (same_mask _ _ (each_map Fades (λ a b. b.slot ≡ a.slot) (λ a b is. is.slot) _ _ goes) ends.2) in (
+      all_once c.args.sequence c.args.text.now (IsMaskOf (map (disk_seen g.P.Piece.seen) c.args.disks.now) (map (disk_seen g.P.Piece.seen) c.put_toggles.new.disks)) c.good_slots-mask.result mask c.requires.padded.fits _ _ _ halves toggles,
+      subst (λ m. AllOf (CarriesIfGood c.args.sequence m c.args.text.now) (map (disk_seen g.P.Piece.seen) c.put_toggles.new.disks)) just (all_carry c.args.sequence c.args.text.now (IsMaskOf (map (disk_seen g.P.Piece.seen) c.args.disks.now) (map (disk_seen g.P.Piece.seen) c.put_toggles.new.disks)) c.good_slots-mask.result mask c.requires.padded.fits _ _ _ halves toggles),
     )
 
 pub returns-in-Done-clause-order : goal.returns-in-Done-clause-order
@@ -86,10 +86,10 @@ returns-in-Done-clause-order g c = λ group before last lt ordered.
 
 pub returns-in-Done-clause-lead : goal.returns-in-Done-clause-lead
 returns-in-Done-clause-lead g c = λ group before carriers lt some members led.
-    let ends : HalvesEnd Done c.args.text.now (map (held g.P.Piece.seen) c.args.disks.now) (map (held g.P.Piece.seen) c.put_halves.new.disks) = rw c.in-Done.is at c.put_halves.ensures.ends in
-    let same : good_count (take carriers (map (held g.P.Piece.seen) c.put_halves.new.disks)) ≡ good_count (take carriers (map (held g.P.Piece.seen) c.args.disks.now)) = same_count _ _ (each_first _ carriers _ _ ends.2) in
-    let still : 0 < good_count (take carriers (map (held g.P.Piece.seen) c.put_halves.new.disks)) = omega (arith, same, some) in
-    let mid : AllOf (IsGoodMember group) (take carriers (map (held g.P.Piece.seen) c.put_halves.new.disks)) =
+    let ends : HalvesEnd Done c.args.text.now (map (disk_seen g.P.Piece.seen) c.args.disks.now) (map (disk_seen g.P.Piece.seen) c.put_halves.new.disks) = rw c.in-Done.is at c.put_halves.ensures.ends in
+    let same : good_count (take carriers (map (disk_seen g.P.Piece.seen) c.put_halves.new.disks)) ≡ good_count (take carriers (map (disk_seen g.P.Piece.seen) c.args.disks.now)) = same_count _ _ (each_first _ carriers _ _ ends.2) in
+    let still : 0 < good_count (take carriers (map (disk_seen g.P.Piece.seen) c.put_halves.new.disks)) = omega (arith, same, some) in
+    let mid : AllOf (IsGoodMember group) (take carriers (map (disk_seen g.P.Piece.seen) c.put_halves.new.disks)) =
     members_go group c.args.sequence c.args.sequence c.args.text.now _ _ (each_first _ carriers _ _ (stays_all c.args.sequence c.args.sequence c.args.text.now _ _ c.put_halves.ensures.stays)) members in
     led_stamps group before c.args.sequence c.good_slots-mask.result c.args.text.now lt carriers _ _ c.put_toggles.ensures.stamps
     (c.put_toggles.ensures.first (front_tells carriers _ still (tells_if_good group _ mid))) still mid

@@ -1,7 +1,7 @@
 use Rattle.std.proofs.Common.{◌≡◌, ◌+◌, ◌∙◌, map, take, refl, sym, ap, subst, arith, false}
 use Rattle.std.proofs.lemmas.List.{take-map}
 use Rattle.vx_copies.specs.Lists.{Each, AllOf}
-use Rattle.vx_copies.specs.Disks.{Held, held, good_count}
+use Rattle.vx_copies.specs.Disks.{DiskSeen, disk_seen, good_count}
 use Rattle.vx_copies.specs.Commit.{AttemptEnds}
 use Rattle.vx_copies.specs.declared.disk.Pass.TheVariants.{Done, Dropped}
 use Rattle.vx_copies.proofs.Going.{each_refl, each_map, all_refl, all_risen, each_first}
@@ -26,36 +26,36 @@ returns-in-Done-clause-goes g c = one_more (c.args.sequence.now + 1) c.again.seq
 
 pub returns-in-Done-clause-ends : goal.returns-in-Done-clause-ends
 returns-in-Done-clause-ends g c =
-    let ends : AttemptEnds Done (c.again.sequence + 1) c.args.text.now (map (held g.P.Piece.seen) c.again.disks) (map (held g.P.Piece.seen) c.attempt.new.disks) = rw c.in-Done.is at c.attempt.ensures.ends in
-    let same : good_count (take c.args.carriers (map (held g.P.Piece.seen) c.attempt.new.disks)) ≡ good_count (take c.args.carriers (map (held g.P.Piece.seen) c.again.disks)) =
+    let ends : AttemptEnds Done (c.again.sequence + 1) c.args.text.now (map (disk_seen g.P.Piece.seen) c.again.disks) (map (disk_seen g.P.Piece.seen) c.attempt.new.disks) = rw c.in-Done.is at c.attempt.ensures.ends in
+    let same : good_count (take c.args.carriers (map (disk_seen g.P.Piece.seen) c.attempt.new.disks)) ≡ good_count (take c.args.carriers (map (disk_seen g.P.Piece.seen) c.again.disks)) =
     same_count _ _ (each_first _ c.args.carriers _ _ ends.2) in
     let some = c.any_good.ensures.some c.again-test.true in
-    let there : good_count (map (held g.P.Piece.seen) (take c.args.carriers c.again.disks)) ≡ good_count (take c.args.carriers (map (held g.P.Piece.seen) c.again.disks)) = ap good_count (sym (take-map (held g.P.Piece.seen) c.args.carriers c.again.disks)) in
+    let there : good_count (map (disk_seen g.P.Piece.seen) (take c.args.carriers c.again.disks)) ≡ good_count (take c.args.carriers (map (disk_seen g.P.Piece.seen) c.again.disks)) = ap good_count (sym (take-map (disk_seen g.P.Piece.seen) c.args.carriers c.again.disks)) in
     (ends.0, ends.1, omega (arith, same, some, there))
 
 pub returns-in-Done-clause-older : goal.returns-in-Done-clause-older
 returns-in-Done-clause-older g c = λ group below.
-    let ends : AttemptEnds Done (c.again.sequence + 1) c.args.text.now (map (held g.P.Piece.seen) c.again.disks) (map (held g.P.Piece.seen) c.attempt.new.disks) = rw c.in-Done.is at c.attempt.ensures.ends in
-    let mids = below_all group c.args.sequence.now c.again.sequence c.args.text.now (map (held g.P.Piece.seen) c.args.disks.now) (map (held g.P.Piece.seen) c.again.disks) c.again.invariant.later below c.again.invariant.goes in
-    older_all group c.again.sequence (c.again.sequence + 1) c.args.text.now (map (held g.P.Piece.seen) c.again.disks) (map (held g.P.Piece.seen) c.attempt.new.disks) (omega arith) mids c.attempt.ensures.goes ends.2
+    let ends : AttemptEnds Done (c.again.sequence + 1) c.args.text.now (map (disk_seen g.P.Piece.seen) c.again.disks) (map (disk_seen g.P.Piece.seen) c.attempt.new.disks) = rw c.in-Done.is at c.attempt.ensures.ends in
+    let mids = below_all group c.args.sequence.now c.again.sequence c.args.text.now (map (disk_seen g.P.Piece.seen) c.args.disks.now) (map (disk_seen g.P.Piece.seen) c.again.disks) c.again.invariant.later below c.again.invariant.goes in
+    older_all group c.again.sequence (c.again.sequence + 1) c.args.text.now (map (disk_seen g.P.Piece.seen) c.again.disks) (map (disk_seen g.P.Piece.seen) c.attempt.new.disks) (omega arith) mids c.attempt.ensures.goes ends.2
 
 pub returns-in-Done-clause-sound : goal.returns-in-Done-clause-sound
 returns-in-Done-clause-sound g c = λ group missing others is.
     let some = c.any_good.ensures.some c.again-test.true in
-    let there : good_count (map (held g.P.Piece.seen) (take c.args.carriers c.again.disks)) ≡ good_count (take c.args.carriers (map (held g.P.Piece.seen) c.again.disks)) = ap good_count (sym (take-map (held g.P.Piece.seen) c.args.carriers c.again.disks)) in
+    let there : good_count (map (disk_seen g.P.Piece.seen) (take c.args.carriers c.again.disks)) ≡ good_count (take c.args.carriers (map (disk_seen g.P.Piece.seen) c.again.disks)) = ap good_count (sym (take-map (disk_seen g.P.Piece.seen) c.args.carriers c.again.disks)) in
     c.attempt.ensures.sound group missing others c.again.sequence c.args.carriers (omega arith) (omega (arith, some, there)) (c.again.invariant.sound group missing others is)
 
 pub returns-in-Done-clause-all : goal.returns-in-Done-clause-all
 returns-in-Done-clause-all g c = λ group missing others is.
     let some = c.any_good.ensures.some c.again-test.true in
-    let there : good_count (map (held g.P.Piece.seen) (take c.args.carriers c.again.disks)) ≡ good_count (take c.args.carriers (map (held g.P.Piece.seen) c.again.disks)) = ap good_count (sym (take-map (held g.P.Piece.seen) c.args.carriers c.again.disks)) in
+    let there : good_count (map (disk_seen g.P.Piece.seen) (take c.args.carriers c.again.disks)) ≡ good_count (take c.args.carriers (map (disk_seen g.P.Piece.seen) c.again.disks)) = ap good_count (sym (take-map (disk_seen g.P.Piece.seen) c.args.carriers c.again.disks)) in
     rw c.again.invariant.long at c.attempt.ensures.all group missing others c.again.sequence c.args.carriers (omega arith) (omega (arith, some, there)) (c.again.invariant.sound group missing others is) c.in-Done.is
 
 pub returns-in-Done-clause-few : goal.returns-in-Done-clause-few
 returns-in-Done-clause-few g c =
     let some = c.any_good.ensures.some c.again-test.true in
-    let there : good_count (map (held g.P.Piece.seen) (take c.args.carriers c.again.disks)) ≡ good_count (take c.args.carriers (map (held g.P.Piece.seen) c.again.disks)) = ap good_count (sym (take-map (held g.P.Piece.seen) c.args.carriers c.again.disks)) in
-    let few = count_first c.args.carriers (map (held g.P.Piece.seen) c.again.disks) in
+    let there : good_count (map (disk_seen g.P.Piece.seen) (take c.args.carriers c.again.disks)) ≡ good_count (take c.args.carriers (map (disk_seen g.P.Piece.seen) c.again.disks)) = ap good_count (sym (take-map (disk_seen g.P.Piece.seen) c.args.carriers c.again.disks)) in
+    let few = count_first c.args.carriers (map (disk_seen g.P.Piece.seen) c.again.disks) in
     omega (arith, some, there, few, c.again.invariant.bound)
 
 pub returns-in-Cut-clause-goes : goal.returns-in-Cut-clause-goes
@@ -64,30 +64,30 @@ returns-in-Cut-clause-goes g c = one_more (c.args.sequence.now + 1) c.again.sequ
 pub returns-in-Cut-clause-sound : goal.returns-in-Cut-clause-sound
 returns-in-Cut-clause-sound g c = λ group missing others is.
     let some = c.any_good.ensures.some c.again-test.true in
-    let there : good_count (map (held g.P.Piece.seen) (take c.args.carriers c.again.disks)) ≡ good_count (take c.args.carriers (map (held g.P.Piece.seen) c.again.disks)) = ap good_count (sym (take-map (held g.P.Piece.seen) c.args.carriers c.again.disks)) in
+    let there : good_count (map (disk_seen g.P.Piece.seen) (take c.args.carriers c.again.disks)) ≡ good_count (take c.args.carriers (map (disk_seen g.P.Piece.seen) c.again.disks)) = ap good_count (sym (take-map (disk_seen g.P.Piece.seen) c.args.carriers c.again.disks)) in
     c.attempt.ensures.sound group missing others c.again.sequence c.args.carriers (omega arith) (omega (arith, some, there)) (c.again.invariant.sound group missing others is)
 
 pub returns-in-Cut-clause-few : goal.returns-in-Cut-clause-few
 returns-in-Cut-clause-few g c =
     let some = c.any_good.ensures.some c.again-test.true in
-    let there : good_count (map (held g.P.Piece.seen) (take c.args.carriers c.again.disks)) ≡ good_count (take c.args.carriers (map (held g.P.Piece.seen) c.again.disks)) = ap good_count (sym (take-map (held g.P.Piece.seen) c.args.carriers c.again.disks)) in
-    let few = count_first c.args.carriers (map (held g.P.Piece.seen) c.again.disks) in
+    let there : good_count (map (disk_seen g.P.Piece.seen) (take c.args.carriers c.again.disks)) ≡ good_count (take c.args.carriers (map (disk_seen g.P.Piece.seen) c.again.disks)) = ap good_count (sym (take-map (disk_seen g.P.Piece.seen) c.args.carriers c.again.disks)) in
+    let few = count_first c.args.carriers (map (disk_seen g.P.Piece.seen) c.again.disks) in
     omega (arith, some, there, few, c.again.invariant.bound)
 
 pub again-preserved : goal.again-preserved
 again-preserved g c =
-    let first : Each Fades (map (held g.P.Piece.seen) c.args.disks.now) (map (held g.P.Piece.seen) c.again.disks) = each_map _ Fades (goes_fade (c.args.sequence.now + 1) c.again.sequence c.args.text.now) _ _ c.again.invariant.goes in
-    let next : Each Fades (map (held g.P.Piece.seen) c.again.disks) (map (held g.P.Piece.seen) c.attempt.new.disks) = each_map _ Fades (goes_fade (c.again.sequence + 1) (c.again.sequence + 1) c.args.text.now) _ _ c.attempt.ensures.goes in
-    let ends : AttemptEnds Dropped (c.again.sequence + 1) c.args.text.now (map (held g.P.Piece.seen) c.again.disks) (map (held g.P.Piece.seen) c.attempt.new.disks) = rw c.in-Dropped.is at c.attempt.ensures.ends in
+    let first : Each Fades (map (disk_seen g.P.Piece.seen) c.args.disks.now) (map (disk_seen g.P.Piece.seen) c.again.disks) = each_map _ Fades (goes_fade (c.args.sequence.now + 1) c.again.sequence c.args.text.now) _ _ c.again.invariant.goes in
+    let next : Each Fades (map (disk_seen g.P.Piece.seen) c.again.disks) (map (disk_seen g.P.Piece.seen) c.attempt.new.disks) = each_map _ Fades (goes_fade (c.again.sequence + 1) (c.again.sequence + 1) c.args.text.now) _ _ c.attempt.ensures.goes in
+    let ends : AttemptEnds Dropped (c.again.sequence + 1) c.args.text.now (map (disk_seen g.P.Piece.seen) c.again.disks) (map (disk_seen g.P.Piece.seen) c.attempt.new.disks) = rw c.in-Dropped.is at c.attempt.ensures.ends in
     let less = ends.1 in
     let some = c.any_good.ensures.some c.again-test.true in
-    let there : good_count (map (held g.P.Piece.seen) (take c.args.carriers c.again.disks)) ≡ good_count (take c.args.carriers (map (held g.P.Piece.seen) c.again.disks)) = ap good_count (sym (take-map (held g.P.Piece.seen) c.args.carriers c.again.disks)) in
+    let there : good_count (map (disk_seen g.P.Piece.seen) (take c.args.carriers c.again.disks)) ≡ good_count (take c.args.carriers (map (disk_seen g.P.Piece.seen) c.again.disks)) = ap good_count (sym (take-map (disk_seen g.P.Piece.seen) c.args.carriers c.again.disks)) in
     record {
       size = c.attempt.ensures.size;
-      touches = all_on (c.args.sequence.now + 1) c.again.sequence c.args.text.now c.requires.padded.fits (IsMaskOf (map (held g.P.Piece.seen) c.args.disks.now) (map (held g.P.Piece.seen) c.again.disks)) (IsMaskOf (map (held g.P.Piece.seen) c.again.disks) (map (held g.P.Piece.seen) c.attempt.new.disks)) (IsMaskOf (map (held g.P.Piece.seen) c.args.disks.now) (map (held g.P.Piece.seen) c.attempt.new.disks)) (mask_then (map (held g.P.Piece.seen) c.args.disks.now) (map (held g.P.Piece.seen) c.again.disks) (map (held g.P.Piece.seen) c.attempt.new.disks) next) (mask_before (map (held g.P.Piece.seen) c.args.disks.now) (map (held g.P.Piece.seen) c.again.disks) (map (held g.P.Piece.seen) c.attempt.new.disks) first next) (omega (arith, c.again.invariant.later)) _ _ _ c.again.invariant.ready c.attempt.ensures.goes c.again.invariant.touches c.attempt.ensures.touches;
+      touches = all_on (c.args.sequence.now + 1) c.again.sequence c.args.text.now c.requires.padded.fits (IsMaskOf (map (disk_seen g.P.Piece.seen) c.args.disks.now) (map (disk_seen g.P.Piece.seen) c.again.disks)) (IsMaskOf (map (disk_seen g.P.Piece.seen) c.again.disks) (map (disk_seen g.P.Piece.seen) c.attempt.new.disks)) (IsMaskOf (map (disk_seen g.P.Piece.seen) c.args.disks.now) (map (disk_seen g.P.Piece.seen) c.attempt.new.disks)) (mask_then (map (disk_seen g.P.Piece.seen) c.args.disks.now) (map (disk_seen g.P.Piece.seen) c.again.disks) (map (disk_seen g.P.Piece.seen) c.attempt.new.disks) next) (mask_before (map (disk_seen g.P.Piece.seen) c.args.disks.now) (map (disk_seen g.P.Piece.seen) c.again.disks) (map (disk_seen g.P.Piece.seen) c.attempt.new.disks) first next) (omega (arith, c.again.invariant.later)) _ _ _ c.again.invariant.ready c.attempt.ensures.goes c.again.invariant.touches c.attempt.ensures.touches;
       quiet = λ quiet.
-          let count = quiet_count (map (held g.P.Piece.seen) c.args.disks.now) (map (held g.P.Piece.seen) c.attempt.new.disks) (each_map _ Fades (goes_fade (c.args.sequence.now + 1) (c.again.sequence + 1) c.args.text.now) _ _ (one_more (c.args.sequence.now + 1) c.again.sequence c.args.text.now _ _ _ (omega (arith, c.again.invariant.later)) c.again.invariant.goes c.attempt.ensures.goes)) quiet in
-          let before = ap good_count (c.again.invariant.quiet (quiet_before (map (held g.P.Piece.seen) c.args.disks.now) (map (held g.P.Piece.seen) c.again.disks) (map (held g.P.Piece.seen) c.attempt.new.disks) first next quiet)).0 in
+          let count = quiet_count (map (disk_seen g.P.Piece.seen) c.args.disks.now) (map (disk_seen g.P.Piece.seen) c.attempt.new.disks) (each_map _ Fades (goes_fade (c.args.sequence.now + 1) (c.again.sequence + 1) c.args.text.now) _ _ (one_more (c.args.sequence.now + 1) c.again.sequence c.args.text.now _ _ _ (omega (arith, c.again.invariant.later)) c.again.invariant.goes c.attempt.ensures.goes)) quiet in
+          let before = ap good_count (c.again.invariant.quiet (quiet_before (map (disk_seen g.P.Piece.seen) c.args.disks.now) (map (disk_seen g.P.Piece.seen) c.again.disks) (map (disk_seen g.P.Piece.seen) c.attempt.new.disks) first next quiet)).0 in
           absurd (omega (arith, less, count, before));
       long = c.attempt.auto.disks ∙ c.again.invariant.long;
       later = omega (arith, c.again.invariant.later);
@@ -103,24 +103,24 @@ again-preserved g c =
 pub returns-clause-ends : goal.returns-clause-ends
 returns-clause-ends g c =
     all_risen (c.args.sequence.now + 1) c.again.sequence c.args.text.now _ _ (each_first _ c.args.carriers _ _ c.again.invariant.goes)
-    (subst (AllOf (λ (h : Held). h.good ≡ false)) (sym (take-map (held g.P.Piece.seen) c.args.carriers c.again.disks)) (c.any_good.ensures.none c.again-test.false))
+    (subst (AllOf (λ (h : DiskSeen). h.good ≡ false)) (sym (take-map (disk_seen g.P.Piece.seen) c.args.carriers c.again.disks)) (c.any_good.ensures.none c.again-test.false))
 
 pub returns-in-Done-clause-recorded : goal.returns-in-Done-clause-recorded
 returns-in-Done-clause-recorded g c =
-    let first : Each Fades (map (held g.P.Piece.seen) c.args.disks.now) (map (held g.P.Piece.seen) c.again.disks) = each_map _ Fades (goes_fade (c.args.sequence.now + 1) c.again.sequence c.args.text.now) _ _ c.again.invariant.goes in
-    let next : Each Fades (map (held g.P.Piece.seen) c.again.disks) (map (held g.P.Piece.seen) c.attempt.new.disks) = each_map _ Fades (goes_fade (c.again.sequence + 1) (c.again.sequence + 1) c.args.text.now) _ _ c.attempt.ensures.goes in
+    let first : Each Fades (map (disk_seen g.P.Piece.seen) c.args.disks.now) (map (disk_seen g.P.Piece.seen) c.again.disks) = each_map _ Fades (goes_fade (c.args.sequence.now + 1) c.again.sequence c.args.text.now) _ _ c.again.invariant.goes in
+    let next : Each Fades (map (disk_seen g.P.Piece.seen) c.again.disks) (map (disk_seen g.P.Piece.seen) c.attempt.new.disks) = each_map _ Fades (goes_fade (c.again.sequence + 1) (c.again.sequence + 1) c.args.text.now) _ _ c.attempt.ensures.goes in
     record {
-      touches = all_on (c.args.sequence.now + 1) c.again.sequence c.args.text.now c.requires.padded.fits (IsMaskOf (map (held g.P.Piece.seen) c.args.disks.now) (map (held g.P.Piece.seen) c.again.disks)) (IsMaskOf (map (held g.P.Piece.seen) c.again.disks) (map (held g.P.Piece.seen) c.attempt.new.disks)) (IsMaskOf (map (held g.P.Piece.seen) c.args.disks.now) (map (held g.P.Piece.seen) c.attempt.new.disks)) (mask_then (map (held g.P.Piece.seen) c.args.disks.now) (map (held g.P.Piece.seen) c.again.disks) (map (held g.P.Piece.seen) c.attempt.new.disks) next) (mask_before (map (held g.P.Piece.seen) c.args.disks.now) (map (held g.P.Piece.seen) c.again.disks) (map (held g.P.Piece.seen) c.attempt.new.disks) first next) (omega (arith, c.again.invariant.later)) _ _ _ c.again.invariant.ready c.attempt.ensures.goes c.again.invariant.touches c.attempt.ensures.touches;
-      once = λ quiet. let same = (c.again.invariant.quiet (quiet_before (map (held g.P.Piece.seen) c.args.disks.now) (map (held g.P.Piece.seen) c.again.disks) (map (held g.P.Piece.seen) c.attempt.new.disks) first next quiet)).1 in omega (arith, same);
+      touches = all_on (c.args.sequence.now + 1) c.again.sequence c.args.text.now c.requires.padded.fits (IsMaskOf (map (disk_seen g.P.Piece.seen) c.args.disks.now) (map (disk_seen g.P.Piece.seen) c.again.disks)) (IsMaskOf (map (disk_seen g.P.Piece.seen) c.again.disks) (map (disk_seen g.P.Piece.seen) c.attempt.new.disks)) (IsMaskOf (map (disk_seen g.P.Piece.seen) c.args.disks.now) (map (disk_seen g.P.Piece.seen) c.attempt.new.disks)) (mask_then (map (disk_seen g.P.Piece.seen) c.args.disks.now) (map (disk_seen g.P.Piece.seen) c.again.disks) (map (disk_seen g.P.Piece.seen) c.attempt.new.disks) next) (mask_before (map (disk_seen g.P.Piece.seen) c.args.disks.now) (map (disk_seen g.P.Piece.seen) c.again.disks) (map (disk_seen g.P.Piece.seen) c.attempt.new.disks) first next) (omega (arith, c.again.invariant.later)) _ _ _ c.again.invariant.ready c.attempt.ensures.goes c.again.invariant.touches c.attempt.ensures.touches;
+      once = λ quiet. let same = (c.again.invariant.quiet (quiet_before (map (disk_seen g.P.Piece.seen) c.args.disks.now) (map (disk_seen g.P.Piece.seen) c.again.disks) (map (disk_seen g.P.Piece.seen) c.attempt.new.disks) first next quiet)).1 in omega (arith, same);
     }
 
 pub returns-in-Cut-clause-recorded : goal.returns-in-Cut-clause-recorded
 returns-in-Cut-clause-recorded g c =
-    let first : Each Fades (map (held g.P.Piece.seen) c.args.disks.now) (map (held g.P.Piece.seen) c.again.disks) = each_map _ Fades (goes_fade (c.args.sequence.now + 1) c.again.sequence c.args.text.now) _ _ c.again.invariant.goes in
-    let next : Each Fades (map (held g.P.Piece.seen) c.again.disks) (map (held g.P.Piece.seen) c.attempt.new.disks) = each_map _ Fades (goes_fade (c.again.sequence + 1) (c.again.sequence + 1) c.args.text.now) _ _ c.attempt.ensures.goes in
+    let first : Each Fades (map (disk_seen g.P.Piece.seen) c.args.disks.now) (map (disk_seen g.P.Piece.seen) c.again.disks) = each_map _ Fades (goes_fade (c.args.sequence.now + 1) c.again.sequence c.args.text.now) _ _ c.again.invariant.goes in
+    let next : Each Fades (map (disk_seen g.P.Piece.seen) c.again.disks) (map (disk_seen g.P.Piece.seen) c.attempt.new.disks) = each_map _ Fades (goes_fade (c.again.sequence + 1) (c.again.sequence + 1) c.args.text.now) _ _ c.attempt.ensures.goes in
     record {
-      touches = all_on (c.args.sequence.now + 1) c.again.sequence c.args.text.now c.requires.padded.fits (IsMaskOf (map (held g.P.Piece.seen) c.args.disks.now) (map (held g.P.Piece.seen) c.again.disks)) (IsMaskOf (map (held g.P.Piece.seen) c.again.disks) (map (held g.P.Piece.seen) c.attempt.new.disks)) (IsMaskOf (map (held g.P.Piece.seen) c.args.disks.now) (map (held g.P.Piece.seen) c.attempt.new.disks)) (mask_then (map (held g.P.Piece.seen) c.args.disks.now) (map (held g.P.Piece.seen) c.again.disks) (map (held g.P.Piece.seen) c.attempt.new.disks) next) (mask_before (map (held g.P.Piece.seen) c.args.disks.now) (map (held g.P.Piece.seen) c.again.disks) (map (held g.P.Piece.seen) c.attempt.new.disks) first next) (omega (arith, c.again.invariant.later)) _ _ _ c.again.invariant.ready c.attempt.ensures.goes c.again.invariant.touches c.attempt.ensures.touches;
-      once = λ quiet. let same = (c.again.invariant.quiet (quiet_before (map (held g.P.Piece.seen) c.args.disks.now) (map (held g.P.Piece.seen) c.again.disks) (map (held g.P.Piece.seen) c.attempt.new.disks) first next quiet)).1 in omega (arith, same);
+      touches = all_on (c.args.sequence.now + 1) c.again.sequence c.args.text.now c.requires.padded.fits (IsMaskOf (map (disk_seen g.P.Piece.seen) c.args.disks.now) (map (disk_seen g.P.Piece.seen) c.again.disks)) (IsMaskOf (map (disk_seen g.P.Piece.seen) c.again.disks) (map (disk_seen g.P.Piece.seen) c.attempt.new.disks)) (IsMaskOf (map (disk_seen g.P.Piece.seen) c.args.disks.now) (map (disk_seen g.P.Piece.seen) c.attempt.new.disks)) (mask_then (map (disk_seen g.P.Piece.seen) c.args.disks.now) (map (disk_seen g.P.Piece.seen) c.again.disks) (map (disk_seen g.P.Piece.seen) c.attempt.new.disks) next) (mask_before (map (disk_seen g.P.Piece.seen) c.args.disks.now) (map (disk_seen g.P.Piece.seen) c.again.disks) (map (disk_seen g.P.Piece.seen) c.attempt.new.disks) first next) (omega (arith, c.again.invariant.later)) _ _ _ c.again.invariant.ready c.attempt.ensures.goes c.again.invariant.touches c.attempt.ensures.touches;
+      once = λ quiet. let same = (c.again.invariant.quiet (quiet_before (map (disk_seen g.P.Piece.seen) c.args.disks.now) (map (disk_seen g.P.Piece.seen) c.again.disks) (map (disk_seen g.P.Piece.seen) c.attempt.new.disks) first next quiet)).1 in omega (arith, same);
     }
 
 pub returns-in-Done-clause-done : goal.returns-in-Done-clause-done
@@ -128,10 +128,10 @@ returns-in-Done-clause-done g c = record { some = (returns-in-Done-clause-ends g
 
 pub returns-in-Done-clause-exact : goal.returns-in-Done-clause-exact
 returns-in-Done-clause-exact g c =
-    let first : Each Fades (map (held g.P.Piece.seen) c.args.disks.now) (map (held g.P.Piece.seen) c.again.disks) = each_map _ Fades (goes_fade (c.args.sequence.now + 1) c.again.sequence c.args.text.now) _ _ c.again.invariant.goes in
-    let next : Each Fades (map (held g.P.Piece.seen) c.again.disks) (map (held g.P.Piece.seen) c.attempt.new.disks) = each_map _ Fades (goes_fade (c.again.sequence + 1) (c.again.sequence + 1) c.args.text.now) _ _ c.attempt.ensures.goes in
+    let first : Each Fades (map (disk_seen g.P.Piece.seen) c.args.disks.now) (map (disk_seen g.P.Piece.seen) c.again.disks) = each_map _ Fades (goes_fade (c.args.sequence.now + 1) c.again.sequence c.args.text.now) _ _ c.again.invariant.goes in
+    let next : Each Fades (map (disk_seen g.P.Piece.seen) c.again.disks) (map (disk_seen g.P.Piece.seen) c.attempt.new.disks) = each_map _ Fades (goes_fade (c.again.sequence + 1) (c.again.sequence + 1) c.args.text.now) _ _ c.attempt.ensures.goes in
     let done = c.attempt.ensures.done c.in-Done.is in
-    λ quiet. subst (λ hs. Each (WritesJust (sectors_of c.args.text.now)) hs (map (held g.P.Piece.seen) c.attempt.new.disks)) (c.again.invariant.quiet (quiet_before (map (held g.P.Piece.seen) c.args.disks.now) (map (held g.P.Piece.seen) c.again.disks) (map (held g.P.Piece.seen) c.attempt.new.disks) first next quiet)).0 done.0
+    λ quiet. subst (λ hs. Each (WritesJust (sectors_of c.args.text.now)) hs (map (disk_seen g.P.Piece.seen) c.attempt.new.disks)) (c.again.invariant.quiet (quiet_before (map (disk_seen g.P.Piece.seen) c.args.disks.now) (map (disk_seen g.P.Piece.seen) c.again.disks) (map (disk_seen g.P.Piece.seen) c.attempt.new.disks) first next quiet)).0 done.0
 
 pub returns-clause-recorded : goal.returns-clause-recorded
 returns-clause-recorded g c = record { touches = c.again.invariant.touches; once = λ quiet. let same = (c.again.invariant.quiet quiet).1 in omega (arith, same) }
@@ -148,13 +148,13 @@ returns-clause-order g c = λ group before below. in_order group before c.again.
 pub returns-in-Done-clause-lead : goal.returns-in-Done-clause-lead
 returns-in-Done-clause-lead g c = λ group before le below members.
     let some = c.any_good.ensures.some c.again-test.true in
-    let there : good_count (map (held g.P.Piece.seen) (take c.args.carriers c.again.disks)) ≡ good_count (take c.args.carriers (map (held g.P.Piece.seen) c.again.disks)) = ap good_count (sym (take-map (held g.P.Piece.seen) c.args.carriers c.again.disks)) in
+    let there : good_count (map (disk_seen g.P.Piece.seen) (take c.args.carriers c.again.disks)) ≡ good_count (take c.args.carriers (map (disk_seen g.P.Piece.seen) c.again.disks)) = ap good_count (sym (take-map (disk_seen g.P.Piece.seen) c.args.carriers c.again.disks)) in
     c.attempt.ensures.lead group before c.args.carriers (omega (arith, le, c.again.invariant.later)) (omega (arith, some, there))
     (members_go group (c.args.sequence.now + 1) c.again.sequence c.args.text.now _ _ (each_first _ c.args.carriers _ _ c.again.invariant.goes) members) (c.again.invariant.lead group before le below members)
 
 pub returns-in-Cut-clause-lead : goal.returns-in-Cut-clause-lead
 returns-in-Cut-clause-lead g c = λ group before le below members.
     let some = c.any_good.ensures.some c.again-test.true in
-    let there : good_count (map (held g.P.Piece.seen) (take c.args.carriers c.again.disks)) ≡ good_count (take c.args.carriers (map (held g.P.Piece.seen) c.again.disks)) = ap good_count (sym (take-map (held g.P.Piece.seen) c.args.carriers c.again.disks)) in
+    let there : good_count (map (disk_seen g.P.Piece.seen) (take c.args.carriers c.again.disks)) ≡ good_count (take c.args.carriers (map (disk_seen g.P.Piece.seen) c.again.disks)) = ap good_count (sym (take-map (disk_seen g.P.Piece.seen) c.args.carriers c.again.disks)) in
     c.attempt.ensures.lead group before c.args.carriers (omega (arith, le, c.again.invariant.later)) (omega (arith, some, there))
     (members_go group (c.args.sequence.now + 1) c.again.sequence c.args.text.now _ _ (each_first _ c.args.carriers _ _ c.again.invariant.goes) members) (c.again.invariant.lead group before le below members)

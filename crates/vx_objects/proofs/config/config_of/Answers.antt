@@ -1,5 +1,5 @@
 use Rattle.std.proofs.Common.{◌≡◌, None, IsTrue, List, refl}
-use Rattle.vx_parts.specs.declared.object.Object.{Object}
+use Rattle.vx_config_parts.specs.declared.object.Object.{Object}
 use Rattle.vx_rules.specs.Rules.{first_broken, is_valid}
 use Rattle.vx_objects.proofs.OneGroup.{one_group}
 use Rattle.vx_objects.proofs.config.config_of.Goals as goal

@@ -3,8 +3,8 @@ use Rattle.std.proofs.lemmas.Bool.{and_from}
 use Rattle.vx_names.specs.declared.attr.Attr.{Attr}
 use Rattle.vx_record.specs.Table.{columns}
 use Rattle.vx_record.specs.declared.kind.Kind.TheVariants as kinds
-use Rattle.vx_parts.specs.declared.object.Object.{Object}
-use Rattle.vx_parts.specs.declared.object.Object.TheVariants.{SnapRecord}
+use Rattle.vx_config_parts.specs.declared.object.Object.{Object}
+use Rattle.vx_config_parts.specs.declared.object.Object.TheVariants.{SnapRecord}
 use Rattle.vx_objects.proofs.Fields.{fit_end, link}
 use Rattle.vx_objects.proofs.said.snap_of.Goals as goal
 

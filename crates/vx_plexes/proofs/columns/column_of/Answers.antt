@@ -3,7 +3,7 @@ use Rattle.std.specs.List.{find}
 use Rattle.vx_layout.specs.Columns.{column_length}
 use Rattle.vx_extents.specs.Columns.{is_in_column}
 use Rattle.vx_objects.specs.Config.{objects_of}
-use Rattle.vx_parts.specs.declared.object.Object.TheVariants.{PlexRecord}
+use Rattle.vx_config_parts.specs.declared.object.Object.TheVariants.{PlexRecord}
 use Rattle.vx_plexes.proofs.Members.{one_in}
 use Rattle.vx_plexes.proofs.Chain.{found_in}
 use Rattle.vx_plexes.proofs.Plexes.{config_valid, subdisk_short, column_sum, column_short}

@@ -1,7 +1,7 @@
 use Rattle.std.proofs.Common.{◌≡◌, true, sym, subst}
 use Rattle.vx_layout.specs.Valid.{is_layout}
 use Rattle.vx_objects.specs.Config.{objects_of}
-use Rattle.vx_parts.specs.declared.object.Object.TheVariants.{PlexRecord}
+use Rattle.vx_config_parts.specs.declared.object.Object.TheVariants.{PlexRecord}
 use Rattle.vx_plexes.specs.Lies.{HoldsItsVolume, are_on_disks}
 use Rattle.vx_plexes.proofs.Members.{one_in}
 use Rattle.vx_plexes.proofs.Plexes.{config_valid}

@@ -1,6 +1,6 @@
 use Rattle.std.proofs.Common.{◌≡◌, ◌∙◌, is_some, sym, ap, subst, refl, rules, arith}
-use Rattle.vx_parts.specs.Objects.{name_of}
-use Rattle.vx_parts.specs.declared.object.Object.{Object}
+use Rattle.vx_config_parts.specs.Objects.{name_of}
+use Rattle.vx_config_parts.specs.declared.object.Object.{Object}
 use Rattle.vx_rules.specs.References.{has_name}
 use Rattle.vx_rules.proofs.Earliest.{pushed_unless, pushed, passed, goes_on, still_differ, finds_more}
 use Rattle.vx_rules.proofs.adding.firsts.Goals as goal

@@ -1,7 +1,7 @@
 use Rattle.std.proofs.Common.{◌≡◌, ℕ, ◌<◌, nat_le, List, true, false, sym, arith}
 use Rattle.std.proofs.lemmas.Bool.{lt-leb}
 use Rattle.vx_base.specs.Named.{Word}
-use Rattle.vx_parts.specs.declared.object.Object.{Object}
+use Rattle.vx_config_parts.specs.declared.object.Object.{Object}
 use Rattle.vx_extents.specs.Below.{all_below}
 use Rattle.vx_rules.specs.Maps.{map_uses, maps_differ}
 use Rattle.vx_extents.proofs.Below.{all_below_fails}

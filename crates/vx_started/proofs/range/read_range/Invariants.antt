@@ -3,7 +3,7 @@ use Rattle.vx_base.specs.Blocks.{Contents, block_at}
 use Rattle.vx_block.specs.Parts.{reached}
 use Rattle.vx_piece.specs.Seen.{Keeps, IsRead}
 use Rattle.vx_life.specs.declared.EntryKind.TheVariants.{Read, Missed}
-use Rattle.vx_started.specs.Stands.{CallsAtMost, AreBelow, Goes, IsSized}
+use Rattle.vx_started.specs.Stands.{CallsAtMost, AreBelow, CallGoes, IsSized}
 use Rattle.vx_started.specs.Buffers.{HoldsFirst}
 use Rattle.vx_started.proofs.range.read_range.Given as goal
 
@@ -21,6 +21,6 @@ invariant-loop-index g l = record {
   spare : l.total ≤ vec_capacity l.parts;
   buffer : vec_len l.blocks ≡ 512 * l.count;
   holds : HoldsFirst l.blocks.items (g.P.Piece.seen l.fn.piece).told l.start (reached l.geometry.region l.start l.count l.index - l.start);
-  read : (contents : Contents) → (g.P.Piece.seen l.fn.piece).told ≡ Some contents → Goes l.geometry.length l.geometry.region l.start l.count Read contents (g.P.Piece.seen l.fn.piece) l.fn.numbers.items (g.P.Piece.seen l.piece) l.numbers.items l.parts.items;
-  missed : Goes l.geometry.length l.geometry.region l.start l.count Missed (λ k. block_at [] (k - l.start)) (g.P.Piece.seen l.fn.piece) l.fn.numbers.items (g.P.Piece.seen l.piece) l.numbers.items l.parts.items;
+  read : (contents : Contents) → (g.P.Piece.seen l.fn.piece).told ≡ Some contents → CallGoes l.geometry.length l.geometry.region l.start l.count Read contents (g.P.Piece.seen l.fn.piece) l.fn.numbers.items (g.P.Piece.seen l.piece) l.numbers.items l.parts.items;
+  missed : CallGoes l.geometry.length l.geometry.region l.start l.count Missed (λ k. block_at [] (k - l.start)) (g.P.Piece.seen l.fn.piece) l.fn.numbers.items (g.P.Piece.seen l.piece) l.numbers.items l.parts.items;
 }

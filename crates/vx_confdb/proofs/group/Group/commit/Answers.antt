@@ -1,6 +1,6 @@
 use Rattle.std.proofs.Common.{◌≡◌, ◌≤◌, length, subst, sym, arith}
 use Rattle.std.proofs.lemmas.List.{length-map}
-use Rattle.vx_copies.specs.Disks.{held}
+use Rattle.vx_copies.specs.Disks.{disk_seen}
 use Rattle.vx_copies.proofs.Recording.{none_recorded}
 use Rattle.vx_copies.specs.Chain.{IsSound}
 use Rattle.vx_confdb.specs.Groups.{members}
@@ -9,7 +9,7 @@ use Rattle.vx_confdb.proofs.group.Group.commit.Goals as goal
 
 pub returns-clause-ends : goal.returns-clause-ends
 returns-clause-ends g c =
-    let few : length (members g.P.Piece.seen c.args.self.now) ≤ c.len-carriers.result = omega (arith, length-map c.args.self.now.disks.items (held g.P.Piece.seen), c.args.self.now.disks.ok.0, c.len-carriers.ensures) in
+    let few : length (members g.P.Piece.seen c.args.self.now) ≤ c.len-carriers.result = omega (arith, length-map c.args.self.now.disks.items (disk_seen g.P.Piece.seen), c.args.self.now.disks.ok.0, c.len-carriers.ensures) in
     let same : length (members g.P.Piece.seen c.write.new.self) ≡ length (members g.P.Piece.seen c.args.self.now) = same_length _ _ _ c.write.ensures.written.committed.goes in
     gives_from g.P.Piece.seen c.write.result c.len-carriers.result c.args.text.now c.args.self.now c.write.new.self few (omega (arith, few, same)) (rw c.in-Ok.ensures at c.write.ensures.written)
 

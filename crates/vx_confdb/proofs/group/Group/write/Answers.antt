@@ -1,6 +1,6 @@
 use Rattle.std.proofs.Common.{refl, arith}
 use Rattle.std.proofs.lemmas.List.{length-map}
-use Rattle.vx_copies.specs.Disks.{held}
+use Rattle.vx_copies.specs.Disks.{disk_seen}
 use Rattle.vx_confdb.specs.Texts.{text_of}
 use Rattle.vx_copies.proofs.Chained.{all_first}
 use Rattle.vx_confdb.proofs.Begun.{members_of}
@@ -40,7 +40,7 @@ pub returns-in-Ok-clause-sound : goal.returns-in-Ok-clause-sound
 returns-in-Ok-clause-sound g c = λ missing others sound. c.write_all.ensures.carried.sound c.args.self.now.name missing others sound
 
 pub returns-in-Ok-clause-all : goal.returns-in-Ok-clause-all
-returns-in-Ok-clause-all g c = λ missing others sound. rw (length-map c.args.self.now.disks.items (held g.P.Piece.seen)) at c.in-Ok.ensures.carried.all c.args.self.now.name missing others sound
+returns-in-Ok-clause-all g c = λ missing others sound. rw (length-map c.args.self.now.disks.items (disk_seen g.P.Piece.seen)) at c.in-Ok.ensures.carried.all c.args.self.now.name missing others sound
 
 pub returns-in-Err-clause-written : goal.returns-in-Err-clause-written
 returns-in-Err-clause-written g c =

@@ -1,5 +1,5 @@
 use Rattle.std.proofs.Common.{◌≡◌, ◌==◌, ◌&&◌, true, List}
-use Rattle.vx_parts.specs.declared.object.Object.{Object}
+use Rattle.vx_config_parts.specs.declared.object.Object.{Object}
 use Rattle.vx_extents.specs.Below.{all_below}
 use Rattle.vx_extents.specs.Columns.{column_length}
 use Rattle.vx_extents.specs.Indexed.{IsIndexed, column_is_whole}

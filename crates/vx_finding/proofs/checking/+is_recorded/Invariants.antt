@@ -1,5 +1,0 @@
-use Rattle.std.proofs.Common.{length}
-use Rattle.vx_finding.proofs.checking.+is_recorded.Given as goal
-
-abbrev pub decreases-is_recorded : goal.decreases-is_recorded
-decreases-is_recorded l = length l.disks.now

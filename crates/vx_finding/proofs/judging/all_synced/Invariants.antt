@@ -1,6 +1,0 @@
-use Rattle.std.proofs.Common.{◌≡◌, map, take}
-use Rattle.vx_plans.specs.Finding.{needs_sync}
-use Rattle.vx_finding.proofs.judging.all_synced.Given as goal
-
-abbrev pub invariant-loop-object : goal.invariant-loop-object
-invariant-loop-object l = l.out.items ≡ map needs_sync (take l.object-index l.all)

@@ -1,5 +1,0 @@
-use Rattle.std.proofs.Common.{length}
-use Rattle.vx_finding.proofs.naming.+disk_named.Given as goal
-
-abbrev pub decreases-disk_named : goal.decreases-disk_named
-decreases-disk_named l = length l.records.now

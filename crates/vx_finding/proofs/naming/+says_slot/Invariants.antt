@@ -1,5 +1,0 @@
-use Rattle.std.proofs.Common.{length}
-use Rattle.vx_finding.proofs.naming.+says_slot.Given as goal
-
-abbrev pub decreases-says_slot : goal.decreases-says_slot
-decreases-says_slot l = length l.attrs.now

@@ -1,0 +1,58 @@
+-- A change of the configuration as a stage.
+use Rattle.std.proofs.Common.{◌≡◌, ◌∙◌, inl, inr, List, Some, None, Result, Err, refl, sym, ap, subst}
+use Rattle.vx_piece.specs.Seen.{Seen}
+use Rattle.vx_answers.specs.declared.answer.End.TheVariants as ends
+use Rattle.vx_answers.specs.declared.refusal.Refusal.TheVariants as refusal
+use Rattle.vx_script_words.specs.declared.value.DiskAt.{DiskAt}
+use Rattle.vx_moments.specs.World.{Group}
+use Rattle.vx_moments.specs.Moment.{Moment}
+use Rattle.vx_moments.specs.Commit.{Writing}
+use Rattle.vx_plans.specs.Stages.{IsChange, EditsRefused, edits_of}
+use Rattle.vx_plans.specs.declared.stage.Change.{Change}
+use Rattle.vx_plans.specs.declared.stage.Change.TheVariants as changes
+use Rattle.vx_plans.specs.declared.stage.Stage.TheVariants as stage
+use Rattle.vx_house.specs.Goes.{StageGoes}
+use Rattle.vx_house.specs.Holders.{holders, AreHeld}
+use Rattle.vx_house.specs.Scene.{Shelved}
+use Rattle.vx_house.specs.View.{at, group_of, IsMoment, KeepsHouse}
+use Rattle.vx_house.specs.declared.house.House.{House}
+use Rattle.vx_house.specs.declared.house.Imported.{Imported}
+use Rattle.vx_house.specs.declared.stop.Stop.{Stop}
+use Rattle.vx_house.specs.declared.stop.Stop.TheVariants as stops
+use Rattle.vx_house.proofs.Takes.{rests_self}
+use Rattle.vx_commits.proofs.Holders.{world_group, group_before}
+use Rattle.vx_stage_changes.specs.Changing.{ChangeEnds}
+use Rattle.vx_stage_changes.specs.Planning.{change_edits}
+use Rattle.vx_stage_changes.proofs.Configs.{disks_kept, group_kept}
+use Rattle.vx_stage_changes.proofs.EditStage.{IsStage, refused_here, house, edits_go}
+
+-- the edits of a change go by the configuration alone
+edits_same : (c : Change) (w : Group) → edits_of c (Some w) ≡ change_edits c w.config
+edits_same (changes.Policy vol policy) w = refl
+edits_same (changes.Remove vol) w = refl
+
+module _ {P : Type 0} (see : P → Seen) (c : Change) (disks : List DiskAt) (shelf : Shelved) (old : House P) (keeps : KeepsHouse see old) (are_held : AreHeld shelf.held (holders see old)) where
+  -- no group is imported
+  pub no_group : old.group ≡ None → StageGoes {T = Unit {0}} see (stage.Change c) disks (Err (stops.Ended (ends.Refused (refusal.NoGroup None)))) (at shelf old) (at shelf old)
+  no_group none = refused_here see (stage.Change c) disks shelf old keeps are_held (refusal.NoGroup None) (λ m is. inl (is.group_is ∙ ap (group_of see) none, (refl, rests_self m)))
+
+  module _ (g : Imported P) (has : old.group ≡ Some g) where
+    edits_here : (m : Moment) → IsMoment see (at shelf old) m → edits_of c m.world.group ≡ change_edits c g.config
+    edits_here m is = ap (edits_of c) (group_before see shelf old g has m is) ∙ edits_same c (world_group see g)
+
+    is_change : (m : Moment) (x : Writing) → IsMoment see (at shelf old) m → IsChange (change_edits c g.config) m.world x → IsChange (edits_of c m.world.group) m.world x
+    is_change m x is change = subst (λ es. IsChange es m.world x) (sym (edits_here m is)) change
+
+    is_stage : IsStage see (stage.Change c) disks shelf old g (change_edits c g.config)
+    is_stage = record {
+      writes = refl;
+      gives = λ h. tt;
+      group = λ next edited. group_kept c g.config next edited;
+      keeps_disks = λ next edited. disks_kept c g.config next edited;
+      done = λ m n x is change committed. (x, is_change m x is change, committed);
+      stops = λ m n end x is change stopped. inr (inr (x, is_change m x is change, stopped));
+      refuses = λ m w r is here same refused. inr (inl ((w, here, subst (λ es. EditsRefused es w (ends.Refused r)) (sym (edits_same c w ∙ ap (change_edits c) same)) refused), rests_self m));
+    }
+
+    pub change_goes : (result : Result (Unit {0}) Stop) (g' : Imported P) → ChangeEnds see (change_edits c g.config) result g g' → StageGoes see (stage.Change c) disks result (at shelf old) (at shelf (house see (stage.Change c) disks shelf old keeps are_held g has g'))
+    change_goes result g' ends = edits_go see (stage.Change c) disks shelf old keeps are_held g has (change_edits c g.config) is_stage result g' ends

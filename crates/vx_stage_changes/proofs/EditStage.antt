@@ -1,0 +1,160 @@
+-- Edits of the configuration that are committed, as a stage.
+use Rattle.std.proofs.Common.{◌≡◌, false, ◌∙◌, inl, inr, ℕ, ◌+◌, List, [], length, Some, Result, Ok, Err, refl, sym, ap, subst}
+use Rattle.std.specs.Prelude.{IfSome}
+use Rattle.vx_piece.specs.Seen.{Seen}
+use Rattle.vx_confdb.specs.Groups.{CarriesText}
+use Rattle.vx_objects.specs.declared.config.Config.{Config}
+use Rattle.vx_objects.specs.declared.edit.Edit.{Edit}
+use Rattle.vx_objects.specs.Applied.{IsEdited}
+use Rattle.vx_answers.specs.declared.answer.End.{End}
+use Rattle.vx_answers.specs.declared.answer.End.TheVariants as ends
+use Rattle.vx_answers.specs.declared.refusal.Refusal.{Refusal}
+use Rattle.vx_answers.specs.declared.refusal.Refusal.TheVariants as refusal
+use Rattle.vx_script_words.specs.declared.value.DiskAt.{DiskAt}
+use Rattle.vx_moments.specs.World.{Group}
+use Rattle.vx_moments.specs.Commit.{Writing, IsCommitted, IsStopped}
+use Rattle.vx_moments.specs.Moment.{Moment}
+use Rattle.vx_moments.specs.Copies.{IsTextOf}
+use Rattle.vx_plans.specs.Stages.{IsDone, Stops, IsChange, EditsRefused}
+use Rattle.vx_plans.specs.declared.stage.Stage.{Stage}
+use Rattle.vx_house.specs.Goes.{StageGoes, Gives, only_reads}
+use Rattle.vx_house.specs.Holders.{holders, AreHeld}
+use Rattle.vx_house.specs.Scene.{Shelved}
+use Rattle.vx_house.specs.View.{at, scene, group_of, IsMoment, IsGroupKept, KeepsHouse}
+use Rattle.vx_house.specs.declared.house.House.{House}
+use Rattle.vx_house.specs.declared.house.Imported.{Imported}
+use Rattle.vx_house.specs.declared.stop.Stop.{Stop}
+use Rattle.vx_house.specs.declared.stop.Stop.TheVariants as stops
+use Rattle.vx_house.proofs.Moments.{later_refl, faults_refl}
+use Rattle.vx_house.proofs.Ended.{moment_but_group}
+use Rattle.vx_commits.proofs.Alone.{IsWrittenIn, alone, x_alone, lost_alone, cut_alone, committed_alone}
+use Rattle.vx_commits.proofs.Holders.{group_before}
+use Rattle.vx_commits.proofs.Kept.{sized_now, slots_now, recorded_now}
+use Rattle.vx_commits.proofs.CommitStage.{done_stage, group_lost_stage, power_lost_stage}
+use Rattle.vx_stage_changes.specs.Changing.{IsMeant, ChangeEnds}
+use Rattle.vx_commits.specs.Committing.{IsTried, IsFinished, CommitEnds}
+use Rattle.vx_stage_changes.specs.Planning.{IsUnplanned}
+
+-- edits that are refused are refused by a test
+pub refused_so : (edits : List Edit) (w : Group) (end : End) → IsUnplanned edits w.config (stops.Ended end) → (r : Refusal) × (end ≡ ends.Refused r) × EditsRefused edits w end
+refused_so edits w end (inl broken) = (broken.0, broken.2, inl broken)
+refused_so edits w end (inr long) = (refusal.TooLong (length long.2.0), long.2.3, inr long)
+
+-- the edits are refused, and nothing is done
+pub unplanned_ends : {P : Type 0} (see : P → Seen) (edits : List Edit) (g : Imported P) (stop : Stop) → IsUnplanned edits g.config stop → ChangeEnds see edits (Err stop) g g
+unplanned_ends see edits g stops.OutOfMemory is = refl
+unplanned_ends see edits g (stops.Ended (ends.Done copied parts blocks)) is = (refl, is)
+unplanned_ends see edits g (stops.Ended (ends.Refused r)) is = (refl, is)
+unplanned_ends see edits g (stops.Ended (ends.Fault told device parts)) is = (refl, is)
+unplanned_ends see edits g (stops.Ended ends.ShelfFailed) is = (refl, is)
+unplanned_ends see edits g (stops.Ended ends.GroupLost) is = let why = refused_so edits (record { config = g.config; good = 0; members = []; sequence = 0 }) ends.GroupLost is in let e = why.1 in cc
+unplanned_ends see edits g (stops.Ended (ends.Lost parts)) is = let why = refused_so edits (record { config = g.config; good = 0; members = []; sequence = 0 }) (ends.Lost parts) is in let e = why.1 in cc
+
+-- the commit is not done
+pub stopped_ends : {P : Type 0} (see : P → Seen) (edits : List Edit) (g g' : Imported P) (next : Config) (text : List ℕ) (stop : Stop) → g'.config ≡ g.config → IsMeant edits g.config next text → CommitEnds see (Err stop) text g.base g'.base → ChangeEnds see edits (Err stop) g g'
+stopped_ends {P = P} see edits g g' next text stops.OutOfMemory same meant is = ap (λ k. (let h : Imported P = record { config = k; base = g'.base } in h)) same ∙ ap (λ b. (let h : Imported P = record { config = g.config; base = b } in h)) is
+stopped_ends see edits g g' next text (stops.Ended (ends.Done copied parts blocks)) same meant is = absurd is
+stopped_ends see edits g g' next text (stops.Ended (ends.Refused r)) same meant is = absurd is
+stopped_ends see edits g g' next text (stops.Ended (ends.Fault told device parts)) same meant is = absurd is
+stopped_ends see edits g g' next text (stops.Ended ends.ShelfFailed) same meant is = absurd is
+stopped_ends see edits g g' next text (stops.Ended ends.GroupLost) same meant is = (next, text, meant, is.0, is.1)
+stopped_ends see edits g g' next text (stops.Ended (ends.Lost parts)) same meant is = (is.0, (next, text, meant, is.1, is.2))
+
+-- What a stage of these edits is, over the house with this group.
+pub record IsStage {P : Type 0} (see : P → Seen) (s : Stage) (disks : List DiskAt) (shelf : Shelved) (old : House P) (g : Imported P) (edits : List Edit) : Type 0 where
+  pub writes : only_reads s ≡ false
+  pub gives : (h : House P) → Gives see s disks h
+  pub group : (next : Config) → IsEdited edits g.config next → next.group ≡ g.config.group
+  pub keeps_disks : (next : Config) → IsEdited edits g.config next → next.disks ≡ g.config.disks
+  pub done : (m n : Moment) (x : Writing) → IsMoment see (at shelf old) m → IsChange edits m.world x → IsCommitted x m n → IsDone s disks m n
+  pub stops : (m n : Moment) (end : End) (x : Writing) → IsMoment see (at shelf old) m → IsChange edits m.world x → IsStopped x m end n → Stops s disks m end n
+  pub refuses : (m : Moment) (w : Group) (r : Refusal) → IsMoment see (at shelf old) m → m.world.group ≡ Some w → w.config ≡ g.config → EditsRefused edits w (ends.Refused r) → Stops s disks m (ends.Refused r) m
+
+module _ {P : Type 0} (see : P → Seen) (s : Stage) (disks : List DiskAt) (shelf : Shelved) (old : House P) (keeps : KeepsHouse see old) (are_held : AreHeld shelf.held (holders see old)) where
+  -- want of memory
+  pub unchanged : StageGoes {T = Unit {0}} see s disks (Err stops.OutOfMemory) (at shelf old) (at shelf old)
+  unchanged = record {
+    keeps = record { devices = are_held; house = keeps };
+    goes = λ m is. (m, is, later_refl m.counts, refl);
+    gives = tt;
+    still = λ is. tt;
+    faults = faults_refl (scene see (at shelf old));
+    blamed = tt;
+  }
+
+  pub refused_here : (r : Refusal) → ((m : Moment) → IsMoment see (at shelf old) m → Stops s disks m (ends.Refused r) m) → StageGoes {T = Unit {0}} see s disks (Err (stops.Ended (ends.Refused r))) (at shelf old) (at shelf old)
+  refused_here r why = record {
+    keeps = record { devices = are_held; house = keeps };
+    goes = λ m is. (m, is, later_refl m.counts, why m is);
+    gives = tt;
+    still = λ is. tt;
+    faults = faults_refl (scene see (at shelf old));
+    blamed = tt;
+  }
+
+  module _ (g : Imported P) (has : old.group ≡ Some g) where
+    pub kept : IsGroupKept see g
+    kept = subst (λ o. IfSome o (IsGroupKept see)) has keeps.group
+
+    abbrev pub house : Imported P → House P
+    house g' = record { volumes = old.volumes; group = Some g'; hand = old.hand }
+
+    pub same_house : (g' : Imported P) → g' ≡ g → old ≡ house g'
+    same_house g' same = ap (λ o. (let h : House P = record { volumes = old.volumes; group = o; hand = old.hand } in h)) (has ∙ ap (λ x. Some x) (sym same))
+
+    pub group_at : (m : Moment) → IsMoment see (at shelf old) m → (w : Group) × (m.world.group ≡ Some w) × (w.config ≡ g.config)
+    group_at m is = let w = group_of see (Some g) in (_, is.group_is ∙ ap (group_of see) has, refl)
+
+    written : (g' : Imported P) (text : List ℕ) → IsTried see text g.base g'.base → IsWrittenIn see shelf old g g' text
+    written g' text tried = record { has = has; held = are_held; writable = record { slots = kept.slots; ready = kept.carries.alive.ready }; tried = tried }
+
+    module _ (edits : List Edit) (is_stage : IsStage see s disks shelf old g edits) where
+      refused_by : (end : End) → IsUnplanned edits g.config (stops.Ended end) → StageGoes {T = Unit {0}} see s disks (Err (stops.Ended end)) (at shelf old) (at shelf old)
+      refused_by end is =
+          let w : Group = record { config = g.config; good = 0; members = []; sequence = 0 } in
+          let why = refused_so edits w end is in
+          subst (λ e. StageGoes {T = Unit {0}} see s disks (Err (stops.Ended e)) (at shelf old) (at shelf old)) (sym why.1)
+          (refused_here why.0 (λ m at_m.
+          let here = group_at m at_m in
+          is_stage.refuses m here.0 why.0 at_m here.1 here.2
+          (subst (λ k. EditsRefused edits (record { config = k; good = here.0.good; members = here.0.members; sequence = here.0.sequence }) (ends.Refused why.0)) (sym here.2) (subst (EditsRefused edits w) why.1 why.2))))
+
+      same_name : (next : Config) → IsEdited edits g.config next → next.group ≡ g.base.name
+      same_name next edited = is_stage.group next edited ∙ sym kept.named
+
+      kept_after : (g' : Imported P) (text : List ℕ) → IsMeant edits g.config g'.config text → IsFinished see text g.base g'.base → IsGroupKept see g'
+      kept_after g' text meant finished = record {
+        named = finished.tried.committed.name ∙ kept.named ∙ sym (is_stage.group g'.config meant.edited);
+        text = subst (IsTextOf g'.config) (sym finished.carries.holds) meant.printed.0;
+        first = g.base.sequence + 1;
+        carries = subst (λ t. CarriesText see (g.base.sequence + 1) t g'.base) (sym finished.carries.holds) finished.carries;
+        sized = sized_now (g.base.sequence + 1) g'.base.sequence text see g.base.disks.items g'.base.disks.items finished.tried.committed.goes kept.sized;
+        slots = slots_now (g.base.sequence + 1) g'.base.sequence text see g.base.disks.items g'.base.disks.items finished.tried.committed.goes kept.slots;
+        recorded = recorded_now (g.base.sequence + 1) g'.base.sequence text see g.config g'.config (is_stage.keeps_disks g'.config meant.edited) g.base.disks.items g'.base.disks.items finished.tried.committed.goes kept.recorded;
+      }
+
+      is_change : (m : Moment) → IsMoment see (at shelf old) m → (g' : Imported P) (text : List ℕ) (tried : IsTried see text g.base g'.base) (next : Config) → IsEdited edits g.config next → IsChange edits m.world (x_alone (written g' text tried) next)
+      is_change m is g' text tried next edited = record { group = group_before see shelf old g has m is; edited = edited; joiners = refl; carriers = refl }
+
+      pub edits_go : (result : Result (Unit {0}) Stop) (g' : Imported P) → ChangeEnds see edits result g g' → StageGoes see s disks result (at shelf old) (at shelf (house g'))
+      edits_go (Ok u) g' (text, meant, finished) =
+          let w = written g' text finished.tried in
+          done_stage (alone w) s disks keeps (record { ordered = keeps.ordered; hand = keeps.hand; volumes = keeps.volumes; group = kept_after g' text meant finished }) (is_stage.gives (house g')) is_stage.writes (λ m is.
+          is_stage.done m _ (x_alone w g'.config) is (is_change m is g' text finished.tried g'.config meant.edited)
+          (committed_alone w m (moment_but_group see (at shelf old) m is) finished meant.printed.0 meant.printed.1 (same_name g'.config meant.edited)))
+      edits_go (Err stops.OutOfMemory) g' same = subst (λ h. StageGoes {T = Unit {0}} see s disks (Err stops.OutOfMemory) (at shelf old) (at shelf h)) (same_house g' same) unchanged
+      edits_go (Err (stops.Ended ends.GroupLost)) g' (next, text, meant, tried, risen) =
+          let w = written g' text tried in
+          group_lost_stage (alone w) s disks keeps keeps.hand (λ m is.
+          is_stage.stops m _ ends.GroupLost (x_alone w next) is (is_change m is g' text tried next meant.edited)
+          (lost_alone w m (moment_but_group see (at shelf old) m is) next meant.printed.0 meant.printed.1 (same_name next meant.edited) risen))
+      edits_go (Err (stops.Ended (ends.Lost parts))) g' (none, (next, text, meant, tried, cut)) =
+          let w = written g' text tried in
+          subst (λ p. StageGoes {T = Unit {0}} see s disks (Err (stops.Ended (ends.Lost p))) (at shelf old) (at shelf (house g'))) (sym none)
+          (power_lost_stage (alone w) s disks keeps keeps.hand (λ m is.
+          is_stage.stops m _ (ends.Lost []) (x_alone w next) is (is_change m is g' text tried next meant.edited)
+          (cut_alone w m (moment_but_group see (at shelf old) m is) next meant.printed.0 meant.printed.1 (same_name next meant.edited) cut)))
+      edits_go (Err (stops.Ended (ends.Done copied parts blocks))) g' (same, why) = subst (λ h. StageGoes {T = Unit {0}} see s disks (Err (stops.Ended (ends.Done copied parts blocks))) (at shelf old) (at shelf h)) (same_house g' same) (refused_by (ends.Done copied parts blocks) why)
+      edits_go (Err (stops.Ended (ends.Refused r))) g' (same, why) = subst (λ h. StageGoes {T = Unit {0}} see s disks (Err (stops.Ended (ends.Refused r))) (at shelf old) (at shelf h)) (same_house g' same) (refused_by (ends.Refused r) why)
+      edits_go (Err (stops.Ended (ends.Fault told device parts))) g' (same, why) = subst (λ h. StageGoes {T = Unit {0}} see s disks (Err (stops.Ended (ends.Fault told device parts))) (at shelf old) (at shelf h)) (same_house g' same) (refused_by (ends.Fault told device parts) why)
+      edits_go (Err (stops.Ended ends.ShelfFailed)) g' (same, why) = subst (λ h. StageGoes {T = Unit {0}} see s disks (Err (stops.Ended ends.ShelfFailed)) (at shelf old) (at shelf h)) (same_house g' same) (refused_by ends.ShelfFailed why)

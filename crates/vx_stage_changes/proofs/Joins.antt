@@ -1,0 +1,127 @@
+-- A device that joins the imported group, or is lost with it, as a stage.
+use Rattle.std.proofs.Common.{◌≡◌, ◌∙◌, ℕ, ◌+◌, ◌<◌, List, [], ◌∷◌, ◌++◌, map, length, Some, None, Ok, Err, refl, sym, ap, subst, inl, inr}
+use Rattle.std.specs.Prelude.{IfSome}
+use Rattle.std.specs.BTreeMap.{IsOrdered}
+use Rattle.std.specs.Cmp.Lexicographic.{slice_cmp}
+use Rattle.std.specs.Ordering.{nat_cmp}
+use Rattle.std.proofs.lemmas.List.{map-append}
+use Rattle.vx_piece.specs.Seen.{Seen}
+use Rattle.vx_copies.specs.Commit.{HasRisen}
+use Rattle.vx_copies.specs.Config.{GivesNew}
+use Rattle.vx_copies.specs.Disks.{HasSlot, IsCut, good_mask}
+use Rattle.vx_copies.specs.Lists.{AllOf, AnyOf, Each}
+use Rattle.vx_copies.specs.Written.{IsQuiet, WritesJust, CarriesIfGood, sectors_of}
+use Rattle.vx_confdb.specs.Add.{AddGives}
+use Rattle.vx_confdb.specs.Enlisted.{IsAddedTo, AddWrites, with_disk}
+use Rattle.vx_confdb.specs.Groups.{members, IsMemberOf, CarriesText}
+use Rattle.vx_confdb.specs.declared.fault.GroupFault.{GroupFault}
+use Rattle.vx_confdb.specs.declared.fault.GroupFault.TheVariants as fault
+use Rattle.vx_objects.specs.declared.config.Config.{Config}
+use Rattle.vx_script_words.specs.declared.value.DiskAt.{DiskAt}
+use Rattle.vx_answers.specs.declared.answer.End.TheVariants as ends
+use Rattle.vx_moments.specs.Commit.{parties}
+use Rattle.vx_plans.specs.declared.stage.Stage.TheVariants as stage
+use Rattle.vx_house.specs.Goes.{StageGoes}
+use Rattle.vx_house.specs.Holders.{holders, AreHeld}
+use Rattle.vx_house.specs.Scene.{Shelved}
+use Rattle.vx_house.specs.View.{at, group_of, IsGroupKept, KeepsHouse}
+use Rattle.vx_house.specs.declared.house.House.{House}
+use Rattle.vx_house.specs.declared.house.Imported.{Imported}
+use Rattle.vx_house.specs.declared.house.Taken.{Taken}
+use Rattle.vx_house.specs.declared.stop.Stop.TheVariants as stops
+use Rattle.vx_house.proofs.Ended.{moment_but_group}
+use Rattle.vx_commits.specs.Committing.{stop_of}
+use Rattle.vx_commits.proofs.Alone.{low_by}
+use Rattle.vx_commits.proofs.Done.{any_good}
+use Rattle.vx_commits.proofs.Holders.{same_members, world_group, group_is}
+use Rattle.vx_commits.proofs.Joined.{AreDone, group_lost_on, power_lost_on, group_committed_on}
+use Rattle.vx_commits.proofs.Members.{member_in}
+use Rattle.vx_commits.proofs.CommitStage.{volumes_kept, group_lost_stage, power_lost_stage, done_stage}
+use Rattle.vx_stage_changes.specs.Joining.{disk_for, IsJoin, IsInHand, IsPlaced}
+use Rattle.vx_stage_changes.proofs.Admitted.{IsAdmitted, hs, js, bs, ks, whole, same_name, front_is, back_is, admitted, written, x, joining}
+use Rattle.vx_stage_changes.proofs.Entered.{joins_named, joined_members}
+use Rattle.vx_stage_changes.proofs.Gained.{kept_joined}
+
+module _ {P : Type 0} {see : P → Seen} {shelf : Shelved} {pair : DiskAt} {old now : House P} {g g' : Imported P} {t : Taken P} {slot : ℕ} {text : List ℕ} {next : Config} (a : IsAdmitted see shelf pair old now g g' t slot text next) where
+  hand_kept : AllOf (λ u. 0 < (see u.piece).sectors) now.hand.items
+  hand_kept = subst (AllOf (λ u. 0 < (see u.piece).sectors)) (sym a.empty) tt
+
+  -- no disk of the group is good any more
+  group_lost : Each HasRisen (hs a) (bs a) → StageGoes {T = Unit {0}} see stage.Join (pair ∷ []) (Err (stops.Ended ends.GroupLost)) (at shelf old) (at shelf now)
+  group_lost risen = group_lost_stage (admitted a) stage.Join (pair ∷ []) a.keeps hand_kept (λ m is. inr (inr (
+    x a,
+    joining a m is,
+    group_lost_on (admitted a) m (moment_but_group see (at shelf old) m is) m.world.group (world_group see g) next text (map member_in (hs a)) g'.base.sequence (written a) refl refl risen,
+  )))
+
+  -- a disk is without power
+  power_lost : AnyOf IsCut (members see g'.base) → StageGoes {T = Unit {0}} see stage.Join (pair ∷ []) (Err (stops.Ended (ends.Lost []))) (at shelf old) (at shelf now)
+  power_lost cut = power_lost_stage (admitted a) stage.Join (pair ∷ []) a.keeps hand_kept (λ m is. inr (inr (
+    x a,
+    joining a m is,
+    power_lost_on (admitted a) m (moment_but_group see (at shelf old) m is) m.world.group (world_group see g) next text (map member_in (hs a)) g'.base.sequence (written a) refl (subst (AnyOf IsCut) (sym (whole a)) cut),
+  )))
+
+-- a disk that is not given back is lost with the group or the power, by the commit that it was to join by
+module _ {P : Type 0} (see : P → Seen) (pair : DiskAt) (shelf : Shelved) (old now : House P) (keeps : KeepsHouse see old) (are_held : AreHeld shelf.held (holders see old)) (g g' : Imported P) (has : old.group ≡ Some g) (is_now : now.group ≡ Some g') (volumes : now.volumes ≡ old.volumes)
+    (t : Taken P) (slot : ℕ) (text : List ℕ) (next : Config) (in_hand : IsInHand pair t old.hand.items) (empty : now.hand.items ≡ []) (join : IsJoin see pair t g next text slot) where
+  pub lost_stage : (why : GroupFault) → AddGives see (Err (why, None)) text (disk_for see pair slot t) g.base g'.base → AddWrites see (Err (why, None)) text (disk_for see pair slot t) g.base g'.base → StageGoes {T = Unit {0}} see stage.Join (pair ∷ []) (Err (stop_of why)) (at shelf old) (at shelf now)
+  lost_stage fault.OutOfMemory gives writes = let e = gives.0 in absurd (cc)
+  lost_stage (fault.TooLong n) gives writes = let e = gives.2.0 in absurd (cc)
+  lost_stage fault.GroupLost (inl before) writes = let e = before.1.0 in absurd (cc)
+  lost_stage fault.GroupLost (inr (none, here)) writes = group_lost (record { keeps = keeps; held = are_held; has = has; is_now = is_now; volumes = volumes; in_hand = in_hand; empty = empty; join = join; taken = here.0; enlisted = writes }) here.2
+  lost_stage fault.PowerLost (inl before) writes = let e = before.1.0 in absurd (cc)
+  lost_stage fault.PowerLost (inr (none, here)) writes = power_lost (record { keeps = keeps; held = are_held; has = has; is_now = is_now; volumes = volumes; in_hand = in_hand; empty = empty; join = join; taken = here.0; enlisted = writes }) here.2
+
+-- the device has joined
+module _ {P : Type 0} {see : P → Seen} {shelf : Shelved} {pair : DiskAt} {old now : House P} {g g' : Imported P} {t : Taken P} {slot : ℕ} {text : List ℕ} (a : IsAdmitted see shelf pair old now g g' t slot text g'.config)
+    (added : IsAddedTo g'.base.sequence (length g.base.disks.items) text (with_disk see g.base (disk_for see pair slot t)) (members see g'.base)) (carries : CarriesText see (g.base.sequence + 1) text g'.base) where
+  abbrev first : ℕ
+  first = g.base.sequence + 1
+
+  abbrev number : ℕ
+  number = g'.base.sequence
+
+  base_named : g'.base.name ≡ g'.config.group
+  base_named = a.taken.name ∙ sym (same_name a)
+
+  done : AreDone (world_group see g) g'.config text number (hs a) (bs a) (js a) (ks a)
+  done = record {
+    low = subst (AllOf HasSlot) (sym (whole a)) (low_by (members see g'.base) carries.alive.ready);
+    headed = subst (AllOf (IsMemberOf g'.config.group)) (sym (whole a)) (subst (λ n. AllOf (IsMemberOf n) (members see g'.base)) base_named carries.alive.headed);
+    gives = subst (GivesNew g'.config.group first number text) (sym (whole a)) (subst (λ n. GivesNew n first number text (members see g'.base)) base_named carries.gives);
+    current = subst (λ l. AllOf (CarriesIfGood number (good_mask l) text) l) (sym (whole a)) added.done.current;
+    named = joins_named g.base.name first number text (λ mask. Unit {0}) (js a) (ks a) a.taken.joins ((refl, refl), tt);
+    exact = λ quiet.
+        let just = added.exact (subst (Each IsQuiet (hs a ++ js a)) (whole a) quiet) in (
+          subst (λ l. Each (WritesJust (sectors_of text)) l (bs a)) (front_is a) just.0,
+          subst (λ l. Each (WritesJust (2 + sectors_of text)) l (ks a)) (back_is a) just.1,
+        );
+  }
+
+  here : group_of see now.group ≡ Some (record { config = g'.config; good = good_mask (bs a ++ ks a); members = parties (x a); sequence = number })
+  here =
+      let is = ap (group_of see) a.is_now ∙ group_is see g' in
+      let good : good_mask (members see g'.base) ≡ good_mask (bs a ++ ks a) = ap good_mask (sym (whole a)) in
+      let same : map member_in (members see g'.base) ≡ parties (x a) = ap (map member_in) (sym (whole a)) ∙ map-append member_in (bs a) (ks a) ∙ ap (λ l. l ++ map member_in (ks a)) (same_members first number text (hs a) (bs a) a.taken.goes) ∙ ap (λ l. map member_in (hs a) ++ l) (joined_members g.base.name text (js a) (ks a) a.taken.joins) in
+      cc
+
+  now_kept : KeepsHouse see now
+  now_kept = record {
+    ordered = subst (IsOrdered (slice_cmp nat_cmp)) (sym a.volumes) a.keeps.ordered;
+    hand = hand_kept a;
+    volumes = volumes_kept see old now a.volumes a.keeps;
+    group = subst (λ o. IfSome o (IsGroupKept see)) (sym a.is_now) (kept_joined a carries);
+  }
+
+  joined : StageGoes {T = Unit {0}} see stage.Join (pair ∷ []) (Ok tt) (at shelf old) (at shelf now)
+  joined = done_stage (admitted a) stage.Join (pair ∷ []) a.keeps now_kept tt refl (λ m is. (
+    x a,
+    joining a m is,
+    group_committed_on (admitted a) m (moment_but_group see (at shelf old) m is) (group_of see now.group) (world_group see g) g'.config text (map member_in (hs a)) number (written a) done refl (any_good (bs a) added.done.some) here,
+  ))
+
+pub joined_stage : {P : Type 0} (see : P → Seen) (pair : DiskAt) (shelf : Shelved) (old now : House P) → KeepsHouse see old → AreHeld shelf.held (holders see old) → (g g' : Imported P) → old.group ≡ Some g → now.group ≡ Some g' → now.volumes ≡ old.volumes
+    → IsPlaced see pair (Ok tt) old.hand.items now.hand.items g g' → StageGoes {T = Unit {0}} see stage.Join (pair ∷ []) (Ok tt) (at shelf old) (at shelf now)
+joined_stage see pair shelf old now keeps are_held g g' has is_now volumes placed =
+    joined (record { keeps = keeps; held = are_held; has = has; is_now = is_now; volumes = volumes; in_hand = placed.hand; empty = placed.empty; join = placed.ends.join; taken = placed.ends.gives.0; enlisted = placed.ends.writes.0 }) placed.ends.writes.1 placed.ends.gives.1

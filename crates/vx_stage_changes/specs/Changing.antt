@@ -1,0 +1,29 @@
+-- What a change of the configuration leaves of the imported group.
+use Rattle.std.specs.Prelude.{◌≡◌, ℕ, List, [], Result, Ok, Err}
+use Rattle.vx_piece.specs.Seen.{Seen}
+use Rattle.vx_copies.specs.Commit.{HasRisen}
+use Rattle.vx_copies.specs.Disks.{IsCut}
+use Rattle.vx_copies.specs.Lists.{Each, AnyOf}
+use Rattle.vx_confdb.specs.Groups.{members}
+use Rattle.vx_objects.specs.declared.config.Config.{Config}
+use Rattle.vx_objects.specs.declared.edit.Edit.{Edit}
+use Rattle.vx_objects.specs.Applied.{IsEdited}
+use Rattle.vx_answers.specs.declared.answer.End.TheVariants as ends
+use Rattle.vx_house.specs.declared.house.Imported.{Imported}
+use Rattle.vx_house.specs.declared.stop.Stop.{Stop}
+use Rattle.vx_house.specs.declared.stop.Stop.TheVariants as stops
+use Rattle.vx_commits.specs.Committing.{IsTried, IsFinished}
+use Rattle.vx_stage_changes.specs.Planning.{IsShortText, IsUnplanned}
+
+-- a configuration that the edits make, and its text, were to be committed
+pub record IsMeant (edits : List Edit) (config next : Config) (text : List ℕ) : Type 0 where
+  pub edited : IsEdited edits config next
+  pub printed : IsShortText next text
+
+-- the change is done; or it is refused, and the group is as before; or the group or the power is lost
+abbrev pub ChangeEnds : {P : Type 0} → (P → Seen) → List Edit → Result (Unit {0}) Stop → Imported P → Imported P → Type 0
+ChangeEnds see edits (Ok u) old new = (text : List ℕ) × IsMeant edits old.config new.config text × IsFinished see text old.base new.base
+ChangeEnds see edits (Err stops.OutOfMemory) old new = new ≡ old
+ChangeEnds see edits (Err (stops.Ended ends.GroupLost)) old new = (next : Config) × (text : List ℕ) × IsMeant edits old.config next text × IsTried see text old.base new.base × Each HasRisen (members see old.base) (members see new.base)
+ChangeEnds see edits (Err (stops.Ended (ends.Lost parts))) old new = (parts ≡ []) × ((next : Config) × (text : List ℕ) × IsMeant edits old.config next text × IsTried see text old.base new.base × AnyOf IsCut (members see new.base))
+ChangeEnds see edits (Err (stops.Ended end)) old new = (new ≡ old) × IsUnplanned edits old.config (stops.Ended end)

@@ -1,0 +1,166 @@
+//! The tests of records that are to be added, in the order of the documentation.
+ghost use Rattle.std.specs.Prelude.{◌≡◌, ◌++◌, [], None, IfOk, IfErr};
+ghost use Rattle.vx_objects.specs.Config.{objects_of};
+ghost use Rattle.vx_plans.specs.Making.{adding_refusal, broken, refusal_among, started_name};
+ghost use Rattle.vx_plans.specs.Refusals.{refusal_from};
+ghost use Rattle.vx_rules.specs.Adding.{firsts, had_fault};
+ghost use Rattle.vx_rules.specs.Faults.{first_of};
+ghost use Rattle.vx_rules.specs.References.{repeated_after};
+ghost use Rattle.vx_stage_records.specs.Judging.{is_running, IsReady, IsUnready};
+
+use crate::adding::added_by;
+use std::alloc::Global;
+use std::collections::BTreeMap;
+use vx_answers::{End, Refusal};
+use vx_base::OutOfMemory;
+use vx_house::Stop;
+use vx_names::Name;
+use vx_objects::{Config, Object, Rule};
+use vx_plans::refusal_from;
+use vx_rules::{first_broken_by, first_had, firsts};
+use vx_started::Started;
+
+/// What is referred to is there.
+const REFERENCES: [Rule; 2] = [Rule::ReferencesAreThere, Rule::PreferredPlexIsThere];
+
+/// No limit is passed.
+const LIMITS: [Rule; 10] = [
+    Rule::RelationsAreAlone,
+    Rule::OneGroup,
+    Rule::SlotsDiffer,
+    Rule::VolumesAreFew,
+    Rule::NamesAreShort,
+    Rule::RegionSizesAreGood,
+    Rule::RegionsAreGood,
+    Rule::PlexesAreGood,
+    Rule::RelatedVolumesHaveOneShape,
+    Rule::NumbersFit,
+];
+
+/// Names differ, there is space, and there are logs and maps.
+const SPACE: [Rule; 7] = [
+    Rule::NamesDiffer,
+    Rule::SubdisksDoNotOverlap,
+    Rule::SubdisksLieInside,
+    Rule::PlexesAreWhole,
+    Rule::LogsAreGood,
+    Rule::RelatedVolumesHaveLogs,
+    Rule::MapsAreGood,
+];
+
+/// The records that the text adds to the configuration, where no test refuses them.
+pub(crate) fn judge<P>(
+    alloc: Global,
+    volumes: &BTreeMap<Name, Started<P>>,
+    config: &Config,
+    text: &[u8],
+) -> Result<Vec<Object>, Stop>
+    ensures ready { IfOk result (λ added. IsReady (is_running volumes.now) text.now (objects_of config.now) added.items) }
+    ensures unready { IfErr result (IsUnready (is_running volumes.now) text.now (objects_of config.now)) }
+{
+    let added = added_by(alloc, text)?;
+    let Ok(refusal) = refusal_in(alloc, volumes, config, &added) else {
+        return Err(Stop::OutOfMemory);
+    };
+    match refusal {
+        None => Ok(added),
+        Some(refusal) => Err(Stop::Ended(End::Refused(refusal))),
+    }
+}
+
+/// With which refusal the records cannot be added, if they cannot.
+fn refusal_in<P>(
+    alloc: Global,
+    volumes: &BTreeMap<Name, Started<P>>,
+    config: &Config,
+    added: &[Object],
+) -> Result<Option<Refusal>, OutOfMemory>
+    ensures { IfOk result (λ refusal. refusal ≡ adding_refusal (is_running volumes.now) (objects_of config.now) added.now) }
+{
+    let group = config.objects(alloc)?;
+    let all = behind(alloc, &group, added)?;
+    let known = firsts(alloc, &all)?;
+    refusal_among(alloc, volumes, &group, added, &known, &all)
+}
+
+fn refusal_among<P>(
+    alloc: Global,
+    volumes: &BTreeMap<Name, Started<P>>,
+    group: &[Object],
+    added: &[Object],
+    known: &[Object],
+    all: &[Object],
+) -> Result<Option<Refusal>, OutOfMemory>
+    requires group { repeated_after [] group.now ≡ None }
+    requires differ { repeated_after [] known.now ≡ None }
+    ensures { IfOk result (λ refusal. refusal ≡ refusal_among (is_running volumes.now) group.now added.now known.now all.now) }
+{
+    if let Some(refusal) = broken(alloc, &REFERENCES, known, all)? {
+        return Ok(Some(refusal));
+    }
+    if let Some(refusal) = had(alloc, group, added)? {
+        return Ok(Some(refusal));
+    }
+    if let Some(refusal) = broken(alloc, &LIMITS, known, all)? {
+        return Ok(Some(refusal));
+    }
+    if let Some(refusal) = started_name(volumes, added) {
+        return Ok(Some(refusal));
+    }
+    broken(alloc, &SPACE, known, all)
+}
+
+/// The refusal of the first record that refers to what the group has already.
+fn had(alloc: Global, group: &[Object], added: &[Object]) -> Result<Option<Refusal>, OutOfMemory>
+    requires group { repeated_after [] group.now ≡ None }
+    ensures { IfOk result (λ refusal. refusal ≡ refusal_from (first_of (had_fault group.now) added.now)) }
+{
+    let broken = first_had(alloc, group, added)?;
+    refusal_from(&broken)
+}
+
+/// The records of the group, and behind them those that are to be added.
+fn behind(alloc: Global, group: &[Object], added: &[Object]) -> Result<Vec<Object>, OutOfMemory>
+    ensures { IfOk result (λ all. all.items ≡ group.now ++ added.now) }
+{
+    let mut all = Vec::from_slice(alloc, group)?;
+    all.extend_from_slice(added)?;
+    Ok(all)
+}
+
+/// The refusal of the first of these rules that the records break.
+fn broken(
+    alloc: Global,
+    rules: &[Rule],
+    known: &[Object],
+    all: &[Object],
+) -> Result<Option<Refusal>, OutOfMemory>
+    requires differ { repeated_after [] known.now ≡ None }
+    ensures { IfOk result (λ refusal. refusal ≡ broken rules.now known.now all.now) }
+{
+    let broken = first_broken_by(alloc, rules, known, all)?;
+    refusal_from(&broken)
+}
+
+/// The refusal of the first volume that has the name of a started one.
+fn started_name<P>(volumes: &BTreeMap<Name, Started<P>>, added: &[Object]) -> Option<Refusal>
+    ensures { result ≡ started_name (is_running volumes.now) added.now }
+{
+    match added {
+        [] => None,
+        [Object::VolRecord(vol), rest @ ..] => {
+            if is_running(volumes, &vol.name) {
+                Some(Refusal::Exists(vol.name))
+            } else {
+                started_name(volumes, rest)
+            }
+        }
+        [_, rest @ ..] => started_name(volumes, rest),
+    }
+}
+
+fn is_running<P>(volumes: &BTreeMap<Name, Started<P>>, vol: &Name) -> bool
+    ensures { result ≡ is_running volumes.now vol.now }
+{
+    volumes.contains_key(vol)
+}

@@ -1,0 +1,44 @@
+//! The stage that adds the records of a text.
+ghost use Rattle.std.specs.Prelude.{List};
+ghost use Rattle.vx_house.specs.Goes.{IsReady, StageGoes};
+ghost use Rattle.vx_house.specs.Holders.{holders, AreHeld};
+ghost use Rattle.vx_house.specs.Scene.{Shelved};
+ghost use Rattle.vx_house.specs.View.{KeepsHouse, IsGroupKept, at};
+ghost use Rattle.vx_plans.specs.declared.stage.Stage.TheVariants as stages;
+ghost use Rattle.vx_script_words.specs.declared.value.DiskAt.{DiskAt};
+ghost use Rattle.vx_stage_records.specs.Judging.{is_running, MakeEnds};
+
+use crate::judging::judge;
+use std::alloc::Global;
+use std::collections::BTreeMap;
+use vx_answers::Refusal;
+use vx_house::{House, Imported, Stop, refused};
+use vx_names::Name;
+use vx_objects::{Edit, Listed};
+use vx_piece::Piece;
+use vx_stage_changes::commit_edits;
+use vx_started::Started;
+
+/// Adds the records of a text to the configuration of the imported group, and commits it.
+pub fn make<P: Piece>(alloc: Global, house: &mut House<P>, text: &[u8]) -> Result<(), Stop>
+    requires keeps { KeepsHouse P.seen house.old }
+    ensures goes { (disks : List DiskAt) (shelf : Shelved) → AreHeld shelf.held (holders P.seen house.old) → StageGoes P.seen (stages.Make text.now) disks result (at shelf house.old) (at shelf house.new) }
+{
+    match &mut house.group {
+        None => refused(Refusal::NoGroup(None)),
+        Some(group) => make_in(alloc, &house.volumes, group, text),
+    }
+}
+
+fn make_in<P: Piece>(
+    alloc: Global,
+    volumes: &BTreeMap<Name, Started<P>>,
+    group: &mut Imported<P>,
+    text: &[u8],
+) -> Result<(), Stop>
+    requires kept { IsGroupKept P.seen group.old }
+    ensures ends { MakeEnds P.seen (is_running volumes.now) text.now result group.old group.new }
+{
+    let added = judge(alloc, volumes, &group.config, text)?;
+    commit_edits(alloc, group, &[Edit::Make(Listed::from_vec(added))])
+}

@@ -17,8 +17,8 @@ use Rattle.vx_copies.specs.Image.{offer_in, offer_told}
 use Rattle.vx_import.specs.Looks.{Looked, HasReading, IsReading}
 use Rattle.vx_import.specs.Choice.{At, offers_read}
 use Rattle.vx_import.specs.Naming.{is_readable_slot, AllThere, IsGone, is_meant, damage_in, damage_read, IsWhole, IsHurt}
-use Rattle.vx_import.specs.declared.found.Reading.{Reading}
-use Rattle.vx_import.specs.declared.found.Reading.TheVariants as reading
+use Rattle.vx_import.specs.declared.device.Reading.{Reading}
+use Rattle.vx_import.specs.declared.device.Reading.TheVariants as reading
 use Rattle.vx_import.specs.declared.naming.Damage.{Damage}
 use Rattle.vx_plans.specs.Finding.{Candidate, offers_of, is_damaged, is_damaged_one, first_that, missing_from}
 use Rattle.vx_moments.specs.World.{Device}

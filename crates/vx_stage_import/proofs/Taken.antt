@@ -27,7 +27,7 @@ use Rattle.vx_moments.specs.Moment.{Moment, AreLater}
 use Rattle.vx_moments.specs.Copies.{IsTextOf}
 use Rattle.vx_moments.specs.Commit.{Writing, IsStopped}
 use Rattle.vx_plans.specs.Finding.{members_of, member_of, group_found, import_records}
-use Rattle.vx_plans.specs.Finding.{GroupDevice as Findings}
+use Rattle.vx_plans.specs.Finding.{Found}
 use Rattle.vx_plans.specs.Stages.{IsImporting, IsBetween, Stops}
 use Rattle.vx_plans.specs.declared.stage.Stage.TheVariants as stage
 use Rattle.vx_house.specs.Goes.{StageGoes}
@@ -179,7 +179,7 @@ module _ {P : Type 0} (see : P → Seen) (dg : Word) (names : List Word) (disks 
       rest = later;
     }
 
-    abbrev found : Findings dg m.world m.counts (counts_of taken)
+    abbrev found : Found dg m.world m.counts (counts_of taken)
     found = found_of see dg names first now h fs since m is taken (faults_moved (beside now (holders see h) fs) taken moved)
 
     linked : AllOf (IsLinked (unread_by fs)) fs

@@ -1,16 +1,16 @@
 -- How many sectors calls one after another hand to the pieces of a page.
-use Rattle.std.proofs.Common.{◌≡◌, ℕ, zero, suc, ◌+◌, ◌≤◌, Bool, true, false, refl, sym, ◌∙◌, ap, subst, arith, List, length, Result, Ok, Err}
-use Rattle.std.specs.Prelude.{not, IsTrue, ◌↔◌, if◌then◌else◌}
+use Rattle.std.proofs.Common.{◌≡◌, ℕ, zero, suc, ◌+◌, ◌<◌, ◌≤◌, Bool, true, false, refl, sym, ◌∙◌, ap, subst, arith, List, length, Result, Ok, Err}
+use Rattle.std.specs.Prelude.{not, IsTrue, OnOk, ◌↔◌}
 use Rattle.std.specs.Str.{bytes_eq}
 use Rattle.std.proofs.lemmas.Slice.Eq.{bytes_eq-Decides}
 use Rattle.vx_base.specs.Counts.{later_count}
 use Rattle.vx_sector.specs.Fields.{zeros}
 use Rattle.vx_mask.specs.Mask.{has}
 use Rattle.vx_marks.specs.declared.marker.MarkFault.{MarkFault}
-use Rattle.vx_pages.specs.Counts.{AreCounted, Hands, with_more}
+use Rattle.vx_pages.specs.Counts.{with_more}
 use Rattle.vx_pages.specs.Sector.{Copies, SectorHands, SectorSeen, Turns, copy_of}
-use Rattle.vx_pages.specs.Page.{EachSector}
-use Rattle.vx_pages.specs.Writes.{PageHands, is_open, once_if, writes_of}
+use Rattle.vx_pages.specs.Page.{AreAll, EachSector}
+use Rattle.vx_pages.specs.Writes.{IsShut, PageHands, is_open, once_if, writes_of}
 use Rattle.vx_pages.proofs.Whole.{each_then}
 
 -- ---- a sector
@@ -92,3 +92,15 @@ mark_hands bits result xs ys zs first last =
 
 pub firm_failed : (bits : ℕ) (fault : MarkFault) (xs ys : List SectorSeen) → PageHands {T = Unit {0}} (λ map s. once_if (is_open s)) (Err fault) xs ys → PageHands {T = Unit {0}} (writes_of bits) (Err fault) xs ys
 firm_failed bits fault xs ys h = record { size = h.size; each = λ m lt. hands_fewer _ _ fault _ _ (h.each m lt) }
+
+-- ---- nothing is open any more
+
+pub are_shut : (xs ys : List SectorSeen) → EachSector (λ map old new. IsShut new) xs ys → AreAll IsShut ys
+are_shut xs ys h m lt = let e = h.size in h.each m (omega (arith, e, lt))
+
+pub stay_shut : (result : Result (Unit {0}) MarkFault) (xs ys : List SectorSeen) → AreAll IsShut xs → OnOk result (EachSector (λ map old new. new.loose ≡ old.loose) xs ys) → OnOk result (AreAll IsShut ys)
+stay_shut (Ok u) xs ys shut same =
+    λ m lt.
+    let e = same.size in
+    let inside : m < length xs = omega (arith, e, lt) in ap (λ (bytes : List ℕ). not (bytes_eq bytes (zeros 512))) (same.each m inside) ∙ shut m inside
+stay_shut (Err fault) xs ys shut same = tt

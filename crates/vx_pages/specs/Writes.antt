@@ -1,5 +1,5 @@
 -- How many sectors a mark or an unmark writes.
-use Rattle.std.specs.Prelude.{ℕ, ◌+◌, not, Bool, if◌then◌else◌, List, Result}
+use Rattle.std.specs.Prelude.{◌≡◌, ℕ, ◌+◌, not, Bool, false, if◌then◌else◌, List, Result}
 use Rattle.std.specs.Str.{bytes_eq}
 use Rattle.vx_mask.specs.Mask.{has}
 use Rattle.vx_sector.specs.Fields.{zeros}
@@ -10,6 +10,10 @@ use Rattle.vx_pages.specs.Page.{EachSector}
 -- a failed call has left something of the sector open
 abbrev pub is_open : SectorSeen → Bool
 is_open s = not (bytes_eq s.loose (zeros 512))
+
+-- nothing of the sector is open
+abbrev pub IsShut : SectorSeen → Type 0
+IsShut s = is_open s ≡ false
 
 abbrev pub once_if : Bool → ℕ
 once_if there = if there then 1 else 0

@@ -1,4 +1,4 @@
-ghost use Rattle.std.specs.Prelude.{◌≡◌, ℕ, false};
+ghost use Rattle.std.specs.Prelude.{◌≡◌, ℕ, false, OnOk};
 ghost use Rattle.vx_pages.specs.Sector.{IsFormed};
 ghost use Rattle.vx_pages.specs.Pieces.{sector_of};
 
@@ -23,7 +23,7 @@ impl<P: LocalPiece> MapSector<P> {
     ghost use Rattle.vx_pages.specs.Sectors.{sector_seen};
     ghost use Rattle.vx_pages.specs.Bytes.{same_place};
     ghost use Rattle.vx_pages.specs.Sector.{BitOpened, HasCause, IsBitPut, IsFirm, IsTidied, NoneLoose, SectorHands, Turns, faults_at, is_cut, is_loose, is_sure};
-    ghost use Rattle.vx_pages.specs.Writes.{is_open, once_if};
+    ghost use Rattle.vx_pages.specs.Writes.{IsShut, is_open, once_if};
 
     /// Whether the sector has the sure bit of a region.
     pub fn is_marked(&self, region: u64) -> bool
@@ -47,7 +47,8 @@ impl<P: LocalPiece> MapSector<P> {
     /// Nothing is loose any more. No copy shows a loose mark.
     pub fn forget(&mut self)
         requires { IsFirm (sector_seen P.seen self.old) }
-        ensures { Turns NoneLoose (sector_seen P.seen self.old) (sector_seen P.seen self.new) }
+        ensures turns { Turns NoneLoose (sector_seen P.seen self.old) (sector_seen P.seen self.new) }
+        ensures shut { IsShut (sector_seen P.seen self.new) }
     {
         put_none(&mut self.loose);
     }
@@ -58,6 +59,7 @@ impl<P: LocalPiece> MapSector<P> {
         ensures goes { IsBitPut (same_place region) on result (sector_seen P.seen self.old) (sector_seen P.seen self.new) }
         ensures cause { HasCause (faults_at (sector_seen P.seen self.old).copies) (faults_at (sector_seen P.seen self.new).copies) (is_cut (sector_seen P.seen self.new).copies) result }
         ensures counts { SectorHands 1 result (sector_seen P.seen self.old).copies (sector_seen P.seen self.new).copies }
+        ensures same { OnOk result ((sector_seen P.seen self.new).loose ≡ (sector_seen P.seen self.old).loose) }
     {
         put_bit(&mut self.sure, region, on);
         if let Err(fault) = put(&mut self.first, &mut self.second, &self.sure) {
@@ -92,6 +94,7 @@ impl<P: LocalPiece> MapSector<P> {
         ensures goes { IsBitPut (λ other. asked && same_place region other) on result (sector_seen P.seen self.old) (sector_seen P.seen self.new) }
         ensures cause { HasCause (faults_at (sector_seen P.seen self.old).copies) (faults_at (sector_seen P.seen self.new).copies) (is_cut (sector_seen P.seen self.new).copies) result }
         ensures counts { SectorHands (once_if asked) result (sector_seen P.seen self.old).copies (sector_seen P.seen self.new).copies }
+        ensures same { OnOk result ((sector_seen P.seen self.new).loose ≡ (sector_seen P.seen self.old).loose) }
     {
         if asked {
             self.put_mark(region, on)

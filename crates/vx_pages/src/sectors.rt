@@ -1,6 +1,6 @@
 //! The sectors of a page, one for each map.
 
-ghost use Rattle.std.specs.Prelude.{◌≡◌, ℕ, ◌<◌, ◌==◌, ◌&&◌, ◌||◌, length};
+ghost use Rattle.std.specs.Prelude.{◌≡◌, ℕ, ◌<◌, ◌==◌, ◌&&◌, ◌||◌, length, OnOk};
 ghost use Rattle.vx_mask.specs.Mask.{has};
 ghost use Rattle.vx_pages.specs.Sector.{BitOpened, HasCause, IsBitPut, IsFirm, IsTidied, NoneLoose, Turns, is_loose, is_sure};
 ghost use Rattle.vx_pages.specs.Page.{AreClean, EachSector, IsChanged, IsFirmed, IsMarkedIn, IsUnmarkedIn, asked, cut_in, faults_in, sector_at, sectors_seen};
@@ -11,7 +11,7 @@ ghost use Rattle.vx_mapfmt.specs.Bits.{bit_in};
 ghost use Rattle.vx_pages.specs.Sector.{IsOpen};
 ghost use Rattle.vx_pages.specs.Setting.{IsSetIn, SetEach};
 ghost use Rattle.vx_pages.specs.Page.{AreAll};
-ghost use Rattle.vx_pages.specs.Writes.{PageHands, is_open, once_if, writes_of};
+ghost use Rattle.vx_pages.specs.Writes.{IsShut, PageHands, is_open, once_if, writes_of};
 
 use crate::local_piece::LocalPiece;
 use crate::sector::MapSector;
@@ -36,7 +36,8 @@ pub fn tidy_all<P: LocalPiece>(sectors: &mut Vec<MapSector<P>>) -> Result<(), Ma
 /// Nothing is loose any more.
 pub fn forget_all<P: LocalPiece>(sectors: &mut Vec<MapSector<P>>)
     requires { (map : ℕ) → map < length sectors.old.items → IsFirm (sector_at (sectors_seen P.seen sectors.old.items) map) }
-    ensures { EachSector (λ map. Turns NoneLoose) (sectors_seen P.seen sectors.old.items) (sectors_seen P.seen sectors.new.items) }
+    ensures turns { EachSector (λ map. Turns NoneLoose) (sectors_seen P.seen sectors.old.items) (sectors_seen P.seen sectors.new.items) }
+    ensures shut { EachSector (λ map old new. IsShut new) (sectors_seen P.seen sectors.old.items) (sectors_seen P.seen sectors.new.items) }
 {
     for map in 0..sectors.len() {
         let sector = &mut sectors[map];
@@ -56,6 +57,7 @@ pub fn put_all<P: LocalPiece>(
     ensures each { EachSector (λ map. IsBitPut (asked bits region map) on result) (sectors_seen P.seen sectors.old.items) (sectors_seen P.seen sectors.new.items) }
     ensures cause { HasCause (faults_in (sectors_seen P.seen sectors.old.items)) (faults_in (sectors_seen P.seen sectors.new.items)) (cut_in (sectors_seen P.seen sectors.new.items)) result }
     ensures counts { PageHands (λ map s. once_if (has bits map)) result (sectors_seen P.seen sectors.old.items) (sectors_seen P.seen sectors.new.items) }
+    ensures same { OnOk result (EachSector (λ map old new. new.loose ≡ old.loose) (sectors_seen P.seen sectors.old.items) (sectors_seen P.seen sectors.new.items)) }
 {
     for map in 0..32 {
         let sector = &mut sectors[map];
@@ -82,6 +84,7 @@ pub fn firm_all<P: LocalPiece>(sectors: &mut Vec<MapSector<P>>) -> Result<(), Ma
     ensures each { IsFirmed result (sectors_seen P.seen sectors.old.items) (sectors_seen P.seen sectors.new.items) }
     ensures cause { HasCause (faults_in (sectors_seen P.seen sectors.old.items)) (faults_in (sectors_seen P.seen sectors.new.items)) (cut_in (sectors_seen P.seen sectors.new.items)) result }
     ensures counts { PageHands (λ map s. once_if (is_open s)) result (sectors_seen P.seen sectors.old.items) (sectors_seen P.seen sectors.new.items) }
+    ensures shut { OnOk result (AreAll IsShut (sectors_seen P.seen sectors.new.items)) }
 {
     if let Err(fault) = tidy_all(sectors) {
         return Err(fault);
@@ -102,6 +105,7 @@ pub fn change_all<P: LocalPiece>(
     ensures each { IsChanged bits region on result (sectors_seen P.seen sectors.old.items) (sectors_seen P.seen sectors.new.items) }
     ensures cause { HasCause (faults_in (sectors_seen P.seen sectors.old.items)) (faults_in (sectors_seen P.seen sectors.new.items)) (cut_in (sectors_seen P.seen sectors.new.items)) result }
     ensures counts { PageHands (λ map s. once_if (has bits map)) result (sectors_seen P.seen sectors.old.items) (sectors_seen P.seen sectors.new.items) }
+    ensures same { OnOk result (EachSector (λ map old new. new.loose ≡ old.loose) (sectors_seen P.seen sectors.old.items) (sectors_seen P.seen sectors.new.items)) }
 {
     if let Err(fault) = put_all(sectors, region, bits, on) {
         open_all(sectors, region, bits);
@@ -120,6 +124,7 @@ pub fn mark_all<P: LocalPiece>(
     ensures each { IsMarkedIn bits region result (sectors_seen P.seen sectors.old.items) (sectors_seen P.seen sectors.new.items) }
     ensures cause { HasCause (faults_in (sectors_seen P.seen sectors.old.items)) (faults_in (sectors_seen P.seen sectors.new.items)) (cut_in (sectors_seen P.seen sectors.new.items)) result }
     ensures counts { PageHands (writes_of bits) result (sectors_seen P.seen sectors.old.items) (sectors_seen P.seen sectors.new.items) }
+    ensures shut { OnOk result (AreAll IsShut (sectors_seen P.seen sectors.new.items)) }
 {
     if let Err(fault) = firm_all(sectors) {
         return Err(fault);
@@ -137,6 +142,7 @@ pub fn unmark_all<P: LocalPiece>(
     ensures each { IsUnmarkedIn bits region result (sectors_seen P.seen sectors.old.items) (sectors_seen P.seen sectors.new.items) }
     ensures cause { HasCause (faults_in (sectors_seen P.seen sectors.old.items)) (faults_in (sectors_seen P.seen sectors.new.items)) (cut_in (sectors_seen P.seen sectors.new.items)) result }
     ensures counts { PageHands (writes_of bits) result (sectors_seen P.seen sectors.old.items) (sectors_seen P.seen sectors.new.items) }
+    ensures shut { OnOk result (AreAll IsShut (sectors_seen P.seen sectors.new.items)) }
 {
     if let Err(fault) = firm_all(sectors) {
         open_all(sectors, region, bits);

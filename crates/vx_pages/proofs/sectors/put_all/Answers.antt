@@ -1,5 +1,5 @@
 use Rattle.std.proofs.Common.{◌<◌, ◌∙◌, ap, length, arith, rules, subst, Bool, Result, Ok, Err}
-use Rattle.std.specs.Prelude.{◌&&◌}
+use Rattle.std.specs.Prelude.{◌≡◌, ◌&&◌, OnOk}
 use Rattle.vx_marks.specs.declared.marker.MarkFault.{MarkFault}
 use Rattle.vx_pages.specs.Bytes.{same_place}
 use Rattle.vx_pages.specs.Sector.{SectorHands, SectorSeen, IsBitPut, HasCause, faults_at, is_cut, is_loose}
@@ -56,4 +56,7 @@ loop-map-preserved g c =
           goes_on (sector_seen g.P.LocalPiece.seen) _ _ c.loop-map.sectors.items c.loop-map.map c.index_mut-sector.result.now c.put_if.new.self lt c.index_mut-sector.ensures.value c.loop-map.invariant.counted
           (subst (λ (b : Bool). SectorHands {T = Unit {0}} (once_if b) (Ok tt) (sector_seen g.P.LocalPiece.seen c.index_mut-sector.result.now).copies (sector_seen g.P.LocalPiece.seen c.put_if.new.self).copies) c.contains.ensures
           (subst (λ (r : Result (Unit {0}) MarkFault). SectorHands (once_if c.contains.result) r (sector_seen g.P.LocalPiece.seen c.index_mut-sector.result.now).copies (sector_seen g.P.LocalPiece.seen c.put_if.new.self).copies) c.in_default.is c.put_if.ensures.counts));
+      same =
+          goes_on (sector_seen g.P.LocalPiece.seen) _ _ c.loop-map.sectors.items c.loop-map.map c.index_mut-sector.result.now c.put_if.new.self lt c.index_mut-sector.ensures.value c.loop-map.invariant.same
+          (subst (λ (r : Result (Unit {0}) MarkFault). OnOk r ((sector_seen g.P.LocalPiece.seen c.put_if.new.self).loose ≡ (sector_seen g.P.LocalPiece.seen c.index_mut-sector.result.now).loose)) c.in_default.is c.put_if.ensures.same);
     }

@@ -12,4 +12,5 @@ invariant-loop-map g l = record {
   size : length l.sectors.items ≡ 32;
   quiet : (copy device : ℕ) → faults_in (sectors_seen g.P.LocalPiece.seen l.sectors.items) copy device ≡ faults_in (sectors_seen g.P.LocalPiece.seen l.fn.sectors.items) copy device;
   counted : Went (λ map a b. SectorHands {T = Unit {0}} (once_if (has l.bits map)) (Ok tt) a.copies b.copies) l.map (sectors_seen g.P.LocalPiece.seen l.fn.sectors.items) (sectors_seen g.P.LocalPiece.seen l.sectors.items);
+  same : Went (λ map old new. new.loose ≡ old.loose) l.map (sectors_seen g.P.LocalPiece.seen l.fn.sectors.items) (sectors_seen g.P.LocalPiece.seen l.sectors.items);
 }

@@ -4,7 +4,7 @@ use Rattle.vx_pages.specs.Page.{asked}
 use Rattle.vx_pages.proofs.Ways.{leaves_open}
 use Rattle.vx_pages.proofs.Whole.{unmarked, each_then, turned_faults, turned_cut, cause_stays}
 use Rattle.vx_pages.specs.Writes.{writes_of}
-use Rattle.vx_pages.proofs.Handing.{firm_failed, mark_hands, turned_hands}
+use Rattle.vx_pages.proofs.Handing.{firm_failed, mark_hands, stay_shut, turned_hands}
 use Rattle.vx_pages.proofs.sectors.unmark_all.Goals as goal
 
 pub returns-in-Err-clause-each : goal.returns-in-Err-clause-each
@@ -25,3 +25,6 @@ returns-in-Err-clause-counts g c =
 
 pub returns-clause-counts : goal.returns-clause-counts
 returns-clause-counts g c = mark_hands c.args.bits c.change_all.result _ _ _ c.in_default.ensures.counts c.change_all.ensures.counts
+
+pub returns-clause-shut : goal.returns-clause-shut
+returns-clause-shut g c = stay_shut c.change_all.result _ _ c.in_default.ensures.shut c.change_all.ensures.same

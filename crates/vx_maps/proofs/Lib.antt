@@ -11,6 +11,7 @@ pub mod Filling
 pub mod Finding
 pub mod Firming
 pub mod Growing
+pub mod Handed
 pub mod Heading
 pub mod Heads
 pub mod Held

@@ -12,3 +12,4 @@ pub mod Spares
 pub mod Store
 pub mod Stores
 pub mod Wholes
+pub mod Writes

@@ -112,7 +112,15 @@ impl<P: LocalPiece> MapStore<P> {
 }
 
 impl<P: LocalPiece> Marker for MapStore<P> {
+    ghost use Rattle.std.specs.Prelude.{true, OnOk};
+    ghost use Rattle.vx_marks.specs.Log.{ChangesAt, ClaimsAt, IsAskable, IsClaimedAs, IsMarkedAs, IsUnclaimedAs, IsUnmarkedAs, KeepsLog, MarkHasCause, OnMarks};
+    ghost use Rattle.vx_pages.specs.Pages.{grid_seen};
+    ghost use Rattle.vx_pages.specs.Page.{AreAll};
+    ghost use Rattle.vx_pages.specs.Writes.{IsShut, writes_of};
     ghost use Rattle.vx_maps.specs.Store.{store_log};
+    ghost use Rattle.vx_maps.specs.Stores.{store_seen};
+    ghost use Rattle.vx_maps.specs.Slots.{row_at};
+    ghost use Rattle.vx_maps.specs.Writes.{StoreHands};
     ghost use Rattle.vx_pages.specs.Sector.{KeepsPiece};
     ghost use Rattle.vx_maps.specs.Going.{StoreGoes};
     ghost use Rattle.vx_maps.specs.Onward.{store_kept, store_kept_on};
@@ -125,12 +133,32 @@ impl<P: LocalPiece> Marker for MapStore<P> {
         self.pages[(region / 4096) as usize].marked(region)
     }
 
-    fn mark(&mut self, region: u64, bits: u64) -> Result<(), MarkFault> {
+    fn mark(&mut self, region: u64, bits: u64) -> Result<(), MarkFault>
+        requires { IsAskable (store_seen P.seen self.old) region bits }
+        ensures kept { KeepsLog (store_seen P.seen self.old) (store_seen P.seen self.new) }
+        ensures told { (store_seen P.seen self.old).there ≡ true → OnMarks (ChangesAt region (IsMarkedAs bits result)) (store_seen P.seen self.old).told (store_seen P.seen self.new).told }
+        ensures claims { (store_seen P.seen self.old).there ≡ true → ClaimsAt region (IsClaimedAs bits result) (store_seen P.seen self.old).claims (store_seen P.seen self.new).claims }
+        ensures cause { MarkHasCause (store_seen P.seen self.old) (store_seen P.seen self.new) result }
+        ensures follows { StoreGoes P.seen KeepsPiece self.old self.new }
+        ensures base { self.new.base ≡ self.old.base }
+        ensures counts { StoreHands (region / 4096) (writes_of bits) result (grid_seen P.seen self.old.pages.items) (grid_seen P.seen self.new.pages.items) }
+        ensures shut { OnOk result (AreAll IsShut (row_at (grid_seen P.seen self.new.pages.items) (region / 4096))) }
+    {
         let page = &mut self.pages[(region / 4096) as usize];
         page.mark(region, bits)
     }
 
-    fn unmark(&mut self, region: u64, bits: u64) -> Result<(), MarkFault> {
+    fn unmark(&mut self, region: u64, bits: u64) -> Result<(), MarkFault>
+        requires { IsAskable (store_seen P.seen self.old) region bits }
+        ensures kept { KeepsLog (store_seen P.seen self.old) (store_seen P.seen self.new) }
+        ensures told { (store_seen P.seen self.old).there ≡ true → OnMarks (ChangesAt region (IsUnmarkedAs bits result)) (store_seen P.seen self.old).told (store_seen P.seen self.new).told }
+        ensures claims { (store_seen P.seen self.old).there ≡ true → ClaimsAt region (IsUnclaimedAs bits result) (store_seen P.seen self.old).claims (store_seen P.seen self.new).claims }
+        ensures cause { MarkHasCause (store_seen P.seen self.old) (store_seen P.seen self.new) result }
+        ensures follows { StoreGoes P.seen KeepsPiece self.old self.new }
+        ensures base { self.new.base ≡ self.old.base }
+        ensures counts { StoreHands (region / 4096) (writes_of bits) result (grid_seen P.seen self.old.pages.items) (grid_seen P.seen self.new.pages.items) }
+        ensures shut { OnOk result (AreAll IsShut (row_at (grid_seen P.seen self.new.pages.items) (region / 4096))) }
+    {
         let page = &mut self.pages[(region / 4096) as usize];
         page.unmark(region, bits)
     }

@@ -1,7 +1,7 @@
 -- What calls keep of a piece.
 use Rattle.std.proofs.Common.{refl, ◌∙◌, arith}
 use Rattle.vx_pages.specs.Stays.{piece_same, piece_then}
-use Rattle.vx_pages.specs.Sector.{Copies, KeepsCopies, KeepsPiece, copy_of}
+use Rattle.vx_pages.specs.Sector.{Copies, KeepsCopies, copy_of}
 
 pub copies_same : (c : Copies) → KeepsCopies c c
 copies_same c = record { each = λ n. piece_same (copy_of c n); sectors = λ h. h; pair = refl; tells = refl; faults = λ copy device. omega arith; cut = λ h. h }

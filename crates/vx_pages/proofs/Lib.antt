@@ -2,6 +2,7 @@ pub mod Bits
 pub mod Clipping
 pub mod Differing
 pub mod Going
+pub mod Handing
 pub mod Items
 pub mod Keeping
 pub mod Loops

@@ -1,18 +1,19 @@
 -- How a sector is written on one copy after the other.
 use Rattle.std.proofs.Common.{◌≡◌, ◌≢◌, ◌⊎◌, inl, inr, ℕ, zero, suc, ◌≤◌, Bool, true, false, refl, sym, ◌∙◌, subst, arith, List, length, Option, Some, None, Result, Ok, Err}
-use Rattle.std.specs.Prelude.{◌==◌, ◌&&◌, ◌||◌, is_some, if◌then◌else◌}
+use Rattle.std.specs.Prelude.{◌+◌, ◌/◌, ◌==◌, ◌&&◌, ◌||◌, is_some, if◌then◌else◌}
 use Rattle.std.proofs.lemmas.List.{take_all}
 use Rattle.std.proofs.lemmas.Bool.{cond-true, cond-false, eq-eqb, ne_eqb}
-use Rattle.vx_base.specs.Counts.{Rose}
+use Rattle.vx_base.specs.Counts.{Rose, later_count}
 use Rattle.vx_base.specs.Blocks.{Contents, block_at, written}
 use Rattle.vx_base.proofs.BlockLemmas.{written_in}
-use Rattle.vx_piece.specs.Seen.{Seen, Keeps, Writes, IsWritten, HasCause as HasPieceCause}
+use Rattle.vx_piece.specs.Seen.{Seen, Keeps, Writes, IsOff, IsWritten, HasCause as HasPieceCause}
 use Rattle.vx_piece.specs.declared.piece.PieceFault.{PieceFault}
 use Rattle.vx_piece.specs.declared.piece.PieceFault.TheVariants as piece
 use Rattle.vx_runs.specs.Part.{told_or}
 use Rattle.vx_marks.specs.declared.marker.MarkFault.{MarkFault}
 use Rattle.vx_marks.specs.declared.marker.MarkFault.TheVariants.{Failed, PowerLost, Busy}
-use Rattle.vx_pages.specs.Sector.{KeepsPiece, copy_of, held, faults_on, faults_at, is_cut, KeepsCopies, RiseAt, HasCause, Holds, IsPut}
+use Rattle.vx_pages.specs.Sector.{KeepsPiece, copy_of, held, faults_on, faults_at, is_cut, KeepsCopies, RiseAt, HasCause, Holds, IsPut, SectorHands}
+use Rattle.vx_pages.specs.Counts.{Hands}
 use Rattle.vx_pages.specs.Pieces.{PieceCause, IsPutOn}
 use Rattle.vx_pages.specs.Stays.{piece_same}
 
@@ -41,9 +42,26 @@ told_torn bytes None new e len w t = cc
 told_torn bytes (Some old) None e len w t = absurd w
 told_torn bytes (Some old) (Some new) e len w t = elim (w 0) [ inl same ↦ inl same | inr is ↦ inr (is ∙ put_block bytes old len) ]
 
+-- one sector was handed over
+one_done : (cut : Bool) (old new len : ℕ) → len ≡ 512 → cut ≢ true → new ≡ (if cut then old else later_count old (len / 512)) → new ≡ later_count old 1
+one_done true old new len whole on is = absurd (on refl)
+one_done false old new len whole on is = omega (arith, whole, is)
+
+one_most : (cut : Bool) (old new len : ℕ) → len ≡ 512 → new ≡ (if cut then old else later_count old (len / 512)) → new ≤ old + 1
+one_most true old new len whole is = omega (arith, is)
+one_most false old new len whole is = omega (arith, whole, is)
+
 module _ (number : ℕ) (bytes : List ℕ) (old new : Seen) (len : length bytes ≡ 512) (kept : Keeps old new) where
-  pub put_well : IsWritten {T = Unit {0}} {E = PieceFault} 0 bytes old new (Ok tt) → HasPieceCause {T = Unit {0}} old new (Ok tt) → IsPutOn {T = Unit {0}} number bytes old new (Ok tt)
-  put_well w cause = record { kept = kept; tells = told_same bytes old.told new.told _ w.told; holds = told_put bytes old.told new.told len w.told; cause = cause.quiet }
+  pub put_well : IsWritten {T = Unit {0}} {E = PieceFault} 0 bytes old new (Ok tt) → (old.cut ≡ true → IsOff {T = Unit {0}} old new (Ok tt)) → HasPieceCause {T = Unit {0}} old new (Ok tt) →
+      IsPutOn {T = Unit {0}} number bytes old new (Ok tt)
+  put_well w off cause =
+      record {
+        kept = kept;
+        tells = told_same bytes old.told new.told _ w.told;
+        holds = told_put bytes old.told new.told len w.told;
+        cause = cause.quiet;
+        counts = record { writes = one_done old.cut _ _ (length bytes) len (λ cut. let e = (off cut).answer in cc) w.writes; reads = w.reads };
+      }
 
   pub put_failed : (result : Result (Unit {0}) PieceFault) (device : ℕ) → result ≡ Err piece.Failed → device ≡ old.device → IsWritten 0 bytes old new result → HasPieceCause old new result →
       IsPutOn {T = Unit {0}} number bytes old new (Err (Failed number device))
@@ -53,6 +71,7 @@ module _ (number : ℕ) (bytes : List ℕ) (old new : Seen) (len : length bytes 
         tells = told_same bytes old.told new.told _ w.told;
         holds = told_torn bytes old.told new.told piece.Failed len (subst (λ (r : Result (Unit {0}) PieceFault). Writes 0 bytes old.told new.told r) is w.told);
         cause = (refl, who, cause.failed is);
+        counts = record { writes = one_most old.cut _ _ (length bytes) len w.writes; reads = w.reads };
       }
 
   pub put_cut : (result : Result (Unit {0}) PieceFault) → result ≡ Err piece.PowerLost → IsWritten 0 bytes old new result → HasPieceCause old new result → IsPutOn {T = Unit {0}} number bytes old new (Err PowerLost)
@@ -62,6 +81,7 @@ module _ (number : ℕ) (bytes : List ℕ) (old new : Seen) (len : length bytes 
         tells = told_same bytes old.told new.told _ w.told;
         holds = told_torn bytes old.told new.told piece.PowerLost len (subst (λ (r : Result (Unit {0}) PieceFault). Writes 0 bytes old.told new.told r) is w.told);
         cause = cause.cut is;
+        counts = record { writes = one_most old.cut _ _ (length bytes) len w.writes; reads = w.reads };
       }
 
 -- ---- the pieces of both copies
@@ -200,6 +220,37 @@ second_cause f f' p q (Err PowerLost) one quiet h cause = or_right f'.cut q.cut 
     or_right false y e = e
 second_cause f f' p q (Err Busy) one quiet h cause = cause
 
+-- ---- counts
+
+no_hands : (p : Seen) (fault : MarkFault) → Hands {T = Unit {0}} 1 (Err fault) p p
+no_hands p fault = record { writes = omega arith; reads = refl }
+
+one_hands : (p q : Seen) (result : Result (Unit {0}) MarkFault) → Hands {T = Unit {0}} 1 (Ok tt) p q → Hands 1 result p q
+one_hands p q (Ok u) h = h
+one_hands p q (Err fault) h = record { writes = let e = h.writes in omega (arith, e); reads = h.reads }
+
+first_hands : (f f' : Seen) (s : Option Seen) (fault : MarkFault) → Hands {T = Unit {0}} 1 (Err fault) f f' → SectorHands {T = Unit {0}} 1 (Err fault) (record { first = f; second = s }) (record { first = f'; second = s })
+first_hands f f' s fault h = record { each = each s; idle = λ e. absurd (omega (arith, e)) }
+  where
+    each : (s : Option Seen) (k : ℕ) → Hands {T = Unit {0}} 1 (Err fault) (copy_of (record { first = f; second = s }) k) (copy_of (record { first = f'; second = s }) k)
+    each s zero = h
+    each None (suc k) = h
+    each (Some p) (suc k) = no_hands p fault
+
+only_hands : (f f' : Seen) → Hands {T = Unit {0}} 1 (Ok tt) f f' → SectorHands {T = Unit {0}} 1 (Ok tt) (record { first = f; second = None }) (record { first = f'; second = None })
+only_hands f f' h = record { each = each; idle = λ e. absurd (omega (arith, e)) }
+  where
+    each : (k : ℕ) → Hands {T = Unit {0}} 1 (Ok tt) (copy_of (record { first = f; second = None }) k) (copy_of (record { first = f'; second = None }) k)
+    each zero = h
+    each (suc k) = h
+
+both_hands : (f f' p q : Seen) (result : Result (Unit {0}) MarkFault) → Hands {T = Unit {0}} 1 (Ok tt) f f' → Hands 1 result p q → SectorHands 1 result (record { first = f; second = Some p }) (record { first = f'; second = Some q })
+both_hands f f' p q result one two = record { each = each; idle = λ e. absurd (omega (arith, e)) }
+  where
+    each : (k : ℕ) → Hands 1 result (copy_of (record { first = f; second = Some p }) k) (copy_of (record { first = f'; second = Some q }) k)
+    each zero = one_hands f f' result one
+    each (suc k) = two
+
 -- ---- the whole
 
 pub and_first : (x y : Bool) → (x && y) ≡ true → x ≡ true
@@ -214,7 +265,7 @@ pub put_stops : (bytes : List ℕ) (f f' : Seen) (s : Option Seen) (fault : Mark
     IsPut {T = Unit {0}} bytes (record { first = f; second = s }) (record { first = f'; second = s }) (Err fault)
 put_stops bytes f f' s fault h =
     let step : KeepsPiece f f' = steps_of 0 bytes f f' (Err fault) h in
-    record { kept = keeps_pair f f' s s step (no_second_step s); holds = λ t n. holds s (and_first _ _ t) n; cause = first_cause f f' s fault step h.cause }
+    record { kept = keeps_pair f f' s s step (no_second_step s); holds = λ t n. holds s (and_first _ _ t) n; cause = first_cause f f' s fault step h.cause; counts = first_hands f f' s fault h.counts }
   where
     holds : (s : Option Seen) → is_some f.told ≡ true → (n : ℕ) → Holds {T = Unit {0}} bytes (held (record { first = f; second = s }) n) (held (record { first = f'; second = s }) n) (Err fault)
     holds s t zero = h.holds t
@@ -224,7 +275,7 @@ put_stops bytes f f' s fault h =
 pub put_only : (bytes : List ℕ) (f f' : Seen) → IsPutOn {T = Unit {0}} 0 bytes f f' (Ok tt) → IsPut {T = Unit {0}} bytes (record { first = f; second = None }) (record { first = f'; second = None }) (Ok tt)
 put_only bytes f f' h =
     let step : KeepsPiece f f' = steps_of {T = Unit {0}} 0 bytes f f' (Ok tt) h in
-    record { kept = keeps_pair f f' None None step tt; holds = λ t n. holds (and_first _ _ t) n; cause = same step }
+    record { kept = keeps_pair f f' None None step tt; holds = λ t n. holds (and_first _ _ t) n; cause = same step; counts = only_hands f f' h.counts }
   where
     holds : is_some f.told ≡ true → (n : ℕ) → held (record { first = f'; second = None }) n ≡ bytes
     holds t zero = h.holds t
@@ -244,6 +295,7 @@ put_both bytes f f' p q result one two =
       kept = keeps_pair f f' (Some p) (Some q) first second;
       holds = λ t n. holds result (and_first _ _ t) two.holds (and_second _ _ t) n;
       cause = second_cause f f' p q result first one.cause second two.cause;
+      counts = both_hands f f' p q result one.counts two.counts;
     }
   where
     holds : (result : Result (Unit {0}) MarkFault) → is_some f.told ≡ true → (is_some p.told ≡ true → Holds bytes (told_or p.told 0) (told_or q.told 0) result) → is_some p.told ≡ true → (n : ℕ) →

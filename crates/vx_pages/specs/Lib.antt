@@ -1,5 +1,6 @@
 pub mod Arming
 pub mod Bytes
+pub mod Counts
 pub mod Firm
 pub mod Images
 pub mod Items
@@ -11,3 +12,4 @@ pub mod Sector
 pub mod Sectors
 pub mod Setting
 pub mod Stays
+pub mod Writes

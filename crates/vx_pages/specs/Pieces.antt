@@ -6,6 +6,7 @@ use Rattle.vx_piece.specs.Seen.{Seen, Keeps}
 use Rattle.vx_runs.specs.Part.{told_or}
 use Rattle.vx_marks.specs.declared.marker.MarkFault.{MarkFault}
 use Rattle.vx_marks.specs.declared.marker.MarkFault.TheVariants.{Failed, PowerLost, Busy}
+use Rattle.vx_pages.specs.Counts.{Hands}
 use Rattle.vx_pages.specs.Sector.{Copies, SectorSeen, Holds}
 
 abbrev pub copies_of : {P : Type 0} → (P → Seen) → P → Option P → Copies
@@ -24,6 +25,7 @@ pub record IsPutOn {T : Type 0} (number : ℕ) (bytes : List ℕ) (old new : See
   pub tells : is_some new.told ≡ is_some old.told
   pub holds : is_some old.told ≡ true → Holds bytes (told_or old.told 0) (told_or new.told 0) result
   pub cause : PieceCause number old new result
+  pub counts : Hands 1 result old new
 
 abbrev pub sector_of : {P : Type 0} → (P → Seen) → P → Option P → List ℕ → List ℕ → SectorSeen
 sector_of seen first second sure loose = record { copies = copies_of seen first second; sure = sure; loose = loose }

@@ -6,6 +6,7 @@ use Rattle.vx_mapfmt.specs.Bits.{bit_in}
 use Rattle.vx_piece.specs.Seen.{Seen, Keeps}
 use Rattle.vx_runs.specs.Part.{told_or}
 use Rattle.vx_pages.specs.Bytes.{full}
+use Rattle.vx_pages.specs.Counts.{Hands}
 use Rattle.vx_marks.specs.Log.{IsOther}
 use Rattle.vx_marks.specs.declared.marker.MarkFault.{MarkFault}
 use Rattle.vx_marks.specs.declared.marker.MarkFault.TheVariants.{Failed, PowerLost, Busy}
@@ -105,11 +106,17 @@ abbrev pub Holds : {T : Type 0} → List ℕ → List ℕ → List ℕ → Resul
 Holds bytes old new (Ok u) = new ≡ bytes
 Holds bytes old new (Err fault) = (new ≡ old) ⊎ (new ≡ bytes)
 
+-- so many sectors were handed to writes on each copy, and none to a read; where there are none, no piece was called
+pub record SectorHands {T : Type 0} (n : ℕ) (result : Result T MarkFault) (old new : Copies) : Type 0 where
+  pub each : (k : ℕ) → Hands n result (copy_of old k) (copy_of new k)
+  pub idle : n ≡ 0 → new ≡ old
+
 -- the bytes are written on each copy in turn, up to the first that fails
 pub record IsPut {T : Type 0} (bytes : List ℕ) (old new : Copies) (result : Result T MarkFault) : Type 0 where
   pub kept : KeepsCopies old new
   pub holds : tells old ≡ true → (n : ℕ) → Holds bytes (held old n) (held new n) result
   pub cause : HasCause (faults_at old) (faults_at new) (is_cut new) result
+  pub counts : SectorHands 1 result old new
 
 abbrev pub is_sure : SectorSeen → ℕ → Bool
 is_sure s region = bit_in s.sure region

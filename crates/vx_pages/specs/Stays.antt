@@ -1,5 +1,5 @@
 -- That what a call keeps of pieces is kept by no call, and by one after another.
-use Rattle.std.specs.Prelude.{◌≡◌, ℕ, ◌<◌, List, length, refl}
+use Rattle.std.specs.Prelude.{ℕ, ◌<◌, List, refl}
 use Rattle.std.proofs.Common.{◌∙◌, sym, subst}
 use Rattle.std.proofs.Math.Nat.{le_refl, le_trans}
 use Rattle.vx_piece.specs.Seen.{Seen}

@@ -1,6 +1,6 @@
-ghost use Rattle.std.specs.Prelude.{◌≡◌, length, OnOk, IfSome, if◌then◌else◌};
+ghost use Rattle.std.specs.Prelude.{◌≡◌, length, IsTrue, OnOk, IfSome, if◌then◌else◌};
 ghost use Rattle.vx_base.specs.Blocks.{AreBlocks};
-ghost use Rattle.vx_piece.specs.Seen.{HasCause, IsInside, IsRead, IsWritten, Keeps};
+ghost use Rattle.vx_piece.specs.Seen.{HasCause, IsInside, IsOff, IsRead, IsWritten, Keeps};
 
 use vx_piece::{Piece, PieceFault};
 
@@ -21,6 +21,7 @@ pub trait LocalPiece: Sized {
         requires { IsInside (seen self.old) at (length from.now) }
         ensures kept { Keeps (seen self.old) (seen self.new) }
         ensures told { IsWritten at from.now (seen self.old) (seen self.new) result }
+        ensures off { IsTrue (seen self.old).cut → IsOff (seen self.old) (seen self.new) result }
         ensures cause { HasCause (seen self.old) (seen self.new) result };
 
     /// Reads whole sectors.

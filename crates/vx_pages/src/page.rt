@@ -1,4 +1,4 @@
-ghost use Rattle.std.specs.Prelude.{◌≡◌, ℕ, true, length};
+ghost use Rattle.std.specs.Prelude.{◌≡◌, ℕ, true, length, OnOk};
 ghost use Rattle.vx_pages.specs.Page.{sectors_seen};
 ghost use Rattle.vx_pages.specs.Page.{ArePairedAlike};
 
@@ -22,8 +22,9 @@ pub struct Page<P: LocalPiece> {
 
 impl<P: LocalPiece> Page<P> {
     ghost use Rattle.vx_marks.specs.Log.{KeepsLog, MarkHasCause, OnMarks};
-    ghost use Rattle.vx_pages.specs.Page.{page_log};
-    ghost use Rattle.vx_pages.specs.Pages.{PageStays, page_seen};
+    ghost use Rattle.vx_pages.specs.Page.{AreAll, page_log};
+    ghost use Rattle.vx_pages.specs.Pages.{PageStays, page_seen, sectors_of};
+    ghost use Rattle.vx_pages.specs.Writes.{IsShut, PageHands, is_open, once_if};
     ghost use Rattle.vx_pages.specs.Firm.{FirmsAll};
     ghost use Rattle.vx_mapfmt.specs.Bits.{bit_in};
     ghost use Rattle.vx_pages.specs.Setting.{IsPageSet};
@@ -59,6 +60,8 @@ impl<P: LocalPiece> Page<P> {
         ensures claims { (region map : ℕ) → (page_seen P.seen self.new).claims region map ≡ (page_seen P.seen self.old).claims region map }
         ensures cause { MarkHasCause (page_seen P.seen self.old) (page_seen P.seen self.new) result }
         ensures stays { PageStays P.seen self.old self.new }
+        ensures counts { PageHands (λ map s. once_if (is_open s)) result (sectors_of P.seen self.old) (sectors_of P.seen self.new) }
+        ensures shut { OnOk result (AreAll IsShut (sectors_of P.seen self.new)) }
     {
         firm_all(&mut self.sectors)
     }
@@ -120,8 +123,10 @@ impl<P: LocalPiece> Page<P> {
 }
 
 impl<P: LocalPiece> Marker for Page<P> {
-    ghost use Rattle.vx_pages.specs.Page.{page_log, sectors_seen};
-    ghost use Rattle.vx_pages.specs.Pages.{PageStays};
+    ghost use Rattle.vx_marks.specs.Log.{ChangesAt, ClaimsAt, IsAskable, IsClaimedAs, IsMarkedAs, IsUnclaimedAs, IsUnmarkedAs, KeepsLog, MarkHasCause, OnMarks};
+    ghost use Rattle.vx_pages.specs.Page.{AreAll, page_log, sectors_seen};
+    ghost use Rattle.vx_pages.specs.Pages.{PageStays, page_seen, sectors_of};
+    ghost use Rattle.vx_pages.specs.Writes.{IsShut, PageHands, writes_of};
     ghost use Rattle.vx_pages.specs.Stays.{page_same, page_then};
 
     ghost log = { λ page. page_log page.index page.regions (sectors_seen P.seen page.sectors.items) };
@@ -132,11 +137,29 @@ impl<P: LocalPiece> Marker for Page<P> {
         marks_at(&self.sectors, region)
     }
 
-    fn mark(&mut self, region: u64, bits: u64) -> Result<(), MarkFault> {
+    fn mark(&mut self, region: u64, bits: u64) -> Result<(), MarkFault>
+        requires { IsAskable (page_seen P.seen self.old) region bits }
+        ensures kept { KeepsLog (page_seen P.seen self.old) (page_seen P.seen self.new) }
+        ensures told { (page_seen P.seen self.old).there ≡ true → OnMarks (ChangesAt region (IsMarkedAs bits result)) (page_seen P.seen self.old).told (page_seen P.seen self.new).told }
+        ensures claims { (page_seen P.seen self.old).there ≡ true → ClaimsAt region (IsClaimedAs bits result) (page_seen P.seen self.old).claims (page_seen P.seen self.new).claims }
+        ensures cause { MarkHasCause (page_seen P.seen self.old) (page_seen P.seen self.new) result }
+        ensures follows { PageStays P.seen self.old self.new }
+        ensures counts { PageHands (writes_of bits) result (sectors_of P.seen self.old) (sectors_of P.seen self.new) }
+        ensures shut { OnOk result (AreAll IsShut (sectors_of P.seen self.new)) }
+    {
         mark_all(&mut self.sectors, region, bits)
     }
 
-    fn unmark(&mut self, region: u64, bits: u64) -> Result<(), MarkFault> {
+    fn unmark(&mut self, region: u64, bits: u64) -> Result<(), MarkFault>
+        requires { IsAskable (page_seen P.seen self.old) region bits }
+        ensures kept { KeepsLog (page_seen P.seen self.old) (page_seen P.seen self.new) }
+        ensures told { (page_seen P.seen self.old).there ≡ true → OnMarks (ChangesAt region (IsUnmarkedAs bits result)) (page_seen P.seen self.old).told (page_seen P.seen self.new).told }
+        ensures claims { (page_seen P.seen self.old).there ≡ true → ClaimsAt region (IsUnclaimedAs bits result) (page_seen P.seen self.old).claims (page_seen P.seen self.new).claims }
+        ensures cause { MarkHasCause (page_seen P.seen self.old) (page_seen P.seen self.new) result }
+        ensures follows { PageStays P.seen self.old self.new }
+        ensures counts { PageHands (writes_of bits) result (sectors_of P.seen self.old) (sectors_of P.seen self.new) }
+        ensures shut { OnOk result (AreAll IsShut (sectors_of P.seen self.new)) }
+    {
         unmark_all(&mut self.sectors, region, bits)
     }
 

@@ -1,4 +1,4 @@
-ghost use Rattle.std.specs.Prelude.{◌≡◌, ℕ, false};
+ghost use Rattle.std.specs.Prelude.{◌≡◌, ℕ, false, OnOk};
 ghost use Rattle.vx_pages.specs.Sector.{IsFormed};
 ghost use Rattle.vx_pages.specs.Pieces.{sector_of};
 
@@ -22,7 +22,8 @@ pub struct MapSector<P: LocalPiece> {
 impl<P: LocalPiece> MapSector<P> {
     ghost use Rattle.vx_pages.specs.Sectors.{sector_seen};
     ghost use Rattle.vx_pages.specs.Bytes.{same_place};
-    ghost use Rattle.vx_pages.specs.Sector.{BitOpened, HasCause, IsBitPut, IsFirm, IsTidied, NoneLoose, Turns, faults_at, is_cut, is_loose, is_sure};
+    ghost use Rattle.vx_pages.specs.Sector.{BitOpened, HasCause, IsBitPut, IsFirm, IsTidied, NoneLoose, SectorHands, Turns, faults_at, is_cut, is_loose, is_sure};
+    ghost use Rattle.vx_pages.specs.Writes.{IsShut, is_open, once_if};
 
     /// Whether the sector has the sure bit of a region.
     pub fn is_marked(&self, region: u64) -> bool
@@ -35,6 +36,7 @@ impl<P: LocalPiece> MapSector<P> {
     pub fn tidy(&mut self) -> Result<(), MarkFault>
         ensures goes { IsTidied result (sector_seen P.seen self.old) (sector_seen P.seen self.new) }
         ensures cause { HasCause (faults_at (sector_seen P.seen self.old).copies) (faults_at (sector_seen P.seen self.new).copies) (is_cut (sector_seen P.seen self.new).copies) result }
+        ensures counts { SectorHands (once_if (is_open (sector_seen P.seen self.old))) result (sector_seen P.seen self.old).copies (sector_seen P.seen self.new).copies }
     {
         if is_zero(&self.loose) {
             return Ok(());
@@ -45,7 +47,8 @@ impl<P: LocalPiece> MapSector<P> {
     /// Nothing is loose any more. No copy shows a loose mark.
     pub fn forget(&mut self)
         requires { IsFirm (sector_seen P.seen self.old) }
-        ensures { Turns NoneLoose (sector_seen P.seen self.old) (sector_seen P.seen self.new) }
+        ensures turns { Turns NoneLoose (sector_seen P.seen self.old) (sector_seen P.seen self.new) }
+        ensures shut { IsShut (sector_seen P.seen self.new) }
     {
         put_none(&mut self.loose);
     }
@@ -55,6 +58,8 @@ impl<P: LocalPiece> MapSector<P> {
         requires { (other : ℕ) → is_loose (sector_seen P.seen self.old) other ≡ false }
         ensures goes { IsBitPut (same_place region) on result (sector_seen P.seen self.old) (sector_seen P.seen self.new) }
         ensures cause { HasCause (faults_at (sector_seen P.seen self.old).copies) (faults_at (sector_seen P.seen self.new).copies) (is_cut (sector_seen P.seen self.new).copies) result }
+        ensures counts { SectorHands 1 result (sector_seen P.seen self.old).copies (sector_seen P.seen self.new).copies }
+        ensures same { OnOk result ((sector_seen P.seen self.new).loose ≡ (sector_seen P.seen self.old).loose) }
     {
         put_bit(&mut self.sure, region, on);
         if let Err(fault) = put(&mut self.first, &mut self.second, &self.sure) {
@@ -77,7 +82,8 @@ impl<P: LocalPiece> MapSector<P> {
 impl<P: LocalPiece> MapSector<P> {
     ghost use Rattle.vx_pages.specs.Sectors.{sector_seen};
     ghost use Rattle.vx_pages.specs.Bytes.{same_place};
-    ghost use Rattle.vx_pages.specs.Sector.{BitOpened, HasCause, IsBitPut, Turns, faults_at, is_cut, is_loose};
+    ghost use Rattle.vx_pages.specs.Sector.{BitOpened, HasCause, IsBitPut, SectorHands, Turns, faults_at, is_cut, is_loose};
+    ghost use Rattle.vx_pages.specs.Writes.{once_if};
     ghost use Rattle.std.specs.Prelude.{◌&&◌, true, length};
     ghost use Rattle.vx_mapfmt.specs.Bits.{bit_in};
     ghost use Rattle.vx_pages.specs.Setting.{SetsBits};
@@ -87,6 +93,8 @@ impl<P: LocalPiece> MapSector<P> {
         requires { (other : ℕ) → is_loose (sector_seen P.seen self.old) other ≡ false }
         ensures goes { IsBitPut (λ other. asked && same_place region other) on result (sector_seen P.seen self.old) (sector_seen P.seen self.new) }
         ensures cause { HasCause (faults_at (sector_seen P.seen self.old).copies) (faults_at (sector_seen P.seen self.new).copies) (is_cut (sector_seen P.seen self.new).copies) result }
+        ensures counts { SectorHands (once_if asked) result (sector_seen P.seen self.old).copies (sector_seen P.seen self.new).copies }
+        ensures same { OnOk result ((sector_seen P.seen self.new).loose ≡ (sector_seen P.seen self.old).loose) }
     {
         if asked {
             self.put_mark(region, on)

@@ -1,6 +1,6 @@
 //! The sectors of a page, one for each map.
 
-ghost use Rattle.std.specs.Prelude.{◌≡◌, ℕ, ◌<◌, ◌==◌, ◌&&◌, ◌||◌, length};
+ghost use Rattle.std.specs.Prelude.{◌≡◌, ℕ, ◌<◌, ◌==◌, ◌&&◌, ◌||◌, length, OnOk};
 ghost use Rattle.vx_mask.specs.Mask.{has};
 ghost use Rattle.vx_pages.specs.Sector.{BitOpened, HasCause, IsBitPut, IsFirm, IsTidied, NoneLoose, Turns, is_loose, is_sure};
 ghost use Rattle.vx_pages.specs.Page.{AreClean, EachSector, IsChanged, IsFirmed, IsMarkedIn, IsUnmarkedIn, asked, cut_in, faults_in, sector_at, sectors_seen};
@@ -11,6 +11,7 @@ ghost use Rattle.vx_mapfmt.specs.Bits.{bit_in};
 ghost use Rattle.vx_pages.specs.Sector.{IsOpen};
 ghost use Rattle.vx_pages.specs.Setting.{IsSetIn, SetEach};
 ghost use Rattle.vx_pages.specs.Page.{AreAll};
+ghost use Rattle.vx_pages.specs.Writes.{IsShut, PageHands, is_open, once_if, writes_of};
 
 use crate::local_piece::LocalPiece;
 use crate::sector::MapSector;
@@ -21,6 +22,7 @@ use vx_mask::{contains, of, with};
 pub fn tidy_all<P: LocalPiece>(sectors: &mut Vec<MapSector<P>>) -> Result<(), MarkFault>
     ensures each { EachSector (λ map. IsTidied result) (sectors_seen P.seen sectors.old.items) (sectors_seen P.seen sectors.new.items) }
     ensures cause { HasCause (faults_in (sectors_seen P.seen sectors.old.items)) (faults_in (sectors_seen P.seen sectors.new.items)) (cut_in (sectors_seen P.seen sectors.new.items)) result }
+    ensures counts { PageHands (λ map s. once_if (is_open s)) result (sectors_seen P.seen sectors.old.items) (sectors_seen P.seen sectors.new.items) }
 {
     for map in 0..sectors.len() {
         let sector = &mut sectors[map];
@@ -34,7 +36,8 @@ pub fn tidy_all<P: LocalPiece>(sectors: &mut Vec<MapSector<P>>) -> Result<(), Ma
 /// Nothing is loose any more.
 pub fn forget_all<P: LocalPiece>(sectors: &mut Vec<MapSector<P>>)
     requires { (map : ℕ) → map < length sectors.old.items → IsFirm (sector_at (sectors_seen P.seen sectors.old.items) map) }
-    ensures { EachSector (λ map. Turns NoneLoose) (sectors_seen P.seen sectors.old.items) (sectors_seen P.seen sectors.new.items) }
+    ensures turns { EachSector (λ map. Turns NoneLoose) (sectors_seen P.seen sectors.old.items) (sectors_seen P.seen sectors.new.items) }
+    ensures shut { EachSector (λ map old new. IsShut new) (sectors_seen P.seen sectors.old.items) (sectors_seen P.seen sectors.new.items) }
 {
     for map in 0..sectors.len() {
         let sector = &mut sectors[map];
@@ -53,6 +56,8 @@ pub fn put_all<P: LocalPiece>(
     requires clean { AreClean (sectors_seen P.seen sectors.old.items) }
     ensures each { EachSector (λ map. IsBitPut (asked bits region map) on result) (sectors_seen P.seen sectors.old.items) (sectors_seen P.seen sectors.new.items) }
     ensures cause { HasCause (faults_in (sectors_seen P.seen sectors.old.items)) (faults_in (sectors_seen P.seen sectors.new.items)) (cut_in (sectors_seen P.seen sectors.new.items)) result }
+    ensures counts { PageHands (λ map s. once_if (has bits map)) result (sectors_seen P.seen sectors.old.items) (sectors_seen P.seen sectors.new.items) }
+    ensures same { OnOk result (EachSector (λ map old new. new.loose ≡ old.loose) (sectors_seen P.seen sectors.old.items) (sectors_seen P.seen sectors.new.items)) }
 {
     for map in 0..32 {
         let sector = &mut sectors[map];
@@ -78,6 +83,8 @@ pub fn open_all<P: LocalPiece>(sectors: &mut Vec<MapSector<P>>, region: u64, bit
 pub fn firm_all<P: LocalPiece>(sectors: &mut Vec<MapSector<P>>) -> Result<(), MarkFault>
     ensures each { IsFirmed result (sectors_seen P.seen sectors.old.items) (sectors_seen P.seen sectors.new.items) }
     ensures cause { HasCause (faults_in (sectors_seen P.seen sectors.old.items)) (faults_in (sectors_seen P.seen sectors.new.items)) (cut_in (sectors_seen P.seen sectors.new.items)) result }
+    ensures counts { PageHands (λ map s. once_if (is_open s)) result (sectors_seen P.seen sectors.old.items) (sectors_seen P.seen sectors.new.items) }
+    ensures shut { OnOk result (AreAll IsShut (sectors_seen P.seen sectors.new.items)) }
 {
     if let Err(fault) = tidy_all(sectors) {
         return Err(fault);
@@ -97,6 +104,8 @@ pub fn change_all<P: LocalPiece>(
     requires clean { AreClean (sectors_seen P.seen sectors.old.items) }
     ensures each { IsChanged bits region on result (sectors_seen P.seen sectors.old.items) (sectors_seen P.seen sectors.new.items) }
     ensures cause { HasCause (faults_in (sectors_seen P.seen sectors.old.items)) (faults_in (sectors_seen P.seen sectors.new.items)) (cut_in (sectors_seen P.seen sectors.new.items)) result }
+    ensures counts { PageHands (λ map s. once_if (has bits map)) result (sectors_seen P.seen sectors.old.items) (sectors_seen P.seen sectors.new.items) }
+    ensures same { OnOk result (EachSector (λ map old new. new.loose ≡ old.loose) (sectors_seen P.seen sectors.old.items) (sectors_seen P.seen sectors.new.items)) }
 {
     if let Err(fault) = put_all(sectors, region, bits, on) {
         open_all(sectors, region, bits);
@@ -114,6 +123,8 @@ pub fn mark_all<P: LocalPiece>(
     requires { length sectors.old.items ≡ 32 }
     ensures each { IsMarkedIn bits region result (sectors_seen P.seen sectors.old.items) (sectors_seen P.seen sectors.new.items) }
     ensures cause { HasCause (faults_in (sectors_seen P.seen sectors.old.items)) (faults_in (sectors_seen P.seen sectors.new.items)) (cut_in (sectors_seen P.seen sectors.new.items)) result }
+    ensures counts { PageHands (writes_of bits) result (sectors_seen P.seen sectors.old.items) (sectors_seen P.seen sectors.new.items) }
+    ensures shut { OnOk result (AreAll IsShut (sectors_seen P.seen sectors.new.items)) }
 {
     if let Err(fault) = firm_all(sectors) {
         return Err(fault);
@@ -130,6 +141,8 @@ pub fn unmark_all<P: LocalPiece>(
     requires { length sectors.old.items ≡ 32 }
     ensures each { IsUnmarkedIn bits region result (sectors_seen P.seen sectors.old.items) (sectors_seen P.seen sectors.new.items) }
     ensures cause { HasCause (faults_in (sectors_seen P.seen sectors.old.items)) (faults_in (sectors_seen P.seen sectors.new.items)) (cut_in (sectors_seen P.seen sectors.new.items)) result }
+    ensures counts { PageHands (writes_of bits) result (sectors_seen P.seen sectors.old.items) (sectors_seen P.seen sectors.new.items) }
+    ensures shut { OnOk result (AreAll IsShut (sectors_seen P.seen sectors.new.items)) }
 {
     if let Err(fault) = firm_all(sectors) {
         open_all(sectors, region, bits);

@@ -3,7 +3,7 @@ use Rattle.vx_pages.proofs.Putting.{put_well, put_failed, put_cut}
 use Rattle.vx_pages.proofs.copies.put_one.Goals as goal
 
 pub returns-in-Ok : goal.returns-in-Ok
-returns-in-Ok g c = put_well c.args.copy c.args.sector.now _ _ c.requires.whole c.in-Ok.ensures.kept c.in-Ok.ensures.told c.in-Ok.ensures.cause
+returns-in-Ok g c = put_well c.args.copy c.args.sector.now _ _ c.requires.whole c.in-Ok.ensures.kept c.in-Ok.ensures.told c.in-Ok.ensures.off c.in-Ok.ensures.cause
 
 pub returns-in-Err-Failed : goal.returns-in-Err-Failed
 returns-in-Err-Failed g c =

@@ -1,8 +1,10 @@
-use Rattle.std.proofs.Common.{inl}
+use Rattle.std.proofs.Common.{inl, Err}
 use Rattle.vx_pages.specs.Sector.{Goes, Turns, SameBits, MaySweep, BitOpened}
 use Rattle.vx_pages.specs.Page.{asked}
 use Rattle.vx_pages.proofs.Ways.{leaves_open}
 use Rattle.vx_pages.proofs.Whole.{unmarked, each_then, turned_faults, turned_cut, cause_stays}
+use Rattle.vx_pages.specs.Writes.{writes_of}
+use Rattle.vx_pages.proofs.Handing.{firm_failed, mark_hands, stay_shut, turned_hands}
 use Rattle.vx_pages.proofs.sectors.unmark_all.Goals as goal
 
 pub returns-in-Err-clause-each : goal.returns-in-Err-clause-each
@@ -16,3 +18,13 @@ returns-in-Err-clause-cause g c =
 
 pub returns-clause-each : goal.returns-clause-each
 returns-clause-each g c = unmarked c.args.bits c.args.region _ _ _ c.change_all.result c.in_default.ensures.each c.change_all.ensures.each
+
+pub returns-in-Err-clause-counts : goal.returns-in-Err-clause-counts
+returns-in-Err-clause-counts g c =
+    turned_hands (λ m. BitOpened (asked c.args.bits c.args.region m)) (writes_of c.args.bits) (Err c.in-Err.fault) _ _ _ (firm_failed c.args.bits c.in-Err.fault _ _ c.in-Err.ensures.counts) c.open_all.ensures
+
+pub returns-clause-counts : goal.returns-clause-counts
+returns-clause-counts g c = mark_hands c.args.bits c.change_all.result _ _ _ c.in_default.ensures.counts c.change_all.ensures.counts
+
+pub returns-clause-shut : goal.returns-clause-shut
+returns-clause-shut g c = stay_shut c.change_all.result _ _ c.in_default.ensures.shut c.change_all.ensures.same

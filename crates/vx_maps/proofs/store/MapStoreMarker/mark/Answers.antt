@@ -6,6 +6,8 @@ use Rattle.vx_pages.specs.Stays.{piece_same}
 use Rattle.vx_maps.proofs.Paged.{grid_on, places_set}
 use Rattle.vx_maps.proofs.Steps.{grid_same, sheets_same}
 use Rattle.vx_maps.proofs.Storing.{has_page, size_seen, askable, there_is, paged_still, store_kept, store_told, store_claims, store_cause}
+use Rattle.vx_pages.specs.Writes.{writes_of}
+use Rattle.vx_maps.proofs.Handed.{hands_on, shut_on}
 use Rattle.vx_maps.proofs.Alike.{copies_still}
 use Rattle.vx_maps.proofs.store.MapStoreMarker.mark.Goals as goal
 
@@ -51,3 +53,13 @@ returns-clause-follows g c =
       sheets = sheets_same KeepsPiece piece_same _;
       grid = grid_on (grid_seen g.P.LocalPiece.seen c.args.self.now.pages.items) c.args.self.now.pages.items (c.args.region / 4096) c.index_mut-page.result.now c.mark.new.self lt c.index_mut-page.ensures.value (grid_same KeepsPiece piece_same _) c.mark.ensures.follows.pieces;
     }
+
+pub returns-clause-counts : goal.returns-clause-counts
+returns-clause-counts g c =
+    let lt : c.args.region / 4096 < length c.args.self.now.pages.items = has_page c.args.self.now.base.shape.regions c.args.region _ (sym (size_seen (page_seen g.P.LocalPiece.seen) c.args.self.now.pages.items) ∙ c.args.self.now.paged.count) c.requires.known in
+    hands_on c.args.self.now.pages.items (c.args.region / 4096) c.index_mut-page.result.now c.mark.new.self lt c.index_mut-page.ensures.value (writes_of c.args.bits) c.mark.result c.mark.ensures.counts
+
+pub returns-clause-shut : goal.returns-clause-shut
+returns-clause-shut g c =
+    let lt : c.args.region / 4096 < length c.args.self.now.pages.items = has_page c.args.self.now.base.shape.regions c.args.region _ (sym (size_seen (page_seen g.P.LocalPiece.seen) c.args.self.now.pages.items) ∙ c.args.self.now.paged.count) c.requires.known in
+    shut_on c.args.self.now.pages.items (c.args.region / 4096) c.mark.new.self lt c.mark.result c.mark.ensures.shut

@@ -1,0 +1,7 @@
+pub mod Bytes
+pub mod Counts
+pub mod Image
+pub mod Import
+pub mod Meaning
+pub mod Own
+pub mod Soundness

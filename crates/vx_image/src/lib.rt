@@ -1,0 +1,30 @@
+//! A volume as the bytes of its disks are: what its data plexes hold and what the copies of its log mark, what is read from
+//! that, and when it is sound. Definitions, and laws as functions that do nothing and promise them.
+#![tactic(auto)]
+
+ghost use Rattle.vx_image.specs.Counts.{EachCountFits};
+ghost use Rattle.vx_image.specs.Import.{EachImportIsSound, EachImportStands};
+ghost use Rattle.vx_image.specs.Meaning.{EachImageStandsForItself, EachReadingIsWithin};
+ghost use Rattle.vx_image.specs.Own.{EachImageIsItsOwn};
+
+/// The image of a volume is what its own sectors hold.
+pub fn each_image_is_its_own()
+    ensures { EachImageIsItsOwn }
+{}
+
+/// What is read from an image lies within whatever it stands for, and the image stands for it.
+pub fn each_reading_is_within()
+    ensures own { EachImageStandsForItself }
+    ensures within { EachReadingIsWithin }
+{}
+
+/// An import, which records a volume that was started in another such state, leaves it as sound and standing for the same.
+pub fn each_import_stands()
+    ensures sound { EachImportIsSound }
+    ensures stands { EachImportStands }
+{}
+
+/// What a recovery counts by the marks of one copy is what may be told.
+pub fn each_count_fits()
+    ensures { EachCountFits }
+{}

@@ -1,0 +1,10 @@
+mod Blocks
+mod Examples
+mod Histories
+mod Logs
+mod Losses
+mod Openings
+mod Recoveries
+mod Starts
+mod Tracks
+mod Volumes

@@ -1,0 +1,9 @@
+pub mod Example
+pub mod Logs
+pub mod Loss
+pub mod Opening
+pub mod Recovery
+pub mod Regions
+pub mod Start
+pub mod Tracks
+pub mod Volumes

@@ -1,2 +1,2 @@
-pub mod Built
-pub mod Noted
+pub mod Masks
+pub mod Claims

@@ -21,15 +21,15 @@ use Rattle.vx_house.specs.Scene.{Shelved, FaultsGoOn}
 use Rattle.vx_house.specs.View.{at, scene, group_of, IsMomentButGroup}
 use Rattle.vx_house.specs.declared.house.House.{House}
 use Rattle.vx_house.specs.declared.house.Imported.{Imported}
-use Rattle.vx_house.proofs.Listed.{all_each}
+use Rattle.vx_house.proofs.AllLaws.{all_each}
 use Rattle.vx_commits.specs.Committing.{IsTried, IsFinished, IsWritable}
-use Rattle.vx_commits.proofs.Called.{holder_in, IsCalled}
-use Rattle.vx_commits.proofs.Done.{any_good}
+use Rattle.vx_commits.proofs.DeviceLaws.{holder_in, IsCalled}
+use Rattle.vx_commits.proofs.GoodDisks.{any_good}
 use Rattle.vx_commits.proofs.Holders.{mapped_holders, same_members, world_group, group_is, both_tell}
-use Rattle.vx_commits.proofs.Joined.{IsWent, IsTouched, AreCalled, AreWritten, AreDone, held_on, faults_on, moment_on, group_lost_on, power_lost_on, group_committed_on}
+use Rattle.vx_commits.proofs.Joins.{IsWent, IsTouched, AreCalled, AreWritten, AreDone, held_on, faults_on, moment_on, group_lost_on, power_lost_on, group_committed_on}
 use Rattle.vx_commits.proofs.Members.{member_in, writing}
-use Rattle.vx_commits.proofs.Slotted.{AreSlotted, slotted}
-use Rattle.vx_copies.proofs.Going.{each_map}
+use Rattle.vx_commits.proofs.Slots.{AreSlotted, slotted}
+use Rattle.vx_copies.proofs.StepLaws.{each_map}
 use Rattle.vx_house.proofs.Lists.{each_two, each_first, each_append, each_front, each_long}
 
 any_take : {X : Type 0} (Q : X → Type 0) (n : ℕ) (xs : List X) → AnyOf Q (take n xs) → AnyOf Q xs

@@ -20,8 +20,8 @@ use Rattle.vx_house.specs.Scene.{Shelved}
 use Rattle.vx_house.specs.View.{at, group_of, IsMoment, KeepsHouse, KeepsButGroup}
 use Rattle.vx_house.specs.declared.house.House.{House}
 use Rattle.vx_house.specs.declared.stop.Stop.TheVariants as stops
-use Rattle.vx_house.proofs.Ended.{moment_but_group}
-use Rattle.vx_commits.proofs.Joined.{AreCalled, held_on, faults_on, moment_on, later_on, but_group_on}
+use Rattle.vx_house.proofs.Ends.{moment_but_group}
+use Rattle.vx_commits.proofs.Joins.{AreCalled, held_on, faults_on, moment_on, later_on, but_group_on}
 
 -- volumes that stay are kept
 pub volumes_kept : {P : Type 0} (see : P → Seen) (old new : House P) → new.volumes ≡ old.volumes → KeepsHouse see old → (vol : Word) (b : Started P) → volume_at new vol ≡ Some b → IsSized (see b.piece) b.geometry.length

@@ -6,7 +6,7 @@ use Rattle.vx_copies.specs.Disks.{DiskSeen, disk_seen, CommitGoes, good_mask}
 use Rattle.vx_copies.specs.Lists.{Each}
 use Rattle.vx_copies.specs.Written.{BothTell}
 use Rattle.vx_copies.specs.declared.disk.Disk.{Disk}
-use Rattle.vx_copies.proofs.SectorsWritten.{tell_map}
+use Rattle.vx_copies.proofs.WriteCounts.{tell_map}
 use Rattle.vx_confdb.specs.Groups.{members}
 use Rattle.vx_moments.specs.World.{Group}
 use Rattle.vx_moments.specs.Moment.{Moment}
@@ -15,7 +15,7 @@ use Rattle.vx_house.specs.Scene.{Shelved}
 use Rattle.vx_house.specs.View.{at, member_of, group_of, IsMoment}
 use Rattle.vx_house.specs.declared.house.House.{House}
 use Rattle.vx_house.specs.declared.house.Imported.{Imported}
-use Rattle.vx_commits.proofs.Called.{holder_in}
+use Rattle.vx_commits.proofs.DeviceLaws.{holder_in}
 use Rattle.vx_commits.proofs.Members.{member_in}
 
 -- the devices of disks, and their members

@@ -1,10 +1,10 @@
-pub mod Called
-pub mod Slotted
+pub mod DeviceLaws
+pub mod Slots
 pub mod DiskToDevice
 pub mod Members
-pub mod Done
+pub mod GoodDisks
 pub mod Holders
-pub mod Joined
+pub mod Joins
 pub mod Alone
 pub mod CommitStage
-pub mod Kept
+pub mod Stillness

@@ -22,11 +22,11 @@ use Rattle.vx_moments.specs.World.{Device, Member, Group}
 use Rattle.vx_moments.specs.Moment.{Moment, HasFailed}
 use Rattle.vx_moments.specs.Copies.{IsTextOf, IsEntered, label_of}
 use Rattle.vx_moments.specs.Commit.{Writing, parties, is_slot_of, is_written_slot, IsMaskOf, NoneFailed, MemberGoes, JoinerGoes, IsNoDeviceOf, sectors_of, OffersSince, AreInOrder, OneOffersSince, IsCommitting}
-use Rattle.vx_house.proofs.Listed.{all_front}
-use Rattle.vx_commits.proofs.Called.{IsPair}
-use Rattle.vx_commits.proofs.Slotted.{AreSlotted, mask_names, good_slots}
+use Rattle.vx_house.proofs.AllLaws.{all_front}
+use Rattle.vx_commits.proofs.DeviceLaws.{IsPair}
+use Rattle.vx_commits.proofs.Slots.{AreSlotted, mask_names, good_slots}
 use Rattle.vx_commits.proofs.DiskToDevice.{struck, entered}
-use Rattle.vx_copies.proofs.Going.{each_map}
+use Rattle.vx_copies.proofs.StepLaws.{each_map}
 use Rattle.vx_house.proofs.Lists.{each_two, each_first, all_of_each, all_before, all_of_pairs, any_mapped, any_of_each}
 
 -- a disk as the world's member

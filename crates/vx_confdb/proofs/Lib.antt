@@ -1,6 +1,6 @@
-pub mod Filling
-pub mod Preparing
-pub mod Grouped
-pub mod Begun
-pub mod Adding
-pub mod Enlisting
+pub mod Zeros
+pub mod Preparation
+pub mod Labels
+pub mod NoOffers
+pub mod Additions
+pub mod Enlistment

@@ -11,7 +11,7 @@ use Rattle.vx_copies.specs.Disks.{DiskSeen, CommitGoes, IsOffer, IsBelow, IsNew,
 use Rattle.vx_copies.specs.Config.{configuration, GivesOldOrNew, GivesNew, IsOlder, HasGoodMask, IsReadableGood}
 use Rattle.vx_copies.specs.declared.writing.Lost.{Lost}
 use Rattle.vx_copies.specs.Commit.{CommitEnds}
-use Rattle.vx_copies.proofs.Chosen.{under_all}
+use Rattle.vx_copies.proofs.Choice.{under_all}
 use Rattle.vx_copies.proofs.InGroup.{in_member}
 
 abbrev pub IsAtLeast : ℕ → Option Offer → Type 0

@@ -7,14 +7,14 @@ use Rattle.vx_piece.specs.Seen.{Seen, IsInside, Writes}
 use Rattle.vx_base.proofs.BlockLemmas.{written_in, written_out, is_in-before, is_in-after}
 use Rattle.vx_header.specs.Said.{Said, toggle_of}
 use Rattle.vx_header.specs.Sectors.{toggle_sector}
-use Rattle.vx_header.proofs.Saying.{said_spells, said_back}
+use Rattle.vx_header.proofs.Toggles.{said_spells, said_back}
 use Rattle.vx_copies.specs.Image.{blocks_from, sectors_for, filled, half_start, text_in, toggle_at, offer_by, offer_of}
 use Rattle.vx_copies.specs.Disks.{DiskSeen, NamesHalf, HasText, StaysTold, OffersJust, KeepsNamed, SameOffer}
 use Rattle.vx_copies.specs.Pass.{IsPadded}
 use Rattle.vx_copies.specs.Written.{BothTell, Holds, HalfStays, OldOrText}
 use Rattle.vx_copies.specs.Steps.{HalfLeaves, ToggleLeaves, Says}
-use Rattle.vx_copies.proofs.Going.{same_toggle}
-use Rattle.vx_copies.proofs.SectorsWritten.{torn_only}
+use Rattle.vx_copies.proofs.StepLaws.{same_toggle}
+use Rattle.vx_copies.proofs.WriteCounts.{torn_only}
 
 pub blocks_same : (n at : ℕ) (c d : Contents) → ((k : ℕ) → at ≤ k → k < at + n → d k ≡ c k) → blocks_from n at d ≡ blocks_from n at c
 blocks_same zero at c d same = refl

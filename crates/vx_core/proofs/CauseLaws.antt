@@ -25,7 +25,7 @@ use Rattle.vx_core.proofs.Begins.{need_free}
 use Rattle.vx_core.proofs.Jobs.{mk}
 use Rattle.vx_core.proofs.Keeps.{NotBegin}
 use Rattle.vx_core.proofs.Walk.{Cases, walk, at_step, NotCut}
-use Rattle.vx_core.proofs.Writing.{parted_good, parted_failed, failed_of}
+use Rattle.vx_core.proofs.Writes.{parted_good, parted_failed, failed_of}
 
 if_blames : (b : Bool) (x y : Stage × Act) (began : ℕ) (f : Faults) → (b ≡ true → Blames x began f) → (b ≡ false → Blames y began f) → Blames (cond b x y) began f
 if_blames true x y began f here there = here refl

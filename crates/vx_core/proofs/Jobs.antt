@@ -24,7 +24,7 @@ use Rattle.vx_core.specs.Form.{IsStage}
 use Rattle.vx_core.proofs.Base.{IsBase, MayAgree, Lands, holds_from_base, lands_settled_fault, lands_unsettled_fault, lands_lost, lands_done}
 use Rattle.vx_core.proofs.Effects.{with_disks, HasFree, base_after_gain, base_after_wrong_mark}
 use Rattle.vx_core.proofs.Facts.{IsWriting, reached_of}
-use Rattle.vx_core.proofs.Writing.{write_reaches, write_misses, unmarked_current, marked_agrees, base_after_call, may_get, base_after_write_done, good_of, failed_of, good_in, failed_in}
+use Rattle.vx_core.proofs.Writes.{write_reaches, write_misses, unmarked_current, marked_agrees, base_after_call, may_get, base_after_write_done, good_of, failed_of, good_in, failed_in}
 
 -- both ways of an `if`
 pub if_lands : (b : Bool) (x y : Stage × Act) (a : Around) (p : Contents) → (b ≡ true → Lands x a p) → (b ≡ false → Lands y a p) → Lands (cond b x y) a p

@@ -21,7 +21,7 @@ use Rattle.vx_core.proofs.Effects.{with_disks, HasFree, base_after_gain, base_af
 use Rattle.vx_core.proofs.Facts.{IsLevelling, level_of}
 use Rattle.vx_core.proofs.Jobs.{mk, if_lands, agree_moved, agree_or_open, current_unmarked}
 use Rattle.vx_core.proofs.Settles.{lands_start}
-use Rattle.vx_core.proofs.Writing.{may_get}
+use Rattle.vx_core.proofs.Writes.{may_get}
 
 -- in a dirty region an unmarked plex is current
 dirty_current : (s : Stage) (held : ℕ → Bool) (k : ℕ) → IsStage s held → IsDirty s held (has s.bits) → held k ≡ true → has s.bits k ≡ false → has (current s) k ≡ true

@@ -11,7 +11,7 @@ pub mod Histories
 pub mod Jobs
 pub mod Keeps
 pub mod Levels
-pub mod Named
+pub mod ActNames
 pub mod Orders
 pub mod PlexLaws
 pub mod PossibleLaws
@@ -21,5 +21,5 @@ pub mod RecoveryLaws
 pub mod ScheduleLaws
 pub mod Settles
 pub mod Walk
-pub mod Writing
+pub mod Writes
 pub mod WrongLaws

@@ -19,7 +19,7 @@ use Rattle.vx_core.specs.Form.{IsStage, IsFormed}
 use Rattle.vx_core.specs.Follow.{IsMapOf, AreMapsOf, IsPossible, PossibleIn, AsksPossible}
 use Rattle.vx_core.proofs.FormLaws.{forms}
 use Rattle.vx_core.proofs.Jobs.{mk}
-use Rattle.vx_core.proofs.Named.{named}
+use Rattle.vx_core.proofs.ActNames.{named}
 
 need_logged : (b : Bool) (x : ℕ) → cond b x 0 ≢ 0 → b ≡ true
 need_logged true x some = refl

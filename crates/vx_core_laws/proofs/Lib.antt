@@ -1,4 +1,4 @@
-pub mod Begun
+pub mod Beginnings
 pub mod Courses
 pub mod Exactly
 pub mod Goes

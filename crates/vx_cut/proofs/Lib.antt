@@ -1,2 +1,2 @@
-pub mod Cutting
+pub mod Parts
 pub mod Same

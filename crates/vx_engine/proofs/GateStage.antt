@@ -24,12 +24,12 @@ use Rattle.vx_house.specs.View.{View, at, scene, Keeps, IsGroupKept}
 use Rattle.vx_house.specs.declared.house.House.{House}
 use Rattle.vx_house.specs.declared.house.Taken.{Taken}
 use Rattle.vx_house.specs.declared.stop.Stop.TheVariants.{Ended, OutOfMemory}
-use Rattle.vx_house.proofs.Ended.{keeps_but_group, moment_but_group}
+use Rattle.vx_house.proofs.Ends.{keeps_but_group, moment_but_group}
 use Rattle.vx_house.proofs.AfterLoss.{group_away}
 use Rattle.vx_house.proofs.Leaves.{group_held, group_moved}
-use Rattle.vx_house.proofs.Listed.{found_in}
+use Rattle.vx_house.proofs.AllLaws.{found_in}
 use Rattle.vx_house.proofs.Moments.{faults_moved, faults_refl, later_refl}
-use Rattle.vx_engine.proofs.Judged.{fails_there}
+use Rattle.vx_engine.proofs.Tests.{fails_there}
 
 still_all : {P : Type 0} (see : P → Seen) (ts : List (Taken P)) → Each (IsStill see) ts ts
 still_all see [] = tt

@@ -1,11 +1,11 @@
 pub mod Same
-pub mod Judged
+pub mod Tests
 pub mod Sound
-pub mod Kept
-pub mod Chained
-pub mod CommandsEnded
+pub mod WorldLaws
+pub mod StageChains
+pub mod CommandEnds
 pub mod Among
-pub mod Lived
-pub mod Called
+pub mod Lives
+pub mod CallLaws
 pub mod GateStage
 pub mod CommandRanges

@@ -2,11 +2,11 @@ pub mod Below
 pub mod ListTests
 pub mod NameOrder
 pub mod KeyOrder
-pub mod Laying
+pub mod Placement
 pub mod FirstOverlap
 pub mod Runs
-pub mod Growing
+pub mod Growth
 pub mod FromColumn
 pub mod Good
 pub mod ColumnRuns
-pub mod Indexing
+pub mod Indices

@@ -1,9 +1,9 @@
 pub mod HeaderPlaces
-pub mod HeaderReading
+pub mod HeaderFields
 pub mod NameLemmas
-pub mod Naming
+pub mod Labels
 pub mod PutLemmas
-pub mod Saying
+pub mod Toggles
 pub mod TogglePlaces
-pub mod ToggleReading
+pub mod ToggleFields
 pub mod Windows

@@ -26,7 +26,7 @@ use Rattle.vx_house.specs.Unmoved.{Unmoved}
 use Rattle.vx_house.specs.View.{View, scene, is_lent, IsDeviceOf, IsVolumeOf, IsAtVolume, group_of, IsMoment, IsMomentButGroup, KeepsButGroup}
 use Rattle.vx_house.specs.declared.house.House.{House}
 use Rattle.vx_house.proofs.Free.{at_world, at_house}
-use Rattle.vx_house.proofs.Listed.{found_in, found_by_one, found_each, held_each, all_front}
+use Rattle.vx_house.proofs.AllLaws.{found_in, found_by_one, found_each, held_each, all_front}
 use Rattle.vx_house.proofs.Moments.{counts_moved}
 
 -- the contents that are told

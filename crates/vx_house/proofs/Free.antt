@@ -19,7 +19,7 @@ use Rattle.vx_house.specs.View.{IsDeviceOf, IsVolumeOf, IsAtVolume, member_of, g
 use Rattle.vx_house.specs.declared.house.House.{House}
 use Rattle.vx_house.specs.declared.house.Imported.{Imported}
 use Rattle.vx_house.specs.declared.house.Taken.{Taken}
-use Rattle.vx_house.proofs.Listed.{all_front, all_back, all_unmapped, held_by_one, found_by_one, found_each}
+use Rattle.vx_house.proofs.AllLaws.{all_front, all_back, all_unmapped, held_by_one, found_by_one, found_each}
 
 -- an entry that passes both, in a list where each that passes the first passes the other
 gone : (o : Option Held) (h : Held) → o ≡ None → o ≡ Some h → ⊥

@@ -15,8 +15,8 @@ use Rattle.vx_house.specs.Scene.{Shelved, seen_in, seen_at, FaultsGoOn, counts_o
 use Rattle.vx_house.specs.View.{at, scene, is_lent, IsDeviceOf, IsMoment, Keeps, KeepsHouse}
 use Rattle.vx_house.specs.declared.house.House.{House}
 use Rattle.vx_house.specs.declared.house.Taken.{Taken}
-use Rattle.vx_house.proofs.Held.{IsApart, apart_turned, later_held}
-use Rattle.vx_house.proofs.Listed.{all_back, all_two, all_unmapped, held_each}
+use Rattle.vx_house.proofs.Holders.{IsApart, apart_turned, later_held}
+use Rattle.vx_house.proofs.AllLaws.{all_back, all_two, all_unmapped, held_each}
 use Rattle.vx_house.proofs.Moments.{moment_at, counts_own}
 use Rattle.vx_house.proofs.Steps.{IsStep, held_steps, place_by, steps_later, steps_faults, steps_counts}
 use Rattle.vx_house.proofs.Lists.{each_append}

@@ -4,8 +4,8 @@ use Rattle.std.specs.Str.{bytes_eq}
 use Rattle.vx_base.specs.Named.{Word}
 use Rattle.vx_copies.specs.Lists.{AllOf, AnyOf, Each}
 use Rattle.vx_house.specs.Holders.{Holder, held_as, AreApart}
-use Rattle.vx_house.proofs.Held.{IsApart}
-use Rattle.vx_house.proofs.Listed.{all_front}
+use Rattle.vx_house.proofs.Holders.{IsApart}
+use Rattle.vx_house.proofs.AllLaws.{all_front}
 
 pub each_two : {X : Type 0} (R S T : X → X → Type 0) → ((a b : X) → R a b → S a b → T a b) → (xs ys : List X) → Each R xs ys → Each S xs ys → Each T xs ys
 each_two R S T f [] [] e d = tt

@@ -16,7 +16,7 @@ use Rattle.vx_house.specs.declared.house.House.{House}
 use Rattle.vx_house.specs.declared.house.Taken.{Taken}
 use Rattle.vx_house.proofs.Moments.{moment_at, counts_own}
 use Rattle.vx_house.proofs.Steps.{each_name, IsStep, held_steps, place_by, faults_by}
-use Rattle.vx_copies.proofs.Going.{keeps_refl}
+use Rattle.vx_copies.proofs.StepLaws.{keeps_refl}
 use Rattle.vx_house.proofs.Hands.{IsInWorld, volumes_held, group_held, hand_held, hand_in_world, hand_steps, hand_keeps, hand_faults, hand_later, after}
 
 -- the only one of a list of that name

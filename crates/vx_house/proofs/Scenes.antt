@@ -10,7 +10,7 @@ use Rattle.vx_shelf.specs.Shelf.{IsTaken, ComesToShelf, LeavesShelf, SameCounts,
 use Rattle.vx_house.specs.Holders.{Holder, held_as, AreApart}
 use Rattle.vx_house.specs.Scene.{Shelved, Scene, seen_in, faults_in}
 use Rattle.vx_house.specs.Unmoved.{Unmoved}
-use Rattle.vx_house.proofs.Held.{held_at, apart_here, none_of, put_seen}
+use Rattle.vx_house.proofs.Holders.{held_at, apart_here, none_of, put_seen}
 
 abbrev pub scene_of : Shelved → List Holder → Scene
 scene_of shelf taken = record { shelf = shelf; taken = taken }

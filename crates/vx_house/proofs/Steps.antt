@@ -6,13 +6,13 @@ use Rattle.vx_base.specs.Named.{Word}
 use Rattle.vx_base.proofs.NamedLemmas.{bytes_eq_same}
 use Rattle.vx_piece.specs.Seen.{Seen, Keeps}
 use Rattle.vx_copies.specs.Lists.{Each}
-use Rattle.vx_copies.proofs.Going.{each_refl, each_map}
+use Rattle.vx_copies.proofs.StepLaws.{each_refl, each_map}
 use Rattle.vx_moments.specs.Moment.{Counts, AreLater}
 use Rattle.vx_house.specs.Holders.{Holder, held_as}
 use Rattle.vx_house.specs.Scene.{Shelved, seen_in, faults_in, count_in, AreCountsOf, counts_of, FaultsGoOn}
-use Rattle.vx_house.proofs.Held.{IsLater}
+use Rattle.vx_house.proofs.Holders.{IsLater}
 use Rattle.vx_house.proofs.Scenes.{scene_of}
-use Rattle.vx_house.proofs.Called.{later_faults}
+use Rattle.vx_house.proofs.LaterFaults.{later_faults}
 
 -- the same device goes on so
 pub record IsStep (Q : Word → Seen → Seen → Type 0) (old new : Holder) : Type 0 where

@@ -34,11 +34,11 @@ use Rattle.vx_house.specs.declared.house.Taken.{Taken}
 use Rattle.vx_house.specs.declared.stop.Stop.{Stop}
 use Rattle.vx_house.specs.declared.stop.Stop.TheVariants as stops
 use Rattle.std.specs.Prelude.{Result, Ok, Err}
-use Rattle.vx_house.proofs.Called.{hand_split}
-use Rattle.vx_house.proofs.Ended.{keeps_ended, goes_ended}
+use Rattle.vx_house.proofs.LaterFaults.{hand_split}
+use Rattle.vx_house.proofs.Ends.{keeps_ended, goes_ended}
 use Rattle.vx_house.proofs.Free.{told_is_free, taken_is_held, nowhere_is_none}
-use Rattle.vx_house.proofs.Held.{take_one, same_held}
-use Rattle.vx_house.proofs.Listed.{all_append}
+use Rattle.vx_house.proofs.Holders.{take_one, same_held}
+use Rattle.vx_house.proofs.AllLaws.{all_append}
 use Rattle.vx_house.proofs.Moments.{later_refl, faults_moved, faults_trans, moment_moved, counts_own, counts_later, place_refl, PlaceGoesOn, moment_at}
 use Rattle.vx_house.proofs.Scenes.{scene_of, unmoved_refl, unmoved_trans, IsHanded, take_scene}
 

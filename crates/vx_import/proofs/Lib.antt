@@ -1,10 +1,10 @@
 pub mod Sectors
-pub mod Picking
-pub mod Giving
-pub mod Looking
-pub mod Chained
-pub mod Passing
+pub mod Picks
+pub mod Offers
+pub mod Looks
+pub mod Chains
+pub mod Passes
 pub mod Absent
-pub mod Judged
+pub mod Verdicts
 pub mod Topmost
 pub mod Members

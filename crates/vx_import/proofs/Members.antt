@@ -5,7 +5,7 @@ use Rattle.vx_base.specs.Blocks.{Contents}
 use Rattle.vx_base.specs.Named.{Word}
 use Rattle.vx_header.specs.Named.{Label, label_of, header_of}
 use Rattle.vx_header.specs.Said.{Said, toggle_of}
-use Rattle.vx_header.proofs.Saying.{said_spells}
+use Rattle.vx_header.proofs.Toggles.{said_spells}
 use Rattle.vx_piece.specs.Seen.{Seen, IsPartTold}
 use Rattle.vx_copies.specs.Image.{Offer, toggle_at, offer_in, offer_told, offer_of}
 use Rattle.vx_copies.specs.Disks.{IsReady, IsBelow, NamesHalf}
@@ -16,7 +16,7 @@ use Rattle.vx_confdb.specs.Prepare.{Says}
 use Rattle.vx_import.specs.Looks.{Looked, looked, IsOurs, HasReading, IsReading, said_in, half_in}
 use Rattle.vx_import.specs.Choice.{IfToggle}
 use Rattle.vx_import.specs.Answers.{IsOf, disk_of}
-use Rattle.vx_import.proofs.Giving.{IfOffer, offer_if_toggle}
+use Rattle.vx_import.proofs.Offers.{IfOffer, offer_if_toggle}
 use Rattle.vx_import.specs.declared.device.GroupDevice.{GroupDevice}
 use Rattle.vx_import.specs.declared.device.Reading.{Reading}
 use Rattle.vx_import.specs.declared.device.Reading.TheVariants as reading

@@ -14,7 +14,7 @@ use Rattle.vx_import.specs.Naming.{is_readable_slot, AllThere}
 use Rattle.vx_import.specs.Answers.{IsRising, IsChosen, IsElsewhere, AreApart, IsNewestOf, Answers}
 use Rattle.vx_import.specs.declared.judging.Given.{Given}
 use Rattle.vx_import.specs.declared.judging.ImportFault.{ImportFault}
-use Rattle.vx_import.proofs.Chained.{newest_or_names}
+use Rattle.vx_import.proofs.Chains.{newest_or_names}
 
 has_none : (mask k : ℕ) → mask < 2 ^ 32 → 32 ≤ k → has mask k ≡ false
 unfolding has

@@ -10,7 +10,7 @@ use Rattle.vx_objects.specs.declared.config.Config.{Config}
 use Rattle.vx_objects.specs.Config.{objects_of}
 use Rattle.vx_plans.specs.Records.{free_slot_from, slot_or_last, next_slot}
 use Rattle.vx_laws.proofs.ListFacts.{both_ways}
-use Rattle.vx_laws.proofs.Recorded.{disks_pass}
+use Rattle.vx_laws.proofs.Records.{disks_pass}
 
 -- a disk of the configuration has the slot
 abbrev pub is_used : ℕ → Config → Bool

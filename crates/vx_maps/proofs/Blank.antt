@@ -16,7 +16,7 @@ use Rattle.vx_pages.specs.Page.{AreAll}
 use Rattle.vx_maps.specs.Slots.{IsOpen, row_at}
 use Rattle.vx_maps.specs.Creating.{AreBlank}
 use Rattle.vx_pages.proofs.Bits.{no_bit}
-use Rattle.vx_pages.proofs.Opening.{full_bit}
+use Rattle.vx_pages.proofs.OpenBits.{full_bit}
 
 item_none : {A : Type 0} (none : A) (xs : List A) (i : ℕ) → length xs ≤ i → item_at none xs i ≡ none
 item_none none [] i le = refl

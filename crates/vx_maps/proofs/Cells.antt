@@ -18,9 +18,9 @@ use Rattle.vx_maps.specs.Wholes.{whole_copies}
 use Rattle.vx_maps.specs.Creating.{AllTell, copies_cut, run_cut}
 use Rattle.vx_maps.specs.Cutness.{slots_cut, sheets_cut}
 use Rattle.vx_maps.specs.Cutness.{second_cut as slots_second_cut}
-use Rattle.vx_maps.proofs.Placing.{place_in, grid_is}
-use Rattle.vx_maps.proofs.Filling.{filled_at, filled_size, no_piece}
-use Rattle.vx_maps.proofs.Beginning.{or_left, or_right, or_either}
+use Rattle.vx_maps.proofs.PlaceLaws.{place_in, grid_is}
+use Rattle.vx_maps.proofs.Fills.{filled_at, filled_size, no_piece}
+use Rattle.vx_maps.proofs.Beginnings.{or_left, or_right, or_either}
 
 cell_some : (xs : List SectorSeen) (m : ℕ) → m < length xs → cell_at xs m ≡ Some (sector_at xs m)
 cell_some [] m lt = absurd (omega (arith, lt))

@@ -5,7 +5,7 @@ use Rattle.std.proofs.lemmas.Bool.{cases_order}
 use Rattle.vx_piece.specs.Seen.{Seen}
 use Rattle.vx_pages.specs.Sector.{SectorSeen, copy_of, faults_on, faults_at}
 use Rattle.vx_maps.specs.Slots.{slot_at, grid_at, place_of, cell_piece, part_at, filled, slots_faults, grid_faults, Moved, MovedBoth, MovedSecond, SheetsSeen, HasCut, HasCuts, HasCutSecond, Whole, Wholes}
-use Rattle.vx_maps.proofs.Placing.{grid_there, grid_gone, grid_else, grid_empty, grid_faults_more, grid_faults_empty}
+use Rattle.vx_maps.proofs.PlaceLaws.{grid_there, grid_gone, grid_else, grid_empty, grid_faults_more, grid_faults_empty}
 
 pub filled_same : (size copy : ℕ) (pages pages' : List (List SectorSeen)) (k : ℕ) (xs ys : List (Option Seen)) → length ys ≡ length xs →
     ((i : ℕ) → i < length xs → part_at copy (slot_at ys i) (grid_at size pages' (k + i)) ≡ part_at copy (slot_at xs i) (grid_at size pages (k + i))) → filled size copy pages' k ys ≡ filled size copy pages k xs

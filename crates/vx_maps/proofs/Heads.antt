@@ -18,7 +18,7 @@ use Rattle.vx_maps.specs.Copies.{copies_list}
 use Rattle.vx_maps.specs.Loading.{IsHeadAs, copy_at}
 use Rattle.vx_maps.specs.Wholes.{second_faults, sheet_faults, whole_copies}
 use Rattle.vx_pages.specs.Sector.{second_faults as piece_faults}
-use Rattle.vx_maps.proofs.Beginning.{begins_both, begins_one, heads_cut, tells_one}
+use Rattle.vx_maps.proofs.Beginnings.{begins_both, begins_one, heads_cut, tells_one}
 use Rattle.vx_maps.proofs.Steps.{reads_same, sheets_changed}
 
 -- ---- how the pieces go on

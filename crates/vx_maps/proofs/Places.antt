@@ -15,7 +15,7 @@ use Rattle.vx_pages.specs.Page.{AreAll, ArePaired}
 use Rattle.vx_maps.specs.Slots.{slot_at, place_of, Moved, MovedBoth, MovedSecond, SheetsSeen, IsTakable, IsTakableSecond, IsPlaceable, IsPlaceableSecond, HoldsSingle, HasPieces, HasPiecesOn, HasPiecesSecond, HasHoles, HasHolesOn, HasHolesSecond, HasCuts, Wholes}
 use Rattle.vx_pages.proofs.Bits.{no_bit}
 use Rattle.vx_maps.proofs.Cuts.{cuts_in, cuts_out}
-use Rattle.vx_maps.proofs.Placing.{place_other}
+use Rattle.vx_maps.proofs.PlaceLaws.{place_other}
 
 some_single : (x : Option Seen) → HoldsSingle x → is_some x ≡ true
 some_single None h = absurd h

@@ -12,7 +12,7 @@ use Rattle.vx_pages.specs.Pages.{grid_seen}
 use Rattle.vx_maps.specs.Store.{AreOnCopies, page_at, pages_seen}
 use Rattle.vx_pages.specs.Page.{ArePairedAlike}
 use Rattle.vx_maps.specs.Slots.{AreHoled, ArePairedRows, IsHoled, IsHoledSecond, IsLaid, IsLaidOn, SheetsSeen, copies_in, is_paged, row_at}
-use Rattle.vx_maps.proofs.Making.{grid_paged}
+use Rattle.vx_maps.proofs.Sizes.{grid_paged}
 
 abbrev number : Bool → ℕ
 number b = if b then 2 else 1

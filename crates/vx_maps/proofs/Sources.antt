@@ -26,10 +26,10 @@ use Rattle.vx_maps.specs.Store.{AreLogsOf, pages_seen, store_log}
 use Rattle.vx_maps.specs.Stores.{store_seen}
 use Rattle.vx_maps.specs.Wholes.{copy_faults, store_copies, store_faults}
 use Rattle.vx_maps.proofs.Cells.{sector_tells}
-use Rattle.vx_maps.proofs.Claiming.{claims_at, claims_told, contents_same, same_at, same_count}
-use Rattle.vx_maps.proofs.Held.{grid_count, store_begins, store_count, store_holds, store_some, store_tells, tells_begin}
-use Rattle.vx_maps.proofs.Paged.{logs_goes}
-use Rattle.vx_maps.proofs.Refusing.{runs_tell}
+use Rattle.vx_maps.proofs.Claims.{claims_at, claims_told, contents_same, same_at, same_count}
+use Rattle.vx_maps.proofs.Contents.{grid_count, store_begins, store_count, store_holds, store_some, store_tells, tells_begin}
+use Rattle.vx_maps.proofs.PageRows.{logs_goes}
+use Rattle.vx_maps.proofs.Refusals.{runs_tell}
 use Rattle.vx_maps.proofs.Rows.{laid_holed}
 
 guarded : (a b x y : Bool) → (a ≡ true → b ≡ true → x ≡ y) → ((a && b) && x) ≡ ((a && b) && y)

@@ -10,7 +10,7 @@ use Rattle.vx_pages.specs.Sector.{Copies, SectorSeen, KeepsPiece, KeepsSector, c
 use Rattle.vx_pages.specs.Page.{EachSector, no_sector}
 use Rattle.vx_pages.specs.Reading.{ReadsSector}
 use Rattle.vx_pages.specs.Stays.{piece_same, piece_then}
-use Rattle.vx_pages.proofs.Keeping.{copies_then}
+use Rattle.vx_pages.proofs.SameCopies.{copies_then}
 use Rattle.vx_maps.specs.Slots.{IsLaid, IsLaidOn, Moved, MovedBoth, MovedSecond, SheetsSeen, slot_at}
 use Rattle.vx_maps.specs.Spares.{HasRoom, HasRoomSecond}
 use Rattle.vx_pages.specs.Pages.{PiecesGo, RowGoes}

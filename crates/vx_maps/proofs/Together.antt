@@ -12,8 +12,8 @@ use Rattle.vx_maps.specs.Copies.{copies_list}
 use Rattle.vx_maps.specs.Spares.{HasRoom, HasRoomSecond}
 use Rattle.vx_maps.specs.Wholes.{copy_faults, second_faults, whole_copies, whole_faults}
 use Rattle.vx_maps.specs.declared.joining.Spares.{Spares}
-use Rattle.vx_maps.proofs.Filling.{filled_size, grid_none}
-use Rattle.vx_maps.proofs.Running.{filled_in}
+use Rattle.vx_maps.proofs.Fills.{filled_size, grid_none}
+use Rattle.vx_maps.proofs.SlotRuns.{filled_in}
 
 full_of : (size copy : ℕ) (whole : Whole) (slots : List (Option Seen)) → HasCut size copy [] whole slots → AreFull slots
 full_of size copy whole slots cut k lt = cut.holed.holes k lt ∙ ap (λ (x : Option SectorSeen). not (is_some x)) (grid_none size k)

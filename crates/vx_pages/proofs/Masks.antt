@@ -9,7 +9,7 @@ use Rattle.vx_pages.specs.Sector.{SectorSeen, is_sure}
 use Rattle.vx_pages.specs.Page.{no_sector, sector_at}
 use Rattle.vx_pages.proofs.Bits.{empty_bit}
 use Rattle.vx_pages.proofs.Items.{at_is}
-use Rattle.vx_pages.proofs.Marking.{beyond}
+use Rattle.vx_pages.proofs.MarkSteps.{beyond}
 
 and_right : (b : Bool) → (b && true) ≡ b
 and_right true = refl

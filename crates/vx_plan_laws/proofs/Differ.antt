@@ -13,7 +13,7 @@ use Rattle.vx_rules.specs.Faults.{unless, first_some}
 use Rattle.vx_rules.specs.References.{has_name, repeated_after}
 use Rattle.vx_objects.proofs.OneGroup.{first_none, second_none, unless_none}
 use Rattle.vx_plan_laws.proofs.Counts.{count_cons, count_append, any_counts, none_counted, not_true}
-use Rattle.vx_plan_laws.proofs.Held.{both_none, unless_true}
+use Rattle.vx_plan_laws.proofs.FirstRefusals.{both_none, unless_true}
 
 -- how many records have the name
 abbrev pub had_by : Word → List Object → ℕ

@@ -26,10 +26,10 @@ use Rattle.vx_objects.specs.Edits.{change, added, target_fault, refusal_of}
 use Rattle.vx_objects.specs.Parts.{in_kinds}
 use Rattle.vx_plan_laws.proofs.Counts.{count_cons, count_append, none_counted, turned, all_map, all_append, all_both, IsAmong, each_among}
 use Rattle.vx_plan_laws.proofs.Differ.{AreOnce, had_by, has_had, once, once_more, twice}
-use Rattle.vx_plan_laws.proofs.Held.{IsFine, AreFine, each_holds, over_all, in_all}
+use Rattle.vx_plan_laws.proofs.FirstRefusals.{IsFine, AreFine, each_holds, over_all, in_all}
 use Rattle.vx_plan_laws.proofs.OneRule.{EachName}
 use Rattle.vx_plan_laws.proofs.Keeps.{Keeps, IsSame, disk_fine, record_kept, group_over, over_kept}
-use Rattle.vx_plan_laws.proofs.Sorted.{all_same, slot_kept, count_in_kinds, is_on, sorted}
+use Rattle.vx_plan_laws.proofs.Kinds.{all_same, slot_kept, count_in_kinds, is_on, sorted}
 
 -- records that all stay as they are
 pub all_stay : (os : List Object) → filter_map (λ o. Some o) os ≡ os

@@ -36,7 +36,7 @@ use Rattle.vx_rules.specs.Whole.{has_volume_within, holds_volume, is_whole}
 use Rattle.vx_objects.proofs.OneGroup.{second_none, unless_none}
 use Rattle.vx_plan_laws.proofs.Counts.{and_kept, first_of_two, second_of_two, first_of_three, turned, same_number, any_counts, any_like, any_kept}
 use Rattle.vx_plan_laws.proofs.Differ.{AreOnce, none_repeated}
-use Rattle.vx_plan_laws.proofs.Held.{both_none, both_kept, unless_true, unless_kept, IsFine, AreFine}
+use Rattle.vx_plan_laws.proofs.FirstRefusals.{both_none, both_kept, unless_true, unless_kept, IsFine, AreFine}
 use Rattle.vx_plan_laws.proofs.OneRule.{EachName, OfName, of_each, missing_kept, plex_asks, subdisk_asks, subdisk_like, refuted, pieces_by, bad_plex, bad_snap, maps_by, with_policy, holds_steady, reaches, length_from, none_overlaps, none_found, overlap_none, fewer, some_still, none_fewer}
 
 -- ---- what is as before

@@ -1,13 +1,13 @@
 mod Counts
-mod Held
+mod FirstRefusals
 mod Differ
 mod OneRule
 mod Keeps
-mod Sorted
-mod Recorded
+mod Kinds
+mod Records
 mod Policies
 mod Removals
 mod Joins
 mod Makings
-mod Tested
+mod Tests
 mod Refusals

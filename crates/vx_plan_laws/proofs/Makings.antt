@@ -29,9 +29,9 @@ use Rattle.vx_objects.proofs.OneGroup.{first_none, second_none}
 use Rattle.vx_plans.specs.Making.{reference_rules, limit_rules, space_rules, broken, started_name, adding_refusal}
 use Rattle.vx_plans.specs.Refusals.{refusal_from}
 use Rattle.vx_plan_laws.proofs.Differ.{new_name, once}
-use Rattle.vx_plan_laws.proofs.Held.{over_all, in_all}
+use Rattle.vx_plan_laws.proofs.FirstRefusals.{over_all, in_all}
 use Rattle.vx_plan_laws.proofs.Joins.{all_stay}
-use Rattle.vx_plan_laws.proofs.Sorted.{sorted}
+use Rattle.vx_plan_laws.proofs.Kinds.{sorted}
 
 -- ---- each rule that is broken is answered
 

@@ -21,7 +21,7 @@ use Rattle.vx_config_parts.specs.Objects.{is_subdisk, is_plex, is_snap, comes_be
 use Rattle.vx_rules.specs.Maps.{maps_fit}
 use Rattle.vx_rules.specs.References.{missing}
 use Rattle.vx_plan_laws.proofs.Counts.{or_never}
-use Rattle.vx_plan_laws.proofs.Held.{unless_kept}
+use Rattle.vx_plan_laws.proofs.FirstRefusals.{unless_kept}
 
 -- the name in the attribute, where there is one, is such
 abbrev pub OfName : (Word → Type 0) → Option Word → Type 0

@@ -25,10 +25,10 @@ use Rattle.vx_objects.specs.Edits.{set_vol, policy_kind, policy_plex, change, ad
 use Rattle.vx_objects.specs.Parts.{in_kinds}
 use Rattle.vx_plan_laws.proofs.Counts.{count_append, count_like, count_filter_map, all_append, all_filter_map}
 use Rattle.vx_plan_laws.proofs.Differ.{AreOnce, once}
-use Rattle.vx_plan_laws.proofs.Held.{IsFine, AreFine, unless_true, both_none, each_holds, over_all, in_all}
+use Rattle.vx_plan_laws.proofs.FirstRefusals.{IsFine, AreFine, unless_true, both_none, each_holds, over_all, in_all}
 use Rattle.vx_plan_laws.proofs.OneRule.{EachName, with_policy}
 use Rattle.vx_plan_laws.proofs.Keeps.{Keeps, IsSame, any_same, prefer_same, vol_kept, record_kept, over_kept}
-use Rattle.vx_plan_laws.proofs.Sorted.{is_on, slot_kept, sorted}
+use Rattle.vx_plan_laws.proofs.Kinds.{is_on, slot_kept, sorted}
 
 module _ (vol : Word) (next : VolState) (policy : PolicyName) where
   abbrev set : Object → Object

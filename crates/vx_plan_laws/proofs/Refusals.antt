@@ -38,7 +38,7 @@ use Rattle.vx_plans.proofs.Complete.{keeps_world, kept_world, each_plan_is_compl
 use Rattle.vx_plan_laws.specs.Refusing.{IsTooLong, OfGroup, Refuses, OneRefuses}
 use Rattle.vx_plan_laws.specs.Unbroken.{LetsThrough, PrefersItsPlex}
 use Rattle.vx_plan_laws.proofs.Makings.{making_kept}
-use Rattle.vx_plan_laws.proofs.Tested.{group_here, policy_law, removal_law, joining_law}
+use Rattle.vx_plan_laws.proofs.Tests.{group_here, policy_law, removal_law, joining_law}
 
 -- ---- what a stage needs of those before it
 

@@ -28,10 +28,10 @@ use Rattle.vx_objects.specs.Edits.{stays_without_vol, names_plex_of, kept, chang
 use Rattle.vx_objects.specs.Parts.{in_kinds}
 use Rattle.vx_plan_laws.proofs.Counts.{not_true, second_of_two, and_never, turned, count_append, count_like, count_le, count_without, count_filter_map, all_append, all_filter_map, all_both, IsAmong, each_among}
 use Rattle.vx_plan_laws.proofs.Differ.{AreOnce, once}
-use Rattle.vx_plan_laws.proofs.Held.{IsFine, AreFine, unless_true, both_none, each_holds, over_all, in_all}
+use Rattle.vx_plan_laws.proofs.FirstRefusals.{IsFine, AreFine, unless_true, both_none, each_holds, over_all, in_all}
 use Rattle.vx_plan_laws.proofs.OneRule.{OfName}
 use Rattle.vx_plan_laws.proofs.Keeps.{Keeps, IsSame, IsOn, any_same, record_kept, over_kept}
-use Rattle.vx_plan_laws.proofs.Sorted.{slot_kept, sorted}
+use Rattle.vx_plan_laws.proofs.Kinds.{slot_kept, sorted}
 
 guarded : (a b : Bool) → (b ≡ true → a ≡ true) → (a && b) ≡ b
 guarded true b on = refl

@@ -5,5 +5,5 @@ mod Chain
 mod Walks
 pub mod Plexes
 mod Apart
-pub mod Lying
+pub mod Shapes
 pub mod Room

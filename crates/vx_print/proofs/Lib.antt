@@ -1,2 +1,2 @@
-pub mod Chosen
-pub mod Ordered
+pub mod Choice
+pub mod Order

@@ -1,6 +1,6 @@
-pub mod Completed
-pub mod Joined
+pub mod Completion
+pub mod Joins
 pub mod ReadLines
 pub mod ReadSteps
-pub mod Stopped
+pub mod Faults
 pub mod ValidRecords

@@ -1,5 +1,5 @@
-pub mod Gathered
+pub mod FirstNames
 pub mod Lookups
 pub mod InOrder
-pub mod Counted
+pub mod Counts
 pub mod Earliest

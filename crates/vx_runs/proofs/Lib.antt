@@ -1,4 +1,4 @@
-pub mod Going
+pub mod Progress
 pub mod Parts
 pub mod ReadRuns
-pub mod Wrote
+pub mod WriteSteps

@@ -8,8 +8,8 @@ use Rattle.vx_piece.specs.Seen.{Seen, Keeps}
 use Rattle.vx_piece.specs.declared.piece.PieceFault.{PieceFault}
 use Rattle.vx_runs.specs.Part.{told_or, Tells, PartGives, IsPartRead, PartHasCause}
 use Rattle.vx_runs.specs.Run.{run_sectors, run_contents, RunTells, EachPiece, SameFaults, SameWrites, fault_at, IsRunRead}
-use Rattle.vx_runs.proofs.Going.{sectors_before, EachPart, StopsAt, each_part, each_stop, contents_in, tells_at, keeps_itself}
-use Rattle.vx_runs.proofs.Wrote.{stopped_cause}
+use Rattle.vx_runs.proofs.Progress.{sectors_before, EachPart, StopsAt, each_part, each_stop, contents_in, tells_at, keeps_itself}
+use Rattle.vx_runs.proofs.WriteSteps.{stopped_cause}
 
 -- a piece that was read, or was not
 pub record IsStill (p q : Seen) : Type 0 where

@@ -6,8 +6,8 @@ use Rattle.vx_script.specs.Choice.{Choice, choice, choose, or_others}
 use Rattle.vx_script.specs.Place.{IsPlace}
 use Rattle.vx_script.specs.Steps.{opened_by, command_step, administered, called, line_behind}
 use Rattle.vx_script.specs.declared.command.Command.{Command}
-use Rattle.vx_script.proofs.Keeping.{IsChoice, choice_is}
-use Rattle.vx_script.proofs.Placed.{In, in_all, place_is, sound_acts, sound_calls, sound_commands}
+use Rattle.vx_script.proofs.Continuations.{IsChoice, choice_is}
+use Rattle.vx_script.proofs.FormTables.{In, in_all, place_is, sound_acts, sound_calls, sound_commands}
 use Rattle.vx_script_forms.specs.FormOf.{form_of}
 use Rattle.vx_script_forms.specs.Table.{items_of, commands, calls, acts}
 use Rattle.vx_script_forms.specs.Values.{group_of}

@@ -2,8 +2,8 @@ pub mod Calls
 pub mod Carry
 pub mod Faults
 pub mod Heads
-pub mod Keeping
-pub mod Made
-pub mod Placed
+pub mod Continuations
+pub mod WholeLines
+pub mod FormTables
 pub mod Refusals
 pub mod Splits

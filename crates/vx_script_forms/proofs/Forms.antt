@@ -22,7 +22,7 @@ use Rattle.vx_script_words.specs.declared.class.Item.{Item}
 use Rattle.vx_script_words.specs.declared.class.Sort.TheVariants as sort
 use Rattle.vx_script_words.specs.declared.value.Value.{Value}
 use Rattle.vx_script_words.specs.declared.value.Value.TheVariants as value
-use Rattle.vx_script_forms.proofs.Decoded.{Saids, said_values, word_value, decoded}
+use Rattle.vx_script_forms.proofs.ValueForms.{Saids, said_values, word_value, decoded}
 
 -- ---- what may be left out
 

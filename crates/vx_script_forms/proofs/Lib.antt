@@ -1,2 +1,2 @@
-pub mod Decoded
+pub mod ValueForms
 pub mod Forms

@@ -1,6 +1,6 @@
 -- What is printed of the values of parts is read back, and has no blank.
 use Rattle.vx_script_print.proofs.Terms.{◌≡◌, ◌∙◌, sym, ap, refl, ℕ, zero, suc, ◌-◌, ◌*◌, ◌/◌, ◌%◌, ◌^◌, ◌<◌, ◌≤◌, inl, inr, Bool, true, false, List, [], ◌∷◌, ◌++◌, length, take, drop, arith, Option, Some, None, subst, map, Ok, Err, ltb-true, eq-eqb, cond, codes, decimal, is_some, not, nat_le, nat_lt, ◌==◌, ◌&&◌, ◌||◌, is_none, list_all, and_parts, not-true, and_from, or_cases, both_ways, cond-true, cond-false, eqb-true, and_left, and_right, or_from, false_from_ne_true, ne_eqb, true_from_ne_false, nat_tests, append-nil, append_assoc, length-append, take_all, drop_all, length-take, length-drop, length-map, map-id, take-append-drop, list_all-append, list_all-map, bytes_eq-Decides, word_again, AreBytes, spelled_block, is_hex_digit, is_short_word, is_long_word, is_block_word, byte_value, hex, hex_digit, block_word, is_name, is_name_byte, numeral_front, digits_value, numeral_before, decimal_number, decimal_numeral, decimal_value, decimal_name, decimal_short, value_text, class_word, plex_text, cut_blocks, words_of, row_words, cut_words, class_value, sort_value, value_behind, as_name, as_number, as_pair, is_between, is_byte, is_pair, is_of, maybe_name, pair_word, are_blocks, of_item, are_of, byte_of, block_of, text_of, number_of, within, units_of, length_of, behind, name_of, name_behind, cut_of, pair_of, just, plex_of, break_off_of, number_behind, Class, Sort, DiskAt, Value, take_front, drop_front, up_to_is, past_is, is_dark, is_dark_word, is_not, all_by, name_without, name_dark, name_parts, name_word, ands, right_of, bytes_eq, maybe_cut, items_of, Kind, So, one, taken, with_value, or_else, further, gather, pushed, joined, said, at_least_one, any_name, item, items, row, Read, and_then, line_end, cut_end, uncut, nothing_left, Spells, from_word, first_word, past_word, Item, Key, few_words, Words, Walked, accepts, is_named, group_words, on, walk, is_fixed, other_word, refused_again}
-use Rattle.vx_script_print.proofs.Printing.{cut_length}
+use Rattle.vx_script_print.proofs.Spelling.{cut_length}
 
 -- ---- bytes without blanks
 

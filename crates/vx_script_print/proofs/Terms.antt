@@ -27,7 +27,7 @@ pub use Rattle.vx_script_words.specs.declared.class.Class.{Class}
 pub use Rattle.vx_script_words.specs.declared.class.Sort.{Sort}
 pub use Rattle.vx_script_words.specs.declared.value.DiskAt.{DiskAt}
 pub use Rattle.vx_script_words.specs.declared.value.Value.{Value}
-pub use Rattle.vx_script_words.proofs.Packing.{take_front, drop_front, up_to_is, past_is}
+pub use Rattle.vx_script_words.proofs.Packs.{take_front, drop_front, up_to_is, past_is}
 pub use Rattle.vx_script_words.proofs.Plain.{is_dark, is_dark_word, is_not, all_by, name_without, name_dark, name_parts, name_word, ands, right_of, left_of}
 pub use Rattle.vx_script.specs.Kept.{maybe_cut, is_made, is_record_line, ends_line, is_said, is_line, is_command, is_kept, is_body}
 pub use Rattle.vx_script_forms.specs.Table.{items_of, commands, calls, acts}
@@ -38,7 +38,7 @@ pub use Rattle.vx_script_words.specs.Spelling.{Spells, spelled, begun}
 pub use Rattle.vx_script_words.specs.Words.{from_word, first_word, past_word, is_not_blank}
 pub use Rattle.vx_script_words.specs.declared.class.Item.{Item}
 pub use Rattle.vx_script_words.specs.declared.key.Key.{Key}
-pub use Rattle.vx_script_words.proofs.Spelled.{few_words, is_word, begun_words}
+pub use Rattle.vx_script_words.proofs.Spelling.{few_words, is_word, begun_words}
 pub use Rattle.vx_script_words.proofs.Walk.{Words, Walked, accepts, is_named, group_words, on, walk}
 pub use Rattle.vx_script.proofs.Heads.{is_word as is_fixed, other_word}
 pub use Rattle.vx_script_words.proofs.Opens.{refused_again, are_sound}
@@ -53,7 +53,7 @@ pub use Rattle.vx_script.specs.declared.reader.Reader.{Reader}
 pub use Rattle.vx_script.specs.declared.reader.Open.{Open}
 pub use Rattle.std.proofs.lemmas.List.Sums.{sum_by-cons}
 pub use Rattle.vx_script.specs.Choice.{choose, choice, or_others}
-pub use Rattle.vx_script.proofs.Placed.{In, in_all, fit_walks, is_sound, sound_commands}
+pub use Rattle.vx_script.proofs.FormTables.{In, in_all, fit_walks, is_sound, sound_commands}
 pub use Rattle.vx_script_forms.specs.FormOf.{form_of}
 pub use Rattle.vx_script_forms.specs.ValuesOf.{kind_of, values_of, opening, act_kind, call_kind}
 pub use Rattle.vx_script_forms.specs.declared.act.Act.{Act}
@@ -61,6 +61,6 @@ pub use Rattle.vx_script_forms.specs.declared.call.Call.{Call}
 pub use Rattle.vx_script_forms.specs.declared.block.Line.{Line}
 pub use Rattle.vx_script_forms.specs.declared.form.Form.{Form}
 pub use Rattle.vx_script_forms.proofs.Forms.{form_again, group_again}
-pub use Rattle.vx_script.proofs.Made.{whole_line, no_bad}
+pub use Rattle.vx_script.proofs.WholeLines.{whole_line, no_bad}
 pub use Rattle.std.proofs.lemmas.Grind.{common_steps, take_at_read}
 pub use Rattle.vx_script_words.specs.Blocks.{block_at}

@@ -17,7 +17,7 @@ pub fn read_back()
 {}
 
 /// Reading what was printed of a script that was read gives the same script, whatever the spelling of its text.
-#[tactic(auto, using(crate::proofs::Whole::script_read, vx_script::proofs::Keeping::read_kept))]
+#[tactic(auto, using(crate::proofs::Whole::script_read, vx_script::proofs::Continuations::read_kept))]
 pub fn read_again()
     ensures { ReadAgain }
 {}

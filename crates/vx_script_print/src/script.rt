@@ -32,7 +32,7 @@ fn put_commands(alloc: Global, commands: &[Command], out: &mut Vec<u8>) -> Resul
     Ok(())
 }
 
-#[tactic(auto, using(crate::proofs::Printing::line_steps))]
+#[tactic(auto, using(crate::proofs::Spelling::line_steps))]
 fn put_command(alloc: Global, command: &Command, out: &mut Vec<u8>) -> Result<(), OutOfMemory>
     ensures { OnOk result (out.new.items ≡ out.old.items ++ command_text command.now) }
 {

@@ -13,7 +13,7 @@ use vx_names::Name;
 use vx_script_words::{Blocks, Class, DiskAt, Item, Sort, Value, key_text};
 
 /// The words of a line, part by part.
-#[tactic(auto, using(crate::proofs::Printing::row_steps))]
+#[tactic(auto, using(crate::proofs::Spelling::row_steps))]
 pub fn put_row(
     alloc: Global,
     items: &[Item],
@@ -138,7 +138,7 @@ fn put_plex(plex: Option<Name>, out: &mut Vec<u8>) -> Result<(), OutOfMemory>
     }
 }
 
-#[tactic(auto, using(crate::proofs::Printing::word_steps))]
+#[tactic(auto, using(crate::proofs::Spelling::word_steps))]
 fn put_names(names: &[Name], out: &mut Vec<u8>) -> Result<(), OutOfMemory>
     ensures { OnOk result (out.new.items ≡ out.old.items ++ spelled names.now) }
 {
@@ -148,7 +148,7 @@ fn put_names(names: &[Name], out: &mut Vec<u8>) -> Result<(), OutOfMemory>
     Ok(())
 }
 
-#[tactic(auto, using(crate::proofs::Printing::word_steps))]
+#[tactic(auto, using(crate::proofs::Spelling::word_steps))]
 fn put_pairs(pairs: &[DiskAt], out: &mut Vec<u8>) -> Result<(), OutOfMemory>
     ensures { OnOk result (out.new.items ≡ out.old.items ++ spelled (map pair_word pairs.now)) }
 {
@@ -159,7 +159,7 @@ fn put_pairs(pairs: &[DiskAt], out: &mut Vec<u8>) -> Result<(), OutOfMemory>
     Ok(())
 }
 
-#[tactic(auto, using(crate::proofs::Printing::block_steps))]
+#[tactic(auto, using(crate::proofs::Spelling::block_steps))]
 fn put_blocks(blocks: &Blocks, out: &mut Vec<u8>) -> Result<(), OutOfMemory>
     ensures { OnOk result (out.new.items ≡ out.old.items ++ spelled (map block_word (cut_blocks (length blocks.now / 512) blocks.now))) }
 {

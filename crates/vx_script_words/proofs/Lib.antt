@@ -1,12 +1,12 @@
 pub mod BlockLists
-pub mod Fitting
-pub mod Lined
+pub mod Fits
+pub mod LineWords
 pub mod Lines
 pub mod Numbers
 pub mod Opens
-pub mod Packing
+pub mod Packs
 pub mod Places
 pub mod Plain
 pub mod Sorts
-pub mod Spelled
+pub mod Spelling
 pub mod Walk

@@ -15,7 +15,7 @@ use Rattle.vx_script_words.specs.declared.class.Item.{Item}
 use Rattle.vx_script_words.specs.declared.class.Item.TheVariants.{One, Maybe, Group, NoGroup, Names, Pairs, Blocks}
 use Rattle.vx_script_words.specs.declared.class.Sort.{Sort}
 use Rattle.vx_script_words.specs.declared.class.Sort.TheVariants as sort
-use Rattle.vx_script_words.proofs.Spelled.{is_word}
+use Rattle.vx_script_words.proofs.Spelling.{is_word}
 use Rattle.vx_script_words.proofs.Walk.{Words, Walked, Test, accepts, is_named, is_paired, is_blocked, both_on, one_word, after, some_words, no_words, end_words, on, walk, same_err, enough}
 
 -- a word of the sort, and one of the class

@@ -1,4 +1,4 @@
-pub mod Ran
-pub mod Ended
-mod Told
+pub mod Runs
+pub mod Ends
+mod Shelves
 mod Soundly

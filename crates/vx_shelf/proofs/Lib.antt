@@ -1,7 +1,7 @@
-pub mod Counted
+pub mod Counts
 pub mod Devices
-pub mod Listing
-pub mod Made
+pub mod Listings
+pub mod NewImages
 pub mod Numbers
 pub mod Places
-pub mod Taken
+pub mod Holds

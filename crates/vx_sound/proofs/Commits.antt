@@ -15,13 +15,13 @@ use Rattle.vx_plans.specs.Stages.{IsChange, IsImporting, edits_of, IsMaking}
 use Rattle.vx_plans.specs.declared.stage.Change.{Change}
 use Rattle.vx_plans.proofs.Carriers.{FoundBy, found_by}
 use Rattle.vx_sound.specs.Standing.{HoldsNoHeader, IsLeading, IsStanding}
-use Rattle.vx_sound.proofs.Edited.{IsGrown, change_grown, make_grown, import_grown}
+use Rattle.vx_sound.proofs.Edits.{IsGrown, change_grown, make_grown, import_grown}
 use Rattle.vx_sound.proofs.Ready.{IsReady}
 use Rattle.vx_sound.proofs.ReadyToWrite.{IsLed, led, ready_alone}
-use Rattle.vx_sound.proofs.Imported.{found_led}
-use Rattle.vx_sound.proofs.Committing.{sound_on}
-use Rattle.vx_sound.proofs.Leading.{leading_on}
-use Rattle.vx_sound.proofs.Settled.{IsSettled}
+use Rattle.vx_sound.proofs.Imports.{found_led}
+use Rattle.vx_sound.proofs.CommitSteps.{sound_on}
+use Rattle.vx_sound.proofs.Leaders.{leading_on}
+use Rattle.vx_sound.proofs.Settlement.{IsSettled}
 
 -- the group goes by this end
 abbrev pub MustGo : End → Type 0

@@ -13,7 +13,7 @@ use Rattle.vx_base.proofs.NamedLemmas.{bytes_eq_self, bytes_eq_same}
 use Rattle.vx_mask.proofs.Tests.{or_cases, or_from_left, or_from_right}
 use Rattle.vx_record.specs.Content.{Content}
 use Rattle.vx_record.specs.Grammar.{Spells}
-use Rattle.vx_record.proofs.Stopped.{spells_one}
+use Rattle.vx_record.proofs.Faults.{spells_one}
 use Rattle.vx_config_parts.specs.declared.group.Group.{Group}
 use Rattle.vx_config_parts.specs.declared.disk.Disk.{Disk}
 use Rattle.vx_config_parts.specs.declared.object.Object.{Object}

@@ -13,10 +13,10 @@ use Rattle.vx_moments.specs.Holding.{IsMemberDevice}
 use Rattle.vx_plans.specs.Stages.{IsImageMade, HasContents}
 use Rattle.vx_sound.specs.Offers.{IsHeaded}
 use Rattle.vx_sound.specs.Standing.{IsOwn, IsLeading, IsStanding}
-use Rattle.vx_sound.proofs.Headed.{size_above, none_filled, never_some, some_same}
+use Rattle.vx_sound.proofs.Headers.{size_above, none_filled, never_some, some_same}
 use Rattle.vx_sound.proofs.Fewer.{HadEach, HasOrNone}
 use Rattle.vx_sound.proofs.Lists.{all_imp, all_without, one_of}
-use Rattle.vx_sound.proofs.Settled.{MemberStays, standing_still}
+use Rattle.vx_sound.proofs.Settlement.{MemberStays, standing_still}
 
 -- the device has no header that counts
 abbrev HasNoLabel : Device → Type 0

@@ -11,7 +11,7 @@ use Rattle.vx_mask.proofs.Tests.{not_both, true_or_false}
 use Rattle.vx_sector.specs.Fields.{zeros}
 use Rattle.vx_header.specs.Named.{header_of}
 use Rattle.vx_header.specs.Said.{Said, toggle_of}
-use Rattle.vx_header.proofs.Saying.{zeros_say}
+use Rattle.vx_header.proofs.Toggles.{zeros_say}
 use Rattle.vx_copies.specs.Image.{Offer, offer_by, offer_of, text_in, toggle_at, sectors_for}
 use Rattle.vx_copies.specs.Lists.{AnyOf}
 use Rattle.vx_copies.specs.Written.{Holds, HalfStays, OldOrText}
@@ -22,7 +22,7 @@ use Rattle.vx_moments.specs.Copies.{label_of, KeepsToggle, IsTurned, IsStruck}
 use Rattle.vx_moments.specs.Commit.{Writing, parties, IsMaskOf, DeviceGoes, MemberGoes, JoinerGoes, IsNoDeviceOf, IsCommitting}
 use Rattle.vx_moments.specs.Holding.{IsLent}
 use Rattle.vx_sound.specs.Offers.{IsHeaded, Offers}
-use Rattle.vx_sound.proofs.Headed.{some_same}
+use Rattle.vx_sound.proofs.Headers.{some_same}
 use Rattle.vx_sound.proofs.Lists.{listed_one, any_or_none, any_left, any_right, any_split, all_two}
 use Rattle.vx_sound.proofs.Ready.{IsReady, IsHeadedAs, IsBlank}
 

@@ -1,18 +1,18 @@
-mod Headed
+mod Headers
 mod Fewer
 mod Configs
 mod Lists
-mod Edited
+mod Edits
 mod Ready
 mod DevicesAfterCommit
-mod Committing
-mod Leading
+mod CommitSteps
+mod Leaders
 mod ReadyToWrite
-mod Imported
-mod Settled
+mod Imports
+mod Settlement
 mod Devices
 mod Volumes
-mod Joining
+mod Joiners
 mod Commits
 mod Runs
 pub mod Steps

@@ -11,7 +11,7 @@ use Rattle.vx_sound.specs.Offers.{Offers}
 use Rattle.vx_sound.specs.Sound.{IsNewest, IsChained}
 use Rattle.vx_sound.specs.Standing.{IsOwn, Carries, IsLeading}
 use Rattle.vx_sound.proofs.Configs.{Records}
-use Rattle.vx_sound.proofs.Edited.{IsGrown}
+use Rattle.vx_sound.proofs.Edits.{IsGrown}
 use Rattle.vx_sound.proofs.Lists.{all_imp, all_from, all_join, one_of}
 use Rattle.vx_sound.proofs.Ready.{IsReady, IsHeadedAs, IsBlank}
 

@@ -13,7 +13,7 @@ use Rattle.vx_plans.specs.Tests.{fails}
 use Rattle.vx_plans.specs.declared.stages.Finish.{Finish}
 use Rattle.vx_plans.specs.declared.stage.Stage.{Stage}
 use Rattle.vx_plans.specs.declared.stage.Stage.TheVariants as stage
-use Rattle.vx_sound.proofs.Joining.{HasSearched}
+use Rattle.vx_sound.proofs.Joiners.{HasSearched}
 
 -- what a stage that leaves the world has found there; of another, nothing
 abbrev pub Passed : Stage → List DiskAt → World → Type 0

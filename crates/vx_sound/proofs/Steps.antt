@@ -40,13 +40,13 @@ use Rattle.vx_plans.specs.declared.test.Test.TheVariants as tests
 use Rattle.vx_sound.specs.Laws.{FormWritesNoHeader, WriteNoHeader, IsIdle}
 use Rattle.vx_sound.specs.Sound.{AreSound}
 use Rattle.vx_sound.specs.Standing.{IsLeading, IsStanding}
-use Rattle.vx_sound.proofs.Headed.{never_some}
+use Rattle.vx_sound.proofs.Headers.{never_some}
 use Rattle.vx_sound.proofs.Commits.{Ends, commit_done, commit_stopped, change_ready, make_ready, import_ready, imported_led}
 use Rattle.vx_sound.proofs.Devices.{standing_image, standing_torn, standing_wiped}
-use Rattle.vx_sound.proofs.Joining.{all_unheld, all_blank, room_for, ready_join, ready_create}
+use Rattle.vx_sound.proofs.Joiners.{all_unheld, all_blank, room_for, ready_join, ready_create}
 use Rattle.vx_sound.proofs.Ready.{IsReady}
 use Rattle.vx_sound.proofs.Runs.{AreCalm, AllPassed, Through, runs_through}
-use Rattle.vx_sound.proofs.Settled.{settled, standing_gone, standing_left}
+use Rattle.vx_sound.proofs.Settlement.{settled, standing_gone, standing_left}
 use Rattle.vx_sound.proofs.Volumes.{standing_bare, standing_served}
 
 same_ends : (end : End) (w v : World) → v ≡ w → IsStanding w → Ends end v

@@ -21,10 +21,10 @@ use Rattle.vx_moments.specs.Holding.{IsLent, IsMemberDevice, HasDevice}
 use Rattle.vx_plans.specs.Calls.{volume_of, start_of, count_of, values_of, done_kind, failed_kind, IsOf, AreOf, Tells, IsServed, CallRuns}
 use Rattle.vx_plans.specs.Stages.{IsBare, bare_volume, HasNoHeader}
 use Rattle.vx_sound.specs.Standing.{HoldsNoHeader, IsStanding}
-use Rattle.vx_sound.proofs.Headed.{none_filled, never_some, some_same}
+use Rattle.vx_sound.proofs.Headers.{none_filled, never_some, some_same}
 use Rattle.vx_sound.proofs.Fewer.{HadEach, HasOrNone}
 use Rattle.vx_sound.proofs.Lists.{all_from, all_imp, all_without}
-use Rattle.vx_sound.proofs.Settled.{MemberStays, standing_still}
+use Rattle.vx_sound.proofs.Settlement.{MemberStays, standing_still}
 
 -- ---- a volume is started
 

@@ -22,16 +22,16 @@ use Rattle.vx_house.specs.Holders.{holders, group_holders, hand_holder, volume_h
 use Rattle.vx_house.specs.Scene.{Shelved}
 use Rattle.vx_house.specs.View.{at, IsMoment, KeepsHouse}
 use Rattle.vx_house.specs.declared.house.House.{House}
-use Rattle.vx_house.proofs.Ended.{moment_but_group}
-use Rattle.vx_house.proofs.Listed.{all_each}
-use Rattle.vx_commits.proofs.Called.{holder_in}
-use Rattle.vx_commits.proofs.Joined.{AreCalled, AreWritten, moment_on, back_gone}
+use Rattle.vx_house.proofs.Ends.{moment_but_group}
+use Rattle.vx_house.proofs.AllLaws.{all_each}
+use Rattle.vx_commits.proofs.DeviceLaws.{holder_in}
+use Rattle.vx_commits.proofs.Joins.{AreCalled, AreWritten, moment_on, back_gone}
 use Rattle.vx_commits.proofs.Members.{member_in, writing, IsGone}
-use Rattle.vx_commits.proofs.Slotted.{slotted}
+use Rattle.vx_commits.proofs.Slots.{slotted}
 use Rattle.vx_stage_changes.specs.Creating.{disks_from, IsDrawn}
 use Rattle.vx_stage_changes.proofs.NewConfig.{named_so}
-use Rattle.vx_stage_changes.proofs.Enlisted.{names_in, all_good, have_slots, hand_held, members_from, records_from}
-use Rattle.vx_stage_changes.proofs.Entered.{IsWhole, joins_called, joins_went, joins_enlisted}
+use Rattle.vx_stage_changes.proofs.Enlistment.{names_in, all_good, have_slots, hand_held, members_from, records_from}
+use Rattle.vx_stage_changes.proofs.Entry.{IsWhole, joins_called, joins_went, joins_enlisted}
 use Rattle.vx_house.proofs.Lists.{all_of_pairs}
 
 -- A house whose devices in hand were to become a group, with this configuration, and as their disks are now.

@@ -26,10 +26,10 @@ use Rattle.vx_house.specs.declared.house.Imported.{Imported}
 use Rattle.vx_house.specs.declared.stop.Stop.{Stop}
 use Rattle.vx_house.specs.declared.stop.Stop.TheVariants as stops
 use Rattle.vx_house.proofs.Moments.{later_refl, faults_refl}
-use Rattle.vx_house.proofs.Ended.{moment_but_group}
+use Rattle.vx_house.proofs.Ends.{moment_but_group}
 use Rattle.vx_commits.proofs.Alone.{IsWrittenIn, alone, x_alone, lost_alone, cut_alone, committed_alone}
 use Rattle.vx_commits.proofs.Holders.{group_before}
-use Rattle.vx_commits.proofs.Kept.{sized_now, slots_now, recorded_now}
+use Rattle.vx_commits.proofs.Stillness.{sized_now, slots_now, recorded_now}
 use Rattle.vx_commits.proofs.CommitStage.{done_stage, group_lost_stage, power_lost_stage}
 use Rattle.vx_stage_changes.specs.Changing.{IsMeant, ChangeEnds}
 use Rattle.vx_commits.specs.Committing.{IsTried, IsFinished, CommitEnds}

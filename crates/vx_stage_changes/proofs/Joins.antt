@@ -29,18 +29,18 @@ use Rattle.vx_house.specs.declared.house.House.{House}
 use Rattle.vx_house.specs.declared.house.Imported.{Imported}
 use Rattle.vx_house.specs.declared.house.Taken.{Taken}
 use Rattle.vx_house.specs.declared.stop.Stop.TheVariants as stops
-use Rattle.vx_house.proofs.Ended.{moment_but_group}
+use Rattle.vx_house.proofs.Ends.{moment_but_group}
 use Rattle.vx_commits.specs.Committing.{stop_of}
 use Rattle.vx_commits.proofs.Alone.{low_by}
-use Rattle.vx_commits.proofs.Done.{any_good}
+use Rattle.vx_commits.proofs.GoodDisks.{any_good}
 use Rattle.vx_commits.proofs.Holders.{same_members, world_group, group_is}
-use Rattle.vx_commits.proofs.Joined.{AreDone, group_lost_on, power_lost_on, group_committed_on}
+use Rattle.vx_commits.proofs.Joins.{AreDone, group_lost_on, power_lost_on, group_committed_on}
 use Rattle.vx_commits.proofs.Members.{member_in}
 use Rattle.vx_commits.proofs.CommitStage.{volumes_kept, group_lost_stage, power_lost_stage, done_stage}
 use Rattle.vx_stage_changes.specs.Joining.{disk_for, IsJoin, IsInHand, IsPlaced}
-use Rattle.vx_stage_changes.proofs.Admitted.{IsAdmitted, hs, js, bs, ks, whole, same_name, front_is, back_is, admitted, written, x, joining}
-use Rattle.vx_stage_changes.proofs.Entered.{joins_named, joined_members}
-use Rattle.vx_stage_changes.proofs.Gained.{kept_joined}
+use Rattle.vx_stage_changes.proofs.Admission.{IsAdmitted, hs, js, bs, ks, whole, same_name, front_is, back_is, admitted, written, x, joining}
+use Rattle.vx_stage_changes.proofs.Entry.{joins_named, joined_members}
+use Rattle.vx_stage_changes.proofs.Gains.{kept_joined}
 
 module _ {P : Type 0} {see : P → Seen} {shelf : Shelved} {pair : DiskAt} {old now : House P} {g g' : Imported P} {t : Taken P} {slot : ℕ} {text : List ℕ} {next : Config} (a : IsAdmitted see shelf pair old now g g' t slot text next) where
   hand_kept : AllOf (λ u. 0 < (see u.piece).sectors) now.hand.items

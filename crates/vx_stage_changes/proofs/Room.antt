@@ -21,7 +21,7 @@ use Rattle.vx_house.specs.View.{HaveSlots, AreRecorded, IsGroupKept}
 use Rattle.vx_house.specs.declared.house.Imported.{Imported}
 use Rattle.vx_house.specs.declared.house.Taken.{Taken}
 use Rattle.vx_house.specs.declared.stop.Stop.{Stop}
-use Rattle.vx_house.proofs.Listed.{all_each, all_unmapped}
+use Rattle.vx_house.proofs.AllLaws.{all_each, all_unmapped}
 use Rattle.vx_stage_changes.specs.Joining.{has_slot, IsSlot, disk_for, join_edits, AddEnds, JoinEnds, IsInHand, IsPlaced, IsKeptBack}
 use Rattle.vx_stage_changes.specs.Planning.{IsPlanned, IsShortText, IsUnplanned}
 use Rattle.vx_stage_changes.specs.declared.planning.NextConfig.{NextConfig}

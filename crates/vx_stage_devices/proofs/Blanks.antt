@@ -26,15 +26,15 @@ use Rattle.vx_house.specs.declared.house.House.{House}
 use Rattle.vx_house.specs.declared.house.Taken.{Taken}
 use Rattle.vx_house.specs.declared.stop.Stop.{Stop}
 use Rattle.vx_house.specs.declared.stop.Stop.TheVariants.{Ended, OutOfMemory}
-use Rattle.vx_house.proofs.Listed.{all_each}
-use Rattle.vx_house.proofs.Ended.{keeps_ended, goes_ended}
+use Rattle.vx_house.proofs.AllLaws.{all_each}
+use Rattle.vx_house.proofs.Ends.{keeps_ended, goes_ended}
 use Rattle.vx_house.proofs.Moments.{moment_at}
 use Rattle.vx_house.proofs.Scenes.{scene_of}
 use Rattle.vx_stage_devices.specs.Looks.{IsOnlyRead, IsReadOnce, IsReadBlank, IsHeadedSeen, EndsBy, HandStops, HandLooks}
 use Rattle.vx_stage_devices.proofs.Readings.{IsCounted, counted_on, counted_told, counted_self, counted_each, reads_these, IsLooked, looked_on, looked_told, looked_self, looked_each, reads_most, still_each}
 use Rattle.vx_house.proofs.Steps.{IsStep}
-use Rattle.vx_copies.proofs.Going.{each_map}
-use Rattle.vx_copies.proofs.Ordering.{each_all}
+use Rattle.vx_copies.proofs.StepLaws.{each_map}
+use Rattle.vx_copies.proofs.ToggleOrder.{each_all}
 use Rattle.vx_house.proofs.Hands.{after, IsInWorld, volumes_held, group_held, volumes_others, group_others, hand_held, hand_in_world, hand_steps, hand_keeps, hand_faults, hand_later, hand_moment}
 
 or_true : (a b : Bool) → b ≡ true → (a || b) ≡ true

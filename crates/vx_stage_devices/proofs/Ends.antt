@@ -31,15 +31,15 @@ use Rattle.vx_house.specs.declared.house.House.{House}
 use Rattle.vx_house.specs.declared.house.Taken.{Taken}
 use Rattle.vx_house.specs.declared.stop.Stop.{Stop}
 use Rattle.vx_house.specs.declared.stop.Stop.TheVariants.{Ended, OutOfMemory}
-use Rattle.vx_house.proofs.Ended.{keeps_ended, goes_ended}
+use Rattle.vx_house.proofs.Ends.{keeps_ended, goes_ended}
 use Rattle.vx_house.proofs.Free.{not_held, told_is_free, free_is_told}
-use Rattle.vx_house.proofs.Held.{same_held}
+use Rattle.vx_house.proofs.Holders.{same_held}
 use Rattle.vx_house.specs.Reading.{Stays}
 use Rattle.vx_house.proofs.Moments.{moment_at, counts_own, counts_later}
-use Rattle.vx_house.proofs.Reading.{stays_same, stays_device, stays_place, stays_writes}
+use Rattle.vx_house.proofs.Reads.{stays_same, stays_device, stays_place, stays_writes}
 use Rattle.vx_house.proofs.Takes.{some_of}
 use Rattle.vx_stage_devices.specs.Seeks.{NamesSeen, IsSeenOnly, IsSoughtOnce, IsPlace, ArePlaces, IsOnlySought, Seeks, SeekCause, SeekEnds, SeeksThrough}
-use Rattle.vx_stage_devices.proofs.Searched.{seeks_only, seeks_then, only_then, ends_then}
+use Rattle.vx_stage_devices.proofs.Searches.{seeks_only, seeks_then, only_then, ends_then}
 use Rattle.vx_house.proofs.Hands.{IsInWorld, in_world}
 
 -- what is seen of a place that was read at most

@@ -1,11 +1,11 @@
 pub mod Passes
 pub mod Readings
 pub mod Blanks
-pub mod Headed
-pub mod Wiped
-pub mod Imaged
+pub mod Headers
+pub mod Wipes
+pub mod Images
 pub mod Entries
-pub mod Bared
-pub mod Sought
-pub mod Searched
+pub mod BareVolumes
+pub mod Seeks
+pub mod Searches
 pub mod Ends

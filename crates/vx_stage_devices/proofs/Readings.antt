@@ -14,9 +14,9 @@ use Rattle.vx_house.specs.View.{at, IsMoment}
 use Rattle.vx_house.specs.declared.house.House.{House}
 use Rattle.vx_house.specs.declared.house.Taken.{Taken}
 use Rattle.vx_stage_devices.specs.Looks.{IsOnlyRead, IsReadOnce}
-use Rattle.vx_house.proofs.Reading.{IsReadOn, read_self}
+use Rattle.vx_house.proofs.Reads.{IsReadOn, read_self}
 use Rattle.vx_house.proofs.Steps.{IsStep, HeldStep, held_steps, place_by, faults_by}
-use Rattle.vx_copies.proofs.Going.{each_map}
+use Rattle.vx_copies.proofs.StepLaws.{each_map}
 use Rattle.vx_house.proofs.Hands.{none_in_hand}
 
 only_read : {P : Type 0} (see : P → Seen) (t u : Taken P) → IsOnlyRead see t u → IsReadOn t.device (see t.piece) (see u.piece)

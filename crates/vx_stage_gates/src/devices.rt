@@ -92,7 +92,7 @@ fn is_short(name: &Name) -> bool
 }
 
 /// The first limit that a new group passes, if it passes one.
-#[tactic(auto, using(crate::proofs::Mapped::short_names, crate::proofs::Mapped::sized_devices))]
+#[tactic(auto, using(crate::proofs::DiskLists::short_names, crate::proofs::DiskLists::sized_devices))]
 pub(crate) fn group_limits<P: Piece>(
     house: &House<P>,
     dg: &Name,
@@ -114,7 +114,7 @@ pub(crate) fn group_limits<P: Piece>(
 }
 
 /// The first limit that disks pass which are to join the imported group, if they pass one.
-#[tactic(auto, using(crate::proofs::Mapped::short_names, crate::proofs::Mapped::sized_devices))]
+#[tactic(auto, using(crate::proofs::DiskLists::short_names, crate::proofs::DiskLists::sized_devices))]
 pub(crate) fn join_limits<P: Piece>(house: &House<P>, disks: &[DiskAt]) -> Option<Refusal>
     ensures { result ≡ limit_passed (slot_in (group_of P.seen house.now.group) + 1) (names_of disks.now) (are_disk_sized (plain P.seen house.now) (devices_of disks.now)) }
 {

@@ -12,10 +12,10 @@ use Rattle.vx_moments.specs.Holding.{is_among}
 use Rattle.vx_house.specs.Holders.{Holder, held_as, AreHeld}
 use Rattle.vx_house.specs.Reading.{IsReturned}
 use Rattle.vx_house.specs.Scene.{Shelved, Scene, seen_in, seen_at, count_in, reads_at}
-use Rattle.vx_house.proofs.Held.{take_one, held_at}
+use Rattle.vx_house.proofs.Holders.{take_one, held_at}
 use Rattle.vx_house.proofs.Scenes.{scene_of, IsHanded, take_scene, give_scene}
 use Rattle.vx_house.proofs.Steps.{each_name}
-use Rattle.vx_house.proofs.TakenAndRead as took
+use Rattle.vx_house.proofs.ReadsInHand as took
 use Rattle.vx_stage_import.specs.Gathering.{IsHeaderRead, HeadersRead}
 use Rattle.vx_stage_import.proofs.Names.{less_apart, rising_at, or_true, or_first}
 

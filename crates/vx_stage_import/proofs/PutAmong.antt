@@ -13,12 +13,12 @@ use Rattle.vx_copies.specs.Lists.{AllOf, AnyOf}
 use Rattle.vx_import.specs.Looks.{Looked, looked}
 use Rattle.vx_import.specs.declared.device.GroupDevice.{GroupDevice}
 use Rattle.vx_house.specs.Scene.{Shelved}
-use Rattle.vx_house.proofs.Held.{all_put}
+use Rattle.vx_house.proofs.Holders.{all_put}
 use Rattle.vx_stage_import.specs.Places.{slots_of, ArePlaced, IsPlace}
 use Rattle.vx_stage_import.specs.Finds.{AreRoomy, IsFind, IsNaming}
 use Rattle.vx_stage_import.specs.Gathering.{IsPut, IsSlotUsed, IsKept, KeepEnds, LookBy}
 use Rattle.vx_stage_import.specs.declared.gathering.Passed.TheVariants.{Done}
-use Rattle.vx_stage_import.proofs.Placed.{placed_in}
+use Rattle.vx_stage_import.proofs.Places.{placed_in}
 
 module _ {P : Type 0} (see : P → Seen) where
   put_looks : (fs : List (GroupDevice P)) (i : ℕ) (f : GroupDevice P) → IsPut (looked see f) (map (looked see) fs) (map (looked see) (insert fs i f))

@@ -19,10 +19,10 @@ use Rattle.vx_house.specs.Reading.{Stays}
 use Rattle.vx_house.specs.Scene.{Shelved, Scene, seen_at, count_in, reads_at, counts_of}
 use Rattle.vx_house.specs.View.{IsMoment, at, scene}
 use Rattle.vx_house.specs.declared.house.House.{House}
-use Rattle.vx_house.proofs.Listed.{all_mapped, all_two, held_by_one}
+use Rattle.vx_house.proofs.AllLaws.{all_mapped, all_two, held_by_one}
 use Rattle.vx_stage_import.specs.Finds.{holder_of, holders_of, beside, contents_in, candidate_of}
 use Rattle.vx_stage_import.specs.Importing.{all_read, IsSince}
-use Rattle.vx_stage_import.proofs.Counting.{IsThere, all_there, found_device, one_candidate}
+use Rattle.vx_stage_import.proofs.Counts.{IsThere, all_there, found_device, one_candidate}
 use Rattle.vx_stage_import.proofs.Headers.{same_reads}
 use Rattle.vx_stage_import.proofs.ReadAtMost.{IsReadSo, header_so, reads_so, not_held_here}
 

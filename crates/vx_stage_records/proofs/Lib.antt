@@ -1,3 +1,3 @@
-mod Judged
-mod DisksKept
+mod Verdicts
+mod SameDisks
 mod MakeStage

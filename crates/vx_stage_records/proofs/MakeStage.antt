@@ -31,7 +31,7 @@ use Rattle.vx_house.specs.declared.stop.Stop.TheVariants as stops
 use Rattle.vx_house.proofs.Takes.{rests_self}
 use Rattle.vx_stage_changes.proofs.EditStage.{IsStage, unchanged, refused_here, house, same_house, group_at, edits_go}
 use Rattle.vx_stage_records.specs.Judging.{is_running, IsReady, MakeEnds}
-use Rattle.vx_stage_records.proofs.DisksKept.{group_kept, disks_kept}
+use Rattle.vx_stage_records.proofs.SameDisks.{group_kept, disks_kept}
 
 -- names that are started alike refuse alike
 same_names : (f g : Word → Bool) → ((vol : Word) → f vol ≡ g vol) → (os : List Object) → started_name f os ≡ started_name g os

@@ -1,7 +1,7 @@
-pub mod Spliced
-pub mod Filled
-pub mod Chosen
-pub mod Gone
-pub mod Parted
-pub mod Kept
-pub mod Served
+pub mod Splices
+pub mod Fills
+pub mod Choice
+pub mod PartSteps
+pub mod PartWrites
+pub mod CallCounts
+pub mod Service

@@ -17,7 +17,7 @@ use Rattle.vx_core.specs.Soundness.{IsBetween, IsOpen, IsSoundUnder}
 use Rattle.vx_core.specs.Schedule.{run}
 use Rattle.vx_core.proofs.ScheduleLaws.{keeps_run, kept_from_fresh}
 use Rattle.vx_core_laws.specs.Course.{IsKeptState}
-use Rattle.vx_core_laws.proofs.Begun.{settled_begins}
+use Rattle.vx_core_laws.proofs.Beginnings.{settled_begins}
 use Rattle.vx_image.specs.Image.{PlexImage, LogCopy, Image, WasStarted, IsFilled, regions_of, is_available, is_available_state, is_read, is_alone, has_no_copy, is_unmarked_by_some}
 use Rattle.vx_image.specs.Meaning.{plexes_read, StandsForCandidates, IsMarkedInEach, IsMarkedWithin}
 use Rattle.vx_image.specs.Soundness.{IsChoiceOfMarks, IsSoundImage}

@@ -11,7 +11,7 @@ use Rattle.vx_core.specs.Region.{RegionState, Fixed, told}
 use Rattle.vx_core.specs.Schedule.{Happening, run, AllFit, IsFresh}
 use Rattle.vx_core.proofs.ScheduleLaws.{keeps_run, kept_from_fresh}
 use Rattle.vx_core_laws.specs.Quiet.{AllQuiet, IsStill}
-use Rattle.vx_core_laws.proofs.Begun.{settled_begins}
+use Rattle.vx_core_laws.proofs.Beginnings.{settled_begins}
 use Rattle.vx_core_laws.proofs.Stills.{quiet_schedule}
 use Rattle.vx_image.specs.Image.{LogCopy, Image, WasStarted, is_available_state}
 use Rattle.vx_image.specs.Meaning.{candidates_read, StandsForCandidates}

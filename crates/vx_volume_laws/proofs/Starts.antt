@@ -9,7 +9,7 @@ use Rattle.vx_config_parts.specs.declared.state.VolState.{VolState}
 use Rattle.vx_config_parts.specs.declared.state.VolState.TheVariants as vol
 use Rattle.vx_core.specs.Schedule.{run}
 use Rattle.vx_core.proofs.ScheduleLaws.{keeps_run, kept_from_fresh}
-use Rattle.vx_core_laws.proofs.Begun.{settled_begins}
+use Rattle.vx_core_laws.proofs.Beginnings.{settled_begins}
 use Rattle.vx_plexes.proofs.Members.{IsIn}
 use Rattle.vx_image.specs.Image.{PlexImage, LogCopy, Image, regions_of, has_no_copy, is_available, is_alone, is_unmarked_by_some}
 use Rattle.vx_image.specs.Meaning.{lowest_of, plexes_read, plex_values, candidates_read}

@@ -8,7 +8,7 @@ use Rattle.vx_mask.proofs.Tests.{and_not, and_not_parts, both_parts, never_true,
 use Rattle.vx_marks.specs.Log.{IsHonest}
 use Rattle.vx_marks.proofs.Honest.{others_stay}
 use Rattle.vx_pages.specs.Setting.{Done, Torn, Begun, Still, differ}
-use Rattle.vx_pages.proofs.Setting.{same_either}
+use Rattle.vx_pages.proofs.Sets.{same_either}
 use Rattle.vx_whole_maps.specs.Laws.{SettingStaysHonest}
 
 -- ---- one map on one copy: it was claimed (c), shown (x) and loose (l); `here` says whether it is the one that is set, and `on` to what

@@ -1,4 +1,4 @@
 pub mod Honest
-pub mod Listed
+pub mod Lists
 pub mod LowBits
 pub mod PageByPage

@@ -6,7 +6,7 @@ use Rattle.std.proofs.lemmas.List.{get_or-set_same, get_or-set_other}
 use Rattle.std.proofs.lemmas.Nat.{pow_below, pow_pos}
 use Rattle.std.proofs.lemmas.Nat.Bits.{bit_at_above, bit_at_ones}
 use Rattle.vx_mask.specs.Mask.{has}
-use Rattle.vx_pages.proofs.Differing.{has-and}
+use Rattle.vx_pages.proofs.Differences.{has-and}
 
 has-ones : (n k : ℕ) → has (2 ^ n - 1) k ≡ nat_lt k n
 unfolding has

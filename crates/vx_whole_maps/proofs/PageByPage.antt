@@ -12,7 +12,7 @@ use Rattle.vx_marks.specs.declared.marker.MarkFault.{MarkFault}
 use Rattle.vx_marks.specs.declared.marker.MarkFault.TheVariants.{Failed, PowerLost, Busy}
 use Rattle.vx_mapfmt.specs.Sizes.{page_count}
 use Rattle.vx_pages.specs.Setting.{Come, Done, Still, IsMapSet, MarksBy, SetsSoFar, claim_by, come_on, come_to}
-use Rattle.vx_pages.proofs.Setting.{same_either}
+use Rattle.vx_pages.proofs.Sets.{same_either}
 use Rattle.vx_whole_maps.specs.Bytes.{map_bit}
 
 -- ---- what a log keeps, and why a call answers so

@@ -1,4 +1,4 @@
-use Rattle.vx_laws.proofs.Outlived.{each_group_outlives_power}
+use Rattle.vx_laws.proofs.Survival.{each_group_outlives_power}
 use Rattle.vx_laws.proofs.each_group_outlives_power.Goals as goal
 
 pub returns : goal.returns

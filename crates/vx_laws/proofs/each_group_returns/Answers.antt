@@ -1,4 +1,4 @@
-use Rattle.vx_laws.proofs.Returned.{each_group_returns}
+use Rattle.vx_laws.proofs.Returns.{each_group_returns}
 use Rattle.vx_laws.proofs.each_group_returns.Goals as goal
 
 pub returns : goal.returns

@@ -1,4 +1,4 @@
-use Rattle.vx_laws.proofs.Joined.{each_joined_group_is_whole}
+use Rattle.vx_laws.proofs.Joins.{each_joined_group_is_whole}
 use Rattle.vx_laws.proofs.each_joined_group_is_whole.Goals as goal
 
 pub returns : goal.returns

@@ -1,5 +1,5 @@
 use Rattle.vx_laws.proofs.Lives.{from_nothing}
-use Rattle.vx_laws.proofs.Kept.{transcript_kept}
+use Rattle.vx_laws.proofs.Transcripts.{transcript_kept}
 use Rattle.vx_laws.specs.Histories.{WasThere}
 use Rattle.vx_laws.proofs.each_volume_has_a_history.Goals as goal
 

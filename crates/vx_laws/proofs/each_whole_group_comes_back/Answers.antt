@@ -1,4 +1,4 @@
-use Rattle.vx_laws.proofs.Returned.{each_whole_group_comes_back}
+use Rattle.vx_laws.proofs.Returns.{each_whole_group_comes_back}
 use Rattle.vx_laws.proofs.each_whole_group_comes_back.Goals as goal
 
 pub returns : goal.returns

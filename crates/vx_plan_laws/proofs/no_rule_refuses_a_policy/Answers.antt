@@ -1,4 +1,4 @@
-use Rattle.vx_plan_laws.proofs.Tested.{policy_law}
+use Rattle.vx_plan_laws.proofs.Tests.{policy_law}
 use Rattle.vx_plan_laws.proofs.no_rule_refuses_a_policy.Goals as goal
 
 pub returns : goal.returns

@@ -1,4 +1,4 @@
-use Rattle.vx_plan_laws.proofs.Tested.{removal_law}
+use Rattle.vx_plan_laws.proofs.Tests.{removal_law}
 use Rattle.vx_plan_laws.proofs.no_rule_refuses_a_removal.Goals as goal
 
 pub returns : goal.returns

@@ -1,4 +1,4 @@
-use Rattle.vx_carve.proofs.Lying.{blocks_on, blocks_free, list_apart}
+use Rattle.vx_carve.proofs.Places.{blocks_on, blocks_free, list_apart}
 use Rattle.vx_carve.proofs.laws.blocks_lie_on_strips.Goals as goal
 
 pub returns-clause-on : goal.returns-clause-on

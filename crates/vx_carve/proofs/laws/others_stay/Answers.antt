@@ -1,4 +1,4 @@
-use Rattle.vx_carve.proofs.Lying.{list_stays, volumes_stay, blocks_stay}
+use Rattle.vx_carve.proofs.Places.{list_stays, volumes_stay, blocks_stay}
 use Rattle.vx_carve.proofs.laws.others_stay.Goals as goal
 
 pub returns-clause-plexes : goal.returns-clause-plexes

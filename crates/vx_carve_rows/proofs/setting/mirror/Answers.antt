@@ -1,7 +1,7 @@
 use Rattle.std.proofs.Common.{rules, ◌≡◌, ◌∷◌, [], List, sym, subst}
 use Rattle.vx_layout.specs.declared.layout.Layout.{Layout}
 use Rattle.vx_carve_rows.specs.Setting.{AreSetOut}
-use Rattle.vx_carve_rows.proofs.Given.{set_two}
+use Rattle.vx_carve_rows.proofs.Disks.{set_two}
 use Rattle.vx_carve_rows.proofs.setting.mirror.Goals as goal
 
 pub invariant_of-result-clause-set_out : goal.invariant_of-result-clause-set_out

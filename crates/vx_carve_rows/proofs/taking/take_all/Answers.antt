@@ -7,10 +7,10 @@ use Rattle.vx_carve.specs.Together.{SameSectors}
 use Rattle.vx_carve.specs.Carved.{AreOn, AreFreeBlocks, AreApartBlocks, StaysBeside}
 use Rattle.vx_carve.proofs.Same.{same_refl}
 use Rattle.vx_carve.proofs.Runs.{once_rest}
-use Rattle.vx_carve.proofs.Lying.{blocks_on, blocks_free, list_apart, blocks_stay}
+use Rattle.vx_carve.proofs.Places.{blocks_on, blocks_free, list_apart, blocks_stay}
 use Rattle.vx_carve.proofs.Plexes.{in_region, before_region, map_turned, same_rows_turned}
 use Rattle.vx_carve_rows.specs.Setting.{numbers}
-use Rattle.vx_carve_rows.proofs.Given.{have_numbers, all_open, held, free_strips, are_plexes, in_total, more_rows}
+use Rattle.vx_carve_rows.proofs.Disks.{have_numbers, all_open, held, free_strips, are_plexes, in_total, more_rows}
 use Rattle.vx_carve_rows.proofs.taking.take_all.Goals as goal
 
 pub regions-init : goal.regions-init

@@ -3,7 +3,7 @@ use Rattle.std.specs.List.{All}
 use Rattle.vx_carve.specs.Together.{owners}
 use Rattle.vx_carve.specs.Carved.{IsPlaced, wanted}
 use Rattle.vx_carve_rows.specs.Setting.{numbers}
-use Rattle.vx_carve_rows.proofs.Given.{all_open, all_placed, equal_le}
+use Rattle.vx_carve_rows.proofs.Disks.{all_open, all_placed, equal_le}
 use Rattle.vx_carve_rows.proofs.taking.whole.Goals as goal
 
 pub carve-requires-clause-placed : goal.carve-requires-clause-placed

@@ -4,7 +4,7 @@ use Rattle.vx_core.specs.declared.stage.Event.TheVariants.{WriteFailed, ReadFail
 use Rattle.vx_cell.specs.declared.fault.Place.TheVariants.{Data}
 use Rattle.vx_cell.specs.Plexes.{plexes_seen}
 use Rattle.vx_cell.specs.Acts.{IsAskable, FailsAt}
-use Rattle.vx_cell.proofs.Placed.{placed_write, placed_read}
+use Rattle.vx_cell.proofs.Rises.{placed_write, placed_read}
 use Rattle.vx_cell.proofs.acts.carry_out.Goals as goal
 
 pub returns-in-WriteCall-clause-placed : goal.returns-in-WriteCall-clause-placed

@@ -1,5 +1,5 @@
 use Rattle.std.proofs.Common.{ℕ, Bool}
-use Rattle.vx_cell.proofs.Standing.{call_stands}
+use Rattle.vx_cell.proofs.Stands.{call_stands}
 use Rattle.vx_cell.proofs.laws.each_call_stands.Goals as goal
 
 pub returns-clause-number : goal.returns-clause-number

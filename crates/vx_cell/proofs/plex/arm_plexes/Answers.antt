@@ -1,6 +1,6 @@
 use Rattle.std.proofs.Common.{refl, arith, rules}
 use Rattle.vx_cell.specs.Plexes.{plexes_seen}
-use Rattle.vx_cell.proofs.Arming.{arm_next, arm_all}
+use Rattle.vx_cell.proofs.Arms.{arm_next, arm_all}
 use Rattle.vx_cell.proofs.plex.arm_plexes.Goals as goal
 
 pub loop-index-preserved : goal.loop-index-preserved

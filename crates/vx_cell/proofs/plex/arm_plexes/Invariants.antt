@@ -1,6 +1,6 @@
 use Rattle.std.proofs.Common.{◌≡◌, length}
 use Rattle.vx_cell.specs.Plexes.{plexes_seen}
-use Rattle.vx_cell.proofs.Arming.{FirstArmed}
+use Rattle.vx_cell.proofs.Arms.{FirstArmed}
 use Rattle.vx_cell.proofs.plex.arm_plexes.Given as goal
 
 abbrev pub invariant-loop-index : goal.invariant-loop-index

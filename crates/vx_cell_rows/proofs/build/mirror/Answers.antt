@@ -1,5 +1,5 @@
 use Rattle.std.proofs.Common.{refl, ◌∙◌}
-use Rattle.vx_cell_rows.proofs.Built.{mirror_ready}
+use Rattle.vx_cell_rows.proofs.Masks.{mirror_ready}
 use Rattle.vx_cell_rows.proofs.build.mirror.Goals as goal
 
 pub returns : goal.returns

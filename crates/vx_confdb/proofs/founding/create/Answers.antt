@@ -1,5 +1,5 @@
 use Rattle.std.proofs.Common.{arith}
-use Rattle.vx_confdb.proofs.Enlisting.{all_none}
+use Rattle.vx_confdb.proofs.Enlistment.{all_none}
 use Rattle.vx_confdb.proofs.founding.create.Goals as goal
 
 pub returns-then-text-clause-writes : goal.returns-then-text-clause-writes

@@ -4,11 +4,11 @@ use Rattle.vx_copies.specs.Disks.{disk_seen}
 use Rattle.vx_confdb.specs.Prepare.{AllPrepared}
 use Rattle.vx_confdb.specs.declared.joining.Prepared.TheVariants.{Done, Cut}
 use Rattle.vx_confdb.specs.Texts.{text_of}
-use Rattle.vx_confdb.proofs.Grouped.{headed_stays}
-use Rattle.vx_copies.proofs.Ordering.{none_newer}
+use Rattle.vx_confdb.proofs.Labels.{headed_stays}
+use Rattle.vx_copies.proofs.ToggleOrder.{none_newer}
 use Rattle.vx_copies.specs.Written.{sectors_of}
-use Rattle.vx_confdb.proofs.Enlisting.{all_begun, all_enlisted, all_just, done_all}
-use Rattle.vx_confdb.proofs.Begun.{none_all, none_below, prepared_ready, prepared_headed, none_or_text, none_still, all_prepare, all_join, refused_by, tell_all, sound_none}
+use Rattle.vx_confdb.proofs.Enlistment.{all_begun, all_enlisted, all_just, done_all}
+use Rattle.vx_confdb.proofs.NoOffers.{none_all, none_below, prepared_ready, prepared_headed, none_or_text, none_still, all_prepare, all_join, refused_by, tell_all, sound_none}
 use Rattle.vx_confdb.specs.Create.{IsBegun}
 use Rattle.vx_confdb.specs.Groups.{IsAlive}
 use Rattle.vx_confdb.proofs.founding.found.Goals as goal

@@ -1,6 +1,6 @@
 use Rattle.std.proofs.Common.{◌≡◌, ◌∙◌, sym, ap, length}
 use Rattle.std.proofs.lemmas.List.{with_items_is}
-use Rattle.vx_confdb.proofs.Preparing.{joined_in}
+use Rattle.vx_confdb.proofs.Preparation.{joined_in}
 use Rattle.vx_confdb.proofs.joining.join_all.Goals as goal
 
 pub prepare_all-requires-clause-fresh : goal.prepare_all-requires-clause-fresh

@@ -2,7 +2,7 @@ use Rattle.std.proofs.Common.{◌≡◌, false, length, rules, refl, sym, ◌∙
 use Rattle.std.proofs.lemmas.List.{take_all}
 use Rattle.vx_copies.specs.Disks.{disk_seen}
 use Rattle.vx_sector.specs.Fields.{zeros}
-use Rattle.vx_confdb.proofs.Preparing.{front_write, front_just, front_more, front_then, zero_begins, zero_blank, prepares_trans}
+use Rattle.vx_confdb.proofs.Preparation.{front_write, front_just, front_more, front_then, zero_begins, zero_blank, prepares_trans}
 use Rattle.vx_confdb.proofs.joining.prepare.Goals as goal
 
 pub put_header-requires-clause-blank : goal.put_header-requires-clause-blank

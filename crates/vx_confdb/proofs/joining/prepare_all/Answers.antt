@@ -1,12 +1,12 @@
 use Rattle.std.proofs.Common.{refl, rules, arith, add-one}
 use Rattle.vx_copies.specs.Disks.{disk_seen, IsCut}
-use Rattle.vx_copies.proofs.Going.{each_refl, each_map}
+use Rattle.vx_copies.proofs.StepLaws.{each_refl, each_map}
 use Rattle.vx_copies.specs.Written.{WritesJust}
-use Rattle.vx_copies.proofs.Passing.{pass_next, pass_stop, pass_all}
-use Rattle.vx_copies.proofs.Placed.{go_on, all_more, any_set}
+use Rattle.vx_copies.proofs.Passes.{pass_next, pass_stop, pass_all}
+use Rattle.vx_copies.proofs.GoodCounts.{go_on, all_more, any_set}
 use Rattle.vx_confdb.specs.Prepare.{IsPrepared, Fronts, Prepares, PrepareEnds}
 use Rattle.vx_confdb.specs.declared.joining.Prepared.TheVariants.{Done, Cut}
-use Rattle.vx_confdb.proofs.Preparing.{FrontsJust, front_of, front_none, just_of, prepares_refl, prepares_trans, fresh_at, fresh_rest}
+use Rattle.vx_confdb.proofs.Preparation.{FrontsJust, front_of, front_none, just_of, prepares_refl, prepares_trans, fresh_at, fresh_rest}
 use Rattle.vx_confdb.proofs.joining.prepare_all.Goals as goal
 
 pub disks-init : goal.disks-init

@@ -2,8 +2,8 @@ use Rattle.std.proofs.Common.{◌≡◌, ◌-◌, ◌≤◌, length, map, take, 
 use Rattle.vx_copies.specs.Lists.{Each, AllOf}
 use Rattle.vx_copies.specs.Disks.{disk_seen}
 use Rattle.vx_confdb.specs.Prepare.{IsFresh, Prepares, IsPrepared}
-use Rattle.vx_copies.proofs.Passing.{PassedTo}
-use Rattle.vx_confdb.proofs.Preparing.{FrontsJust}
+use Rattle.vx_copies.proofs.Passes.{PassedTo}
+use Rattle.vx_confdb.proofs.Preparation.{FrontsJust}
 use Rattle.vx_confdb.proofs.joining.prepare_all.Given as goal
 
 abbrev pub invariant-disks : goal.invariant-disks

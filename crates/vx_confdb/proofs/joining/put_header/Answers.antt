@@ -2,8 +2,8 @@ use Rattle.vx_copies.proofs.Halves.{wide_on}
 use Rattle.std.proofs.Common.{◌≡◌, false, arith, rules, refl, ◌∙◌, ap, Some}
 use Rattle.vx_copies.specs.Disks.{disk_seen}
 use Rattle.vx_header.specs.Named.{Label, header_of}
-use Rattle.vx_header.proofs.Naming.{header_back}
-use Rattle.vx_confdb.proofs.Preparing.{front_write, front_just, header_begins, header_blank, header_named, blank_names}
+use Rattle.vx_header.proofs.Labels.{header_back}
+use Rattle.vx_confdb.proofs.Preparation.{front_write, front_just, header_begins, header_blank, header_named, blank_names}
 use Rattle.vx_confdb.proofs.joining.put_header.Goals as goal
 
 pub returns-in-Ok-clause-prepares : goal.returns-in-Ok-clause-prepares

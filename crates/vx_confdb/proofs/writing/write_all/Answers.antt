@@ -1,7 +1,7 @@
 use Rattle.std.proofs.Common.{◌≡◌, ◌∙◌, sym, ap, length}
 use Rattle.std.proofs.lemmas.List.{with_items_is, length-map}
 use Rattle.vx_copies.specs.Disks.{disk_seen}
-use Rattle.vx_confdb.proofs.Filling.{carried_in}
+use Rattle.vx_confdb.proofs.Zeros.{carried_in}
 use Rattle.vx_confdb.proofs.writing.write_all.Goals as goal
 
 pub returns : goal.returns

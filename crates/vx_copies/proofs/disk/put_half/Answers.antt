@@ -1,6 +1,6 @@
 use Rattle.std.proofs.Common.{rules, refl}
 use Rattle.vx_copies.proofs.Halves.{wide_on, half_inside, half_told, half_text, names_on, half_put, half_holds}
-use Rattle.vx_copies.proofs.Counted.{ok_not_cut, most_writes, just_writes, half_sectors}
+use Rattle.vx_copies.proofs.Counts.{ok_not_cut, most_writes, just_writes, half_sectors}
 use Rattle.vx_copies.proofs.disk.put_half.Goals as goal
 
 pub write-requires : goal.write-requires

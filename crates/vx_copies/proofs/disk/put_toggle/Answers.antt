@@ -1,7 +1,7 @@
 use Rattle.std.proofs.Common.{◌-◌, false, rules, refl, arith, length}
 use Rattle.vx_copies.proofs.Halves.{wide_on, said_there, toggle_told, toggle_offer, toggle_named, toggle_says, toggle_failed, toggle_there}
-use Rattle.vx_copies.proofs.Going.{if_good}
-use Rattle.vx_copies.proofs.Counted.{ok_not_cut, most_writes, just_writes, one_block}
+use Rattle.vx_copies.proofs.StepLaws.{if_good}
+use Rattle.vx_copies.proofs.Counts.{ok_not_cut, most_writes, just_writes, one_block}
 use Rattle.vx_copies.specs.Disks.{disk_seen}
 use Rattle.vx_copies.proofs.disk.put_toggle.Goals as goal
 

@@ -2,12 +2,12 @@ use Rattle.std.proofs.Common.{◌≡◌, refl, get_or, rules, arith, add-one}
 use Rattle.vx_copies.specs.Disks.{disk_seen, Stays, IsReady, HasSpare}
 use Rattle.vx_copies.specs.Pass.{HalfEnds}
 use Rattle.vx_copies.specs.declared.disk.Pass.TheVariants.{Done}
-use Rattle.vx_copies.proofs.Going.{each_refl, each_map, stays_refl, stays_trans, same_refl, same_trans}
-use Rattle.vx_copies.proofs.Placed.{all_at, all_set, all_more, go_on}
+use Rattle.vx_copies.proofs.StepLaws.{each_refl, each_map, stays_refl, stays_trans, same_refl, same_trans}
+use Rattle.vx_copies.proofs.GoodCounts.{all_at, all_set, all_more, go_on}
 use Rattle.vx_copies.specs.Steps.{HalfDone, HalfPut}
-use Rattle.vx_copies.proofs.Passing.{pass_next, pass_all, pass_stop}
-use Rattle.vx_copies.proofs.Touching.{half_put, half_none}
-use Rattle.vx_copies.proofs.Stopped.{halves_stop}
+use Rattle.vx_copies.proofs.Passes.{pass_next, pass_all, pass_stop}
+use Rattle.vx_copies.proofs.Touches.{half_put, half_none}
+use Rattle.vx_copies.proofs.Stops.{halves_stop}
 use Rattle.vx_copies.proofs.pass.put_halves.Goals as goal
 
 pub halves-init : goal.halves-init

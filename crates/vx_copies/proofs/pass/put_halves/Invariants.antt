@@ -2,7 +2,7 @@ use Rattle.std.proofs.Common.{◌≡◌, ◌-◌, ◌≤◌, length, map, take}
 use Rattle.vx_copies.specs.Lists.{Each, AllOf}
 use Rattle.vx_copies.specs.Disks.{disk_seen, Stays, IsReady, HasSpare}
 use Rattle.vx_copies.specs.Steps.{HalfDone}
-use Rattle.vx_copies.proofs.Passing.{PassedTo}
+use Rattle.vx_copies.proofs.Passes.{PassedTo}
 use Rattle.vx_copies.proofs.pass.put_halves.Given as goal
 
 abbrev pub invariant-halves : goal.invariant-halves

@@ -4,13 +4,13 @@ use Rattle.std.proofs.lemmas.List.{take_all}
 use Rattle.vx_copies.specs.Disks.{disk_seen, Stamps, IsReady, HasSpare, IsOffer}
 use Rattle.vx_copies.specs.Pass.{ToggleEnds}
 use Rattle.vx_copies.specs.declared.disk.Pass.TheVariants.{Done}
-use Rattle.vx_copies.proofs.Going.{each_refl, each_map, stamps_refl, stamps_trans, same_refl, same_trans}
-use Rattle.vx_copies.proofs.Placed.{all_at, all_set, all_more, all_first, all_rest, go_on}
-use Rattle.vx_copies.proofs.Turning.{all_kept, all_turned, stop_first, rest_more}
+use Rattle.vx_copies.proofs.StepLaws.{each_refl, each_map, stamps_refl, stamps_trans, same_refl, same_trans}
+use Rattle.vx_copies.proofs.GoodCounts.{all_at, all_set, all_more, all_first, all_rest, go_on}
+use Rattle.vx_copies.proofs.Turns.{all_kept, all_turned, stop_first, rest_more}
 use Rattle.vx_copies.specs.Steps.{ToggleDone, TogglePut}
-use Rattle.vx_copies.proofs.Passing.{pass_next, pass_all, pass_stop}
-use Rattle.vx_copies.proofs.Touching.{toggle_put, toggle_none}
-use Rattle.vx_copies.proofs.Stopped.{toggles_stop}
+use Rattle.vx_copies.proofs.Passes.{pass_next, pass_all, pass_stop}
+use Rattle.vx_copies.proofs.Touches.{toggle_put, toggle_none}
+use Rattle.vx_copies.proofs.Stops.{toggles_stop}
 use Rattle.vx_copies.proofs.pass.put_toggles.Goals as goal
 
 pub toggles-init : goal.toggles-init

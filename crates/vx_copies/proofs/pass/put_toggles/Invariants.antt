@@ -3,7 +3,7 @@ use Rattle.vx_copies.specs.Lists.{Each, AllOf}
 use Rattle.vx_copies.specs.Disks.{disk_seen, Stamps, IsReady, HasSpare, IsOffer}
 use Rattle.vx_copies.specs.Pass.{KeepsOffer}
 use Rattle.vx_copies.specs.Steps.{ToggleDone}
-use Rattle.vx_copies.proofs.Passing.{PassedTo}
+use Rattle.vx_copies.proofs.Passes.{PassedTo}
 use Rattle.vx_copies.proofs.pass.put_toggles.Given as goal
 
 abbrev pub invariant-toggles : goal.invariant-toggles

@@ -6,15 +6,15 @@ use Rattle.vx_copies.specs.Commit.{AttemptEnds}
 use Rattle.vx_copies.specs.Written.{IsMaskOf, CarriesIfGood}
 use Rattle.vx_copies.specs.Pass.{HalvesEnd, TogglesEnd}
 use Rattle.vx_copies.specs.declared.disk.Pass.TheVariants.{Done}
-use Rattle.vx_copies.proofs.Going.{each_map, all_trans, each_first, stays_all, stamps_all, slots_stay}
-use Rattle.vx_copies.proofs.Chained.{sound_stays, sound_stamps, sound_turned, sound_later, still_named, stays_was}
-use Rattle.vx_copies.proofs.Ordering.{all_stay, all_attempted, order_on}
-use Rattle.vx_copies.proofs.Leading.{members_go, led_stays, led_stamps}
-use Rattle.vx_copies.proofs.Turning.{tells_if_good, all_tell, front_tells, first_done}
-use Rattle.vx_copies.proofs.Placed.{same_count, count_first}
+use Rattle.vx_copies.proofs.StepLaws.{each_map, all_trans, each_first, stays_all, stamps_all, slots_stay}
+use Rattle.vx_copies.proofs.Chains.{sound_stays, sound_stamps, sound_turned, sound_later, still_named, stays_was}
+use Rattle.vx_copies.proofs.ToggleOrder.{all_stay, all_attempted, order_on}
+use Rattle.vx_copies.proofs.Leaders.{members_go, led_stays, led_stamps}
+use Rattle.vx_copies.proofs.Turns.{tells_if_good, all_tell, front_tells, first_done}
+use Rattle.vx_copies.proofs.GoodCounts.{same_count, count_first}
 use Rattle.vx_copies.proofs.Masks.{good_named}
-use Rattle.vx_copies.proofs.Tried.{halves_tried, toggles_tried, same_mask}
-use Rattle.vx_copies.proofs.Recording.{Fades, goes_fade, mask_of, all_half_touch, all_touch, all_once, all_carry}
+use Rattle.vx_copies.proofs.Trials.{halves_tried, toggles_tried, same_mask}
+use Rattle.vx_copies.proofs.Records.{Fades, goes_fade, mask_of, all_half_touch, all_touch, all_once, all_carry}
 use Rattle.vx_copies.proofs.writing.attempt.Goals as goal
 
 pub returns-in-Done-clause-goes : goal.returns-in-Done-clause-goes

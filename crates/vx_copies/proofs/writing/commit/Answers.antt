@@ -1,4 +1,4 @@
-use Rattle.vx_copies.proofs.Chosen.{gives, below_all}
+use Rattle.vx_copies.proofs.Choice.{gives, below_all}
 use Rattle.vx_copies.proofs.AfterDone.{ok_is}
 use Rattle.vx_copies.proofs.writing.commit.Goals as goal
 

@@ -4,16 +4,16 @@ use Rattle.vx_copies.specs.Lists.{Each, AllOf}
 use Rattle.vx_copies.specs.Disks.{DiskSeen, disk_seen, good_count}
 use Rattle.vx_copies.specs.Commit.{AttemptEnds}
 use Rattle.vx_copies.specs.declared.disk.Pass.TheVariants.{Done, Dropped}
-use Rattle.vx_copies.proofs.Going.{each_refl, each_map, all_refl, all_risen, each_first}
-use Rattle.vx_copies.proofs.Placed.{count_first, same_count}
+use Rattle.vx_copies.proofs.StepLaws.{each_refl, each_map, all_refl, all_risen, each_first}
+use Rattle.vx_copies.proofs.GoodCounts.{count_first, same_count}
 use Rattle.vx_copies.specs.Written.{IsMaskOf, sectors_of, WritesJust}
-use Rattle.vx_copies.proofs.Touching.{touches_none, all_on}
-use Rattle.vx_copies.proofs.Recording.{Fades, goes_fade, mask_then, mask_before, quiet_before, quiet_count}
-use Rattle.vx_copies.proofs.Ordering.{order_below, in_order}
-use Rattle.vx_copies.proofs.Leading.{led_below, members_go}
-use Rattle.vx_copies.proofs.Chosen.{below_all}
+use Rattle.vx_copies.proofs.Touches.{touches_none, all_on}
+use Rattle.vx_copies.proofs.Records.{Fades, goes_fade, mask_then, mask_before, quiet_before, quiet_count}
+use Rattle.vx_copies.proofs.ToggleOrder.{order_below, in_order}
+use Rattle.vx_copies.proofs.Leaders.{led_below, members_go}
+use Rattle.vx_copies.proofs.Choice.{below_all}
 use Rattle.vx_copies.proofs.AfterDone.{older_all}
-use Rattle.vx_copies.proofs.Tried.{one_more, count_few}
+use Rattle.vx_copies.proofs.Trials.{one_more, count_few}
 use Rattle.vx_copies.proofs.writing.commit_on.Goals as goal
 
 pub again-init : goal.again-init

@@ -11,7 +11,7 @@ use Rattle.vx_core.proofs.FailLaws.{fails}
 use Rattle.vx_core.proofs.FollowLaws.{follows}
 use Rattle.vx_core.proofs.FormLaws.{forms}
 use Rattle.vx_core.proofs.Keeps.{keeps}
-use Rattle.vx_core.proofs.Named.{named}
+use Rattle.vx_core.proofs.ActNames.{named}
 use Rattle.vx_core.proofs.PossibleLaws.{possible}
 use Rattle.vx_core.proofs.ProgressLaws.{progresses}
 use Rattle.vx_core.proofs.ReadLaws.{reads}

@@ -1,4 +1,4 @@
-use Rattle.vx_core_laws.proofs.Begun.{settled_begins}
+use Rattle.vx_core_laws.proofs.Beginnings.{settled_begins}
 use Rattle.vx_core_laws.proofs.laws.each_settled_begins.Goals as goal
 
 pub returns : goal.returns

@@ -1,7 +1,7 @@
 use Rattle.std.proofs.Common.{rules, arith, ◌≡◌, ◌∷◌, ◌++◌, [], sym, subst}
 use Rattle.vx_cut.specs.Same.{HasSome}
 use Rattle.vx_cut.proofs.Same.{same_is}
-use Rattle.vx_cut.proofs.Cutting.{same_moved, same_halved, some_left, some_push, less_moved, less_halved}
+use Rattle.vx_cut.proofs.Parts.{same_moved, same_halved, some_left, some_push, less_moved, less_halved}
 use Rattle.vx_cut.proofs.cut.cut_next.Goals as goal
 
 pub returns-then-sectors-eq1-clause-same : goal.returns-then-sectors-eq1-clause-same

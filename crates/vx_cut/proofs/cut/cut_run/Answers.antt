@@ -2,7 +2,7 @@ use Rattle.std.proofs.Common.{rules, arith, ap, ◌∙◌, ◌≡◌, ◌<◌, m
 use Rattle.std.proofs.lemmas.List.{length-map, map-append}
 use Rattle.vx_cut.specs.Same.{HasSome}
 use Rattle.vx_cut.proofs.Same.{same_is, same_trans}
-use Rattle.vx_cut.proofs.Cutting.{turned_back, turned_over, all_turned, some_more}
+use Rattle.vx_cut.proofs.Parts.{turned_back, turned_over, all_turned, some_more}
 use Rattle.vx_cut.proofs.cut.cut_run.Goals as goal
 
 pub cutting-init : goal.cutting-init

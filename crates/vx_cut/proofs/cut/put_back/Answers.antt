@@ -1,5 +1,5 @@
 use Rattle.std.proofs.Common.{rules, ◌≡◌, [], ap, ◌∙◌, sym, map, reverse, ◌++◌}
-use Rattle.vx_cut.proofs.Cutting.{turned_back}
+use Rattle.vx_cut.proofs.Parts.{turned_back}
 use Rattle.vx_cut.proofs.cut.put_back.Goals as goal
 
 pub returns : goal.returns

@@ -1,7 +1,7 @@
 use Rattle.std.proofs.Common.{refl}
 use Rattle.vx_plans.specs.Calls.{volume_of}
 use Rattle.vx_house.specs.Holders.{volume_at}
-use Rattle.vx_engine.proofs.Called.{given, call_goes}
+use Rattle.vx_engine.proofs.CallLaws.{given, call_goes}
 use Rattle.vx_engine.proofs.calling.serve_call.Goals as goal
 
 pub over-requires-clause-held : goal.over-requires-clause-held

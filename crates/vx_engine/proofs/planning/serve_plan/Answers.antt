@@ -1,4 +1,4 @@
-use Rattle.vx_engine.proofs.CommandsEnded.{can_show, done_goes, ended_goes, rested_goes, unshown_goes, ended_from, rested_from, records_kept}
+use Rattle.vx_engine.proofs.CommandEnds.{can_show, done_goes, ended_goes, rested_goes, unshown_goes, ended_from, rested_from, records_kept}
 use Rattle.vx_engine.proofs.planning.serve_plan.Goals as goal
 
 pub show-requires-after_bounds : goal.show-requires-after_bounds

@@ -4,7 +4,7 @@ use Rattle.std.specs.Prelude.{Err}
 use Rattle.vx_engine.specs.Runs.{StagesGo}
 use Rattle.vx_house.specs.Scene.{shelved}
 use Rattle.vx_house.specs.View.{at}
-use Rattle.vx_engine.proofs.Chained.{none_run, run_then, run_stops, stage_ready, fed_behind, front_kept, split_stages}
+use Rattle.vx_engine.proofs.StageChains.{none_run, run_then, run_stops, stage_ready, fed_behind, front_kept, split_stages}
 use Rattle.vx_engine.proofs.running.run_stages.Goals as goal
 
 pub loop-stage-init : goal.loop-stage-init

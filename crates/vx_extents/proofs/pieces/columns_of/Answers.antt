@@ -4,7 +4,7 @@ use Rattle.std.specs.List.Sorted.{IsPermutation, IsNonDecreasingBy}
 use Rattle.std.proofs.lemmas.List.Sorted.{IsNonDecreasingBy-from_sort_by_key}
 use Rattle.vx_extents.specs.declared.piece.Piece.{Piece}
 use Rattle.vx_extents.specs.Pieces.{pieces, is_filled}
-use Rattle.vx_extents.proofs.Indexing.{indexed_by}
+use Rattle.vx_extents.proofs.Indices.{indexed_by}
 use Rattle.vx_extents.proofs.pieces.columns_of.Goals as goal
 
 pub returns : goal.returns

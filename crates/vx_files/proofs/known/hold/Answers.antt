@@ -1,5 +1,5 @@
 use Rattle.std.proofs.Common.{Some}
-use Rattle.vx_files.proofs.Held.{held_put, counted_kept}
+use Rattle.vx_files.proofs.Handles.{held_put, counted_kept}
 use Rattle.vx_files.specs.declared.known.Known.{Known}
 use Rattle.vx_files.proofs.known.hold.Goals as goal
 

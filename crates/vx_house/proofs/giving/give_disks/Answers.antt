@@ -1,6 +1,6 @@
 use Rattle.std.proofs.Common.{◌≡◌, [], ◌∷◌, ◌++◌}
 use Rattle.vx_house.specs.Holders.{disk_holder}
-use Rattle.vx_house.proofs.Returned.{taken_last, apart_rest, each_rest, gives_last}
+use Rattle.vx_house.proofs.Returns.{taken_last, apart_rest, each_rest, gives_last}
 use Rattle.vx_house.proofs.giving.give_disks.Goals as goal
 
 pub give_disk-requires-clause-whole : goal.give_disk-requires-clause-whole

@@ -1,5 +1,5 @@
 use Rattle.std.proofs.Common.{◌∙◌, sym}
-use Rattle.vx_house.proofs.Returned.{disks_each, disks_apart}
+use Rattle.vx_house.proofs.Returns.{disks_each, disks_apart}
 use Rattle.vx_house.proofs.giving.give_group.Goals as goal
 
 pub give_disks-requires-clause-each : goal.give_disks-requires-clause-each

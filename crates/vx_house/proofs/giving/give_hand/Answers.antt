@@ -1,6 +1,6 @@
 use Rattle.std.proofs.Common.{◌≡◌, [], ◌∷◌, ◌++◌, refl}
 use Rattle.vx_house.specs.Holders.{hand_holder}
-use Rattle.vx_house.proofs.Returned.{taken_last, apart_rest, each_rest, gives_last, hand_each, hand_apart}
+use Rattle.vx_house.proofs.Returns.{taken_last, apart_rest, each_rest, gives_last, hand_each, hand_apart}
 use Rattle.vx_house.proofs.giving.give_hand.Goals as goal
 
 pub loop-taken-init : goal.loop-taken-init

@@ -1,5 +1,5 @@
 use Rattle.vx_house.specs.Holders.{volume_holder}
-use Rattle.vx_house.proofs.Returned.{gives_one}
+use Rattle.vx_house.proofs.Returns.{gives_one}
 use Rattle.vx_house.proofs.giving.give_volume.Goals as goal
 
 pub returns-clause-back : goal.returns-clause-back

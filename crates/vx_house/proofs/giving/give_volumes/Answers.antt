@@ -2,7 +2,7 @@ use Rattle.std.proofs.Common.{◌≡◌, [], ◌∷◌, map, refl, sym, subst, r
 use Rattle.vx_house.specs.Closing.{GivesBack}
 use Rattle.vx_house.specs.Holders.{volume_holder}
 use Rattle.vx_house.specs.Scene.{shelved}
-use Rattle.vx_house.proofs.Returned.{apart_behind, each_behind, gives_first, gives_none, no_entries, volumes_each, volumes_apart}
+use Rattle.vx_house.proofs.Returns.{apart_behind, each_behind, gives_first, gives_none, no_entries, volumes_each, volumes_apart}
 use Rattle.vx_house.proofs.giving.give_volumes.Goals as goal
 
 pub loop-started-init : goal.loop-started-init

@@ -1,5 +1,5 @@
 use Rattle.std.proofs.Common.{length, arith}
-use Rattle.vx_import.proofs.Picking.{choose_more, pick_inside, rest_long, weaker}
+use Rattle.vx_import.proofs.Picks.{choose_more, pick_inside, rest_long, weaker}
 use Rattle.vx_import.proofs.choosing.+choose.Goals as goal
 
 pub choose-behind-requires-clause-few : goal.choose-behind-requires-clause-few

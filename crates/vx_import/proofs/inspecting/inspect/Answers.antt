@@ -1,10 +1,10 @@
 use Rattle.std.proofs.Common.{map}
-use Rattle.vx_copies.proofs.Going.{each_refl}
+use Rattle.vx_copies.proofs.StepLaws.{each_refl}
 use Rattle.vx_import.specs.Looks.{looked}
 use Rattle.vx_import.specs.Toggles.{Inspects}
 use Rattle.vx_import.specs.Answers.{IsOf}
-use Rattle.vx_import.proofs.Looking.{all_on}
-use Rattle.vx_import.proofs.Passing.{inspects_refl, of_over, rising_over}
+use Rattle.vx_import.proofs.Looks.{all_on}
+use Rattle.vx_import.proofs.Passes.{inspects_refl, of_over, rising_over}
 use Rattle.vx_import.proofs.Topmost.{all_newest}
 use Rattle.vx_import.proofs.inspecting.inspect.Goals as goal
 

@@ -1,10 +1,10 @@
 use Rattle.std.proofs.Common.{map}
-use Rattle.vx_copies.proofs.Going.{each_then, each_from, each_map}
+use Rattle.vx_copies.proofs.StepLaws.{each_then, each_from, each_map}
 use Rattle.vx_import.specs.Looks.{looked, IsPrivate, HasReading, Reads}
 use Rattle.vx_import.specs.Toggles.{Passes, Inspects, PassedAll}
 use Rattle.vx_import.specs.declared.toggles.Passed.TheVariants.{Done}
-use Rattle.vx_import.proofs.Looking.{all_on, private_on}
-use Rattle.vx_import.proofs.Passing.{inspects_pass, inspects_by, reading_on, read_by}
+use Rattle.vx_import.proofs.Looks.{all_on, private_on}
+use Rattle.vx_import.proofs.Passes.{inspects_pass, inspects_by, reading_on, read_by}
 use Rattle.vx_import.proofs.inspecting.take_newest.Goals as goal
 
 pub take_text-requires-clause-private : goal.take_text-requires-clause-private

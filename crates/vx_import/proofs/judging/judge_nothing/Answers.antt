@@ -2,7 +2,7 @@ use Rattle.std.proofs.Common.{map, inl}
 use Rattle.std.specs.Prelude.{Some, None}
 use Rattle.vx_import.specs.Looks.{looked}
 use Rattle.vx_import.specs.Naming.{DamageIs}
-use Rattle.vx_import.proofs.Judged.{empty_is}
+use Rattle.vx_import.proofs.Verdicts.{empty_is}
 use Rattle.vx_import.proofs.judging.judge_nothing.Goals as goal
 
 pub returns-in-Some : goal.returns-in-Some

@@ -5,7 +5,7 @@ use Rattle.vx_header.specs.Said.{said_of}
 use Rattle.vx_confdb.specs.Texts.{text_of}
 use Rattle.vx_import.specs.Looks.{looked}
 use Rattle.vx_import.specs.Answers.{IsChosen, RefusedIs}
-use Rattle.vx_import.proofs.Judged.{chosen_is, refused_is}
+use Rattle.vx_import.proofs.Verdicts.{chosen_is, refused_is}
 use Rattle.vx_import.proofs.judging.judge_text.Goals as goal
 
 pub returns-in-Some : goal.returns-in-Some

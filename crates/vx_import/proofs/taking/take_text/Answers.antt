@@ -1,8 +1,8 @@
 use Rattle.std.proofs.Common.{arith}
-use Rattle.vx_copies.proofs.Going.{each_refl, each_trans}
+use Rattle.vx_copies.proofs.StepLaws.{each_refl, each_trans}
 use Rattle.vx_import.specs.Looks.{IsPrivate, Reads}
 use Rattle.vx_import.specs.Tries.{IsSpent}
-use Rattle.vx_import.proofs.Looking.{reads_refl, spent_refl, spent_trans, tried_then, all_on, private_on}
+use Rattle.vx_import.proofs.Looks.{reads_refl, spent_refl, spent_trans, tried_then, all_on, private_on}
 use Rattle.vx_import.proofs.taking.take_text.Goals as goal
 
 pub tries-init : goal.tries-init

@@ -5,7 +5,7 @@ use Rattle.vx_import.specs.Looks.{looked, IsPrivate, Reads}
 use Rattle.vx_import.specs.Choice.{TriedIs, HoldsText}
 use Rattle.vx_import.specs.Tries.{IsSpent}
 use Rattle.vx_import.specs.declared.choosing.Tried.TheVariants.{Done, Dropped, Cut}
-use Rattle.vx_import.proofs.Looking.{reads_refl, spent_refl, dropped_spent, all_at, top_names, top_readable, one_on, same_toggle, top_set, at_set, any_set, fewer}
+use Rattle.vx_import.proofs.Looks.{reads_refl, spent_refl, dropped_spent, all_at, top_names, top_readable, one_on, same_toggle, top_set, at_set, any_set, fewer}
 use Rattle.vx_import.proofs.taking.try_at.Goals as goal
 
 pub take_one-requires-clause-private : goal.take_one-requires-clause-private

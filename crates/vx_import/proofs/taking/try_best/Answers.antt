@@ -1,6 +1,6 @@
-use Rattle.vx_copies.proofs.Going.{each_refl}
+use Rattle.vx_copies.proofs.StepLaws.{each_refl}
 use Rattle.vx_import.specs.Looks.{Reads}
-use Rattle.vx_import.proofs.Looking.{reads_refl}
+use Rattle.vx_import.proofs.Looks.{reads_refl}
 use Rattle.vx_import.proofs.taking.try_best.Goals as goal
 
 pub returns-in-None-clause-reads : goal.returns-in-None-clause-reads

@@ -1,10 +1,10 @@
 use Rattle.std.proofs.Common.{rules, arith, add-one, refl}
-use Rattle.vx_copies.proofs.Going.{each_refl}
+use Rattle.vx_copies.proofs.StepLaws.{each_refl}
 use Rattle.vx_import.specs.Looks.{looked, IsPrivate, HasReading}
 use Rattle.vx_import.specs.Toggles.{Passes, IsUnread, IsOff, PassedOne}
 use Rattle.vx_import.specs.declared.toggles.Passed.TheVariants.{Done, Cut}
-use Rattle.vx_import.proofs.Looking.{any_set}
-use Rattle.vx_import.proofs.Passing.{passes_refl, first_same, pass_next, rest_next, all_more}
+use Rattle.vx_import.proofs.Looks.{any_set}
+use Rattle.vx_import.proofs.Passes.{passes_refl, first_same, pass_next, rest_next, all_more}
 use Rattle.vx_import.proofs.toggles.read_toggles.Goals as goal
 
 pub devices-init : goal.devices-init

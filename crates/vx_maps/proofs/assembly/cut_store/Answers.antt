@@ -3,7 +3,7 @@ use Rattle.std.proofs.lemmas.Result.{IfOk-weaker, IfErr-weaker}
 use Rattle.vx_maps.specs.Copies.{SameRuns}
 use Rattle.vx_maps.specs.Spares.{copies_seen}
 use Rattle.vx_maps.specs.Sheets.{sheets_seen}
-use Rattle.vx_maps.proofs.Making.{plain, runs_faults, sheets_counted, second_full}
+use Rattle.vx_maps.proofs.Sizes.{plain, runs_faults, sheets_counted, second_full}
 use Rattle.vx_maps.proofs.assembly.cut_store.Goals as goal
 
 pub returns-in-Ok-cut_sheets-clause-same : goal.returns-in-Ok-cut_sheets-clause-same

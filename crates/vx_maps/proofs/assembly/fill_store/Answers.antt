@@ -4,9 +4,9 @@ use Rattle.vx_mapfmt.specs.Sizes.{page_count}
 use Rattle.vx_pages.specs.Pages.{grid_seen}
 use Rattle.vx_maps.specs.Sheets.{sheets_seen}
 use Rattle.vx_maps.specs.Slots.{ArePairedRows, wholes_of}
-use Rattle.vx_maps.proofs.Filling.{cuts_of, all_holed, holed_of, logs_paged, logs_copies}
+use Rattle.vx_maps.proofs.Fills.{cuts_of, all_holed, holed_of, logs_paged, logs_copies}
 use Rattle.vx_maps.proofs.Together.{room_still}
-use Rattle.vx_maps.proofs.Making.{whole_same, whole_total, laid_of}
+use Rattle.vx_maps.proofs.Sizes.{whole_same, whole_total, laid_of}
 use Rattle.vx_maps.proofs.assembly.fill_store.Goals as goal
 
 pub join_whole-requires-clause-holed : goal.join_whole-requires-clause-holed

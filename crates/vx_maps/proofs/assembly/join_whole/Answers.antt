@@ -4,7 +4,7 @@ use Rattle.vx_pages.specs.Pages.{grid_seen}
 use Rattle.vx_maps.specs.Sheets.{sheets_seen}
 use Rattle.vx_maps.specs.Slots.{ArePairedRows, wholes_of}
 use Rattle.vx_maps.specs.Wholes.{copy_faults}
-use Rattle.vx_maps.proofs.Filling.{cuts_of}
+use Rattle.vx_maps.proofs.Fills.{cuts_of}
 use Rattle.vx_maps.proofs.Together.{all_full, room_still, together, totals}
 use Rattle.vx_maps.proofs.Quiet.{grid_quiet, grid_more}
 use Rattle.vx_maps.proofs.assembly.join_whole.Goals as goal

@@ -1,6 +1,6 @@
 use Rattle.vx_maps.specs.Wholes.{store_faults}
 use Rattle.vx_maps.specs.Cutness.{store_cut}
-use Rattle.vx_maps.proofs.Refusing.{refused_after}
+use Rattle.vx_maps.proofs.Refusals.{refused_after}
 use Rattle.vx_maps.proofs.creating.create_in.Goals as goal
 
 pub into_copies_in-requires : goal.into_copies_in-requires

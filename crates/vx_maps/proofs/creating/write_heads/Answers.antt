@@ -4,8 +4,8 @@ use Rattle.vx_maps.specs.Sheets.{sheets_seen}
 use Rattle.vx_maps.specs.Slots.{grid_faults}
 use Rattle.vx_maps.specs.Store.{AreOnCopies, pages_cut, pages_seen}
 use Rattle.vx_maps.specs.Wholes.{sheet_faults}
-use Rattle.vx_maps.proofs.Heading.{have_first, some_size, laid_still, second_there, heads_cause}
-use Rattle.vx_maps.proofs.Beginning.{heads_begin, heads_cut, cause_add, or_left}
+use Rattle.vx_maps.proofs.HeadPlaces.{have_first, some_size, laid_still, second_there, heads_cause}
+use Rattle.vx_maps.proofs.Beginnings.{heads_begin, heads_cut, cause_add, or_left}
 use Rattle.vx_maps.proofs.creating.write_heads.Goals as goal
 
 pub put_heads-requires-clause-first : goal.put_heads-requires-clause-first

@@ -6,8 +6,8 @@ use Rattle.vx_maps.specs.Store.{pages_cut, pages_faults, pages_seen}
 use Rattle.vx_maps.specs.Wholes.{sheet_faults, store_faults}
 use Rattle.vx_maps.specs.Cutness.{sheets_cut, store_cut}
 use Rattle.vx_pages.proofs.Whole.{cause_after}
-use Rattle.vx_maps.proofs.Beginning.{cause_add, or_right}
-use Rattle.vx_maps.proofs.Refusing.{grid_pages, plain_cause}
+use Rattle.vx_maps.proofs.Beginnings.{cause_add, or_right}
+use Rattle.vx_maps.proofs.Refusals.{grid_pages, plain_cause}
 use Rattle.vx_maps.proofs.creating.write_new.Goals as goal
 
 pub returns-in-Err-clause-claims : goal.returns-in-Err-clause-claims

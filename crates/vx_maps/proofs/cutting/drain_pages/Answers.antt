@@ -9,7 +9,7 @@ use Rattle.vx_pages.specs.Pages.{grid_seen}
 use Rattle.vx_maps.specs.Sheets.{sheets_seen}
 use Rattle.vx_pages.specs.Page.{ArePaired}
 use Rattle.vx_maps.specs.Slots.{HasCuts, HasHoles, row_at, wholes_of}
-use Rattle.vx_maps.proofs.Filling.{cuts_of, holed_of, holes_there, row_push, row_front}
+use Rattle.vx_maps.proofs.Fills.{cuts_of, holed_of, holes_there, row_push, row_front}
 use Rattle.vx_maps.proofs.cutting.drain_pages.Goals as goal
 
 pub drain_page-requires-clause-holes : goal.drain_page-requires-clause-holes

@@ -10,7 +10,7 @@ use Rattle.vx_maps.specs.Store.{AreLogsOf, pages_seen}
 use Rattle.vx_maps.specs.Sheets.{sheets_seen}
 use Rattle.vx_pages.specs.Sector.{IsOpen}
 use Rattle.vx_maps.specs.Slots.{HasCuts, wholes_of}
-use Rattle.vx_maps.proofs.Filling.{ready, cuts_of, all_holed, logs_push}
+use Rattle.vx_maps.proofs.Fills.{ready, cuts_of, all_holed, logs_push}
 use Rattle.vx_maps.proofs.cutting.fill_pages.Goals as goal
 
 pub fill_page-requires-clause-pieces : goal.fill_page-requires-clause-pieces

@@ -7,9 +7,9 @@ use Rattle.vx_maps.specs.Cutness.{store_cut}
 use Rattle.vx_maps.specs.Going.{ReadsPiece}
 use Rattle.vx_maps.specs.Loading.{header_of, rows_seen}
 use Rattle.vx_maps.specs.Wholes.{store_copies, store_faults}
-use Rattle.vx_maps.proofs.Growing.{faults_grow}
+use Rattle.vx_maps.proofs.Growth.{faults_grow}
 use Rattle.vx_maps.proofs.Heads.{risen_after}
-use Rattle.vx_maps.proofs.Loaded.{filled_failed, filled_none, found_later, settled_on, taken_of}
+use Rattle.vx_maps.proofs.Loads.{filled_failed, filled_none, found_later, settled_on, taken_of}
 use Rattle.vx_maps.proofs.Steps.{keeps_reads, store_keeps, store_then}
 use Rattle.vx_maps.proofs.loading.fill_store.Goals as goal
 

@@ -3,7 +3,7 @@ use Rattle.vx_maps.specs.Cutness.{store_cut}
 use Rattle.vx_maps.specs.Loading.{header_of}
 use Rattle.vx_maps.specs.Spares.{copies_seen}
 use Rattle.vx_maps.specs.Wholes.{store_copies, store_faults}
-use Rattle.vx_maps.proofs.Loaded.{refused_from, unfilled}
+use Rattle.vx_maps.proofs.Loads.{refused_from, unfilled}
 use Rattle.vx_maps.proofs.loading.load_in.Goals as goal
 
 pub returns-clause-refused : goal.returns-clause-refused

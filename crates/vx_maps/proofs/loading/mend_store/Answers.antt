@@ -8,8 +8,8 @@ use Rattle.vx_maps.specs.Sheets.{sheets_seen}
 use Rattle.vx_maps.specs.Slots.{grid_faults}
 use Rattle.vx_maps.specs.Store.{AreOnCopies, pages_cut, pages_seen}
 use Rattle.vx_maps.specs.Wholes.{sheet_faults, whole_copies}
-use Rattle.vx_maps.proofs.Beginning.{or_left}
-use Rattle.vx_maps.proofs.Heading.{have_first, some_size}
+use Rattle.vx_maps.proofs.Beginnings.{or_left}
+use Rattle.vx_maps.proofs.HeadPlaces.{have_first, some_size}
 use Rattle.vx_maps.proofs.Heads.{changed_risen, mended_goes, mended_heads, risen_add}
 use Rattle.vx_maps.proofs.Steps.{grid_same, laid_goes, second_goes}
 use Rattle.vx_maps.proofs.loading.mend_store.Goals as goal

@@ -7,9 +7,9 @@ use Rattle.vx_pages.specs.Reading.{AreImages, AreSettled, IsSettled, image_at}
 use Rattle.vx_pages.specs.Sector.{SectorSeen, IsOpen, KeepsSector}
 use Rattle.vx_pages.proofs.Rounds.{goes_on, inside_old, still, stops}
 use Rattle.vx_maps.specs.Loading.{images_at, rows_seen}
-use Rattle.vx_maps.proofs.Firming.{grown_on, risen_on}
-use Rattle.vx_maps.proofs.Paged.{places_set, row_kept_none, row_grows}
-use Rattle.vx_maps.proofs.Fetching.{row_is, rows_count}
+use Rattle.vx_maps.proofs.Firmness.{grown_on, risen_on}
+use Rattle.vx_maps.proofs.PageRows.{places_set, row_kept_none, row_grows}
+use Rattle.vx_maps.proofs.FetchRows.{row_is, rows_count}
 use Rattle.vx_maps.proofs.Steps.{items_weaker}
 use Rattle.vx_maps.proofs.loading.settle_pages.Goals as goal
 

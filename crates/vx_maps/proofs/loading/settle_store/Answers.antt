@@ -4,10 +4,10 @@ use Rattle.vx_maps.specs.Sheets.{sheets_seen}
 use Rattle.vx_maps.specs.Cutness.{sheets_cut}
 use Rattle.vx_maps.specs.Store.{pages_faults, pages_seen}
 use Rattle.vx_maps.specs.Wholes.{sheet_faults}
-use Rattle.vx_maps.proofs.Beginning.{or_right}
+use Rattle.vx_maps.proofs.Beginnings.{or_right}
 use Rattle.vx_maps.proofs.Heads.{risen_add}
-use Rattle.vx_maps.proofs.Paged.{copied_goes, pages_goes}
-use Rattle.vx_maps.proofs.Refusing.{grid_pages}
+use Rattle.vx_maps.proofs.PageRows.{copied_goes, pages_goes}
+use Rattle.vx_maps.proofs.Refusals.{grid_pages}
 use Rattle.vx_maps.proofs.Steps.{settled_as, sheets_same}
 use Rattle.vx_pages.specs.Stays.{piece_same}
 use Rattle.vx_maps.proofs.loading.settle_store.Goals as goal

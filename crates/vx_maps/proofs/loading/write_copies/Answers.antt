@@ -3,7 +3,7 @@ use Rattle.vx_pages.specs.Sector.{KeepsPiece}
 use Rattle.vx_pages.specs.Stays.{piece_then}
 use Rattle.vx_maps.specs.Cutness.{store_cut}
 use Rattle.vx_maps.specs.Wholes.{store_faults}
-use Rattle.vx_maps.proofs.Growing.{faults_grow}
+use Rattle.vx_maps.proofs.Growth.{faults_grow}
 use Rattle.vx_maps.proofs.Heads.{risen_after}
 use Rattle.vx_maps.proofs.Steps.{store_then}
 use Rattle.vx_maps.proofs.loading.write_copies.Goals as goal

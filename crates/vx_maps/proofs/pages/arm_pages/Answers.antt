@@ -3,8 +3,8 @@ use Rattle.std.proofs.lemmas.List.{length-map}
 use Rattle.vx_pages.specs.Arming.{armed_sectors}
 use Rattle.vx_pages.specs.Pages.{sectors_of}
 use Rattle.vx_pages.proofs.Rounds.{ends, goes_on}
-use Rattle.vx_pages.proofs.Settling.{each_is}
-use Rattle.vx_maps.proofs.Paged.{places_set}
+use Rattle.vx_pages.proofs.Settlement.{each_is}
+use Rattle.vx_maps.proofs.PageRows.{places_set}
 use Rattle.vx_maps.proofs.pages.arm_pages.Goals as goal
 
 pub loop-index-preserved : goal.loop-index-preserved

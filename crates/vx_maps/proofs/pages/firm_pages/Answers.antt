@@ -8,9 +8,9 @@ use Rattle.vx_pages.proofs.Rounds.{goes_on, starts, stops}
 use Rattle.vx_pages.specs.Pages.{grid_seen}
 use Rattle.vx_pages.specs.Sector.{KeepsPiece}
 use Rattle.vx_pages.specs.Stays.{piece_same}
-use Rattle.vx_maps.proofs.Paged.{grid_on, places_set}
+use Rattle.vx_maps.proofs.PageRows.{grid_on, places_set}
 use Rattle.vx_maps.proofs.Steps.{grid_same}
-use Rattle.vx_maps.proofs.Firming.{firm_page, torn_page, firm_tidies, page_idle, quiet_on, cause_on}
+use Rattle.vx_maps.proofs.Firmness.{firm_page, torn_page, firm_tidies, page_idle, quiet_on, cause_on}
 use Rattle.vx_maps.proofs.pages.firm_pages.Goals as goal
 
 pub returns-in-Err-clause-each : goal.returns-in-Err-clause-each

@@ -1,5 +1,5 @@
 use Rattle.vx_pages.specs.Pieces.{copies_of}
-use Rattle.vx_pages.proofs.Opening.{open_formed}
+use Rattle.vx_pages.proofs.OpenBits.{open_formed}
 use Rattle.vx_maps.proofs.paging.open_sector.Goals as goal
 
 pub of-requires : goal.of-requires

@@ -9,9 +9,9 @@ use Rattle.vx_pages.specs.Reading.{AreImages, IsCopyOf, ReadsSector}
 use Rattle.vx_pages.specs.Sector.{SectorSeen, HasCause}
 use Rattle.vx_pages.proofs.Rounds.{goes_on, inside_old, still, stops}
 use Rattle.vx_maps.specs.Loading.{AreClipped, GiveClipped}
-use Rattle.vx_maps.proofs.Firming.{cause_on, quiet_on}
-use Rattle.vx_maps.proofs.Paged.{places_set, row_read_none}
-use Rattle.vx_maps.proofs.Fetching.{below_on, page_failed, row_is, rows_count, rows_set}
+use Rattle.vx_maps.proofs.Firmness.{cause_on, quiet_on}
+use Rattle.vx_maps.proofs.PageRows.{places_set, row_read_none}
+use Rattle.vx_maps.proofs.FetchRows.{below_on, page_failed, row_is, rows_count, rows_set}
 use Rattle.vx_maps.proofs.reading.fetch_pages.Goals as goal
 
 pub fetch_page-requires-clause-there : goal.fetch_page-requires-clause-there

@@ -4,10 +4,10 @@ use Rattle.vx_maps.specs.Sheets.{sheets_seen}
 use Rattle.vx_maps.specs.Cutness.{sheets_cut}
 use Rattle.vx_maps.specs.Store.{pages_faults, pages_seen}
 use Rattle.vx_maps.specs.Wholes.{sheet_faults}
-use Rattle.vx_maps.proofs.Beginning.{cause_add, or_right}
-use Rattle.vx_maps.proofs.Paged.{copied_goes, pages_goes}
-use Rattle.vx_maps.proofs.Fetching.{copied_rows}
-use Rattle.vx_maps.proofs.Refusing.{grid_pages}
+use Rattle.vx_maps.proofs.Beginnings.{cause_add, or_right}
+use Rattle.vx_maps.proofs.PageRows.{copied_goes, pages_goes}
+use Rattle.vx_maps.proofs.FetchRows.{copied_rows}
+use Rattle.vx_maps.proofs.Refusals.{grid_pages}
 use Rattle.vx_maps.proofs.Rows.{pairs_of}
 use Rattle.vx_maps.proofs.Steps.{grid_reads}
 use Rattle.vx_maps.proofs.reading.fetch_store.Goals as goal

@@ -5,9 +5,9 @@ use Rattle.vx_maps.specs.Cutness.{store_cut}
 use Rattle.vx_maps.specs.Going.{ReadsPiece}
 use Rattle.vx_maps.specs.Loading.{IsFoundFrom, IsPassedBy, IsTriedAs, header_of, rows_seen}
 use Rattle.vx_maps.specs.Wholes.{store_copies, store_faults}
-use Rattle.vx_maps.proofs.Copying.{store_goes}
-use Rattle.vx_maps.proofs.Finding.{found_on}
-use Rattle.vx_maps.proofs.Growing.{faults_grow}
+use Rattle.vx_maps.proofs.CopyLaws.{store_goes}
+use Rattle.vx_maps.proofs.Finds.{found_on}
+use Rattle.vx_maps.proofs.Growth.{faults_grow}
 use Rattle.vx_maps.proofs.Steps.{reads_same, store_keeps}
 use Rattle.vx_maps.proofs.reading.find_copy.Goals as goal
 

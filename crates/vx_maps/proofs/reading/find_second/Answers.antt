@@ -4,7 +4,7 @@ use Rattle.vx_maps.specs.Cutness.{store_cut}
 use Rattle.vx_maps.specs.Loading.{IsPassedBy, IsTriedAs, header_of, rows_seen}
 use Rattle.vx_maps.specs.Sheets.{sheets_seen}
 use Rattle.vx_maps.specs.Wholes.{store_copies, store_faults}
-use Rattle.vx_maps.proofs.Finding.{whole_few}
+use Rattle.vx_maps.proofs.Finds.{whole_few}
 use Rattle.vx_maps.proofs.reading.find_second.Goals as goal
 
 pub returns-in-Ok-false-clause-found : goal.returns-in-Ok-false-clause-found

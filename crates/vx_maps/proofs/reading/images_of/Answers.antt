@@ -2,7 +2,7 @@ use Rattle.std.proofs.Common.{rules, [], ℕ}
 use Rattle.std.specs.Global.{Vec}
 use Rattle.vx_pages.specs.Images.{images_seen}
 use Rattle.vx_pages.specs.Reading.{AreImages}
-use Rattle.vx_maps.proofs.Fetching.{pushed}
+use Rattle.vx_maps.proofs.FetchRows.{pushed}
 use Rattle.vx_maps.proofs.reading.images_of.Goals as goal
 
 pub loop-page-preserved : goal.loop-page-preserved

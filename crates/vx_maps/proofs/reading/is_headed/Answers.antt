@@ -10,8 +10,8 @@ use Rattle.vx_maps.specs.Slots.{grid_faults}
 use Rattle.vx_maps.specs.Store.{AreOnCopies, pages_cut, pages_seen}
 use Rattle.vx_maps.specs.Wholes.{sheet_faults, store_faults}
 use Rattle.vx_maps.specs.Cutness.{sheets_cut}
-use Rattle.vx_maps.proofs.Beginning.{cause_add, or_left}
-use Rattle.vx_maps.proofs.Heading.{have_first, some_size}
+use Rattle.vx_maps.proofs.Beginnings.{cause_add, or_left}
+use Rattle.vx_maps.proofs.HeadPlaces.{have_first, some_size}
 use Rattle.vx_maps.proofs.Heads.{cause_as, changed_cause, got_begins, got_goes, head_as}
 use Rattle.vx_maps.proofs.Steps.{grid_same, laid_goes, reads_same, second_goes}
 use Rattle.vx_maps.proofs.reading.is_headed.Goals as goal

@@ -1,6 +1,6 @@
 use Rattle.std.proofs.Common.{◌≡◌, rules, [], ℕ, List, length}
 use Rattle.std.specs.Global.{Vec}
-use Rattle.vx_maps.proofs.Fetching.{pushed}
+use Rattle.vx_maps.proofs.FetchRows.{pushed}
 use Rattle.vx_maps.proofs.reading.row_of.Goals as goal
 
 pub loop-map-preserved : goal.loop-map-preserved

@@ -1,7 +1,7 @@
 use Rattle.std.proofs.Common.{map, arith}
 use Rattle.std.proofs.lemmas.List.{length-map}
 use Rattle.std.proofs.lemmas.Result.{IfOk-weaker}
-use Rattle.vx_maps.proofs.Running.{whole_slots, same_slots}
+use Rattle.vx_maps.proofs.SlotRuns.{whole_slots, same_slots}
 use Rattle.vx_maps.proofs.runs.cut_copy.Goals as goal
 
 pub returns-in-Ok-clause-whole : goal.returns-in-Ok-clause-whole

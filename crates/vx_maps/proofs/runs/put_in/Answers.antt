@@ -1,5 +1,5 @@
 use Rattle.std.proofs.Common.{rules, ap, ◌∙◌, ◌++◌, map, reverse, Some}
-use Rattle.vx_cut.proofs.Cutting.{turned_over}
+use Rattle.vx_cut.proofs.Parts.{turned_over}
 use Rattle.vx_maps.specs.Slots.{slots_seen}
 use Rattle.vx_maps.proofs.runs.put_in.Goals as goal
 

@@ -1,5 +1,5 @@
 use Rattle.std.proofs.Common.{rules, ◌≡◌, ◌∷◌, ◌++◌, [], Some}
-use Rattle.vx_maps.proofs.Running.{one_out, full_rest}
+use Rattle.vx_maps.proofs.SlotRuns.{one_out, full_rest}
 use Rattle.vx_maps.proofs.runs.take_out.Goals as goal
 
 pub taking-preserved : goal.taking-preserved

@@ -3,7 +3,7 @@ use Rattle.std.proofs.lemmas.List.{length-map}
 use Rattle.std.specs.Option.{option_map}
 use Rattle.vx_pages.specs.Arming.{armed}
 use Rattle.vx_pages.proofs.Rounds.{ends, goes_on}
-use Rattle.vx_pages.proofs.Settling.{each_is}
+use Rattle.vx_pages.proofs.Settlement.{each_is}
 use Rattle.vx_maps.proofs.slots.arm_slots.Goals as goal
 
 pub loop-index-preserved : goal.loop-index-preserved

@@ -1,5 +1,5 @@
 use Rattle.std.proofs.Common.{Some, refl}
-use Rattle.vx_maps.proofs.Moving.{moved_in}
+use Rattle.vx_maps.proofs.Moves.{moved_in}
 use Rattle.vx_maps.proofs.slots.put.Goals as goal
 
 pub returns : goal.returns

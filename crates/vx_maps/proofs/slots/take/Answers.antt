@@ -1,6 +1,6 @@
 use Rattle.std.proofs.Common.{rules, ◌≡◌, Some, ◌∙◌, sym, subst}
 use Rattle.std.specs.Option.{IsSome}
-use Rattle.vx_maps.proofs.Moving.{moved_out, has_piece}
+use Rattle.vx_maps.proofs.Moves.{moved_out, has_piece}
 use Rattle.vx_maps.proofs.slots.take.Goals as goal
 
 pub unwrap-requires : goal.unwrap-requires

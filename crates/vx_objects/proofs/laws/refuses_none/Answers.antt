@@ -1,4 +1,4 @@
-use Rattle.vx_objects.proofs.Back.{refuses_none}
+use Rattle.vx_objects.proofs.RoundTrip.{refuses_none}
 use Rattle.vx_objects.proofs.laws.refuses_none.Goals as goal
 
 pub returns : goal.returns

@@ -1,7 +1,7 @@
 use Rattle.std.proofs.Common.{◌∙◌, ◌≤◌, ap, sym, arith}
 use Rattle.std.specs.Prelude.{◌%◌, ◌&&◌, min}
 use Rattle.vx_mapfmt.specs.Bits.{bit_in}
-use Rattle.vx_pages.proofs.Clipping.{stays, step, stays_first, stays_last, and_true}
+use Rattle.vx_pages.proofs.Clips.{stays, step, stays_first, stays_last, and_true}
 use Rattle.vx_pages.proofs.bytes.clip.Goals as goal
 
 pub loop-place-init : goal.loop-place-init

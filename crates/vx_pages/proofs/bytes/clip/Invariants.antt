@@ -1,7 +1,7 @@
 use Rattle.std.proofs.Common.{◌≡◌, ℕ, length}
 use Rattle.std.specs.Prelude.{◌%◌, ◌&&◌}
 use Rattle.vx_mapfmt.specs.Bits.{bit_in}
-use Rattle.vx_pages.proofs.Clipping.{stays}
+use Rattle.vx_pages.proofs.Clips.{stays}
 use Rattle.vx_pages.proofs.bytes.clip.Given as goal
 
 abbrev pub invariant-loop-place : goal.invariant-loop-place

@@ -1,6 +1,6 @@
 use Rattle.std.proofs.Common.{◌<◌, ◌∙◌, ap, sym, arith, length, List, ℕ}
-use Rattle.vx_pages.proofs.Clipping.{below_next, rest_next}
-use Rattle.vx_pages.proofs.Settling.{image_is, images_count, images_set}
+use Rattle.vx_pages.proofs.Clips.{below_next, rest_next}
+use Rattle.vx_pages.proofs.Settlement.{image_is, images_count, images_set}
 use Rattle.vx_pages.proofs.bytes.clip_all.Goals as goal
 
 pub clip-requires : goal.clip-requires

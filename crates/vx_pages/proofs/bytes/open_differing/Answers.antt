@@ -1,7 +1,7 @@
 use Rattle.std.proofs.Common.{◌∙◌, ◌<◌, ap, arith}
 use Rattle.std.specs.Prelude.{◌%◌, ◌/◌}
 use Rattle.vx_mask.specs.Mask.{has}
-use Rattle.vx_pages.proofs.Differing.{has-and, has-xor}
+use Rattle.vx_pages.proofs.Differences.{has-and, has-xor}
 use Rattle.vx_pages.proofs.bytes.open_differing.Goals as goal
 
 pub returns-clause-sure : goal.returns-clause-sure

@@ -3,7 +3,7 @@ use Rattle.std.specs.Option.{option_map}
 use Rattle.vx_pages.specs.Sector.{AreSectors}
 use Rattle.vx_pages.specs.Pieces.{copies_of}
 use Rattle.vx_pages.specs.Reading.{IsCopyOf, IsGot}
-use Rattle.vx_pages.proofs.Mending.{got_first, got_second}
+use Rattle.vx_pages.proofs.Repairs.{got_first, got_second}
 use Rattle.vx_pages.proofs.copies.get.Goals as goal
 
 pub get_one-requires-clause-sector : goal.get_one-requires-clause-sector

@@ -1,5 +1,5 @@
 use Rattle.std.proofs.Common.{◌∙◌}
-use Rattle.vx_pages.proofs.Mending.{got_well}
+use Rattle.vx_pages.proofs.Repairs.{got_well}
 use Rattle.vx_pages.proofs.copies.get_one.Goals as goal
 
 pub returns-in-Ok-clause-got : goal.returns-in-Ok-clause-got

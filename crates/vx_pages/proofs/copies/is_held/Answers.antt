@@ -1,7 +1,7 @@
 use Rattle.std.proofs.Common.{◌≡◌, Bool, true, false, ℕ, Option, Some, None}
 use Rattle.std.specs.Prelude.{is_some, not}
 use Rattle.std.specs.Option.{MatchOption}
-use Rattle.vx_pages.proofs.Mending.{held_as}
+use Rattle.vx_pages.proofs.Repairs.{held_as}
 use Rattle.vx_pages.proofs.copies.is_held.Goals as goal
 
 -- there was no difference

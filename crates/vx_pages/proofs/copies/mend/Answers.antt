@@ -4,7 +4,7 @@ use Rattle.vx_marks.specs.declared.marker.MarkFault.{MarkFault}
 use Rattle.vx_pages.specs.Sector.{AreSectors}
 use Rattle.vx_pages.specs.Pieces.{copies_of}
 use Rattle.vx_pages.specs.Reading.{IsMended, IsMendedOn}
-use Rattle.vx_pages.proofs.Mending.{mend_stops, mend_only, mend_both}
+use Rattle.vx_pages.proofs.Repairs.{mend_stops, mend_only, mend_both}
 use Rattle.vx_pages.proofs.copies.mend.Goals as goal
 
 pub mend_one-requires-clause-sector : goal.mend_one-requires-clause-sector

@@ -3,7 +3,7 @@ use Rattle.std.specs.Option.{option_map}
 use Rattle.vx_marks.specs.declared.marker.MarkFault.{MarkFault}
 use Rattle.vx_pages.specs.Sector.{AreSectors, IsPut}
 use Rattle.vx_pages.specs.Pieces.{IsPutOn, copies_of}
-use Rattle.vx_pages.proofs.Putting.{put_stops, put_only, put_both}
+use Rattle.vx_pages.proofs.Puts.{put_stops, put_only, put_both}
 use Rattle.vx_pages.proofs.copies.put.Goals as goal
 
 pub put_one-requires-clause-sector : goal.put_one-requires-clause-sector

@@ -1,5 +1,5 @@
 use Rattle.std.proofs.Common.{◌∙◌, ap, Err}
-use Rattle.vx_pages.proofs.Putting.{put_well, put_failed, put_cut}
+use Rattle.vx_pages.proofs.Puts.{put_well, put_failed, put_cut}
 use Rattle.vx_pages.proofs.copies.put_one.Goals as goal
 
 pub returns-in-Ok : goal.returns-in-Ok

@@ -2,7 +2,7 @@ use Rattle.std.proofs.Common.{sym, subst, List, ℕ, Ok, Result}
 use Rattle.vx_marks.specs.declared.marker.MarkFault.{MarkFault}
 use Rattle.vx_pages.specs.Pieces.{copies_of}
 use Rattle.vx_pages.specs.Sector.{IsPut, IsMade, SectorSeen}
-use Rattle.vx_pages.proofs.Going.{made_formed, made}
+use Rattle.vx_pages.proofs.Steps.{made_formed, made}
 use Rattle.vx_pages.proofs.create.create_sector.Goals as goal
 
 pub of-requires : goal.of-requires

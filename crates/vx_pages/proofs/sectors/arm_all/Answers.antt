@@ -5,7 +5,7 @@ use Rattle.vx_pages.specs.Page.{no_sector}
 use Rattle.vx_pages.specs.Sectors.{sector_seen}
 use Rattle.vx_pages.proofs.Loops.{goes_on}
 use Rattle.vx_pages.proofs.Rounds.{ends}
-use Rattle.vx_pages.proofs.Settling.{each_is}
+use Rattle.vx_pages.proofs.Settlement.{each_is}
 use Rattle.vx_pages.proofs.sectors.arm_all.Goals as goal
 
 pub loop-map-preserved : goal.loop-map-preserved

@@ -3,7 +3,7 @@ use Rattle.vx_pages.specs.Page.{asked}
 use Rattle.std.proofs.Common.{Err}
 use Rattle.vx_mask.specs.Mask.{has}
 use Rattle.vx_pages.specs.Writes.{once_if}
-use Rattle.vx_pages.proofs.Handing.{turned_hands}
+use Rattle.vx_pages.proofs.Hands.{turned_hands}
 use Rattle.vx_pages.proofs.Ways.{fails}
 use Rattle.vx_pages.proofs.Whole.{each_then, turned_faults, turned_cut, cause_stays}
 use Rattle.vx_pages.proofs.sectors.change_all.Goals as goal

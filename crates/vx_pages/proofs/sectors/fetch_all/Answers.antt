@@ -5,7 +5,7 @@ use Rattle.vx_pages.specs.Reading.{Gives, IsCopyOf, IsWhatIs, ReadsSector}
 use Rattle.vx_pages.specs.Sector.{SectorSeen, HasCause, copy_of, faults_at, is_cut}
 use Rattle.vx_pages.specs.Sectors.{sector_seen}
 use Rattle.vx_pages.proofs.Loops.{goes_on, stops, still, inside_old, quiet_on, cause_on}
-use Rattle.vx_pages.proofs.Settling.{image_is, images_count, images_set, gives_on, reads_none}
+use Rattle.vx_pages.proofs.Settlement.{image_is, images_count, images_set, gives_on, reads_none}
 use Rattle.vx_pages.proofs.sectors.fetch_all.Goals as goal
 
 pub fetch-requires-clause-whole : goal.fetch-requires-clause-whole

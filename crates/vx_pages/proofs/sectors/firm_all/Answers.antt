@@ -3,7 +3,7 @@ use Rattle.vx_marks.specs.declared.marker.MarkFault.{MarkFault}
 use Rattle.vx_pages.specs.Sector.{Goes, Turns, SameBits, Swept, NoneLoose, IsTidied, HasCause}
 use Rattle.vx_pages.specs.Page.{faults_in, cut_in, sectors_seen, EachSector}
 use Rattle.vx_pages.specs.Writes.{PageHands, is_open, once_if}
-use Rattle.vx_pages.proofs.Handing.{are_shut, turned_hands}
+use Rattle.vx_pages.proofs.Hands.{are_shut, turned_hands}
 use Rattle.vx_pages.proofs.Ways.{firms}
 use Rattle.vx_pages.proofs.Whole.{each_then, turned_faults}
 use Rattle.vx_pages.proofs.sectors.firm_all.Goals as goal

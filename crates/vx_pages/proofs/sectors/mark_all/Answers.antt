@@ -1,5 +1,5 @@
 use Rattle.vx_pages.proofs.Whole.{marked}
-use Rattle.vx_pages.proofs.Handing.{firm_failed, mark_hands, stay_shut}
+use Rattle.vx_pages.proofs.Hands.{firm_failed, mark_hands, stay_shut}
 use Rattle.vx_pages.proofs.sectors.mark_all.Goals as goal
 
 pub returns-clause-each : goal.returns-clause-each

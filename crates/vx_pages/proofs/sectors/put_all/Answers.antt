@@ -8,7 +8,7 @@ use Rattle.vx_pages.specs.Sectors.{sector_seen}
 use Rattle.vx_pages.proofs.Loops.{goes_on, stops, still, inside_old, quiet_on, cause_on}
 use Rattle.vx_mask.specs.Mask.{has}
 use Rattle.vx_pages.specs.Writes.{once_if}
-use Rattle.vx_pages.proofs.Handing.{hands_may, hands_none}
+use Rattle.vx_pages.proofs.Hands.{hands_may, hands_none}
 use Rattle.vx_pages.proofs.Ways.{put_may, put_none}
 use Rattle.vx_pages.proofs.sectors.put_all.Goals as goal
 

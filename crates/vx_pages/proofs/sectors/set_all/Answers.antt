@@ -1,5 +1,5 @@
 use Rattle.vx_mapfmt.specs.Bits.{bit_in}
-use Rattle.vx_pages.proofs.Setting.{set_after}
+use Rattle.vx_pages.proofs.Sets.{set_after}
 use Rattle.vx_pages.proofs.sectors.set_all.Goals as goal
 
 pub returns-clause-each : goal.returns-clause-each

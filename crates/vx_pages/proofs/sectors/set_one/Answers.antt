@@ -1,7 +1,7 @@
 use Rattle.std.proofs.Common.{◌<◌, length, arith}
 use Rattle.vx_mapfmt.specs.Bits.{bit_in}
 use Rattle.vx_pages.specs.Sectors.{sector_seen}
-use Rattle.vx_pages.proofs.Setting.{one_cause, one_set, still_clean}
+use Rattle.vx_pages.proofs.Sets.{one_cause, one_set, still_clean}
 use Rattle.vx_pages.proofs.sectors.set_one.Goals as goal
 
 pub set-requires-clause-clean : goal.set-requires-clause-clean

@@ -5,7 +5,7 @@ use Rattle.vx_pages.specs.Reading.{IsSettled, Settles, image_at}
 use Rattle.vx_pages.specs.Sector.{IsOpen, KeepsSector}
 use Rattle.vx_pages.specs.Sectors.{sector_seen}
 use Rattle.vx_pages.proofs.Loops.{goes_on, stops, still, inside_old, grown_on, risen_on}
-use Rattle.vx_pages.proofs.Settling.{image_is, images_count}
+use Rattle.vx_pages.proofs.Settlement.{image_is, images_count}
 use Rattle.vx_pages.proofs.Ways.{keeps_none}
 use Rattle.vx_pages.proofs.sectors.settle_all.Goals as goal
 

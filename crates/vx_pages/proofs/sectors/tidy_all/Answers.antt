@@ -4,7 +4,7 @@ use Rattle.vx_pages.specs.Sector.{IsTidied, SectorHands, HasCause, faults_at, is
 use Rattle.vx_pages.specs.Sectors.{sector_seen}
 use Rattle.vx_pages.proofs.Loops.{goes_on, stops, quiet_on, cause_on}
 use Rattle.vx_pages.specs.Writes.{is_open, once_if}
-use Rattle.vx_pages.proofs.Handing.{hands_may, hands_none}
+use Rattle.vx_pages.proofs.Hands.{hands_may, hands_none}
 use Rattle.vx_pages.proofs.Ways.{tidied_may, tidied_none}
 use Rattle.vx_pages.proofs.sectors.tidy_all.Goals as goal
 

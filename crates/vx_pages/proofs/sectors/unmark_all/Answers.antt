@@ -4,7 +4,7 @@ use Rattle.vx_pages.specs.Page.{asked}
 use Rattle.vx_pages.proofs.Ways.{leaves_open}
 use Rattle.vx_pages.proofs.Whole.{unmarked, each_then, turned_faults, turned_cut, cause_stays}
 use Rattle.vx_pages.specs.Writes.{writes_of}
-use Rattle.vx_pages.proofs.Handing.{firm_failed, mark_hands, stay_shut, turned_hands}
+use Rattle.vx_pages.proofs.Hands.{firm_failed, mark_hands, stay_shut, turned_hands}
 use Rattle.vx_pages.proofs.sectors.unmark_all.Goals as goal
 
 pub returns-in-Err-clause-each : goal.returns-in-Err-clause-each

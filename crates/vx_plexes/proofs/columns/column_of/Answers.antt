@@ -7,7 +7,7 @@ use Rattle.vx_config_parts.specs.declared.object.Object.TheVariants.{PlexRecord}
 use Rattle.vx_plexes.proofs.Members.{one_in}
 use Rattle.vx_plexes.proofs.Chain.{found_in}
 use Rattle.vx_plexes.proofs.Plexes.{config_valid, subdisk_short, column_sum, column_short}
-use Rattle.vx_plexes.proofs.Lying.{plex_good}
+use Rattle.vx_plexes.proofs.Shapes.{plex_good}
 use Rattle.vx_plexes.proofs.columns.column_of.Goals as goal
 
 pub strips_of-requires : goal.strips_of-requires

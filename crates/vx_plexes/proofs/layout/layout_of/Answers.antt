@@ -6,7 +6,7 @@ use Rattle.vx_plexes.specs.Lies.{HoldsItsVolume, are_on_disks}
 use Rattle.vx_plexes.proofs.Members.{one_in}
 use Rattle.vx_plexes.proofs.Plexes.{config_valid}
 use Rattle.vx_plexes.proofs.Apart.{columns_inside}
-use Rattle.vx_plexes.proofs.Lying.{lies, holds_its_volume}
+use Rattle.vx_plexes.proofs.Shapes.{lies, holds_its_volume}
 use Rattle.vx_plexes.proofs.layout.layout_of.Goals as goal
 
 pub invariant_of-result : goal.invariant_of-result

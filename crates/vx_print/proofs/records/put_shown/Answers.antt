@@ -6,7 +6,7 @@ use Rattle.vx_objects.specs.Config.{objects_of}
 use Rattle.vx_objects.specs.Laws.{place_of}
 use Rattle.vx_objects.specs.Printed.{record_of}
 use Rattle.vx_record.specs.Content.{Content}
-use Rattle.vx_print.proofs.Ordered.{printed}
+use Rattle.vx_print.proofs.Order.{printed}
 use Rattle.vx_print.proofs.records.put_shown.Goals as goal
 
 pub returns : goal.returns

@@ -1,5 +1,5 @@
 use Rattle.std.proofs.Common.{◌∙◌}
-use Rattle.vx_print.proofs.Chosen.{by_set}
+use Rattle.vx_print.proofs.Choice.{by_set}
 use Rattle.vx_print.proofs.shown.of_volume.Goals as goal
 
 pub returns : goal.returns

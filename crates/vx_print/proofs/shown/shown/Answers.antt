@@ -2,7 +2,7 @@ use Rattle.std.proofs.Common.{Some, ◌∙◌, ap}
 use Rattle.std.specs.Option.{option_copied}
 use Rattle.vx_objects.specs.Config.{objects_of}
 use Rattle.vx_print.specs.Shown.{is_shown}
-use Rattle.vx_print.proofs.Chosen.{none_chosen, have_all, ok_have}
+use Rattle.vx_print.proofs.Choice.{none_chosen, have_all, ok_have}
 use Rattle.vx_print.proofs.shown.shown.Goals as goal
 
 pub returns-in-None-clause-shown : goal.returns-in-None-clause-shown

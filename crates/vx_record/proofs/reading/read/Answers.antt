@@ -2,7 +2,7 @@ use Rattle.std.proofs.Common.{◌≡◌, ◌+◌, ◌++◌, ◌∷◌, [], drop,
 use Rattle.std.proofs.lemmas.Result.{err_from_is_err_and}
 use Rattle.vx_record.specs.Grammar.{lines, record_lines}
 use Rattle.vx_record.specs.Reading.{IsRecordFault}
-use Rattle.vx_record.proofs.Stopped.{read_fault, read_only, spells_one, few_lines, more_records, more_length, whole_text}
+use Rattle.vx_record.proofs.Faults.{read_fault, read_only, spells_one, few_lines, more_records, more_length, whole_text}
 use Rattle.vx_record.proofs.ValidRecords.{AreRecords-push}
 use Rattle.vx_record.proofs.reading.read.Goals as goal
 

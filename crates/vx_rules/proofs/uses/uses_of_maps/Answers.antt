@@ -1,5 +1,5 @@
 use Rattle.std.proofs.Common.{arith}
-use Rattle.vx_rules.proofs.Counted.{uses_more, unused_at}
+use Rattle.vx_rules.proofs.Counts.{uses_more, unused_at}
 use Rattle.vx_rules.proofs.uses.uses_of_maps.Goals as goal
 
 pub loop-object-init : goal.loop-object-init

@@ -1,6 +1,6 @@
 use Rattle.std.proofs.Common.{refl, arith, map, rules}
 use Rattle.vx_runs.specs.Run.{IsArmed}
-use Rattle.vx_runs.proofs.Going.{sectors_before, step_next, step_end, each_part}
+use Rattle.vx_runs.proofs.Progress.{sectors_before, step_next, step_end, each_part}
 use Rattle.vx_runs.proofs.run.arm_run.Goals as goal
 
 pub loop-index-preserved : goal.loop-index-preserved

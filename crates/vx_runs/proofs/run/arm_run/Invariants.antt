@@ -1,6 +1,6 @@
 use Rattle.std.proofs.Common.{◌≡◌, length, map}
 use Rattle.vx_runs.specs.Run.{IsArmed}
-use Rattle.vx_runs.proofs.Going.{FirstParts}
+use Rattle.vx_runs.proofs.Progress.{FirstParts}
 use Rattle.vx_runs.proofs.run.arm_run.Given as goal
 
 abbrev pub invariant-loop-index : goal.invariant-loop-index

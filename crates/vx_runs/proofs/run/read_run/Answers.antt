@@ -5,7 +5,7 @@ use Rattle.vx_piece.specs.declared.piece.PieceFault.{PieceFault}
 use Rattle.vx_runs.specs.Part.{IsPartRange, IsPartRead}
 use Rattle.vx_runs.specs.Run.{IsRunRead, run_sectors}
 use Rattle.vx_runs.specs.declared.run.RunFault.{RunFault}
-use Rattle.vx_runs.proofs.Going.{step_range, step_fits, step_start, step_next, step_stop, step_device, step_end, step_same, all_sectors}
+use Rattle.vx_runs.proofs.Progress.{step_range, step_fits, step_start, step_next, step_stop, step_device, step_end, step_same, all_sectors}
 use Rattle.vx_runs.proofs.ReadRuns.{WasNotRead, was_read, was_not_read, gives_next, read_all, read_some}
 use Rattle.vx_runs.proofs.run.read_run.Goals as goal
 

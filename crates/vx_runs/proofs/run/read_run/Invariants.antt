@@ -1,5 +1,5 @@
 use Rattle.std.proofs.Common.{◌≡◌, length, map}
-use Rattle.vx_runs.proofs.Going.{sectors_before, FirstParts}
+use Rattle.vx_runs.proofs.Progress.{sectors_before, FirstParts}
 use Rattle.vx_runs.proofs.ReadRuns.{WasRead, GivesUpTo}
 use Rattle.vx_runs.proofs.run.read_run.Given as goal
 

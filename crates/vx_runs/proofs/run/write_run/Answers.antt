@@ -3,8 +3,8 @@ use Rattle.vx_piece.specs.declared.piece.PieceFault.{PieceFault}
 use Rattle.vx_runs.specs.Part.{IsPartWritten}
 use Rattle.vx_runs.specs.Run.{IsRunWritten}
 use Rattle.vx_runs.specs.declared.run.RunFault.{RunFault}
-use Rattle.vx_runs.proofs.Going.{step_range, step_fits, step_start, step_next, step_stop, step_device, step_end}
-use Rattle.vx_runs.proofs.Wrote.{wrote_all, wrote_some}
+use Rattle.vx_runs.proofs.Progress.{step_range, step_fits, step_start, step_next, step_stop, step_device, step_end}
+use Rattle.vx_runs.proofs.WriteSteps.{wrote_all, wrote_some}
 use Rattle.vx_runs.proofs.run.write_run.Goals as goal
 
 pub write_part-requires-after_bounds : goal.write_part-requires-after_bounds

@@ -1,6 +1,6 @@
 use Rattle.std.proofs.Common.{◌≡◌, length, map, Ok}
 use Rattle.vx_runs.specs.Part.{IsPartWritten}
-use Rattle.vx_runs.proofs.Going.{sectors_before, FirstParts}
+use Rattle.vx_runs.proofs.Progress.{sectors_before, FirstParts}
 use Rattle.vx_runs.proofs.run.write_run.Given as goal
 
 abbrev pub invariant-loop-index : goal.invariant-loop-index

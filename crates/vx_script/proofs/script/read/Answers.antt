@@ -2,7 +2,7 @@ use Rattle.std.proofs.Common.{◌≡◌, ◌∙◌, sym, subst, ◌+◌, Err, ar
 use Rattle.std.proofs.lemmas.Grind.{common_steps}
 use Rattle.std.proofs.lemmas.Result.{err_from_is_err_and}
 use Rattle.vx_script.proofs.Carry.{goes_on, at_end}
-use Rattle.vx_script.proofs.Keeping.{read_kept}
+use Rattle.vx_script.proofs.Continuations.{read_kept}
 use Rattle.vx_script.proofs.Refusals.{fault_is}
 use Rattle.vx_script.specs.Script.{Faults, script_of}
 use Rattle.vx_script.specs.declared.fault.ScriptFault.TheVariants.{Script}

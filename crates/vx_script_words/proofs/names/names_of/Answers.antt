@@ -3,7 +3,7 @@ use Rattle.std.specs.Bool.{IsTrue}
 use Rattle.std.proofs.lemmas.List.{append-nil, append_assoc}
 use Rattle.vx_names.specs.Form.{is_name}
 use Rattle.vx_script_words.specs.Packed.{names_in}
-use Rattle.vx_script_words.proofs.Packing.{first_name, no_bytes}
+use Rattle.vx_script_words.proofs.Packs.{first_name, no_bytes}
 use Rattle.vx_script_words.proofs.names.names_of.Goals as goal
 
 pub returns-in_default : goal.returns-in_default

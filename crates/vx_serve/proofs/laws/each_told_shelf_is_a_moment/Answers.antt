@@ -1,4 +1,4 @@
-use Rattle.vx_serve.proofs.Told.{told_shelf}
+use Rattle.vx_serve.proofs.Shelves.{told_shelf}
 use Rattle.vx_serve.proofs.laws.each_told_shelf_is_a_moment.Goals as goal
 
 pub returns : goal.returns

@@ -6,7 +6,7 @@ use Rattle.vx_script.specs.declared.command.Command.{Command}
 use Rattle.vx_house.specs.Scene.{shelved}
 use Rattle.vx_house.specs.View.{at}
 use Rattle.vx_serve.specs.Run.{HasRunPartly}
-use Rattle.vx_serve.proofs.Ran.{always_err, none_run, run_then, run_then_partly, partly_more}
+use Rattle.vx_serve.proofs.Runs.{always_err, none_run, run_then, run_then_partly, partly_more}
 use Rattle.vx_serve.proofs.lines.all_lines.Goals as goal
 
 pub loop-command-init : goal.loop-command-init

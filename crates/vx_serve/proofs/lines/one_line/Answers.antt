@@ -1,5 +1,5 @@
 use Rattle.std.proofs.lemmas.Result.{on_err_weaker}
-use Rattle.vx_serve.proofs.Ran.{always_err, both_ok, none_partly, one_run, one_partly}
+use Rattle.vx_serve.proofs.Runs.{always_err, both_ok, none_partly, one_run, one_partly}
 use Rattle.vx_serve.proofs.lines.one_line.Goals as goal
 
 pub returns-in_err-answer-clause-keeps : goal.returns-in_err-answer-clause-keeps

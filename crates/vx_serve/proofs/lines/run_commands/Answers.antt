@@ -1,7 +1,7 @@
 use Rattle.std.proofs.lemmas.Result.{IfOk-weaker, on_err_weaker}
 use Rattle.vx_house.specs.Scene.{shelved}
 use Rattle.vx_house.specs.View.{at}
-use Rattle.vx_serve.proofs.Ended.{carried_out, stopped_short}
+use Rattle.vx_serve.proofs.Ends.{carried_out, stopped_short}
 use Rattle.vx_serve.proofs.Soundly.{stays_sound}
 use Rattle.vx_serve.proofs.lines.run_commands.Goals as goal
 

@@ -1,6 +1,6 @@
 use Rattle.std.proofs.Common.{◌≡◌, ◌*◌, replicate, rules}
 use Rattle.vx_piece.specs.MemPiece.{mem_seen}
-use Rattle.vx_shelf.proofs.Made.{is_blank}
+use Rattle.vx_shelf.proofs.NewImages.{is_blank}
 use Rattle.vx_shelf.proofs.mem_shelf.blank.Goals as goal
 
 pub returns-clause-zeros : goal.returns-clause-zeros

@@ -1,4 +1,4 @@
-use Rattle.vx_shelf.proofs.Listing.{names_listed}
+use Rattle.vx_shelf.proofs.Listings.{names_listed}
 use Rattle.vx_shelf.proofs.mem_shelf.names_of.Goals as goal
 
 pub returns-clause-all : goal.returns-clause-all

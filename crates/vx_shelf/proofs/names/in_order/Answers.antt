@@ -1,4 +1,4 @@
-use Rattle.vx_shelf.proofs.Listing.{listed_alike}
+use Rattle.vx_shelf.proofs.Listings.{listed_alike}
 use Rattle.vx_shelf.proofs.names.in_order.Goals as goal
 
 pub returns-clause-same : goal.returns-clause-same

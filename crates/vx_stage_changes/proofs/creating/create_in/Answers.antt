@@ -1,5 +1,5 @@
 use Rattle.std.proofs.Common.{arith}
-use Rattle.vx_stage_changes.proofs.Enlisted.{all_unwritten, unfounded_long}
+use Rattle.vx_stage_changes.proofs.Enlistment.{all_unwritten, unfounded_long}
 use Rattle.vx_stage_changes.proofs.creating.create_in.Goals as goal
 
 pub found-requires-clause-unwritten : goal.found-requires-clause-unwritten

@@ -1,5 +1,5 @@
 use Rattle.std.proofs.Common.{Some, refl}
-use Rattle.vx_stage_changes.proofs.Handed.{one_item, join_goes}
+use Rattle.vx_stage_changes.proofs.OneItem.{one_item, join_goes}
 use Rattle.vx_stage_changes.proofs.joining.join.Goals as goal
 
 pub returns-in-Some : goal.returns-in-Some

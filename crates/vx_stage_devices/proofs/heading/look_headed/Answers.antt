@@ -3,7 +3,7 @@ use Rattle.std.specs.Vec.{with_item}
 use Rattle.vx_plans.specs.declared.stage.Stage.TheVariants.{LookHeaded}
 use Rattle.vx_house.specs.Goes.{StageGoes}
 use Rattle.vx_house.specs.View.{at}
-use Rattle.vx_stage_devices.proofs.Headed.{headed_look}
+use Rattle.vx_stage_devices.proofs.Headers.{headed_look}
 use Rattle.vx_stage_devices.proofs.heading.look_headed.Goals as goal
 use Rattle.vx_house.proofs.OnlyInHand.{only_one, only_set}
 

@@ -1,7 +1,7 @@
 use Rattle.std.proofs.Common.{Err, ap, rules}
 use Rattle.vx_house.specs.Scene.{shelved}
 use Rattle.vx_house.specs.View.{at}
-use Rattle.vx_stage_devices.proofs.Imaged.{image_made, image_exists, image_failed, image_refused, is_used, is_unused}
+use Rattle.vx_stage_devices.proofs.Images.{image_made, image_exists, image_failed, image_refused, is_used, is_unused}
 use Rattle.vx_stage_devices.proofs.imaging.make_image.Goals as goal
 
 pub returns-in-Ok : goal.returns-in-Ok

@@ -3,7 +3,7 @@ use Rattle.std.proofs.lemmas.List.{take_all}
 use Rattle.std.proofs.lemmas.Result.{err_from_is_err_and}
 use Rattle.vx_house.specs.Scene.{shelved}
 use Rattle.vx_stage_devices.specs.Seeks.{Seeks}
-use Rattle.vx_stage_devices.proofs.Searched.{next_seeks, next_ends}
+use Rattle.vx_stage_devices.proofs.Searches.{next_seeks, next_ends}
 use Rattle.vx_stage_devices.proofs.searching.look_through.Goals as goal
 
 pub loop-name-preserved : goal.loop-name-preserved

@@ -1,6 +1,6 @@
 use Rattle.std.proofs.Common.{[], ◌∷◌, rules}
 use Rattle.vx_house.specs.Scene.{shelved}
-use Rattle.vx_stage_devices.proofs.Sought.{looked_back, claims_seen, only_still, passed_by, shelf_failed, not_held_so, held_told, none_told}
+use Rattle.vx_stage_devices.proofs.Seeks.{looked_back, claims_seen, only_still, passed_by, shelf_failed, not_held_so, held_told, none_told}
 use Rattle.vx_stage_devices.proofs.searching.look_under.Goals as goal
 
 pub returns-in-Ok : goal.returns-in-Ok

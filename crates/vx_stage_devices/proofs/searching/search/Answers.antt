@@ -1,8 +1,8 @@
 use Rattle.std.proofs.Common.{[], rules}
 use Rattle.vx_house.specs.Scene.{shelved}
 use Rattle.vx_house.specs.View.{at}
-use Rattle.vx_stage_devices.proofs.Sought.{only_still}
-use Rattle.vx_stage_devices.proofs.Searched.{seeks_same}
+use Rattle.vx_stage_devices.proofs.Seeks.{only_still}
+use Rattle.vx_stage_devices.proofs.Searches.{seeks_same}
 use Rattle.vx_stage_devices.proofs.Ends.{search_stage, refused_by, shelf_ends, seeks_after}
 use Rattle.vx_stage_devices.proofs.searching.search.Goals as goal
 

@@ -1,5 +1,5 @@
 use Rattle.std.proofs.Common.{◌∙◌, ◌∷◌, [], refl, sym, ap}
-use Rattle.vx_stage_devices.proofs.Bared.{popped}
+use Rattle.vx_stage_devices.proofs.BareVolumes.{popped}
 use Rattle.vx_stage_devices.proofs.starting.start.Goals as goal
 
 pub returns-in-Ok : goal.returns-in-Ok

@@ -1,5 +1,5 @@
 use Rattle.std.proofs.Common.{◌∙◌, sym}
-use Rattle.vx_stage_devices.proofs.Bared.{start_stage, exists_stage, can_start, only_named}
+use Rattle.vx_stage_devices.proofs.BareVolumes.{start_stage, exists_stage, can_start, only_named}
 use Rattle.vx_stage_devices.proofs.starting.start_bare.Goals as goal
 
 pub start-requires-after_bounds : goal.start-requires-after_bounds

@@ -3,7 +3,7 @@ use Rattle.std.specs.Vec.{with_item}
 use Rattle.vx_plans.specs.declared.stage.Stage.TheVariants.{Wipe}
 use Rattle.vx_house.specs.Goes.{StageGoes}
 use Rattle.vx_house.specs.View.{at}
-use Rattle.vx_stage_devices.proofs.Wiped.{wipe_stage}
+use Rattle.vx_stage_devices.proofs.Wipes.{wipe_stage}
 use Rattle.vx_stage_devices.proofs.wiping.wipe.Goals as goal
 use Rattle.vx_house.proofs.OnlyInHand.{only_one, only_set}
 

@@ -1,5 +1,5 @@
 use Rattle.std.proofs.Common.{refl, rules}
-use Rattle.vx_stage_devices.proofs.Wiped.{counted_with_power}
+use Rattle.vx_stage_devices.proofs.Wipes.{counted_with_power}
 use Rattle.vx_stage_devices.proofs.wiping.wipe_at.Goals as goal
 
 pub returns-in-Ok : goal.returns-in-Ok

@@ -1,4 +1,4 @@
-use Rattle.vx_stage_gates.proofs.Mapped.{few_disks}
+use Rattle.vx_stage_gates.proofs.DiskLists.{few_disks}
 use Rattle.vx_stage_gates.proofs.test.failing.Goals as goal
 
 pub has_group_records-requires-clause-few : goal.has_group_records-requires-clause-few

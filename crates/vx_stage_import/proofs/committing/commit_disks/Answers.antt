@@ -1,6 +1,6 @@
 use Rattle.std.proofs.Common.{◌≡◌, ◌∙◌, refl, ap}
 use Rattle.vx_house.specs.Holders.{IsTakenFrom, holders}
-use Rattle.vx_house.proofs.Listed.{all_back}
+use Rattle.vx_house.proofs.AllLaws.{all_back}
 use Rattle.vx_stage_import.specs.Giving.{disk_holders}
 use Rattle.vx_stage_import.proofs.committing.commit_disks.Goals as goal
 use Rattle.vx_house.proofs.Lists.{apart_back}

@@ -5,10 +5,10 @@ use Rattle.vx_house.specs.Holders.{holders}
 use Rattle.vx_house.specs.Scene.{shelved}
 use Rattle.vx_stage_import.specs.Judging.{TextJudged, is_started}
 use Rattle.vx_stage_import.specs.declared.judging.Judged.TheVariants.{Ready}
-use Rattle.vx_stage_import.proofs.Inspected.{few_looked}
-use Rattle.vx_stage_import.proofs.Readied.{committable}
-use Rattle.vx_stage_import.proofs.Refused.{starves_back, few_disks}
-use Rattle.vx_stage_import.proofs.Taken.{takes_in, found_labels}
+use Rattle.vx_stage_import.proofs.Inspections.{few_looked}
+use Rattle.vx_stage_import.proofs.Readiness.{committable}
+use Rattle.vx_stage_import.proofs.Refusals.{starves_back, few_disks}
+use Rattle.vx_stage_import.proofs.Holders.{takes_in, found_labels}
 use Rattle.vx_stage_import.proofs.committing.commit_given.Goals as goal
 
 pub returns-in_default : goal.returns-in_default

@@ -5,7 +5,7 @@ use Rattle.std.specs.declared.cmp.Ordering.TheVariants.{Less}
 use Rattle.vx_import.specs.Looks.{looked}
 use Rattle.vx_house.specs.Scene.{shelved}
 use Rattle.vx_stage_import.specs.Finds.{AllBefore}
-use Rattle.vx_stage_import.proofs.Gathered.{pass_named, gather_next, gather_cut, gather_starved, gather_none, gather_all, before_first}
+use Rattle.vx_stage_import.proofs.Gathers.{pass_named, gather_next, gather_cut, gather_starved, gather_none, gather_all, before_first}
 use Rattle.vx_stage_import.proofs.Names.{rising_at}
 use Rattle.vx_stage_import.proofs.gathering.gather.Goals as goal
 

@@ -1,5 +1,5 @@
 use Rattle.std.proofs.Common.{◌≡◌, ◌<◌, true, length, rules, ◌∙◌, refl, inl, inr, arith}
-use Rattle.vx_stage_import.proofs.Placed.{room_in}
+use Rattle.vx_stage_import.proofs.Places.{room_in}
 use Rattle.vx_stage_import.proofs.PutAmong.{roomy_on, kept_on, used_at, counted_group, counted_size}
 use Rattle.vx_stage_import.proofs.gathering.keep.Goals as goal
 

@@ -1,9 +1,9 @@
 use Rattle.std.proofs.Common.{◌∙◌, ap, Err, map}
 use Rattle.vx_import.specs.Looks.{looked}
 use Rattle.vx_house.specs.Scene.{shelved}
-use Rattle.vx_stage_import.proofs.Passing.{look_goes, look_before, look_more, pass_absent, pass_failed, pass_starved}
+use Rattle.vx_stage_import.proofs.Passes.{look_goes, look_before, look_more, pass_absent, pass_failed, pass_starved}
 use Rattle.vx_stage_import.proofs.gathering.pass.Goals as goal
-use Rattle.vx_house.proofs.NotHandedOver.{nowhere_gone, held_gone}
+use Rattle.vx_house.proofs.Refusals.{nowhere_gone, held_gone}
 
 pub returns-in-Ok-clause-goes : goal.returns-in-Ok-clause-goes
 returns-in-Ok-clause-goes g c = λ others are.

@@ -1,5 +1,5 @@
 use Rattle.vx_house.specs.Scene.{shelved}
-use Rattle.vx_stage_import.proofs.Back.{find_taken, find_back, back_then, back_refl}
+use Rattle.vx_stage_import.proofs.Returns.{find_taken, find_back, back_then, back_refl}
 use Rattle.vx_stage_import.proofs.giving.give_finds.Goals as goal
 
 pub give_found-requires-clause-whole : goal.give_found-requires-clause-whole

@@ -1,8 +1,8 @@
 use Rattle.std.proofs.Common.{refl, sym, subst, IfSome}
 use Rattle.vx_shelf.specs.Listed.{Lists}
 use Rattle.vx_house.specs.Scene.{shelved}
-use Rattle.vx_stage_import.proofs.Ending.{stands, fails}
-use Rattle.vx_stage_import.proofs.WhileSearching.{unread_asked, names_asked, still_asked}
+use Rattle.vx_stage_import.proofs.Ends.{stands, fails}
+use Rattle.vx_stage_import.proofs.SearchLaws.{unread_asked, names_asked, still_asked}
 use Rattle.vx_stage_import.proofs.importing.import.Goals as goal
 
 pub returns-in-Some : goal.returns-in-Some

@@ -2,9 +2,9 @@ use Rattle.std.proofs.Common.{map}
 use Rattle.vx_import.specs.Looks.{looked}
 use Rattle.vx_house.specs.Holders.{holders}
 use Rattle.vx_house.specs.Scene.{shelved}
-use Rattle.vx_stage_import.proofs.Inspected.{held_inspected}
-use Rattle.vx_stage_import.proofs.Refused.{fault_back}
-use Rattle.vx_stage_import.proofs.WhileSearching.{since_inspected}
+use Rattle.vx_stage_import.proofs.Inspections.{held_inspected}
+use Rattle.vx_stage_import.proofs.Refusals.{fault_back}
+use Rattle.vx_stage_import.proofs.SearchLaws.{since_inspected}
 use Rattle.vx_stage_import.proofs.importing.import_found.Goals as goal
 
 pub import_given-requires-clause-held : goal.import_given-requires-clause-held

@@ -1,7 +1,7 @@
 use Rattle.vx_house.specs.Holders.{holders}
 use Rattle.vx_house.specs.Scene.{shelved}
-use Rattle.vx_stage_import.proofs.Refused.{searched_back}
-use Rattle.vx_stage_import.proofs.WhileSearching.{since_found}
+use Rattle.vx_stage_import.proofs.Refusals.{searched_back}
+use Rattle.vx_stage_import.proofs.SearchLaws.{since_found}
 use Rattle.vx_stage_import.proofs.importing.import_from.Goals as goal
 
 pub returns-in-Ok : goal.returns-in-Ok

@@ -4,7 +4,7 @@ use Rattle.vx_import.specs.Looks.{looked}
 use Rattle.vx_house.specs.Holders.{holders}
 use Rattle.vx_stage_import.specs.Judging.{is_started}
 use Rattle.vx_stage_import.specs.declared.judging.Judged.TheVariants as judged
-use Rattle.vx_stage_import.proofs.Refused.{starves_back, refused_back, judged_same, judged_labels}
+use Rattle.vx_stage_import.proofs.Refusals.{starves_back, refused_back, judged_same, judged_labels}
 use Rattle.vx_stage_import.proofs.importing.import_given.Goals as goal
 
 pub commit_given-requires-clause-judged : goal.commit_given-requires-clause-judged

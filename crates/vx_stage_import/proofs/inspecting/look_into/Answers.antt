@@ -1,5 +1,5 @@
 use Rattle.vx_import.specs.Answers.{Answers}
-use Rattle.vx_stage_import.proofs.Inspected.{few_at, private_at, unread_at, rising_at, of_at, each_written, read_as, are_looked}
+use Rattle.vx_stage_import.proofs.Inspections.{few_at, private_at, unread_at, rising_at, of_at, each_written, read_as, are_looked}
 use Rattle.vx_stage_import.proofs.inspecting.look_into.Goals as goal
 
 pub inspect-requires-clause-few : goal.inspect-requires-clause-few

@@ -1,5 +1,5 @@
 use Rattle.std.proofs.Common.{◌<◌, arith, add-one}
-use Rattle.vx_stage_import.proofs.Placed.{lower_more, any_at, higher_from, slots_long}
+use Rattle.vx_stage_import.proofs.Places.{lower_more, any_at, higher_from, slots_long}
 use Rattle.vx_stage_import.proofs.placing.place_of.Goals as goal
 
 pub returns-then-here-slot : goal.returns-then-here-slot

@@ -1,4 +1,4 @@
-use Rattle.vx_stage_import.proofs.Searched.{read_back, cut_back, headers_back}
+use Rattle.vx_stage_import.proofs.Searches.{read_back, cut_back, headers_back}
 use Rattle.std.proofs.Common.{refl}
 use Rattle.vx_stage_import.proofs.searching.search_names.Goals as goal
 

@@ -3,7 +3,7 @@ use Rattle.vx_mask.specs.Mask.{has}
 use Rattle.vx_copies.specs.Disks.{DiskSeen}
 use Rattle.vx_import.specs.Looks.{looked}
 use Rattle.vx_house.specs.Scene.{shelved}
-use Rattle.vx_stage_import.proofs.Back.{sorted_good}
+use Rattle.vx_stage_import.proofs.Returns.{sorted_good}
 use Rattle.vx_stage_import.proofs.sorting.sort_one.Goals as goal
 
 pub returns-clause-sorted : goal.returns-clause-sorted

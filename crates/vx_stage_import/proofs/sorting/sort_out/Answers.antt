@@ -2,7 +2,7 @@ use Rattle.std.proofs.Common.{◌≡◌, ◌∙◌, ◌++◌, ◌+◌, ◌≤◌
 use Rattle.std.proofs.lemmas.List.{length-append}
 use Rattle.vx_mask.specs.Mask.{has}
 use Rattle.vx_stage_import.specs.Giving.{disk_holders}
-use Rattle.vx_stage_import.proofs.Back.{last_taken, disks_then, at_most_one, sorted_goes, sort_begins, sort_ends, disks_end, disks_begin}
+use Rattle.vx_stage_import.proofs.Returns.{last_taken, disks_then, at_most_one, sorted_goes, sort_begins, sort_ends, disks_end, disks_begin}
 use Rattle.vx_stage_import.proofs.sorting.sort_out.Goals as goal
 
 pub sort_one-requires-clause-whole : goal.sort_one-requires-clause-whole

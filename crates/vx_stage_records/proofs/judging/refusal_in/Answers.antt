@@ -3,7 +3,7 @@ use Rattle.std.specs.Prelude.{IfOk}
 use Rattle.vx_objects.specs.Config.{objects_of}
 use Rattle.vx_rules.specs.Adding.{firsts}
 use Rattle.vx_stage_records.specs.Judging.{is_running}
-use Rattle.vx_stage_records.proofs.Judged.{own_names, same_refusal}
+use Rattle.vx_stage_records.proofs.Verdicts.{own_names, same_refusal}
 use Rattle.vx_stage_records.proofs.judging.refusal_in.Goals as goal
 
 pub refusal_among-requires-clause-group : goal.refusal_among-requires-clause-group

@@ -1,8 +1,8 @@
 use Rattle.std.proofs.Common.{◌≡◌, ◌*◌, arith, ap, ◌∙◌}
 use Rattle.std.proofs.lemmas.List.{length-replicate}
 use Rattle.vx_base.specs.Blocks.{blocks_in}
-use Rattle.vx_started.proofs.Kept.{one_write}
-use Rattle.vx_started.proofs.Parted.{part_always_written, part_torn}
+use Rattle.vx_started.proofs.CallCounts.{one_write}
+use Rattle.vx_started.proofs.PartWrites.{part_always_written, part_torn}
 use Rattle.vx_started.proofs.part.fill_part.Goals as goal
 
 pub returns-clause-written : goal.returns-clause-written

@@ -2,7 +2,7 @@ use Rattle.std.proofs.Common.{◌≡◌, ◌+◌, ◌-◌, ℕ, arith, subst, If
 use Rattle.std.proofs.lemmas.Result.{on_ok_weaker}
 use Rattle.vx_base.specs.Blocks.{AreBlocks}
 use Rattle.vx_started.specs.Buffers.{HoldsFirst}
-use Rattle.vx_started.proofs.Filled.{holds_more}
+use Rattle.vx_started.proofs.Fills.{holds_more}
 use Rattle.vx_started.proofs.part.read_behind.Goals as goal
 
 pub returns-clause-ok : goal.returns-clause-ok

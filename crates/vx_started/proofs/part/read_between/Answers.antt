@@ -1,6 +1,6 @@
-use Rattle.vx_started.proofs.Kept.{one_read}
+use Rattle.vx_started.proofs.CallCounts.{one_read}
 use Rattle.std.proofs.Common.{rules}
-use Rattle.vx_started.proofs.Spliced.{spliced}
+use Rattle.vx_started.proofs.Splices.{spliced}
 use Rattle.vx_started.proofs.part.read_between.Goals as goal
 
 pub returns-clause-between : goal.returns-clause-between

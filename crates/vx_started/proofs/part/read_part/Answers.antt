@@ -1,4 +1,4 @@
-use Rattle.vx_started.proofs.Parted.{part_read, part_missed}
+use Rattle.vx_started.proofs.PartWrites.{part_read, part_missed}
 use Rattle.vx_started.proofs.part.read_part.Goals as goal
 
 pub returns-clause-read : goal.returns-clause-read

@@ -4,8 +4,8 @@ use Rattle.vx_block.specs.Parts.{reached}
 use Rattle.vx_block.specs.Regions.{part_at}
 use Rattle.vx_piece.specs.Seen.{HasCause}
 use Rattle.vx_life.specs.declared.EntryKind.TheVariants.{Write, Torn}
-use Rattle.vx_started.proofs.Kept.{calls_more, calls_within, keeps_then, cause_after}
-use Rattle.vx_started.proofs.Gone.{gone_more, below_more}
+use Rattle.vx_started.proofs.CallCounts.{calls_more, calls_within, keeps_then, cause_after}
+use Rattle.vx_started.proofs.PartSteps.{gone_more, below_more}
 use Rattle.vx_started.proofs.range.fill_range.Goals as goal
 
 pub slice_bounds-own-end : goal.slice_bounds-own-end

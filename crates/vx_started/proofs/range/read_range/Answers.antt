@@ -6,8 +6,8 @@ use Rattle.vx_block.proofs.PartLemmas.{all_reached}
 use Rattle.vx_piece.specs.Seen.{HasCause}
 use Rattle.vx_life.specs.declared.EntryKind.TheVariants.{Read, Missed}
 use Rattle.vx_started.specs.Buffers.{HoldsFirst}
-use Rattle.vx_started.proofs.Kept.{calls_more, calls_within, keeps_then, cause_after, read_then}
-use Rattle.vx_started.proofs.Gone.{gone_more, below_more}
+use Rattle.vx_started.proofs.CallCounts.{calls_more, calls_within, keeps_then, cause_after, read_then}
+use Rattle.vx_started.proofs.PartSteps.{gone_more, below_more}
 use Rattle.vx_started.proofs.range.read_range.Goals as goal
 
 pub returns-in-Err-clause-kept : goal.returns-in-Err-clause-kept

@@ -3,7 +3,7 @@ use Rattle.std.specs.Prelude.{◌&&◌, nat_lt}
 use Rattle.std.proofs.lemmas.Bool.{le-ltb}
 use Rattle.vx_mapfmt.specs.declared.shape.DcoShape.{DcoShape}
 use Rattle.vx_maps.specs.Stores.{store_seen}
-use Rattle.vx_whole_maps.proofs.Listed.{bit_at_region}
+use Rattle.vx_whole_maps.proofs.Lists.{bit_at_region}
 use Rattle.vx_whole_maps.proofs.listing.list.Goals as goal
 
 pub returns-clause-bits : goal.returns-clause-bits

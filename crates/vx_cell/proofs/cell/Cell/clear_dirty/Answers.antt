@@ -2,8 +2,8 @@ use Rattle.std.proofs.Common.{[], Result, sym, subst}
 use Rattle.vx_core.specs.declared.stage.Job.TheVariants.{Clear}
 use Rattle.vx_cell.specs.declared.fault.CellFault.{CellFault}
 use Rattle.vx_cell.specs.Calls.{region_of, ClearLeaves}
-use Rattle.vx_cell.proofs.Ended.{quiet_ended, not_dead}
-use Rattle.vx_cell.proofs.Taking.{clear_left}
+use Rattle.vx_cell.proofs.EndPhases.{quiet_ended, not_dead}
+use Rattle.vx_cell.proofs.Starts.{clear_left}
 use Rattle.vx_cell.proofs.cell.Cell.clear_dirty.Goals as goal
 
 pub returns-clause-ended : goal.returns-clause-ended

@@ -2,8 +2,8 @@ use Rattle.std.proofs.Common.{[], true, false, Bool, Result, sym, subst}
 use Rattle.vx_core.specs.declared.stage.Job.TheVariants.{Copy}
 use Rattle.vx_cell.specs.declared.fault.CellFault.{CellFault}
 use Rattle.vx_cell.specs.Calls.{region_of, CopyLeaves}
-use Rattle.vx_cell.proofs.Ended.{quiet_ended, not_dead}
-use Rattle.vx_cell.proofs.Taking.{copy_left}
+use Rattle.vx_cell.proofs.EndPhases.{quiet_ended, not_dead}
+use Rattle.vx_cell.proofs.Starts.{copy_left}
 use Rattle.vx_cell.proofs.cell.Cell.copy_to.Goals as goal
 
 pub returns-clause-ended : goal.returns-clause-ended

@@ -1,6 +1,6 @@
 use Rattle.std.proofs.Common.{ℕ, ◌-◌, subst}
 use Rattle.vx_cell.specs.Calls.{region_of, HasRun}
-use Rattle.vx_cell.proofs.Ended.{resumed}
+use Rattle.vx_cell.proofs.EndPhases.{resumed}
 use Rattle.vx_cell.proofs.cell.Cell.resume.Goals as goal
 
 pub returns-in-Busy-clause-ended : goal.returns-in-Busy-clause-ended

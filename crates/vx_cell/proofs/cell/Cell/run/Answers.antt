@@ -1,8 +1,8 @@
 use Rattle.std.proofs.Common.{refl}
 use Rattle.vx_cell.specs.Plexes.{plexes_seen}
 use Rattle.vx_cell.specs.Calls.{region_of}
-use Rattle.vx_cell.proofs.Stepped.{running_starts, running_next, running_smaller, askable_now, maps_fit}
-use Rattle.vx_cell.proofs.Kept.{carried_may}
+use Rattle.vx_cell.proofs.Steps.{running_starts, running_next, running_smaller, askable_now, maps_fit}
+use Rattle.vx_cell.proofs.LogLaws.{carried_may}
 use Rattle.vx_cell.proofs.cell.Cell.run.Goals as goal
 
 pub loop-self-init : goal.loop-self-init

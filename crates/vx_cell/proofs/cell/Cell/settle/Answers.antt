@@ -1,7 +1,7 @@
 use Rattle.std.proofs.Common.{[]}
 use Rattle.vx_core.specs.declared.stage.Job.TheVariants.{Settle}
 use Rattle.vx_cell.specs.Calls.{region_of}
-use Rattle.vx_cell.proofs.Ended.{quiet_ended, not_dead}
+use Rattle.vx_cell.proofs.EndPhases.{quiet_ended, not_dead}
 use Rattle.vx_cell.proofs.cell.Cell.settle.Goals as goal
 
 pub returns-clause-ended : goal.returns-clause-ended

@@ -1,7 +1,7 @@
 use Rattle.std.proofs.Common.{ℕ, ◌-◌, [], Result, subst}
 use Rattle.vx_cell.specs.declared.fault.CellFault.{CellFault}
 use Rattle.vx_cell.specs.Calls.{region_of, WriteEnds}
-use Rattle.vx_cell.proofs.Writing.{write_alone, write_and_clear}
+use Rattle.vx_cell.proofs.Entries.{write_alone, write_and_clear}
 use Rattle.vx_cell.proofs.cell.Cell.write.Goals as goal
 
 pub returns-in-Ok-clause-ended : goal.returns-in-Ok-clause-ended

@@ -1,6 +1,6 @@
 use Rattle.std.proofs.Common.{◌∙◌, ap, ℕ}
 use Rattle.vx_mask.specs.Mask.{union}
-use Rattle.vx_cell_rows.proofs.Noted.{claims_more, claims_elsewhere}
+use Rattle.vx_cell_rows.proofs.Claims.{claims_more, claims_elsewhere}
 use Rattle.vx_cell_rows.proofs.notes.NotesMarker.mark.Goals as goal
 
 pub returns-in-Good-clause-claims : goal.returns-in-Good-clause-claims

@@ -1,5 +1,5 @@
 use Rattle.std.proofs.Common.{◌∙◌}
-use Rattle.vx_cell_rows.proofs.Noted.{claims_less, claims_elsewhere}
+use Rattle.vx_cell_rows.proofs.Claims.{claims_less, claims_elsewhere}
 use Rattle.vx_cell_rows.proofs.notes.NotesMarker.unmark.Goals as goal
 
 pub returns-in-Good-clause-claims : goal.returns-in-Good-clause-claims

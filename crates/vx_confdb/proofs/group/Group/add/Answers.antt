@@ -8,11 +8,11 @@ use Rattle.vx_confdb.specs.Add.{IsTaken, TakenBy, AddGives}
 use Rattle.vx_copies.specs.Written.{IsDone}
 use Rattle.vx_confdb.specs.Enlisted.{AddWrites}
 use Rattle.vx_confdb.specs.declared.joining.Prepared.TheVariants.{Done}
-use Rattle.vx_confdb.proofs.Enlisting.{is_enlisted, is_added, not_cut}
+use Rattle.vx_confdb.proofs.Enlistment.{is_enlisted, is_added, not_cut}
 use Rattle.vx_confdb.specs.Texts.{text_of}
 use Rattle.vx_confdb.specs.declared.group.Group.{Group}
-use Rattle.vx_confdb.proofs.Begun.{none_all}
-use Rattle.vx_confdb.proofs.Adding.{mid_members, joined_is, chain_by, whole_by, taken_is, lost_taken, one_longer, alive_by, ok_not_err, held_length}
+use Rattle.vx_confdb.proofs.NoOffers.{none_all}
+use Rattle.vx_confdb.proofs.Additions.{mid_members, joined_is, chain_by, whole_by, taken_is, lost_taken, one_longer, alive_by, ok_not_err, held_length}
 use Rattle.vx_confdb.proofs.group.Group.add.Goals as goal
 
 pub write_joined-requires-clause-alive : goal.write_joined-requires-clause-alive

@@ -1,10 +1,10 @@
 use Rattle.std.proofs.Common.{◌≡◌, ◌≤◌, length, subst, sym, arith}
 use Rattle.std.proofs.lemmas.List.{length-map}
 use Rattle.vx_copies.specs.Disks.{disk_seen}
-use Rattle.vx_copies.proofs.Recording.{none_recorded}
+use Rattle.vx_copies.proofs.Records.{none_recorded}
 use Rattle.vx_copies.specs.Chain.{IsSound}
 use Rattle.vx_confdb.specs.Groups.{members}
-use Rattle.vx_confdb.proofs.Grouped.{gives_from, same_length}
+use Rattle.vx_confdb.proofs.Labels.{gives_from, same_length}
 use Rattle.vx_confdb.proofs.group.Group.commit.Goals as goal
 
 pub returns-clause-ends : goal.returns-clause-ends

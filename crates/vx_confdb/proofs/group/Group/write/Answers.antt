@@ -2,9 +2,9 @@ use Rattle.std.proofs.Common.{refl, arith}
 use Rattle.std.proofs.lemmas.List.{length-map}
 use Rattle.vx_copies.specs.Disks.{disk_seen}
 use Rattle.vx_confdb.specs.Texts.{text_of}
-use Rattle.vx_copies.proofs.Chained.{all_first}
-use Rattle.vx_confdb.proofs.Begun.{members_of}
-use Rattle.vx_confdb.proofs.Grouped.{headed_stays, slots_stay, ready_slots, alive_group, lost_by}
+use Rattle.vx_copies.proofs.Chains.{all_first}
+use Rattle.vx_confdb.proofs.NoOffers.{members_of}
+use Rattle.vx_confdb.proofs.Labels.{headed_stays, slots_stay, ready_slots, alive_group, lost_by}
 use Rattle.vx_confdb.proofs.group.Group.write.Goals as goal
 
 pub returns-in-Ok-clause-written : goal.returns-in-Ok-clause-written

@@ -2,10 +2,10 @@ use Rattle.std.proofs.Common.{◌+◌, refl, inl, arith}
 use Rattle.vx_confdb.specs.Add.{IsJoined}
 use Rattle.vx_confdb.specs.declared.joining.Prepared.TheVariants.{Cut}
 use Rattle.vx_confdb.specs.Texts.{text_of}
-use Rattle.vx_copies.proofs.Going.{all_refl}
-use Rattle.vx_copies.proofs.Leading.{led_below}
-use Rattle.vx_copies.proofs.Ordering.{none_newer}
-use Rattle.vx_copies.proofs.Recording.{none_recorded}
+use Rattle.vx_copies.proofs.StepLaws.{all_refl}
+use Rattle.vx_copies.proofs.Leaders.{led_below}
+use Rattle.vx_copies.proofs.ToggleOrder.{none_newer}
+use Rattle.vx_copies.proofs.Records.{none_recorded}
 use Rattle.vx_confdb.proofs.group.Group.write_joined.Goals as goal
 
 pub returns-in-Cut-clause-written : goal.returns-in-Cut-clause-written

@@ -1,6 +1,6 @@
 use Rattle.std.proofs.Common.{arith, replicate, ℕ}
 use Rattle.std.proofs.lemmas.List.{length-replicate, length-take-le}
-use Rattle.vx_confdb.proofs.Filling.{padded_is, long, first_zeros}
+use Rattle.vx_confdb.proofs.Zeros.{padded_is, long, first_zeros}
 use Rattle.vx_confdb.proofs.text.Text.of.Goals as goal
 
 pub invariant_of-result : goal.invariant_of-result

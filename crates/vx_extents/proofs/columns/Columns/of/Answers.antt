@@ -1,4 +1,4 @@
-use Rattle.vx_extents.proofs.Growing.{grown, grown_small}
+use Rattle.vx_extents.proofs.Growth.{grown, grown_small}
 use Rattle.vx_extents.proofs.columns.Columns.of.Goals as goal
 
 pub loop-piece-preserved : goal.loop-piece-preserved

@@ -1,4 +1,4 @@
-use Rattle.vx_extents.proofs.Laying.{laid_more}
+use Rattle.vx_extents.proofs.Placement.{laid_more}
 use Rattle.vx_extents.proofs.laid.Laid.lay.Goals as goal
 
 pub returns : goal.returns

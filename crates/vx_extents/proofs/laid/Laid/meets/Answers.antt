@@ -1,7 +1,7 @@
 use Rattle.std.proofs.Common.{◌≡◌, ◌&&◌, true, false, nat_lt, sym, ◌∙◌, ap}
 use Rattle.std.specs.Str.{bytes_eq}
 use Rattle.std.proofs.lemmas.Bool.{and_left}
-use Rattle.vx_extents.proofs.Laying.{last_answers, clear_of_all}
+use Rattle.vx_extents.proofs.Placement.{last_answers, clear_of_all}
 use Rattle.vx_extents.proofs.laid.Laid.meets.Goals as goal
 
 pub returns-then-same : goal.returns-then-same

@@ -3,8 +3,8 @@ use Rattle.std.specs.Prelude.{codes}
 use Rattle.vx_sector.specs.Fields.{IsFirstDifference}
 use Rattle.vx_header.specs.Places.{IsFirstBad, is_header_place, header_end}
 use Rattle.vx_header.specs.Spelled.{IsHeader}
-use Rattle.vx_header.proofs.HeaderReading.{header_of_sector, header_not_refused, header_first_bad, mark_of_header}
-use Rattle.vx_header.proofs.Naming.{header_said, unmarked_says, bad_header_says}
+use Rattle.vx_header.proofs.HeaderFields.{header_of_sector, header_not_refused, header_first_bad, mark_of_header}
+use Rattle.vx_header.proofs.Labels.{header_said, unmarked_says, bad_header_says}
 use Rattle.vx_header.proofs.header.Header.read.Goals as goal
 
 pub returns-then-not-has_mark-clause-only : goal.returns-then-not-has_mark-clause-only

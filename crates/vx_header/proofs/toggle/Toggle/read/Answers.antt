@@ -3,8 +3,8 @@ use Rattle.vx_sector.specs.Fields.{zeros, IsFirstDifference}
 use Rattle.vx_header.specs.Places.{IsFirstBad, is_toggle_place, toggle_end}
 use Rattle.vx_header.specs.Said.{toggle_of}
 use Rattle.vx_header.specs.Spelled.{IsToggle}
-use Rattle.vx_header.proofs.Saying.{toggle_said, zeros_say, bad_says}
-use Rattle.vx_header.proofs.ToggleReading.{toggle_of_sector, toggle_not_refused, toggle_first_bad, toggle_not_zero}
+use Rattle.vx_header.proofs.Toggles.{toggle_said, zeros_say, bad_says}
+use Rattle.vx_header.proofs.ToggleFields.{toggle_of_sector, toggle_not_refused, toggle_first_bad, toggle_not_zero}
 use Rattle.vx_header.proofs.toggle.Toggle.read.Goals as goal
 
 pub returns-then-is_zero-clause-only : goal.returns-then-is_zero-clause-only

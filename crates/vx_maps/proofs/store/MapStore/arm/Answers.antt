@@ -3,13 +3,13 @@ use Rattle.vx_pages.specs.Pages.{grid_seen}
 use Rattle.vx_pages.specs.Sector.{SectorSeen}
 use Rattle.vx_piece.specs.Seen.{Seen}
 use Rattle.vx_runs.specs.Run.{IsArmed}
-use Rattle.vx_pages.proofs.Settling.{sectors_if}
+use Rattle.vx_pages.proofs.Settlement.{sectors_if}
 use Rattle.vx_maps.specs.Going.{GridGoes, SheetsGo}
 use Rattle.vx_maps.specs.Sheets.{sheets_seen}
 use Rattle.vx_maps.specs.Slots.{SheetsSeen}
 use Rattle.vx_maps.specs.Store.{AreOnCopies, pages_seen}
-use Rattle.vx_maps.proofs.Armed.{claims_armed, grid_armed, sheets_armed, told_armed}
-use Rattle.vx_maps.proofs.Paged.{copied_goes, pages_goes}
+use Rattle.vx_maps.proofs.Arms.{claims_armed, grid_armed, sheets_armed, told_armed}
+use Rattle.vx_maps.proofs.PageRows.{copied_goes, pages_goes}
 use Rattle.vx_maps.proofs.Steps.{laid_goes, second_goes}
 use Rattle.vx_maps.proofs.store.MapStore.arm.Goals as goal
 

@@ -13,9 +13,9 @@ use Rattle.vx_maps.specs.Stores.{store_seen}
 use Rattle.vx_maps.specs.Wholes.{store_copies, store_faults}
 use Rattle.vx_maps.proofs.Blank.{claims_none, blank, pages_told, log_told}
 use Rattle.vx_maps.proofs.Cells.{row_tells, sector_tells}
-use Rattle.vx_maps.proofs.Refusing.{refused_for, runs_tell}
+use Rattle.vx_maps.proofs.Refusals.{refused_for, runs_tell}
 use Rattle.vx_maps.proofs.Rows.{laid_holed}
-use Rattle.vx_maps.proofs.Storing.{size_seen}
+use Rattle.vx_maps.proofs.StoreChanges.{size_seen}
 use Rattle.vx_maps.proofs.store.MapStore.create.Goals as goal
 
 pub returns-in-Ok-clause-claims : goal.returns-in-Ok-clause-claims

@@ -2,10 +2,10 @@ use Rattle.std.proofs.Common.{refl, ◌/◌}
 use Rattle.vx_pages.specs.Sector.{KeepsPiece}
 use Rattle.vx_pages.specs.Stays.{piece_same}
 use Rattle.vx_maps.specs.Sheets.{sheets_seen}
-use Rattle.vx_maps.proofs.Copying.{whole_goes}
+use Rattle.vx_maps.proofs.CopyLaws.{whole_goes}
 use Rattle.vx_maps.proofs.Steps.{sheets_same}
 use Rattle.vx_maps.proofs.Alike.{copies_firm}
-use Rattle.vx_maps.proofs.Firming.{store_firm_kept, store_firm_told, store_firm_still, store_firm_claims, store_firm_cause}
+use Rattle.vx_maps.proofs.Firmness.{store_firm_kept, store_firm_told, store_firm_still, store_firm_claims, store_firm_cause}
 use Rattle.vx_maps.proofs.store.MapStore.firm.Goals as goal
 
 pub invariant_of-self : goal.invariant_of-self

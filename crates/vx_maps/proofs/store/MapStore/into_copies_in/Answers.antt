@@ -6,10 +6,10 @@ use Rattle.vx_pages.specs.Pages.{grid_seen, page_seen}
 use Rattle.vx_maps.specs.Store.{pages_cut, pages_seen}
 use Rattle.vx_maps.specs.Creating.{copies_cut}
 use Rattle.vx_maps.specs.Cutness.{sheets_cut}
-use Rattle.vx_maps.proofs.Beginning.{or_either}
+use Rattle.vx_maps.proofs.Beginnings.{or_either}
 use Rattle.vx_maps.proofs.Cells.{sheets_shown, grid_shown, find_page}
 use Rattle.vx_maps.specs.Sheets.{sheets_seen}
-use Rattle.vx_maps.proofs.Storing.{size_seen}
+use Rattle.vx_maps.proofs.StoreChanges.{size_seen}
 use Rattle.vx_maps.proofs.Rows.{rows_of, pairs_of, laid_holed}
 use Rattle.vx_maps.proofs.store.MapStore.into_copies_in.Goals as goal
 

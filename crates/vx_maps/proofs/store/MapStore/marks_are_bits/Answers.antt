@@ -1,4 +1,4 @@
-use Rattle.vx_maps.proofs.Telling.{marks_bits}
+use Rattle.vx_maps.proofs.Shows.{marks_bits}
 use Rattle.vx_maps.proofs.store.MapStore.marks_are_bits.Goals as goal
 
 pub returns : goal.returns

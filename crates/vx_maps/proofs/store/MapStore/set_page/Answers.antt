@@ -4,9 +4,9 @@ use Rattle.vx_pages.specs.Pages.{grid_seen, page_seen}
 use Rattle.vx_pages.specs.Sector.{KeepsPiece}
 use Rattle.vx_pages.specs.Setting.{come_as}
 use Rattle.vx_pages.specs.Stays.{piece_same}
-use Rattle.vx_maps.proofs.Paged.{grid_on, places_set}
+use Rattle.vx_maps.proofs.PageRows.{grid_on, places_set}
 use Rattle.vx_maps.proofs.Steps.{grid_same, sheets_same}
-use Rattle.vx_maps.proofs.Storing.{has_page, size_seen, paged_still, store_kept, store_set, store_cause}
+use Rattle.vx_maps.proofs.StoreChanges.{has_page, size_seen, paged_still, store_kept, store_set, store_cause}
 use Rattle.vx_maps.proofs.Alike.{copies_still}
 use Rattle.vx_maps.proofs.store.MapStore.set_page.Goals as goal
 

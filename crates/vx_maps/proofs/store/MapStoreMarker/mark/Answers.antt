@@ -3,11 +3,11 @@ use Rattle.vx_marks.specs.Log.{IsMarkedAs, IsClaimedAs}
 use Rattle.vx_pages.specs.Pages.{grid_seen, page_seen}
 use Rattle.vx_pages.specs.Sector.{KeepsPiece}
 use Rattle.vx_pages.specs.Stays.{piece_same}
-use Rattle.vx_maps.proofs.Paged.{grid_on, places_set}
+use Rattle.vx_maps.proofs.PageRows.{grid_on, places_set}
 use Rattle.vx_maps.proofs.Steps.{grid_same, sheets_same}
-use Rattle.vx_maps.proofs.Storing.{has_page, size_seen, askable, there_is, paged_still, store_kept, store_told, store_claims, store_cause}
+use Rattle.vx_maps.proofs.StoreChanges.{has_page, size_seen, askable, there_is, paged_still, store_kept, store_told, store_claims, store_cause}
 use Rattle.vx_pages.specs.Writes.{writes_of}
-use Rattle.vx_maps.proofs.Handed.{hands_on, shut_on}
+use Rattle.vx_maps.proofs.HandCounts.{hands_on, shut_on}
 use Rattle.vx_maps.proofs.Alike.{copies_still}
 use Rattle.vx_maps.proofs.store.MapStoreMarker.mark.Goals as goal
 

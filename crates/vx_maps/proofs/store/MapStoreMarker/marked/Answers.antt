@@ -1,6 +1,6 @@
 use Rattle.std.proofs.Common.{◌∙◌, sym, ◌<◌, length, ◌/◌}
 use Rattle.vx_pages.specs.Pages.{page_seen}
-use Rattle.vx_maps.proofs.Storing.{has_page, size_seen, known, claims_in}
+use Rattle.vx_maps.proofs.StoreChanges.{has_page, size_seen, known, claims_in}
 use Rattle.vx_maps.proofs.store.MapStoreMarker.marked.Goals as goal
 
 pub marked-requires : goal.marked-requires

@@ -2,7 +2,7 @@ use Rattle.std.proofs.Common.{◌≡◌, ◌∙◌, true, List, sym, subst}
 use Rattle.std.specs.List.{list_all}
 use Rattle.vx_config_parts.specs.declared.object.Object.{Object}
 use Rattle.vx_objects.specs.Printed.{has_record}
-use Rattle.vx_objects.proofs.Back.{ok_back}
+use Rattle.vx_objects.proofs.RoundTrip.{ok_back}
 use Rattle.vx_objects.proofs.Numbers.{have_records}
 use Rattle.vx_objects.proofs.config.Config.records.Goals as goal
 

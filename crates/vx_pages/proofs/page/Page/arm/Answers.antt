@@ -4,7 +4,7 @@ use Rattle.vx_pages.specs.Arming.{armed_sector}
 use Rattle.vx_pages.specs.Page.{ArePairedAlike, sectors_seen}
 use Rattle.vx_pages.specs.Sector.{SectorSeen}
 use Rattle.vx_pages.specs.Sectors.{sector_seen}
-use Rattle.vx_pages.proofs.Settling.{armed_paired}
+use Rattle.vx_pages.proofs.Settlement.{armed_paired}
 use Rattle.vx_pages.proofs.page.Page.arm.Goals as goal
 
 pub invariant_of-self : goal.invariant_of-self

@@ -1,9 +1,9 @@
 use Rattle.std.proofs.Common.{refl}
-use Rattle.vx_pages.proofs.Staying.{firm_goes}
+use Rattle.vx_pages.proofs.EachStep.{firm_goes}
 use Rattle.std.proofs.Common.{◌∙◌}
 use Rattle.std.proofs.lemmas.List.{length-map}
 use Rattle.vx_pages.specs.Sectors.{sector_seen}
-use Rattle.vx_pages.proofs.Marking.{firm_kept, firm_told, firm_claims, page_cause}
+use Rattle.vx_pages.proofs.MarkSteps.{firm_kept, firm_told, firm_claims, page_cause}
 use Rattle.vx_pages.proofs.page.Page.firm.Goals as goal
 use Rattle.vx_pages.proofs.Pairs.{firm_paired}
 

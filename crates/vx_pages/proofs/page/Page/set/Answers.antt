@@ -3,10 +3,10 @@ use Rattle.std.proofs.lemmas.List.{length-map}
 use Rattle.vx_mapfmt.specs.Bits.{bit_in}
 use Rattle.vx_pages.specs.Sector.{KeepsSector}
 use Rattle.vx_pages.specs.Sectors.{sector_seen}
-use Rattle.vx_pages.proofs.Marking.{page_cause, page_kept}
+use Rattle.vx_pages.proofs.MarkSteps.{page_cause, page_kept}
 use Rattle.vx_pages.proofs.Pairs.{paired_each}
-use Rattle.vx_pages.proofs.Setting.{kept_set, page_set}
-use Rattle.vx_pages.proofs.Staying.{goes_each}
+use Rattle.vx_pages.proofs.Sets.{kept_set, page_set}
+use Rattle.vx_pages.proofs.EachStep.{goes_each}
 use Rattle.vx_pages.proofs.page.Page.set.Goals as goal
 
 pub returns-clause-kept : goal.returns-clause-kept

@@ -1,9 +1,9 @@
 use Rattle.std.proofs.Common.{refl}
-use Rattle.vx_pages.proofs.Staying.{mark_goes}
+use Rattle.vx_pages.proofs.EachStep.{mark_goes}
 use Rattle.std.proofs.Common.{◌∙◌}
 use Rattle.std.proofs.lemmas.List.{length-map}
 use Rattle.vx_pages.specs.Sectors.{sector_seen}
-use Rattle.vx_pages.proofs.Marking.{mark_kept, mark_told, mark_claims, page_cause}
+use Rattle.vx_pages.proofs.MarkSteps.{mark_kept, mark_told, mark_claims, page_cause}
 use Rattle.vx_pages.proofs.page.PageMarker.mark.Goals as goal
 use Rattle.vx_pages.proofs.Pairs.{mark_paired}
 

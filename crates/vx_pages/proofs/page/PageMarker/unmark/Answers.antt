@@ -1,9 +1,9 @@
 use Rattle.std.proofs.Common.{refl}
-use Rattle.vx_pages.proofs.Staying.{unmark_goes}
+use Rattle.vx_pages.proofs.EachStep.{unmark_goes}
 use Rattle.std.proofs.Common.{◌∙◌}
 use Rattle.std.proofs.lemmas.List.{length-map}
 use Rattle.vx_pages.specs.Sectors.{sector_seen}
-use Rattle.vx_pages.proofs.Marking.{unmark_kept, unmark_told, unmark_claims, page_cause}
+use Rattle.vx_pages.proofs.MarkSteps.{unmark_kept, unmark_told, unmark_claims, page_cause}
 use Rattle.vx_pages.proofs.page.PageMarker.unmark.Goals as goal
 use Rattle.vx_pages.proofs.Pairs.{unmark_paired}
 

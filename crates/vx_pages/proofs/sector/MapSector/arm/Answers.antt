@@ -1,7 +1,7 @@
 use Rattle.std.proofs.Common.{subst, sym, Option}
 use Rattle.vx_pages.specs.Pieces.{sector_of}
 use Rattle.vx_pages.specs.Sector.{IsFormed}
-use Rattle.vx_pages.proofs.Settling.{armed_one, armed_pair}
+use Rattle.vx_pages.proofs.Settlement.{armed_one, armed_pair}
 use Rattle.vx_pages.proofs.sector.MapSector.arm.Goals as goal
 
 pub invariant_of-self : goal.invariant_of-self

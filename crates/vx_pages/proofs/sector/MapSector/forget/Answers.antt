@@ -1,5 +1,5 @@
-use Rattle.vx_pages.proofs.Going.{forgets, forget_formed}
-use Rattle.vx_pages.proofs.Handing.{closed}
+use Rattle.vx_pages.proofs.Steps.{forgets, forget_formed}
+use Rattle.vx_pages.proofs.Hands.{closed}
 use Rattle.vx_pages.proofs.sector.MapSector.forget.Goals as goal
 
 pub invariant_of-self : goal.invariant_of-self

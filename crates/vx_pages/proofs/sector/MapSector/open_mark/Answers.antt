@@ -1,4 +1,4 @@
-use Rattle.vx_pages.proofs.Going.{opens, open_formed}
+use Rattle.vx_pages.proofs.Steps.{opens, open_formed}
 use Rattle.vx_pages.proofs.sector.MapSector.open_mark.Goals as goal
 
 pub invariant_of-self : goal.invariant_of-self

@@ -1,7 +1,7 @@
 use Rattle.std.proofs.Common.{subst, List, ℕ, Err}
 use Rattle.vx_pages.specs.Sector.{IsPut}
 use Rattle.vx_pages.specs.Pieces.{copies_of}
-use Rattle.vx_pages.proofs.Going.{bit_failed, failed_formed}
+use Rattle.vx_pages.proofs.Steps.{bit_failed, failed_formed}
 use Rattle.vx_pages.proofs.sector.MapSector.put_mark.Goals as goal
 
 pub invariant_of-self : goal.invariant_of-self

@@ -1,4 +1,4 @@
-use Rattle.vx_pages.proofs.Setting.{failed_set_formed, set_failed}
+use Rattle.vx_pages.proofs.Sets.{failed_set_formed, set_failed}
 use Rattle.vx_pages.proofs.sector.MapSector.set.Goals as goal
 
 pub invariant_of-self : goal.invariant_of-self

@@ -2,8 +2,8 @@ use Rattle.std.proofs.Common.{subst, Result}
 use Rattle.vx_marks.specs.declared.marker.MarkFault.{MarkFault}
 use Rattle.vx_pages.specs.Pieces.{copies_of}
 use Rattle.vx_pages.specs.Reading.{IsMended}
-use Rattle.vx_pages.proofs.Opening.{open_formed}
-use Rattle.vx_pages.proofs.Settling.{settled_formed}
+use Rattle.vx_pages.proofs.OpenBits.{open_formed}
+use Rattle.vx_pages.proofs.Settlement.{settled_formed}
 use Rattle.vx_pages.proofs.sector.MapSector.settle.Goals as goal
 
 pub invariant_of-self : goal.invariant_of-self

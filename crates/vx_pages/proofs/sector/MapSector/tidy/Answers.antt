@@ -4,8 +4,8 @@ use Rattle.std.specs.Str.{bytes_eq}
 use Rattle.vx_sector.specs.Fields.{zeros}
 use Rattle.vx_pages.specs.Sector.{IsPut}
 use Rattle.vx_pages.specs.Pieces.{copies_of}
-use Rattle.vx_pages.proofs.Going.{tidy_none, tidied, tidy_formed}
-use Rattle.vx_pages.proofs.Handing.{closed, none_handed, once_handed, opened}
+use Rattle.vx_pages.proofs.Steps.{tidy_none, tidied, tidy_formed}
+use Rattle.vx_pages.proofs.Hands.{closed, none_handed, once_handed, opened}
 use Rattle.vx_pages.proofs.sector.MapSector.tidy.Goals as goal
 
 pub returns-then-is_zero-clause-goes : goal.returns-then-is_zero-clause-goes

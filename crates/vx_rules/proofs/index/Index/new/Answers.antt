@@ -2,7 +2,7 @@ use Rattle.std.proofs.Common.{◌≡◌, Some, take, true, false, sym, ◌∙◌
 use Rattle.std.specs.Option.{option_copied}
 use Rattle.vx_config_parts.specs.declared.fault.ObjectFault.TheVariants.{Exists}
 use Rattle.vx_rules.specs.References.{has_name}
-use Rattle.vx_rules.proofs.Gathered.{finds_more, has_from_map, none_named, repeats_here, repeats_later}
+use Rattle.vx_rules.proofs.FirstNames.{finds_more, has_from_map, none_named, repeats_here, repeats_later}
 use Rattle.vx_rules.proofs.index.Index.new.Goals as goal
 
 pub returns-then-is_some : goal.returns-then-is_some

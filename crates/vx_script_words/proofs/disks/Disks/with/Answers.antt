@@ -1,6 +1,6 @@
 use Rattle.std.proofs.Common.{◌≡◌, ◌∙◌, ◌++◌, ◌∷◌, [], ap, sym, subst, rules}
 use Rattle.vx_script_words.specs.Packed.{paired, ArePaired}
-use Rattle.vx_script_words.proofs.Packing.{more_paired}
+use Rattle.vx_script_words.proofs.Packs.{more_paired}
 use Rattle.vx_script_words.proofs.disks.Disks.with.Goals as goal
 
 pub invariant_of-result : goal.invariant_of-result

@@ -1,6 +1,6 @@
 use Rattle.std.proofs.Common.{◌∙◌, ap, sym, subst}
 use Rattle.vx_script_words.specs.Packed.{names_in, ArePacked}
-use Rattle.vx_script_words.proofs.Packing.{no_names}
+use Rattle.vx_script_words.proofs.Packs.{no_names}
 use Rattle.vx_script_words.proofs.names.Names.new.Goals as goal
 
 pub invariant_of-result : goal.invariant_of-result

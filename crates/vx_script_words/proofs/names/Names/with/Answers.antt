@@ -1,6 +1,6 @@
 use Rattle.std.proofs.Common.{◌≡◌, ◌∙◌, ◌++◌, ◌∷◌, [], ap, sym, subst, rules}
 use Rattle.vx_script_words.specs.Packed.{names_in, ArePacked}
-use Rattle.vx_script_words.proofs.Packing.{more_packed}
+use Rattle.vx_script_words.proofs.Packs.{more_packed}
 use Rattle.vx_script_words.proofs.names.Names.with.Goals as goal
 
 pub invariant_of-result : goal.invariant_of-result

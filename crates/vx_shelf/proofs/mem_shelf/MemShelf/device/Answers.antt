@@ -1,7 +1,7 @@
 use Rattle.std.proofs.Common.{◌∙◌, ap, sym}
 use Rattle.vx_shelf.specs.MemShelf.{free_by}
 use Rattle.vx_shelf.proofs.Places.{shown_at, shown_none}
-use Rattle.vx_shelf.proofs.Taken.{is_free, not_free}
+use Rattle.vx_shelf.proofs.Holds.{is_free, not_free}
 use Rattle.vx_shelf.proofs.mem_shelf.MemShelf.device.Goals as goal
 
 pub returns-in-None : goal.returns-in-None

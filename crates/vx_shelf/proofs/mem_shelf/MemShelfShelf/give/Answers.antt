@@ -1,5 +1,5 @@
-use Rattle.vx_shelf.proofs.Taken.{nowhere, given, comes, given_at_rest, given_number}
-use Rattle.vx_shelf.proofs.Counted.{counted_set}
+use Rattle.vx_shelf.proofs.Holds.{nowhere, given, comes, given_at_rest, given_number}
+use Rattle.vx_shelf.proofs.Counts.{counted_set}
 use Rattle.vx_shelf.proofs.Numbers.{numbered_set}
 use Rattle.vx_shelf.proofs.mem_shelf.MemShelfShelf.give.Goals as goal
 

@@ -1,7 +1,7 @@
 use Rattle.std.proofs.Common.{refl, inr}
-use Rattle.vx_shelf.proofs.Counted.{counted_made}
-use Rattle.vx_shelf.proofs.Listing.{first_used, missing_unused}
-use Rattle.vx_shelf.proofs.Made.{made_at_rest, made_below, made_joins, made_held}
+use Rattle.vx_shelf.proofs.Counts.{counted_made}
+use Rattle.vx_shelf.proofs.Listings.{first_used, missing_unused}
+use Rattle.vx_shelf.proofs.NewImages.{made_at_rest, made_below, made_joins, made_held}
 use Rattle.vx_shelf.proofs.mem_shelf.MemShelfShelf.make.Goals as goal
 
 pub invariant_of-self : goal.invariant_of-self

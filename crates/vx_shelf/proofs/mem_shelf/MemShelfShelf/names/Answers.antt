@@ -1,4 +1,4 @@
-use Rattle.vx_shelf.proofs.Listing.{lists}
+use Rattle.vx_shelf.proofs.Listings.{lists}
 use Rattle.vx_shelf.proofs.mem_shelf.MemShelfShelf.names.Goals as goal
 
 pub returns-in-Ok-clause-all : goal.returns-in-Ok-clause-all

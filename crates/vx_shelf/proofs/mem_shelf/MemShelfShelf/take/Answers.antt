@@ -1,8 +1,8 @@
 use Rattle.std.proofs.Common.{◌≡◌, ap, arith, refl, subst, sym, IsSome, false, true}
 use Rattle.vx_piece.specs.MemPiece.{mem_seen}
 use Rattle.vx_shelf.specs.MemShelf.{is_empty}
-use Rattle.vx_shelf.proofs.Taken.{not_some, not_true, nowhere, rest_here, free_under, none_held, taken, leaves, held_under, free_gone, stays_at_rest}
-use Rattle.vx_shelf.proofs.Counted.{counted_here, counted_same}
+use Rattle.vx_shelf.proofs.Holds.{not_some, not_true, nowhere, rest_here, free_under, none_held, taken, leaves, held_under, free_gone, stays_at_rest}
+use Rattle.vx_shelf.proofs.Counts.{counted_here, counted_same}
 use Rattle.vx_shelf.proofs.Numbers.{numbered_set}
 use Rattle.vx_shelf.proofs.mem_shelf.MemShelfShelf.take.Goals as goal
 

@@ -1,5 +1,5 @@
 use Rattle.std.proofs.Common.{◌<◌, rules}
-use Rattle.vx_started.proofs.Served.{fill_served}
+use Rattle.vx_started.proofs.Service.{fill_served}
 use Rattle.vx_started.proofs.started.Started.fill.Goals as goal
 
 pub returns-clause-served : goal.returns-clause-served

@@ -1,5 +1,5 @@
 use Rattle.std.proofs.Common.{◌≡◌, ◌*◌, ◌<◌, length, rules}
-use Rattle.vx_started.proofs.Served.{read_served}
+use Rattle.vx_started.proofs.Service.{read_served}
 use Rattle.vx_started.proofs.started.Started.read.Goals as goal
 
 pub returns-clause-served : goal.returns-clause-served

@@ -1,0 +1,142 @@
+-- A house that holds nothing, and its shelf.
+use Rattle.std.proofs.Common.{◌≡◌, ◌∙◌, ◌<◌, ℕ, Bool, false, List, [], ◌++◌, map, Option, Some, None, refl, sym, ap, subst}
+use Rattle.std.specs.Prelude.{IfSome}
+use Rattle.std.specs.List.{list_any}
+use Rattle.std.specs.List.Sorted.{IsStrictlySortedBy}
+use Rattle.std.specs.Map.{keys_of}
+use Rattle.std.specs.Str.{bytes_eq}
+use Rattle.std.specs.Cmp.Lexicographic.{slice_cmp}
+use Rattle.std.specs.Ordering.{nat_cmp}
+use Rattle.vx_base.specs.Named.{Word}
+use Rattle.vx_piece.specs.Seen.{Seen}
+use Rattle.vx_shelf.specs.Shelf.{Held}
+use Rattle.vx_copies.specs.Lists.{AllOf}
+use Rattle.vx_script.specs.declared.command.Command.{Command}
+use Rattle.vx_answers.specs.declared.answer.Answer.{Answer}
+use Rattle.vx_answers.specs.declared.answer.End.TheVariants as ends
+use Rattle.vx_moments.specs.Moment.{Moment}
+use Rattle.vx_plans.specs.Steps.{IsTranscript}
+use Rattle.vx_house.specs.Closing.{NoneHeld}
+use Rattle.vx_house.specs.Goes.{Goes}
+use Rattle.vx_house.specs.Holders.{AreHeld, holders, group_holders, hand_holder, volume_holder, volume_at}
+use Rattle.vx_house.specs.Leaves.{IsLeft}
+use Rattle.vx_house.specs.Scene.{Shelved, Scene, seen_at, AreCountsOf, FaultsGoOn}
+use Rattle.vx_house.specs.View.{View, at, scene, is_lent, IsDeviceOf, IsAtVolume, group_of, IsMoment, Keeps, IsGroupKept}
+use Rattle.vx_house.specs.declared.house.House.{House}
+use Rattle.vx_house.proofs.Ends.{keeps_but_group, moment_but_group}
+use Rattle.vx_house.proofs.AfterLoss.{all_gone, power_goes}
+use Rattle.vx_house.proofs.AfterLoss.{left as left_world}
+use Rattle.vx_house.proofs.AllLaws.{found_in}
+use Rattle.vx_house.proofs.Moments.{faults_moved, faults_trans}
+use Rattle.vx_serve.specs.Ends.{CarriesOut, IsShelfOf, ShelfGoes, StopsShort, bare}
+use Rattle.vx_serve.specs.Run.{AreBlamed, HasRun, HasRunPartly, IsTranscriptThen}
+use Rattle.vx_serve.proofs.Runs.{all_on}
+
+no_order : {X : Type 0} (es : List (Word × X)) → es ≡ [] → IsStrictlySortedBy (slice_cmp nat_cmp) (keys_of es)
+unfolding IsStrictlySortedBy
+no_order {X = X} es e = subst (λ (xs : List (Word × X)). IsStrictlySortedBy (slice_cmp nat_cmp) (keys_of xs)) (sym e) tt
+
+none_some : {X Y : Type 0} (o : Option X) (x : X) → o ≡ None → o ≡ Some x → Y
+none_some o x e h = cc
+
+-- a house that holds nothing
+module _ {P : Type 0} (see : P → Seen) (h : House P) (no_volumes : h.volumes.entries ≡ []) (no_group : h.group ≡ None) (no_hand : h.hand.items ≡ []) where
+  no_holders : holders see h ≡ []
+  no_holders =
+      ap (λ es. map (volume_holder see) es ++ (group_holders see h.group ++ map (hand_holder see) h.hand.items)) no_volumes
+      ∙ ap (λ g. group_holders see g ++ map (hand_holder see) h.hand.items) no_group
+      ∙ ap (λ ts. map (hand_holder see) ts) no_hand
+
+  no_volume : (name : Word) → volume_at h name ≡ None
+  no_volume name = ap (λ es. found_in es name) no_volumes
+
+  pub bare_scene : (s : Shelved) → scene see (at s h) ≡ bare s
+  bare_scene s = ap (λ hs. let x : Scene = record { shelf = s; taken = hs } in x) no_holders
+
+  none_lent : (name : Word) → is_lent h name ≡ false
+  none_lent name = ap (λ es. list_any (λ e. bytes_eq e.1.device name) es) no_volumes
+
+  pub keeps_nothing : (s : Shelved) → NoneHeld s.held → Keeps see (at s h)
+  keeps_nothing s none = record {
+    devices = subst (AreHeld s.held) (sym no_holders) (record { each = tt; apart = tt; only = λ name _. none name });
+    house = record {
+      ordered = no_order h.volumes.entries no_volumes;
+      hand = subst (AllOf (λ t. 0 < (see t.piece).sectors)) (sym no_hand) tt;
+      volumes = λ vol b is. none_some (volume_at h vol) b (no_volume vol) is;
+      group = subst (λ o. IfSome o (IsGroupKept see)) (sym no_group) tt;
+    };
+  }
+
+  pub none_held : (held : Word → Option Held) → AreHeld held (holders see h) → NoneHeld held
+  none_held held are name = (subst (AreHeld held) no_holders are).only name refl
+
+  pub moment_there : (s : Shelved) (m : Moment) → IsShelfOf s m → IsMoment see (at s h) m
+  moment_there s m is = record {
+    told = is.told;
+    devices_are = λ name. subst (λ b. IsDeviceOf b (seen_at (scene see (at s h)) name) (m.world.devices name)) (sym (none_lent name)) (subst (λ x. IsDeviceOf false (seen_at x name) (m.world.devices name)) (sym (bare_scene s)) (is.devices_are name));
+    volumes_are = λ vol. subst (λ o. IsAtVolume see o (m.world.volumes vol)) (sym (no_volume vol)) (subst (λ o. IsAtVolume see None o) (sym (is.no_volumes vol)) tt);
+    group_is = is.no_group ∙ ap (group_of see) (sym no_group);
+    counts = subst (λ x. AreCountsOf x m.counts) (sym (bare_scene s)) is.counts;
+  }
+
+  pub shelf_there : (s : Shelved) (m : Moment) → IsMoment see (at s h) m → ((vol : Word) → m.world.volumes vol ≡ None) → IsShelfOf s m
+  shelf_there s m is none = record {
+    told = is.told;
+    devices_are = λ name. subst (λ x. IsDeviceOf false (seen_at x name) (m.world.devices name)) (bare_scene s) (subst (λ b. IsDeviceOf b (seen_at (scene see (at s h)) name) (m.world.devices name)) (none_lent name) (is.devices_are name));
+    no_volumes = none;
+    no_group = is.group_is ∙ ap (group_of see) no_group;
+    counts = subst (λ x. AreCountsOf x m.counts) (bare_scene s) is.counts;
+  }
+
+-- a house that began with nothing, and has given all back
+module _ {P : Type 0} (see : P → Seen) (commands : List Command) (h : House P) (no_volumes : h.volumes.entries ≡ []) (no_group : h.group ≡ None) (no_hand : h.hand.items ≡ []) (s t : Shelved) (mid : View P) (k : House P)
+    (keeps : Keeps see mid) (gone : IsLeft see (ends.Lost []) mid (at t k)) (taken taken' : Option (List ℕ)) where
+  old_scene : scene see (at s h) ≡ bare s
+  old_scene = bare_scene see h no_volumes no_group no_hand s
+
+  new_scene : scene see (at t k) ≡ bare t
+  new_scene = bare_scene see k gone.stays.volumes gone.stays.group gone.later.hand t
+
+  last_faults : FaultsGoOn (scene see mid) (scene see (at t k))
+  last_faults = faults_moved (scene see mid) (scene see (at t k)) gone.later.moved
+
+  shelf_goes : (R : Moment → Moment → Type 0) → Goes see R (at s h) mid → ShelfGoes R s t
+  shelf_goes R goes m is =
+      let n = goes m (moment_there see h no_volumes no_group no_hand s m is) in
+      let but = moment_but_group see mid n.0 n.1 in
+      let keeps' = keeps_but_group see mid keeps in (
+        n.0,
+        left_world see mid n.0 but keeps',
+        n.3,
+        n.2,
+        power_goes see mid n.0 but keeps',
+        shelf_there see k gone.stays.volumes gone.stays.group gone.later.hand t _ (all_gone see mid n.0 but keeps' (at t k) gone) (λ vol. refl),
+      )
+
+  all_faults : FaultsGoOn (scene see (at s h)) (scene see mid) → FaultsGoOn (bare s) (bare t)
+  all_faults on = subst (λ x. FaultsGoOn x (bare t)) old_scene (subst (FaultsGoOn (scene see (at s h))) new_scene (faults_trans (scene see (at s h)) (scene see mid) (scene see (at t k)) on last_faults))
+
+  all_blamed : (answers : List Answer) → AreBlamed answers (scene see (at s h)) (scene see mid) → AreBlamed answers (bare s) (bare t)
+  all_blamed answers blamed = subst (λ x. AreBlamed answers x (bare t)) old_scene (subst (AreBlamed answers (scene see (at s h))) new_scene (all_on answers (scene see (at s h)) (scene see mid) (scene see (at t k)) blamed last_faults))
+
+  pub carried_out : (fine : Bool) → HasRun see 0 commands (at s h) taken mid taken' fine → CarriesOut commands s taken t taken' fine
+  carried_out fine run = record {
+    answers = run.answers;
+    goes = shelf_goes (λ m last. IsTranscript 0 m commands run.answers last) run.goes;
+    written = run.written;
+    fine_is = run.fine_is;
+    faults = all_faults run.faults;
+    blamed = all_blamed run.answers run.blamed;
+  }
+
+  pub stopped_short : HasRunPartly see 0 commands (at s h) taken mid taken' → StopsShort commands s taken t taken'
+  stopped_short run = record {
+    begun = run.begun;
+    left = run.left;
+    split = run.split;
+    answers = run.answers;
+    goes = shelf_goes (λ m last. IsTranscriptThen 0 m run.begun run.answers last) run.goes;
+    written = run.written;
+    faults = all_faults run.faults;
+    blamed = all_blamed run.answers run.blamed;
+  }

@@ -1,0 +1,78 @@
+-- What the imported group keeps once a device has joined it.
+use Rattle.std.proofs.Common.{◌≡◌, ◌≢◌, ◌∙◌, ℕ, ◌+◌, ◌==◌, ◌||◌, Bool, true, false, List, [], ◌∷◌, ◌++◌, map, refl, sym, ap, subst}
+use Rattle.std.specs.List.{list_any}
+use Rattle.std.proofs.lemmas.Bool.{eq-eqb}
+use Rattle.vx_piece.specs.Seen.{Seen}
+use Rattle.vx_config_parts.specs.declared.disk.Disk.{Disk as Record}
+use Rattle.vx_copies.specs.Disks.{DiskSeen, disk_seen, CommitGoes}
+use Rattle.vx_copies.specs.Lists.{AllOf}
+use Rattle.vx_copies.specs.declared.disk.Disk.{Disk}
+use Rattle.vx_confdb.specs.Create.{Joins}
+use Rattle.vx_confdb.specs.Groups.{members, CarriesText}
+use Rattle.vx_script_words.specs.declared.value.DiskAt.{DiskAt}
+use Rattle.vx_moments.specs.Copies.{IsTextOf}
+use Rattle.vx_plans.specs.Records.{disk_record}
+use Rattle.vx_house.specs.Scene.{Shelved}
+use Rattle.vx_house.specs.View.{IsGroupKept, HaveSlots, AreRecorded}
+use Rattle.vx_house.specs.declared.house.House.{House}
+use Rattle.vx_house.specs.declared.house.Imported.{Imported}
+use Rattle.vx_house.specs.declared.house.Taken.{Taken}
+use Rattle.vx_house.proofs.AllLaws.{all_append, all_mapped, all_unmapped}
+use Rattle.vx_stage_changes.proofs.Admission.{IsAdmitted, hs, js, bs, ks, whole, kept, same_name, admitted}
+use Rattle.vx_stage_changes.proofs.Configs.{joined_disks}
+use Rattle.vx_commits.proofs.Joins.{IsWent}
+use Rattle.vx_commits.proofs.Slots.{AreSlotted, slots_kept}
+use Rattle.vx_copies.proofs.StepLaws.{each_map}
+use Rattle.vx_copies.proofs.ToggleOrder.{each_all}
+
+unslotted : {P : Type 0} (see : P → Seen) (ds : List (Disk P)) → AreSlotted (map (disk_seen see) ds) → HaveSlots ds
+unslotted see [] slots = tt
+unslotted see (d ∷ ds) slots = (all_unmapped (λ e. e.slot ≢ d.slot) (disk_seen see) ds slots.0, unslotted see ds slots.1)
+
+any_more : (slot : ℕ) (xs ys : List Record) → list_any (λ r. r.slot == slot) xs ≡ true → list_any (λ r. r.slot == slot) (xs ++ ys) ≡ true
+any_more slot [] ys e = absurd (cc)
+any_more slot (x ∷ xs) ys e = by (x.slot == slot) e (any_more slot xs ys)
+  where
+    by : (b : Bool) → (b || list_any (λ r. r.slot == slot) xs) ≡ true → (list_any (λ r. r.slot == slot) xs ≡ true → list_any (λ r. r.slot == slot) (xs ++ ys) ≡ true) → (b || list_any (λ r. r.slot == slot) (xs ++ ys)) ≡ true
+    by true e rest = refl
+    by false e rest = rest e
+
+any_last : (slot : ℕ) (xs : List Record) (y : Record) → (y.slot == slot) ≡ true → list_any (λ r. r.slot == slot) (xs ++ y ∷ []) ≡ true
+any_last slot [] y e = ap (λ b. b || false) e
+any_last slot (x ∷ xs) y e = by (x.slot == slot) (any_last slot xs y e)
+  where
+    by : (b : Bool) → list_any (λ r. r.slot == slot) (xs ++ y ∷ []) ≡ true → (b || list_any (λ r. r.slot == slot) (xs ++ y ∷ [])) ≡ true
+    by true rest = refl
+    by false rest = rest
+
+module _ {P : Type 0} {see : P → Seen} {shelf : Shelved} {pair : DiskAt} {old now : House P} {g g' : Imported P} {t : Taken P} {slot : ℕ} {text : List ℕ} (a : IsAdmitted see shelf pair old now g g' t slot text g'.config) (carries : CarriesText see (g.base.sequence + 1) text g'.base) where
+  abbrev added : Record
+  added = disk_record pair slot (see t.piece).sectors
+
+  disks_are : g'.config.disks ≡ g.config.disks ++ added ∷ []
+  disks_are = joined_disks added g.config g'.config a.join.meant.edited
+
+  -- what holds of the disks before holds of those now
+  over : (Q : DiskSeen → Type 0) → ((a b : DiskSeen) → CommitGoes (g.base.sequence + 1) g'.base.sequence text a b → Q a → Q b) → ((a b : DiskSeen) → Joins g.base.name text a b → Q a → Q b) → AllOf Q (hs a) → AllOf Q (js a) → AllOf Q (members see g'.base)
+  over Q goes joins one two =
+      subst (AllOf Q) (whole a) (all_append Q (bs a) (ks a) (each_all (CommitGoes (g.base.sequence + 1) g'.base.sequence text) Q Q goes (hs a) (bs a) a.taken.goes one) (each_all (Joins g.base.name text) Q Q joins (js a) (ks a) a.taken.joins two))
+
+  pub kept_joined : IsGroupKept see g'
+  kept_joined = record {
+    named = a.taken.name ∙ sym (same_name a);
+    text = subst (IsTextOf g'.config) (sym carries.holds) a.join.meant.printed.0;
+    first = g.base.sequence + 1;
+    carries = subst (λ t. CarriesText see (g.base.sequence + 1) t g'.base) (sym carries.holds) carries;
+    sized = all_unmapped (λ h. h.seen.sectors ≡ h.sectors) (disk_seen see) g'.base.disks.items
+        (over (λ h. h.seen.sectors ≡ h.sectors) (λ a b goes same. goes.kept.sectors ∙ same ∙ sym goes.size) (λ a b joins same. joins.kept.sectors ∙ same ∙ sym joins.size)
+        (all_mapped (λ h. h.seen.sectors ≡ h.sectors) (disk_seen see) g.base.disks.items (kept a).sized) (refl, tt));
+    slots = unslotted see g'.base.disks.items (subst AreSlotted (whole a) (slots_kept (hs a ++ js a) (bs a ++ ks a) (each_map IsWent (λ a b. b.slot ≡ a.slot) (λ a b went. went.slot) (hs a ++ js a) (bs a ++ ks a) (admitted a).went) (admitted a).slots));
+    recorded = all_unmapped (λ h. list_any (λ r. r.slot == h.slot) g'.config.disks ≡ true) (disk_seen see) g'.base.disks.items
+        (over (λ h. list_any (λ r. r.slot == h.slot) g'.config.disks ≡ true) (λ a b goes is. ap (λ n. list_any (λ r. r.slot == n) g'.config.disks) goes.slot ∙ is) (λ a b joins is. ap (λ n. list_any (λ r. r.slot == n) g'.config.disks) joins.slot ∙ is)
+        (all_mapped (λ h. list_any (λ r. r.slot == h.slot) g'.config.disks ≡ true) (disk_seen see) g.base.disks.items (first_recorded g.base.disks.items (kept a).recorded))
+        (ap (λ l. list_any (λ r. r.slot == slot) l) disks_are ∙ any_last slot g.config.disks added (eq-eqb slot slot refl), tt));
+  }
+    where
+      first_recorded : (ds : List (Disk P)) → AreRecorded g.config ds → AllOf (λ d. list_any (λ r. r.slot == d.slot) g'.config.disks ≡ true) ds
+      first_recorded [] all = tt
+      first_recorded (d ∷ ds) all = (ap (λ l. list_any (λ r. r.slot == d.slot) l) disks_are ∙ any_more d.slot g.config.disks (added ∷ []) all.0, first_recorded ds all.1)

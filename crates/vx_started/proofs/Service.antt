@@ -1,0 +1,123 @@
+-- A call that has gone through its parts is served as its answer tells.
+use Rattle.std.proofs.Common.{◌≡◌, ◌⊎◌, ℕ, ◌+◌, ◌-◌, ◌*◌, ◌<◌, List, [], ◌∷◌, length, replicate, Option, Some, None, Result, Ok, Err, subst, sym, ap, ◌∙◌, refl, inl, inr, arith}
+use Rattle.std.specs.Prelude.{OnOk, OnErr}
+use Rattle.vx_base.specs.Blocks.{Contents, block_at}
+use Rattle.vx_block.specs.Regions.{part_at}
+use Rattle.vx_block.proofs.PartLemmas.{part_is}
+use Rattle.vx_piece.specs.Seen.{Seen}
+use Rattle.vx_piece.specs.declared.piece.PieceFault.{PieceFault}
+use Rattle.vx_life.specs.declared.Part.{Part}
+use Rattle.vx_life.specs.declared.EntryKind.{EntryKind}
+use Rattle.vx_life.specs.declared.EntryKind.TheVariants as kinds
+use Rattle.vx_life.specs.Candidates.{Candidates}
+use Rattle.vx_life.specs.Entry.{Entry}
+use Rattle.vx_script_forms.specs.declared.call.Call.{Call}
+use Rattle.vx_script_forms.specs.declared.call.Call.TheVariants as calls
+use Rattle.vx_answers.specs.declared.answer.End.{End}
+use Rattle.vx_answers.specs.declared.answer.End.TheVariants.{Done, Fault, Lost}
+use Rattle.vx_moments.specs.World.{Volume, Lies, OnDevice}
+use Rattle.vx_plans.specs.Calls.{LiesOn, start_of, count_of, values_of, failed_kind, AreParts, AreOf}
+use Rattle.vx_started.specs.Stands.{IsAmongTold, CallGoes, Serves}
+use Rattle.vx_started.specs.Buffers.{HoldsFirst}
+use Rattle.vx_started.proofs.Choice.{is_in_bounds}
+use Rattle.vx_started.proofs.PartSteps.{entries_are_parts}
+
+pub told_some : (n : ℕ) (told : Option Contents) (c : Candidates) → IsAmongTold n told c → (contents : Contents) × (told ≡ Some contents)
+told_some n None c among = absurd among
+told_some n (Some contents) c among = (contents, refl)
+
+-- what was read is what the buffer holds
+each_held : (place size start count index : ℕ) (contents : Contents) (blocks : List ℕ) (es : List Entry) → 0 < size → 0 < count → HoldsFirst blocks (Some contents) start count → AreParts size start count index es → AreOf place kinds.Read contents es → AreOf place kinds.Read (λ k. block_at blocks (k - start)) es
+each_held place size start count index contents blocks [] sized some holds parts each = tt
+each_held place size start count index contents blocks (e ∷ es) sized some holds parts each =
+    let range = part_is size start count index sized some _ parts.0.range in (
+      record {
+        session = each.0.session;
+        place_is = each.0.place_is;
+        kind_is = each.0.kind_is;
+        values_are = λ k h.
+            let bounds = is_in_bounds e.start e.count k h in
+            let there : start + (k - start) ≡ k = omega (arith, bounds.0, range.from) in
+            each.0.values_are k h ∙ ap contents (sym there) ∙ sym (holds (k - start) (omega (arith, bounds.0, bounds.1, range.from, range.to)));
+      },
+      each_held place size start count (index + 1) contents blocks es sized some holds parts.1 each.1,
+    )
+
+module _ (v : Volume) (device : List ℕ) (lies : v.lies ≡ OnDevice device) (end_told : End) (old new : Seen) (numbers later : List ℕ) (parts : List Part) where
+  pub served_read : (vol : List ℕ) (start count total : ℕ) (blocks : List ℕ) → 0 < v.region → 0 < count → ((contents : Contents) → old.told ≡ Some contents → CallGoes v.length v.region start count kinds.Read contents old numbers new later parts) → HoldsFirst blocks old.told start count → part_at v.region start count total ≡ None → length parts ≡ total → length blocks ≡ 512 * count → end_told ≡ Done None parts blocks → Serves (calls.Read vol start count) end_told old numbers new later v
+  served_read vol start count total blocks sized some goes holds end all long is place stands =
+      let told = told_some v.length old.told v.life.candidates stands.told in
+      let gone = goes told.0 told.1 place v.life stands in
+      let held : HoldsFirst blocks (Some told.0) start count = subst (λ t. HoldsFirst blocks t start count) told.1 holds in (
+        gone.life,
+        record {
+          entries = gone.entries;
+          parts = gone.first;
+          told = rw is (
+            refl,
+            gone.told,
+            record {
+              each = each_held place v.region start count 0 told.0 blocks gone.entries sized some held gone.first gone.each;
+              all = ap (part_at v.region start count) (entries_are_parts gone.entries parts gone.told ∙ all) ∙ end;
+              printed = long;
+            },
+          );
+          goes_on = gone.goes_on;
+        },
+        gone.stands,
+      )
+
+  pub served_fill : (vol : List ℕ) (start count byte total : ℕ) → CallGoes v.length v.region start count kinds.Write (λ _. replicate 512 byte) old numbers new later parts → part_at v.region start count total ≡ None → length parts ≡ total → end_told ≡ Done None parts [] → Serves (calls.Fill vol start count byte) end_told old numbers new later v
+  served_fill vol start count byte total goes end all is place stands =
+      let gone = goes place v.life stands in (
+        gone.life,
+        record {
+          entries = gone.entries;
+          parts = gone.first;
+          told = rw is (
+            refl,
+            gone.told,
+            record { each = gone.each; all = ap (part_at v.region start count) (entries_are_parts gone.entries parts gone.told ∙ all) ∙ end; printed = refl },
+          );
+          goes_on = gone.goes_on;
+        },
+        gone.stands,
+      )
+
+  pub served_failed : (call : Call) → CallGoes v.length v.region (start_of call) (count_of call) (failed_kind call) (values_of call []) old numbers new later parts → 0 < length parts → (end_told ≡ Fault device device parts) ⊎ (end_told ≡ Lost parts) → Serves call end_told old numbers new later v
+  served_failed call goes some (inl is) place stands =
+      let gone = goes place v.life stands in
+      let on_device : LiesOn v.lies device = subst (λ (l : Lies). LiesOn l device) (sym lies) refl in
+      let begun : gone.entries ≡ [] → ⊥ = λ e. absurd (omega (arith, ap length e, entries_are_parts gone.entries parts gone.told, some)) in
+      (gone.life, record { entries = gone.entries; parts = gone.first; told = rw is (gone.told, gone.each, begun, on_device, refl); goes_on = gone.goes_on }, gone.stands)
+  served_failed call goes some (inr is) place stands =
+      let gone = goes place v.life stands in
+      (gone.life, record { entries = gone.entries; parts = gone.first; told = rw is (gone.told, gone.each); goes_on = gone.goes_on }, gone.stands)
+
+-- the same, told of the volume's own length and regions
+at_shape : (v : Volume) (n size start count : ℕ) (kind : EntryKind) (values : Contents) (old new : Seen) (numbers later : List ℕ) (parts : List Part) → v.length ≡ n → v.region ≡ size → CallGoes n size start count kind values old numbers new later parts → CallGoes v.length v.region start count kind values old numbers new later parts
+at_shape v n size start count kind values old new numbers later parts length_is region_is goes =
+    subst (λ m. CallGoes m v.region start count kind values old numbers new later parts) (sym length_is) (subst (λ s. CallGoes n s start count kind values old numbers new later parts) (sym region_is) goes)
+
+module _ (v : Volume) (device : List ℕ) (n size : ℕ) (lies : v.lies ≡ OnDevice device) (length_is : v.length ≡ n) (region_is : v.region ≡ size) (sized : 0 < size) (end_told : End) (old new : Seen) (numbers later : List ℕ) (parts : List Part) (total start count : ℕ) (some : 0 < count) (end : part_at size start count total ≡ None) where
+  here : part_at v.region start count total ≡ None
+  here = ap (λ s. part_at s start count total) region_is ∙ end
+
+  pub read_served : {T : Type 0} (vol : List ℕ) (blocks : List ℕ) (outcome : Result T PieceFault)
+      → OnOk outcome ((contents : Contents) → old.told ≡ Some contents → CallGoes n size start count kinds.Read contents old numbers new later parts) → OnOk outcome (HoldsFirst blocks old.told start count) → OnOk outcome (length parts ≡ total) → length blocks ≡ 512 * count → OnOk outcome (end_told ≡ Done None parts blocks)
+      → OnErr outcome (CallGoes n size start count kinds.Missed (λ k. block_at [] (k - start)) old numbers new later parts) → OnErr outcome (0 < length parts) → OnErr outcome ((end_told ≡ Fault device device parts) ⊎ (end_told ≡ Lost parts))
+      → Serves (calls.Read vol start count) end_told old numbers new later v
+  read_served vol blocks (Ok u) goes holds all long is failed begun told =
+      served_read v device lies end_told old new numbers later parts vol start count total blocks (subst (λ s. 0 < s) (sym region_is) sized) some
+      (λ contents e. at_shape v n size start count kinds.Read contents old new numbers later parts length_is region_is (goes contents e)) holds here all long is
+  read_served vol blocks (Err e) goes holds all long is failed begun told =
+      served_failed v device lies end_told old new numbers later parts (calls.Read vol start count) (at_shape v n size start count kinds.Missed (λ k. block_at [] (k - start)) old new numbers later parts length_is region_is failed) begun told
+
+  pub fill_served : {T : Type 0} (vol : List ℕ) (byte : ℕ) (blocks : List ℕ) (outcome : Result T PieceFault)
+      → OnOk outcome (CallGoes n size start count kinds.Write (λ _. replicate 512 byte) old numbers new later parts) → OnOk outcome (length parts ≡ total) → blocks ≡ [] → OnOk outcome (end_told ≡ Done None parts blocks)
+      → OnErr outcome (CallGoes n size start count kinds.Torn (λ _. replicate 512 byte) old numbers new later parts) → OnErr outcome (0 < length parts) → OnErr outcome ((end_told ≡ Fault device device parts) ⊎ (end_told ≡ Lost parts))
+      → Serves (calls.Fill vol start count byte) end_told old numbers new later v
+  fill_served vol byte blocks (Ok u) goes all none is failed begun told =
+      served_fill v device lies end_told old new numbers later parts vol start count byte total (at_shape v n size start count kinds.Write (λ _. replicate 512 byte) old new numbers later parts length_is region_is goes) here all (is ∙ ap (λ b. Done None parts b) none)
+  fill_served vol byte blocks (Err e) goes all none is failed begun told =
+      served_failed v device lies end_told old new numbers later parts (calls.Fill vol start count byte) (at_shape v n size start count kinds.Torn (λ _. replicate 512 byte) old new numbers later parts length_is region_is failed) begun told

@@ -1,0 +1,58 @@
+use vx_maps::MapStore;
+use vx_marks::{MarkFault, Marker};
+use vx_pages::LocalPiece;
+
+/// The log of a volume: its change maps on one or two copies, or none. Without maps nothing is marked.
+#[derive(Drop)]
+pub enum VolumeLog<P: LocalPiece> {
+    Absent,
+    Maps(MapStore<P>),
+}
+
+impl<P: LocalPiece> Marker for VolumeLog<P> {
+    ghost use Rattle.vx_volume.specs.Log.{log_seen, LogGoes, log_kept, log_kept_on};
+
+    ghost log = { λ log. log_seen P.seen log };
+
+    ghost follows = { λ x y. LogGoes P.seen x y };
+
+    fn marked(&self, region: u64) -> u64 {
+        match self {
+            VolumeLog::Absent => 0,
+            VolumeLog::Maps(store) => store.marked(region),
+        }
+    }
+
+    fn mark(&mut self, region: u64, bits: u64) -> Result<(), MarkFault> {
+        match self {
+            VolumeLog::Absent => Ok(()),
+            VolumeLog::Maps(store) => store.mark(region, bits),
+        }
+    }
+
+    fn unmark(&mut self, region: u64, bits: u64) -> Result<(), MarkFault> {
+        match self {
+            VolumeLog::Absent => Ok(()),
+            VolumeLog::Maps(store) => store.unmark(region, bits),
+        }
+    }
+
+    ghost follows_same = { λ x. log_kept x };
+
+    ghost follows_on = { λ x y z first then. log_kept_on x y z first then };
+}
+
+impl<P: LocalPiece> VolumeLog<P> {
+    ghost use Rattle.std.specs.Prelude.{◌≡◌};
+    ghost use Rattle.vx_volume.specs.Log.{log_seen};
+
+    /// Whether there are maps.
+    pub fn is_there(&self) -> bool
+        ensures { result ≡ (log_seen P.seen self.now).there }
+    {
+        match self {
+            VolumeLog::Absent => false,
+            VolumeLog::Maps(_) => true,
+        }
+    }
+}

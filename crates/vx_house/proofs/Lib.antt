@@ -13,6 +13,6 @@ pub mod Lists
 pub mod Steps
 pub mod Hands
 pub mod OnlyInHand
-pub mod Reads
+pub mod Readings
 pub mod ReadsInHand
 pub mod Refusals

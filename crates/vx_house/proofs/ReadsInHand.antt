@@ -13,7 +13,7 @@ use Rattle.vx_house.specs.Unmoved.{Unmoved}
 use Rattle.vx_house.proofs.Holders.{take_one, give_one, later_held, held_at, none_of, apart_here}
 use Rattle.vx_house.proofs.Scenes.{scene_of, IsHanded, take_scene, give_scene}
 use Rattle.vx_house.specs.Reading.{OnlyRead, IsReturned}
-use Rattle.vx_house.proofs.Reads.{only_trans, only_unmoved, only_each, each_one, each_later, IsReadOn}
+use Rattle.vx_house.proofs.Readings.{only_trans, only_unmoved, only_each, each_one, each_later, IsReadOn}
 use Rattle.vx_house.proofs.Steps.{IsStep}
 
 module _ (old mid : Shelved) (xs ys : List Holder) (name : Word) (seen after : Seen) (are : AreHeld old.held (xs ++ ys)) (handed : IsHanded name seen old mid) (kept : Keeps seen after) (same : IsRead seen after) where

@@ -11,7 +11,7 @@ use Rattle.vx_house.specs.Holders.{Holder, held_as, AreHeld}
 use Rattle.vx_house.specs.Reading.{OnlyRead}
 use Rattle.vx_house.specs.Scene.{Shelved, seen_in, faults_in}
 use Rattle.vx_house.proofs.Holders.{same_held}
-use Rattle.vx_house.proofs.Reads.{stays_same}
+use Rattle.vx_house.proofs.Readings.{stays_same}
 use Rattle.vx_house.proofs.Scenes.{scene_of}
 
 -- what is told of a device that nobody took is told by the shelf

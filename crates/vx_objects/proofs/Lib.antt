@@ -1,7 +1,7 @@
 pub mod OneGroup
 pub mod Fields
 pub mod Numbers
-pub mod Reads
+pub mod Readings
 pub mod OneSaid
 pub mod InKinds
 pub mod RoundTrip

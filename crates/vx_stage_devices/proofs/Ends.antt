@@ -36,7 +36,7 @@ use Rattle.vx_house.proofs.Free.{not_held, told_is_free, free_is_told}
 use Rattle.vx_house.proofs.Holders.{same_held}
 use Rattle.vx_house.specs.Reading.{Stays}
 use Rattle.vx_house.proofs.Moments.{moment_at, counts_own, counts_later}
-use Rattle.vx_house.proofs.Reads.{stays_same, stays_device, stays_place, stays_writes}
+use Rattle.vx_house.proofs.Readings.{stays_same, stays_device, stays_place, stays_writes}
 use Rattle.vx_house.proofs.Takes.{some_of}
 use Rattle.vx_stage_devices.specs.Seeks.{NamesSeen, IsSeenOnly, IsSoughtOnce, IsPlace, ArePlaces, IsOnlySought, Seeks, SeekCause, SeekEnds, SeeksThrough}
 use Rattle.vx_stage_devices.proofs.Searches.{seeks_only, seeks_then, only_then, ends_then}

@@ -14,7 +14,7 @@ use Rattle.vx_house.specs.View.{at, IsMoment}
 use Rattle.vx_house.specs.declared.house.House.{House}
 use Rattle.vx_house.specs.declared.house.Taken.{Taken}
 use Rattle.vx_stage_devices.specs.Looks.{IsOnlyRead, IsReadOnce}
-use Rattle.vx_house.proofs.Reads.{IsReadOn, read_self}
+use Rattle.vx_house.proofs.Readings.{IsReadOn, read_self}
 use Rattle.vx_house.proofs.Steps.{IsStep, HeldStep, held_steps, place_by, faults_by}
 use Rattle.vx_copies.proofs.StepLaws.{each_map}
 use Rattle.vx_house.proofs.Hands.{none_in_hand}

@@ -19,7 +19,7 @@ use Rattle.vx_house.specs.declared.house.Imported.{Imported}
 use Rattle.vx_house.specs.declared.stop.Stop.TheVariants as stops
 use Rattle.vx_house.proofs.Ends.{keeps_ended, goes_ended}
 use Rattle.vx_house.proofs.Moments.{counts_own, counts_later, later_refl, faults_refl, moment_at}
-use Rattle.vx_house.proofs.Reads.{stays_device, stays_place}
+use Rattle.vx_house.proofs.Readings.{stays_device, stays_place}
 use Rattle.vx_stage_import.specs.Gathering.{IsSomeCut}
 use Rattle.vx_stage_import.proofs.ReadAtMost.{reads_so}
 use Rattle.vx_house.specs.Reading.{AreRead}

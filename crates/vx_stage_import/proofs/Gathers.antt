@@ -23,7 +23,7 @@ use Rattle.vx_stage_import.proofs.Headers.{headers_next, headers_all}
 use Rattle.vx_stage_import.proofs.Names.{or_true, or_first}
 use Rattle.vx_stage_import.proofs.Passes.{none_before}
 use Rattle.vx_house.specs.Reading.{Stays, OnlyRead}
-use Rattle.vx_house.proofs.Reads.{only_refl, only_trans}
+use Rattle.vx_house.proofs.Readings.{only_refl, only_trans}
 use Rattle.vx_house.proofs.Refusals.{told_free}
 
 -- one more name

@@ -65,7 +65,7 @@ use Rattle.vx_stage_import.proofs.Tellings.{started_same, ready_of, ready_finds,
 use Rattle.vx_stage_import.proofs.Texts.{labels_in}
 use Rattle.vx_house.specs.Reading.{OnlyRead}
 use Rattle.vx_house.specs.Unmoved.{Unmoved}
-use Rattle.vx_house.proofs.Reads.{stays_device, stays_place, only_trans, only_unmoved}
+use Rattle.vx_house.proofs.Readings.{stays_device, stays_place, only_trans, only_unmoved}
 
 -- the disks beside a house without a group and with an empty hand are held as those of its group
 pub holders_taken : {P : Type 0} (see : P → Seen) (h : House P) (g : Imported P) → h.hand.items ≡ [] → h.group ≡ None → holders see h ++ disk_holders see g.base.disks.items ≡ holders see (record { volumes = h.volumes; group = Some g; hand = h.hand })

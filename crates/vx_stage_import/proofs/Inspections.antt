@@ -21,7 +21,7 @@ use Rattle.vx_stage_import.specs.Places.{slots_of, ArePlaced}
 use Rattle.vx_stage_import.specs.Finds.{holder_of, holders_of, HasSlot, IsFind, IsOfGroup, AreFinds, AreLooked}
 use Rattle.vx_stage_import.proofs.Places.{all_low, few, slots_long}
 use Rattle.vx_house.proofs.Steps.{IsStep}
-use Rattle.vx_house.proofs.Reads.{IsReadOn, each_behind, each_later}
+use Rattle.vx_house.proofs.Readings.{IsReadOn, each_behind, each_later}
 
 each_long : {P : Type 0} (see : P → Seen) (ds es : List (GroupDevice P)) → Each Inspects (map (looked see) ds) (map (looked see) es) → length ds ≡ length es
 each_long see [] [] each = refl

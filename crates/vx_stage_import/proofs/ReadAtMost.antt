@@ -18,7 +18,7 @@ use Rattle.vx_house.specs.Scene.{Shelved, Scene, seen_in, seen_at, reads_at, cou
 use Rattle.vx_house.specs.View.{Keeps, IsMoment, IsDeviceOf, is_lent, at, scene}
 use Rattle.vx_house.specs.declared.house.House.{House}
 use Rattle.vx_house.proofs.Free.{held_out}
-use Rattle.vx_house.proofs.Reads.{stays_writes}
+use Rattle.vx_house.proofs.Readings.{stays_writes}
 use Rattle.vx_stage_import.specs.Gathering.{IsHeaderRead}
 
 some_device : (lent : Bool) (s : Option Seen) (d : Option Device) → IsSome s → IsDeviceOf lent s d → IsSome d

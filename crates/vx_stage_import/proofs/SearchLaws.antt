@@ -36,7 +36,7 @@ use Rattle.vx_stage_import.proofs.Headers.{same_reads, header_as}
 use Rattle.vx_stage_import.proofs.Inspections.{held_finds, read_each, slot_inspected}
 use Rattle.vx_stage_import.proofs.ReadAtMost.{header_so, reads_so}
 use Rattle.vx_house.specs.Reading.{Stays, OnlyRead, AreRead}
-use Rattle.vx_house.proofs.Reads.{IsReadOn, only_trans, only_each, only_unmoved, each_behind, each_later}
+use Rattle.vx_house.proofs.Readings.{IsReadOn, only_trans, only_each, only_unmoved, each_behind, each_later}
 use Rattle.vx_house.proofs.Refusals.{told_free, only_asked, held_asked}
 
 pub unread_asked : {P : Type 0} (see : P → Seen) (first now : Shelved) (h : House P) → now.free ≡ first.free → (name : Word) → reads_at (scene see (at now h)) name ≡ reads_at (scene see (at first h)) name

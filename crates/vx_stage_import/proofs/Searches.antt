@@ -10,7 +10,7 @@ use Rattle.vx_stage_import.specs.declared.gathering.Passed.TheVariants.{Cut}
 use Rattle.vx_stage_import.specs.Giving.{IsBack}
 use Rattle.vx_stage_import.proofs.Headers.{headers_then}
 use Rattle.vx_house.specs.Reading.{AreRead}
-use Rattle.vx_house.proofs.Reads.{only_trans, only_unmoved}
+use Rattle.vx_house.proofs.Readings.{only_trans, only_unmoved}
 
 pub read_back : (result : Passed) (group : Word) (names : List Word) (old mid new : Scene) (fs : List Looked) → GatherGoes result group names old mid fs → IsBack mid new → AreRead old new
 read_back result group names old mid new fs goes back = record { held = back.held; reads = only_trans old mid new goes.reads (only_unmoved mid new back.moved) }

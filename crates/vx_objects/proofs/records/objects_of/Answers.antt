@@ -1,4 +1,4 @@
-use Rattle.vx_objects.proofs.Reads.{read_more}
+use Rattle.vx_objects.proofs.Readings.{read_more}
 use Rattle.vx_objects.proofs.records.objects_of.Goals as goal
 
 pub loop-entry-preserved : goal.loop-entry-preserved

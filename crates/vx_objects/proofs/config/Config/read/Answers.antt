@@ -1,4 +1,4 @@
-use Rattle.vx_objects.proofs.Reads.{ok_read}
+use Rattle.vx_objects.proofs.Readings.{ok_read}
 use Rattle.vx_objects.proofs.config.Config.read.Goals as goal
 
 pub returns-clause-made : goal.returns-clause-made

@@ -29,7 +29,7 @@ use Rattle.vx_plan_laws.proofs.Differ.{AreOnce, had_by, has_had, once, once_more
 use Rattle.vx_plan_laws.proofs.FirstRefusals.{IsFine, AreFine, each_holds, over_all, in_all}
 use Rattle.vx_plan_laws.proofs.OneRule.{EachName}
 use Rattle.vx_plan_laws.proofs.Keeps.{Keeps, IsSame, disk_fine, record_kept, group_over, over_kept}
-use Rattle.vx_plan_laws.proofs.Kinds.{all_same, slot_kept, count_in_kinds, is_on, sorted}
+use Rattle.vx_plan_laws.proofs.KindOrder.{all_same, slot_kept, count_in_kinds, is_on, sorted}
 
 -- records that all stay as they are
 pub all_stay : (os : List Object) → filter_map (λ o. Some o) os ≡ os

@@ -31,7 +31,7 @@ use Rattle.vx_plans.specs.Refusals.{refusal_from}
 use Rattle.vx_plan_laws.proofs.Differ.{new_name, once}
 use Rattle.vx_plan_laws.proofs.FirstRefusals.{over_all, in_all}
 use Rattle.vx_plan_laws.proofs.Joins.{all_stay}
-use Rattle.vx_plan_laws.proofs.Kinds.{sorted}
+use Rattle.vx_plan_laws.proofs.KindOrder.{sorted}
 
 -- ---- each rule that is broken is answered
 

@@ -28,7 +28,7 @@ use Rattle.vx_plan_laws.proofs.Differ.{AreOnce, once}
 use Rattle.vx_plan_laws.proofs.FirstRefusals.{IsFine, AreFine, unless_true, both_none, each_holds, over_all, in_all}
 use Rattle.vx_plan_laws.proofs.OneRule.{EachName, with_policy}
 use Rattle.vx_plan_laws.proofs.Keeps.{Keeps, IsSame, any_same, prefer_same, vol_kept, record_kept, over_kept}
-use Rattle.vx_plan_laws.proofs.Kinds.{is_on, slot_kept, sorted}
+use Rattle.vx_plan_laws.proofs.KindOrder.{is_on, slot_kept, sorted}
 
 module _ (vol : Word) (next : VolState) (policy : PolicyName) where
   abbrev set : Object → Object

@@ -31,7 +31,7 @@ use Rattle.vx_plan_laws.proofs.Differ.{AreOnce, once}
 use Rattle.vx_plan_laws.proofs.FirstRefusals.{IsFine, AreFine, unless_true, both_none, each_holds, over_all, in_all}
 use Rattle.vx_plan_laws.proofs.OneRule.{OfName}
 use Rattle.vx_plan_laws.proofs.Keeps.{Keeps, IsSame, IsOn, any_same, record_kept, over_kept}
-use Rattle.vx_plan_laws.proofs.Kinds.{slot_kept, sorted}
+use Rattle.vx_plan_laws.proofs.KindOrder.{slot_kept, sorted}
 
 guarded : (a b : Bool) → (b ≡ true → a ≡ true) → (a && b) ≡ b
 guarded true b on = refl

@@ -5,15 +5,11 @@ use vx_config_parts::{PlexState, VolState};
 pub enum Action {
     Start,
     /// `marked` tells whether the plex misses some region.
-    Stop {
-        marked: bool,
-    },
+    Stop { marked: bool },
     Import,
     /// Recovery begins, and later ends: `marked` tells whether the plex misses some region still.
     RecoverBegin,
-    RecoverEnd {
-        marked: bool,
-    },
+    RecoverEnd { marked: bool },
     Detach,
     Attach,
     Dissociate,

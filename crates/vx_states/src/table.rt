@@ -108,7 +108,10 @@ fn plex_recovered(marked: bool, plex: PlexState) -> PlexState
 fn may_attach(plex: PlexState) -> bool
     ensures { result ≡ may_attach plex }
 {
-    matches!(plex, PlexState::Stale | PlexState::IoFail | PlexState::Active)
+    matches!(
+        plex,
+        PlexState::Stale | PlexState::IoFail | PlexState::Active
+    )
 }
 
 fn is_active(plex: PlexState) -> bool

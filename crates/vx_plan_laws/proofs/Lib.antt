@@ -3,7 +3,7 @@ mod FirstRefusals
 mod Differ
 mod OneRule
 mod Keeps
-mod Kinds
+mod KindOrder
 mod Records
 mod Policies
 mod Removals

@@ -1,0 +1,4 @@
+pub mod Arms
+pub mod Masks
+pub mod Openings
+pub mod Wholes

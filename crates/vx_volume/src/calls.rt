@@ -2,7 +2,7 @@
 
 ghost use Rattle.std.specs.Prelude.{◌≡◌, ◌+◌, ◌^◌, ◌<◌, length};
 ghost use Rattle.vx_picker.specs.Picks.{PicksMember};
-ghost use Rattle.vx_volume.specs.Calls.{ReadEnds, WriteEndsAll};
+ghost use Rattle.vx_volume.specs.Calls.{ReadEnds, WriteEndsAll, io_fault_of, io_result_of};
 ghost use Rattle.vx_volume.specs.Log.{LogGoes};
 ghost use Rattle.vx_volume.specs.Receipts.{IsReserved};
 ghost use Rattle.vx_volume.specs.Volume.{IsVolume, log_of, volume_seen};
@@ -186,14 +186,19 @@ fn plain<T: Copy>(outcome: Result<T, CellFault>) -> Result<(), CellFault> {
 }
 
 /// How a call on a volume ends of which no page of the log is out.
-pub(crate) fn io_result(outcome: Result<(), CellFault>) -> Result<(), IoFault> {
+pub(crate) fn io_result(outcome: Result<(), CellFault>) -> Result<(), IoFault>
+    ensures { result ≡ io_result_of outcome }
+{
     match outcome {
         Ok(()) => Ok(()),
         Err(fault) => Err(io_fault(fault)),
     }
 }
 
-pub(crate) fn io_fault(fault: CellFault) -> IoFault {
+/// A fault of a region's call that was not held, as the volume tells it.
+pub(crate) fn io_fault(fault: CellFault) -> IoFault
+    ensures { result ≡ io_fault_of fault }
+{
     match fault {
         CellFault::Fault(place) => IoFault::Fault(place),
         CellFault::PowerLost | CellFault::Held | CellFault::Only(_) => IoFault::PowerLost,

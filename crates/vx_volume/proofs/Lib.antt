@@ -1,7 +1,12 @@
 pub mod Arms
+pub mod Entries
+pub mod Histories
 pub mod Loops
 pub mod Masks
 pub mod Openings
+pub mod PartEntries
+pub mod PassHistories
 pub mod Regions
 pub mod Steps
+pub mod Volumes
 pub mod Wholes

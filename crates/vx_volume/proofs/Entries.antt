@@ -21,10 +21,10 @@ use Rattle.vx_cell.specs.Calls.{CallEnds, CallHasCause, HasEnded, HasWritten, Is
 use Rattle.vx_cell.specs.Region.{IsTold, RegionSeen}
 use Rattle.vx_cell.specs.Running.{Allows, Caller, GoesBy, call_at, call_of, last_before, start_call, start_last, values_at}
 use Rattle.vx_volume.specs.Calls.{IsRead, IsWritten}
-use Rattle.vx_volume.specs.Laws.{AreMadeOf, CalledGoesOn, EachClearingGoesOn, EachCopyGoesOn, EachSettlingGoesOn, GoesOn, MayTellRead, MayTellWrite, next_call, next_entry, values_of}
+use Rattle.vx_volume.specs.Laws.{AreMadeOf, CalledGoesOn, EachClearingGoesOn, EachCopyGoesOn, EachSettlingGoesOn, GoesOn, MayTellRead, MayTellWrite, StaysRegion, next_call, next_entry, values_of}
 use Rattle.vx_volume.specs.Passes.{IsClearedAt, IsCopiedAt, IsSettledAt}
 use Rattle.vx_volume.specs.Loop.{stop_of}
-use Rattle.vx_volume.proofs.Histories.{GoesFrom, by_course, ended_goes, goes_same, idle_allows, idle_call, idle_last}
+use Rattle.vx_volume.proofs.Histories.{by_course, ended_goes, goes_same, idle_allows, idle_call, idle_last, stays_kept}
 
 -- ---- a dead region
 
@@ -80,41 +80,46 @@ read_made old who span bytes call values (Err PowerLost) stop entries job mid ne
 read_made old who span bytes call values (Err Held) stop entries job mid new is called given own cause = absurd (false≢true (sym own ∙ cause))
 read_made old who span bytes call values (Err (Only map)) stop entries job mid new is called given own cause = absurd cause
 
-pub read_goes : CalledGoesOn IsRead MayTellRead
-read_goes span bytes stop old new is idle own inside told who fixed entries next =
-    dead_or old.stage.phase
-    (λ dead. not_begun MayTellRead stop span bytes old new is.result who fixed entries dead (is.ended.dead dead))
-    (λ alive.
+-- a read of a region that is not dead
+read_alive : (span : Span) (bytes : List ℕ) (stop : Option CellFault) (old new : RegionSeen) → IsRead span bytes stop old new → IsIdle old.stage.phase → old.log.lent ≡ false → old.start ≤ span.start → IsTold old →
+    (who : Caller) (fixed : Fixed) (entries : List Entry) → IsNextCall fixed.region old.number entries (next_call old who span) → (old.stage.phase ≡ Dead → ⊥) → Makes MayTellRead stop span bytes old new who fixed entries
+read_alive span bytes stop old new is idle own inside told who fixed entries next alive =
     let at = span.start - old.start in
     let io : Bytes = record { at = at; into = is.into; from = []; scratch = is.scratch } in
     let io' : Bytes = record { at = at; into = bytes; from = []; scratch = is.scratch' } in
     let mid : RegionSeen = record old { number = old.number + 1 } in
     let call : Call = call_at mid who at (blocks_in is.into) in
-    let values : Contents = values_at (old.start + at) bytes in
     let begins : old.start + at ≡ span.start = begins_there old.start span.start inside in
     let here : call ≡ next_call old who span = call_is old who span (old.start + at) (blocks_in is.into) begins (whole_blocks is.into span.count is.room) in
-    let made = read_made old who span bytes call values is.result stop entries ReadJob mid new is.stopped here (ap (λ (n : ℕ). values_at n bytes) begins) own (is.ended.ended alive).cause in
-    let goes = ended_goes ReadJob io io' mid new is.result (is.ended.ended alive) idle own told who fixed entries old.number (omega arith) (record { here = next.here; number = next.number; order = next.order }) in (
+    let ended = is.ended.ended alive in
+    let made = read_made old who span bytes call (values_at (old.start + at) bytes) is.result stop entries ReadJob mid new is.stopped here (ap (λ (n : ℕ). values_at n bytes) begins) own ended.cause in
+    let may : IsNextCall fixed.region old.number entries call = record { here = next.here; number = next.number; order = next.order } in
+    let goes = ended_goes ReadJob io io' old (old.number + 1) new is.result ended idle own told who fixed entries (omega arith) may in (
       next_entry old who span bytes made.0 ∷ [],
       made_one old.stage.phase (MayTellRead stop) (next_entry old who span bytes) made.0 alive made.1,
-      subst (λ (es : List Entry). GoesFrom old old.number new fixed entries es) made.2 goes,
-    ))
+      subst (λ (es : List Entry). GoesOn old new fixed entries es) made.2 goes,
+    )
+
+pub read_goes : CalledGoesOn IsRead MayTellRead
+read_goes span bytes stop old new is idle own inside told who fixed entries next =
+    dead_or old.stage.phase (λ dead. not_begun MayTellRead stop span bytes old new is.result who fixed entries dead (is.ended.dead dead)) (read_alive span bytes stop old new is idle own inside told who fixed entries next)
 
 -- ---- writes
 
 entry_is : (old : RegionSeen) (who : Caller) (span : Span) (bytes : List ℕ) (kind : EntryKind) (call : Call) (values : Contents) → call ≡ next_call old who span → values ≡ values_of kind span.start bytes → entry_of kind call values ≡ next_entry old who span bytes kind
 entry_is old who span bytes kind call values e f = rw (e, f) refl
 
-module _ (old mid new : RegionSeen) (who : Caller) (span : Span) (bytes : List ℕ) (fixed : Fixed) (entries : List Entry) (allows : Fixed → List Entry → Type 0) (course : List Happening) (began last : ℕ) (before : Pending) (call : Call) (given values : Contents) (drawn : began ≡ last) (none : before ≡ NoCall) (may : allows fixed entries) (called : call ≡ next_call old who span) (same : given ≡ values_at span.start bytes) where
+module _ (old : RegionSeen) (n : ℕ) (new : RegionSeen) (stays : StaysRegion old new) (who : Caller) (span : Span) (bytes : List ℕ) (fixed : Fixed) (entries : List Entry) (allows : Fixed → List Entry → Type 0) (course : List Happening) (began : ℕ) (before : Pending) (call : Call)
+    (given values : Contents) (drawn : began ≡ old.number) (none : before ≡ NoCall) (may : allows fixed entries) (called : call ≡ next_call old who span) (same : given ≡ values_at span.start bytes) where
   -- the region goes on by the course that the write is told by
-  told_by : (kind : EntryKind) (more : List Entry → List Entry) → more entries ≡ entry_of kind call given ∷ entries → values_at span.start bytes ≡ values_of kind span.start bytes → GoesBy allows course mid began before new NoCall more →
-      GoesFrom mid last new fixed entries (next_entry old who span bytes kind ∷ entries)
+  told_by : (kind : EntryKind) (more : List Entry → List Entry) → more entries ≡ entry_of kind call given ∷ entries → values_at span.start bytes ≡ values_of kind span.start bytes → GoesBy allows course (record old { number = n }) began before new NoCall more →
+      GoesOn old new fixed entries (next_entry old who span bytes kind ∷ entries)
   told_by kind more is these by =
-      subst (λ (es : List Entry). GoesFrom mid last new fixed entries es) (is ∙ ap (λ (e : Entry). e ∷ entries) (entry_is old who span bytes kind call given called (same ∙ these)))
-      (by_course allows course mid began last before new NoCall more by drawn none refl fixed entries may)
+      subst (λ (es : List Entry). GoesOn old new fixed entries es) (is ∙ ap (λ (e : Entry). e ∷ entries) (entry_is old who span bytes kind call given called (same ∙ these)))
+      (by_course allows course old n began before new NoCall more by drawn none refl stays fixed entries may)
 
-  write_made : (result : Result ℕ CellFault) (stop : Option CellFault) → stop ≡ stop_of result → mid.log.lent ≡ false → CallHasCause WriteJob mid new result → WriteGoes result allows course mid began before new (Writes call given) values →
-      (kind : EntryKind) × MayTellWrite stop kind × GoesFrom mid last new fixed entries (next_entry old who span bytes kind ∷ entries)
+  write_made : (result : Result ℕ CellFault) (stop : Option CellFault) → stop ≡ stop_of result → old.log.lent ≡ false → CallHasCause WriteJob (record old { number = n }) new result → WriteGoes result allows course (record old { number = n }) began before new (Writes call given) values →
+      (kind : EntryKind) × MayTellWrite stop kind × GoesOn old new fixed entries (next_entry old who span bytes kind ∷ entries)
   write_made (Ok n) stop is own cause goes = (Write, subst (λ (s : Option CellFault). MayTellWrite s Write) (sym is) refl, told_by Write (entries_by {T = ℕ} (Ok n) (Writes call given) values) refl refl goes)
   write_made (Err (Fault place)) stop is own cause goes = (Torn, subst (λ (s : Option CellFault). MayTellWrite s Torn) (sym is) refl, told_by Torn (entries_by {T = ℕ} (Err (Fault place)) (Writes call given) values) refl refl goes)
   write_made (Err PowerLost) stop is own cause (inl goes) = (Torn, subst (λ (s : Option CellFault). MayTellWrite s Torn) (sym is) (inl refl), told_by Torn (entries_after Lost (Writes call given) values) refl refl goes)
@@ -122,11 +127,10 @@ module _ (old mid new : RegionSeen) (who : Caller) (span : Span) (bytes : List �
   write_made (Err Held) stop is own cause goes = absurd (false≢true (sym own ∙ cause))
   write_made (Err (Only map)) stop is own cause goes = absurd cause
 
-pub write_goes : CalledGoesOn IsWritten MayTellWrite
-write_goes span bytes stop old new is idle own inside told who fixed entries next =
-    dead_or old.stage.phase
-    (λ dead. not_begun MayTellWrite stop span bytes old new is.result who fixed entries dead (is.ended.dead dead))
-    (λ alive.
+-- a write to a region that is not dead
+write_alive : (span : Span) (bytes : List ℕ) (stop : Option CellFault) (old new : RegionSeen) → IsWritten span bytes stop old new → IsIdle old.stage.phase → old.log.lent ≡ false → old.start ≤ span.start → IsTold old →
+    (who : Caller) (fixed : Fixed) (entries : List Entry) → IsNextCall fixed.region old.number entries (next_call old who span) → (old.stage.phase ≡ Dead → ⊥) → Makes MayTellWrite stop span bytes old new who fixed entries
+write_alive span bytes stop old new is idle own inside told who fixed entries next alive =
     let at = span.start - old.start in
     let io : Bytes = record { at = at; into = []; from = bytes; scratch = is.scratch } in
     let mid : RegionSeen = record old { number = old.number + 1 } in
@@ -135,13 +139,18 @@ write_goes span bytes stop old new is idle own inside told who fixed entries nex
     let here : call ≡ next_call old who span = call_is old who span (old.start + at) (blocks_in bytes) begins (whole_blocks bytes span.count is.size) in
     let ended = is.ended.ended alive in
     let goes = ended.goes told who in
-    let drawn : start_last old.stage.phase WriteJob (old.number + 1) ≡ old.number = idle_last old.stage.phase WriteJob (old.number + 1) idle ∙ omega arith in
+    let last : ℕ = start_last old.stage.phase WriteJob (old.number + 1) in
+    let drawn : last ≡ old.number = idle_last old.stage.phase WriteJob (old.number + 1) idle ∙ omega arith in
     let may : IsNextCall fixed.region old.number entries call = record { here = next.here; number = next.number; order = next.order } in
-    let made = write_made old mid new who span bytes fixed entries (Allows old.stage.phase (start_last old.stage.phase WriteJob (old.number + 1)) (call_of WriteJob io mid who)) goes.0 (start_last old.stage.phase WriteJob (old.number + 1)) old.number
-    (start_call old.stage.phase (call_of WriteJob io mid who)) call (values_at (old.start + at) bytes) (values_at (old.start + at) []) drawn (idle_call old.stage.phase (call_of WriteJob io mid who) idle)
-    (idle_allows old.stage.phase (start_last old.stage.phase WriteJob (old.number + 1)) (call_of WriteJob io mid who) fixed entries (subst (λ (n : ℕ). IsNextCall fixed.region n entries call) (sym drawn) may))
-    here (ap (λ (n : ℕ). values_at n bytes) begins) is.result stop is.stopped own ended.cause goes.1 in
-    (next_entry old who span bytes made.0 ∷ [], made_one old.stage.phase (MayTellWrite stop) (next_entry old who span bytes) made.0 alive made.1, made.2))
+    let made = write_made old (old.number + 1) new (stays_kept old (old.number + 1) new ended.kept) who span bytes fixed entries (Allows old.stage.phase last (call_of WriteJob io mid who)) goes.0 last
+        (start_call old.stage.phase (call_of WriteJob io mid who)) call (values_at (old.start + at) bytes) (values_at (old.start + at) []) drawn (idle_call old.stage.phase (call_of WriteJob io mid who) idle)
+        (idle_allows old.stage.phase last (call_of WriteJob io mid who) fixed entries (subst (λ (n : ℕ). IsNextCall fixed.region n entries call) (sym drawn) may))
+        here (ap (λ (n : ℕ). values_at n bytes) begins) is.result stop is.stopped own ended.cause goes.1 in
+    (next_entry old who span bytes made.0 ∷ [], made_one old.stage.phase (MayTellWrite stop) (next_entry old who span bytes) made.0 alive made.1, made.2)
+
+pub write_goes : CalledGoesOn IsWritten MayTellWrite
+write_goes span bytes stop old new is idle own inside told who fixed entries next =
+    dead_or old.stage.phase (λ dead. not_begun MayTellWrite stop span bytes old new is.result who fixed entries dead (is.ended.dead dead)) (write_alive span bytes stop old new is idle own inside told who fixed entries next)
 
 -- ---- jobs without a call
 
@@ -163,7 +172,7 @@ quiet_goes : {T : Type 0} (job : Job) (io io' : Bytes) (old new : RegionSeen) (r
     IsIdle old.stage.phase → old.log.lent ≡ false → IsTold old → (fixed : Fixed) (entries : List Entry) → GoesOn old new fixed entries entries
 quiet_goes job io io' old new result who ended none last idle own told fixed entries =
     subst (λ (es : List Entry). GoesOn old new fixed entries es) (ap (λ (call : Pending). entries_by result call (values_at (old.start + io'.at) io'.into) entries) none ∙ quiet_entries result (values_at (old.start + io'.at) io'.into) entries)
-    (ended_goes job io io' old new result ended idle own told who fixed entries old.number last (subst (λ (call : Pending). MayBegin fixed.region old.number entries call) (sym none) tt))
+    (ended_goes job io io' old old.number new result ended idle own told who fixed entries last (subst (λ (call : Pending). MayBegin fixed.region old.number entries call) (sym none) tt))
 
 pub settle_goes : EachSettlingGoesOn
 settle_goes stop old new is idle own told fixed entries =

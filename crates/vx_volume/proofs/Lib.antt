@@ -3,10 +3,12 @@ pub mod Entries
 pub mod Histories
 pub mod Loops
 pub mod Masks
+pub mod Notes
 pub mod Openings
 pub mod PartEntries
 pub mod PassHistories
 pub mod Regions
+pub mod Schedules
 pub mod Steps
 pub mod Volumes
 pub mod Wholes

@@ -114,14 +114,14 @@ module _ (Way : Span → List ℕ → Option CellFault → RegionSeen → Region
           size = ap (λ (x : VolumeSeen). x.region) calls.ends.same ∙ come.size;
           index = λ i lt.
               elim (cases_eq i r) [
-                | inl is ↦ subst (λ (m : ℕ). (cell_at new.volume m).region ≡ m) (sym is) (gone.region ∙ come.index r calls.ends.inside)
+                | inl is ↦ subst (λ (m : ℕ). (cell_at new.volume m).region ≡ m) (sym is) (gone.stays.region ∙ come.index r calls.ends.inside)
                 | inr apart ↦ ap (λ (c : CellSeen). c.region) (calls.ends.others i apart) ∙ come.index i (subst (λ (m : ℕ). i < m) calls.ends.count lt)
               ];
           later = λ i le. calls.ends.others i (behind_it i le) ∙ come.later i (omega (arith, le));
-          own = gone.own ∙ come.own;
+          own = gone.stays.log.lent ∙ come.own;
           parts = map-append (λ (e : Entry). e.part) made more ∙ ap (λ (ps : List Part). ps ++ map (λ (e : Entry). e.part) more) come.parts
               ∙ parts_made (cell_at mid.volume r).stage.phase (may stop) (next_entry (region_at mid.volume r) who calls.span these) more (part_of new.volume r) mid.parts goes.1
-              (λ alive kind. same_part (cell_at mid.volume r).region (cell_at mid.volume r).epoch ((cell_at mid.volume r).number + 1) (part_of new.volume r) (come.index r calls.ends.inside) (sym gone.epoch) (sym (number alive)))
+              (λ alive kind. same_part (cell_at mid.volume r).region (cell_at mid.volume r).epoch ((cell_at mid.volume r).number + 1) (part_of new.volume r) (come.index r calls.ends.inside) (sym gone.stays.epoch) (sym (number alive)))
               ∙ sym calls.told;
           fresh = λ i le es. made_more i made more es ∙ goes.2.elsewhere i (behind_it i le) (with_made i made es) ∙ come.fresh i (omega (arith, le)) es;
           goes = going_as v new.volume fixed entries (λ i. with_made i more (with_made i made (entries i))) (λ i. with_made i (made ++ more) (entries i)) (λ i. made_more i made more (entries i))

@@ -34,11 +34,11 @@ module _ (v : VolumeSeen) (volume : IsVolume v) (fixed : ℕ → Fixed) (entries
       record {
         index = λ i lt.
             elim (cases_eq i r) [
-              | inl is ↦ subst (λ (m : ℕ). (cell_at new m).region ≡ m) (sym is) (gone.region ∙ come.index r changes.inside)
+              | inl is ↦ subst (λ (m : ℕ). (cell_at new m).region ≡ m) (sym is) (gone.stays.region ∙ come.index r changes.inside)
               | inr apart ↦ ap (λ (c : CellSeen). c.region) (changes.others i apart) ∙ come.index i (subst (λ (m : ℕ). i < m) changes.count lt)
             ];
         later = λ i le. changes.others i (λ e. absurd (omega (arith, e, le))) ∙ come.later i (omega (arith, le));
-        own = gone.own ∙ come.own;
+        own = gone.stays.log.lent ∙ come.own;
         goes = going_then v mid new fixed entries entries entries come.goes (job_goes Way job r mid new changes come.index come.goes.told idle come.own fixed entries);
       }
 

@@ -23,18 +23,16 @@ use Rattle.vx_cell.specs.Region.{IsTold, RegionSeen, Tells, TidiesOthers}
 use Rattle.vx_cell.specs.Running.{Caller}
 use Rattle.vx_cell.proofs.Changes.{other_number, same_test}
 use Rattle.vx_volume.specs.Calls.{ChangesRegion, IsRead, IsWritten}
-use Rattle.vx_volume.specs.Laws.{AreMadeOf, AreTold, CallOfRegionGoesOn, CalledGoesOn, EachGoingGoesOn, EachGoingStands, GoesOn, JobOfRegionGoesOn, MayTellRead, MayTellWrite, QuietGoesOn, RegionsGoOn, next_entry, with_made}
+use Rattle.vx_volume.specs.Laws.{AreMadeOf, AreTold, CallOfRegionGoesOn, CalledGoesOn, EachGoingGoesOn, EachGoingStands, GoesOn, JobOfRegionGoesOn, MayTellRead, MayTellWrite, QuietGoesOn, RegionsGoOn, StaysRegion, next_entry, with_made}
 use Rattle.vx_volume.specs.Passes.{IsClearedAt, IsCopiedAt, IsSettledAt}
 use Rattle.vx_volume.specs.Volume.{IsVolume, VolumeSeen, cell_at, region_at, with_log}
 use Rattle.vx_volume.proofs.Entries.{clear_goes, copy_goes, dead_or, read_goes, settle_goes, write_goes}
-use Rattle.vx_volume.proofs.Histories.{goes_same, goes_stands, goes_then, other_goes}
+use Rattle.vx_volume.proofs.Histories.{goes_same, goes_stands, goes_then, other_goes, stays_kept, stays_same}
 
 -- ---- what a call leaves of its region and its log
 
 pub record IsGone (old new : RegionSeen) : Type 0 where
-  pub region : new.region ≡ old.region
-  pub epoch : new.epoch ≡ old.epoch
-  pub own : new.log.lent ≡ old.log.lent
+  pub stays : StaysRegion old new
   pub tells : IsTold old → IsTold new
   pub others : OnMarks (TidiesOthers old.region) old.log.told new.log.told
 
@@ -43,13 +41,13 @@ same_others region None = tt
 same_others region (Some marks) = λ other apart. tidy_same (marks other)
 
 gone_same : (r : RegionSeen) → IsGone r r
-gone_same r = record { region = refl; epoch = refl; own = refl; tells = λ t. t; others = same_others r.region r.log.told }
+gone_same r = record { stays = stays_same r; tells = λ t. t; others = same_others r.region r.log.told }
 
 gone_not_begun : {T : Type 0} (old new : RegionSeen) (result : Result T CellFault) → IsNotBegun old new result → IsGone old new
 gone_not_begun old new result is = subst (λ (r : RegionSeen). IsGone old r) (sym is.same) (gone_same old)
 
 gone_ended : {T : Type 0} (job : Job) (io io' : Bytes) (old : RegionSeen) (n : ℕ) (new : RegionSeen) (result : Result T CellFault) → HasEnded job io (record old { number = n }) new io' result → IsGone old new
-gone_ended job io io' old n new result ended = record { region = ended.kept.region; epoch = ended.kept.epoch; own = ended.kept.log.lent; tells = ended.tells; others = ended.kept.others }
+gone_ended job io io' old n new result ended = record { stays = stays_kept old n new ended.kept; tells = ended.tells; others = ended.kept.others }
 
 module _ (old new : RegionSeen) where
   settle_gone : (stop : Option CellFault) → IsSettledAt stop old new → IsGone old new
@@ -67,7 +65,7 @@ module _ (old new : RegionSeen) where
   write_gone : (span : Span) (bytes : List ℕ) (stop : Option CellFault) → IsWritten span bytes stop old new → IsGone old new
   write_gone span bytes stop is =
       dead_or old.stage.phase (λ dead. gone_not_begun old new is.result (is.ended.dead dead))
-      (λ alive. let ended = is.ended.ended alive in record { region = ended.kept.region; epoch = ended.kept.epoch; own = ended.kept.log.lent; tells = ended.tells; others = ended.kept.others })
+      (λ alive. let ended = is.ended.ended alive in record { stays = stays_kept old (old.number + 1) new ended.kept; tells = ended.tells; others = ended.kept.others })
 
 -- a way to call a region, and how it may be told
 pub record IsWay (Way : Span → List ℕ → Option CellFault → RegionSeen → RegionSeen → Type 0) (may : Option CellFault → EntryKind → Type 0) : Type 0 where
@@ -124,7 +122,7 @@ module _ (r : ℕ) (old new : VolumeSeen) (Way : RegionSeen → RegionSeen → T
   other_region_goes : (i : ℕ) → i < length old.cells → i ≢ r → (fixed : Fixed) (entries : List Entry) → GoesOn (region_at old i) (region_at new i) fixed entries entries
   other_region_goes i lt apart fixed entries =
       subst (λ (c : CellSeen). GoesOn (region_at old i) (with_log c new.log) fixed entries entries) (sym (changes.others i apart))
-      (other_goes r (region_at old i) new.log fixed entries (λ e. apart (sym (index i lt) ∙ e)) (told i lt).1 others_here)
+      (other_goes r (region_at old i) new.log fixed entries (λ e. apart (sym (index i lt) ∙ e)) (told i lt).1 gone.stays.log others_here)
 
   step_told : AreTold new
   step_told i lt =

@@ -1,5 +1,5 @@
 -- What calls on a volume mean for the histories of its regions.
-use Rattle.std.specs.Prelude.{◌≡◌, ◌≢◌, ◌⊎◌, ℕ, ◌+◌, ◌/◌, ◌<◌, ◌≤◌, ◌==◌, Bool, false, if◌then◌else◌, List, [], ◌∷◌, ◌++◌, length, map, Option, Some, None, Result, Ok, Err}
+use Rattle.std.specs.Prelude.{◌≡◌, ◌≢◌, ◌⊎◌, ℕ, ◌+◌, ◌/◌, ◌<◌, ◌≤◌, ◌==◌, Bool, true, false, if◌then◌else◌, List, [], ◌∷◌, ◌++◌, length, map, Option, Some, None, Result, Ok, Err}
 use Rattle.vx_base.specs.Blocks.{Contents}
 use Rattle.vx_block.specs.declared.geometry.Span.{Span}
 use Rattle.vx_block.specs.Regions.{part_at}
@@ -7,17 +7,21 @@ use Rattle.vx_life.specs.declared.EntryKind.{EntryKind}
 use Rattle.vx_life.specs.declared.EntryKind.TheVariants.{Read, Write, Torn, Missed}
 use Rattle.vx_life.specs.Entry.{Entry}
 use Rattle.vx_core.specs.declared.stage.Phase.{Phase}
+use Rattle.vx_core.specs.declared.stage.Stage.{Stage}
 use Rattle.vx_core.specs.declared.stage.Phase.TheVariants.{Settled, Unsettled, Dead, Busy}
 use Rattle.vx_core.specs.History.{AllOf, Call, IsNextCall, MayPrecede, NoCall, entry_of, no_values}
-use Rattle.vx_core.specs.Region.{Fixed}
+use Rattle.vx_core.specs.Region.{Fixed, RegionState}
 use Rattle.vx_core.specs.Recovery.{region_after}
-use Rattle.vx_core.specs.Schedule.{Happening, IsIdle}
+use Rattle.vx_core.specs.Schedule.{AllFit, Comes, Elsewhere, Happening, IsIdle, run}
+use Rattle.vx_core.specs.Table.{next_of}
 use Rattle.vx_core_laws.specs.Course.{EachFits}
-use Rattle.vx_marks.specs.Log.{LogSeen, OnMarks}
+use Rattle.vx_core_laws.specs.Tracking.{Notes, no_notes, notes_of, was_torn, was_written}
+use Rattle.vx_marks.specs.Log.{KeepsLog, LogSeen, OnMarks}
 use Rattle.vx_cell.specs.declared.fault.CellFault.{CellFault}
 use Rattle.vx_cell.specs.declared.fault.CellFault.TheVariants.{Fault, PowerLost, Held, Only}
 use Rattle.vx_cell.specs.Region.{IsTold, RegionSeen, StandsFor, Tells, TidiesOthers, state_of}
-use Rattle.vx_cell.specs.Running.{Caller, values_at}
+use Rattle.vx_cell.specs.Plexes.{KeepPlexes, PlexRose}
+use Rattle.vx_cell.specs.Running.{Caller, IsBacked, act_of, values_at}
 use Rattle.vx_volume.specs.declared.fault.IoFault.{IoFault}
 use Rattle.vx_volume.specs.declared.fault.IoFault.TheVariants as io
 use Rattle.vx_volume.specs.declared.receipt.Receipt.{Receipt}
@@ -28,13 +32,29 @@ use Rattle.vx_volume.specs.Volume.{IsVolume, VolumeSeen, cell_at, region_at}
 
 -- ---- one region
 
+-- What calls keep of a region: its place, its pieces and the log. Counts of faults never fall, and power does not come back.
+pub record StaysRegion (old new : RegionSeen) : Type 0 where
+  pub region : new.region ≡ old.region
+  pub start : new.start ≡ old.start
+  pub size : new.size ≡ old.size
+  pub epoch : new.epoch ≡ old.epoch
+  pub plexes : KeepPlexes old.plexes new.plexes
+  pub log : KeepsLog old.log new.log
+
+-- each failure that the happenings tell is one by which a count rose, and a cut one by which a piece is cut
+abbrev pub ShowFailures : List Happening → Stage → RegionSeen → RegionSeen → Type 0
+ShowFailures [] s old new = Unit {0}
+ShowFailures (Comes event now call values ∷ hs) s old new = IsBacked (act_of s s.phase) event old new × ShowFailures hs (next_of s event).0 old new
+ShowFailures (Elsewhere marks ∷ hs) s old new = ShowFailures hs s old new
+
 -- The region goes by a course of happenings from the one state to the other, and its entries become these. No call is under
 -- way before it or after it.
-abbrev pub GoesOn : (old new : RegionSeen) → Fixed → (entries entries' : List Entry) → Type 0
-GoesOn old new fixed entries entries' =
-    (course : List Happening)
-    × EachFits course (state_of old fixed entries NoCall old.number)
-    × (region_after course (state_of old fixed entries NoCall old.number) ≡ state_of new fixed entries' NoCall new.number)
+pub record GoesOn (old new : RegionSeen) (fixed : Fixed) (entries entries' : List Entry) : Type 0 where
+  pub course : List Happening
+  pub fits : EachFits course (state_of old fixed entries NoCall old.number)
+  pub ends : region_after course (state_of old fixed entries NoCall old.number) ≡ state_of new fixed entries' NoCall new.number
+  pub shown : ShowFailures course old.stage old new
+  pub stays : StaysRegion old new
 
 -- the call on a span that comes next in the region
 abbrev pub next_call : RegionSeen → Caller → Span → Call
@@ -108,8 +128,19 @@ EachCopyGoesOn = (map : ℕ) (result : Result Bool CellFault) → QuietGoesOn (I
 abbrev pub EachOtherGoesOn : Type 0
 EachOtherGoesOn =
     (region : ℕ) (other : RegionSeen) (log : LogSeen) (fixed : Fixed) (entries : List Entry) →
-    other.region ≢ region → Tells other.log.told → OnMarks (TidiesOthers region) other.log.told log.told →
+    other.region ≢ region → Tells other.log.told → KeepsLog other.log log → OnMarks (TidiesOthers region) other.log.told log.told →
     GoesOn other (record other { log = log }) fixed entries entries
+
+-- What is noted of a region by its course is what its new entries tell, and where a write to a plex failed a count of it rose.
+pub record IsNotedBy (made : List Entry) (notes : Notes) (old new : RegionSeen) : Type 0 where
+  pub written : notes.written ≡ was_written made
+  pub torn : notes.torn ≡ was_torn made
+  pub failed : (k : ℕ) → notes.failed k ≡ true → PlexRose k old.plexes new.plexes
+
+abbrev pub EachCourseIsNoted : Type 0
+EachCourseIsNoted =
+    (old new : RegionSeen) (fixed : Fixed) (entries made : List Entry) (goes : GoesOn old new fixed entries (made ++ entries)) (dirty : Bool) →
+    IsNotedBy made (notes_of dirty goes.course (state_of old fixed entries NoCall old.number) no_notes) old new
 
 -- ---- all regions of a volume
 
@@ -220,3 +251,16 @@ abbrev pub EachGoingStands : Type 0
 EachGoingStands =
     (old new : VolumeSeen) (fixed : ℕ → Fixed) (entries entries' : ℕ → List Entry) →
     RegionsGoOn old new fixed entries entries' → StandFor old fixed entries → StandFor new fixed entries'
+
+-- ---- all regions by one schedule
+
+-- the states are those of the regions of the volume, with these histories
+abbrev pub AreStatesOf : VolumeSeen → (ℕ → Fixed) → (ℕ → List Entry) → (ℕ → RegionState) → Type 0
+AreStatesOf v fixed entries states = (r : ℕ) → r < length v.cells → states r ≡ state_of (region_at v r) (fixed r) (entries r) NoCall (cell_at v r).number
+
+-- Regions that go on do so by a schedule of happenings in all of them, which changes no other number's state.
+abbrev pub EachGoingIsScheduled : Type 0
+EachGoingIsScheduled =
+    (old new : VolumeSeen) (fixed : ℕ → Fixed) (entries entries' : ℕ → List Entry) → RegionsGoOn old new fixed entries entries' →
+    (states : ℕ → RegionState) → AreStatesOf old fixed entries states →
+    (schedule : List (ℕ × Happening)) × AllFit schedule states × AreStatesOf new fixed entries' (run schedule states) × ((r : ℕ) → length old.cells ≤ r → run schedule states r ≡ states r)

@@ -1,7 +1,7 @@
 //! Laws of calls on volumes, each a function with an empty body whose contract states it.
 
 ghost use Rattle.vx_volume.specs.Calls.{IsRead, IsWritten};
-ghost use Rattle.vx_volume.specs.Laws.{CallOfRegionGoesOn, CalledGoesOn, CopyPassGoesOn, EachClearingGoesOn, EachClearingOfRegionGoesOn, EachCopyGoesOn, EachCopyOfRegionGoesOn, EachGoingGoesOn, EachGoingStands, EachOtherGoesOn, EachReadOfVolumeGoesOn, EachSettlingGoesOn, EachSettlingOfRegionGoesOn, EachWriteOfVolumeGoesOn, MayTellRead, MayTellWrite, PassGoesOn};
+ghost use Rattle.vx_volume.specs.Laws.{CallOfRegionGoesOn, CalledGoesOn, CopyPassGoesOn, EachClearingGoesOn, EachClearingOfRegionGoesOn, EachCopyGoesOn, EachCopyOfRegionGoesOn, EachCourseIsNoted, EachGoingGoesOn, EachGoingIsScheduled, EachGoingStands, EachOtherGoesOn, EachReadOfVolumeGoesOn, EachSettlingGoesOn, EachSettlingOfRegionGoesOn, EachWriteOfVolumeGoesOn, MayTellRead, MayTellWrite, PassGoesOn};
 ghost use Rattle.vx_volume.specs.Passes.{Clears, Settles};
 
 /// A region that was called goes on with the entry of the call, and one of which a job without a call was run with the
@@ -42,8 +42,16 @@ pub fn each_pass_goes_on()
     ensures copied { CopyPassGoesOn }
 {}
 
-/// One call after another: regions that go on and go on again go on, and stand for the histories with which they do.
+/// One call after another: regions that go on and go on again go on, and stand for the histories with which they do. They go
+/// by one schedule of happenings.
 pub fn each_history_goes_on()
     ensures follows { EachGoingGoesOn }
     ensures stands { EachGoingStands }
+    ensures scheduled { EachGoingIsScheduled }
+{}
+
+/// What is noted of a region on its course is what its new entries tell, and a plex to which a write failed has a count that
+/// rose.
+pub fn each_course_is_noted()
+    ensures { EachCourseIsNoted }
 {}

@@ -1,7 +1,7 @@
 -- A volume of which one region has had a call is one still.
-use Rattle.std.proofs.Common.{◌≡◌, ◌≢◌, ℕ, ◌+◌, ◌-◌, ◌*◌, ◌≤◌, ◌<◌, true, false, min, List, length, map, take, refl, sym, ap, subst, ◌∙◌, inl, inr, arith}
+use Rattle.std.proofs.Common.{◌≡◌, ◌≢◌, ℕ, ◌+◌, ◌-◌, ◌*◌, ◌^◌, ◌≤◌, ◌<◌, zero, suc, [], ◌∷◌, true, false, min, List, length, map, take, refl, sym, ap, subst, ◌∙◌, inl, inr, arith}
 use Rattle.std.specs.Prelude.{slice_index_or, slice_set}
-use Rattle.std.proofs.lemmas.Bool.{cases_eq}
+use Rattle.std.proofs.lemmas.Bool.{cases_eq, cases_lt}
 use Rattle.std.proofs.lemmas.List.{length-map, length-take-le}
 use Rattle.vx_block.specs.Regions.{region_count}
 use Rattle.vx_piece.specs.Seen.{Seen}
@@ -17,7 +17,7 @@ use Rattle.vx_cell.specs.declared.cell.Cell.{Cell}
 use Rattle.vx_cell.specs.Changes.{CellSeen, cell_seen}
 use Rattle.vx_cell.specs.Calls.{region_of}
 use Rattle.vx_cell.specs.Region.{RegionSeen, IsLogOf, IsWhole}
-use Rattle.vx_volume.specs.Calls.{AreFresh, ChangesRegion, IsReady, TellsPart}
+use Rattle.vx_volume.specs.Calls.{AreFresh, ChangesRegion, IsReady, TellsPart, called}
 use Rattle.vx_volume.specs.Volume.{IsCellOf, IsVolume, VolumeSeen, blocks_in, cell_at, cells_seen, no_cell, region_at, with_log}
 use Rattle.vx_volume.proofs.Regions.{IsLeft}
 
@@ -105,6 +105,35 @@ module _ (v : VolumeSeen) (r : ℕ) (volume : IsVolume v) (inside : r < length v
         others = others;
         same = refl;
         count = size;
+      }
+
+-- ---- a call begins
+
+no_cell_past : (cells : List CellSeen) (r : ℕ) → length cells ≤ r → item_at no_cell cells r ≡ no_cell
+no_cell_past [] r past = refl
+no_cell_past (c ∷ cs) zero past = absurd (omega arith)
+no_cell_past (c ∷ cs) (suc r) past = no_cell_past cs r (omega arith)
+
+module _ (v : VolumeSeen) (volume : IsVolume v) where
+  pub called_volume : IsVolume (called v)
+  called_volume =
+      record {
+        count = volume.count;
+        each = λ r lt.
+            let cell = volume.each r lt in
+            record { index = cell.index; start = cell.start; size = cell.size; idle = cell.idle; whole = cell.whole; below = omega (arith, cell.below) };
+        own = volume.own;
+        scratch = volume.scratch;
+      }
+
+  pub called_fresh : v.most + 1 < 2 ^ 64 → AreFresh 0 (called v)
+  called_fresh room =
+      record {
+        numbers = λ r le. elim (cases_lt r (length v.cells)) [
+          | inl inside ↦ let below : (cell_at v r).number ≤ v.most = (volume.each r inside).below in omega (arith, below)
+          | inr past ↦ subst (λ (c : CellSeen). c.number < v.most + 1) (sym (no_cell_past v.cells r past)) (omega arith)
+        ];
+        bound = room;
       }
 
 -- ---- the same of the cells of a volume, of which one is put in its place again

@@ -1,4 +1,5 @@
 pub mod Arms
+pub mod Buffers
 pub mod Entries
 pub mod Histories
 pub mod Loops
@@ -6,7 +7,9 @@ pub mod Masks
 pub mod Notes
 pub mod Openings
 pub mod PartEntries
+pub mod Parts
 pub mod PassHistories
+pub mod Ranges
 pub mod Regions
 pub mod Schedules
 pub mod Steps

@@ -14,6 +14,14 @@ module _ {S : Type 0} (Call : ℕ → Option CellFault → S → S → Type 0) w
   pub done_more : (n : ℕ) (old mid new : S) → AreDone Call n old mid → Call n None mid new → AreDone Call (n + 1) old new
   done_more n old mid new done call = subst (λ m. AreDone Call m old new) (sym (add-one n)) (mid, done, call)
 
+  -- all are done
+  pub made_all : (total n : ℕ) (old new : S) → n ≡ total → AreDone Call n old new → AreDone Call total old new
+  made_all total n old new all done = subst (λ m. AreDone Call m old new) all done
+
+  -- one is stopped, and those before it are done
+  pub made_stopped : (total n : ℕ) (old mid new : S) (fault : CellFault) (result : Result (Unit {0}) CellFault) → result ≡ Err fault → n < total → AreDone Call n old mid → Call n (Some fault) mid new → AreMade Call total (stop_of result) old new
+  made_stopped total n old mid new fault result is inside done call = subst (λ (r : Result (Unit {0}) CellFault). AreMade Call total (stop_of r) old new) (sym is) (n, mid, inside, done, call)
+
 -- what stopped a call that was not held is told as it is
 pub stop_told : {T : Type 0} (result : Result T CellFault) → IsPlainEnd result → io_stop (io_result_of result) ≡ stop_of result
 stop_told (Ok value) plain = refl

@@ -1,5 +1,5 @@
 -- Reads and writes of a volume.
-use Rattle.std.specs.Prelude.{◌≡◌, ℕ, ◌+◌, ◌-◌, ◌*◌, ◌/◌, ◌<◌, ◌≤◌, ◌≢◌, List, [], false, length, take, drop, IfNone, Option, Some, None, Result, Ok, Err}
+use Rattle.std.specs.Prelude.{◌≡◌, ℕ, ◌+◌, ◌-◌, ◌*◌, ◌/◌, ◌^◌, ◌<◌, ◌≤◌, ◌≢◌, List, [], false, length, take, drop, IfNone, Option, Some, None, Result, Ok, Err}
 use Rattle.vx_block.specs.declared.geometry.Span.{Span}
 use Rattle.vx_block.specs.Regions.{part_at}
 use Rattle.vx_life.specs.declared.Part.{Part}
@@ -61,6 +61,21 @@ pub record IsWritten (span : Span) (bytes : List ℕ) (stop : Option CellFault) 
       new (record { at = span.start - old.start; into = []; from = bytes; scratch = scratch' }) result
 
 -- ---- the parts of a call
+
+-- blocks of one region of the volume
+pub record IsInRegion (span : Span) (v : VolumeSeen) : Type 0 where
+  pub some : 0 < span.count
+  pub one : span.start + span.count ≤ span.start / v.region * v.region + v.region
+  pub inside : span.start + span.count ≤ v.length
+
+-- from this region on no number has come to the bound, which a number of 64 bits may come to
+pub record AreFresh (first : ℕ) (v : VolumeSeen) : Type 0 where
+  pub numbers : (r : ℕ) → first ≤ r → (cell_at v r).number < v.most
+  pub bound : v.most < 2 ^ 64
+
+-- the region's part is told, where it was not dead
+abbrev pub TellsPart : ℕ → VolumeSeen → VolumeSeen → List Part → List Part → Type 0
+TellsPart r old new before after = after ≡ with_part (cell_at old r).stage.phase (part_of new r) before
 
 -- a volume, and the parts that were begun
 pub record Calling : Type 0 where

@@ -127,7 +127,7 @@ impl<P: Piece> Volume<P> {
     }
 
     /// The bytes of a region.
-    fn region_bytes(&self, region: usize) -> usize
+    pub(crate) fn region_bytes(&self, region: usize) -> usize
         requires { region < region_count self.now.shape.geometry.length self.now.shape.geometry.region }
         ensures { result ≡ 512 * min self.now.shape.geometry.region (self.now.shape.geometry.length - region * self.now.shape.geometry.region) }
     {

@@ -1,5 +1,5 @@
 -- The mark of one region is taken away.
-use Rattle.std.proofs.Common.{◌*◌, length, rules, ap, sym, ◌∙◌}
+use Rattle.std.proofs.Common.{◌*◌, length, rules, refl, ap, sym, ◌∙◌}
 use Rattle.vx_volume.specs.Passes.{IsClearedAt}
 use Rattle.vx_volume.specs.Loop.{stop_of}
 use Rattle.vx_volume.proofs.Regions.{cleared_left}
@@ -18,7 +18,7 @@ returns-clause-clears g c =
     cell_changes g.P.Piece.seen c.args.self.now.cells.items _ c.args.region c.index_mut-cell.result.now c.requires.whole (search rules) c.index_mut-cell.ensures.value
     c.clear_cell.new.cell _ _ (search rules)
     (cleared_left _ _ (cell_ready g.P.Piece.seen c.args.self.now.cells.items _ c.args.region c.index_mut-cell.result.now c.requires.whole (search rules) c.index_mut-cell.ensures.value) _ (cell_below g.P.Piece.seen c.args.self.now.cells.items _ c.args.region c.index_mut-cell.result.now c.requires.whole (search rules) c.index_mut-cell.ensures.value) c.clear_cell.ensures.cleared)
-    (IsClearedAt (stop_of c.clear_cell.result)) c.clear_cell.ensures.cleared
+    _ refl (IsClearedAt (stop_of c.clear_cell.result)) c.clear_cell.ensures.cleared
 
 pub returns-clause-whole : goal.returns-clause-whole
 returns-clause-whole g c =

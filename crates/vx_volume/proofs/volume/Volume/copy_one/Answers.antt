@@ -1,5 +1,5 @@
 -- One region of a volume is copied.
-use Rattle.std.proofs.Common.{◌*◌, length, rules, ap, sym, ◌∙◌}
+use Rattle.std.proofs.Common.{◌*◌, length, rules, refl, ap, sym, ◌∙◌}
 use Rattle.vx_volume.specs.Passes.{IsCopiedAt}
 use Rattle.vx_volume.proofs.Regions.{copied_left}
 use Rattle.vx_volume.proofs.Steps.{cell_below, cell_changes, cell_ready, cell_size, cell_volume}
@@ -17,7 +17,7 @@ returns-clause-copies g c =
     cell_changes g.P.Piece.seen c.args.self.now.cells.items _ c.args.region c.index_mut-cell.result.now c.requires.whole (search rules) c.index_mut-cell.ensures.value
     c.copy_cell.new.cell _ _ (search rules)
     (copied_left _ _ (cell_ready g.P.Piece.seen c.args.self.now.cells.items _ c.args.region c.index_mut-cell.result.now c.requires.whole (search rules) c.index_mut-cell.ensures.value) _ (cell_below g.P.Piece.seen c.args.self.now.cells.items _ c.args.region c.index_mut-cell.result.now c.requires.whole (search rules) c.index_mut-cell.ensures.value) c.copy_cell.ensures.copied)
-    (IsCopiedAt c.args.map c.copy_cell.result) c.copy_cell.ensures.copied
+    _ refl (IsCopiedAt c.args.map c.copy_cell.result) c.copy_cell.ensures.copied
 
 pub returns-clause-whole : goal.returns-clause-whole
 returns-clause-whole g c =

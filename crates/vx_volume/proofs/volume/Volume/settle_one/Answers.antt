@@ -1,5 +1,5 @@
 -- One region of a volume is settled.
-use Rattle.std.proofs.Common.{◌*◌, length, rules, ap, sym, ◌∙◌}
+use Rattle.std.proofs.Common.{◌*◌, length, rules, refl, ap, sym, ◌∙◌}
 use Rattle.vx_volume.specs.Passes.{IsSettledAt}
 use Rattle.vx_volume.specs.Loop.{stop_of}
 use Rattle.vx_volume.proofs.Regions.{settled_left}
@@ -18,7 +18,7 @@ returns-clause-settles g c =
     cell_changes g.P.Piece.seen c.args.self.now.cells.items _ c.args.region c.index_mut-cell.result.now c.requires.whole (search rules) c.index_mut-cell.ensures.value
     c.settle_cell.new.cell _ _ (search rules)
     (settled_left _ _ (cell_ready g.P.Piece.seen c.args.self.now.cells.items _ c.args.region c.index_mut-cell.result.now c.requires.whole (search rules) c.index_mut-cell.ensures.value) _ (cell_below g.P.Piece.seen c.args.self.now.cells.items _ c.args.region c.index_mut-cell.result.now c.requires.whole (search rules) c.index_mut-cell.ensures.value) c.settle_cell.ensures.settled)
-    (IsSettledAt (stop_of c.settle_cell.result)) c.settle_cell.ensures.settled
+    _ refl (IsSettledAt (stop_of c.settle_cell.result)) c.settle_cell.ensures.settled
 
 pub returns-clause-whole : goal.returns-clause-whole
 returns-clause-whole g c =

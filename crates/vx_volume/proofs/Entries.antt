@@ -1,5 +1,5 @@
 -- The entries with which a region goes on that was called.
-use Rattle.std.proofs.Common.{◌≡◌, ◌⊎◌, ℕ, ◌+◌, ◌-◌, ◌*◌, ◌/◌, ◌≤◌, Bool, false, refl, sym, ◌∙◌, ap, subst, inl, inr, arith, List, [], ◌∷◌, ◌++◌, length, Option, Some, None, Result, Ok, Err}
+use Rattle.std.proofs.Common.{◌≡◌, ℕ, ◌+◌, ◌-◌, ◌*◌, ◌≤◌, false, refl, sym, ◌∙◌, ap, subst, inl, inr, arith, List, [], ◌∷◌, ◌++◌, length, Option, Result, Ok, Err}
 use Rattle.std.proofs.lemmas.Bool.{false≢true}
 use Rattle.vx_base.specs.Blocks.{Contents, blocks_in}
 use Rattle.vx_block.specs.declared.geometry.Span.{Span}
@@ -17,12 +17,11 @@ use Rattle.vx_core.specs.Schedule.{Happening, IsIdle}
 use Rattle.vx_cell.specs.declared.fault.CellFault.{CellFault}
 use Rattle.vx_cell.specs.declared.fault.CellFault.TheVariants.{Fault, PowerLost, Held, Only}
 use Rattle.vx_cell.specs.Acts.{Bytes}
-use Rattle.vx_cell.specs.Calls.{CallEnds, CallHasCause, HasEnded, HasWritten, IsNotBegun, WriteGoes, entries_by, numbered}
+use Rattle.vx_cell.specs.Calls.{CallHasCause, HasEnded, IsNotBegun, WriteGoes, entries_by}
 use Rattle.vx_cell.specs.Region.{IsTold, RegionSeen}
 use Rattle.vx_cell.specs.Running.{Allows, Caller, GoesBy, call_at, call_of, last_before, start_call, start_last, values_at}
 use Rattle.vx_volume.specs.Calls.{IsRead, IsWritten}
 use Rattle.vx_volume.specs.Laws.{AreMadeOf, CalledGoesOn, EachClearingGoesOn, EachCopyGoesOn, EachSettlingGoesOn, GoesOn, MayTellRead, MayTellWrite, StaysRegion, next_call, next_entry, values_of}
-use Rattle.vx_volume.specs.Passes.{IsClearedAt, IsCopiedAt, IsSettledAt}
 use Rattle.vx_volume.specs.Loop.{stop_of}
 use Rattle.vx_volume.proofs.Histories.{by_course, ended_goes, goes_same, idle_allows, idle_call, idle_last, stays_kept}
 
@@ -139,13 +138,15 @@ write_alive span bytes stop old new is idle own inside told who fixed entries ne
     let here : call ≡ next_call old who span = call_is old who span (old.start + at) (blocks_in bytes) begins (whole_blocks bytes span.count is.size) in
     let ended = is.ended.ended alive in
     let goes = ended.goes told who in
+    let mine : Pending = call_of WriteJob io mid who in
     let last : ℕ = start_last old.stage.phase WriteJob (old.number + 1) in
     let drawn : last ≡ old.number = idle_last old.stage.phase WriteJob (old.number + 1) idle ∙ omega arith in
-    let may : IsNextCall fixed.region old.number entries call = record { here = next.here; number = next.number; order = next.order } in
-    let made = write_made old (old.number + 1) new (stays_kept old (old.number + 1) new ended.kept) who span bytes fixed entries (Allows old.stage.phase last (call_of WriteJob io mid who)) goes.0 last
-        (start_call old.stage.phase (call_of WriteJob io mid who)) call (values_at (old.start + at) bytes) (values_at (old.start + at) []) drawn (idle_call old.stage.phase (call_of WriteJob io mid who) idle)
-        (idle_allows old.stage.phase last (call_of WriteJob io mid who) fixed entries (subst (λ (n : ℕ). IsNextCall fixed.region n entries call) (sym drawn) may))
-        here (ap (λ (n : ℕ). values_at n bytes) begins) is.result stop is.stopped own ended.cause goes.1 in
+    let none : start_call old.stage.phase mine ≡ NoCall = idle_call old.stage.phase mine idle in
+    let begin : IsNextCall fixed.region old.number entries call = record { here = next.here; number = next.number; order = next.order } in
+    let may : Allows old.stage.phase last mine fixed entries = idle_allows old.stage.phase last mine fixed entries (subst (λ (n : ℕ). IsNextCall fixed.region n entries call) (sym drawn) begin) in
+    let these : values_at (old.start + at) bytes ≡ values_at span.start bytes = ap (λ (n : ℕ). values_at n bytes) begins in
+    let stays = stays_kept old (old.number + 1) new ended.kept in
+    let made = write_made old (old.number + 1) new stays who span bytes fixed entries _ goes.0 last _ call _ (values_at (old.start + at) []) drawn none may here these is.result stop is.stopped own ended.cause goes.1 in
     (next_entry old who span bytes made.0 ∷ [], made_one old.stage.phase (MayTellWrite stop) (next_entry old who span bytes) made.0 alive made.1, made.2)
 
 pub write_goes : CalledGoesOn IsWritten MayTellWrite

@@ -1,5 +1,5 @@
 -- How the history of one region goes on, by calls on it and on others of its log.
-use Rattle.std.proofs.Common.{◌≡◌, ◌≢◌, ℕ, ◌+◌, Bool, false, refl, sym, ◌∙◌, ap, subst, inl, inr, List, [], ◌∷◌, ◌++◌, Option, Some, None, Result, Ok, Err}
+use Rattle.std.proofs.Common.{◌≡◌, ◌≢◌, ℕ, ◌+◌, false, refl, sym, ◌∙◌, ap, subst, inl, inr, List, [], ◌∷◌, ◌++◌, Option, Some, None, Result, Ok, Err}
 use Rattle.std.proofs.lemmas.Bool.{false≢true}
 use Rattle.vx_mask.specs.Marks.{Marks, MayTidy}
 use Rattle.vx_life.specs.Entry.{Entry}
@@ -16,7 +16,7 @@ use Rattle.vx_core.specs.Schedule.{Comes, Elsewhere, Happening, IsIdle, happens}
 use Rattle.vx_core.specs.Table.{next_of}
 use Rattle.vx_core_laws.specs.Course.{EachFits, IsKeptState}
 use Rattle.vx_core_laws.proofs.Courses.{after_both, course_keeps, fits_both}
-use Rattle.vx_marks.specs.Log.{LogSeen, OnMarks}
+use Rattle.vx_marks.specs.Log.{OnMarks}
 use Rattle.vx_cell.specs.declared.fault.CellFault.{CellFault}
 use Rattle.vx_cell.specs.declared.fault.CellFault.TheVariants.{Fault, PowerLost, Held, Only}
 use Rattle.vx_cell.specs.Acts.{Bytes}

@@ -13,5 +13,6 @@ pub mod Ranges
 pub mod Regions
 pub mod Schedules
 pub mod Steps
+pub mod TornWrites
 pub mod Volumes
 pub mod Wholes

@@ -1,5 +1,5 @@
 -- The entries of the parts of a call, and how the histories of a volume go on with them.
-use Rattle.std.proofs.Common.{◌≡◌, ◌≢◌, ℕ, zero, suc, ◌+◌, ◌-◌, ◌*◌, ◌/◌, ◌<◌, ◌≤◌, max, Bool, true, false, if◌then◌else◌, refl, sym, ◌∙◌, ap, subst, inl, inr, arith, List, [], ◌∷◌, ◌++◌, length, map, Option, Some, None, Result, Ok, Err}
+use Rattle.std.proofs.Common.{◌≡◌, ◌≢◌, ℕ, zero, suc, ◌+◌, ◌*◌, ◌/◌, ◌<◌, ◌≤◌, max, Bool, true, false, if◌then◌else◌, refl, sym, ◌∙◌, ap, subst, inl, inr, arith, List, [], ◌∷◌, ◌++◌, length, map, Option, Some, None, Result, Ok, Err}
 use Rattle.std.proofs.lemmas.Bool.{cases_eq}
 use Rattle.std.proofs.lemmas.List.{append-nil, map-append}
 use Rattle.vx_block.specs.declared.geometry.Span.{Span}
@@ -20,12 +20,12 @@ use Rattle.vx_volume.specs.declared.fault.IoFault.{IoFault}
 use Rattle.vx_volume.specs.declared.fault.IoFault.TheVariants.{Range, Fault, PowerLost}
 use Rattle.vx_volume.specs.declared.receipt.Receipt.{Receipt}
 use Rattle.vx_volume.specs.Calls.{Calling, CallsPart, CallsParts, IsOutside, IsRead, IsWritten, bytes_of, called, io_stop, parts_in}
-use Rattle.vx_volume.specs.Laws.{AreEntriesOf, AreMadeOf, AreTold, EachReadOfVolumeGoesOn, EachWriteOfVolumeGoesOn, MakesEntries, MayComeNext, GoesOn, MayTellRead, MayTellWrite, RegionsGoOn, next_entry, with_made}
+use Rattle.vx_volume.specs.Laws.{AreMadeOf, AreTold, EachReadOfVolumeGoesOn, EachWriteOfVolumeGoesOn, MakesEntries, MayComeNext, GoesOn, MayTellRead, MayTellWrite, RegionsGoOn, next_entry, with_made}
 use Rattle.vx_volume.specs.Loop.{AreDone, AreMade}
 use Rattle.vx_volume.specs.Receipts.{part_of, with_part}
 use Rattle.vx_volume.specs.Volume.{IsVolume, VolumeSeen, cell_at, region_at, with_log}
 use Rattle.vx_volume.proofs.Histories.{goes_same}
-use Rattle.vx_volume.proofs.Volumes.{AreIndexed, AreOf, IsWay, call_goes, going_same, going_then, indexed, read_way, write_way}
+use Rattle.vx_volume.proofs.Volumes.{AreIndexed, IsWay, call_goes, going_same, going_then, indexed, read_way, write_way}
 
 -- ---- a part of a range
 

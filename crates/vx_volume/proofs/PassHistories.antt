@@ -1,5 +1,5 @@
 -- How the histories of a volume go on through a pass over its regions.
-use Rattle.std.proofs.Common.{◌≡◌, ◌≢◌, ℕ, zero, suc, ◌<◌, ◌≤◌, Bool, false, refl, sym, ◌∙◌, ap, subst, inl, inr, arith, List, length, Option, Some, None, Result, Ok, Err}
+use Rattle.std.proofs.Common.{◌≡◌, ℕ, zero, suc, ◌<◌, ◌≤◌, false, refl, sym, ◌∙◌, ap, subst, inl, inr, arith, List, length, Option, Some, None, Ok, Err}
 use Rattle.std.proofs.lemmas.Bool.{cases_eq}
 use Rattle.vx_life.specs.Entry.{Entry}
 use Rattle.vx_core.specs.Region.{Fixed}

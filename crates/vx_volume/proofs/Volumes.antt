@@ -1,5 +1,5 @@
 -- How the histories of all regions of a volume go on, where one of them is called.
-use Rattle.std.proofs.Common.{◌≡◌, ◌≢◌, ◌⊎◌, ℕ, ◌+◌, ◌<◌, ◌≤◌, Bool, true, false, refl, sym, ◌∙◌, ap, subst, inl, inr, arith, List, [], ◌∷◌, ◌++◌, length, Option, Some, None, Result}
+use Rattle.std.proofs.Common.{◌≡◌, ◌≢◌, ℕ, ◌+◌, ◌<◌, ◌≤◌, Bool, true, false, refl, sym, ◌∙◌, subst, inl, inr, List, [], ◌∷◌, ◌++◌, length, Option, Some, None, Result}
 use Rattle.std.specs.Prelude.{◌==◌}
 use Rattle.std.proofs.lemmas.Bool.{cases_eq}
 use Rattle.vx_block.specs.declared.geometry.Span.{Span}
@@ -8,18 +8,18 @@ use Rattle.vx_mask.proofs.MarkLemmas.{tidy_same}
 use Rattle.vx_life.specs.declared.EntryKind.{EntryKind}
 use Rattle.vx_life.specs.Entry.{Entry}
 use Rattle.vx_core.specs.declared.stage.Job.{Job}
-use Rattle.vx_core.specs.declared.stage.Job.TheVariants.{Read as ReadJob, Write as WriteJob, Copy as CopyJob, Settle, Clear}
+use Rattle.vx_core.specs.declared.stage.Job.TheVariants.{Read as ReadJob, Copy as CopyJob, Settle, Clear}
 use Rattle.vx_core.specs.declared.stage.Phase.{Phase}
 use Rattle.vx_core.specs.declared.stage.Phase.TheVariants.{Settled, Unsettled, Dead, Busy}
 use Rattle.vx_core.specs.History.{AllOf, MayPrecede}
 use Rattle.vx_core.specs.Region.{Fixed}
 use Rattle.vx_core.specs.Schedule.{IsIdle}
-use Rattle.vx_marks.specs.Log.{LogSeen, OnMarks}
+use Rattle.vx_marks.specs.Log.{OnMarks}
 use Rattle.vx_cell.specs.declared.fault.CellFault.{CellFault}
 use Rattle.vx_cell.specs.Acts.{Bytes}
-use Rattle.vx_cell.specs.Calls.{CallEnds, HasEnded, IsNotBegun}
+use Rattle.vx_cell.specs.Calls.{HasEnded, IsNotBegun}
 use Rattle.vx_cell.specs.Changes.{CellSeen}
-use Rattle.vx_cell.specs.Region.{IsTold, RegionSeen, Tells, TidiesOthers}
+use Rattle.vx_cell.specs.Region.{IsTold, RegionSeen, TidiesOthers}
 use Rattle.vx_cell.specs.Running.{Caller}
 use Rattle.vx_cell.proofs.Changes.{other_number, same_test}
 use Rattle.vx_volume.specs.Calls.{ChangesRegion, IsRead, IsWritten}

@@ -1,5 +1,5 @@
 -- What calls on a volume mean for the histories of its regions.
-use Rattle.std.specs.Prelude.{◌≡◌, ◌≢◌, ◌⊎◌, ℕ, ◌+◌, ◌/◌, ◌<◌, ◌≤◌, ◌==◌, Bool, true, false, if◌then◌else◌, List, [], ◌∷◌, ◌++◌, length, map, Option, Some, None, Result, Ok, Err}
+use Rattle.std.specs.Prelude.{◌≡◌, ◌≢◌, ◌⊎◌, ℕ, ◌+◌, ◌/◌, ◌<◌, ◌≤◌, ◌==◌, Bool, true, false, if◌then◌else◌, List, [], ◌∷◌, ◌++◌, length, map, Option, Some, None, Result, Err}
 use Rattle.vx_base.specs.Blocks.{Contents}
 use Rattle.vx_block.specs.declared.geometry.Span.{Span}
 use Rattle.vx_block.specs.Regions.{part_at}
@@ -25,7 +25,7 @@ use Rattle.vx_cell.specs.Running.{Caller, IsBacked, act_of, values_at}
 use Rattle.vx_volume.specs.declared.fault.IoFault.{IoFault}
 use Rattle.vx_volume.specs.declared.fault.IoFault.TheVariants as io
 use Rattle.vx_volume.specs.declared.receipt.Receipt.{Receipt}
-use Rattle.vx_volume.specs.Calls.{ChangesRegion, IsRead, IsWritten, ReadEnds, WriteEndsAll, bytes_of, io_stop, parts_in}
+use Rattle.vx_volume.specs.Calls.{ChangesRegion, ReadEnds, WriteEndsAll, bytes_of, io_stop, parts_in}
 use Rattle.vx_volume.specs.Loop.{AreMade}
 use Rattle.vx_volume.specs.Passes.{CopyEnds, IsClearedAt, IsCopiedAt, IsSettledAt, PassEnds}
 use Rattle.vx_volume.specs.Volume.{IsVolume, VolumeSeen, cell_at, region_at}
@@ -141,6 +141,13 @@ abbrev pub EachCourseIsNoted : Type 0
 EachCourseIsNoted =
     (old new : RegionSeen) (fixed : Fixed) (entries made : List Entry) (goes : GoesOn old new fixed entries (made ++ entries)) (dirty : Bool) →
     IsNotedBy made (notes_of dirty goes.course (state_of old fixed entries NoCall old.number) no_notes) old new
+
+-- A region that stands for a history whose last call is a write that was done stands for it with that write torn: a call is
+-- told as torn where the power went in the clear behind its last part.
+abbrev pub EachDoneWriteStandsAsTorn : Type 0
+EachDoneWriteStandsAsTorn =
+    (r : RegionSeen) (fixed : Fixed) (call : Call) (values : Contents) (entries : List Entry) →
+    StandsFor r fixed (entry_of Write call values ∷ entries) NoCall → StandsFor r fixed (entry_of Torn call values ∷ entries) NoCall
 
 -- ---- all regions of a volume
 

@@ -1,7 +1,7 @@
 //! Laws of calls on volumes, each a function with an empty body whose contract states it.
 
 ghost use Rattle.vx_volume.specs.Calls.{IsRead, IsWritten};
-ghost use Rattle.vx_volume.specs.Laws.{CallOfRegionGoesOn, CalledGoesOn, CopyPassGoesOn, EachClearingGoesOn, EachClearingOfRegionGoesOn, EachCopyGoesOn, EachCopyOfRegionGoesOn, EachCourseIsNoted, EachGoingGoesOn, EachGoingIsScheduled, EachGoingStands, EachOtherGoesOn, EachReadOfVolumeGoesOn, EachSettlingGoesOn, EachSettlingOfRegionGoesOn, EachWriteOfVolumeGoesOn, MayTellRead, MayTellWrite, PassGoesOn};
+ghost use Rattle.vx_volume.specs.Laws.{CallOfRegionGoesOn, CalledGoesOn, CopyPassGoesOn, EachClearingGoesOn, EachClearingOfRegionGoesOn, EachCopyGoesOn, EachCopyOfRegionGoesOn, EachCourseIsNoted, EachDoneWriteStandsAsTorn, EachGoingGoesOn, EachGoingIsScheduled, EachGoingStands, EachOtherGoesOn, EachReadOfVolumeGoesOn, EachSettlingGoesOn, EachSettlingOfRegionGoesOn, EachWriteOfVolumeGoesOn, MayTellRead, MayTellWrite, PassGoesOn};
 ghost use Rattle.vx_volume.specs.Passes.{Clears, Settles};
 
 /// A region that was called goes on with the entry of the call, and one of which a job without a call was run with the
@@ -54,4 +54,9 @@ pub fn each_history_goes_on()
 /// rose.
 pub fn each_course_is_noted()
     ensures { EachCourseIsNoted }
+{}
+
+/// What a region stands for with a write that was done it stands for with that write torn.
+pub fn each_done_write_stands_as_torn()
+    ensures { EachDoneWriteStandsAsTorn }
 {}

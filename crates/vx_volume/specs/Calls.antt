@@ -1,15 +1,16 @@
 -- Reads and writes of a volume.
-use Rattle.std.specs.Prelude.{◌≡◌, ℕ, ◌+◌, ◌-◌, ◌*◌, ◌/◌, ◌<◌, ◌≤◌, ◌≢◌, List, [], length, take, drop, IfNone, Option, Some, None, Result, Ok, Err}
+use Rattle.std.specs.Prelude.{◌≡◌, ℕ, ◌+◌, ◌-◌, ◌*◌, ◌/◌, ◌^◌, ◌<◌, ◌≤◌, ◌≢◌, List, [], false, length, take, drop, IfNone, Option, Some, None, Result, Ok, Err}
 use Rattle.vx_block.specs.declared.geometry.Span.{Span}
 use Rattle.vx_block.specs.Regions.{part_at}
 use Rattle.vx_life.specs.declared.Part.{Part}
 use Rattle.vx_life.specs.declared.EntryKind.TheVariants.{Read, Write, Torn, Missed}
 use Rattle.vx_core.specs.declared.stage.Job.TheVariants.{Read as ReadJob}
+use Rattle.vx_core.specs.Schedule.{IsIdle}
 use Rattle.vx_cell.specs.declared.fault.CellFault.{CellFault}
 use Rattle.vx_cell.specs.declared.fault.CellFault.TheVariants as cell
 use Rattle.vx_cell.specs.Acts.{Bytes}
 use Rattle.vx_cell.specs.Calls.{CallEnds, WriteEnds}
-use Rattle.vx_cell.specs.Region.{RegionSeen, IsTold}
+use Rattle.vx_cell.specs.Region.{RegionSeen, IsTold, IsWhole}
 use Rattle.vx_cell.specs.Running.{GivesCurrent}
 use Rattle.vx_volume.specs.declared.fault.IoFault.{IoFault}
 use Rattle.vx_volume.specs.declared.fault.IoFault.TheVariants.{Range, Fault, PowerLost}
@@ -19,6 +20,12 @@ use Rattle.vx_volume.specs.Receipts.{kind_of, part_of, with_part}
 use Rattle.vx_volume.specs.Volume.{VolumeSeen, cell_at, region_at}
 
 -- ---- one region
+
+-- a call on the region may begin: none is under way, and no page of the log is out
+pub record IsReady (r : RegionSeen) : Type 0 where
+  pub idle : IsIdle r.stage.phase
+  pub whole : IsWhole r
+  pub own : r.log.lent ≡ false
 
 -- one region goes on so, and the cells of all others stay
 pub record ChangesRegion (r : ℕ) (Goes : RegionSeen → RegionSeen → Type 0) (old new : VolumeSeen) : Type 0 where
@@ -54,6 +61,21 @@ pub record IsWritten (span : Span) (bytes : List ℕ) (stop : Option CellFault) 
       new (record { at = span.start - old.start; into = []; from = bytes; scratch = scratch' }) result
 
 -- ---- the parts of a call
+
+-- blocks of one region of the volume
+pub record IsInRegion (span : Span) (v : VolumeSeen) : Type 0 where
+  pub some : 0 < span.count
+  pub one : span.start + span.count ≤ span.start / v.region * v.region + v.region
+  pub inside : span.start + span.count ≤ v.length
+
+-- from this region on no number has come to the bound, which a number of 64 bits may come to
+pub record AreFresh (first : ℕ) (v : VolumeSeen) : Type 0 where
+  pub numbers : (r : ℕ) → first ≤ r → (cell_at v r).number < v.most
+  pub bound : v.most < 2 ^ 64
+
+-- the region's part is told, where it was not dead
+abbrev pub TellsPart : ℕ → VolumeSeen → VolumeSeen → List Part → List Part → Type 0
+TellsPart r old new before after = after ≡ with_part (cell_at old r).stage.phase (part_of new r) before
 
 -- a volume, and the parts that were begun
 pub record Calling : Type 0 where
@@ -92,6 +114,17 @@ IsNoRange (Ok value) = Unit {0}
 IsNoRange (Err Range) = ⊥
 IsNoRange (Err (Fault place)) = Unit {0}
 IsNoRange (Err PowerLost) = Unit {0}
+
+-- how the fault of a region's call is told, where that call was not held
+abbrev pub io_fault_of : CellFault → IoFault
+io_fault_of (cell.Fault place) = Fault place
+io_fault_of cell.PowerLost = PowerLost
+io_fault_of cell.Held = PowerLost
+io_fault_of (cell.Only map) = PowerLost
+
+abbrev pub io_result_of : {T : Type 0} → Result T CellFault → Result T IoFault
+io_result_of (Ok value) = Ok value
+io_result_of (Err fault) = Err (io_fault_of fault)
 
 -- the volume as a call begins
 abbrev pub called : VolumeSeen → VolumeSeen

@@ -1,11 +1,20 @@
 -- Calls that are made one after the other, up to the first that is not done.
 use Rattle.std.specs.Prelude.{◌≡◌, ℕ, ◌<◌, zero, suc, Option, Some, None, Result, Ok, Err}
 use Rattle.vx_cell.specs.declared.fault.CellFault.{CellFault}
+use Rattle.vx_cell.specs.declared.fault.CellFault.TheVariants.{Fault, PowerLost, Held, Only}
 
 -- the answer of a call as what stopped it, if something did
 abbrev pub stop_of : {T : Type 0} → Result T CellFault → Option CellFault
 stop_of (Ok value) = None
 stop_of (Err fault) = Some fault
+
+-- the call was not held, and no plex was refused
+abbrev pub IsPlainEnd : {T : Type 0} → Result T CellFault → Type 0
+IsPlainEnd (Ok value) = Unit {0}
+IsPlainEnd (Err (Fault place)) = Unit {0}
+IsPlainEnd (Err PowerLost) = Unit {0}
+IsPlainEnd (Err Held) = ⊥
+IsPlainEnd (Err (Only map)) = ⊥
 
 -- The first n calls are done: they lead from the one state to the other. A call is told by its index, what stopped it, and
 -- the states before and after it.

@@ -61,7 +61,7 @@ pub record CopiesTo (map r : ℕ) (stop : Option CellFault) (old new : Copying) 
 -- The regions are copied to the plex, in order. The count is the answer, where there is one.
 abbrev pub CopyEnds : (map : ℕ) → VolumeSeen → VolumeSeen → Result ℕ IoFault → Type 0
 CopyEnds map old new (Ok n) = AreMade (CopiesTo map) (length old.cells) None (record { volume = old; copied = 0 }) (record { volume = new; copied = n })
-CopyEnds map old new (Err fault) = (n : ℕ) × AreMade (CopiesTo map) (length old.cells) (io_stop (Err fault)) (record { volume = old; copied = 0 }) (record { volume = new; copied = n })
+CopyEnds map old new (Err fault) = (n : ℕ) × AreMade (CopiesTo map) (length old.cells) (io_stop {T = ℕ} (Err fault)) (record { volume = old; copied = 0 }) (record { volume = new; copied = n }) × IsNoRange {T = ℕ} (Err fault)
 
 -- a pass of this kind ends
 abbrev pub PassEnds : (ℕ → Option CellFault → VolumeSeen → VolumeSeen → Type 0) → VolumeSeen → VolumeSeen → Result (Unit {0}) IoFault → Type 0

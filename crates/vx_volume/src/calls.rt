@@ -1,13 +1,17 @@
 //! Reads and writes of a volume.
 
-ghost use Rattle.std.specs.Prelude.{◌≡◌, ◌+◌, ◌^◌, ◌<◌, length};
+ghost use Rattle.std.specs.Prelude.{◌≡◌, ◌+◌, ◌-◌, ◌*◌, ◌/◌, ◌^◌, ◌<◌, ◌≤◌, [], length, take, nat_le, vec_len, vec_capacity};
 ghost use Rattle.vx_picker.specs.Picks.{PicksMember};
-ghost use Rattle.vx_volume.specs.Calls.{ReadEnds, WriteEndsAll};
-ghost use Rattle.vx_volume.specs.Log.{LogGoes};
-ghost use Rattle.vx_volume.specs.Receipts.{IsReserved};
+ghost use Rattle.vx_cell.specs.Calls.{IsInSpan, region_of};
+ghost use Rattle.vx_cell.specs.Changes.{cell_seen};
+ghost use Rattle.vx_volume.specs.Calls.{AreFresh, CallsPart, ChangesRegion, IsInRegion, IsRead, IsReady, IsWritten, ReadEnds, TellsPart, WriteEndsAll, bytes_of, io_fault_of, io_result_of, parts_in};
+ghost use Rattle.vx_volume.specs.Log.{LogGoes, log_seen};
+ghost use Rattle.vx_volume.specs.Loop.{AreMade, IsPlainEnd, stop_of};
+ghost use Rattle.vx_volume.specs.Receipts.{IsReserved, kind_of, with_part};
 ghost use Rattle.vx_volume.specs.Volume.{IsVolume, log_of, volume_seen};
 
 use crate::fault::IoFault;
+use crate::log::VolumeLog;
 use crate::receipt::Receipt;
 use crate::volume::Volume;
 use vx_base::BLOCK;
@@ -15,7 +19,7 @@ use vx_block::Span;
 use vx_cell::{Cell, CellFault};
 use vx_core::Phase;
 use vx_life::{EntryKind, Part};
-use vx_picker::Picker;
+use vx_picker::{Picker, Policy};
 use vx_piece::Piece;
 
 impl<P: Piece> Volume<P> {
@@ -42,11 +46,14 @@ impl<P: Piece> Volume<P> {
         }
         self.most += 1;
         receipt.start = start;
-        let outcome = self.read_parts(start, pick, receipt);
-        receipt.kind = match outcome {
-            Ok(()) => EntryKind::Read,
-            Err(_) => EntryKind::Missed,
-        };
+        let outcome = self.read_parts(
+            start,
+            receipt.count,
+            pick,
+            &mut receipt.blocks,
+            &mut receipt.parts,
+        );
+        receipt.kind = kind_of(EntryKind::Read, EntryKind::Missed, &outcome);
         io_result(outcome)
     }
 
@@ -68,108 +75,256 @@ impl<P: Piece> Volume<P> {
         self.most += 1;
         receipt.start = start;
         receipt.blocks.copy_from_slice(from);
-        let outcome = self.write_parts(start, from, receipt);
-        receipt.kind = match outcome {
-            Ok(()) => EntryKind::Write,
-            Err(_) => EntryKind::Torn,
-        };
+        let outcome = self.write_parts(start, receipt.count, from, &mut receipt.parts);
+        receipt.kind = kind_of(EntryKind::Write, EntryKind::Torn, &outcome);
         io_result(outcome)
     }
 
-    fn covers(&self, start: u64, count: u64) -> bool {
+    fn covers(&self, start: u64, count: u64) -> bool
+        requires { start + count < 2 ^ 64 }
+        ensures { result ≡ nat_le (start + count) self.now.shape.geometry.length }
+    {
         start + count <= self.shape.geometry.length
     }
 
+    /// Reads the parts of a range, in order, up to the first that is not done.
     fn read_parts<F: Fn(u64, u64) -> u32>(
         &mut self,
         start: u64,
+        count: u64,
         pick: &Picker<F>,
-        receipt: &mut Receipt,
-    ) -> Result<(), CellFault> {
-        let total = self.shape.geometry.part_count(start, receipt.count);
+        blocks: &mut Vec<u8>,
+        parts: &mut Vec<Part>,
+    ) -> Result<(), CellFault>
+        requires picks { PicksMember (F.pre pick.now.select) (F.post pick.now.select) }
+        requires whole { IsVolume (volume_seen P.seen self.old) }
+        requires fresh { AreFresh 0 (volume_seen P.seen self.old) }
+        requires some { 0 < count }
+        requires inside { start + count ≤ self.old.shape.geometry.length }
+        requires bytes { vec_len blocks.old ≡ 512 * count }
+        requires none { parts.old.items ≡ [] }
+        requires spare { count / 32 + 2 ≤ vec_capacity parts.old }
+        ensures made { AreMade (CallsPart IsRead start count blocks.new.items) (parts_in self.old.shape.geometry.region start count) (stop_of result) (record { volume = volume_seen P.seen self.old; parts = [] }) (record { volume = volume_seen P.seen self.new; parts = parts.new.items }) }
+        ensures whole { IsVolume (volume_seen P.seen self.new) }
+        ensures bytes { vec_len blocks.new ≡ vec_len blocks.old }
+        ensures end { IsPlainEnd result }
+        ensures follows { LogGoes P.seen (log_of self.old) (log_of self.new) }
+    {
+        let geometry = self.shape.geometry;
+        let total = geometry.part_count(start, count);
         for index in 0..total {
-            let span = self
-                .shape
-                .geometry
-                .part(start, receipt.count, index)
-                .unwrap();
-            let from = BLOCK * (span.start - start) as usize;
-            let to = from + BLOCK * span.count as usize;
-            let into = &mut receipt.blocks[from..to];
-            self.read_part(span, into, pick, &mut receipt.parts)?;
+            let span = geometry.part(start, count, index).unwrap();
+            self.read_part(start, span, pick, blocks, parts)?;
         }
         Ok(())
     }
 
+    /// Reads a part of a range that begins at `start` to its place in the buffer.
     fn read_part<F: Fn(u64, u64) -> u32>(
+        &mut self,
+        start: u64,
+        span: Span,
+        pick: &Picker<F>,
+        blocks: &mut Vec<u8>,
+        parts: &mut Vec<Part>,
+    ) -> Result<(), CellFault>
+        requires picks { PicksMember (F.pre pick.now.select) (F.post pick.now.select) }
+        requires whole { IsVolume (volume_seen P.seen self.old) }
+        requires one { IsInRegion span (volume_seen P.seen self.old) }
+        requires fresh { AreFresh (span.start / self.old.shape.geometry.region) (volume_seen P.seen self.old) }
+        requires from { start ≤ span.start }
+        requires to { 512 * (span.start + span.count - start) ≤ vec_len blocks.old }
+        requires spare { vec_len parts.old < vec_capacity parts.old }
+        ensures reads { ChangesRegion (span.start / self.old.shape.geometry.region) (IsRead span (bytes_of blocks.new.items start span) (stop_of result)) (volume_seen P.seen self.old) (volume_seen P.seen self.new) }
+        ensures told { TellsPart (span.start / self.old.shape.geometry.region) (volume_seen P.seen self.old) (volume_seen P.seen self.new) parts.old.items parts.new.items }
+        ensures whole { IsVolume (volume_seen P.seen self.new) }
+        ensures before { take (512 * (span.start - start)) blocks.new.items ≡ take (512 * (span.start - start)) blocks.old.items }
+        ensures bytes { vec_len blocks.new ≡ vec_len blocks.old }
+        ensures room { vec_capacity parts.new ≡ vec_capacity parts.old }
+        ensures shape { self.new.shape ≡ self.old.shape }
+        ensures end { IsPlainEnd result }
+        ensures follows { LogGoes P.seen (log_of self.old) (log_of self.new) }
+    {
+        let from = BLOCK * (span.start - start) as usize;
+        let to = from + BLOCK * span.count as usize;
+        self.read_span(span, &mut blocks[from..to], pick, parts)
+    }
+
+    /// Reads blocks of one region, and tells its part.
+    fn read_span<F: Fn(u64, u64) -> u32>(
         &mut self,
         span: Span,
         into: &mut [u8],
         pick: &Picker<F>,
         parts: &mut Vec<Part>,
-    ) -> Result<(), CellFault> {
+    ) -> Result<(), CellFault>
+        requires picks { PicksMember (F.pre pick.now.select) (F.post pick.now.select) }
+        requires whole { IsVolume (volume_seen P.seen self.old) }
+        requires one { IsInRegion span (volume_seen P.seen self.old) }
+        requires fresh { AreFresh (span.start / self.old.shape.geometry.region) (volume_seen P.seen self.old) }
+        requires bytes { length into.old ≡ 512 * span.count }
+        requires spare { vec_len parts.old < vec_capacity parts.old }
+        ensures reads { ChangesRegion (span.start / self.old.shape.geometry.region) (IsRead span into.new (stop_of result)) (volume_seen P.seen self.old) (volume_seen P.seen self.new) }
+        ensures told { TellsPart (span.start / self.old.shape.geometry.region) (volume_seen P.seen self.old) (volume_seen P.seen self.new) parts.old.items parts.new.items }
+        ensures whole { IsVolume (volume_seen P.seen self.new) }
+        ensures bytes { length into.new ≡ length into.old }
+        ensures room { vec_capacity parts.new ≡ vec_capacity parts.old }
+        ensures shape { self.new.shape ≡ self.old.shape }
+        ensures end { IsPlainEnd result }
+        ensures follows { LogGoes P.seen (log_of self.old) (log_of self.new) }
+    {
         let region = self.shape.geometry.region_of(span.start);
-        let bytes = BLOCK * self.shape.geometry.range_of(region).count as usize;
+        let bytes = self.region_bytes(region as usize);
         let policy = self.shape.policy;
         let cell = &mut self.cells[region as usize];
-        let dead = is_dead(cell);
-        let outcome = cell.read(
-            span.start,
+        let phase = cell.stage().phase;
+        let outcome = read_cell(
+            cell,
+            span,
             into,
-            &mut self.scratch[..bytes],
+            &mut self.scratch,
+            bytes,
             &mut self.log,
             pick,
             policy,
         );
-        if !dead {
-            parts.push_reserved(part_of(cell, region));
-        }
-        plain(outcome)
+        tell(phase, part_of(cell, region), parts);
+        outcome
     }
 
+    /// Writes the parts of a range, in order, up to the first that is not done.
     fn write_parts(
         &mut self,
         start: u64,
+        count: u64,
         bytes: &[u8],
-        receipt: &mut Receipt,
-    ) -> Result<(), CellFault> {
-        let total = self.shape.geometry.part_count(start, receipt.count);
+        parts: &mut Vec<Part>,
+    ) -> Result<(), CellFault>
+        requires whole { IsVolume (volume_seen P.seen self.old) }
+        requires fresh { AreFresh 0 (volume_seen P.seen self.old) }
+        requires some { 0 < count }
+        requires inside { start + count ≤ self.old.shape.geometry.length }
+        requires bytes { length bytes.now ≡ 512 * count }
+        requires none { parts.old.items ≡ [] }
+        requires spare { count / 32 + 2 ≤ vec_capacity parts.old }
+        ensures made { AreMade (CallsPart IsWritten start count bytes.now) (parts_in self.old.shape.geometry.region start count) (stop_of result) (record { volume = volume_seen P.seen self.old; parts = [] }) (record { volume = volume_seen P.seen self.new; parts = parts.new.items }) }
+        ensures whole { IsVolume (volume_seen P.seen self.new) }
+        ensures end { IsPlainEnd result }
+        ensures follows { LogGoes P.seen (log_of self.old) (log_of self.new) }
+    {
+        let geometry = self.shape.geometry;
+        let total = geometry.part_count(start, count);
         for index in 0..total {
-            let span = self
-                .shape
-                .geometry
-                .part(start, receipt.count, index)
-                .unwrap();
+            let span = geometry.part(start, count, index).unwrap();
             let from = BLOCK * (span.start - start) as usize;
             let to = from + BLOCK * span.count as usize;
-            self.write_part(span, &bytes[from..to], &mut receipt.parts)?;
+            self.write_span(span, &bytes[from..to], parts)?;
         }
         Ok(())
     }
 
-    fn write_part(
+    /// Writes blocks of one region, and tells its part.
+    fn write_span(
         &mut self,
         span: Span,
         from: &[u8],
         parts: &mut Vec<Part>,
-    ) -> Result<(), CellFault> {
+    ) -> Result<(), CellFault>
+        requires whole { IsVolume (volume_seen P.seen self.old) }
+        requires one { IsInRegion span (volume_seen P.seen self.old) }
+        requires fresh { AreFresh (span.start / self.old.shape.geometry.region) (volume_seen P.seen self.old) }
+        requires bytes { length from.now ≡ 512 * span.count }
+        requires spare { vec_len parts.old < vec_capacity parts.old }
+        ensures writes { ChangesRegion (span.start / self.old.shape.geometry.region) (IsWritten span from.now (stop_of result)) (volume_seen P.seen self.old) (volume_seen P.seen self.new) }
+        ensures told { TellsPart (span.start / self.old.shape.geometry.region) (volume_seen P.seen self.old) (volume_seen P.seen self.new) parts.old.items parts.new.items }
+        ensures whole { IsVolume (volume_seen P.seen self.new) }
+        ensures room { vec_capacity parts.new ≡ vec_capacity parts.old }
+        ensures shape { self.new.shape ≡ self.old.shape }
+        ensures end { IsPlainEnd result }
+        ensures follows { LogGoes P.seen (log_of self.old) (log_of self.new) }
+    {
         let region = self.shape.geometry.region_of(span.start);
-        let bytes = BLOCK * self.shape.geometry.range_of(region).count as usize;
+        let bytes = self.region_bytes(region as usize);
         let cell = &mut self.cells[region as usize];
-        let dead = is_dead(cell);
-        let outcome = cell.write(span.start, from, &mut self.scratch[..bytes], &mut self.log);
-        if !dead {
-            parts.push_reserved(part_of(cell, region));
-        }
-        plain(outcome)
+        let phase = cell.stage().phase;
+        let outcome = write_cell(cell, span, from, &mut self.scratch, bytes, &mut self.log);
+        tell(phase, part_of(cell, region), parts);
+        outcome
     }
 }
 
-fn is_dead<P: Piece>(cell: &Cell<P>) -> bool {
-    matches!(cell.stage().phase, Phase::Dead)
+/// Reads blocks of a region. The buffer has room for the region's bytes.
+fn read_cell<P: Piece, F: Fn(u64, u64) -> u32>(
+    cell: &mut Cell<P>,
+    span: Span,
+    into: &mut [u8],
+    scratch: &mut Vec<u8>,
+    bytes: usize,
+    log: &mut VolumeLog<P>,
+    pick: &Picker<F>,
+    policy: Policy,
+) -> Result<(), CellFault>
+    requires picks { PicksMember (F.pre pick.now.select) (F.post pick.now.select) }
+    requires ready { IsReady (region_of P.seen cell.old (log_seen P.seen log.old)) }
+    requires bytes { bytes ≡ 512 * (cell_seen P.seen cell.old).size }
+    requires buffer { bytes ≤ vec_len scratch.old }
+    requires range { IsInSpan (cell_seen P.seen cell.old).start (cell_seen P.seen cell.old).size span.start (length into.old) }
+    requires count { length into.old ≡ 512 * span.count }
+    requires number { (cell_seen P.seen cell.old).number + 1 < 2 ^ 64 }
+    ensures read { IsRead span into.new (stop_of result) (region_of P.seen cell.old (log_seen P.seen log.old)) (region_of P.seen cell.new (log_seen P.seen log.new)) }
+    ensures length { length into.new ≡ length into.old }
+    ensures end { IsPlainEnd result }
+    ensures buffer { vec_len scratch.new ≡ vec_len scratch.old }
+    ensures follows { LogGoes P.seen log.old log.new }
+{
+    without_number(cell.read(
+        span.start,
+        into,
+        &mut scratch[..bytes],
+        log,
+        pick,
+        policy,
+    ))
 }
 
-fn part_of<P: Piece>(cell: &Cell<P>, region: u64) -> Part {
+/// Writes blocks of a region. The buffer has room for the region's bytes.
+fn write_cell<P: Piece>(
+    cell: &mut Cell<P>,
+    span: Span,
+    from: &[u8],
+    scratch: &mut Vec<u8>,
+    bytes: usize,
+    log: &mut VolumeLog<P>,
+) -> Result<(), CellFault>
+    requires ready { IsReady (region_of P.seen cell.old (log_seen P.seen log.old)) }
+    requires bytes { bytes ≡ 512 * (cell_seen P.seen cell.old).size }
+    requires buffer { bytes ≤ vec_len scratch.old }
+    requires range { IsInSpan (cell_seen P.seen cell.old).start (cell_seen P.seen cell.old).size span.start (length from.now) }
+    requires count { length from.now ≡ 512 * span.count }
+    requires number { (cell_seen P.seen cell.old).number + 1 < 2 ^ 64 }
+    ensures written { IsWritten span from.now (stop_of result) (region_of P.seen cell.old (log_seen P.seen log.old)) (region_of P.seen cell.new (log_seen P.seen log.new)) }
+    ensures end { IsPlainEnd result }
+    ensures buffer { vec_len scratch.new ≡ vec_len scratch.old }
+    ensures follows { LogGoes P.seen log.old log.new }
+{
+    without_number(cell.write(span.start, from, &mut scratch[..bytes], log))
+}
+
+/// Adds the part of a region's call, which has begun unless the region was dead.
+fn tell(phase: Phase, part: Part, parts: &mut Vec<Part>)
+    requires spare { vec_len parts.old < vec_capacity parts.old }
+    ensures parts { parts.new.items ≡ with_part phase part parts.old.items }
+    ensures room { vec_capacity parts.new ≡ vec_capacity parts.old }
+{
+    match phase {
+        Phase::Dead => {}
+        Phase::Settled | Phase::Unsettled | Phase::Busy(_) => parts.push_reserved(part),
+    }
+}
+
+fn part_of<P: Piece>(cell: &Cell<P>, region: u64) -> Part
+    ensures { result ≡ record { region = region; epoch = (cell_seen P.seen cell.now).epoch; number = (cell_seen P.seen cell.now).number } }
+{
     Part {
         region,
         epoch: cell.epoch(),
@@ -177,23 +332,39 @@ fn part_of<P: Piece>(cell: &Cell<P>, region: u64) -> Part {
     }
 }
 
-/// The answer without its value.
-fn plain<T: Copy>(outcome: Result<T, CellFault>) -> Result<(), CellFault> {
+fn without_number(outcome: Result<u64, CellFault>) -> Result<(), CellFault>
+    ensures stop { stop_of result ≡ stop_of outcome }
+    ensures end { IsPlainEnd outcome → IsPlainEnd result }
+{
     match outcome {
         Ok(_) => Ok(()),
         Err(fault) => Err(fault),
     }
 }
 
+fn kind_of(done: EntryKind, stopped: EntryKind, outcome: &Result<(), CellFault>) -> EntryKind
+    ensures { result ≡ kind_of done stopped outcome.now }
+{
+    match outcome {
+        Ok(()) => done,
+        Err(_) => stopped,
+    }
+}
+
 /// How a call on a volume ends of which no page of the log is out.
-pub(crate) fn io_result(outcome: Result<(), CellFault>) -> Result<(), IoFault> {
+pub(crate) fn io_result(outcome: Result<(), CellFault>) -> Result<(), IoFault>
+    ensures { result ≡ io_result_of outcome }
+{
     match outcome {
         Ok(()) => Ok(()),
         Err(fault) => Err(io_fault(fault)),
     }
 }
 
-pub(crate) fn io_fault(fault: CellFault) -> IoFault {
+/// A fault of a region's call that was not held, as the volume tells it.
+pub(crate) fn io_fault(fault: CellFault) -> IoFault
+    ensures { result ≡ io_fault_of fault }
+{
     match fault {
         CellFault::Fault(place) => IoFault::Fault(place),
         CellFault::PowerLost | CellFault::Held | CellFault::Only(_) => IoFault::PowerLost,

@@ -1,0 +1,18 @@
+-- One region more is settled.
+use Rattle.std.proofs.Common.{◌∙◌, rules}
+use Rattle.vx_volume.specs.Log.{log_kept_on}
+use Rattle.vx_volume.specs.Passes.{Settles}
+use Rattle.vx_volume.proofs.Loops.{done_more}
+use Rattle.vx_volume.proofs.volume.Volume.settle_each.Goals as goal
+
+pub returns-in_err-settle_one-clause-follows : goal.returns-in_err-settle_one-clause-follows
+returns-in_err-settle_one-clause-follows g c = log_kept_on _ _ _ c.loop-region.invariant.follows c.settle_one.ensures.follows
+
+pub loop-region-preserved : goal.loop-region-preserved
+loop-region-preserved g c =
+    record {
+      done = done_more Settles c.loop-region.region _ _ _ c.loop-region.invariant.done (rw c.in_ok-settle_one.was at c.settle_one.ensures.settles);
+      whole = c.settle_one.ensures.whole;
+      count = c.settle_one.ensures.count ∙ c.loop-region.invariant.count;
+      follows = log_kept_on _ _ _ c.loop-region.invariant.follows c.settle_one.ensures.follows;
+    }

@@ -11,6 +11,7 @@ pub mod Parts
 pub mod PassHistories
 pub mod Ranges
 pub mod Regions
+pub mod Retellings
 pub mod Schedules
 pub mod Steps
 pub mod Volumes

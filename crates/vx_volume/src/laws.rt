@@ -3,6 +3,7 @@
 ghost use Rattle.vx_volume.specs.Calls.{IsRead, IsWritten};
 ghost use Rattle.vx_volume.specs.Laws.{CallOfRegionGoesOn, CalledGoesOn, CopyPassGoesOn, EachClearingGoesOn, EachClearingOfRegionGoesOn, EachCopyGoesOn, EachCopyOfRegionGoesOn, EachCourseIsNoted, EachGoingGoesOn, EachGoingIsScheduled, EachGoingStands, EachOtherGoesOn, EachReadOfVolumeGoesOn, EachSettlingGoesOn, EachSettlingOfRegionGoesOn, EachWriteOfVolumeGoesOn, MayTellRead, MayTellWrite, PassGoesOn};
 ghost use Rattle.vx_volume.specs.Passes.{Clears, Settles};
+ghost use Rattle.vx_volume.specs.Retelling.{EachHistoryIsRetold};
 
 /// A region that was called goes on with the entry of the call, and one of which a job without a call was run with the
 /// entries that it had.
@@ -54,4 +55,9 @@ pub fn each_history_goes_on()
 /// rose.
 pub fn each_course_is_noted()
     ensures { EachCourseIsNoted }
+{}
+
+/// What a region stands for it stands for with its history told coarser: a write that was done as torn, and a read as missed.
+pub fn each_history_is_retold()
+    ensures { EachHistoryIsRetold }
 {}

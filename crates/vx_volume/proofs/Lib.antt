@@ -11,8 +11,8 @@ pub mod Parts
 pub mod PassHistories
 pub mod Ranges
 pub mod Regions
+pub mod Retellings
 pub mod Schedules
 pub mod Steps
-pub mod TornWrites
 pub mod Volumes
 pub mod Wholes

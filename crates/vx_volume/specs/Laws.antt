@@ -142,13 +142,6 @@ EachCourseIsNoted =
     (old new : RegionSeen) (fixed : Fixed) (entries made : List Entry) (goes : GoesOn old new fixed entries (made ++ entries)) (dirty : Bool) →
     IsNotedBy made (notes_of dirty goes.course (state_of old fixed entries NoCall old.number) no_notes) old new
 
--- A region that stands for a history whose last call is a write that was done stands for it with that write torn: a call is
--- told as torn where the power went in the clear behind its last part.
-abbrev pub EachDoneWriteStandsAsTorn : Type 0
-EachDoneWriteStandsAsTorn =
-    (r : RegionSeen) (fixed : Fixed) (call : Call) (values : Contents) (entries : List Entry) →
-    StandsFor r fixed (entry_of Write call values ∷ entries) NoCall → StandsFor r fixed (entry_of Torn call values ∷ entries) NoCall
-
 -- ---- all regions of a volume
 
 -- the devices and the log tell what they hold

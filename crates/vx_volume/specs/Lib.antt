@@ -7,3 +7,4 @@ pub mod Passes
 pub mod Opening
 pub mod Arming
 pub mod Laws
+pub mod Retelling

@@ -1,8 +1,9 @@
 //! Laws of calls on volumes, each a function with an empty body whose contract states it.
 
 ghost use Rattle.vx_volume.specs.Calls.{IsRead, IsWritten};
-ghost use Rattle.vx_volume.specs.Laws.{CallOfRegionGoesOn, CalledGoesOn, CopyPassGoesOn, EachClearingGoesOn, EachClearingOfRegionGoesOn, EachCopyGoesOn, EachCopyOfRegionGoesOn, EachCourseIsNoted, EachDoneWriteStandsAsTorn, EachGoingGoesOn, EachGoingIsScheduled, EachGoingStands, EachOtherGoesOn, EachReadOfVolumeGoesOn, EachSettlingGoesOn, EachSettlingOfRegionGoesOn, EachWriteOfVolumeGoesOn, MayTellRead, MayTellWrite, PassGoesOn};
+ghost use Rattle.vx_volume.specs.Laws.{CallOfRegionGoesOn, CalledGoesOn, CopyPassGoesOn, EachClearingGoesOn, EachClearingOfRegionGoesOn, EachCopyGoesOn, EachCopyOfRegionGoesOn, EachCourseIsNoted, EachGoingGoesOn, EachGoingIsScheduled, EachGoingStands, EachOtherGoesOn, EachReadOfVolumeGoesOn, EachSettlingGoesOn, EachSettlingOfRegionGoesOn, EachWriteOfVolumeGoesOn, MayTellRead, MayTellWrite, PassGoesOn};
 ghost use Rattle.vx_volume.specs.Passes.{Clears, Settles};
+ghost use Rattle.vx_volume.specs.Retelling.{EachHistoryIsRetold};
 
 /// A region that was called goes on with the entry of the call, and one of which a job without a call was run with the
 /// entries that it had.
@@ -56,7 +57,7 @@ pub fn each_course_is_noted()
     ensures { EachCourseIsNoted }
 {}
 
-/// What a region stands for with a write that was done it stands for with that write torn.
-pub fn each_done_write_stands_as_torn()
-    ensures { EachDoneWriteStandsAsTorn }
+/// What a region stands for it stands for with its history told coarser: a write that was done as torn, and a read as missed.
+pub fn each_history_is_retold()
+    ensures { EachHistoryIsRetold }
 {}

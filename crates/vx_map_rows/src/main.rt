@@ -2,11 +2,18 @@
 //! answer, what the page claims then, and what each copy shows. The stored output was worked out by hand.
 #![tactic(auto)]
 
+mod calls;
+mod clock;
 mod copies;
+mod fault;
+mod marks;
 mod pages;
+mod piece;
 mod rows;
-mod stores;
+mod rules;
 mod sweeps;
+mod trials;
+mod watch;
 mod wholes;
 
 use std::io;

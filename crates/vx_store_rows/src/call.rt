@@ -9,10 +9,10 @@ ghost use Rattle.vx_mask.specs.Mask.{has};
 
 use crate::region::{REGION, SECTORS, START, cell_of};
 use std::alloc::Global;
-use vx_cell::{Cell, CellFault, Plex};
+use vx_cell::{Cell, CellFault, Place, Plex};
 use vx_core::Stage;
 use vx_maps::MapStore;
-use vx_marks::Marker;
+use vx_marks::{MarkFault, Marker};
 use vx_pages::LocalPiece;
 use vx_picker::{Picker, Policy};
 use vx_piece::Piece;
@@ -24,7 +24,13 @@ pub struct Range {
     pub count: u64,
 }
 
-/// A call on the region. A written block is this byte, the next one the next byte.
+/// The whole region.
+pub const WHOLE: Range = Range {
+    at: START,
+    count: SECTORS,
+};
+
+/// A call on the region, or on its store. A written block is this byte, the next one the next byte.
 #[derive(Clone, Copy)]
 pub enum Call {
     Read(Range),
@@ -35,6 +41,8 @@ pub enum Call {
     Copy(u8),
     Clear,
     Kill,
+    /// What failed calls have left loose in the store is written again.
+    Firm,
 }
 
 /// A region between calls: its stage, the number that was drawn last, its plexes, and the store of its volume's marks.
@@ -60,7 +68,9 @@ fn blocks_of(alloc: Global, call: Call) -> Option<Vec<u8>> {
         Call::Write(range, byte) | Call::WriteDirty(range, byte) => {
             blocks(alloc, range.count, byte, 1)
         }
-        Call::Settle | Call::Copy(_) | Call::Clear | Call::Kill => Some(Vec::new(alloc)),
+        Call::Settle | Call::Copy(_) | Call::Clear | Call::Kill | Call::Firm => {
+            Some(Vec::new(alloc))
+        }
     }
 }
 
@@ -75,12 +85,34 @@ fn blocks(alloc: Global, count: u64, byte: u8, step: u8) -> Option<Vec<u8>> {
     Some(bytes)
 }
 
-/// Makes the call on a region, over the page of the store that has its marks. None where it can not be made.
+/// Makes the call on a region. None where it can not be made.
 pub fn perform<P: Piece + Drop>(
     alloc: Global,
     life: Life<P>,
     call: Call,
 ) -> Option<(Life<P>, Answer)> {
+    if matches!(call, Call::Firm) {
+        return Some(firm(alloc, life));
+    }
+    on_cell(alloc, life, call)
+}
+
+/// Makes the store firm. Its faults are told as those of the region's log.
+fn firm<P: Piece + Drop>(alloc: Global, mut life: Life<P>) -> (Life<P>, Answer) {
+    let result = match life.store.firm() {
+        Ok(()) => Ok(0),
+        Err(MarkFault::Failed { copy, device }) => {
+            Err(CellFault::Fault(Place::Log { copy, device }))
+        }
+        Err(MarkFault::PowerLost) => Err(CellFault::PowerLost),
+        Err(MarkFault::Busy) => Err(CellFault::Held),
+    };
+    let bytes = Vec::new(alloc);
+    (life, Answer { result, bytes })
+}
+
+/// Makes a call of the cell, over the page of the store that has its marks.
+fn on_cell<P: Piece + Drop>(alloc: Global, life: Life<P>, call: Call) -> Option<(Life<P>, Answer)> {
     let Life {
         stage,
         number,
@@ -133,7 +165,7 @@ fn is_inside(at: u64, bytes: &[u8]) -> bool
         && count <= SECTORS - (at - START)
 }
 
-/// Makes the call on a cell. A read prefers plex 0. None where its range is not one of the region.
+/// Makes the call on a cell. A read prefers plex 0. None where its range is not one of the region, or it is no call of a cell.
 #[tactic(auto, using(crate::proofs::Ranges::in_span, crate::proofs::LogLaws::call_keeps, crate::proofs::LogLaws::write_keeps, crate::proofs::LogLaws::log_same))]
 fn call_on<P: Piece, M: Marker>(
     cell: &mut Cell<P>,
@@ -183,6 +215,7 @@ fn call_on<P: Piece, M: Marker>(
             cell.kill();
             Some(Ok(0))
         }
+        Call::Firm => None,
     }
 }
 

@@ -8,7 +8,7 @@ use crate::region::REGION;
 use std::alloc::Global;
 use vx_block::Geometry;
 use vx_mapfmt::DcoShape;
-use vx_maps::{MapStore, StoreFault, StoreRefused};
+use vx_maps::{MapStore, StoreRefused};
 use vx_marks::Marker;
 use vx_piece::Piece;
 
@@ -73,15 +73,12 @@ fn mark<P: Piece + Drop>(store: &mut MapStore<P>, bits: u64) -> bool {
 pub fn load<P: Piece + Drop>(
     alloc: Global,
     copies: Vec<Vec<P>>,
-) -> Option<Result<MapStore<P>, StoreFault>> {
+) -> Option<Result<MapStore<P>, StoreRefused<P>>> {
     let shape = shape()?;
     if shape.map_bytes != 8192 || !are_copies(&copies) {
         return None;
     }
-    match MapStore::load(alloc, shape, copies) {
-        Ok(store) => Some(Ok(store)),
-        Err(StoreRefused { fault, copies: _ }) => Some(Err(fault)),
-    }
+    Some(MapStore::load(alloc, shape, copies))
 }
 
 /// The first bytes of a copy: its name, the blocks of the volume and of a region, and the number of maps.

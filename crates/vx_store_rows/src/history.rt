@@ -53,7 +53,8 @@ impl History {
                 }
                 self.put(alloc, range, answer, true)
             }
-            Call::Read(_) | Call::Settle | Call::Copy(_) | Call::Clear | Call::Kill => Ok(()),
+            Call::Read(_) | Call::Settle | Call::Copy(_) | Call::Clear | Call::Kill | Call::Firm =>
+                Ok(()),
         }
     }
 

@@ -1,7 +1,7 @@
 //! A region is started again from what is left of it on its devices: its store is loaded, and it is settled, cleared and read.
 
 use crate::breach::Breach;
-use crate::call::{Answer, Call, Life, Range, marks_of, perform};
+use crate::call::{Answer, Call, Life, WHOLE, marks_of, perform};
 use crate::clock::Clock;
 use crate::disk::{load, shown};
 use crate::history::History;
@@ -16,8 +16,6 @@ use vx_maps::MapStore;
 
 /// The device that is gone, if one is.
 pub type Gone = Option<u32>;
-
-const WHOLE: Range = Range { at: 32, count: 32 };
 
 /// The copies that a choice takes: 0 and 1 the copy alone, 2 all.
 fn takes(choice: u8, copy: u8) -> bool {
@@ -82,7 +80,7 @@ fn maps_in(plexes: &Vec<Held>) -> u64 {
 }
 
 /// The stage of a region that is started with these marks and plexes.
-fn stage_with(left: &Left, marks: u64, plexes: &Vec<Held>) -> Stage {
+pub fn stage_with(left: &Left, marks: u64, plexes: &Vec<Held>) -> Stage {
     let gone = vx_mask::less(
         vx_mask::with(left.stage.on, left.stage.off),
         maps_in(plexes),

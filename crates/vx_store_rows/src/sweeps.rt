@@ -5,7 +5,7 @@ use crate::call::Call;
 use crate::fault::{Fault, Kind, Torn};
 use crate::rows::{CLEAN, READ, THREE, TWO, WRITE, WRITE_DIRTY};
 use crate::setup::{Disks, Form, Start};
-use crate::trial::{Case, Follow, attempt};
+use crate::trial::{Before, Case, Follow, Tried, attempt};
 use std::alloc::Global;
 use std::io;
 
@@ -27,7 +27,7 @@ const NONE: Sums = Sums {
 };
 
 /// The most device calls that a call makes here.
-const MOST: u64 = 40;
+const MOST: u64 = 200;
 
 /// What else than nothing a write may have written that goes wrong, by how many sectors it has.
 fn tears(is_write: bool, count: u64) -> [Option<Torn>; 3] {
@@ -65,7 +65,8 @@ fn one(
     }
 }
 
-/// The other trials of a device call: each other way to tear it, and once it was torn in the last way each call after it.
+/// The other trials of a device call: each other way to tear it, and once it was torn in the last way each call after it, unless
+/// it is one of a start.
 fn others(alloc: Global, case: &Case, fault: Fault, is_write: bool, count: u64, sums: &mut Sums) {
     let mut last = fault;
     for torn in tears(is_write, count) {
@@ -74,7 +75,7 @@ fn others(alloc: Global, case: &Case, fault: Fault, is_write: bool, count: u64, 
             let _ = one(alloc, case, last, Follow::Nothing, sums);
         }
     }
-    if fault.kind != Kind::Cut {
+    if fault.kind != Kind::Cut && !matches!(case.tried, Tried::Start) {
         let _ = one(alloc, case, last, Follow::Read, sums);
         let _ = one(alloc, case, last, Follow::Write, sums);
     }
@@ -104,13 +105,12 @@ fn sweep(alloc: Global, case: &Case, kind: Kind, sums: &mut Sums) {
 
 /// All ways to go wrong: a device call fails once, it fails and all later ones on its device do, the same where the log lies on
 /// the devices of the plexes, and the power goes.
-fn sums_of(alloc: Global, form: Form, start: Start, call: Call) -> Sums {
+fn sums_of(alloc: Global, case: Case) -> Sums {
     let mut sums = NONE;
-    let case = Case { form, start, call };
     let shared = Case {
         form: Form {
             disks: Disks::Shared,
-            ..form
+            ..case.form
         },
         ..case
     };
@@ -121,31 +121,41 @@ fn sums_of(alloc: Global, form: Form, start: Start, call: Call) -> Sums {
     sums
 }
 
-/// A case over two and three plexes, and one and two copies of the log.
+/// Two and three plexes, and one and two copies of the log.
+const FORMS: [Form; 4] = [
+    Form { copies: 1, ..TWO },
+    TWO,
+    Form { copies: 1, ..THREE },
+    THREE,
+];
+
+/// A call on each form.
 fn tell(rt: &HostRuntime, title: &str, start: Start, call: Call) -> io::Result<()> {
-    for plexes in 2..4_u8 {
-        for copies in 1..3_u8 {
-            let form = Form {
-                plexes,
-                copies,
-                ..TWO
-            };
-            tell_one(rt, title, form, start, call)?;
-        }
+    for form in FORMS {
+        tell_one(rt, title, call_on(form, start, call))?;
     }
     Ok(())
 }
 
-/// A case over three plexes and two copies of the log.
+/// A call on three plexes and two copies of the log.
 fn tell_large(rt: &HostRuntime, title: &str, start: Start, call: Call) -> io::Result<()> {
-    tell_one(rt, title, THREE, start, call)
+    tell_one(rt, title, call_on(THREE, start, call))
 }
 
-fn tell_one(rt: &HostRuntime, title: &str, form: Form, start: Start, call: Call) -> io::Result<()> {
-    let sums = sums_of(rt.alloc(), form, start, call);
+fn call_on(form: Form, start: Start, call: Call) -> Case {
+    Case {
+        form,
+        start,
+        before: None,
+        tried: Tried::Call(call),
+    }
+}
+
+fn tell_one(rt: &HostRuntime, title: &str, case: Case) -> io::Result<()> {
+    let sums = sums_of(rt.alloc(), case);
     print!(rt;
         "{title}, {} plexes, {} copies: {} device calls, {} trials, {} fired, ",
-        form.plexes, form.copies, sums.calls, sums.trials, sums.fired
+        case.form.plexes, case.form.copies, sums.calls, sums.trials, sums.fired
     )?;
     match sums.wrong {
         None => println!(rt; "ok"),
@@ -154,6 +164,61 @@ fn tell_one(rt: &HostRuntime, title: &str, form: Form, start: Start, call: Call)
             fault.at, fault.kind, fault.torn
         ),
     }
+}
+
+/// What is tried after a write of a settled region, one device call of which goes wrong.
+fn after_write(form: Form, fault: Fault, tried: Tried) -> Case {
+    Case {
+        form,
+        start: CLEAN,
+        before: Some(Before { call: WRITE, fault }),
+        tried,
+    }
+}
+
+/// A device call that fails, or at which the power goes.
+fn fault_at(at: u64, kind: Kind, torn: Torn) -> Fault {
+    Fault { at, kind, torn }
+}
+
+/// The store is made firm after a write. Its mark is one device call a copy, each plex one, and so is the unmark.
+fn firms(rt: &HostRuntime) -> io::Result<()> {
+    for form in FORMS {
+        let marked = form.copies as u64;
+        let written = marked.saturating_add(form.plexes as u64);
+        for (title, behind) in [
+            ("a firm after a mark that failed", marked),
+            (
+                "a firm after an unmark that failed",
+                written.saturating_add(marked),
+            ),
+        ] {
+            let fault = fault_at(behind.saturating_sub(1), Kind::Once, Torn::Old);
+            tell_one(rt, title, after_write(form, fault, Tried::Call(Call::Firm)))?;
+        }
+    }
+    Ok(())
+}
+
+/// The region is started after a write that lost the power: at plex 1, and on three plexes at the mark and the unmark of copy 1.
+fn starts(rt: &HostRuntime) -> io::Result<()> {
+    for form in FORMS {
+        let fault = fault_at(
+            (form.copies as u64).saturating_add(1),
+            Kind::Cut,
+            Torn::Front,
+        );
+        let title = "a start after a write that lost the power";
+        tell_one(rt, title, after_write(form, fault, Tried::Start))?;
+    }
+    for (title, at) in [
+        ("a start after a mark that lost the power", 1),
+        ("a start after an unmark that lost the power", 6),
+    ] {
+        let fault = fault_at(at, Kind::Cut, Torn::Old);
+        tell_one(rt, title, after_write(THREE, fault, Tried::Start))?;
+    }
+    Ok(())
 }
 
 /// A settled region with these marks.
@@ -249,5 +314,7 @@ pub fn sweeps(rt: &HostRuntime) -> io::Result<()> {
     let one = vx_mask::of(1);
     reads(rt, dirty, one)?;
     writes(rt, dirty, one)?;
-    others_of(rt, dirty, one)
+    others_of(rt, dirty, one)?;
+    firms(rt)?;
+    starts(rt)
 }

@@ -7,6 +7,7 @@ use crate::fault::Step;
 use crate::piece::RowPiece;
 use crate::setup::{Held, held_by};
 use std::alloc::Global;
+use vx_cell::Plex;
 use vx_core::Stage;
 use vx_piece::Piece;
 
@@ -77,37 +78,52 @@ fn gather(calls: &mut Vec<Called>, plex: Option<u8>, copy: u8, steps: &[Step]) -
 
 /// Takes the region apart.
 pub fn end(alloc: Global, life: Life<RowPiece>) -> Option<Left> {
-    let mut calls = Vec::new(alloc);
-    let mut plexes = Vec::new(alloc);
-    for plex in &life.plexes {
-        let piece = plex.pieces.first()?;
-        gather(&mut calls, Some(plex.map), 0, piece.steps())?;
-        plexes.push(held_by(alloc, plex.map, piece.bytes())?).ok()?;
-    }
     let Life {
         stage,
         number: _,
-        plexes: _,
+        plexes,
         store,
     } = life;
-    let Ok(pieces) = store.into_copies(alloc) else {
+    let Ok(copies) = store.into_copies(alloc) else {
         return None;
     };
-    let mut copies = Vec::new(alloc);
+    left_on(alloc, stage, &plexes, &copies)
+}
+
+/// What is left on the plexes and the copies of a region.
+pub fn left_on(
+    alloc: Global,
+    stage: Stage,
+    plexes: &Vec<Plex<RowPiece>>,
+    copies: &Vec<Vec<RowPiece>>,
+) -> Option<Left> {
+    let mut left = Left {
+        stage,
+        calls: Vec::new(alloc),
+        plexes: Vec::new(alloc),
+        copies: Vec::new(alloc),
+    };
+    for plex in plexes {
+        let piece = plex.pieces.first()?;
+        gather(&mut left.calls, Some(plex.map), 0, piece.steps())?;
+        left.plexes
+            .push(held_by(alloc, plex.map, piece.bytes())?)
+            .ok()?;
+    }
+    gather_copies(alloc, &mut left, copies)?;
+    Some(left)
+}
+
+fn gather_copies(alloc: Global, left: &mut Left, copies: &Vec<Vec<RowPiece>>) -> Option<()> {
     let mut number: u8 = 0;
-    for copy in &pieces {
+    for copy in copies {
         let mut bytes = Vec::new(alloc);
         for piece in copy {
-            gather(&mut calls, None, number, piece.steps())?;
+            gather(&mut left.calls, None, number, piece.steps())?;
             bytes.extend_from_slice(piece.bytes()).ok()?;
         }
-        copies.push(bytes).ok()?;
+        left.copies.push(bytes).ok()?;
         number = number.saturating_add(1);
     }
-    Some(Left {
-        stage,
-        calls,
-        plexes,
-        copies,
-    })
+    Some(())
 }

@@ -2,17 +2,18 @@
 //! left has to be what the rules allow, and so does the region once it is started again.
 
 use crate::breach::Breach;
-use crate::call::{Call, Life, Range, perform};
+use crate::call::{Call, Range, WHOLE};
 use crate::causes::{Part, causes, marks_first};
 use crate::clock::Clock;
+use crate::course::{Ended, Going, go, stop};
 use crate::disk::shown;
 use crate::fault::{End, Fault, Kind, Step};
 use crate::history::History;
-use crate::piece::RowPiece;
 use crate::restart::{Gone, restart};
 use crate::rules::allows_all;
 use crate::setup::{Form, Held, Start, before, begin};
-use crate::trace::{Left, On, end};
+use crate::starts::start;
+use crate::trace::{Left, On};
 use std::alloc::Global;
 use std::sync::Arc;
 use vx_core::Phase;
@@ -25,16 +26,29 @@ pub enum Follow {
     Write,
 }
 
-/// A region, and the call on it.
+/// A call of which a device call goes wrong.
+#[derive(Clone, Copy)]
+pub struct Before {
+    pub call: Call,
+    pub fault: Fault,
+}
+
+/// What is tried.
+#[derive(Clone, Copy)]
+pub enum Tried {
+    Call(Call),
+    /// The power is off, and the region is started.
+    Start,
+}
+
+/// A region, what went wrong with it before, and what is tried.
 #[derive(Clone, Copy)]
 pub struct Case {
     pub form: Form,
     pub start: Start,
-    pub call: Call,
+    pub before: Option<Before>,
+    pub tried: Tried,
 }
-
-/// The whole region.
-const WHOLE: Range = Range { at: 32, count: 32 };
 
 /// Blocks of which some are written by the call before.
 const OTHERS: Range = Range { at: 42, count: 4 };
@@ -47,76 +61,69 @@ fn next_call(follow: Follow) -> Option<Call> {
     }
 }
 
-/// A region in a trial: its calls so far, and what its blocks may hold by them.
-#[derive(Drop)]
-struct Going {
-    life: Life<RowPiece>,
-    parts: Vec<Part>,
-    history: History,
-}
-
-fn go(alloc: Global, clock: &Clock, going: Going, call: Call) -> Result<Going, Breach> {
-    let Going {
-        life,
-        mut parts,
-        mut history,
-    } = going;
-    let stage = life.stage;
-    let first = clock.calls();
-    let (life, answer) = perform(alloc, life, call).ok_or(Breach::NoRegion)?;
-    history.note(alloc, call, &answer)?;
-    let part = Part {
-        call,
-        stage,
-        first,
-        behind: clock.calls(),
-        result: answer.result,
-    };
-    parts.push(part).ok().ok_or(Breach::NoRegion)?;
+/// A region before its calls, on devices whose calls go wrong so.
+fn set_up(
+    alloc: Global,
+    case: &Case,
+    clock: &Arc<Clock, Global>,
+    faults: [Option<Fault>; 2],
+) -> Result<Going, Breach> {
+    let life = begin(alloc, &case.form, &case.start, clock, faults).ok_or(Breach::NoRegion)?;
+    let made = before(alloc, &case.form, &case.start).ok_or(Breach::NoRegion)?;
+    let history = History::new(alloc, &made, case.start.bits)?;
     Ok(Going {
         life,
-        parts,
+        parts: Vec::new(alloc),
         history,
     })
 }
 
-/// What is left of a region, and what it may hold.
-#[derive(Drop)]
-struct Ended {
-    left: Left,
-    parts: Vec<Part>,
-    history: History,
+/// The number of a device call that goes wrong, if those of the call before it end with the one that goes wrong there.
+fn shifted(fault: Fault, before: Option<Before>) -> Fault {
+    match before {
+        Some(before) => Fault {
+            at: fault.at.saturating_add(before.fault.at).saturating_add(1),
+            ..fault
+        },
+        None => fault,
+    }
 }
 
-/// Makes the call, and the one after it.
-fn run(alloc: Global, case: &Case, fault: Fault, follow: Follow) -> Result<Ended, Breach> {
+/// Makes the call, after the one before and before the one that follows.
+fn run_call(
+    alloc: Global,
+    case: &Case,
+    call: Call,
+    fault: Fault,
+    follow: Follow,
+) -> Result<Ended, Breach> {
     let clock = Arc::new(alloc, Clock::new()).ok().ok_or(Breach::NoRegion)?;
-    let faults = [Some(fault), None];
-    let life = begin(alloc, &case.form, &case.start, &clock, faults).ok_or(Breach::NoRegion)?;
-    let made = before(alloc, &case.form, &case.start).ok_or(Breach::NoRegion)?;
-    let history = History::new(alloc, &made, case.start.bits)?;
-    let going = Going {
-        life,
-        parts: Vec::new(alloc),
-        history,
-    };
-    let mut going = go(alloc, &clock, going, case.call)?;
+    let mut faults = [Some(fault), None];
+    if let Some(before) = case.before {
+        faults = [Some(before.fault), Some(fault)];
+    }
+    let mut going = set_up(alloc, case, &clock, faults)?;
+    if let Some(before) = case.before {
+        going = go(alloc, &clock, going, before.call)?;
+    }
+    going = go(alloc, &clock, going, call)?;
     if clock.calls() > fault.at && going.life.stage.phase != Phase::Dead {
         if let Some(call) = next_call(follow) {
             going = go(alloc, &clock, going, call)?;
         }
     }
-    let Going {
-        life,
-        parts,
-        history,
-    } = going;
-    let left = end(alloc, life).ok_or(Breach::NoRegion)?;
-    Ok(Ended {
-        left,
-        parts,
-        history,
-    })
+    stop(alloc, going)
+}
+
+/// Makes the call before, of which a device call goes wrong, and then starts the region.
+fn run_start(alloc: Global, case: &Case, fault: Fault) -> Result<Ended, Breach> {
+    let before = case.before.ok_or(Breach::NoRegion)?;
+    let alone = Case {
+        before: None,
+        ..*case
+    };
+    let ended = run_call(alloc, &alone, before.call, before.fault, Follow::Nothing)?;
+    start(alloc, &case.form, ended, fault)
 }
 
 /// The marks that each copy shows.
@@ -162,6 +169,14 @@ fn all_show(marks: &Vec<u64>, bits: u64) -> bool {
     true
 }
 
+/// Whether the last call made the store firm.
+fn is_firm(parts: &Vec<Part>) -> bool {
+    match parts.last() {
+        Some(part) => matches!(part.call, Call::Firm) && part.result.is_ok(),
+        None => false,
+    }
+}
+
 /// Whether what is left is allowed, and each answer has its cause.
 fn judge(alloc: Global, case: &Case, ended: &Ended) -> Result<(), Breach> {
     for part in &ended.parts {
@@ -171,7 +186,11 @@ fn judge(alloc: Global, case: &Case, ended: &Ended) -> Result<(), Breach> {
     let left = &ended.left;
     let marks = marks_on(alloc, &left.copies)?;
     let log = log_calls(left);
-    if log.strays || !log.went_wrong && !all_show(&marks, left.stage.bits) {
+    let may_stray = matches!(case.tried, Tried::Start);
+    if log.strays && !may_stray {
+        return Err(Breach::Marks);
+    }
+    if (!log.went_wrong || is_firm(&ended.parts)) && !all_show(&marks, left.stage.bits) {
         return Err(Breach::Marks);
     }
     let made = before(alloc, &case.form, &case.start).ok_or(Breach::NoRegion)?;
@@ -195,7 +214,14 @@ pub fn attempt(
     fault: Fault,
     follow: Follow,
 ) -> Result<Option<Step>, Breach> {
-    let ended = run(alloc, case, fault, follow)?;
+    let mut fault = fault;
+    let ended = match case.tried {
+        Tried::Start => run_start(alloc, case, fault)?,
+        Tried::Call(call) => {
+            fault = shifted(fault, case.before);
+            run_call(alloc, case, call, fault, follow)?
+        }
+    };
     judge(alloc, case, &ended)?;
     let made = before(alloc, &case.form, &case.start).ok_or(Breach::NoRegion)?;
     let wrong = wrong_step(&ended.left, fault);

@@ -469,8 +469,8 @@ fn marking(rt: &HostRuntime, start: &Copies) -> io::Result<()> {
             Call::MarkOther,
         ),
         (
-            "unmark after an unmark that failed",
-            Some(Call::Unmark),
+            "unmark after a mark of another region that failed",
+            Some(Call::MarkOther),
             Call::Unmark,
         ),
     ] {
@@ -497,6 +497,11 @@ fn whole_maps(rt: &HostRuntime, start: &Copies) -> io::Result<()> {
             "the same after a mark that failed",
             Some(Call::Mark),
             Call::Set(0xfa),
+        ),
+        (
+            "firm after a set that failed",
+            Some(Call::Set(0xfa)),
+            Call::Firm,
         ),
         (
             "set of what is there, and of a bit behind the last",

@@ -2,13 +2,18 @@
 //! device 2 with four sectors behind the plex.
 
 ghost use Rattle.std.specs.Prelude.{◌≡◌, ◌+◌, ◌<◌, ◌≤◌, ◌^◌, true, map};
-ghost use Rattle.vx_piece.specs.MemPiece.{mem_seen};
 ghost use Rattle.vx_maps.specs.Copies.{AreCopies, IsCopy};
 ghost use Rattle.vx_maps.specs.Spares.{copies_seen};
+ghost use Rattle.vx_map_rows.specs.Piece.{row_seen};
 
+use crate::clock::Clock;
+use crate::marks::Marks;
+use crate::piece::RowPiece;
+use crate::watch::Watch;
 use std::alloc::{AllocError, Global};
+use std::sync::Arc;
 use vx_mapfmt::DcoShape;
-use vx_piece::{Bad, MemPiece, Piece};
+use vx_piece::{MemPiece, Piece};
 
 /// The sectors of the plex.
 pub const PLEX: u64 = 560;
@@ -16,20 +21,34 @@ pub const PLEX: u64 = 560;
 /// The first sectors of the plex that the first piece of the first copy has.
 const FRONT: u64 = 200;
 
-/// A call on this sector of a copy that fails, after so many that pass.
-#[derive(Clone, Copy)]
-pub struct Fault {
-    pub copy: u8,
-    pub sector: u64,
-    pub write: bool,
-    pub passes: u64,
-}
-
-/// What a copy is to hold: the header or none, and of each map the first byte of its page.
+/// What a copy holds: the header or none, and of each map the first byte of its page.
 #[derive(Clone, Copy)]
 pub struct Held {
     pub headed: bool,
-    pub maps: [u8; 32],
+    pub maps: Marks,
+}
+
+/// What one copy holds, or two.
+#[derive(Clone, Copy)]
+pub struct Copies {
+    pub first: Held,
+    pub second: Option<Held>,
+}
+
+impl Copies {
+    /// Copy 0, or copy 1 if there is one.
+    pub fn get(&self, number: u8) -> Option<Held> {
+        if number == 0 {
+            Some(self.first)
+        } else {
+            self.second
+        }
+    }
+}
+
+/// The copy that has a device.
+pub fn copy_on(device: u32) -> u8 {
+    if device == 2 { 1 } else { 0 }
 }
 
 /// The sector of the plex with a map's page.
@@ -63,32 +82,18 @@ fn bytes_of(
     Ok(bytes)
 }
 
-/// A piece of a device, with the fault if it lies there. `start` is where the piece begins in the copy.
+/// A piece of a device.
 fn piece(
     alloc: Global,
     device: u32,
     bytes: Vec<u8>,
-    start: u64,
-    fault: Option<Fault>,
-) -> Result<MemPiece, AllocError> {
-    let mut bads = Vec::new(alloc);
-    if let Some(fault) = fault {
-        let sectors = (bytes.len() / 512) as u64;
-        if fault.sector >= start && fault.sector - start < sectors {
-            bads.push(Bad {
-                start: fault.sector - start,
-                count: 1,
-                on_read: !fault.write,
-                on_write: fault.write,
-                skip: fault.passes,
-                times: 1,
-            })?;
-        }
-    }
-    let Some(piece) = MemPiece::new(device, bytes, bads) else {
+    clock: &Arc<Clock, Global>,
+) -> Result<RowPiece, AllocError> {
+    let Some(memory) = MemPiece::new(device, bytes, Vec::new(alloc)) else {
         return Err(AllocError);
     };
-    Ok(piece)
+    let clock = Arc::try_clone(clock)?;
+    Ok(RowPiece::new(memory, Watch::new(clock)))
 }
 
 /// The bytes before a place, and those behind it.
@@ -102,36 +107,45 @@ fn halves(alloc: Global, bytes: &Vec<u8>, at: usize) -> Result<(Vec<u8>, Vec<u8>
 }
 
 /// The pieces of a copy.
-pub fn copy(
+fn copy(
     alloc: Global,
     shape: &DcoShape,
     number: u8,
     held: &Held,
-    fault: Option<Fault>,
-) -> Result<Vec<MemPiece>, AllocError> {
-    let mut here = None;
-    if let Some(found) = fault {
-        if found.copy == number {
-            here = fault;
-        }
-    }
+    clock: &Arc<Clock, Global>,
+) -> Result<Vec<RowPiece>, AllocError> {
     let mut pieces = Vec::new(alloc);
     if number == 0 {
         let bytes = bytes_of(alloc, shape, held, 0)?;
         let (first, second) = halves(alloc, &bytes, FRONT as usize * 512)?;
-        pieces.push(piece(alloc, 1, first, 0, here)?)?;
-        pieces.push(piece(alloc, 3, second, FRONT, here)?)?;
+        pieces.push(piece(alloc, 1, first, clock)?)?;
+        pieces.push(piece(alloc, 3, second, clock)?)?;
     } else {
         let bytes = bytes_of(alloc, shape, held, 4)?;
-        pieces.push(piece(alloc, 2, bytes, 0, here)?)?;
+        pieces.push(piece(alloc, 2, bytes, clock)?)?;
     }
     Ok(pieces)
 }
 
+/// The pieces of each copy.
+pub fn build(
+    alloc: Global,
+    shape: &DcoShape,
+    start: &Copies,
+    clock: &Arc<Clock, Global>,
+) -> Result<Vec<Vec<RowPiece>>, AllocError> {
+    let mut copies = Vec::new(alloc);
+    copies.push(copy(alloc, shape, 0, &start.first, clock)?)?;
+    if let Some(second) = start.second {
+        copies.push(copy(alloc, shape, 1, &second, clock)?)?;
+    }
+    Ok(copies)
+}
+
 /// Whether one piece or two are a copy of slots of so many sectors.
-fn is_copy(pieces: &Vec<MemPiece>, size: u64) -> bool
+fn is_copy(pieces: &Vec<RowPiece>, size: u64) -> bool
     requires { size < 2 ^ 32 }
-    ensures { result ≡ true → IsCopy size (map mem_seen pieces.now.items) }
+    ensures { result ≡ true → IsCopy size (map row_seen pieces.now.items) }
 {
     match pieces.as_slice() {
         [one] => one.sectors() > 0 && one.sectors() >= 35 * size,
@@ -147,9 +161,9 @@ fn are_enough(one: u64, other: u64, wanted: u64) -> bool
 }
 
 /// Whether these are one copy or two.
-pub fn are_copies(copies: &Vec<Vec<MemPiece>>, size: u64) -> bool
+pub fn are_copies(copies: &Vec<Vec<RowPiece>>, size: u64) -> bool
     requires { size < 2 ^ 32 }
-    ensures { result ≡ true → AreCopies size (copies_seen mem_seen copies.now.items) }
+    ensures { result ≡ true → AreCopies size (copies_seen row_seen copies.now.items) }
 {
     match copies.as_slice() {
         [first] => is_copy(first, size),
@@ -159,10 +173,10 @@ pub fn are_copies(copies: &Vec<Vec<MemPiece>>, size: u64) -> bool
 }
 
 /// What the pieces of a copy hold; none where another byte is not zero.
-pub fn held_by(
+fn held_by(
     alloc: Global,
     shape: &DcoShape,
-    pieces: &Vec<MemPiece>,
+    pieces: &Vec<RowPiece>,
 ) -> Result<Option<Held>, AllocError> {
     let mut bytes = Vec::new(alloc);
     for piece in pieces {
@@ -196,11 +210,32 @@ pub fn held_by(
     Ok(Some(held))
 }
 
-/// How many calls on the pieces have failed.
-pub fn faults_in(pieces: &Vec<MemPiece>) -> u64 {
-    let mut faults: u64 = 0;
-    for piece in pieces {
-        faults = faults.saturating_add(piece.counts().faults);
+/// What each copy holds; none where some byte of one is neither of the header nor of the maps.
+pub fn held_in(
+    alloc: Global,
+    shape: &DcoShape,
+    copies: &Vec<Vec<RowPiece>>,
+) -> Result<Option<Copies>, AllocError> {
+    match copies.as_slice() {
+        [first] => Ok(match held_by(alloc, shape, first)? {
+            Some(first) => Some(Copies {
+                first,
+                second: None,
+            }),
+            None => None,
+        }),
+        [first, second] => {
+            match (
+                held_by(alloc, shape, first)?,
+                held_by(alloc, shape, second)?,
+            ) {
+                (Some(first), Some(second)) => Ok(Some(Copies {
+                    first,
+                    second: Some(second),
+                })),
+                _ => Ok(None),
+            }
+        }
+        _ => Ok(None),
     }
-    faults
 }

@@ -1,12 +1,19 @@
-//! Rows of marks on pages of change maps in memory: a fault is moved along the writes of a call, and each row tells the
-//! answer, what the page claims then, and what each copy shows. The stored output was worked out by hand.
+//! Rows of marks on pages of change maps in memory, some of whose writes fail, and sweeps in which each device call of each call
+//! on a store of such pages fails in turn, or the power goes at it. The stored output was worked out by hand.
 #![tactic(auto)]
 
+mod calls;
+mod clock;
 mod copies;
+mod fault;
+mod marks;
 mod pages;
+mod piece;
 mod rows;
-mod stores;
+mod rules;
 mod sweeps;
+mod trials;
+mod watch;
 mod wholes;
 
 use std::io;

@@ -1,467 +1,515 @@
-//! What the copies may hold after a trial, and the sweeps.
+//! The sweeps: each device call of a call fails in turn, and at each the power goes, until the call makes no more of them. What is
+//! left is judged by the rules, and then, with no fault any more, the copies are loaded together and each alone.
 
-use crate::copies::{Fault, Held, page_of};
-use crate::stores::{Call, Ended, Start, shape, try_call};
+use crate::calls::{Answer, Call, shape};
+use crate::copies::{Copies, Held};
+use crate::fault::{Fault, Kind};
+use crate::marks::{Marks, NO_MARKS, clipped, is_same};
+use crate::rules::{State, left, may_end};
+use crate::trials::{Case, Ended, run};
 use std::alloc::{AllocError, Global};
 use std::io;
 use vx_mapfmt::DcoShape;
-use vx_maps::StoreFault;
 
-/// What came of a trial.
-#[derive(Clone, Copy, PartialEq, Eq)]
-enum Found {
-    /// The fault did not fire.
-    Quiet,
-    /// It fired before the call.
-    Early,
-    Allowed,
-    Differs,
+/// The trials of one kind: in how many a device call went wrong, and how the call was answered then.
+#[derive(Clone, Copy)]
+struct Tally {
+    fired: u64,
+    done: u64,
+    failed: u64,
+    no_copy: u64,
+    lost: u64,
 }
 
-/// The bits of the four regions of the volume.
-fn clipped(held: &Held) -> Held {
-    let mut maps = [0; 32];
-    for map in 0..32usize {
-        maps[map] = held.maps[map] & 15;
-    }
-    Held {
-        headed: held.headed,
-        maps,
-    }
+const NONE: Tally = Tally {
+    fired: 0,
+    done: 0,
+    failed: 0,
+    no_copy: 0,
+    lost: 0,
+};
+
+/// What is known of the sweeps of a call: the device calls that it makes without a fault, the trials in which one failed, those
+/// in which the power went, how many were not as they may be, and what was loaded again already.
+#[derive(Drop)]
+struct Sums {
+    reads: u64,
+    writes: u64,
+    fails: Tally,
+    cuts: Tally,
+    wrong: u64,
+    loaded: Vec<Copies>,
 }
 
-fn same_maps(one: &Held, other: &Held) -> bool {
-    for map in 0..32usize {
-        if one.maps[map] != other.maps[map] {
-            return false;
-        }
-    }
-    true
+/// The most device calls that a call makes here.
+const MOST: u64 = 200;
+
+fn is_same_copy(one: &Held, other: &Held) -> bool {
+    one.headed == other.headed && is_same(&one.maps, &other.maps)
 }
 
-/// Each map is that of the one or that of the other.
-fn mixed(held: &Held, one: &Held, other: &Held) -> bool {
-    for map in 0..32usize {
-        if held.maps[map] != one.maps[map] && held.maps[map] != other.maps[map] {
-            return false;
-        }
-    }
-    true
-}
-
-/// The copy that was read, if the first can be read or cannot.
-fn sources(start: &Start) -> (Held, Held) {
-    let first = clipped(&start.first);
-    match &start.second {
-        Some(second) => (first, clipped(second)),
-        None => (first, first),
-    }
-}
-
-/// What a copy may hold after a load: with the header its old maps or those of a copy that had the header, whole; and where it
-/// had the header itself, of each map its own or that of the first.
-fn may_load(start: &Start, number: usize, held: &Held) -> bool {
-    let (first, second) = sources(start);
-    let before = match &start.second {
-        Some(second) if number == 1 => *second,
-        _ => start.first,
+fn are_same(one: &Copies, other: &Copies) -> bool {
+    let second = match (&one.second, &other.second) {
+        (Some(one), Some(other)) => is_same_copy(one, other),
+        (None, None) => true,
+        _ => false,
     };
-    if !held.headed {
-        return number == 0 || !before.headed;
-    }
-    if before.headed && same_maps(held, &before) {
-        return true;
-    }
-    if first.headed && same_maps(held, &first) || second.headed && same_maps(held, &second) {
-        return true;
-    }
-    before.headed && mixed(held, &before, &first)
+    second && is_same_copy(&one.first, &other.first)
 }
 
-/// After a create: with the header its old maps or none.
-fn may_create(start: &Start, number: usize, held: &Held) -> bool {
-    let before = match &start.second {
-        Some(second) if number == 1 => *second,
-        _ => start.first,
+/// Loads copies without a fault: that gives the first copy with a header on each copy, or there is no store.
+fn loads(alloc: Global, shape: &DcoShape, start: Copies) -> Result<bool, AllocError> {
+    let case = Case {
+        start,
+        first: None,
+        before: None,
+        call: Call::Load,
     };
-    if !held.headed {
-        return true;
-    }
-    let none = Held {
-        headed: true,
-        maps: [0; 32],
+    let ended = run(alloc, shape, &case, None)?;
+    let Some(copies) = ended.copies else {
+        return Ok(false);
     };
-    before.headed && same_maps(held, &before) || same_maps(held, &none)
-}
-
-/// The maps with region 1 marked in maps 3 and 5, or not.
-fn put(held: &Held, on: bool) -> Held {
-    let mut maps = held.maps;
-    for map in 0..32usize {
-        if map == 3 || map == 5 {
-            maps[map] = if on { maps[map] | 2 } else { maps[map] & 253 };
+    let mut wanted = None;
+    for number in 0..2u8 {
+        if let Some(held) = start.get(number) {
+            if held.headed && wanted.is_none() {
+                wanted = Some(clipped(&held.maps));
+            }
         }
     }
-    Held {
-        headed: held.headed,
-        maps,
+    match wanted {
+        None => Ok(ended.answer == Answer::NoCopy && are_same(&copies, &start)),
+        Some(marks) => Ok(ended.answer == Answer::Done && gives(&ended, &copies, &marks)),
     }
 }
 
-fn may_mark(start: &Start, held: &Held, on: bool) -> bool {
-    held.headed && mixed(held, &start.first, &put(&start.first, on))
-}
-
-/// What a mark that failed leaves open goes when it is written again, also where it was marked before.
-fn may_firm(start: &Start, held: &Held) -> bool {
-    let on = put(&start.first, true);
-    let off = put(&start.first, false);
-    held.headed
-        && (mixed(held, &start.first, &on)
-            || mixed(held, &start.first, &off)
-            || mixed(held, &on, &off))
-}
-
-/// The maps with map 5 set from a byte, whose bits behind the four regions are none.
-fn set(held: &Held, byte: u8) -> Held {
-    let mut maps = held.maps;
-    maps[5] = byte & 15;
-    Held {
-        headed: held.headed,
-        maps,
-    }
-}
-
-/// Each map is as before, or as it is to be: `other` is with region 1 marked, if that was asked for first.
-fn may_set(start: &Start, held: &Held, other: &Held, byte: u8) -> bool {
-    held.headed && mixed(held, &start.first, &set(other, byte))
-}
-
-/// What the store lists is on the copy, and where all went well the copy holds no more.
-fn is_listed(listed: &[u8; 32], held: &Held, done: bool) -> bool {
-    for map in 0..32usize {
-        if listed[map] & held.maps[map] != listed[map] {
-            return false;
-        }
-        if done && listed[map] != held.maps[map] {
-            return false;
-        }
-    }
-    true
-}
-
-fn allowed(call: Call, start: &Start, ended: &Ended) -> bool {
-    let mut number: usize = 0;
-    let mut last = None;
-    for held in &ended.held {
-        let Some(held) = held else {
-            return false;
-        };
-        let may = match call {
-            Call::Create => may_create(start, number, held),
-            Call::Load => may_load(start, number, held),
-            Call::Mark => may_mark(start, held, true),
-            Call::Firm => may_firm(start, held),
-            Call::Unmark => may_mark(start, held, false),
-            Call::Clear => may_set(start, held, &start.first, 0),
-            Call::MarkAndClear => may_set(start, held, &put(&start.first, true), 0),
-            Call::Set(byte) => may_set(start, held, &start.first, byte),
-        };
-        if !may || !is_listed(&ended.listed, held, ended.done) {
-            return false;
-        }
-        if ended.done {
-            if !held.headed || !is_done(call, start, held) {
+/// Whether each copy has the header and these marks, and the store claims them.
+fn gives(ended: &Ended, copies: &Copies, marks: &Marks) -> bool {
+    for number in 0..2u8 {
+        if let Some(held) = copies.get(number) {
+            if !held.headed || !is_same(&held.maps, marks) {
                 return false;
             }
-            if let Some(other) = last {
-                if !same_maps(held, &other) {
-                    return false;
-                }
-            }
-            last = Some(*held);
         }
-        number = number.saturating_add(1);
     }
-    true
-}
-
-/// Where the call was answered Ok.
-fn is_done(call: Call, start: &Start, held: &Held) -> bool {
-    match call {
-        Call::Create => same_maps(
-            held,
-            &Held {
-                headed: true,
-                maps: [0; 32],
-            },
-        ),
-        Call::Load => {
-            let (first, second) = sources(start);
-            first.headed && same_maps(held, &first) || second.headed && same_maps(held, &second)
-        }
-        Call::Mark => same_maps(held, &put(&start.first, true)),
-        Call::Unmark => same_maps(held, &put(&start.first, false)),
-        Call::Firm => true,
-        Call::Clear => same_maps(held, &set(&start.first, 0)),
-        Call::MarkAndClear => held.maps[5] == 0,
-        Call::Set(byte) => same_maps(held, &set(&start.first, byte)),
+    match ended.claims {
+        Some(claims) => is_same(&claims, marks),
+        None => false,
     }
 }
 
-/// The copies are loaded without faults, together and each alone: that gives the first copy with a header, or none.
-fn reloads(alloc: Global, shape: &DcoShape, ended: &Ended) -> Result<bool, AllocError> {
-    let mut one = None;
-    let mut other = None;
-    for held in &ended.held {
-        let Some(held) = held else {
-            return Ok(false);
-        };
-        if one.is_none() {
-            one = Some(*held);
-        } else {
-            other = Some(*held);
-        }
-    }
-    let Some(first) = one else {
-        return Ok(false);
-    };
-    if !reload(
-        alloc,
-        shape,
-        &Start {
-            first,
-            second: other,
-        },
-    )? {
-        return Ok(false);
-    }
-    if let Some(second) = other {
-        let alone = reload(
-            alloc,
-            shape,
-            &Start {
-                first,
-                second: None,
-            },
-        )?;
-        let behind = reload(
-            alloc,
-            shape,
-            &Start {
-                first: second,
-                second: None,
-            },
-        )?;
-        return Ok(alone && behind);
-    }
-    Ok(true)
-}
-
-fn reload(alloc: Global, shape: &DcoShape, start: &Start) -> Result<bool, AllocError> {
-    let ended = try_call(alloc, shape, Call::Load, start, None)?;
-    let (first, second) = sources(start);
-    let wanted = if first.headed {
-        first
-    } else if second.headed {
-        second
-    } else {
-        return Ok(ended.refused == Some(StoreFault::NoCopy));
-    };
-    if !ended.done {
-        return Ok(false);
-    }
-    for held in &ended.held {
-        match held {
-            Some(held) if held.headed && same_maps(held, &wanted) => {}
-            _ => return Ok(false),
-        }
-    }
-    Ok(true)
-}
-
-fn trial(
+/// The copies are loaded together and each alone, once for all trials that leave the same.
+fn reloads(
     alloc: Global,
     shape: &DcoShape,
-    call: Call,
-    start: &Start,
+    copies: &Copies,
+    loaded: &mut Vec<Copies>,
+) -> Result<bool, AllocError> {
+    for seen in &*loaded {
+        if are_same(seen, copies) {
+            return Ok(true);
+        }
+    }
+    loaded.push(*copies)?;
+    let mut is_right = loads(alloc, shape, *copies)?;
+    if let Some(second) = copies.second {
+        for alone in [copies.first, second] {
+            let start = Copies {
+                first: alone,
+                second: None,
+            };
+            is_right = loads(alloc, shape, start)? && is_right;
+        }
+    }
+    Ok(is_right)
+}
+
+/// Counts a trial in which a device call went wrong.
+fn count(tally: &mut Tally, answer: Answer) {
+    tally.fired = tally.fired.saturating_add(1);
+    let counter = match answer {
+        Answer::Done => &mut tally.done,
+        Answer::Failed { copy: _, device: _ } => &mut tally.failed,
+        Answer::NoCopy => &mut tally.no_copy,
+        Answer::PowerLost => &mut tally.lost,
+        Answer::Other => return,
+    };
+    *counter = counter.saturating_add(1);
+}
+
+/// Judges a trial.
+fn judge(
+    alloc: Global,
+    shape: &DcoShape,
+    case: &Case,
+    state: &State,
+    kind: Kind,
+    ended: &Ended,
+    sums: &mut Sums,
+) -> Result<(), AllocError> {
+    let mut is_right = may_end(case, kind, state, ended);
+    if let Some(copies) = ended.copies {
+        is_right = reloads(alloc, shape, &copies, &mut sums.loaded)? && is_right;
+    }
+    if !is_right {
+        sums.wrong = sums.wrong.saturating_add(1);
+    }
+    if ended.wrong.is_some() {
+        match kind {
+            Kind::Fails => count(&mut sums.fails, ended.answer),
+            Kind::Cut => count(&mut sums.cuts, ended.answer),
+        }
+    }
+    Ok(())
+}
+
+/// One trial.
+fn one(
+    alloc: Global,
+    shape: &DcoShape,
+    case: &Case,
+    state: &State,
     fault: Fault,
-) -> Result<Found, AllocError> {
-    let ended = try_call(alloc, shape, call, start, Some(fault))?;
-    if ended.faults == 0 {
-        return Ok(Found::Quiet);
-    }
-    if !ended.opened && call != Call::Load && call != Call::Create {
-        return Ok(Found::Early);
-    }
-    if allowed(call, start, &ended) && reloads(alloc, shape, &ended)? {
-        Ok(Found::Allowed)
-    } else {
-        Ok(Found::Differs)
-    }
+    sums: &mut Sums,
+) -> Result<Ended, AllocError> {
+    let ended = run(alloc, shape, case, Some(fault))?;
+    judge(alloc, shape, case, state, fault.kind, &ended, sums)?;
+    Ok(ended)
 }
 
-/// Moves the fault along the calls on one sector of a copy. How many trials fired in the call, and how many came out wrong.
-fn along(
-    alloc: Global,
-    shape: &DcoShape,
-    call: Call,
-    start: &Start,
-    mut fault: Fault,
-) -> Result<(u64, u64), AllocError> {
-    let mut fired: u64 = 0;
-    let mut wrong: u64 = 0;
-    for passes in 0..20u64 {
-        fault.passes = passes;
-        match trial(alloc, shape, call, start, fault)? {
-            Found::Quiet => return Ok((fired, wrong)),
-            Found::Early => {}
-            Found::Allowed => fired = fired.saturating_add(1),
-            Found::Differs => {
-                fired = fired.saturating_add(1);
-                wrong = wrong.saturating_add(1);
-            }
-        }
-    }
-    Ok((fired, wrong.saturating_add(1)))
-}
-
-/// How many sectors the sweeps look at.
-const PLACES: u64 = 4;
-
-/// The header, and of each kind of map one page: the first and the last that is marked, and one that no mark changes.
-fn place_of(place: u64) -> u64 {
-    match place {
-        0 => 0,
-        1 => page_of(3),
-        2 => page_of(5),
-        _ => page_of(31),
-    }
-}
-
-/// The same for each of these sectors, on each copy, for reads and for writes.
+/// Each device call goes wrong in turn, a write in both ways. Ends with the trial in which none does.
 fn sweep(
     alloc: Global,
     shape: &DcoShape,
-    call: Call,
-    start: &Start,
-) -> Result<(u64, u64), AllocError> {
-    let mut fired: u64 = 0;
-    let mut wrong: u64 = 0;
-    for number in 0..2u8 {
-        for place in 0..PLACES {
-            for write in [false, true] {
-                let sector = place_of(place);
-                let fault = Fault {
-                    copy: number,
-                    sector,
-                    write,
-                    passes: 0,
+    case: &Case,
+    state: &State,
+    kind: Kind,
+    sums: &mut Sums,
+) -> Result<Ended, AllocError> {
+    for at in 0..MOST {
+        let fault = Fault {
+            at,
+            kind,
+            is_written: false,
+        };
+        let ended = one(alloc, shape, case, state, fault, sums)?;
+        match ended.wrong {
+            None => return Ok(ended),
+            Some(wrong) if wrong.is_write => {
+                let written = Fault {
+                    is_written: true,
+                    ..fault
                 };
-                let (more, bad) = along(alloc, shape, call, start, fault)?;
-                fired = fired.saturating_add(more);
-                wrong = wrong.saturating_add(bad);
+                one(alloc, shape, case, state, written, sums)?;
             }
+            Some(_) => {}
         }
     }
-    Ok((fired, wrong))
+    Err(AllocError)
 }
 
-fn tell(rt: &HostRuntime, title: &str, call: Call, start: &Start) -> io::Result<()> {
+/// Both sweeps of a case.
+fn sweeps_of(
+    alloc: Global,
+    shape: &DcoShape,
+    case: &Case,
+    state: &State,
+    sums: &mut Sums,
+) -> Result<(), AllocError> {
+    let ended = sweep(alloc, shape, case, state, Kind::Fails, sums)?;
+    sums.writes = sums.writes.saturating_add(ended.writes);
+    sums.reads = sums
+        .reads
+        .saturating_add(ended.calls.saturating_sub(ended.writes));
+    sweep(alloc, shape, case, state, Kind::Cut, sums)?;
+    Ok(())
+}
+
+fn no_sums(alloc: Global) -> Sums {
+    Sums {
+        reads: 0,
+        writes: 0,
+        fails: NONE,
+        cuts: NONE,
+        wrong: 0,
+        loaded: Vec::new(alloc),
+    }
+}
+
+/// A call on its own.
+fn alone(
+    alloc: Global,
+    shape: &DcoShape,
+    start: &Copies,
+    call: Call,
+    first: Option<Fault>,
+) -> Result<Sums, AllocError> {
+    let mut sums = no_sums(alloc);
+    let case = Case {
+        start: *start,
+        first,
+        before: None,
+        call,
+    };
+    sweeps_of(alloc, shape, &case, &State::loaded(start), &mut sums)?;
+    Ok(sums)
+}
+
+/// A call after one of which a write fails, each in turn and in both ways.
+fn behind(
+    alloc: Global,
+    shape: &DcoShape,
+    start: &Copies,
+    before: Call,
+    call: Call,
+) -> Result<Sums, AllocError> {
+    let mut sums = no_sums(alloc);
+    let failing = Case {
+        start: *start,
+        first: None,
+        before: None,
+        call: before,
+    };
+    for at in 0..MOST {
+        for is_written in [false, true] {
+            let first = Fault {
+                at,
+                kind: Kind::Fails,
+                is_written,
+            };
+            let ended = run(alloc, shape, &failing, Some(first))?;
+            if ended.wrong.is_none() {
+                return Ok(sums);
+            }
+            let Some(state) = left(before, &State::loaded(start), &ended) else {
+                sums.wrong = sums.wrong.saturating_add(1);
+                return Ok(sums);
+            };
+            let case = Case {
+                start: *start,
+                first: Some(first),
+                before: Some(before),
+                call,
+            };
+            sweeps_of(alloc, shape, &case, &state, &mut sums)?;
+        }
+    }
+    Err(AllocError)
+}
+
+fn show_tally(rt: &HostRuntime, title: &str, tally: &Tally) -> io::Result<()> {
+    print!(rt; "  {title}: {} trials", tally.fired)?;
+    for (count, answer) in [
+        (tally.done, "done"),
+        (tally.failed, "failed"),
+        (tally.no_copy, "without a copy"),
+        (tally.lost, "lost"),
+    ] {
+        if count > 0 {
+            print!(rt; ", {count} {answer}")?;
+        }
+    }
+    println!(rt; "")
+}
+
+fn show(rt: &HostRuntime, title: &str, sums: Result<Sums, AllocError>) -> io::Result<()> {
+    let Ok(sums) = sums else {
+        return println!(rt; "{title}: no memory");
+    };
+    println!(rt; "{title}: {} reads, {} writes", sums.reads, sums.writes)?;
+    show_tally(rt, "one fails", &sums.fails)?;
+    show_tally(rt, "the power goes at one", &sums.cuts)?;
+    if sums.wrong > 0 {
+        println!(rt; "  {} are not as they may be", sums.wrong)?;
+    }
+    Ok(())
+}
+
+/// A call on its own, or after one of which a write fails.
+fn tell(
+    rt: &HostRuntime,
+    title: &str,
+    before: Option<Call>,
+    call: Call,
+    start: &Copies,
+) -> io::Result<()> {
     let Some(shape) = shape() else {
         return Ok(());
     };
-    match sweep(rt.alloc(), &shape, call, start) {
-        Ok((fired, 0)) => println!(rt; "{title}: {fired} trials, each as it may be"),
-        Ok((fired, wrong)) => println!(rt; "{title}: {fired} trials, {wrong} wrong"),
-        Err(_) => println!(rt; "{title}: no memory"),
+    let sums = match before {
+        None => alone(rt.alloc(), &shape, start, call, None),
+        Some(before) => behind(rt.alloc(), &shape, start, before, call),
+    };
+    show(rt, title, sums)
+}
+
+fn one_copy(first: Held) -> Copies {
+    Copies {
+        first,
+        second: None,
     }
 }
 
+fn two_copies(first: Held, second: Held) -> Copies {
+    Copies {
+        first,
+        second: Some(second),
+    }
+}
+
+/// A copy with marks in maps 3, 5 and 31.
+fn marked() -> Held {
+    let mut maps = NO_MARKS;
+    maps[3] = 5;
+    maps[5] = 2;
+    maps[31] = 9;
+    Held { headed: true, maps }
+}
+
+/// One that differs from it in maps 5 and 30.
+fn other() -> Held {
+    let mut held = marked();
+    held.maps[5] = 3;
+    held.maps[30] = 4;
+    held
+}
+
+fn without_header(held: Held) -> Held {
+    Held {
+        headed: false,
+        ..held
+    }
+}
+
+/// One with bits behind the last region in map 0.
+fn long() -> Held {
+    let mut held = marked();
+    held.maps[0] = 0xf1;
+    held
+}
+
 pub fn rows(rt: &HostRuntime) -> io::Result<()> {
-    let mut one = Held {
-        headed: true,
-        maps: [0; 32],
+    let pair = two_copies(marked(), marked());
+    let single = one_copy(marked());
+    println!(rt; "new stores")?;
+    tell(rt, "create on two copies", None, Call::Create, &pair)?;
+    tell(rt, "create on one copy", None, Call::Create, &single)?;
+    println!(rt; "loaded stores")?;
+    loading(rt)?;
+    println!(rt; "marks on two copies")?;
+    marking(rt, &pair)?;
+    whole_maps(rt, &pair)?;
+    println!(rt; "marks on one copy")?;
+    marking(rt, &single)?;
+    whole_maps(rt, &single)
+}
+
+fn loading(rt: &HostRuntime) -> io::Result<()> {
+    for (title, start) in [
+        ("load of two copies alike", two_copies(marked(), marked())),
+        ("load of two that differ", two_copies(marked(), other())),
+        (
+            "load of one with a header and one without",
+            two_copies(marked(), without_header(other())),
+        ),
+        (
+            "load of one without a header and one with",
+            two_copies(without_header(other()), marked()),
+        ),
+        ("load of one copy", one_copy(marked())),
+        (
+            "load of one copy with bits behind the last region",
+            one_copy(long()),
+        ),
+        (
+            "load of two without a header",
+            two_copies(without_header(marked()), without_header(other())),
+        ),
+    ] {
+        tell(rt, title, None, Call::Load, &start)?;
+    }
+    unreadable(rt)
+}
+
+/// The last read of copy 0 fails, so that copy 1 is read in its place.
+fn unreadable(rt: &HostRuntime) -> io::Result<()> {
+    let Some(shape) = shape() else {
+        return Ok(());
     };
-    one.maps[3] = 5;
-    one.maps[5] = 2;
-    one.maps[31] = 9;
-    let mut other = one;
-    other.maps[5] = 3;
-    other.maps[30] = 4;
-    let mut bare = other;
-    bare.headed = false;
-    let mut more = one;
-    more.maps[0] = 0xf1;
-    let pair = Start {
-        first: one,
-        second: Some(one),
+    let start = two_copies(marked(), other());
+    let first = Fault {
+        at: 32,
+        kind: Kind::Fails,
+        is_written: false,
     };
-    let alone = Start {
-        first: one,
-        second: None,
-    };
-    tell(rt, "create on two copies", Call::Create, &pair)?;
-    tell(rt, "create on one copy", Call::Create, &alone)?;
-    tell(rt, "load of two copies alike", Call::Load, &pair)?;
-    tell(
+    show(
         rt,
-        "load of two that differ",
-        Call::Load,
-        &Start {
-            first: one,
-            second: Some(other),
-        },
-    )?;
-    tell(
-        rt,
-        "load of one with a header and one without",
-        Call::Load,
-        &Start {
-            first: one,
-            second: Some(bare),
-        },
-    )?;
-    tell(
-        rt,
-        "load of one without a header and one with",
-        Call::Load,
-        &Start {
-            first: bare,
-            second: Some(one),
-        },
-    )?;
-    tell(
-        rt,
-        "load of one copy with bits behind the last region",
-        Call::Load,
-        &Start {
-            first: more,
-            second: None,
-        },
-    )?;
-    tell(rt, "mark on two copies", Call::Mark, &pair)?;
-    tell(rt, "unmark on two copies", Call::Unmark, &pair)?;
-    tell(rt, "mark and firm on two copies", Call::Firm, &pair)?;
-    tell(rt, "mark on one copy", Call::Mark, &alone)?;
-    whole_maps(rt, &pair, &alone)
+        "load of two that differ, behind a read of the first that fails",
+        alone(rt.alloc(), &shape, &start, Call::Load, Some(first)),
+    )
+}
+
+fn marking(rt: &HostRuntime, start: &Copies) -> io::Result<()> {
+    for (title, before, call) in [
+        ("mark", None, Call::Mark),
+        ("unmark", None, Call::Unmark),
+        (
+            "firm after a mark that failed",
+            Some(Call::Mark),
+            Call::Firm,
+        ),
+        (
+            "firm after an unmark that failed",
+            Some(Call::Unmark),
+            Call::Firm,
+        ),
+        (
+            "mark of another region after a mark that failed",
+            Some(Call::Mark),
+            Call::MarkOther,
+        ),
+        (
+            "unmark after a mark of another region that failed",
+            Some(Call::MarkOther),
+            Call::Unmark,
+        ),
+    ] {
+        tell(rt, title, before, call, start)?;
+    }
+    Ok(())
 }
 
 /// Map 5 marks region 1 before.
-fn whole_maps(rt: &HostRuntime, pair: &Start, alone: &Start) -> io::Result<()> {
-    tell(rt, "clear on two copies", Call::Clear, pair)?;
-    tell(rt, "mark and clear on two copies", Call::MarkAndClear, pair)?;
-    tell(rt, "clear on one copy", Call::Clear, alone)?;
-    tell(
-        rt,
-        "set of regions 1 and 3, and of bits behind the last, on two copies",
-        Call::Set(0xfa),
-        pair,
-    )?;
-    tell(
-        rt,
-        "set of what is there, and of a bit behind the last, on two copies",
-        Call::Set(0x12),
-        pair,
-    )
+fn whole_maps(rt: &HostRuntime, start: &Copies) -> io::Result<()> {
+    for (title, before, call) in [
+        ("clear", None, Call::Clear),
+        (
+            "clear after a mark that failed",
+            Some(Call::Mark),
+            Call::Clear,
+        ),
+        (
+            "set of regions 1 and 3, and of bits behind the last",
+            None,
+            Call::Set(0xfa),
+        ),
+        (
+            "the same after a mark that failed",
+            Some(Call::Mark),
+            Call::Set(0xfa),
+        ),
+        (
+            "firm after a set that failed",
+            Some(Call::Set(0xfa)),
+            Call::Firm,
+        ),
+        (
+            "set of what is there, and of a bit behind the last",
+            None,
+            Call::Set(0x12),
+        ),
+    ] {
+        tell(rt, title, before, call, start)?;
+    }
+    Ok(())
 }

@@ -1,21 +1,23 @@
 //! Rows of a map that is set over two pages: the write of one page on one copy fails, and each row tells the answer, the regions
 //! that the store lists then, what each copy holds of the pages, and how many sectors were written since the store was created.
 
-use crate::copies::{Fault, Held, are_copies, copy, page_of};
+use crate::clock::Clock;
+use crate::copies::{Copies, Held, are_copies, build, page_of};
+use crate::fault::{Fault, Kind};
+use crate::marks::NO_MARKS;
+use crate::piece::RowPiece;
 use crate::rows::answer;
 use std::alloc::{AllocError, Global};
 use std::io;
+use std::sync::Arc;
 use vx_block::Geometry;
 use vx_mapfmt::DcoShape;
 use vx_maps::MapStore;
-use vx_piece::{MemPiece, Piece};
+use vx_piece::Piece;
 use vx_whole_maps::WholeMaps;
 
 /// The map that is set.
 const MAP: u32 = 5;
-
-/// What a creation writes on two copies: of each map two pages, and the header twice.
-const CREATED: u64 = 132;
 
 /// A volume of 5,000 regions: each map has two pages, and its plex is as large as that of a small volume.
 fn shape() -> Option<DcoShape> {
@@ -23,20 +25,15 @@ fn shape() -> Option<DcoShape> {
     DcoShape::of(&geometry, 32)
 }
 
-/// The writes of a set in their order: page 0 on each copy, and then page 1. Each page is written once before.
-fn fault_at(step: u32) -> Option<Fault> {
-    let (copy, page) = match step {
-        0 => (0, 0),
-        1 => (1, 0),
-        2 => (0, 1),
-        3 => (1, 1),
-        _ => return None,
-    };
+/// A set has four writes: page 0 on each copy, and then page 1.
+fn fault_at(step: u64) -> Option<Fault> {
+    if step >= 4 {
+        return None;
+    }
     Some(Fault {
-        copy,
-        sector: page_of(5) + page,
-        write: true,
-        passes: 1,
+        at: step,
+        kind: Kind::Fails,
+        is_written: false,
     })
 }
 
@@ -57,9 +54,11 @@ pub fn rows(rt: &HostRuntime) -> io::Result<()> {
 
 fn row(rt: &HostRuntime, shape: &DcoShape, fault: Option<Fault>, cleared: bool) -> io::Result<()> {
     let alloc = rt.alloc();
-    let Some(mut store) = create(alloc, shape, fault)? else {
+    let clock = Arc::new(alloc, Clock::new(None, fault))?;
+    let Some(mut store) = create(alloc, shape, &clock)? else {
         return Ok(());
     };
+    clock.set();
     answer(rt, "set", store.set_from(MAP, &marks(alloc)?))?;
     if cleared {
         answer(rt, "clear", store.clear(MAP))?;
@@ -71,22 +70,25 @@ fn row(rt: &HostRuntime, shape: &DcoShape, fault: Option<Fault>, cleared: bool) 
     let Ok(copies) = store.into_copies(alloc) else {
         return Ok(());
     };
-    show(rt, &copies)
+    show(rt, &copies)?;
+    println!(rt; "  {} writes", clock.writes())
 }
 
 /// A store of two copies of which nothing is marked.
 fn create(
     alloc: Global,
     shape: &DcoShape,
-    fault: Option<Fault>,
-) -> Result<Option<MapStore<MemPiece>>, AllocError> {
+    clock: &Arc<Clock, Global>,
+) -> Result<Option<MapStore<RowPiece>>, AllocError> {
     let none = Held {
         headed: false,
-        maps: [0; 32],
+        maps: NO_MARKS,
     };
-    let mut copies = Vec::new(alloc);
-    copies.push(copy(alloc, shape, 0, &none, fault)?)?;
-    copies.push(copy(alloc, shape, 1, &none, fault)?)?;
+    let start = Copies {
+        first: none,
+        second: Some(none),
+    };
+    let copies = build(alloc, shape, &start, clock)?;
     if shape.map_bytes != 8192 || !are_copies(&copies, 16) {
         return Ok(None);
     }
@@ -116,8 +118,7 @@ fn show_list(rt: &HostRuntime, listed: &Vec<u8>) -> io::Result<()> {
     println!(rt; "")
 }
 
-fn show(rt: &HostRuntime, copies: &Vec<Vec<MemPiece>>) -> io::Result<()> {
-    let mut writes: u64 = 0;
+fn show(rt: &HostRuntime, copies: &Vec<Vec<RowPiece>>) -> io::Result<()> {
     let mut number: u64 = 0;
     for pieces in copies {
         let mut at: u64 = 0;
@@ -125,17 +126,15 @@ fn show(rt: &HostRuntime, copies: &Vec<Vec<MemPiece>>) -> io::Result<()> {
         for piece in pieces {
             show_piece(rt, piece, at)?;
             at = at.saturating_add(piece.sectors());
-            writes = writes.saturating_add(piece.counts().writes);
         }
         println!(rt; "")?;
         number = number.saturating_add(1);
     }
-    let more = writes.saturating_sub(CREATED);
-    println!(rt; "  {more} writes")
+    Ok(())
 }
 
 /// The first bytes of the pages of the map that lie in a piece, which begins at this sector of its copy.
-fn show_piece(rt: &HostRuntime, piece: &MemPiece, at: u64) -> io::Result<()> {
+fn show_piece(rt: &HostRuntime, piece: &RowPiece, at: u64) -> io::Result<()> {
     for page in 0..2u64 {
         let sector = page_of(5) + page;
         if sector < at {

@@ -1,4 +1,4 @@
-use Rattle.std.proofs.Common.{◌∙◌, ap, ℕ, Bool, ◌<◌, arith, lit<}
+use Rattle.std.proofs.Common.{◌∙◌, ap, ℕ, Bool, arith, lit<}
 use Rattle.vx_map_rows.proofs.Small.{map_below}
 use Rattle.vx_map_rows.proofs.rows.mark.Goals as goal
 

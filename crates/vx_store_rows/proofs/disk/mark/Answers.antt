@@ -1,0 +1,11 @@
+use Rattle.std.proofs.Common.{rules, ◌≡◌, ◌≢◌, ◌<◌, ◌^◌, true}
+use Rattle.std.specs.Prelude.{nat_lt}
+use Rattle.vx_store_rows.proofs.Masks.{map_below}
+use Rattle.vx_store_rows.proofs.disk.mark.Goals as goal
+
+pub mark-requires : goal.mark-requires
+mark-requires g c =
+    let known : nat_lt 1 c.args.store.now.base.shape.regions ≡ true = search rules in
+    let small : c.args.bits < 2 ^ 32 = search rules in
+    let some : c.args.bits ≢ 0 = search rules in
+    record { known = known; maps = λ k there. map_below c.args.bits 32 k small there; some = some }

@@ -145,6 +145,13 @@ pub record IsOutside (start : ℕ) (old new : VolumeSeen) (before after : Receip
   pub same : new ≡ old
   pub receipt : after ≡ before
 
+-- where the range does not lie in the volume, it is as it was, in all that it is made of
+abbrev pub StaysOutside : {V T : Type 0} → Result T IoFault → V → V → Type 0
+StaysOutside (Ok value) old new = Unit {0}
+StaysOutside (Err Range) old new = new ≡ old
+StaysOutside (Err (Fault place)) old new = Unit {0}
+StaysOutside (Err PowerLost) old new = Unit {0}
+
 -- a read ends
 abbrev pub ReadEnds : (start : ℕ) → VolumeSeen → VolumeSeen → Result (Unit {0}) IoFault → Receipt → Receipt → Type 0
 ReadEnds start old new (Err Range) before after = IsOutside start old new before after

@@ -45,6 +45,9 @@ returns-in_err-read_part-clause-made g c =
 pub returns-in_err-read_part-clause-follows : goal.returns-in_err-read_part-clause-follows
 returns-in_err-read_part-clause-follows g c = log_kept_on _ _ _ c.loop-index.invariant.follows c.read_part.ensures.follows
 
+pub returns-in_err-read_part-clause-shape : goal.returns-in_err-read_part-clause-shape
+returns-in_err-read_part-clause-shape g c = c.read_part.ensures.shape ∙ c.loop-index.invariant.shape
+
 pub loop-index-preserved : goal.loop-index-preserved
 loop-index-preserved g c =
     let place = rw c.unwrap-span.ensures at c.part.ensures.place in

@@ -41,6 +41,9 @@ returns-in_err-write_span-clause-made g c =
 pub returns-in_err-write_span-clause-follows : goal.returns-in_err-write_span-clause-follows
 returns-in_err-write_span-clause-follows g c = log_kept_on _ _ _ c.loop-index.invariant.follows c.write_span.ensures.follows
 
+pub returns-in_err-write_span-clause-shape : goal.returns-in_err-write_span-clause-shape
+returns-in_err-write_span-clause-shape g c = c.write_span.ensures.shape ∙ c.loop-index.invariant.shape
+
 pub loop-index-preserved : goal.loop-index-preserved
 loop-index-preserved g c =
     let place = rw c.unwrap-span.ensures at c.part.ensures.place in

@@ -148,8 +148,7 @@ impl<P: Piece> Volume<P> {
         ensures end { IsPlainEnd result }
         ensures follows { LogGoes P.seen (log_of self.old) (log_of self.new) }
     {
-        let from = BLOCK * (span.start - start) as usize;
-        let to = from + BLOCK * span.count as usize;
+        let (from, to) = stretch(start, span);
         self.read_span(span, &mut blocks[from..to], pick, parts)
     }
 
@@ -220,8 +219,7 @@ impl<P: Piece> Volume<P> {
         let total = geometry.part_count(start, count);
         for index in 0..total {
             let span = geometry.part(start, count, index).unwrap();
-            let from = BLOCK * (span.start - start) as usize;
-            let to = from + BLOCK * span.count as usize;
+            let (from, to) = stretch(start, span);
             self.write_span(span, &bytes[from..to], parts)?;
         }
         Ok(())
@@ -255,6 +253,17 @@ impl<P: Piece> Volume<P> {
         tell(phase, part_of(cell, region), parts);
         outcome
     }
+}
+
+/// From where to where the bytes of a span lie among those of a range that begins at `start`.
+fn stretch(start: u64, span: Span) -> (usize, usize)
+    requires from { start ≤ span.start }
+    requires fits { 512 * (span.start + span.count - start) < 2 ^ 64 }
+    ensures from { result.0 ≡ 512 * (span.start - start) }
+    ensures to { result.1 ≡ 512 * (span.start - start) + 512 * span.count }
+{
+    let from = BLOCK * (span.start - start) as usize;
+    (from, from + BLOCK * span.count as usize)
 }
 
 /// Reads blocks of a region. The buffer has room for the region's bytes.

@@ -290,14 +290,7 @@ fn read_cell<P: Piece, F: Fn(u64, u64) -> u32>(
     ensures buffer { vec_len scratch.new ≡ vec_len scratch.old }
     ensures follows { LogGoes P.seen log.old log.new }
 {
-    without_number(cell.read(
-        span.start,
-        into,
-        &mut scratch[..bytes],
-        log,
-        pick,
-        policy,
-    ))
+    without_number(cell.read(span.start, into, &mut scratch[..bytes], log, pick, policy))
 }
 
 /// Writes blocks of a region. The buffer has room for the region's bytes.

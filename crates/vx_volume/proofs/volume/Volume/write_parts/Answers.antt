@@ -36,7 +36,7 @@ returns-in_err-write_span-clause-made g c =
     let place = rw c.unwrap-span.ensures at c.part.ensures.place in
     let told = err_from_is_err_and c.from_residual.result c.from_residual.ensures.1 in
     made_stopped (CallsPart IsWritten c.args.start c.args.count c.args.bytes.now) (parts_in c.args.self.now.shape.geometry.region c.args.start c.args.count) c.loop-index.index _ _ _ c.in_err-write_span.field-0.0 c.from_residual.result (told.1 ∙ ap Err told.2) (omega (arith, parts_all c.args.self.now.shape.geometry c.args.start c.args.count c.part_count-total.result c.requires.some c.part_count-total.ensures.each c.part_count-total.ensures.end, c.loop-index-test.true)) c.loop-index.invariant.done
-        (part_called _ c.args.start c.args.count c.loop-index.index c.unwrap-span.result _ (ap (λ (s : VolumeShape). s.geometry.region) c.loop-index.invariant.shape) place IsWritten _ _ _ (rw c.in_err-write_span.was at c.write_span.ensures.writes) c.args.bytes.now _ _ (sym c.part.ensures.value ∙ c.unwrap-span.ensures) (stretch_is c.args.bytes.now (512 * (c.unwrap-span.result.start - c.args.start)) (512 * c.unwrap-span.result.count) c.stretch-from.result.0 c.stretch-from.result.1 c.stretch-from.ensures.from c.stretch-from.ensures.to) c.write_span.ensures.told)
+    (part_called _ c.args.start c.args.count c.loop-index.index c.unwrap-span.result _ (ap (λ (s : VolumeShape). s.geometry.region) c.loop-index.invariant.shape) place IsWritten _ _ _ (rw c.in_err-write_span.was at c.write_span.ensures.writes) c.args.bytes.now _ _ (sym c.part.ensures.value ∙ c.unwrap-span.ensures) (stretch_is c.args.bytes.now (512 * (c.unwrap-span.result.start - c.args.start)) (512 * c.unwrap-span.result.count) c.stretch-from.result.0 c.stretch-from.result.1 c.stretch-from.ensures.from c.stretch-from.ensures.to) c.write_span.ensures.told)
 
 pub returns-in_err-write_span-clause-follows : goal.returns-in_err-write_span-clause-follows
 returns-in_err-write_span-clause-follows g c = log_kept_on _ _ _ c.loop-index.invariant.follows c.write_span.ensures.follows

@@ -8,7 +8,6 @@ use Rattle.vx_core.specs.declared.stage.Job.TheVariants.{Read as ReadJob}
 use Rattle.vx_core.specs.Schedule.{IsIdle}
 use Rattle.vx_cell.specs.declared.fault.CellFault.{CellFault}
 use Rattle.vx_cell.specs.declared.fault.CellFault.TheVariants as cell
-use Rattle.vx_cell.specs.Acts.{Bytes}
 use Rattle.vx_cell.specs.Calls.{CallEnds, WriteEnds}
 use Rattle.vx_cell.specs.Region.{RegionSeen, IsTold, IsWhole}
 use Rattle.vx_cell.specs.Running.{GivesCurrent}

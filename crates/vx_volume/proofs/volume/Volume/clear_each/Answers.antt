@@ -1,5 +1,5 @@
 -- The mark of one region more is taken away.
-use Rattle.std.proofs.Common.{◌∙◌, rules}
+use Rattle.std.proofs.Common.{◌∙◌}
 use Rattle.vx_volume.specs.Log.{log_kept_on}
 use Rattle.vx_volume.specs.Passes.{Clears}
 use Rattle.vx_volume.proofs.Loops.{done_more}

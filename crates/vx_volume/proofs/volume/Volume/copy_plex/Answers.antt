@@ -1,6 +1,5 @@
 -- One region more is copied where it is to be, and counted.
-use Rattle.std.proofs.Common.{◌≡◌, ◌∙◌, ◌<◌, length, Err, ℕ, sym, ap, subst, arith}
-use Rattle.vx_volume.specs.Calls.{io_stop, IsNoRange}
+use Rattle.std.proofs.Common.{◌∙◌, ◌<◌, length, Err, ℕ, arith}
 use Rattle.vx_volume.specs.Log.{log_kept_on}
 use Rattle.vx_volume.specs.Loop.{IsPlainEnd}
 use Rattle.vx_volume.specs.Passes.{CopiesTo}

@@ -1,5 +1,5 @@
 -- A part of a range is read to its place.
-use Rattle.std.proofs.Common.{◌≡◌, ◌-◌, ◌*◌, ◌/◌, ◌+◌, ◌≤◌, List, ℕ, length, sym, subst, rules, arith}
+use Rattle.std.proofs.Common.{◌≡◌, ◌-◌, ◌*◌, ◌/◌, ◌+◌, ◌≤◌, List, ℕ, length, sym, subst, rules}
 use Rattle.vx_volume.specs.Calls.{ChangesRegion, IsRead}
 use Rattle.vx_volume.specs.Loop.{stop_of}
 use Rattle.vx_volume.specs.Volume.{volume_seen}

@@ -1,5 +1,5 @@
 -- One region more is settled.
-use Rattle.std.proofs.Common.{◌∙◌, rules}
+use Rattle.std.proofs.Common.{◌∙◌}
 use Rattle.vx_volume.specs.Log.{log_kept_on}
 use Rattle.vx_volume.specs.Passes.{Settles}
 use Rattle.vx_volume.proofs.Loops.{done_more}

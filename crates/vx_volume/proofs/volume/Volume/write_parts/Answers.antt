@@ -1,7 +1,6 @@
 -- One part more is written.
-use Rattle.std.proofs.Common.{◌≡◌, ◌+◌, ◌-◌, ◌*◌, ◌/◌, ◌<◌, ◌≤◌, length, Err, refl, sym, ap, subst, ◌∙◌, rules, arith}
+use Rattle.std.proofs.Common.{◌≡◌, ◌-◌, ◌*◌, Err, sym, ap, ◌∙◌, arith}
 use Rattle.std.proofs.lemmas.Result.{err_from_is_err_and}
-use Rattle.vx_block.specs.Regions.{part_at}
 use Rattle.vx_volume.specs.declared.volume.VolumeShape.{VolumeShape}
 use Rattle.vx_volume.specs.Calls.{CallsPart, IsWritten, parts_in}
 use Rattle.vx_volume.specs.Log.{log_kept_on}

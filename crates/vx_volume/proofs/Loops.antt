@@ -1,5 +1,5 @@
 -- Calls that are made one after the other.
-use Rattle.std.proofs.Common.{◌≡◌, ℕ, ◌+◌, ◌<◌, ◌≤◌, Bool, true, false, suc, Option, Some, None, Result, Ok, Err, refl, sym, subst, ap, add-one, ◌∙◌, arith}
+use Rattle.std.proofs.Common.{◌≡◌, ℕ, ◌+◌, ◌<◌, ◌≤◌, Bool, true, false, Option, Some, None, Result, Ok, Err, refl, sym, subst, ap, add-one, ◌∙◌, arith}
 use Rattle.std.specs.Prelude.{if◌then◌else◌}
 use mir.Val.{bool_byte}
 use Rattle.vx_cell.specs.declared.fault.CellFault.{CellFault}
@@ -47,9 +47,13 @@ fault_told (Only map) plain = absurd plain
 pub copies_stopped : (map total region copied : ℕ) (old mid new : VolumeSeen) (fault : CellFault) (result : Result Bool CellFault) → region < total → AreDone (CopiesTo map) region (record { volume = old; copied = 0 }) (record { volume = mid; copied = copied }) → result ≡ Err fault → IsPlainEnd {T = ℕ} (Err fault) → ChangesRegion region (IsCopiedAt map result) mid new
     → AreMade (CopiesTo map) total (io_stop {T = ℕ} (Err (io_fault_of fault))) (record { volume = old; copied = 0 }) (record { volume = new; copied = copied })
 copies_stopped map total region copied old mid new fault result inside done is plain changes =
-    rw (fault_told fault plain)
-    (region, record { volume = mid; copied = copied }, inside, done,
-        record { result = result; stopped = ap stop_of (sym is); ends = changes; copied = ap (λ (r : Result Bool CellFault). counted r copied) (sym is) })
+    rw (fault_told fault plain) (
+      region,
+      record { volume = mid; copied = copied },
+      inside,
+      done,
+      record { result = result; stopped = ap stop_of (sym is); ends = changes; copied = ap (λ (r : Result Bool CellFault). counted r copied) (sym is) },
+    )
 
 count_more : (done : Bool) (copied : ℕ) → copied + bool_byte done ≡ (if done then copied + 1 else copied)
 count_more true copied = refl

@@ -1,6 +1,6 @@
 -- The parts of a range, and the regions in which they lie.
-use Rattle.std.proofs.Common.{◌≡◌, ℕ, ◌+◌, ◌-◌, ◌*◌, ◌/◌, ◌%◌, ◌≤◌, ◌<◌, min, max, Option, Some, None, refl, sym, ap, subst, ◌∙◌, inl, inr, arith}
-use Rattle.std.specs.Prelude.{IsSome, IsTrue, is_some}
+use Rattle.std.proofs.Common.{◌≡◌, ℕ, ◌+◌, ◌-◌, ◌*◌, ◌/◌, ◌≤◌, ◌<◌, min, Option, None, ap, ◌∙◌, inl, inr, arith}
+use Rattle.std.specs.Prelude.{IsSome, IsTrue}
 use Rattle.std.proofs.Math.Nat.{div-mul-le_self, le-div_iff_mul-le, lt-div-mul-add, mul-le-mul_left, mul-le-mul_right, add-mul}
 use Rattle.std.proofs.lemmas.Bool.{cases_lt}
 use Rattle.std.proofs.lemmas.Bool.Decides.{nat_tests}
@@ -10,7 +10,6 @@ use Rattle.vx_block.specs.Geometry.{is_geometry}
 use Rattle.vx_block.specs.Parts.{IsPartAt, reached}
 use Rattle.vx_block.specs.Regions.{part_at}
 use Rattle.vx_block.proofs.PartLemmas.{part_past, part_there}
-use Rattle.vx_cell.specs.Acts.{IsRange}
 use Rattle.vx_cell.specs.Calls.{IsInSpan}
 use Rattle.vx_volume.specs.Calls.{IsInRegion, parts_in}
 use Rattle.vx_volume.specs.Volume.{VolumeSeen}

@@ -137,27 +137,27 @@ module _ {T : Type 0} (job : Job) (io io' : Bytes) (old new : RegionSeen) (resul
   pub call_plain : IsPlainEnd result
   call_plain =
       is_dead_or old.stage.phase
-          (λ dead. lost_plain old new result (ends.dead dead))
-          (λ alive. by_number job old (λ mid. HasEnded job io mid new io' result → IsPlainEnd result) (λ n. ended_plain job io io' (record old { number = n }) new result ready.own) (ends.ended alive))
+      (λ dead. lost_plain old new result (ends.dead dead))
+      (λ alive. by_number job old (λ mid. HasEnded job io mid new io' result → IsPlainEnd result) (λ n. ended_plain job io io' (record old { number = n }) new result ready.own) (ends.ended alive))
 
   pub call_left : (most : ℕ) → old.number ≤ most → (numbered job old).number ≤ most → IsLeft most old.region old.start old.size old.log new
   call_left most few fits =
       is_dead_or old.stage.phase
-          (λ dead. lost_left old new result ready most few (ends.dead dead))
-          (λ alive. by_number job old (λ mid. HasEnded job io mid new io' result → mid.number ≤ most → IsLeft most old.region old.start old.size old.log new) (λ n ended. ended_left job io io' (record old { number = n }) new result ready.own ended most) (ends.ended alive) fits)
+      (λ dead. lost_left old new result ready most few (ends.dead dead))
+      (λ alive. by_number job old (λ mid. HasEnded job io mid new io' result → mid.number ≤ most → IsLeft most old.region old.start old.size old.log new) (λ n ended. ended_left job io io' (record old { number = n }) new result ready.own ended most) (ends.ended alive) fits)
 
 module _ (io io' : Bytes) (old new : RegionSeen) (result : Result ℕ CellFault) (ready : IsReady old) (ends : WriteEnds io old new io' result) where
   pub write_plain : IsPlainEnd result
   write_plain =
       is_dead_or old.stage.phase
-          (λ dead. lost_plain old new result (ends.dead dead))
-          (λ alive. written_plain io io' (numbered WriteJob old) new result ready.own (ends.ended alive))
+      (λ dead. lost_plain old new result (ends.dead dead))
+      (λ alive. written_plain io io' (numbered WriteJob old) new result ready.own (ends.ended alive))
 
   pub write_left : (most : ℕ) → old.number + 1 ≤ most → IsLeft most old.region old.start old.size old.log new
   write_left most fits =
       is_dead_or old.stage.phase
-          (λ dead. lost_left old new result ready most (omega arith) (ends.dead dead))
-          (λ alive. written_left io io' (numbered WriteJob old) new result ready.own (ends.ended alive) most fits)
+      (λ dead. lost_left old new result ready most (omega arith) (ends.dead dead))
+      (λ alive. written_left io io' (numbered WriteJob old) new result ready.own (ends.ended alive) most fits)
 
 -- ---- the calls on a region of a volume
 

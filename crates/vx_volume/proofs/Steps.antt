@@ -1,5 +1,5 @@
 -- A volume of which one region has had a call is one still.
-use Rattle.std.proofs.Common.{◌≡◌, ◌≢◌, ℕ, ◌+◌, ◌-◌, ◌*◌, ◌^◌, ◌≤◌, ◌<◌, zero, suc, [], ◌∷◌, true, false, min, List, length, map, take, refl, sym, ap, subst, ◌∙◌, inl, inr, arith}
+use Rattle.std.proofs.Common.{◌≡◌, ◌≢◌, ℕ, ◌+◌, ◌-◌, ◌*◌, ◌^◌, ◌≤◌, ◌<◌, zero, suc, [], ◌∷◌, min, List, length, take, refl, sym, ap, subst, ◌∙◌, inl, inr, arith}
 use Rattle.std.specs.Prelude.{slice_index_or, slice_set}
 use Rattle.std.proofs.lemmas.Bool.{cases_eq, cases_lt}
 use Rattle.std.proofs.lemmas.List.{length-map, length-take-le}
@@ -190,15 +190,15 @@ module _ {P : Type 0} {blocks region scratch most : ℕ} (seen : P → Seen) (ce
     pub cell_volume : IsVolume (volume_of seen blocks region scratch' most (slice_set cells r cell') log')
     cell_volume =
         subst (λ n. IsVolume (volume_of seen blocks region n most (slice_set cells r cell') log')) (sym room)
-            (step_volume (volume_of seen blocks region scratch most cells log) r volume cell_inside (cells_seen seen (slice_set cells r cell')) log'
-            (set_size no_cell (cell_seen seen) cells r cell') (λ i apart. at_other no_cell (cell_seen seen) cells r i cell' apart) (cell_seen seen cell') (at_set no_cell (cell_seen seen) cells r cell' inside) left_at)
+        (step_volume (volume_of seen blocks region scratch most cells log) r volume cell_inside (cells_seen seen (slice_set cells r cell')) log'
+        (set_size no_cell (cell_seen seen) cells r cell') (λ i apart. at_other no_cell (cell_seen seen) cells r i cell' apart) (cell_seen seen cell') (at_set no_cell (cell_seen seen) cells r cell' inside) left_at)
 
     changes_here : (Goes : RegionSeen → RegionSeen → Type 0) → Goes (region_of seen cell log) (region_of seen cell' log') → ChangesRegion r Goes (volume_of seen blocks region scratch most cells log) (volume_of seen blocks region scratch' most (slice_set cells r cell') log')
     changes_here Goes goes =
         subst (λ n. ChangesRegion r Goes (volume_of seen blocks region scratch most cells log) (volume_of seen blocks region n most (slice_set cells r cell') log')) (sym room)
-            (step_changes (volume_of seen blocks region scratch most cells log) r volume cell_inside (cells_seen seen (slice_set cells r cell')) log'
-            (set_size no_cell (cell_seen seen) cells r cell') (λ i apart. at_other no_cell (cell_seen seen) cells r i cell' apart) (cell_seen seen cell') (at_set no_cell (cell_seen seen) cells r cell' inside) left_at
-            Goes (subst (λ (c : CellSeen). Goes (with_log c log) (region_of seen cell' log')) (sym cell_is) goes))
+        (step_changes (volume_of seen blocks region scratch most cells log) r volume cell_inside (cells_seen seen (slice_set cells r cell')) log'
+        (set_size no_cell (cell_seen seen) cells r cell') (λ i apart. at_other no_cell (cell_seen seen) cells r i cell' apart) (cell_seen seen cell') (at_set no_cell (cell_seen seen) cells r cell' inside) left_at
+        Goes (subst (λ (c : CellSeen). Goes (with_log c log) (region_of seen cell' log')) (sym cell_is) goes))
 
     pub cell_changes : (place : ℕ) → r ≡ place → (Goes : RegionSeen → RegionSeen → Type 0) → Goes (region_of seen cell log) (region_of seen cell' log') → ChangesRegion place Goes (volume_of seen blocks region scratch most cells log) (volume_of seen blocks region scratch' most (slice_set cells r cell') log')
     cell_changes place is Goes goes =

@@ -8,7 +8,6 @@ use Rattle.vx_core.specs.declared.stage.Job.TheVariants.{Read as ReadJob}
 use Rattle.vx_core.specs.Schedule.{IsIdle}
 use Rattle.vx_cell.specs.declared.fault.CellFault.{CellFault}
 use Rattle.vx_cell.specs.declared.fault.CellFault.TheVariants as cell
-use Rattle.vx_cell.specs.Acts.{Bytes}
 use Rattle.vx_cell.specs.Calls.{CallEnds, WriteEnds}
 use Rattle.vx_cell.specs.Region.{RegionSeen, IsTold, IsWhole}
 use Rattle.vx_cell.specs.Running.{GivesCurrent}
@@ -144,6 +143,13 @@ pub record IsOutside (start : ℕ) (old new : VolumeSeen) (before after : Receip
   pub outside : old.length < start + before.count
   pub same : new ≡ old
   pub receipt : after ≡ before
+
+-- where the range does not lie in the volume, it is as it was, in all that it is made of
+abbrev pub StaysOutside : {V T : Type 0} → Result T IoFault → V → V → Type 0
+StaysOutside (Ok value) old new = Unit {0}
+StaysOutside (Err Range) old new = new ≡ old
+StaysOutside (Err (Fault place)) old new = Unit {0}
+StaysOutside (Err PowerLost) old new = Unit {0}
 
 -- a read ends
 abbrev pub ReadEnds : (start : ℕ) → VolumeSeen → VolumeSeen → Result (Unit {0}) IoFault → Receipt → Receipt → Type 0

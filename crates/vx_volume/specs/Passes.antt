@@ -1,6 +1,5 @@
 -- Passes over all regions of a volume.
-use Rattle.std.specs.Prelude.{◌≡◌, ℕ, ◌+◌, Bool, true, false, if◌then◌else◌, List, [], length, Option, None, Result, Ok, Err}
-use Rattle.vx_core.specs.declared.stage.Stage.{Stage}
+use Rattle.std.specs.Prelude.{◌≡◌, ℕ, ◌+◌, Bool, if◌then◌else◌, List, [], length, Option, None, Result, Ok, Err}
 use Rattle.vx_core.specs.declared.stage.Job.{Job}
 use Rattle.vx_core.specs.declared.stage.Job.TheVariants.{Copy as CopyJob, Settle, Clear}
 use Rattle.vx_cell.specs.declared.fault.CellFault.{CellFault}

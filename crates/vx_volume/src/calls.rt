@@ -4,11 +4,11 @@ ghost use Rattle.std.specs.Prelude.{◌≡◌, ◌+◌, ◌-◌, ◌*◌, ◌/�
 ghost use Rattle.vx_picker.specs.Picks.{PicksMember};
 ghost use Rattle.vx_cell.specs.Calls.{IsInSpan, region_of};
 ghost use Rattle.vx_cell.specs.Changes.{cell_seen};
-ghost use Rattle.vx_volume.specs.Calls.{AreFresh, CallsPart, ChangesRegion, IsInRegion, IsRead, IsReady, IsWritten, ReadEnds, TellsPart, WriteEndsAll, bytes_of, io_fault_of, io_result_of, parts_in};
+ghost use Rattle.vx_volume.specs.Calls.{AreFresh, CallsPart, ChangesRegion, IsInRegion, IsRead, IsReady, IsWritten, ReadEnds, StaysOutside, TellsPart, WriteEndsAll, bytes_of, io_fault_of, io_result_of, parts_in};
 ghost use Rattle.vx_volume.specs.Log.{LogGoes, log_seen};
 ghost use Rattle.vx_volume.specs.Loop.{AreMade, IsPlainEnd, stop_of};
 ghost use Rattle.vx_volume.specs.Receipts.{IsReserved, kind_of, with_part};
-ghost use Rattle.vx_volume.specs.Volume.{IsVolume, log_of, volume_seen};
+ghost use Rattle.vx_volume.specs.Volume.{IsVolume, log_of, shape_of, volume_seen};
 
 use crate::fault::IoFault;
 use crate::log::VolumeLog;
@@ -35,10 +35,11 @@ impl<P: Piece> Volume<P> {
         requires whole { IsVolume (volume_seen P.seen self.old) }
         requires some { 0 < receipt.old.count }
         requires reserved { IsReserved receipt.old.count receipt.old }
-        requires fits { start < 2 ^ 63 }
         requires room { (volume_seen P.seen self.old).most + 1 < 2 ^ 64 }
         ensures ends { ReadEnds start (volume_seen P.seen self.old) (volume_seen P.seen self.new) result receipt.old receipt.new }
         ensures whole { IsVolume (volume_seen P.seen self.new) }
+        ensures shape { shape_of self.new ≡ shape_of self.old }
+        ensures outside { StaysOutside result self.old self.new }
         ensures follows { LogGoes P.seen (log_of self.old) (log_of self.new) }
     {
         if !self.covers(start, receipt.count) {
@@ -63,10 +64,11 @@ impl<P: Piece> Volume<P> {
         requires some { 0 < receipt.old.count }
         requires reserved { IsReserved receipt.old.count receipt.old }
         requires bytes { length from.now ≡ 512 * receipt.old.count }
-        requires fits { start < 2 ^ 63 }
         requires room { (volume_seen P.seen self.old).most + 1 < 2 ^ 64 }
         ensures ends { WriteEndsAll start from.now (volume_seen P.seen self.old) (volume_seen P.seen self.new) result receipt.old receipt.new }
         ensures whole { IsVolume (volume_seen P.seen self.new) }
+        ensures shape { shape_of self.new ≡ shape_of self.old }
+        ensures outside { StaysOutside result self.old self.new }
         ensures follows { LogGoes P.seen (log_of self.old) (log_of self.new) }
     {
         if !self.covers(start, receipt.count) {
@@ -81,10 +83,10 @@ impl<P: Piece> Volume<P> {
     }
 
     fn covers(&self, start: u64, count: u64) -> bool
-        requires { start + count < 2 ^ 64 }
         ensures { result ≡ nat_le (start + count) self.now.shape.geometry.length }
     {
-        start + count <= self.shape.geometry.length
+        let length = self.shape.geometry.length;
+        count <= length && start <= length - count
     }
 
     /// Reads the parts of a range, in order, up to the first that is not done.
@@ -106,6 +108,7 @@ impl<P: Piece> Volume<P> {
         requires spare { count / 32 + 2 ≤ vec_capacity parts.old }
         ensures made { AreMade (CallsPart IsRead start count blocks.new.items) (parts_in self.old.shape.geometry.region start count) (stop_of result) (record { volume = volume_seen P.seen self.old; parts = [] }) (record { volume = volume_seen P.seen self.new; parts = parts.new.items }) }
         ensures whole { IsVolume (volume_seen P.seen self.new) }
+        ensures shape { shape_of self.new ≡ shape_of self.old }
         ensures bytes { vec_len blocks.new ≡ vec_len blocks.old }
         ensures end { IsPlainEnd result }
         ensures follows { LogGoes P.seen (log_of self.old) (log_of self.new) }
@@ -141,12 +144,11 @@ impl<P: Piece> Volume<P> {
         ensures before { take (512 * (span.start - start)) blocks.new.items ≡ take (512 * (span.start - start)) blocks.old.items }
         ensures bytes { vec_len blocks.new ≡ vec_len blocks.old }
         ensures room { vec_capacity parts.new ≡ vec_capacity parts.old }
-        ensures shape { self.new.shape ≡ self.old.shape }
+        ensures shape { shape_of self.new ≡ shape_of self.old }
         ensures end { IsPlainEnd result }
         ensures follows { LogGoes P.seen (log_of self.old) (log_of self.new) }
     {
-        let from = BLOCK * (span.start - start) as usize;
-        let to = from + BLOCK * span.count as usize;
+        let (from, to) = stretch(start, span);
         self.read_span(span, &mut blocks[from..to], pick, parts)
     }
 
@@ -169,7 +171,7 @@ impl<P: Piece> Volume<P> {
         ensures whole { IsVolume (volume_seen P.seen self.new) }
         ensures bytes { length into.new ≡ length into.old }
         ensures room { vec_capacity parts.new ≡ vec_capacity parts.old }
-        ensures shape { self.new.shape ≡ self.old.shape }
+        ensures shape { shape_of self.new ≡ shape_of self.old }
         ensures end { IsPlainEnd result }
         ensures follows { LogGoes P.seen (log_of self.old) (log_of self.new) }
     {
@@ -209,6 +211,7 @@ impl<P: Piece> Volume<P> {
         requires spare { count / 32 + 2 ≤ vec_capacity parts.old }
         ensures made { AreMade (CallsPart IsWritten start count bytes.now) (parts_in self.old.shape.geometry.region start count) (stop_of result) (record { volume = volume_seen P.seen self.old; parts = [] }) (record { volume = volume_seen P.seen self.new; parts = parts.new.items }) }
         ensures whole { IsVolume (volume_seen P.seen self.new) }
+        ensures shape { shape_of self.new ≡ shape_of self.old }
         ensures end { IsPlainEnd result }
         ensures follows { LogGoes P.seen (log_of self.old) (log_of self.new) }
     {
@@ -216,8 +219,7 @@ impl<P: Piece> Volume<P> {
         let total = geometry.part_count(start, count);
         for index in 0..total {
             let span = geometry.part(start, count, index).unwrap();
-            let from = BLOCK * (span.start - start) as usize;
-            let to = from + BLOCK * span.count as usize;
+            let (from, to) = stretch(start, span);
             self.write_span(span, &bytes[from..to], parts)?;
         }
         Ok(())
@@ -239,7 +241,7 @@ impl<P: Piece> Volume<P> {
         ensures told { TellsPart (span.start / self.old.shape.geometry.region) (volume_seen P.seen self.old) (volume_seen P.seen self.new) parts.old.items parts.new.items }
         ensures whole { IsVolume (volume_seen P.seen self.new) }
         ensures room { vec_capacity parts.new ≡ vec_capacity parts.old }
-        ensures shape { self.new.shape ≡ self.old.shape }
+        ensures shape { shape_of self.new ≡ shape_of self.old }
         ensures end { IsPlainEnd result }
         ensures follows { LogGoes P.seen (log_of self.old) (log_of self.new) }
     {
@@ -251,6 +253,17 @@ impl<P: Piece> Volume<P> {
         tell(phase, part_of(cell, region), parts);
         outcome
     }
+}
+
+/// From where to where the bytes of a span lie among those of a range that begins at `start`.
+fn stretch(start: u64, span: Span) -> (usize, usize)
+    requires from { start ≤ span.start }
+    requires fits { 512 * (span.start + span.count - start) < 2 ^ 64 }
+    ensures from { result.0 ≡ 512 * (span.start - start) }
+    ensures to { result.1 ≡ 512 * (span.start - start) + 512 * span.count }
+{
+    let from = BLOCK * (span.start - start) as usize;
+    (from, from + BLOCK * span.count as usize)
 }
 
 /// Reads blocks of a region. The buffer has room for the region's bytes.
@@ -277,14 +290,7 @@ fn read_cell<P: Piece, F: Fn(u64, u64) -> u32>(
     ensures buffer { vec_len scratch.new ≡ vec_len scratch.old }
     ensures follows { LogGoes P.seen log.old log.new }
 {
-    without_number(cell.read(
-        span.start,
-        into,
-        &mut scratch[..bytes],
-        log,
-        pick,
-        policy,
-    ))
+    without_number(cell.read(span.start, into, &mut scratch[..bytes], log, pick, policy))
 }
 
 /// Writes blocks of a region. The buffer has room for the region's bytes.

@@ -8,7 +8,7 @@ ghost use Rattle.vx_volume.specs.Calls.{ChangesRegion, IsReady};
 ghost use Rattle.vx_volume.specs.Loop.{AreMade, IsPlainEnd, stop_of};
 ghost use Rattle.vx_volume.specs.Log.{LogGoes, log_seen};
 ghost use Rattle.vx_volume.specs.Passes.{Clears, CopyEnds, IsClearedAt, IsCopiedAt, IsSettledAt, PassEnds, Settles};
-ghost use Rattle.vx_volume.specs.Volume.{IsVolume, log_of, volume_seen};
+ghost use Rattle.vx_volume.specs.Volume.{IsVolume, log_of, shape_of, volume_seen};
 
 use crate::calls::{io_fault, io_result};
 use crate::fault::IoFault;
@@ -24,6 +24,7 @@ impl<P: Piece> Volume<P> {
         requires whole { IsVolume (volume_seen P.seen self.old) }
         ensures ends { PassEnds Settles (volume_seen P.seen self.old) (volume_seen P.seen self.new) result }
         ensures whole { IsVolume (volume_seen P.seen self.new) }
+        ensures shape { shape_of self.new ≡ shape_of self.old }
         ensures follows { LogGoes P.seen (log_of self.old) (log_of self.new) }
     {
         io_result(self.settle_each())
@@ -34,6 +35,7 @@ impl<P: Piece> Volume<P> {
         requires whole { IsVolume (volume_seen P.seen self.old) }
         ensures ends { PassEnds Clears (volume_seen P.seen self.old) (volume_seen P.seen self.new) result }
         ensures whole { IsVolume (volume_seen P.seen self.new) }
+        ensures shape { shape_of self.new ≡ shape_of self.old }
         ensures follows { LogGoes P.seen (log_of self.old) (log_of self.new) }
     {
         io_result(self.clear_each())
@@ -45,6 +47,7 @@ impl<P: Piece> Volume<P> {
         requires whole { IsVolume (volume_seen P.seen self.old) }
         ensures ends { CopyEnds map (volume_seen P.seen self.old) (volume_seen P.seen self.new) result }
         ensures whole { IsVolume (volume_seen P.seen self.new) }
+        ensures shape { shape_of self.new ≡ shape_of self.old }
         ensures follows { LogGoes P.seen (log_of self.old) (log_of self.new) }
     {
         let mut copied = 0;
@@ -61,6 +64,7 @@ impl<P: Piece> Volume<P> {
         requires whole { IsVolume (volume_seen P.seen self.old) }
         ensures made { AreMade Settles (vec_len self.old.cells) (stop_of result) (volume_seen P.seen self.old) (volume_seen P.seen self.new) }
         ensures whole { IsVolume (volume_seen P.seen self.new) }
+        ensures shape { shape_of self.new ≡ shape_of self.old }
         ensures end { IsPlainEnd result }
         ensures follows { LogGoes P.seen (log_of self.old) (log_of self.new) }
     {
@@ -75,6 +79,7 @@ impl<P: Piece> Volume<P> {
         requires inside { region < vec_len self.old.cells }
         ensures settles { Settles region (stop_of result) (volume_seen P.seen self.old) (volume_seen P.seen self.new) }
         ensures whole { IsVolume (volume_seen P.seen self.new) }
+        ensures shape { shape_of self.new ≡ shape_of self.old }
         ensures count { vec_len self.new.cells ≡ vec_len self.old.cells }
         ensures end { IsPlainEnd result }
         ensures follows { LogGoes P.seen (log_of self.old) (log_of self.new) }
@@ -88,6 +93,7 @@ impl<P: Piece> Volume<P> {
         requires whole { IsVolume (volume_seen P.seen self.old) }
         ensures made { AreMade Clears (vec_len self.old.cells) (stop_of result) (volume_seen P.seen self.old) (volume_seen P.seen self.new) }
         ensures whole { IsVolume (volume_seen P.seen self.new) }
+        ensures shape { shape_of self.new ≡ shape_of self.old }
         ensures end { IsPlainEnd result }
         ensures follows { LogGoes P.seen (log_of self.old) (log_of self.new) }
     {
@@ -102,6 +108,7 @@ impl<P: Piece> Volume<P> {
         requires inside { region < vec_len self.old.cells }
         ensures clears { Clears region (stop_of result) (volume_seen P.seen self.old) (volume_seen P.seen self.new) }
         ensures whole { IsVolume (volume_seen P.seen self.new) }
+        ensures shape { shape_of self.new ≡ shape_of self.old }
         ensures count { vec_len self.new.cells ≡ vec_len self.old.cells }
         ensures end { IsPlainEnd result }
         ensures follows { LogGoes P.seen (log_of self.old) (log_of self.new) }
@@ -117,6 +124,7 @@ impl<P: Piece> Volume<P> {
         requires inside { region < vec_len self.old.cells }
         ensures copies { ChangesRegion region (IsCopiedAt map result) (volume_seen P.seen self.old) (volume_seen P.seen self.new) }
         ensures whole { IsVolume (volume_seen P.seen self.new) }
+        ensures shape { shape_of self.new ≡ shape_of self.old }
         ensures count { vec_len self.new.cells ≡ vec_len self.old.cells }
         ensures end { IsPlainEnd result }
         ensures follows { LogGoes P.seen (log_of self.old) (log_of self.new) }

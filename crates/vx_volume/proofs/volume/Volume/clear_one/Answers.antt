@@ -1,5 +1,5 @@
 -- The mark of one region is taken away.
-use Rattle.std.proofs.Common.{◌*◌, length, rules, refl, ap, sym, ◌∙◌}
+use Rattle.std.proofs.Common.{◌*◌, rules, refl, ap, sym, ◌∙◌}
 use Rattle.vx_volume.specs.Passes.{IsClearedAt}
 use Rattle.vx_volume.specs.Loop.{stop_of}
 use Rattle.vx_volume.proofs.Regions.{cleared_left}

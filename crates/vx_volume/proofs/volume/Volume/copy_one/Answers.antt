@@ -1,5 +1,5 @@
 -- One region of a volume is copied.
-use Rattle.std.proofs.Common.{◌*◌, length, rules, refl, ap, sym, ◌∙◌}
+use Rattle.std.proofs.Common.{◌*◌, rules, refl, ap, sym, ◌∙◌}
 use Rattle.vx_volume.specs.Passes.{IsCopiedAt}
 use Rattle.vx_volume.proofs.Regions.{copied_left}
 use Rattle.vx_volume.proofs.Steps.{cell_below, cell_changes, cell_ready, cell_size, cell_volume}

@@ -1,6 +1,5 @@
 -- One region more is copied where it is to be, and counted.
-use Rattle.std.proofs.Common.{◌≡◌, ◌∙◌, ◌<◌, length, Err, ℕ, sym, ap, subst, arith}
-use Rattle.vx_volume.specs.Calls.{io_stop, IsNoRange}
+use Rattle.std.proofs.Common.{◌∙◌, ◌<◌, length, Err, ℕ, arith}
 use Rattle.vx_volume.specs.Log.{log_kept_on}
 use Rattle.vx_volume.specs.Loop.{IsPlainEnd}
 use Rattle.vx_volume.specs.Passes.{CopiesTo}
@@ -19,12 +18,16 @@ returns-in-Err-clause-ends g c =
 pub returns-in-Err-clause-follows : goal.returns-in-Err-clause-follows
 returns-in-Err-clause-follows g c = log_kept_on _ _ _ c.loop-region.invariant.follows c.copy_one.ensures.follows
 
+pub returns-in-Err-clause-shape : goal.returns-in-Err-clause-shape
+returns-in-Err-clause-shape g c = c.copy_one.ensures.shape ∙ c.loop-region.invariant.shape
+
 pub loop-region-preserved : goal.loop-region-preserved
 loop-region-preserved g c =
     record {
       done = done_more (CopiesTo c.args.map) c.loop-region.region _ _ _ c.loop-region.invariant.done (copied_one c.args.map c.loop-region.region c.loop-region.copied _ _ c.copy_one.result c.in-Ok.done c.from-copied.result c.in-Ok.is c.from-copied.ensures c.copy_one.ensures.copies);
       few = omega (arith, c.from-copied.ensures, at_most_one c.in-Ok.done, c.loop-region.invariant.few);
       whole = c.copy_one.ensures.whole;
+      shape = c.copy_one.ensures.shape ∙ c.loop-region.invariant.shape;
       count = c.copy_one.ensures.count ∙ c.loop-region.invariant.count;
       follows = log_kept_on _ _ _ c.loop-region.invariant.follows c.copy_one.ensures.follows;
     }

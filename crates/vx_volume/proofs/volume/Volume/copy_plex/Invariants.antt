@@ -11,6 +11,7 @@ invariant-loop-region g l = record {
   done : AreDone (CopiesTo l.map) l.region (record { volume = volume_seen g.P.Piece.seen l.fn.self; copied = 0 }) (record { volume = volume_seen g.P.Piece.seen l.self; copied = l.copied });
   few : l.copied ≤ l.region;
   whole : IsVolume (volume_seen g.P.Piece.seen l.self);
+  shape : l.self.shape ≡ l.fn.self.shape;
   count : vec_len l.self.cells ≡ vec_len l.fn.self.cells;
   follows : LogGoes g.P.Piece.seen l.fn.self.log l.self.log;
 }

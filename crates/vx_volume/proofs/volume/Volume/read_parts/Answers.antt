@@ -1,7 +1,6 @@
 -- One part more is read.
-use Rattle.std.proofs.Common.{◌≡◌, ◌+◌, ◌-◌, ◌*◌, ◌/◌, ◌<◌, ◌≤◌, length, Err, refl, sym, ap, subst, ◌∙◌, rules, arith}
+use Rattle.std.proofs.Common.{◌≡◌, Err, refl, sym, ap, ◌∙◌, arith}
 use Rattle.std.proofs.lemmas.Result.{err_from_is_err_and}
-use Rattle.vx_block.specs.Regions.{part_at}
 use Rattle.vx_volume.specs.declared.volume.VolumeShape.{VolumeShape}
 use Rattle.vx_volume.specs.Calls.{CallsPart, IsRead, parts_in}
 use Rattle.vx_volume.specs.Log.{log_kept_on}
@@ -40,10 +39,13 @@ returns-in_err-read_part-clause-made g c =
     let place = rw c.unwrap-span.ensures at c.part.ensures.place in
     let told = err_from_is_err_and c.from_residual.result c.from_residual.ensures.1 in
     made_stopped (CallsPart IsRead c.args.start c.args.count c.read_part.new.blocks.items) (parts_in c.args.self.now.shape.geometry.region c.args.start c.args.count) c.loop-index.index _ _ _ c.in_err-read_part.field-0.0 c.from_residual.result (told.1 ∙ ap Err told.2) (omega (arith, parts_all c.args.self.now.shape.geometry c.args.start c.args.count c.part_count-total.result c.requires.some c.part_count-total.ensures.each c.part_count-total.ensures.end, c.loop-index-test.true)) (done_before IsRead c.args.self.now.shape.geometry.region c.args.start c.args.count (region_some c.args.self.now.shape.geometry) c.requires.some c.loop-index.blocks.items c.read_part.new.blocks.items _ (sym c.read_part.ensures.before) c.loop-index.index _ _ c.unwrap-span.result (ap (λ (s : VolumeShape). s.geometry.region) c.loop-index.invariant.shape) place refl c.loop-index.invariant.done)
-        (part_called _ c.args.start c.args.count c.loop-index.index c.unwrap-span.result _ (ap (λ (s : VolumeShape). s.geometry.region) c.loop-index.invariant.shape) place IsRead _ _ _ (rw c.in_err-read_part.was at c.read_part.ensures.reads) c.read_part.new.blocks.items _ _ (sym c.part.ensures.value ∙ c.unwrap-span.ensures) refl c.read_part.ensures.told)
+    (part_called _ c.args.start c.args.count c.loop-index.index c.unwrap-span.result _ (ap (λ (s : VolumeShape). s.geometry.region) c.loop-index.invariant.shape) place IsRead _ _ _ (rw c.in_err-read_part.was at c.read_part.ensures.reads) c.read_part.new.blocks.items _ _ (sym c.part.ensures.value ∙ c.unwrap-span.ensures) refl c.read_part.ensures.told)
 
 pub returns-in_err-read_part-clause-follows : goal.returns-in_err-read_part-clause-follows
 returns-in_err-read_part-clause-follows g c = log_kept_on _ _ _ c.loop-index.invariant.follows c.read_part.ensures.follows
+
+pub returns-in_err-read_part-clause-shape : goal.returns-in_err-read_part-clause-shape
+returns-in_err-read_part-clause-shape g c = c.read_part.ensures.shape ∙ c.loop-index.invariant.shape
 
 pub loop-index-preserved : goal.loop-index-preserved
 loop-index-preserved g c =

@@ -10,6 +10,7 @@ abbrev pub invariant-loop-region : goal.invariant-loop-region
 invariant-loop-region g l = record {
   done : AreDone Settles l.region (volume_seen g.P.Piece.seen l.fn.self) (volume_seen g.P.Piece.seen l.self);
   whole : IsVolume (volume_seen g.P.Piece.seen l.self);
+  shape : l.self.shape ≡ l.fn.self.shape;
   count : vec_len l.self.cells ≡ vec_len l.fn.self.cells;
   follows : LogGoes g.P.Piece.seen l.fn.self.log l.self.log;
 }

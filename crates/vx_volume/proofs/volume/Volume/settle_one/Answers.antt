@@ -1,5 +1,5 @@
 -- One region of a volume is settled.
-use Rattle.std.proofs.Common.{◌*◌, length, rules, refl, ap, sym, ◌∙◌}
+use Rattle.std.proofs.Common.{◌*◌, rules, refl, ap, sym, ◌∙◌}
 use Rattle.vx_volume.specs.Passes.{IsSettledAt}
 use Rattle.vx_volume.specs.Loop.{stop_of}
 use Rattle.vx_volume.proofs.Regions.{settled_left}

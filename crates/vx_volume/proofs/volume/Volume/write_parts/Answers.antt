@@ -1,7 +1,6 @@
 -- One part more is written.
-use Rattle.std.proofs.Common.{◌≡◌, ◌+◌, ◌-◌, ◌*◌, ◌/◌, ◌<◌, ◌≤◌, length, Err, refl, sym, ap, subst, ◌∙◌, rules, arith}
+use Rattle.std.proofs.Common.{◌≡◌, ◌-◌, ◌*◌, Err, sym, ap, ◌∙◌, arith}
 use Rattle.std.proofs.lemmas.Result.{err_from_is_err_and}
-use Rattle.vx_block.specs.Regions.{part_at}
 use Rattle.vx_volume.specs.declared.volume.VolumeShape.{VolumeShape}
 use Rattle.vx_volume.specs.Calls.{CallsPart, IsWritten, parts_in}
 use Rattle.vx_volume.specs.Log.{log_kept_on}
@@ -25,7 +24,7 @@ write_span-requires-clause-fresh g c κs within =
 pub write_span-requires-clause-bytes : goal.write_span-requires-clause-bytes
 write_span-requires-clause-bytes g c κs within =
     let place = rw c.unwrap-span.ensures at c.part.ensures.place in
-    stretch_long c.args.bytes.now (512 * (c.unwrap-span.result.start - c.args.start)) (512 * c.unwrap-span.result.count) (omega (arith, place.from, place.to, c.requires.bytes))
+    stretch_long c.args.bytes.now (512 * (c.unwrap-span.result.start - c.args.start)) (512 * c.unwrap-span.result.count) c.stretch-from.result.0 c.stretch-from.result.1 c.stretch-from.ensures.from c.stretch-from.ensures.to (omega (arith, place.from, place.to, c.requires.bytes))
 
 pub write_span-requires-clause-spare : goal.write_span-requires-clause-spare
 write_span-requires-clause-spare g c κs within =
@@ -36,17 +35,20 @@ returns-in_err-write_span-clause-made g c =
     let place = rw c.unwrap-span.ensures at c.part.ensures.place in
     let told = err_from_is_err_and c.from_residual.result c.from_residual.ensures.1 in
     made_stopped (CallsPart IsWritten c.args.start c.args.count c.args.bytes.now) (parts_in c.args.self.now.shape.geometry.region c.args.start c.args.count) c.loop-index.index _ _ _ c.in_err-write_span.field-0.0 c.from_residual.result (told.1 ∙ ap Err told.2) (omega (arith, parts_all c.args.self.now.shape.geometry c.args.start c.args.count c.part_count-total.result c.requires.some c.part_count-total.ensures.each c.part_count-total.ensures.end, c.loop-index-test.true)) c.loop-index.invariant.done
-        (part_called _ c.args.start c.args.count c.loop-index.index c.unwrap-span.result _ (ap (λ (s : VolumeShape). s.geometry.region) c.loop-index.invariant.shape) place IsWritten _ _ _ (rw c.in_err-write_span.was at c.write_span.ensures.writes) c.args.bytes.now _ _ (sym c.part.ensures.value ∙ c.unwrap-span.ensures) (stretch_is c.args.bytes.now (512 * (c.unwrap-span.result.start - c.args.start)) (512 * c.unwrap-span.result.count)) c.write_span.ensures.told)
+    (part_called _ c.args.start c.args.count c.loop-index.index c.unwrap-span.result _ (ap (λ (s : VolumeShape). s.geometry.region) c.loop-index.invariant.shape) place IsWritten _ _ _ (rw c.in_err-write_span.was at c.write_span.ensures.writes) c.args.bytes.now _ _ (sym c.part.ensures.value ∙ c.unwrap-span.ensures) (stretch_is c.args.bytes.now (512 * (c.unwrap-span.result.start - c.args.start)) (512 * c.unwrap-span.result.count) c.stretch-from.result.0 c.stretch-from.result.1 c.stretch-from.ensures.from c.stretch-from.ensures.to) c.write_span.ensures.told)
 
 pub returns-in_err-write_span-clause-follows : goal.returns-in_err-write_span-clause-follows
 returns-in_err-write_span-clause-follows g c = log_kept_on _ _ _ c.loop-index.invariant.follows c.write_span.ensures.follows
+
+pub returns-in_err-write_span-clause-shape : goal.returns-in_err-write_span-clause-shape
+returns-in_err-write_span-clause-shape g c = c.write_span.ensures.shape ∙ c.loop-index.invariant.shape
 
 pub loop-index-preserved : goal.loop-index-preserved
 loop-index-preserved g c =
     let place = rw c.unwrap-span.ensures at c.part.ensures.place in
     record {
       done = done_more (CallsPart IsWritten c.args.start c.args.count c.args.bytes.now) c.loop-index.index _ _ _ c.loop-index.invariant.done
-          (part_called _ c.args.start c.args.count c.loop-index.index c.unwrap-span.result _ (ap (λ (s : VolumeShape). s.geometry.region) c.loop-index.invariant.shape) place IsWritten _ _ _ (rw c.in_ok-write_span.was at c.write_span.ensures.writes) c.args.bytes.now _ _ (sym c.part.ensures.value ∙ c.unwrap-span.ensures) (stretch_is c.args.bytes.now (512 * (c.unwrap-span.result.start - c.args.start)) (512 * c.unwrap-span.result.count)) c.write_span.ensures.told);
+          (part_called _ c.args.start c.args.count c.loop-index.index c.unwrap-span.result _ (ap (λ (s : VolumeShape). s.geometry.region) c.loop-index.invariant.shape) place IsWritten _ _ _ (rw c.in_ok-write_span.was at c.write_span.ensures.writes) c.args.bytes.now _ _ (sym c.part.ensures.value ∙ c.unwrap-span.ensures) (stretch_is c.args.bytes.now (512 * (c.unwrap-span.result.start - c.args.start)) (512 * c.unwrap-span.result.count) c.stretch-from.result.0 c.stretch-from.result.1 c.stretch-from.ensures.from c.stretch-from.ensures.to) c.write_span.ensures.told);
       whole = c.write_span.ensures.whole;
       fresh = fresh_next _ c.args.start c.args.count c.loop-index.index c.unwrap-span.result _ (ap (λ (s : VolumeShape). s.geometry.region) c.loop-index.invariant.shape) place IsWritten _ _ _ c.write_span.ensures.writes c.loop-index.invariant.fresh;
       shape = c.write_span.ensures.shape ∙ c.loop-index.invariant.shape;

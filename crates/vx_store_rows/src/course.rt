@@ -6,6 +6,7 @@ use crate::causes::Part;
 use crate::clock::Clock;
 use crate::history::History;
 use crate::piece::RowPiece;
+use crate::setup::Held;
 use crate::trace::{Left, end};
 use std::alloc::Global;
 
@@ -23,6 +24,35 @@ pub struct Ended {
     pub left: Left,
     pub parts: Vec<Part>,
     pub history: History,
+}
+
+impl Ended {
+    /// Whether a start finds the same here and there: the stage, what the devices hold, and what the blocks may hold.
+    pub fn leaves_same(&self, other: &Ended) -> bool {
+        self.left.stage == other.left.stage
+            && are_same(&self.left.copies, &other.left.copies)
+            && hold_same(&self.left.plexes, &other.left.plexes)
+            && self.history.is_same(&other.history)
+    }
+}
+
+/// Whether these lists of bytes are the same.
+pub fn are_same(one: &Vec<Vec<u8>>, other: &Vec<Vec<u8>>) -> bool {
+    for (first, second) in one.iter().zip(other.iter()) {
+        if first.as_slice() != second.as_slice() {
+            return false;
+        }
+    }
+    one.len() == other.len()
+}
+
+fn hold_same(one: &Vec<Held>, other: &Vec<Held>) -> bool {
+    for (first, second) in one.iter().zip(other.iter()) {
+        if first.map != second.map || first.blocks.as_slice() != second.blocks.as_slice() {
+            return false;
+        }
+    }
+    one.len() == other.len()
 }
 
 /// Makes a call.

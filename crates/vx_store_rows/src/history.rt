@@ -2,6 +2,7 @@
 
 use crate::breach::Breach;
 use crate::call::{Answer, Call, Range};
+use crate::course::are_same;
 use crate::region::START;
 use crate::setup::Held;
 use std::alloc::Global;
@@ -27,6 +28,11 @@ impl History {
             blocks.push(values).ok().ok_or(Breach::NoRegion)?;
         }
         Ok(History { blocks })
+    }
+
+    /// Whether each block may hold the same, noted in the same order.
+    pub fn is_same(&self, other: &History) -> bool {
+        are_same(&self.blocks, &other.blocks)
     }
 
     /// Whether the block may hold this.

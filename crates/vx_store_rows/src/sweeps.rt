@@ -5,26 +5,20 @@ use crate::call::Call;
 use crate::fault::{Fault, Kind, Torn};
 use crate::rows::{CLEAN, READ, THREE, TWO, WRITE, WRITE_DIRTY};
 use crate::setup::{Disks, Form, Start};
-use crate::trial::{Before, Case, Follow, Tried, attempt};
+use crate::trial::{Before, Case, Follow, Last, Tried, attempt};
 use std::alloc::Global;
 use std::io;
 
 /// What is known of the trials of a case: how many device calls the call makes, how many trials there were, in how many of
-/// them a device call went wrong, and the first trial that was not as it may be.
-#[derive(Clone, Copy)]
+/// them a device call went wrong, the first trial that was not as it may be, and what the last one has left.
+#[derive(Drop)]
 struct Sums {
     calls: u64,
     trials: u64,
     fired: u64,
     wrong: Option<(Fault, Follow, Breach)>,
+    last: Last,
 }
-
-const NONE: Sums = Sums {
-    calls: 0,
-    trials: 0,
-    fired: 0,
-    wrong: None,
-};
 
 /// The most device calls that a call makes here.
 const MOST: u64 = 200;
@@ -50,7 +44,7 @@ fn one(
     sums: &mut Sums,
 ) -> Option<(bool, u64)> {
     sums.trials = sums.trials.saturating_add(1);
-    match attempt(alloc, case, fault, follow) {
+    match attempt(alloc, case, fault, follow, &mut sums.last) {
         Ok(wrong) => {
             let step = wrong?;
             sums.fired = sums.fired.saturating_add(1);
@@ -84,6 +78,7 @@ fn others(alloc: Global, case: &Case, fault: Fault, is_write: bool, count: u64, 
 /// Each device call of a case goes wrong in turn. Ends with the trial in which none did, or with the first that is not as it
 /// may be.
 fn sweep(alloc: Global, case: &Case, kind: Kind, sums: &mut Sums) {
+    sums.last = None;
     for at in 0..MOST {
         let fault = Fault {
             at,
@@ -106,7 +101,13 @@ fn sweep(alloc: Global, case: &Case, kind: Kind, sums: &mut Sums) {
 /// All ways to go wrong: a device call fails once, it fails and all later ones on its device do, the same where the log lies on
 /// the devices of the plexes, and the power goes.
 fn sums_of(alloc: Global, case: Case) -> Sums {
-    let mut sums = NONE;
+    let mut sums = Sums {
+        calls: 0,
+        trials: 0,
+        fired: 0,
+        wrong: None,
+        last: None,
+    };
     let shared = Case {
         form: Form {
             disks: Disks::Shared,

@@ -207,12 +207,16 @@ fn wrong_step(left: &Left, fault: Fault) -> Option<Step> {
     None
 }
 
+/// The last state that the region was started again from, and the device that was gone.
+pub type Last = Option<(Ended, Gone)>;
+
 /// Makes the trial. The device call that went wrong, if the call made so many.
 pub fn attempt(
     alloc: Global,
     case: &Case,
     fault: Fault,
     follow: Follow,
+    last: &mut Last,
 ) -> Result<Option<Step>, Breach> {
     let mut fault = fault;
     let ended = match case.tried {
@@ -223,15 +227,39 @@ pub fn attempt(
         }
     };
     judge(alloc, case, &ended)?;
-    let made = before(alloc, &case.form, &case.start).ok_or(Breach::NoRegion)?;
     let wrong = wrong_step(&ended.left, fault);
-    each_restart(alloc, case, &ended, &made, None)?;
-    if fault.kind == Kind::Ever {
-        if let Some(step) = wrong {
-            each_restart(alloc, case, &ended, &made, Some(step.device))?;
+    restarts(alloc, case, ended, gone_by(fault.kind, wrong), last)?;
+    Ok(wrong)
+}
+
+/// The device that stays broken.
+fn gone_by(kind: Kind, wrong: Option<Step>) -> Gone {
+    match wrong {
+        Some(step) if kind == Kind::Ever => Some(step.device),
+        _ => None,
+    }
+}
+
+/// Starts the region again, and once more without the device that is gone, unless the trial before has left the same.
+fn restarts(
+    alloc: Global,
+    case: &Case,
+    ended: Ended,
+    gone: Gone,
+    last: &mut Last,
+) -> Result<(), Breach> {
+    if let Some((earlier, without)) = &*last {
+        if *without == gone && ended.leaves_same(earlier) {
+            return Ok(());
         }
     }
-    Ok(wrong)
+    let made = before(alloc, &case.form, &case.start).ok_or(Breach::NoRegion)?;
+    each_restart(alloc, case, &ended, &made, None)?;
+    if gone.is_some() {
+        each_restart(alloc, case, &ended, &made, gone)?;
+    }
+    *last = Some((ended, gone));
+    Ok(())
 }
 
 /// Starts the region again from each copy alone and from all together, without the device that is gone.

@@ -1,6 +1,6 @@
 use Rattle.std.proofs.Common.{rules, ◌≡◌, ◌≢◌, ◌<◌, ◌^◌, true}
 use Rattle.std.specs.Prelude.{nat_lt}
-use Rattle.vx_map_rows.proofs.Small.{map_below}
+use Rattle.vx_map_rows.proofs.Masks.{map_below}
 use Rattle.vx_map_rows.proofs.calls.put.Goals as goal
 
 pub mark-requires : goal.mark-requires

@@ -1,5 +1,5 @@
 use Rattle.std.proofs.Common.{◌∙◌, ap, ℕ, Bool, arith, lit<}
-use Rattle.vx_map_rows.proofs.Small.{map_below}
+use Rattle.vx_map_rows.proofs.Masks.{map_below}
 use Rattle.vx_map_rows.proofs.rows.unmark.Goals as goal
 
 pub unmark-requires : goal.unmark-requires

@@ -3,7 +3,7 @@ use Rattle.std.proofs.Common.{◌≡◌, ℕ, ◌+◌, ◌-◌, ◌<◌, List, [
 use Rattle.std.specs.Prelude.{Result, Ok, Err, OnOk, IfErr}
 use Rattle.std.specs.List.{flat_map}
 use Rattle.std.proofs.lemmas.Bool.{cases_lt}
-use Rattle.std.proofs.lemmas.List.{map_push, length-append, reverse-append, flat_map_more, get_or_append_left, get_or_push, get_or-reverse}
+use Rattle.std.proofs.lemmas.List.{map_push, length-append, reverse-append, reverse-reverse, flat_map_more, get_or_append_left, get_or_push, get_or-reverse}
 use Rattle.std.proofs.lemmas.List.Sorted.{IsPermutation-append_comm}
 use Rattle.vx_piece.specs.Seen.{Seen}
 use Rattle.vx_carve.specs.Together.{SameSectors}
@@ -93,3 +93,13 @@ on_ok (Err e) f h = h
 pub if_err : {T E : Type 0} (P Q : E → Type 0) (r : Result T E) → ((e : E) → P e → Q e) → IfErr r P → IfErr r Q
 if_err P Q (Ok v) f h = h
 if_err P Q (Err e) f h = f e h
+
+-- the items that are done and those that are left, the last one first, are all items
+pub left_start : {X : Type 0} (all left : List X) → left ≡ reverse all → all ≡ [] ++ reverse left
+left_start all left e = sym (reverse-reverse all) ∙ ap reverse (sym e)
+
+pub left_less : {X : Type 0} (all done left rest : List X) (x : X) → all ≡ done ++ reverse left → left ≡ rest ++ x ∷ [] → all ≡ done ++ x ∷ reverse rest
+left_less all done left rest x is e = is ∙ ap (λ ys. done ++ reverse ys) e ∙ ap (λ ys. done ++ ys) (reverse-append rest (x ∷ []))
+
+pub left_done : {X : Type 0} (all done rest : List X) (x : X) → all ≡ done ++ x ∷ rest → all ≡ (done ++ x ∷ []) ++ rest
+left_done all done rest x is = is ∙ sym (append_assoc done (x ∷ []) rest)

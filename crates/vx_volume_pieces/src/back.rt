@@ -46,6 +46,7 @@ pub fn put_regions<P: Piece + Drop>(
     ensures put { OnOk result (SameSectors (all_pieces (regions_seen P.seen regions.items) ++ map P.seen pool.old.items.items) (map P.seen pool.new.items.items)) }
     ensures left { IfErr result (λ v. SameSectors (all_pieces (regions_seen P.seen regions.items) ++ map P.seen pool.old.items.items) (all_pieces (regions_seen P.seen v.items) ++ map P.seen pool.new.items.items)) }
     ensures room { vec_len pool.old.items + length (all_pieces (regions_seen P.seen regions.items)) ≤ vec_capacity pool.old.items → IsOk result }
+    ensures longer { OnOk result (vec_len pool.new.items ≤ vec_len pool.old.items + length (all_pieces (regions_seen P.seen regions.items))) }
     ensures capacity { vec_capacity pool.new.items ≡ vec_capacity pool.old.items }
 {
     let mut left = regions;
@@ -62,6 +63,7 @@ pub(crate) fn put_last<P: Piece + Drop>(
     ensures put { OnOk result (SameSectors (all_pieces (regions_seen P.seen regions.items) ++ map P.seen pool.old.items.items) (map P.seen pool.new.items.items)) }
     ensures left { IfErr result (λ v. SameSectors (all_pieces (regions_seen P.seen regions.items) ++ map P.seen pool.old.items.items) (all_pieces (regions_seen P.seen v.items) ++ map P.seen pool.new.items.items)) }
     ensures room { vec_len pool.old.items + length (all_pieces (regions_seen P.seen regions.items)) ≤ vec_capacity pool.old.items → IsOk result }
+    ensures longer { OnOk result (vec_len pool.new.items ≤ vec_len pool.old.items + length (all_pieces (regions_seen P.seen regions.items))) }
     ensures capacity { vec_capacity pool.new.items ≡ vec_capacity pool.old.items }
 {
     let mut left = regions;

@@ -1,7 +1,7 @@
 ghost use Rattle.std.specs.Prelude.{◌≡◌, ◌+◌, ◌≤◌, ◌++◌, length, map, vec_len, vec_capacity, IfErr, OnOk, IsOk};
 ghost use Rattle.vx_carve.specs.Together.{SameSectors};
 ghost use Rattle.vx_cell.specs.Changes.{cell_seen};
-ghost use Rattle.vx_volume_pieces.specs.Pieces.{all_pieces, cell_plexes, pieces_of};
+ghost use Rattle.vx_volume_pieces.specs.Pieces.{AreLeft, all_pieces, cell_plexes, cells_seen, pieces_of};
 
 use crate::back::put_plexes;
 use std::alloc::Global;
@@ -18,7 +18,9 @@ pub fn put_cells<P: Piece + Drop>(
 ) -> Result<(), Vec<Cell<P>>>
     ensures put { OnOk result (SameSectors (all_pieces (cell_plexes P.seen cells.items) ++ map P.seen pool.old.items.items) (map P.seen pool.new.items.items)) }
     ensures left { IfErr result (λ v. SameSectors (all_pieces (cell_plexes P.seen cells.items) ++ map P.seen pool.old.items.items) (all_pieces (cell_plexes P.seen v.items) ++ map P.seen pool.new.items.items)) }
+    ensures cells { IfErr result (λ v. AreLeft (cells_seen P.seen cells.items) (cells_seen P.seen v.items)) }
     ensures room { vec_len pool.old.items + length (all_pieces (cell_plexes P.seen cells.items)) ≤ vec_capacity pool.old.items → IsOk result }
+    ensures longer { OnOk result (vec_len pool.new.items ≤ vec_len pool.old.items + length (all_pieces (cell_plexes P.seen cells.items))) }
     ensures capacity { vec_capacity pool.new.items ≡ vec_capacity pool.old.items }
 {
     let mut left = cells;

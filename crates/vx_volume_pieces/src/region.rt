@@ -41,7 +41,7 @@ pub fn take_region<P: Piece + Drop>(
     ensures kept { IfErr result (λ x. SameSectors (map P.seen pool.old.items.items) (pieces_of (plexes_seen P.seen x.0.items) ++ map P.seen pool.new.items.items)) }
 {
     let mut plexes = Vec::new(alloc);
-    if plexes.reserve(layouts.len()).is_err() {
+    if plexes.reserve_exact(layouts.len()).is_err() {
         return Err((plexes, OutOfMemory));
     }
     let mut i = 0;

@@ -45,7 +45,7 @@ pub fn take_regions<P: Piece + Drop>(
 {
     let mut regions = Vec::new(alloc);
     let count = geometry.regions();
-    if regions.reserve(count as usize).is_err() {
+    if regions.reserve_exact(count as usize).is_err() {
         return Err((regions, OutOfMemory));
     }
     let mut region = count;

@@ -27,3 +27,8 @@ pub returns-clause-room : goal.returns-clause-room
 returns-clause-room g c room =
     let long = long_turned pieces_of (regions_seen g.P.Piece.seen c.args.regions.items) (regions_seen g.P.Piece.seen c.reverse.new.self.items) (map_turned (λ x. plexes_seen g.P.Piece.seen x.items) c.args.regions.items c.reverse.new.self.items c.reverse.ensures.items) in
     c.put_last.ensures.room (omega (arith, room, long))
+
+pub returns-clause-longer : goal.returns-clause-longer
+returns-clause-longer g c =
+    let long = long_turned pieces_of (regions_seen g.P.Piece.seen c.args.regions.items) (regions_seen g.P.Piece.seen c.reverse.new.self.items) (map_turned (λ x. plexes_seen g.P.Piece.seen x.items) c.args.regions.items c.reverse.new.self.items c.reverse.ensures.items) in
+    on_ok c.put_last.result (λ longer. omega (arith, longer, long)) c.put_last.ensures.longer

@@ -18,8 +18,8 @@ use Rattle.vx_volume_pieces.proofs.taking.take_regions.Goals as goal
 
 pub regions-init : goal.regions-init
 regions-init g c =
-    let empty : c.reserve.new.self.items ≡ [] = c.reserve.ensures.items ∙ c.new-regions.ensures.items in
-    let none : length c.reserve.new.self.items ≡ 0 = ap length empty in
+    let empty : c.reserve_exact.new.self.items ≡ [] = c.reserve_exact.ensures.items ∙ c.new-regions.ensures.items in
+    let none : length c.reserve_exact.new.self.items ≡ 0 = ap length empty in
     record {
       most = search rules;
       room = search rules;

@@ -76,6 +76,12 @@ impl<P: Piece> Cell<P> {
         (stage, region, span, plexes)
     }
 
+    pub fn plexes(&self) -> &[Plex<P>]
+        ensures { plexes_seen P.seen result.now ≡ (cell_seen P.seen self.now).plexes }
+    {
+        self.plexes.as_slice()
+    }
+
     /// The number that was drawn last.
     pub fn number(&self) -> u64
         ensures { result ≡ (cell_seen P.seen self.now).number }

@@ -6,3 +6,4 @@ pub mod Calls
 pub mod Passes
 pub mod Opening
 pub mod Arming
+pub mod Laws

@@ -1,5 +1,5 @@
 -- What contracts see of the log of a volume, and how it goes on.
-use Rattle.std.specs.Prelude.{ℕ, true, false, Some}
+use Rattle.std.specs.Prelude.{true, false, Some}
 use Rattle.vx_piece.specs.Seen.{Seen}
 use Rattle.vx_marks.specs.Log.{LogSeen}
 use Rattle.vx_pages.specs.declared.local_piece.LocalPiece.{Ghosts}

@@ -15,7 +15,7 @@ use Rattle.vx_cell.specs.Plexes.{PlexSeen, AllCover, MapsDiffer, holds, plexes_s
 use Rattle.vx_volume.specs.declared.fault.OpenFault.{OpenFault}
 use Rattle.vx_volume.specs.declared.fault.OpenFault.TheVariants.{NoCurrent, OutOfMemory}
 use Rattle.vx_volume.specs.declared.volume.VolumeShape.{VolumeShape}
-use Rattle.vx_volume.specs.Volume.{VolumeSeen, cell_at}
+use Rattle.vx_volume.specs.Volume.{VolumeSeen, no_cell}
 
 -- the plexes of each region, in order
 abbrev pub regions_seen : {P : Type 0} → (P → Seen) → List (Vec (Plex P)) → List (List PlexSeen)
@@ -88,6 +88,7 @@ stage_of shape logged bits =
 -- the cell of a region as it is opened, with what the log claims
 pub record IsOpenedCell (shape : VolumeShape) (log : LogSeen) (r : ℕ) (plexes : List PlexSeen) (cell : CellSeen) : Type 0 where
   pub bits : ℕ
+  pub fits : bits < 2 ^ 64
   pub claimed : AreClaimed (log.claims r) bits
   pub is : cell ≡ record {
     stage = stage_of shape log.there bits;
@@ -99,11 +100,15 @@ pub record IsOpenedCell (shape : VolumeShape) (log : LogSeen) (r : ℕ) (plexes 
     plexes = plexes;
   }
 
+-- the cells of the regions, in order
+pub record AreOpenedCells (shape : VolumeShape) (log : LogSeen) (regions : List (List PlexSeen)) (cells : List CellSeen) : Type 0 where
+  pub count : length cells ≡ length regions
+  pub each : (r : ℕ) → r < length regions → IsOpenedCell shape log r (item_at [] regions r) (item_at no_cell cells r)
+
 pub record IsOpened (shape : VolumeShape) (log : LogSeen) (regions : List (List PlexSeen)) (v : VolumeSeen) : Type 0 where
   pub length_is : v.length ≡ shape.geometry.length
   pub region_is : v.region ≡ shape.geometry.region
-  pub count : length v.cells ≡ length regions
-  pub cells : (r : ℕ) → r < length regions → IsOpenedCell shape log r (item_at [] regions r) (cell_at v r)
+  pub cells : AreOpenedCells shape log regions v.cells
   pub readable : (r : ℕ) → r < length regions → HasCurrent shape log r
   pub log_is : v.log ≡ log
   pub most : v.most ≡ 0

@@ -4,6 +4,7 @@
 
 mod calls;
 mod fault;
+pub mod laws;
 mod log;
 mod opening;
 mod passes;

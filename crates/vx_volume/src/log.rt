@@ -45,6 +45,7 @@ impl<P: LocalPiece> Marker for VolumeLog<P> {
 impl<P: LocalPiece> VolumeLog<P> {
     ghost use Rattle.std.specs.Prelude.{◌≡◌};
     ghost use Rattle.vx_volume.specs.Log.{log_seen};
+    ghost use Rattle.vx_volume.specs.Arming.{LogArmed};
 
     /// Whether there are maps.
     pub fn is_there(&self) -> bool
@@ -53,6 +54,16 @@ impl<P: LocalPiece> VolumeLog<P> {
         match self {
             VolumeLog::Absent => false,
             VolumeLog::Maps(_) => true,
+        }
+    }
+
+    /// Sets when a power switch is to act on each of its pieces that is not cut.
+    pub(crate) fn arm(&mut self, stop: Option<u64>)
+        ensures { LogArmed P.seen stop self.old self.new }
+    {
+        match self {
+            VolumeLog::Absent => {}
+            VolumeLog::Maps(store) => store.arm(stop),
         }
     }
 }

@@ -1,9 +1,11 @@
 //! A volume is opened over its pieces.
 
-ghost use Rattle.std.specs.Prelude.{◌≡◌, ◌≤◌, ◌<◌, ℕ, IfOk, IfErr, IfSome, IfNone, length, map};
+ghost use Rattle.std.specs.Prelude.{◌≡◌, ◌≤◌, ◌<◌, ℕ, IfOk, IfErr, IfSome, IfNone, [], length, true, vec_capacity};
+ghost use Rattle.vx_cell.specs.Changes.{cell_seen};
+ghost use Rattle.vx_cell.specs.Plexes.{plexes_seen};
 ghost use Rattle.vx_volume.specs.Log.{log_seen};
-ghost use Rattle.vx_volume.specs.Opening.{AreOpenable, AreVolumeMasks, HasCurrent, IsFirstUnread, IsOpened, IsRefusedAs, count_of, regions_seen, stage_of};
-ghost use Rattle.vx_volume.specs.Volume.{IsVolume, log_of, volume_seen};
+ghost use Rattle.vx_volume.specs.Opening.{AreOpenable, AreOpenedCells, AreVolumeMasks, HasCurrent, IsFirstUnread, IsOpened, IsOpenedCell, IsRefusedAs, count_of, regions_seen, stage_of};
+ghost use Rattle.vx_volume.specs.Volume.{IsVolume, cells_seen, log_of, volume_seen};
 
 use crate::fault::{OpenFault, OpenRefused};
 use crate::log::VolumeLog;
@@ -82,22 +84,42 @@ fn first_unread<P: LocalPiece>(shape: &VolumeShape, log: &VolumeLog<P>) -> Optio
     None
 }
 
-/// The cells of the regions, in order.
+/// The cells of the regions, in order, in a list that has room for them.
 fn cells_of<P: Piece + Drop>(
     shape: &VolumeShape,
     mut cells: Vec<Cell<P>>,
     regions: Vec<Vec<Plex<P>>>,
     log: &VolumeLog<P>,
-) -> Vec<Cell<P>> {
+) -> Vec<Cell<P>>
+    requires masks { AreVolumeMasks shape.now (log_seen P.seen log.now) }
+    requires count { length regions.items ≡ count_of shape.now }
+    requires empty { cells.items ≡ [] }
+    requires room { length regions.items ≤ vec_capacity cells }
+    ensures { AreOpenedCells shape.now (log_seen P.seen log.now) (regions_seen P.seen regions.items) (cells_seen P.seen result.items) }
+{
     let mut left = regions;
     left.reverse();
     let mut region = 0;
-    while let Some(plexes) = left.pop() {
-        let stage = stage_of(shape, log.is_there(), log.marked(region));
-        cells.push_reserved(Cell::new(stage, region, shape.geometry.range_of(region), plexes));
+    'opening: while let Some(plexes) = left.pop() {
+        cells.push_reserved(cell_of(shape, log, region, plexes));
         region += 1;
     }
     cells
+}
+
+/// The cell of a region as a life begins.
+fn cell_of<P: Piece + Drop>(
+    shape: &VolumeShape,
+    log: &VolumeLog<P>,
+    region: u64,
+    plexes: Vec<Plex<P>>,
+) -> Cell<P>
+    requires known { (log_seen P.seen log.now).has_region region ≡ true }
+    requires inside { region < count_of shape.now }
+    ensures { IsOpenedCell shape.now (log_seen P.seen log.now) region (plexes_seen P.seen plexes.items) (cell_seen P.seen result) }
+{
+    let stage = stage_of(shape, log.is_there(), log.marked(region));
+    Cell::new(stage, region, shape.geometry.range_of(region), plexes)
 }
 
 /// How a region begins that the log marks so.

@@ -1,5 +1,7 @@
 ghost use Rattle.std.specs.Prelude.{◌≡◌};
-ghost use Rattle.vx_volume.specs.Volume.{IsVolume, log_of, seen_of, shape_of, volume_seen};
+ghost use Rattle.vx_pages.specs.Items.{EachItem};
+ghost use Rattle.vx_cell.specs.Changes.{CellArmed};
+ghost use Rattle.vx_volume.specs.Volume.{IsVolume, cells_seen, log_of, no_cell, seen_of, shape_of, volume_seen};
 ghost use Rattle.vx_volume.specs.Arming.{VolumeArmed};
 
 use crate::log::VolumeLog;
@@ -83,13 +85,17 @@ impl<P: Piece> Volume<P> {
         ensures armed { VolumeArmed P.seen stop self.old self.new }
         ensures whole { IsVolume (volume_seen P.seen self.new) }
     {
-        for index in 0..self.cells.len() {
-            let cell = &mut self.cells[index];
-            cell.arm(stop);
-        }
-        match &mut self.log {
-            VolumeLog::Absent => {}
-            VolumeLog::Maps(store) => store.arm(stop),
-        }
+        arm_cells(&mut self.cells, stop);
+        self.log.arm(stop);
+    }
+}
+
+/// Sets when a power switch is to act on the pieces of each cell.
+fn arm_cells<P: Piece>(cells: &mut Vec<Cell<P>>, stop: Option<u64>)
+    ensures { EachItem no_cell (λ i. CellArmed stop) (cells_seen P.seen cells.old.items) (cells_seen P.seen cells.new.items) }
+{
+    for index in 0..cells.len() {
+        let cell = &mut cells[index];
+        cell.arm(stop);
     }
 }

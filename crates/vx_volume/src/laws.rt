@@ -1,0 +1,62 @@
+//! Laws of calls on volumes, each a function with an empty body whose contract states it.
+
+ghost use Rattle.vx_volume.specs.Calls.{IsRead, IsWritten};
+ghost use Rattle.vx_volume.specs.Laws.{CallOfRegionGoesOn, CalledGoesOn, CopyPassGoesOn, EachClearingGoesOn, EachClearingOfRegionGoesOn, EachCopyGoesOn, EachCopyOfRegionGoesOn, EachCourseIsNoted, EachDoneWriteStandsAsTorn, EachGoingGoesOn, EachGoingIsScheduled, EachGoingStands, EachOtherGoesOn, EachReadOfVolumeGoesOn, EachSettlingGoesOn, EachSettlingOfRegionGoesOn, EachWriteOfVolumeGoesOn, MayTellRead, MayTellWrite, PassGoesOn};
+ghost use Rattle.vx_volume.specs.Passes.{Clears, Settles};
+
+/// A region that was called goes on with the entry of the call, and one of which a job without a call was run with the
+/// entries that it had.
+pub fn each_called_region_goes_on()
+    ensures read { CalledGoesOn IsRead MayTellRead }
+    ensures written { CalledGoesOn IsWritten MayTellWrite }
+    ensures settled { EachSettlingGoesOn }
+    ensures cleared { EachClearingGoesOn }
+    ensures copied { EachCopyGoesOn }
+{}
+
+/// The other regions of the log go on with the entries that they had.
+pub fn each_other_region_goes_on()
+    ensures { EachOtherGoesOn }
+{}
+
+/// Where one region of a volume is called, or a job is run on it, all regions go on, and what is told stays told.
+pub fn each_call_of_a_region_goes_on()
+    ensures read { CallOfRegionGoesOn IsRead MayTellRead }
+    ensures written { CallOfRegionGoesOn IsWritten MayTellWrite }
+    ensures settled { EachSettlingOfRegionGoesOn }
+    ensures cleared { EachClearingOfRegionGoesOn }
+    ensures copied { EachCopyOfRegionGoesOn }
+{}
+
+/// After a read or a write of a volume each region goes on with the entries that it had, and one for its part of the call
+/// where it had one.
+pub fn each_call_goes_on()
+    ensures read { EachReadOfVolumeGoesOn }
+    ensures written { EachWriteOfVolumeGoesOn }
+{}
+
+/// After a pass over a volume each region goes on with the entries that it had.
+pub fn each_pass_goes_on()
+    ensures settled { PassGoesOn Settles }
+    ensures cleared { PassGoesOn Clears }
+    ensures copied { CopyPassGoesOn }
+{}
+
+/// One call after another: regions that go on and go on again go on, and stand for the histories with which they do. They go
+/// by one schedule of happenings.
+pub fn each_history_goes_on()
+    ensures follows { EachGoingGoesOn }
+    ensures stands { EachGoingStands }
+    ensures scheduled { EachGoingIsScheduled }
+{}
+
+/// What is noted of a region on its course is what its new entries tell, and a plex to which a write failed has a count that
+/// rose.
+pub fn each_course_is_noted()
+    ensures { EachCourseIsNoted }
+{}
+
+/// What a region stands for with a write that was done it stands for with that write torn.
+pub fn each_done_write_stands_as_torn()
+    ensures { EachDoneWriteStandsAsTorn }
+{}

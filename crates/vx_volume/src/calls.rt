@@ -24,7 +24,7 @@ use vx_piece::Piece;
 
 impl<P: Piece> Volume<P> {
     /// Reads the blocks of a receipt, from a block on. Where a region's part is not done, none behind it is begun; the receipt
-    /// has a part for each region that was begun, and the bytes of those that are done.
+    /// has a part for each region that was begun, and the bytes of those that are done. At `Range` nothing is done.
     pub fn read<F: Fn(u64, u64) -> u32>(
         &mut self,
         start: u64,
@@ -58,7 +58,8 @@ impl<P: Piece> Volume<P> {
         io_result(outcome)
     }
 
-    /// Writes the blocks of a receipt, from a block on: `from` has their bytes, which the receipt keeps.
+    /// Writes the blocks of a receipt, from a block on: `from` has their bytes, which the receipt keeps. Where a region's part is
+    /// not done, none behind it is begun, and the receipt has a part for each that was begun. At `Range` nothing is done.
     pub fn write(&mut self, start: u64, from: &[u8], receipt: &mut Receipt) -> Result<(), IoFault>
         requires whole { IsVolume (volume_seen P.seen self.old) }
         requires some { 0 < receipt.old.count }
@@ -82,6 +83,7 @@ impl<P: Piece> Volume<P> {
         io_result(outcome)
     }
 
+    /// Whether the volume has these blocks. The end of the range may be no number of 64 bits.
     fn covers(&self, start: u64, count: u64) -> bool
         ensures { result ≡ nat_le (start + count) self.now.shape.geometry.length }
     {

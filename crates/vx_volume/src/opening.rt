@@ -5,7 +5,7 @@ ghost use Rattle.vx_cell.specs.Changes.{cell_seen};
 ghost use Rattle.vx_cell.specs.Plexes.{plexes_seen};
 ghost use Rattle.vx_volume.specs.Log.{log_seen};
 ghost use Rattle.vx_volume.specs.Opening.{AreOpenable, AreOpenedCells, AreVolumeMasks, HasCurrent, IsFirstUnread, IsOpened, IsOpenedCell, IsRefusedAs, count_of, regions_seen, stage_of};
-ghost use Rattle.vx_volume.specs.Volume.{IsVolume, cells_seen, log_of, volume_seen};
+ghost use Rattle.vx_volume.specs.Volume.{IsVolume, cells_seen, log_of, volume_seen, shape_of};
 
 use crate::fault::{OpenFault, OpenRefused};
 use crate::log::VolumeLog;
@@ -34,6 +34,7 @@ impl<P: Piece + Drop> Volume<P> {
         ensures opened { IfOk result (λ volume. IsOpened shape (log_seen P.seen log) (regions_seen P.seen regions.items) (volume_seen P.seen volume)) }
         ensures whole { IfOk result (λ volume. IsVolume (volume_seen P.seen volume)) }
         ensures log { IfOk result (λ volume. log_of volume ≡ log) }
+        ensures shape { IfOk result (λ volume. shape_of volume ≡ shape) }
         ensures cause { IfErr result (λ refused. IsRefusedAs refused.fault shape (log_seen P.seen log)) }
         ensures kept { IfErr result (λ refused. (refused.regions ≡ regions) × (refused.log ≡ log)) }
     {

@@ -54,6 +54,7 @@ impl<P: Piece> Volume<P> {
         requires { IsVolume (seen_of P.seen shape cells log scratch most) }
         ensures seen { volume_seen P.seen result ≡ seen_of P.seen shape cells log scratch most }
         ensures log { log_of result ≡ log }
+        ensures shape { shape_of result ≡ shape }
     {
         Volume {
             shape,
@@ -68,6 +69,7 @@ impl<P: Piece> Volume<P> {
     pub fn into_cells(self) -> (VolumeShape, Vec<Cell<P>>, VolumeLog<P>, Vec<u8>, u64)
         ensures seen { volume_seen P.seen self ≡ seen_of P.seen result.0 result.1 result.2 result.3 result.4 }
         ensures log { result.2 ≡ log_of self }
+        ensures shape { result.0 ≡ shape_of self }
     {
         let Volume {
             shape,

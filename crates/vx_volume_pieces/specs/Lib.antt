@@ -1,2 +1,3 @@
 pub mod Pieces
 pub mod Taken
+pub mod Laws

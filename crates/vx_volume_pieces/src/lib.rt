@@ -3,6 +3,7 @@
 
 mod back;
 mod cells;
+pub mod laws;
 mod region;
 mod room;
 mod taking;

@@ -1,12 +1,10 @@
 -- The pieces of the plexes of regions.
 use Rattle.std.specs.Prelude.{◌≡◌, List, [], ◌∷◌, ◌++◌, map, reverse}
 use Rattle.std.specs.List.{flat_map}
-use Rattle.std.specs.Global.{Vec}
 use Rattle.vx_piece.specs.Seen.{Seen}
 use Rattle.vx_cell.specs.declared.cell.Cell.{Cell}
-use Rattle.vx_cell.specs.declared.plex.Plex.{Plex}
 use Rattle.vx_cell.specs.Changes.{CellSeen, cell_seen}
-use Rattle.vx_cell.specs.Plexes.{PlexSeen, plexes_seen}
+use Rattle.vx_cell.specs.Plexes.{PlexSeen}
 
 -- the pieces of the plexes of a region, in order
 abbrev pub own_pieces : PlexSeen → List Seen
@@ -19,16 +17,9 @@ pieces_of plexes = flat_map own_pieces plexes
 abbrev pub all_pieces : List (List PlexSeen) → List Seen
 all_pieces regions = flat_map pieces_of regions
 
--- the plexes of each region, in order
-abbrev pub regions_seen : {P : Type 0} → (P → Seen) → List (Vec (Plex P)) → List (List PlexSeen)
-regions_seen {P = P} seen regions = map (λ (plexes : Vec (Plex P)). plexes_seen seen plexes.items) regions
-
 -- the plexes of each cell, in order
 abbrev pub cell_plexes : {P : Type 0} → (P → Seen) → List (Cell P) → List (List PlexSeen)
 cell_plexes {P = P} seen cells = map (λ (cell : Cell P). (cell_seen seen cell).plexes) cells
-
-abbrev pub cells_seen : {P : Type 0} → (P → Seen) → List (Cell P) → List CellSeen
-cells_seen seen cells = map (cell_seen seen) cells
 
 -- These cells are left, the last one first. That which was the first of them may have fewer pieces, and is else as it was.
 pub record AreLeft (old new : List CellSeen) : Type 0 where

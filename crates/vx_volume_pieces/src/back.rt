@@ -1,7 +1,8 @@
 ghost use Rattle.std.specs.Prelude.{◌≡◌, ◌+◌, ◌≤◌, ◌++◌, length, map, vec_len, vec_capacity, IfErr, OnOk, IsOk};
 ghost use Rattle.vx_carve.specs.Together.{SameSectors};
 ghost use Rattle.vx_cell.specs.Plexes.{plexes_seen};
-ghost use Rattle.vx_volume_pieces.specs.Pieces.{all_pieces, pieces_of, regions_seen};
+ghost use Rattle.vx_volume.specs.Opening.{regions_seen};
+ghost use Rattle.vx_volume_pieces.specs.Pieces.{all_pieces, pieces_of};
 
 use std::alloc::Global;
 use vx_carve::{Pool, uncarve};

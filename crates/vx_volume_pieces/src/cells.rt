@@ -1,7 +1,8 @@
 ghost use Rattle.std.specs.Prelude.{◌≡◌, ◌+◌, ◌≤◌, ◌++◌, length, map, vec_len, vec_capacity, IfErr, OnOk, IsOk};
 ghost use Rattle.vx_carve.specs.Together.{SameSectors};
 ghost use Rattle.vx_cell.specs.Changes.{cell_seen};
-ghost use Rattle.vx_volume_pieces.specs.Pieces.{AreLeft, all_pieces, cell_plexes, cells_seen, pieces_of};
+ghost use Rattle.vx_volume.specs.Volume.{cells_seen};
+ghost use Rattle.vx_volume_pieces.specs.Pieces.{AreLeft, all_pieces, cell_plexes, pieces_of};
 
 use crate::back::put_plexes;
 use std::alloc::Global;

@@ -6,7 +6,8 @@ ghost use Rattle.vx_layout.specs.declared.layout.Layout.{Layout};
 ghost use Rattle.vx_carve.specs.Together.{AreOnce, SameSectors};
 ghost use Rattle.vx_carve.specs.Carved.{HaveNumbers, StaysBeside};
 ghost use Rattle.vx_carve.specs.Strips.{ArePlexes, EachStrip, IsFreeStrip};
-ghost use Rattle.vx_volume_pieces.specs.Pieces.{all_pieces, regions_seen};
+ghost use Rattle.vx_volume.specs.Opening.{regions_seen};
+ghost use Rattle.vx_volume_pieces.specs.Pieces.{all_pieces};
 ghost use Rattle.vx_volume_pieces.specs.Taken.{AreDifferent, AreTakenRegions};
 
 use crate::back::put_last;

@@ -3,7 +3,8 @@ use Rattle.std.proofs.Common.{rules, arith, ◌≡◌, ◌++◌, [], ◌∷◌, 
 use Rattle.vx_carve.specs.Together.{SameSectors}
 use Rattle.vx_carve.proofs.Same.{same_refl}
 use Rattle.vx_cell.specs.Plexes.{PlexSeen, plexes_seen}
-use Rattle.vx_volume_pieces.specs.Pieces.{all_pieces, pieces_of, regions_seen}
+use Rattle.vx_volume.specs.Opening.{regions_seen}
+use Rattle.vx_volume_pieces.specs.Pieces.{all_pieces, pieces_of}
 use Rattle.vx_volume_pieces.proofs.Lists.{same_less, same_done, long_last, map_last}
 use Rattle.vx_volume_pieces.proofs.back.put_last.Goals as goal
 

@@ -1,7 +1,8 @@
 -- The regions that are left and the pool are together what there was.
 use Rattle.std.proofs.Common.{◌≡◌, ◌+◌, ◌≤◌, ◌++◌, length, map, vec_len, vec_capacity}
 use Rattle.vx_carve.specs.Together.{SameSectors}
-use Rattle.vx_volume_pieces.specs.Pieces.{all_pieces, regions_seen}
+use Rattle.vx_volume.specs.Opening.{regions_seen}
+use Rattle.vx_volume_pieces.specs.Pieces.{all_pieces}
 use Rattle.vx_volume_pieces.proofs.back.put_last.Given as goal
 
 abbrev pub invariant-left : goal.invariant-left

@@ -3,7 +3,8 @@ use Rattle.std.proofs.Common.{arith, ◌++◌, List, map}
 use Rattle.vx_carve.specs.Together.{SameSectors}
 use Rattle.vx_carve.proofs.Same.{same_refl, same_trans}
 use Rattle.vx_cell.specs.Plexes.{PlexSeen, plexes_seen}
-use Rattle.vx_volume_pieces.specs.Pieces.{all_pieces, pieces_of, regions_seen}
+use Rattle.vx_volume.specs.Opening.{regions_seen}
+use Rattle.vx_volume_pieces.specs.Pieces.{all_pieces, pieces_of}
 use Rattle.vx_volume_pieces.proofs.Lists.{same_turned, long_turned, map_turned, on_ok, if_err}
 use Rattle.vx_volume_pieces.proofs.back.put_regions.Goals as goal
 

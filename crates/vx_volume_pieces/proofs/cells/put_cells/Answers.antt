@@ -5,7 +5,8 @@ use Rattle.vx_carve.specs.Together.{SameSectors}
 use Rattle.vx_carve.proofs.Same.{same_refl}
 use Rattle.vx_cell.specs.Changes.{CellSeen, cell_seen}
 use Rattle.vx_cell.specs.Plexes.{PlexSeen}
-use Rattle.vx_volume_pieces.specs.Pieces.{all_pieces, cell_plexes, cells_seen, pieces_of}
+use Rattle.vx_volume.specs.Volume.{cells_seen}
+use Rattle.vx_volume_pieces.specs.Pieces.{all_pieces, cell_plexes, pieces_of}
 use Rattle.vx_volume_pieces.proofs.Lists.{same_turned, same_less, same_done, long_last, long_turned, map_last, map_turned, left_start, left_less, left_done}
 use Rattle.vx_volume_pieces.proofs.cells.put_cells.Goals as goal
 

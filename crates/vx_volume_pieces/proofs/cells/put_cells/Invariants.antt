@@ -2,7 +2,8 @@
 use Rattle.std.proofs.Common.{◌≡◌, ◌+◌, ◌≤◌, ◌++◌, List, length, map, reverse, vec_len, vec_capacity}
 use Rattle.vx_carve.specs.Together.{SameSectors}
 use Rattle.vx_cell.specs.Changes.{CellSeen}
-use Rattle.vx_volume_pieces.specs.Pieces.{all_pieces, cell_plexes, cells_seen}
+use Rattle.vx_volume.specs.Volume.{cells_seen}
+use Rattle.vx_volume_pieces.specs.Pieces.{all_pieces, cell_plexes}
 use Rattle.vx_volume_pieces.proofs.cells.put_cells.Given as goal
 
 abbrev pub invariant-left : goal.invariant-left

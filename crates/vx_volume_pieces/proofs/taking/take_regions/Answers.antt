@@ -11,7 +11,8 @@ use Rattle.vx_carve.proofs.Runs.{once_rest}
 use Rattle.vx_carve.proofs.Plexes.{in_region, before_region, after_region}
 use Rattle.vx_carve.proofs.Places.{blocks_on, blocks_free, blocks_stay, list_apart}
 use Rattle.vx_cell.specs.Plexes.{PlexSeen, plexes_seen}
-use Rattle.vx_volume_pieces.specs.Pieces.{all_pieces, pieces_of, regions_seen}
+use Rattle.vx_volume.specs.Opening.{regions_seen}
+use Rattle.vx_volume_pieces.specs.Pieces.{all_pieces, pieces_of}
 use Rattle.vx_volume_pieces.specs.Taken.{IsTakenRegion}
 use Rattle.vx_volume_pieces.proofs.Lists.{same_more, same_turned, map_last, map_turned, items_more, items_turned}
 use Rattle.vx_volume_pieces.proofs.taking.take_regions.Goals as goal

@@ -5,7 +5,8 @@ use Rattle.vx_layout.specs.declared.layout.Layout.{Layout}
 use Rattle.vx_layout.specs.Columns.{place_of}
 use Rattle.vx_carve.specs.Together.{SameSectors}
 use Rattle.vx_carve.specs.Carved.{IsFreeAt, StaysBeside}
-use Rattle.vx_volume_pieces.specs.Pieces.{all_pieces, regions_seen}
+use Rattle.vx_volume.specs.Opening.{regions_seen}
+use Rattle.vx_volume_pieces.specs.Pieces.{all_pieces}
 use Rattle.vx_volume_pieces.specs.Taken.{IsTakenRegion}
 use Rattle.vx_volume_pieces.proofs.taking.take_regions.Given as goal
 

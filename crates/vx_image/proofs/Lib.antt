@@ -1,5 +1,5 @@
 mod Counts
 pub mod Imports
 pub mod Members
-mod Own
+pub mod Own
 pub mod Readings

@@ -4,6 +4,6 @@ mod Once
 mod Chain
 mod Walks
 pub mod Plexes
-mod Apart
+pub mod Apart
 pub mod Shapes
 pub mod Room

@@ -1,1 +1,5 @@
+pub mod Blocks
 pub mod OtherVolumes
+pub mod VolumesRead
+pub mod Lives
+pub mod Drops

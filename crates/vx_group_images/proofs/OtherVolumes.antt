@@ -1,11 +1,10 @@
 -- A change in one volume of a group leaves the others.
-use Rattle.std.proofs.Common.{◌≡◌, ◌∙◌, ◌≢◌, ◌⊎◌, inl, inr, ℕ, ◌+◌, ◌-◌, ◌≤◌, Bool, true, false, cond, ◌==◌, ◌&&◌, ◌||◌, not, nat_le, nat_lt, List, [], ◌∷◌, Option, Some, None, refl, sym, ap, subst, arith}
+use Rattle.std.proofs.Common.{◌≡◌, ◌∙◌, ◌≢◌, inl, inr, ℕ, ◌+◌, Bool, true, false, cond, ◌==◌, not, List, [], ◌∷◌, Option, Some, None, refl, sym, subst, arith}
 use Rattle.std.specs.Prelude.{Contains}
 use Rattle.std.specs.List.{list_all}
 use Rattle.std.specs.Str.{bytes_eq}
-use Rattle.std.proofs.lemmas.Bool.{false≢true, and_parts, eqb-true, cond-true, cond-false, leb-true, ltb-true}
+use Rattle.std.proofs.lemmas.Bool.{false≢true, eqb-true}
 use Rattle.std.proofs.lemmas.Bool.Decides.{nat_tests}
-use Rattle.vx_base.specs.Blocks.{Contents}
 use Rattle.vx_base.specs.Named.{Word}
 use Rattle.vx_base.proofs.NamedLemmas.{bytes_eq_self, bytes_eq_same}
 use Rattle.vx_layout.specs.declared.strip.Strip.{Strip}
@@ -14,22 +13,20 @@ use Rattle.vx_layout.specs.Columns.{has_place}
 use Rattle.vx_layout.specs.Valid.{is_apart}
 use Rattle.vx_config_parts.specs.declared.object.Object.TheVariants.{PlexRecord}
 use Rattle.vx_config_parts.specs.declared.plex.Plex.{Plex}
-use Rattle.vx_config_parts.specs.declared.vol.Vol.{Vol}
 use Rattle.vx_config_parts.specs.Objects.{refers}
 use Rattle.vx_rules.proofs.InOrder.{names_differ}
 use Rattle.vx_objects.specs.declared.config.Config.{Config}
 use Rattle.vx_objects.specs.Config.{objects_of}
-use Rattle.vx_plexes.specs.Lies.{strips_of, PlexesLieApart}
-use Rattle.vx_plexes.proofs.Members.{IsIn, all_in, one_named, plex_in}
+use Rattle.vx_plexes.specs.Lies.{strips_of}
+use Rattle.vx_plexes.proofs.Members.{IsIn, one_named, plex_in}
 use Rattle.vx_plexes.proofs.Apart.{one_name, plexes_apart}
 use Rattle.vx_plexes.proofs.Plexes.{config_valid}
-use Rattle.vx_image.specs.Bytes.{Sectors, image_of}
 use Rattle.vx_image.specs.Own.{IsOfPlex, IsOfVolume, SameInside}
 use Rattle.vx_image.specs.Soundness.{IsSoundImage}
 use Rattle.vx_image.proofs.Members.{is_in, contains, each_from_all}
 use Rattle.vx_image.proofs.Own.{image_own}
-use Rattle.vx_moments.specs.World.{Device, Member, Group, World}
-use Rattle.vx_group_images.specs.Group.{public_of, sectors_of, image_on, HaveOwnDevices, IsSectorOf, DeviceStaysBut, ChangesOnly, AreVolumesSound}
+use Rattle.vx_moments.specs.World.{Device, Member, Group}
+use Rattle.vx_group_images.specs.Group.{public_of, sectors_of, image_on, HaveOwnDevices, IsSectorOf, DeviceStaysBut, ChangesOnly}
 use Rattle.vx_group_images.specs.Laws.{EachOtherImageStays, EachVolumeStaysSound}
 
 -- ---- plexes
@@ -70,7 +67,7 @@ module _ (g : Group) (vol other : Word) (old new : Word → Option Device) (own 
       let slot : is.member.slot ≡ m.slot = own is.member m is.there there is.device_is in
       let at : is.sector ≡ sector = let e = is.place_is in omega (arith, e) in
       let place : IsOfVolume g.config vol (record { disk = m.slot; sector = sector }) =
-          subst (λ s. IsOfVolume g.config vol (record { disk = m.slot; sector = s })) at (subst (λ d. IsOfVolume g.config vol (record { disk = d; sector = is.sector })) slot is.of) in
+      subst (λ s. IsOfVolume g.config vol (record { disk = m.slot; sector = s })) at (subst (λ d. IsOfVolume g.config vol (record { disk = d; sector = is.sector })) slot is.of) in
       differ (volumes_meet g.config other vol (record { disk = m.slot; sector = sector }) of place)
 
   same_sector : (o n : Option Device) (device : Word) (sector : ℕ) → (IsSectorOf g vol device (2048 + sector) → ⊥) → DeviceStaysBut (IsSectorOf g vol device) o n → public_of n sector ≡ public_of o sector

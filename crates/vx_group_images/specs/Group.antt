@@ -1,5 +1,5 @@
 -- The images of a group's volumes, out of the devices of the world.
-use Rattle.std.specs.Prelude.{◌≡◌, ◌≢◌, ℕ, ◌+◌, ◌==◌, if◌then◌else◌, Option, Some, None, List, [], ◌∷◌, Contains}
+use Rattle.std.specs.Prelude.{◌≡◌, ℕ, ◌+◌, ◌==◌, if◌then◌else◌, Option, Some, None, List, [], ◌∷◌, Contains}
 use Rattle.vx_base.specs.Blocks.{Contents}
 use Rattle.vx_base.specs.Named.{Word}
 use Rattle.vx_config_parts.specs.declared.vol.Vol.{Vol}
@@ -8,7 +8,7 @@ use Rattle.vx_image.specs.Bytes.{Sectors, image_of}
 use Rattle.vx_image.specs.Image.{Image}
 use Rattle.vx_image.specs.Own.{IsOfVolume}
 use Rattle.vx_image.specs.Soundness.{IsSoundImage, IsSoundPair}
-use Rattle.vx_moments.specs.World.{Device, Volume, Member, Group, World}
+use Rattle.vx_moments.specs.World.{Device, Member, Group, World}
 
 -- the sectors of a device's public region, which begins behind its private one
 abbrev pub public_of : Option Device → Contents

@@ -1,2 +1,5 @@
 pub mod Group
 pub mod Laws
+pub mod Lives
+pub mod Volumes
+pub mod Drops

@@ -18,7 +18,7 @@ use Rattle.vx_image.proofs.Members.{is_in, contains, each_from_all, one_from_any
 use Rattle.vx_image.proofs.Readings.{listed}
 use Rattle.vx_volume_laws.specs.Opening.{HaveOwnMaps}
 use Rattle.vx_volume_laws.specs.Start.{IsSamePlex, IsStartOf, EachEmptyBegins, EachSettledVolumeBegins}
-use Rattle.vx_volume_laws.proofs.Blocks.{below_count}
+use Rattle.vx_group_images.proofs.Blocks.{below_count}
 use Rattle.vx_volume_laws.proofs.Losses.{list_of, read_of, not_true}
 
 -- ---- an empty volume

@@ -9,7 +9,7 @@ ghost use Rattle.vx_volume_laws.specs.Opening.{EachOpeningIsFresh};
 ghost use Rattle.vx_volume_laws.specs.Recovery.{EachLossIsRecovered, EachRecoveryAgrees};
 ghost use Rattle.vx_volume_laws.specs.Start.{EachEmptyBegins, EachSettledVolumeBegins};
 ghost use Rattle.vx_volume_laws.specs.Tracks.{EachCallIsTracked};
-ghost use Rattle.vx_volume_laws.specs.Volumes.{EachVolumeIsLeft, EachVolumeIsReadBack};
+ghost use Rattle.vx_volume_laws.specs.Volumes.{EachVolumeIsLeft};
 
 /// After a loss and a recovery the available plexes hold one list, with every acknowledged write.
 pub fn each_loss_is_recovered()
@@ -59,11 +59,6 @@ pub fn each_settled_volume_begins()
 /// At whatever moment a started volume of the world is left, its bytes stand for it.
 pub fn each_volume_is_left()
     ensures { EachVolumeIsLeft }
-{}
-
-/// What is read from the bytes of a volume that was left lies within what was known of it.
-pub fn each_volume_is_read_back()
-    ensures { EachVolumeIsReadBack }
 {}
 
 /// What is known of what plexes lack, and the dirty regions, go on with each call by its entries and failures.

@@ -1,18 +1,16 @@
 -- Contents of whole devices that have the same rest behind their fronts.
-use Rattle.std.proofs.Common.{◌≡◌, ◌∙◌, ◌⊎◌, inl, inr, ℕ, zero, suc, ◌+◌, ◌-◌, ◌*◌, ◌<◌, ◌≤◌, Bool, true, false, cond, nat_lt, List, [], length, Option, Some, None, refl, sym, ap, subst, arith}
-use Rattle.std.specs.Prelude.{MatchOption, IsTrue}
+use Rattle.std.proofs.Common.{◌≡◌, ◌∙◌, ◌⊎◌, inl, inr, ℕ, ◌+◌, ◌-◌, ◌<◌, ◌≤◌, Bool, true, false, cond, nat_lt, List, length, Option, Some, None, refl, sym, ap, subst, arith}
+use Rattle.std.specs.Prelude.{MatchOption}
 use Rattle.std.proofs.lemmas.Bool.{cond-true, cond-false, lt-ltb, ltb-true}
-use Rattle.vx_base.specs.Blocks.{Contents, is_in, blocks_in, written, block_at}
+use Rattle.vx_base.specs.Blocks.{Contents, is_in, blocks_in, block_at}
 use Rattle.vx_base.specs.Named.{Word}
-use Rattle.vx_header.specs.Named.{Label, header_of}
 use Rattle.vx_header.specs.Said.{Said, toggle_of}
 use Rattle.vx_header.proofs.Toggles.{said_spells}
-use Rattle.vx_copies.specs.Image.{Offer, toggle_at, offer_of, offer_in, offer_told, blocks_from, half_start, filled, sectors_for}
-use Rattle.vx_copies.specs.Disks.{NamesHalf, KeepsNamed, SameOffer, RestStays, IsNew, Offers}
-use Rattle.vx_copies.specs.Written.{Holds, HalfStays, OldOrText, IsTurned, in_both}
+use Rattle.vx_copies.specs.Image.{toggle_at, offer_of, offer_in, half_start, filled, sectors_for}
+use Rattle.vx_copies.specs.Disks.{SameOffer, RestStays, IsNew, Offers}
+use Rattle.vx_copies.specs.Written.{Holds, HalfStays, IsTurned, in_both}
 use Rattle.vx_copies.proofs.Halves.{offer_same, blocks_same, few_sectors}
 use Rattle.vx_copies.proofs.InGroup.{in_same}
-use Rattle.vx_confdb.specs.Enlisted.{BehindOldOrText}
 use Rattle.vx_fronts.specs.Fronts.{with_rest}
 
 -- the first sectors are those of the front, and the others those of the rest

@@ -1,5 +1,5 @@
 -- Disks of which the fronts were called, with their whole devices.
-use Rattle.std.proofs.Common.{◌≡◌, ◌∙◌, ◌⊎◌, inl, inr, ℕ, ◌+◌, ◌-◌, ◌*◌, ◌<◌, ◌≤◌, Bool, true, false, ◌||◌, List, [], ◌∷◌, map, Option, Some, None, refl, sym, ap, subst, arith, length}
+use Rattle.std.proofs.Common.{◌≡◌, ◌∙◌, inl, inr, ℕ, ◌+◌, ◌-◌, ◌*◌, ◌<◌, ◌≤◌, Bool, true, false, ◌||◌, List, Option, Some, None, refl, sym, ap, subst, arith, length}
 use Rattle.std.specs.Prelude.{MatchOption, IsTrue}
 use Rattle.vx_base.specs.Blocks.{Contents}
 use Rattle.vx_base.specs.Counts.{Rose, later_count}
@@ -7,13 +7,12 @@ use Rattle.vx_base.specs.Named.{Word}
 use Rattle.vx_header.specs.Named.{Label, header_of}
 use Rattle.vx_header.specs.Said.{Said}
 use Rattle.vx_piece.specs.Seen.{Seen, Keeps}
-use Rattle.vx_copies.specs.Image.{Offer, toggle_at, offer_of, offer_told, names_group}
-use Rattle.vx_copies.specs.Lists.{Each, AllOf, AnyOf}
-use Rattle.vx_copies.specs.Disks.{DiskSeen, IsCut, IsReady, NamesHalf, CommitGoes, Drops, Offers, IsOffer, IsBelow, IsMember}
-use Rattle.vx_copies.specs.Written.{BothTell, IsTurned, Touches, Turns, NotTurned, TurnedOnce, TurnedAgain, OldOrText, IsQuiet, CarriesIfGood, IsCurrent, WritesJust, sectors_of}
+use Rattle.vx_copies.specs.Image.{Offer, offer_of, offer_told, names_group}
+use Rattle.vx_copies.specs.Disks.{DiskSeen, IsCut, IsReady, NamesHalf, CommitGoes, Drops, Offers, IsOffer, IsMember}
+use Rattle.vx_copies.specs.Written.{BothTell, IsTurned, Touches, Turns, TurnedOnce, OldOrText, IsQuiet, CarriesIfGood, IsCurrent, WritesJust, sectors_of}
 use Rattle.vx_copies.specs.Commit.{HasRisen}
-use Rattle.vx_confdb.specs.Prepare.{Says, label_in}
-use Rattle.vx_fronts.specs.Fronts.{Rest, Rests, with_rest, whole_told, whole_seen, with_device, whole_disk, HasPrivate}
+use Rattle.vx_confdb.specs.Prepare.{Says}
+use Rattle.vx_fronts.specs.Fronts.{Rest, with_rest, whole_told, whole_seen, with_device, HasPrivate}
 use Rattle.vx_fronts.proofs.Contents.{private, whole_offer, whole_offer_in, whole_toggle, half_stays, offers, holds, said_fits, turned, old_or_text, sector_same}
 
 -- ---- counts
@@ -33,11 +32,11 @@ pub true_left : (a c : Bool) → IsTrue a → IsTrue (a || c)
 true_left true c t = refl
 true_left false c t = cc
 
-pub kept_whole : (old new : Seen) (r : Rest) → Keeps old new → Keeps (whole_seen old r) (whole_seen new r)
-kept_whole old new r kept = record {
+pub kept_whole : (n m : ℕ) → m ≡ n → (old new : Seen) (r : Rest) → Keeps old new → Keeps (whole_seen n old r) (whole_seen m new r)
+kept_whole n m same old new r kept = record {
   device = kept.device;
   start = kept.start;
-  sectors = ap (λ n. n + r.sectors) kept.sectors;
+  sectors = same;
   stop = kept.stop;
   faults = let x = kept.faults in omega (arith, x);
   cut = or_left old.cut new.cut r.cut kept.cut;
@@ -96,7 +95,7 @@ offer_by n wide rest group (Some c) = whole_offer_in n wide rest c group
 -- it offers what its front does
 pub same_offer : (o : Option Rest) (h : DiskSeen) → HasPrivate h → (group : Word) → offer_told group (with_device o h).seen.told ≡ offer_told group h.seen.told
 same_offer None h wide group = refl
-same_offer (Some r) h wide group = offer_by h.seen.sectors wide r.contents group h.seen.told
+same_offer (Some r) h wide group = offer_by h.seen.sectors wide.front r.contents group h.seen.told
 
 pub goes_one : (first last : ℕ) (text : List ℕ) (o : Option Rest) (a b : DiskSeen) → HasPrivate a → CommitGoes first last text a b → CommitGoes first last text (with_device o a) (with_device o b)
 goes_one first last text None a b wide goes = goes
@@ -105,13 +104,13 @@ goes_one first last text (Some r) a b wide goes = record {
   name = goes.name;
   device = goes.device;
   size = goes.size;
-  kept = kept_whole a.seen b.seen r goes.kept;
+  kept = kept_whole a.sectors b.sectors goes.size a.seen b.seen r goes.kept;
   good = by a.good b.good goes.good;
-  offers = offers_whole a.seen.sectors b.seen.sectors goes.kept.sectors wide r.contents first last text a.seen.told b.seen.told goes.offers;
-  idle = λ e. ap (λ s. whole_seen s r) (goes.idle e);
+  offers = offers_whole a.seen.sectors b.seen.sectors goes.kept.sectors wide.front r.contents first last text a.seen.told b.seen.told goes.offers;
+  idle = λ e. ap (λ n. whole_seen n b.seen r) goes.size ∙ ap (λ s. whole_seen a.sectors s r) (goes.idle e);
 }
   where
-    by : (old new : Bool) → Drops old new a.seen b.seen → Drops old new (whole_seen a.seen r) (whole_seen b.seen r)
+    by : (old new : Bool) → Drops old new a.seen b.seen → Drops old new (whole_seen a.sectors a.seen r) (whole_seen b.sectors b.seen r)
     by old true drops = drops
     by false false drops = tt
     by true false drops = rose_whole a.seen.faults b.seen.faults r.faults drops
@@ -155,8 +154,8 @@ module _ (first last : ℕ) (text : List ℕ) (Masks Masks' : ℕ → Type 0) (m
       both_map (Some c) (Some d) both = turns_map c d both
   touches_one (Some r) a b wide goes is = record {
     turns = both_whole a.seen.sectors b.seen.sectors goes.kept.sectors r.contents (Turns first last text Masks a b) (Turns first last text Masks' (with_device (Some r) a) (with_device (Some r) b))
-        (λ c d t. turns_one a b (with_device (Some r) a) (with_device (Some r) b) a.seen.sectors wide r.contents c d refl refl refl t) a.seen.told b.seen.told is.turns;
-    only = both_whole a.seen.sectors b.seen.sectors goes.kept.sectors r.contents (OldOrText text) (OldOrText text) (λ c d t k not. old_or_text a.seen.sectors wide r.contents text c d k (t k not)) a.seen.told b.seen.told is.only;
+        (λ c d t. turns_one a b (with_device (Some r) a) (with_device (Some r) b) a.seen.sectors wide.front r.contents c d refl refl refl t) a.seen.told b.seen.told is.turns;
+    only = both_whole a.seen.sectors b.seen.sectors goes.kept.sectors r.contents (OldOrText text) (OldOrText text) (λ c d t k not. old_or_text a.seen.sectors wide.front r.contents text c d k (t k not)) a.seen.told b.seen.told is.only;
     reads = ap (λ n. later_count n r.reads) is.reads;
     writes = let w = is.writes in at_most b.seen.writes a.seen.writes ((last + 1 - first) * sectors_of text) r.writes w;
   }
@@ -188,12 +187,12 @@ pub cut_one : (o : Option Rest) (h : DiskSeen) → IsCut h → IsCut (with_devic
 cut_one None h cut = cut
 cut_one (Some r) h cut = true_left h.seen.cut r.cut cut
 
-pub ready_one : (o : Option Rest) (h : DiskSeen) → IsReady h → IsReady (with_device o h)
-ready_one None h ready = ready
-ready_one (Some r) h ready = record {
+pub ready_one : (o : Option Rest) (h : DiskSeen) → HasPrivate h → IsReady h → IsReady (with_device o h)
+ready_one None h wide ready = ready
+ready_one (Some r) h wide ready = record {
   slot = ready.slot;
   half = ready.half;
-  sectors = let s = ready.sectors in omega (arith, s);
+  sectors = wide.device;
   names = λ good. named h.seen.told (ready.names good);
 }
   where
@@ -207,13 +206,13 @@ says_one label (Some r) h wide says = by h.seen.told says
   where
     by : (t : Option Contents) → Says label t → Says label (whole_told h.seen.sectors r.contents t)
     by None says = tt
-    by (Some c) says = ap header_of (private h.seen.sectors wide r.contents c 0 (omega arith)) ∙ says
+    by (Some c) says = ap header_of (private h.seen.sectors wide.front r.contents c 0 (omega arith)) ∙ says
 
 -- what it offers of a number
 pub offer_one : (sequence mask : ℕ) (text : List ℕ) (o : Option Rest) (h : DiskSeen) → HasPrivate h → IsOffer sequence mask text h → IsOffer sequence mask text (with_device o h)
 offer_one sequence mask text None h wide is = is
 offer_one sequence mask text (Some r) h wide is = λ good.
-    told_whole h.seen.sectors r.contents (λ c. offer_of c ≡ Some (let x : Offer = record { sequence = sequence; good = mask; text = text } in x)) (λ c e. whole_offer h.seen.sectors wide r.contents c ∙ e) h.seen.told (is good)
+    told_whole h.seen.sectors r.contents (λ c. offer_of c ≡ Some (let x : Offer = record { sequence = sequence; good = mask; text = text } in x)) (λ c e. whole_offer h.seen.sectors wide.front r.contents c ∙ e) h.seen.told (is good)
 
 pub carries_one : (sequence mask : ℕ) (text : List ℕ) (o : Option Rest) (h : DiskSeen) → HasPrivate h → CarriesIfGood sequence mask text h → CarriesIfGood sequence mask text (with_device o h)
 carries_one sequence mask text None h wide is = is
@@ -221,8 +220,8 @@ carries_one sequence mask text (Some r) h wide is = λ good. told_whole h.seen.s
   where
     current : (c : Contents) → IsCurrent sequence mask text h.half c → IsCurrent sequence mask text h.half (with_rest h.seen.sectors c r.contents)
     current c now =
-        let fits = said_fits h.seen.sectors wide r.contents c (record { sequence = sequence; half = h.half; length = length text; good = mask }) now.says in
-        record { says = whole_toggle h.seen.sectors wide r.contents c ∙ now.says; holds = holds h.seen.sectors wide r.contents text h.half c fits.0 fits.1 now.holds }
+        let fits = said_fits h.seen.sectors wide.front r.contents c (record { sequence = sequence; half = h.half; length = length text; good = mask }) now.says in
+        record { says = whole_toggle h.seen.sectors wide.front r.contents c ∙ now.says; holds = holds h.seen.sectors wide.front r.contents text h.half c fits.0 fits.1 now.holds }
 
 -- a device whose front is a member is one
 pub member_back : (o : Option Rest) (h : DiskSeen) → HasPrivate h → (group : Word) → IsMember group (with_device o h).seen.told → IsMember group h.seen.told
@@ -231,4 +230,4 @@ member_back (Some r) h wide group is = by h.seen.told is
   where
     by : (t : Option Contents) → IsMember group (whole_told h.seen.sectors r.contents t) → IsMember group t
     by None is = absurd is
-    by (Some c) is = ap (λ x. names_group group (header_of x)) (sym (private h.seen.sectors wide r.contents c 0 (omega arith))) ∙ is
+    by (Some c) is = ap (λ x. names_group group (header_of x)) (sym (private h.seen.sectors wide.front r.contents c 0 (omega arith))) ∙ is

@@ -1,5 +1,5 @@
 -- Lists of disks of which the fronts were called, with their whole devices.
-use Rattle.std.proofs.Common.{◌≡◌, ◌∙◌, ◌⊎◌, inl, inr, ℕ, zero, suc, ◌+◌, ◌≤◌, ◌<◌, ◌==◌, Bool, true, false, cond, ◌||◌, ◌&&◌, List, [], ◌∷◌, map, take, length, Option, Some, None, refl, sym, ap, subst, arith}
+use Rattle.std.proofs.Common.{◌≡◌, ◌∙◌, ◌⊎◌, inl, inr, ℕ, zero, suc, ◌+◌, ◌≤◌, ◌<◌, ◌==◌, Bool, false, cond, ◌||◌, ◌&&◌, List, [], ◌∷◌, map, take, Option, Some, None, refl, sym, ap, subst, arith}
 use Rattle.std.specs.Prelude.{MatchOption, IsTrue}
 use Rattle.vx_base.specs.Counts.{Rose}
 use Rattle.vx_base.specs.Named.{Word}
@@ -8,13 +8,13 @@ use Rattle.vx_copies.specs.Image.{Offer, offer_told, highest}
 use Rattle.vx_copies.specs.Lists.{Each, AllOf, AnyOf}
 use Rattle.vx_copies.specs.Disks.{DiskSeen, IsCut, IsReady, IsBelow, IsOffer, IsNew, CommitGoes, good_mask, good_count, is_good_slot}
 use Rattle.vx_copies.specs.Config.{offers_of, configuration, GivesOldOrNew, GivesNew, IsReadableGood, HasGoodMask}
-use Rattle.vx_copies.specs.Chain.{OffersSince, IsInOrder, AreInOrder, OneOffersSince, IsLed}
+use Rattle.vx_copies.specs.Chain.{OffersSince, IsInOrder, AreInOrder, IsLed}
 use Rattle.vx_copies.specs.Commit.{AllOffer, HasRisen}
 use Rattle.vx_copies.specs.Written.{Recorded, Touches, IsMaskOf, IsQuiet, CarriesIfGood, IsDone, WritesJust}
 use Rattle.vx_confdb.specs.Prepare.{label_in}
 use Rattle.vx_confdb.specs.Groups.{IsMemberOf}
 use Rattle.vx_fronts.specs.Fronts.{Rest, Rests, with_device, whole_disk, HasPrivate}
-use Rattle.vx_fronts.specs.Laws.{whole_disks, Commits, Carries, EachCommitIsWhole, EachTextIsCarriedWhole, EachWriteIsWhole, EachFailureIsWhole, EachCutIsWhole, EachConfigurationIsWhole, EachMaskIsWhole, EachLeadIsWhole}
+use Rattle.vx_fronts.specs.Laws.{EachCommitIsWhole, EachTextIsCarriedWhole, EachWriteIsWhole, EachFailureIsWhole, EachCutIsWhole, EachConfigurationIsWhole, EachMaskIsWhole, EachLeadIsWhole}
 use Rattle.vx_fronts.proofs.Disks.{same_good, same_slot, same_offer, goes_one, touches_one, quiet_one, rose_one, risen_one, writes_one, cut_one, ready_one, says_one, offer_one, carries_one, member_back}
 
 module _ (rests : Rests) where
@@ -138,7 +138,7 @@ module _ (rests : Rests) where
           by [] [] wide each = tt
           by [] (b ∷ bs) wide each = absurd each
           by (a ∷ hs) [] wide each = absurd each
-          by (a ∷ hs) (b ∷ bs) wide each = (let x = wide.0 in let y = each.0.kept.sectors in omega (arith, x, y), by hs bs wide.1 each.1)
+          by (a ∷ hs) (b ∷ bs) wide each = (record { front = let x = wide.0.front in let y = each.0.kept.sectors in omega (arith, x, y); device = let x = wide.0.device in let y = each.0.size in omega (arith, x, y) }, by hs bs wide.1 each.1)
 
       -- each set of devices that can be read gives what the fronts give
       pub whole_old_or_new : (group : Word) (from to : ℕ) (text : List ℕ) → GivesOldOrNew group from to text hs bs → GivesOldOrNew group from to text (map w hs) (map w bs)
@@ -198,7 +198,7 @@ module _ (rests : Rests) where
     pub whole_gives : GivesNew group first last text bs → GivesNew group first last text (map w bs)
     whole_gives gives readable any =
         let there = gives readable (any_front (IsReadableGood group readable) (IsReadableGood group readable)
-            (λ o h private is. (ap readable (sym (same_slot o h)) ∙ is.0, subst IsTrue (same_good o h) is.1, member_back o h private group is.2)) bs wide any) in
+        (λ o h private is. (ap readable (sym (same_slot o h)) ∙ is.0, subst IsTrue (same_good o h) is.1, member_back o h private group is.2)) bs wide any) in
         let same = sym (same_configuration group readable bs wide) in
         (subst (IsNew first last text) same there.0, subst (HasGoodMask (map w bs)) same (masked (configuration group readable bs) there.1))
       where
@@ -207,7 +207,7 @@ module _ (rests : Rests) where
         masked (Some x) is = is ∙ sym (same_mask bs)
 
     pub whole_ready : AllOf IsReady bs → AllOf IsReady (map w bs)
-    whole_ready ready = all_whole IsReady IsReady (λ o h private is. ready_one o h is) bs wide ready
+    whole_ready ready = all_whole IsReady IsReady (λ o h private is. ready_one o h private is) bs wide ready
 
     pub whole_headed : AllOf (IsMemberOf group) bs → AllOf (IsMemberOf group) (map w bs)
     whole_headed headed = all_whole (IsMemberOf group) (IsMemberOf group) headed_one bs wide headed

@@ -1,14 +1,12 @@
 -- What is written to the fronts of a group's disks is written to their whole devices.
-use Rattle.std.specs.Prelude.{◌≡◌, ℕ, ◌+◌, ◌≤◌, Bool, List, [], length, map, Option, None}
+use Rattle.std.specs.Prelude.{◌≡◌, ℕ, ◌+◌, Bool, List, map}
 use Rattle.vx_base.specs.Named.{Word}
 use Rattle.vx_copies.specs.Lists.{Each, AllOf, AnyOf}
-use Rattle.vx_copies.specs.Image.{offer_told}
 use Rattle.vx_copies.specs.Disks.{DiskSeen, IsCut, IsReady, IsBelow, CommitGoes, good_mask}
 use Rattle.vx_copies.specs.Config.{GivesOldOrNew, GivesNew, configuration}
 use Rattle.vx_copies.specs.Chain.{AreInOrder, IsLed}
 use Rattle.vx_copies.specs.Commit.{AllOffer, HasRisen}
-use Rattle.vx_copies.specs.Written.{Recorded, IsMaskOf, IsDone, IsQuiet, WritesJust}
-use Rattle.vx_confdb.specs.Enlisted.{Enlists}
+use Rattle.vx_copies.specs.Written.{Recorded, IsDone, IsQuiet, WritesJust}
 use Rattle.vx_confdb.specs.Groups.{IsMemberOf}
 use Rattle.vx_fronts.specs.Fronts.{Rests, whole_disk, HasPrivate}
 

@@ -1,0 +1,23 @@
+//! Laws of disks of which a group has the fronts, each a function with an empty body whose contract states it.
+
+ghost use Rattle.vx_fronts.specs.Laws.{EachCommitIsWhole, EachConfigurationIsWhole, EachCutIsWhole, EachFailureIsWhole, EachLeadIsWhole, EachMaskIsWhole, EachTextIsCarriedWhole, EachWriteIsWhole};
+
+/// A commit to the fronts of a group's disks is one to their whole devices, however it ends.
+pub fn each_commit_is_whole()
+    ensures commits { EachCommitIsWhole }
+    ensures carries { EachTextIsCarriedWhole }
+    ensures writes { EachWriteIsWhole }
+{}
+
+/// A failure of a front, and the loss of its power, are those of the whole device.
+pub fn each_failure_is_whole()
+    ensures failed { EachFailureIsWhole }
+    ensures cut { EachCutIsWhole }
+{}
+
+/// The whole devices give the configuration that the fronts give, have the same good slots, and are led by the same disks.
+pub fn each_configuration_is_whole()
+    ensures gives { EachConfigurationIsWhole }
+    ensures mask { EachMaskIsWhole }
+    ensures led { EachLeadIsWhole }
+{}

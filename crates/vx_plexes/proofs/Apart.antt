@@ -125,7 +125,7 @@ apart_columns c v (suc n) name col =
 
 -- ---- two plexes
 
-one_name : (o : Option Word) (a b : Word) → refers o a ≡ true → refers o b ≡ true → a ≡ b
+pub one_name : (o : Option Word) (a b : Word) → refers o a ≡ true → refers o b ≡ true → a ≡ b
 one_name None a b h k = absurd (false≢true h)
 one_name (Some n) a b h k = sym (bytes_eq_same n a h) ∙ bytes_eq_same n b k
 

@@ -1,9 +1,9 @@
 pub mod Members
-mod Valid
+pub mod Valid
 mod Once
 mod Chain
 mod Walks
 pub mod Plexes
-mod Apart
+pub mod Apart
 pub mod Shapes
 pub mod Room

@@ -2,5 +2,8 @@
 #![tactic(auto)]
 
 mod form;
+pub mod laws;
+mod masks;
+mod plexes;
 
-pub use form::VolumeForm;
+pub use form::{VolumeForm, form_of};

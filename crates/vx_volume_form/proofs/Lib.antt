@@ -1,0 +1,9 @@
+mod Distinct
+mod Zips
+mod Rules
+mod Maps
+mod Bits
+mod Places
+mod Rooms
+mod Unions
+mod Lists

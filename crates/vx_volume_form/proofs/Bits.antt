@@ -41,7 +41,7 @@ not_true false h = refl
 not_false : (b : Bool) → b ≡ false → not b ≡ true
 not_false b h = ap not h
 
-kept : {A : Type 0} (test : A → Bool) (xs : List A) (x : A) → IsIn xs x → test x ≡ true → IsIn (filter test xs) x
+pub kept : {A : Type 0} (test : A → Bool) (xs : List A) (x : A) → IsIn xs x → test x ≡ true → IsIn (filter test xs) x
 kept test xs x there passes = is_in _ x (into_filter test xs x (contains xs x there) passes)
 
 module _ (c : Config) (good : ℕ) (v : Vol) where
@@ -59,27 +59,27 @@ module _ (c : Config) (good : ℕ) (v : Vol) where
       let parts = and_parts (is_data_plex_of v.name r.plex) (not (is_on c good r.plex)) w.1 in
       record { plex = r.plex; there = w.0; own = parts.0; map_is = r.map_is; on = not_true (is_on c good r.plex) parts.1 }
 
-  into_on : (p : Plex) → IsIn c.plexes p → is_data_plex_of v.name p ≡ true → is_on c good p ≡ true → is_among (map_or_zero p.map) (maps_of (on_plexes c good v.name)) ≡ true
+  pub into_on : (p : Plex) → IsIn c.plexes p → is_data_plex_of v.name p ≡ true → is_on c good p ≡ true → is_among (map_or_zero p.map) (maps_of (on_plexes c good v.name)) ≡ true
   into_on p there own on = among_plex (on_plexes c good v.name) p (kept (λ p. is_data_plex_of v.name p && is_on c good p) c.plexes p there (and_from _ _ own on))
 
-  into_off : (p : Plex) → IsIn c.plexes p → is_data_plex_of v.name p ≡ true → is_on c good p ≡ false → is_among (map_or_zero p.map) (maps_of (off_plexes c good v.name)) ≡ true
+  pub into_off : (p : Plex) → IsIn c.plexes p → is_data_plex_of v.name p ≡ true → is_on c good p ≡ false → is_among (map_or_zero p.map) (maps_of (off_plexes c good v.name)) ≡ true
   into_off p there own off = among_plex (off_plexes c good v.name) p (kept (λ p. is_data_plex_of v.name p && not (is_on c good p)) c.plexes p there (and_from _ _ own (not_false (is_on c good p) off)))
 
-  into_held : (p : Plex) → IsIn c.plexes p → is_data_plex_of v.name p ≡ true → is_held c good p ≡ true → is_among (map_or_zero p.map) (maps_of (held_plexes c good v.name)) ≡ true
+  pub into_held : (p : Plex) → IsIn c.plexes p → is_data_plex_of v.name p ≡ true → is_held c good p ≡ true → is_among (map_or_zero p.map) (maps_of (held_plexes c good v.name)) ≡ true
   into_held p there own held = among_plex (held_plexes c good v.name) p (kept (λ p. is_data_plex_of v.name p && is_held c good p) c.plexes p there (and_from _ _ own held))
 
   module _ (of : IsVolOf c v) (shape : VolumeShape) (is : IsShapeOf c good v shape) where
-    on_plex : (k : ℕ) → has shape.on k ≡ true → IsPlexAt c good v k true
+    pub on_plex : (k : ℕ) → has shape.on k ≡ true → IsPlexAt c good v k true
     on_plex k h = on_at k (sym (is.on.each k) ∙ h)
 
-    off_plex : (k : ℕ) → has shape.off k ≡ true → IsPlexAt c good v k false
+    pub off_plex : (k : ℕ) → has shape.off k ≡ true → IsPlexAt c good v k false
     off_plex k h = off_at k (sym (is.off.each k) ∙ h)
 
     snap_of : (k : ℕ) → has shape.snaps k ≡ true → HasSnap c v k
     snap_of k h = snap_among c v k (sym (is.snaps.each k) ∙ h)
 
     -- a map is not on and off
-    on_off : (j k : ℕ) → IsPlexAt c good v j true → IsPlexAt c good v k false → j ≡ k → ⊥
+    pub on_off : (j k : ℕ) → IsPlexAt c good v j true → IsPlexAt c good v k false → j ≡ k → ⊥
     on_off j k p q e =
         let one = one_of_map c v of p.plex q.plex p.there q.there p.own q.own (p.map_is ∙ e ∙ sym q.map_is) in
         false≢true (sym q.on ∙ ap (λ x. is_on c good x) (sym one) ∙ p.on)
@@ -135,7 +135,7 @@ module _ (c : Config) (good : ℕ) (v : Vol) where
           maps = λ there. (λ k h. let below = low k h in let more = for.maps there in omega (arith, below, more), for.maps there);
         }
 
-    held_on : (p : Plex) → (a : Bool) → is_on c good p ≡ a → IsIn c.plexes p → is_data_plex_of v.name p ≡ true → IsDataIn shape.on shape.off (map_or_zero p.map)
+    pub held_on : (p : Plex) → (a : Bool) → is_on c good p ≡ a → IsIn c.plexes p → is_data_plex_of v.name p ≡ true → IsDataIn shape.on shape.off (map_or_zero p.map)
     held_on p true e there own = inl (is.on.each (map_or_zero p.map) ∙ into_on p there own e)
     held_on p false e there own = inr (is.off.each (map_or_zero p.map) ∙ into_off p there own e)
 

@@ -1,9 +1,9 @@
-mod Distinct
-mod Zips
-mod Rules
-mod Maps
-mod Bits
-mod Places
-mod Rooms
-mod Unions
-mod Lists
+pub mod Distinct
+pub mod Zips
+pub mod Rules
+pub mod Maps
+pub mod Bits
+pub mod Places
+pub mod Rooms
+pub mod Unions
+pub mod Lists

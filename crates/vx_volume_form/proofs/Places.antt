@@ -65,7 +65,7 @@ module _ (c : Config) (good : ℕ) where
       let parts = and_parts (refers r.subdisk.plex p.name) (r.subdisk.col == col) r.piece.1 in
       subst (λ y. lies_in (map public_of (good_disks good c.disks)) y ≡ true) (sym r.is) (strip_lies p held r.subdisk r.piece.0 parts.0))
 
-  columns_lie : (p : Plex) → is_held c good p ≡ true → (n col : ℕ) → all_lie_in (map public_of (good_disks good c.disks)) (columns_from n c p.name col) ≡ true
+  pub columns_lie : (p : Plex) → is_held c good p ≡ true → (n col : ℕ) → all_lie_in (map public_of (good_disks good c.disks)) (columns_from n c p.name col) ≡ true
   columns_lie p held zero col = refl
   columns_lie p held (suc n) col = and_from _ _ (strips_lie p held (length c.subdisks) col 0) (columns_lie p held n (col + 1))
 

@@ -1,0 +1,4 @@
+mod Ranges
+mod Runs
+mod Held
+mod Opening

@@ -2,3 +2,4 @@ mod Ranges
 mod Runs
 mod Held
 mod Opening
+mod Loaded

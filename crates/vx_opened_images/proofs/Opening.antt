@@ -89,12 +89,12 @@ well_formed c good bytes v of =
 
 -- ---- a region
 
-same_item : {A : Type 0} (none : A) (xs : List A) (i : ℕ) → item_at none xs i ≡ slice_index_or xs i none
+pub same_item : {A : Type 0} (none : A) (xs : List A) (i : ℕ) → item_at none xs i ≡ slice_index_or xs i none
 same_item none [] i = refl
 same_item none (x ∷ xs) zero = refl
 same_item none (x ∷ xs) (suc i) = same_item none xs i
 
-some_of : {A : Type 0} (xs : List A) (j : ℕ) → j < length xs → A
+pub some_of : {A : Type 0} (xs : List A) (j : ℕ) → j < length xs → A
 some_of [] j lt = absurd (omega (arith, lt))
 some_of (x ∷ xs) j lt = x
 

@@ -2,6 +2,7 @@
 //! promise them.
 #![tactic(auto)]
 
+ghost use Rattle.vx_opened_images.specs.Logs.{EachAbsentLogShowsACopy, EachLoadedLogShowsACopy};
 ghost use Rattle.vx_opened_images.specs.Opened.{EachImageIsWellFormed, EachOpenedVolumeIsItsImage, EachOpenedVolumeStands};
 
 /// The image of a volume of a configuration is well formed.
@@ -14,4 +15,11 @@ pub fn each_image_is_well_formed()
 pub fn each_opened_volume_is_its_image()
     ensures image { EachOpenedVolumeIsItsImage }
     ensures stands { EachOpenedVolumeStands }
+{}
+
+/// A log that was loaded from the copies of a volume shows what a copy of its image marks, and so does the absent log of a
+/// volume without a DCO.
+pub fn each_log_shows_a_copy()
+    ensures loaded { EachLoadedLogShowsACopy }
+    ensures absent { EachAbsentLogShowsACopy }
 {}

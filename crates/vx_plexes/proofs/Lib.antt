@@ -1,5 +1,5 @@
 pub mod Members
-mod Valid
+pub mod Valid
 mod Once
 mod Chain
 mod Walks

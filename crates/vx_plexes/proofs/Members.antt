@@ -116,7 +116,7 @@ not_false true h = absurd (false≢true h)
 not_false false h = refl
 
 -- no later record has the name of an earlier one
-later_differs : (before os : List Object) (x y : Object) → repeated_after before os ≡ None → IsIn before x → IsIn os y → name_of x ≡ name_of y → ⊥
+pub later_differs : (before os : List Object) (x y : Object) → repeated_after before os ≡ None → IsIn before x → IsIn os y → name_of x ≡ name_of y → ⊥
 later_differs before [] x y e h k same = k
 later_differs before (o ∷ os) x y e h (inl k) same =
     let none = first_none (unless (not (has_name (name_of o) before)) (Exists (name_of o))) (repeated_after (before ++ o ∷ []) os) e in

@@ -5,6 +5,7 @@ use Rattle.std.specs.Str.{bytes_eq}
 use Rattle.std.proofs.lemmas.Bool.{false≢true, and_parts, and_from, cases_lt, le-leb, leb-true, lt-ltb, ltb-true, eq-eqb, eqb-true, or_left, or_right}
 use Rattle.vx_base.specs.Named.{Word}
 use Rattle.vx_base.proofs.NamedLemmas.{bytes_eq_same}
+use Rattle.vx_block.specs.Geometry.{is_geometry}
 use Rattle.vx_layout.specs.Columns as layout
 use Rattle.vx_layout.specs.Valid.{is_column, are_apart, is_layout}
 use Rattle.vx_config_parts.specs.declared.object.Object.TheVariants.{PlexRecord, VolRecord}
@@ -14,11 +15,11 @@ use Rattle.vx_config_parts.specs.declared.plex.PlexKind.TheVariants.{Data, Log}
 use Rattle.vx_config_parts.specs.declared.plex.PlexLayout.{PlexLayout}
 use Rattle.vx_config_parts.specs.declared.plex.PlexLayout.TheVariants.{Concat, Stripe}
 use Rattle.vx_config_parts.specs.declared.vol.Vol.{Vol}
-use Rattle.vx_config_parts.specs.Objects.{refers, is_data}
+use Rattle.vx_config_parts.specs.Objects.{refers, is_data, is_log, is_log_plex_of}
 use Rattle.vx_extents.specs.Below.{all_below}
 use Rattle.vx_extents.specs.Columns as extents
 use Rattle.vx_extents.specs.Columns.{is_in_column, all_pieces_good, column_begins, columns_are_equal, columns_are_good, layout_is_good, plex_length}
-use Rattle.vx_extents.specs.Sizes.{holds, layout_fits_kind}
+use Rattle.vx_extents.specs.Sizes.{holds, layout_fits_kind, log_length}
 use Rattle.vx_rules.specs.Limits.{is_short, fits_word, map_fits}
 use Rattle.vx_rules.specs.Whole.{holds_volume}
 use Rattle.vx_objects.specs.declared.config.Config.{Config}
@@ -140,8 +141,8 @@ data_holds : (k : PlexKind) (size : ℕ) (v : Vol) → is_data k ≡ true → ho
 data_holds Data size v h k = leb-true v.len size k
 data_holds Log size v h k = absurd (false≢true h)
 
-same_len : (v w : Vol) → VolRecord v ≡ VolRecord w → v.len ≡ w.len
-same_len v w e = let same : v ≡ w = cc in ap (λ x. x.len) same
+same_vol : (v w : Vol) → VolRecord v ≡ VolRecord w → v ≡ w
+same_vol v w e = cc
 
 volume_fits : (c : Config) → IsValid c → (p : Plex) (v : Vol) → IsIn (objects_of c) (VolRecord v) → is_data p.kind ≡ true → (o : Option Word) → refers o v.name ≡ true → holds_volume (objects_of c) p o ≡ true → v.len ≤ plex_length (objects_of c) p
 volume_fits c e p v h kind None r w = absurd (false≢true r)
@@ -149,15 +150,39 @@ volume_fits c e p v h kind (Some vol) r w =
     let found = vol_any (λ x. bytes_eq x.name vol && holds p.kind (plex_length (objects_of c) p) x) (objects_of c) w in
     let parts = and_parts (bytes_eq found.0.name vol) (holds p.kind (plex_length (objects_of c) p) found.0) found.2 in
     let name = bytes_eq_same found.0.name vol parts.0 ∙ bytes_eq_same vol v.name r in
-    let len = same_len found.0 v (one_named [] (objects_of c) (VolRecord found.0) (VolRecord v) (names_differ (objects_of c) e) found.1 h name) in
+    let len = ap (λ (x : Vol). x.len) (same_vol found.0 v (one_named [] (objects_of c) (VolRecord found.0) (VolRecord v) (names_differ (objects_of c) e) found.1 h name)) in
     let fits = data_holds p.kind (plex_length (objects_of c) p) found.0 kind parts.1 in
     omega (arith, len, fits)
+
+-- the blocks of its columns are the sectors of the plex
+sectors_are : (c : Config) → IsValid c → (p : Plex) → IsGood c p → IsShape c p → layout.capacity (columns_of c p) ≡ plex_length (objects_of c) p
+sectors_are c e p g shape =
+    ap (λ n. n * layout.column_length (layout.column_at (columns_of c p) 0)) (columns_length p.ncol c p.name 0) ∙ ap (λ n. p.ncol * n) (size_is c e p g shape.some)
 
 pub holds_its_volume : (c : Config) → IsValid c → (p : Plex) → IsIn (objects_of c) (PlexRecord p) → HoldsItsVolume c p (columns_of c p)
 holds_its_volume c e p h = λ v there of.
     let g = plex_good c e p h in
-    let shape = shape_of c p p.layout g.shape in
     let parts = and_parts (refers p.vol v.name) (is_data p.kind) of in
     let fits = volume_fits c e p v (one_in (objects_of c) (VolRecord v) there) parts.1 p.vol parts.0 g.volume in
-    let sectors : layout.capacity (columns_of c p) ≡ plex_length (objects_of c) p = ap (λ n. n * layout.column_length (layout.column_at (columns_of c p) 0)) (columns_length p.ncol c p.name 0) ∙ ap (λ n. p.ncol * n) (size_is c e p g shape.some) in
-    subst (λ n. v.len ≤ n) (sym sectors) fits
+    subst (λ n. v.len ≤ n) (sym (sectors_are c e p g (shape_of c p p.layout g.shape))) fits
+
+log_holds : (k : PlexKind) (size : ℕ) (v : Vol) → is_log k ≡ true → holds k size v ≡ true → log_length v.len v.region ≤ size
+log_holds Data size v h k = absurd (false≢true h)
+log_holds Log size v h k = leb-true (log_length v.len v.region) size (and_parts (is_geometry v.len v.region) (nat_le (log_length v.len v.region) size) k).1
+
+log_fits : (c : Config) → IsValid c → (p : Plex) (v : Vol) → IsIn (objects_of c) (VolRecord v) → is_log p.kind ≡ true → (o : Option Word) → refers o v.name ≡ true → holds_volume (objects_of c) p o ≡ true → log_length v.len v.region ≤ plex_length (objects_of c) p
+log_fits c e p v h kind None r w = absurd (false≢true r)
+log_fits c e p v h kind (Some vol) r w =
+    let found = vol_any (λ x. bytes_eq x.name vol && holds p.kind (plex_length (objects_of c) p) x) (objects_of c) w in
+    let parts = and_parts (bytes_eq found.0.name vol) (holds p.kind (plex_length (objects_of c) p) found.0) found.2 in
+    let name = bytes_eq_same found.0.name vol parts.0 ∙ bytes_eq_same vol v.name r in
+    let same = same_vol found.0 v (one_named [] (objects_of c) (VolRecord found.0) (VolRecord v) (names_differ (objects_of c) e) found.1 h name) in
+    subst (λ x. log_length x.len x.region ≤ plex_length (objects_of c) p) same (log_holds p.kind (plex_length (objects_of c) p) found.0 kind parts.1)
+
+-- a log plex of a volume has room for its change maps
+pub holds_its_log : (c : Config) → IsValid c → (p : Plex) → IsIn (objects_of c) (PlexRecord p) → (v : Vol) → IsIn (objects_of c) (VolRecord v) → is_log_plex_of v.name p ≡ true →
+    log_length v.len v.region ≤ layout.capacity (columns_of c p)
+holds_its_log c e p h v there of =
+    let g = plex_good c e p h in
+    let parts = and_parts (refers p.vol v.name) (is_log p.kind) of in
+    subst (λ n. log_length v.len v.region ≤ n) (sym (sectors_are c e p g (shape_of c p p.layout g.shape))) (log_fits c e p v there parts.1 p.vol parts.0 g.volume)

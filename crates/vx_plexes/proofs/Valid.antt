@@ -22,7 +22,7 @@ one_rule [] r more all e = first_none (fault_of r all) (first_broken_of more all
 one_rule (s ∷ rs) r more all e = one_rule rs r more all (second_none (fault_of s all) (first_broken_of (rs ++ r ∷ more) all) e)
 
 -- no record breaks a rule that is kept
-in_rule : (r : Rule) (all : List Object) (o : Object) → fault_of r all ≡ None → IsIn all o → fault_in r all o ≡ None
+pub in_rule : (r : Rule) (all : List Object) (o : Object) → fault_of r all ≡ None → IsIn all o → fault_in r all o ≡ None
 unfolding fault_of
 in_rule r all o e h = first_of_in (fault_in r all) all o (second_none (fault_over r all) (first_of (fault_in r all) all) e) h
 

@@ -8,3 +8,4 @@ mod layout;
 mod strips;
 
 pub use layout::layout_of;
+pub use strips::slot_of;

@@ -87,7 +87,7 @@ fn strip_of(disks: &[Disk], piece: &Subdisk) -> Strip
 }
 
 /// The slot of a disk, by its name; where there is none, a slot that no disk has.
-fn slot_of(disks: &[Disk], name: &Name) -> u8
+pub fn slot_of(disks: &[Disk], name: &Name) -> u8
     ensures { result ≡ slot_of disks.now name.now }
 {
     for disk in disks {

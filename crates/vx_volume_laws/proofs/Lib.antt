@@ -2,7 +2,7 @@ mod Examples
 mod Histories
 mod Logs
 mod Losses
-mod Openings
+pub mod Openings
 mod Recoveries
 mod Starts
 mod Tracks

@@ -225,8 +225,8 @@ module _ (v : Image) (candidates : Candidates) (sound : IsSoundImage v) (stands 
         stage = opened.masks;
         apart = λ k loose. not_both loose (opened.tight k);
         sound = sound_from_ends (record {
-          shown = λ n k lt bit. opened.shows n k ∙ sym (opened.bits k) ∙ bit;
-          bounded = λ n k lt h. inl (opened.bits k ∙ sym (opened.shows n k) ∙ h);
+          shown = λ n k lt bit. opened.shows n k lt ∙ sym (opened.bits k) ∙ bit;
+          bounded = λ n k lt h. inl (opened.bits k ∙ sym (opened.shows n k lt) ∙ h);
           readable =
               let k = opened.readable in (
                 k.0,

@@ -28,7 +28,7 @@ pub record IsOpened (v : Image) (c : LogCopy) (candidates : Candidates) (r : ℕ
   pub bits : (k : ℕ) → has s.stage.bits k ≡ c r k
   pub phase : s.stage.phase ≡ (if c r 30 then Unsettled else Settled)
   pub snaps : (m : ℕ) → has s.stage.snaps m ≡ true → Contains v.snaps m
-  pub shows : (n k : ℕ) → s.around.disks.marks.shows n k ≡ c r k
+  pub shows : (n k : ℕ) → n < s.around.fixed.copies → s.around.disks.marks.shows n k ≡ c r k
   pub tight : (k : ℕ) → s.around.disks.marks.loose k ≡ false
   pub held : (k : ℕ) → s.around.fixed.held k ≡ true → (p : PlexImage) × Contains v.plexes p × (p.map ≡ k) × (p.held ≡ true)
   pub values : (p : PlexImage) → Contains v.plexes p → p.held ≡ true → (b : ℕ) → s.around.disks.blocks p.map b ≡ region_blocks v r p b

@@ -1,0 +1,5 @@
+mod Ranges
+mod Runs
+mod Held
+mod Opening
+mod Loaded

@@ -1,0 +1,9 @@
+pub mod Distinct
+pub mod Zips
+pub mod Rules
+pub mod Maps
+pub mod Bits
+pub mod Places
+pub mod Rooms
+pub mod Unions
+pub mod Lists

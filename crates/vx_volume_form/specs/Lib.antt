@@ -1,0 +1,3 @@
+pub mod Plexes
+pub mod Form
+pub mod Laws

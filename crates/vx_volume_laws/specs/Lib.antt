@@ -1,3 +1,4 @@
+pub mod Copies
 pub mod Example
 pub mod Logs
 pub mod Loss

@@ -2,6 +2,7 @@
 //! a recovery makes of them: laws, as functions that do nothing and promise them.
 #![tactic(auto)]
 
+ghost use Rattle.vx_volume_laws.specs.Copies.{EachCopyIsTracked, EachWholeCopyIsTracked};
 ghost use Rattle.vx_volume_laws.specs.Example.{AClearRelationNeedsAgreement, HalfWrittenOpens};
 ghost use Rattle.vx_volume_laws.specs.Logs.{EachLogIsLeftExact};
 ghost use Rattle.vx_volume_laws.specs.Loss.{EachLossStands, EachPairStands, EachStopStands};
@@ -64,6 +65,12 @@ pub fn each_volume_is_left()
 /// What is known of what plexes lack, and the dirty regions, go on with each call by its entries and failures.
 pub fn each_call_is_tracked()
     ensures { EachCallIsTracked }
+{}
+
+/// A plex that was copied surely lacks nothing; it lacks nothing where all was copied and no call on the log failed.
+pub fn each_copy_is_tracked()
+    ensures stopped { EachCopyIsTracked }
+    ensures done { EachWholeCopyIsTracked }
 {}
 
 /// A volume that was cut while it was written is sound, and can be opened.

@@ -1,3 +1,1 @@
-mod Verdicts
-mod SameDisks
 mod MakeStage

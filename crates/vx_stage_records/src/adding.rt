@@ -2,7 +2,7 @@
 ghost use Rattle.std.specs.Prelude.{◌≡◌, IfOk, IfErr};
 ghost use Rattle.std.specs.List.{filter_map};
 ghost use Rattle.vx_plans.specs.Making.{Adds, made, made_state};
-ghost use Rattle.vx_stage_records.specs.Judging.{AddedOf, IsNoText};
+ghost use Rattle.vx_stage_records.specs.Judging.{AddedOf, IsBad, StopsAs};
 
 use std::alloc::{AllocError, Global};
 use vx_answers::Refusal;
@@ -14,7 +14,7 @@ use vx_record::{Record, RecordFault, read};
 /// The records that the text adds to a group.
 pub(crate) fn added_by(alloc: Global, text: &[u8]) -> Result<Vec<Object>, Stop>
     ensures adds { IfOk result (λ added. Adds text.now added.items) }
-    ensures bad { IfErr result (IsNoText text.now) }
+    ensures bad { IfErr result (StopsAs (IsBad text.now)) }
 {
     match read(alloc, text) {
         Ok(records) => match added_of(alloc, records.as_slice()) {
@@ -30,8 +30,7 @@ fn added_of(alloc: Global, records: &[Record]) -> Result<Vec<Object>, OutOfMemor
     ensures { IfOk result (λ added. AddedOf records.now added.items) }
 {
     let all = objects_of(alloc, records)?;
-    let added = made_of(alloc, &all)?;
-    Ok(added)
+    Ok(made_of(alloc, &all)?)
 }
 
 /// What becomes of the records, those that are passed over left out.

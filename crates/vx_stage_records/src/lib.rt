@@ -3,7 +3,6 @@
 #![tactic(auto)]
 
 mod adding;
-mod judging;
 mod making;
 
 pub use making::make;

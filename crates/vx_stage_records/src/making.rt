@@ -1,16 +1,18 @@
 //! The stage that adds the records of a text.
 ghost use Rattle.std.specs.Prelude.{List};
-ghost use Rattle.vx_house.specs.Goes.{IsReady, StageGoes};
+ghost use Rattle.vx_added_records.specs.Started.{is_running};
+ghost use Rattle.vx_house.specs.Goes.{StageGoes};
 ghost use Rattle.vx_house.specs.Holders.{holders, AreHeld};
 ghost use Rattle.vx_house.specs.Scene.{Shelved};
 ghost use Rattle.vx_house.specs.View.{KeepsHouse, IsGroupKept, at};
 ghost use Rattle.vx_plans.specs.declared.stage.Stage.TheVariants as stages;
 ghost use Rattle.vx_script_words.specs.declared.value.DiskAt.{DiskAt};
-ghost use Rattle.vx_stage_records.specs.Judging.{is_running, MakeEnds};
+ghost use Rattle.vx_stage_records.specs.Judging.{MakeEnds};
 
-use crate::judging::judge;
+use crate::adding::added_by;
 use std::alloc::Global;
 use std::collections::BTreeMap;
+use vx_added_records::refusal_of;
 use vx_answers::Refusal;
 use vx_house::{House, Imported, Stop, refused};
 use vx_names::Name;
@@ -30,6 +32,7 @@ pub fn make<P: Piece>(alloc: Global, house: &mut House<P>, text: &[u8]) -> Resul
     }
 }
 
+/// Adds the records of a text to the group, where no test refuses them.
 fn make_in<P: Piece>(
     alloc: Global,
     volumes: &BTreeMap<Name, Started<P>>,
@@ -39,6 +42,10 @@ fn make_in<P: Piece>(
     requires kept { IsGroupKept P.seen group.old }
     ensures ends { MakeEnds P.seen (is_running volumes.now) text.now result group.old group.new }
 {
-    let added = judge(alloc, volumes, &group.config, text)?;
-    commit_edits(alloc, group, &[Edit::Make(Listed::from_vec(added))])
+    let added = added_by(alloc, text)?;
+    match refusal_of(alloc, volumes, &group.config, &added) {
+        Ok(None) => commit_edits(alloc, group, &[Edit::Make(Listed::from_vec(added))]),
+        Ok(Some(refusal)) => refused(refusal),
+        Err(_) => Err(Stop::OutOfMemory),
+    }
 }

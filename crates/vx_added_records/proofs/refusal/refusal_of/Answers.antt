@@ -2,9 +2,9 @@ use Rattle.std.proofs.Common.{◌≡◌, ◌∙◌, subst, sym, ap, ◌++◌}
 use Rattle.std.specs.Prelude.{IfOk}
 use Rattle.vx_objects.specs.Config.{objects_of}
 use Rattle.vx_rules.specs.Adding.{firsts}
-use Rattle.vx_stage_records.specs.Judging.{is_running}
-use Rattle.vx_stage_records.proofs.Verdicts.{own_names, same_refusal}
-use Rattle.vx_stage_records.proofs.judging.refusal_in.Goals as goal
+use Rattle.vx_added_records.specs.Started.{is_running}
+use Rattle.vx_added_records.proofs.Verdicts.{own_names, same_refusal}
+use Rattle.vx_added_records.proofs.refusal.refusal_of.Goals as goal
 
 pub refusal_among-requires-clause-group : goal.refusal_among-requires-clause-group
 refusal_among-requires-clause-group g c = own_names (objects_of c.args.config.now) _ (c.deref-3.ensures.value ∙ c.in_ok-group.ensures) c.args.config.now.valid

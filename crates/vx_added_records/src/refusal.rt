@@ -1,24 +1,21 @@
-//! The tests of records that are to be added, in the order of the documentation.
-ghost use Rattle.std.specs.Prelude.{◌≡◌, ◌++◌, [], None, IfOk, IfErr};
+//! The tests of records that are added to a group, in their order.
+ghost use Rattle.std.specs.Prelude.{◌≡◌, ◌++◌, [], None, IfOk};
+ghost use Rattle.vx_added_records.specs.Started.{is_running};
 ghost use Rattle.vx_objects.specs.Config.{objects_of};
 ghost use Rattle.vx_plans.specs.Making.{adding_refusal, broken, refusal_among, started_name};
 ghost use Rattle.vx_plans.specs.Refusals.{refusal_from};
 ghost use Rattle.vx_rules.specs.Adding.{firsts, had_fault};
 ghost use Rattle.vx_rules.specs.Faults.{first_of};
 ghost use Rattle.vx_rules.specs.References.{repeated_after};
-ghost use Rattle.vx_stage_records.specs.Judging.{is_running, IsReady, IsUnready};
 
-use crate::adding::added_by;
 use std::alloc::Global;
 use std::collections::BTreeMap;
-use vx_answers::{End, Refusal};
+use vx_answers::Refusal;
 use vx_base::OutOfMemory;
-use vx_house::Stop;
 use vx_names::Name;
 use vx_objects::{Config, Object, Rule};
 use vx_plans::refusal_from;
 use vx_rules::{first_broken_by, first_had, firsts};
-use vx_started::Started;
 
 /// What is referred to is there.
 const REFERENCES: [Rule; 2] = [Rule::ReferencesAreThere, Rule::PreferredPlexIsThere];
@@ -48,30 +45,11 @@ const SPACE: [Rule; 7] = [
     Rule::MapsAreGood,
 ];
 
-/// The records that the text adds to the configuration, where no test refuses them.
-pub(crate) fn judge<P>(
+/// With which refusal these records cannot be added to the configuration, if they cannot. The volumes are those that are
+/// started.
+pub fn refusal_of<T>(
     alloc: Global,
-    volumes: &BTreeMap<Name, Started<P>>,
-    config: &Config,
-    text: &[u8],
-) -> Result<Vec<Object>, Stop>
-    ensures ready { IfOk result (λ added. IsReady (is_running volumes.now) text.now (objects_of config.now) added.items) }
-    ensures unready { IfErr result (IsUnready (is_running volumes.now) text.now (objects_of config.now)) }
-{
-    let added = added_by(alloc, text)?;
-    let Ok(refusal) = refusal_in(alloc, volumes, config, &added) else {
-        return Err(Stop::OutOfMemory);
-    };
-    match refusal {
-        None => Ok(added),
-        Some(refusal) => Err(Stop::Ended(End::Refused(refusal))),
-    }
-}
-
-/// With which refusal the records cannot be added, if they cannot.
-fn refusal_in<P>(
-    alloc: Global,
-    volumes: &BTreeMap<Name, Started<P>>,
+    volumes: &BTreeMap<Name, T>,
     config: &Config,
     added: &[Object],
 ) -> Result<Option<Refusal>, OutOfMemory>
@@ -83,9 +61,9 @@ fn refusal_in<P>(
     refusal_among(alloc, volumes, &group, added, &known, &all)
 }
 
-fn refusal_among<P>(
+fn refusal_among<T>(
     alloc: Global,
-    volumes: &BTreeMap<Name, Started<P>>,
+    volumes: &BTreeMap<Name, T>,
     group: &[Object],
     added: &[Object],
     known: &[Object],
@@ -143,7 +121,7 @@ fn broken(
 }
 
 /// The refusal of the first volume that has the name of a started one.
-fn started_name<P>(volumes: &BTreeMap<Name, Started<P>>, added: &[Object]) -> Option<Refusal>
+fn started_name<T>(volumes: &BTreeMap<Name, T>, added: &[Object]) -> Option<Refusal>
     ensures { result ≡ started_name (is_running volumes.now) added.now }
 {
     match added {
@@ -159,7 +137,7 @@ fn started_name<P>(volumes: &BTreeMap<Name, Started<P>>, added: &[Object]) -> Op
     }
 }
 
-fn is_running<P>(volumes: &BTreeMap<Name, Started<P>>, vol: &Name) -> bool
+fn is_running<T>(volumes: &BTreeMap<Name, T>, vol: &Name) -> bool
     ensures { result ≡ is_running volumes.now vol.now }
 {
     volumes.contains_key(vol)

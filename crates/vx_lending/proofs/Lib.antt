@@ -1,0 +1,5 @@
+pub mod Counts
+pub mod Goings
+pub mod LogCopies
+pub mod LogPlexes
+pub mod Sums

@@ -1,0 +1,11 @@
+//! What a volume has while it is started: its pieces come out of the pool of a group, its log is loaded or made new, and all goes back.
+#![tactic(auto)]
+
+mod back;
+mod copies;
+mod pieces;
+mod taking;
+
+pub use back::{put_copies, put_pieces};
+pub use pieces::VolumePieces;
+pub use taking::take_pieces;

@@ -1,3 +1,5 @@
 pub mod Pieces
 pub mod Taken
 pub mod Going
+pub mod Left
+pub mod Logs

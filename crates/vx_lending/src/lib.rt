@@ -3,9 +3,15 @@
 
 mod back;
 mod copies;
+mod left;
+mod logs;
 mod pieces;
 mod taking;
+mod volumes;
 
 pub use back::{put_copies, put_pieces};
+pub use left::{FreshRefused, LogLeft, VolumeLeft};
+pub use logs::load_log;
 pub use pieces::VolumePieces;
 pub use taking::take_pieces;
+pub use volumes::put_volume;

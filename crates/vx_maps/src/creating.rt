@@ -1,6 +1,6 @@
 //! The maps of a volume are created: no copy marks anything.
 
-ghost use Rattle.std.specs.Prelude.{◌≡◌, ℕ, false, ◌/◌, length, IfOk, IfErr, OnOk, Ok};
+ghost use Rattle.std.specs.Prelude.{◌≡◌, ◌≤◌, ℕ, false, ◌/◌, length, IfOk, IfErr, OnOk, Ok};
 ghost use Rattle.vx_mapfmt.specs.Header.{maps_header};
 ghost use Rattle.vx_marks.specs.Log.{OnMarks};
 ghost use Rattle.vx_maps.specs.Copies.{AreCopies};
@@ -11,7 +11,7 @@ ghost use Rattle.vx_maps.specs.Going.{CopiesGo, CutCopiesGo, StoreGoes};
 ghost use Rattle.vx_maps.specs.Sheets.{sheets_seen};
 ghost use Rattle.vx_maps.specs.Spares.{HasRoom, copies_seen};
 ghost use Rattle.vx_maps.specs.Stores.{shape_of, store_seen};
-ghost use Rattle.vx_maps.specs.Wholes.{store_copies, store_faults};
+ghost use Rattle.vx_maps.specs.Wholes.{copy_faults, store_copies, store_faults};
 ghost use Rattle.vx_maps.specs.Cutness.{store_cut};
 ghost use Rattle.vx_maps.specs.declared.joining.Spares.{Spares};
 
@@ -76,6 +76,7 @@ impl<P: Piece + Drop> MapStore<P> {
         ensures claims { IfOk result (λ store. (region map : ℕ) → (store_seen P.seen store).claims region map ≡ false) }
         ensures told { IfOk result (λ store. AllTell (copies_seen P.seen copies.items) → AreBlank (store_seen P.seen store).told) }
         ensures headed { IfOk result (λ store. AllBeginWith (maps_header shape.geometry.length shape.geometry.region 32) (store_copies P.seen store)) }
+        ensures counts { IfOk result (λ store. (copy device : ℕ) → copy_faults (copies_seen P.seen copies.items) copy device ≤ store_faults P.seen store copy device) }
         ensures goes { IfOk result (λ store. CutCopiesGo KeepsPiece (copies_seen P.seen copies.items) (store_copies P.seen store)) }
         ensures refused { IfErr result (λ refused. IsRefusedFor refused.fault (copies_seen P.seen copies.items) (copies_seen P.seen refused.copies.items)) }
         ensures back { IfErr result (λ refused. CutCopiesGo KeepsPiece (copies_seen P.seen copies.items) (copies_seen P.seen refused.copies.items)) }

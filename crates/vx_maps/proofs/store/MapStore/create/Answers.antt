@@ -13,6 +13,7 @@ use Rattle.vx_maps.specs.Stores.{store_seen}
 use Rattle.vx_maps.specs.Wholes.{store_copies, store_faults}
 use Rattle.vx_maps.proofs.Blank.{claims_none, blank, pages_told, log_told}
 use Rattle.vx_maps.proofs.Cells.{row_tells, sector_tells}
+use Rattle.vx_maps.proofs.Growth.{faults_grow}
 use Rattle.vx_maps.proofs.Refusals.{refused_for, runs_tell}
 use Rattle.vx_maps.proofs.Rows.{laid_holed}
 use Rattle.vx_maps.proofs.StoreChanges.{size_seen}
@@ -65,3 +66,12 @@ returns-in-Ok-clause-back g c = IfErr-weaker c.create_in.result _ _ (λ x go. re
 
 pub returns-in-Err-clause-back : goal.returns-in-Err-clause-back
 returns-in-Err-clause-back g c = only_cut _ _ c.in-Err.ensures.kept
+
+pub returns-in-Ok-clause-counts : goal.returns-in-Ok-clause-counts
+returns-in-Ok-clause-counts g c =
+    IfOk-weaker c.create_in.result _ _
+    (λ store go copy device.
+    let more = faults_grow c.in-Ok.cut.store store go copy device in
+    let same = c.in-Ok.ensures.faults copy device in
+    omega (arith, more, same))
+    c.create_in.ensures.goes

@@ -3,3 +3,4 @@ pub mod Taken
 pub mod Going
 pub mod Left
 pub mod Logs
+pub mod Marking

@@ -1,18 +1,18 @@
-ghost use Rattle.std.specs.Prelude.{◌≡◌, ◌≤◌, ◌&&◌, ◌||◌, ◌==◌, ◌<◌, ℕ, true, false, Bool, IfOk, IfErr, OnOk};
-ghost use Rattle.vx_mask.specs.Mask.{has};
-ghost use Rattle.vx_marks.specs.Log.{KeepsLog};
+ghost use Rattle.std.specs.Prelude.{◌≡◌, ◌<◌, ◌/◌, ℕ, true, false, IfOk, IfErr, OnOk};
 ghost use Rattle.vx_pages.specs.Reading.{HasRisen};
 ghost use Rattle.vx_pages.specs.Sector.{KeepsPiece};
 ghost use Rattle.vx_maps.specs.Creating.{IsBusy, IsFaultOf};
 ghost use Rattle.vx_maps.specs.Cutness.{store_cut};
-ghost use Rattle.vx_maps.specs.Going.{StoreGoes};
+ghost use Rattle.vx_maps.specs.Copies.{AreCopies};
+ghost use Rattle.vx_maps.specs.Going.{CopiesGo, CutCopiesGo, StoreGoes};
 ghost use Rattle.vx_maps.specs.Spares.{copies_seen};
-ghost use Rattle.vx_maps.specs.Stores.{shape_of, store_seen};
+ghost use Rattle.vx_maps.specs.Stores.{store_seen};
 ghost use Rattle.vx_maps.specs.Wholes.{store_copies, store_faults};
 ghost use Rattle.vx_whole_maps.specs.Bytes.{map_bit};
 ghost use Rattle.vx_lending.specs.Going.{GoTogether};
 ghost use Rattle.vx_lending.specs.Left.{IsNotFresh, left_copies, left_cut, left_faults};
-ghost use Rattle.vx_lending.specs.Logs.{AreShown, IsFreshLog, log_pieces, marked_maps};
+ghost use Rattle.vx_lending.specs.Logs.{IsFreshLog, IsFreshStore, log_pieces};
+ghost use Rattle.vx_lending.specs.Marking.{IsMarkRefused, IsMarkedAll, IsMarkedOne};
 ghost use Rattle.vx_lending.specs.Pieces.{copy_pieces};
 ghost use Rattle.vx_lending.specs.Taken.{AreLogCopies, slot_of};
 
@@ -20,6 +20,7 @@ use crate::copies::log_shape;
 use crate::left::{FreshRefused, LogLeft};
 use std::alloc::Global;
 use vx_maps::{MapStore, StoreFault};
+use vx_mapfmt::DcoShape;
 use vx_marks::MarkFault;
 use vx_mask::contains;
 use vx_pages::LocalPiece;
@@ -53,8 +54,29 @@ pub fn fresh_log<P: Piece + Drop>(
             left: LogLeft::Copies(copies),
         });
     };
+    match fresh_store(alloc, shape, copies, marked, &all) {
+        Ok(store) => Ok(VolumeLog::Maps(store)),
+        Err(refused) => Err(refused),
+    }
+}
+
+/// A store of which nothing is marked but each map of a mask in all regions.
+fn fresh_store<P: Piece + Drop>(
+    alloc: Global,
+    shape: DcoShape,
+    copies: Vec<Vec<P>>,
+    marked: u64,
+    all: &[u8],
+) -> Result<MapStore<P>, FreshRefused<P>>
+    requires copies { AreCopies (shape.map_bytes / 512) (copies_seen P.seen copies.items) }
+    requires all { (region : ℕ) → region < shape.regions → map_bit all.now region ≡ true }
+    ensures fresh { IfOk result (λ store. IsFreshStore P.seen shape.geometry marked (copies_seen P.seen copies.items) store) }
+    ensures goes { IfOk result (λ store. CutCopiesGo KeepsPiece (copies_seen P.seen copies.items) (store_copies P.seen store)) }
+    ensures refused { IfErr result (λ refused. IsNotFresh refused.fault (copies_seen P.seen copies.items) (left_copies P.seen refused.left) (left_faults P.seen refused.left) (left_cut P.seen refused.left)) }
+    ensures back { IfErr result (λ refused. CutCopiesGo KeepsPiece (copies_seen P.seen copies.items) (left_copies P.seen refused.left)) }
+{
     match MapStore::create(alloc, shape, copies) {
-        Ok(store) => mark_store(alloc, store, marked, &all),
+        Ok(store) => mark_store(alloc, store, marked, all),
         Err(refused) => Err(FreshRefused {
             fault: refused.fault,
             left: LogLeft::Copies(refused.copies),
@@ -62,16 +84,21 @@ pub fn fresh_log<P: Piece + Drop>(
     }
 }
 
-/// Marks maps in all regions of a store of which nothing is marked.
+/// Marks each map of a mask in all regions of a store of which nothing is marked.
 fn mark_store<P: Piece + Drop>(
     alloc: Global,
     mut store: MapStore<P>,
     marked: u64,
     all: &[u8],
-) -> Result<VolumeLog<P>, FreshRefused<P>>
+) -> Result<MapStore<P>, FreshRefused<P>>
+    requires all { (region : ℕ) → (store_seen P.seen store).has_region region ≡ true → map_bit all.now region ≡ true }
+    requires none { (region map : ℕ) → (store_seen P.seen store).claims region map ≡ false }
+    ensures marked { IfOk result (λ new. IsMarkedAll P.seen marked store new) }
+    ensures refused { IfErr result (λ refused. IsMarkRefused refused.fault (store_faults P.seen store) (left_faults P.seen refused.left) (left_cut P.seen refused.left)) }
+    ensures back { IfErr result (λ refused. CopiesGo KeepsPiece (store_copies P.seen store) (left_copies P.seen refused.left)) }
 {
     match mark_maps(&mut store, marked, all) {
-        Ok(()) => Ok(VolumeLog::Maps(store)),
+        Ok(()) => Ok(store),
         Err(fault) => Err(FreshRefused {
             fault: fault_of(fault),
             left: taken_apart(alloc, store),
@@ -110,10 +137,7 @@ fn mark_maps<P: LocalPiece>(
 ) -> Result<(), MarkFault>
     requires all { (region : ℕ) → (store_seen P.seen store.old).has_region region ≡ true → map_bit all.now region ≡ true }
     requires none { (region map : ℕ) → (store_seen P.seen store.old).claims region map ≡ false }
-    ensures kept { KeepsLog (store_seen P.seen store.old) (store_seen P.seen store.new) }
-    ensures base { store.new.base ≡ store.old.base }
-    ensures claims { OnOk result ((region map : ℕ) → (store_seen P.seen store.old).has_region region ≡ true → (store_seen P.seen store.new).claims region map ≡ marked_maps marked map) }
-    ensures shown { OnOk result (AreShown (λ map. false) (store_seen P.seen store.old).has_region (store_seen P.seen store.old).told → AreShown (marked_maps marked) (store_seen P.seen store.old).has_region (store_seen P.seen store.new).told) }
+    ensures marked { OnOk result (IsMarkedAll P.seen marked store.old store.new) }
     ensures goes { StoreGoes P.seen KeepsPiece store.old store.new }
     ensures cause { HasRisen (store_faults P.seen store.old) (store_faults P.seen store.new) (store_cut P.seen store.new) result }
 {
@@ -134,10 +158,7 @@ fn mark_map<P: LocalPiece>(
 ) -> Result<(), MarkFault>
     requires map { map < 32 }
     requires all { (region : ℕ) → (store_seen P.seen store.old).has_region region ≡ true → map_bit all.now region ≡ true }
-    ensures kept { KeepsLog (store_seen P.seen store.old) (store_seen P.seen store.new) }
-    ensures base { store.new.base ≡ store.old.base }
-    ensures claims { OnOk result ((region k : ℕ) → (store_seen P.seen store.old).has_region region ≡ true → (store_seen P.seen store.new).claims region k ≡ ((store_seen P.seen store.old).claims region k || (k == map && has marked k))) }
-    ensures shown { OnOk result ((maps : ℕ → Bool) → AreShown maps (store_seen P.seen store.old).has_region (store_seen P.seen store.old).told → AreShown (λ k. maps k || (k == map && has marked k)) (store_seen P.seen store.old).has_region (store_seen P.seen store.new).told) }
+    ensures marked { OnOk result (IsMarkedOne P.seen marked map store.old store.new) }
     ensures goes { StoreGoes P.seen KeepsPiece store.old store.new }
     ensures cause { HasRisen (store_faults P.seen store.old) (store_faults P.seen store.new) (store_cut P.seen store.new) result }
 {

@@ -3,6 +3,7 @@
 
 mod back;
 mod copies;
+mod fresh;
 mod left;
 mod logs;
 mod pieces;
@@ -10,6 +11,7 @@ mod taking;
 mod volumes;
 
 pub use back::{put_copies, put_pieces};
+pub use fresh::fresh_log;
 pub use left::{FreshRefused, LogLeft, VolumeLeft};
 pub use logs::load_log;
 pub use pieces::VolumePieces;

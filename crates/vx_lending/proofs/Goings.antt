@@ -1,5 +1,5 @@
 -- How pieces that were cut and called go on together.
-use Rattle.std.proofs.Common.{◌≡◌, ℕ, zero, suc, ◌+◌, ◌-◌, ◌^◌, ◌<◌, ◌≤◌, ◌==◌, min, Bool, true, false, cond, List, [], ◌∷◌, ◌++◌, Option, Some, None, refl, sym, ap, ◌∙◌, subst, arith}
+use Rattle.std.proofs.Common.{◌≡◌, ℕ, zero, suc, ◌+◌, ◌-◌, ◌^◌, ◌<◌, ◌≤◌, ◌==◌, min, Bool, true, false, cond, List, [], ◌∷◌, ◌++◌, Option, Some, refl, sym, ap, ◌∙◌, subst, arith}
 use Rattle.std.specs.Prelude.{IsTrue, nat_lt}
 use Rattle.std.specs.List.{sum_by, All}
 use Rattle.std.proofs.lemmas.List.Sums.{sum_by-cons, sum_by-append}
@@ -11,7 +11,7 @@ use Rattle.vx_cut.proofs.Parts.{all_parts}
 use Rattle.vx_pages.specs.Sector.{KeepsPiece}
 use Rattle.vx_maps.specs.Copies.{SameRuns}
 use Rattle.vx_maps.specs.Going.{CopiesGo, CutCopiesGo}
-use Rattle.vx_carve.specs.Together.{HasSome, HasStop, SameSectors, cut_of, cut_on, faults_of, faults_on, has, has_at, owners}
+use Rattle.vx_carve.specs.Together.{HasSome, HasStop, SameSectors, cut_of, faults_of, has, has_at}
 use Rattle.vx_lending.specs.Going.{GoTogether}
 use Rattle.vx_lending.specs.Pieces.{copy_pieces}
 use Rattle.vx_lending.proofs.Counts.{behind_first, in_first, same_owners}

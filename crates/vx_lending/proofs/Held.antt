@@ -4,7 +4,7 @@ use Rattle.std.specs.Prelude.{IfErr, IsOk}
 use Rattle.vx_piece.specs.Seen.{Seen}
 use Rattle.vx_pages.specs.declared.local_piece.LocalPiece.{Ghosts}
 use Rattle.vx_cell.specs.declared.cell.Cell.{Cell}
-use Rattle.vx_cell.specs.Changes.{CellSeen, cell_seen}
+use Rattle.vx_cell.specs.Changes.{cell_seen}
 use Rattle.vx_cell.specs.Plexes.{PlexSeen}
 use Rattle.vx_volume.specs.declared.volume.Volume.{Volume}
 use Rattle.vx_volume.specs.Volume.{cells_seen, log_of, volume_seen}

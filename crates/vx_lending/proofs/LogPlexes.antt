@@ -1,9 +1,8 @@
 -- The plexes of a volume and those of its log lie apart.
-use Rattle.std.proofs.Common.{◌≡◌, ◌≢◌, ℕ, zero, suc, ◌+◌, ◌*◌, ◌<◌, ◌≤◌, List, [], ◌∷◌, ◌++◌, length, get_or, refl, sym, ap, ◌∙◌, subst, arith}
+use Rattle.std.proofs.Common.{◌≡◌, ℕ, zero, suc, ◌+◌, ◌<◌, List, [], ◌∷◌, ◌++◌, length, get_or, refl, ◌∙◌, subst, arith}
 use Rattle.std.specs.List.{All}
 use Rattle.std.proofs.lemmas.List.{get_or_append_left, get_or-append-add, length-append}
 use Rattle.vx_piece.specs.Seen.{Seen}
-use Rattle.vx_layout.specs.Columns.{capacity}
 use Rattle.vx_layout.specs.declared.layout.Layout.{Layout}
 use Rattle.vx_carve.specs.Carved.{HaveNumbers, StaysBeside}
 use Rattle.vx_carve.specs.Strips.{AreApartStrips, ArePlexes, EachStrip, HasNumber, IsFreeStrip}

@@ -1,18 +1,16 @@
 -- Maps that are marked in all regions.
-use Rattle.std.proofs.Common.{◌≡◌, ℕ, ◌+◌, ◌<◌, ◌≤◌, ◌==◌, Bool, true, false, cond, Option, Some, None, Result, Ok, Err, refl, sym, ap, ◌∙◌, subst, arith, List}
+use Rattle.std.proofs.Common.{◌≡◌, ℕ, ◌+◌, ◌≤◌, ◌==◌, Bool, true, false, Option, Some, None, Result, Ok, Err, refl, sym, ap, ◌∙◌, subst, arith}
 use Rattle.std.specs.Prelude.{◌&&◌, ◌||◌, not, nat_lt, if◌then◌else◌, OnOk}
 use Rattle.std.proofs.lemmas.Bool.Decides.{nat_tests}
 use Rattle.vx_base.specs.Counts.{Rose}
 use Rattle.vx_mask.specs.Mask.{has}
 use Rattle.vx_mask.specs.Marks.{Marks}
-use Rattle.vx_piece.specs.Seen.{Seen}
 use Rattle.vx_marks.specs.Log.{LogSeen, KeepsLog, MarkHasCause, OnMarks}
 use Rattle.vx_marks.specs.declared.marker.MarkFault.{MarkFault}
 use Rattle.vx_marks.specs.declared.marker.MarkFault.TheVariants as mark
 use Rattle.vx_pages.specs.declared.local_piece.LocalPiece.{Ghosts}
 use Rattle.vx_pages.specs.Reading.{HasRisen}
-use Rattle.vx_pages.specs.Sector.{KeepsPiece}
-use Rattle.vx_pages.specs.Setting.{AllShow, Done, IsMapSet, SetsSoFar}
+use Rattle.vx_pages.specs.Setting.{AllShow, IsMapSet}
 use Rattle.vx_maps.specs.declared.store.MapStore.{MapStore}
 use Rattle.vx_maps.specs.declared.fault.StoreFault.{StoreFault}
 use Rattle.vx_maps.specs.Creating.{IsBusy, IsFaultOf}
@@ -22,7 +20,7 @@ use Rattle.vx_maps.specs.Stores.{store_seen}
 use Rattle.vx_maps.specs.Wholes.{sheet_faults, store_faults}
 use Rattle.vx_maps.proofs.Beginnings.{or_right}
 use Rattle.vx_maps.proofs.Refusals.{grid_pages}
-use Rattle.vx_lending.specs.Logs.{AreShown, marked_maps}
+use Rattle.vx_lending.specs.Logs.{AreShown}
 use Rattle.vx_lending.specs.Marking.{IsMarkRefused, IsMarkedOne, one_map}
 
 -- ---- one map
@@ -59,8 +57,7 @@ shown_set mask map known bits (Some was) None there all told maps shown = absurd
 shown_set mask map known bits (Some was) (Some is) there all told maps shown =
     λ region here.
     let now = told region here in
-    let before = shown region here in
-    (
+    let before = shown region here in (
       (λ n k. now.shows n k ∙ ap (λ (b : Bool). if k == map then bits region else b) (not_loose ((was region).shows n k) (maps k) ((was region).loose k) (before.0 n k) (before.1 k)) ∙ marked_bit mask k map (maps k) (bits region) there (all region here)),
       now.loose,
     )

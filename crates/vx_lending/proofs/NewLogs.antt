@@ -1,5 +1,5 @@
 -- A store that was created and then marked.
-use Rattle.std.proofs.Common.{◌≡◌, ◌∙◌, ℕ, zero, suc, ◌+◌, ◌/◌, ◌%◌, ◌<◌, ◌≤◌, Bool, true, false, List, [], ◌∷◌, Option, Some, None, refl, sym, ap, subst, arith, replicate}
+use Rattle.std.proofs.Common.{◌≡◌, ◌∙◌, ℕ, zero, suc, ◌/◌, ◌%◌, ◌<◌, ◌≤◌, Bool, true, false, List, [], ◌∷◌, Option, Some, None, refl, sym, ap, subst, arith, replicate}
 use Rattle.std.specs.Option.{option_map}
 use Rattle.std.proofs.lemmas.List.{get_or-replicate}
 use Rattle.vx_base.specs.Counts.{Rose}
@@ -19,7 +19,7 @@ use Rattle.vx_maps.specs.Creating.{AllBeginWith, AreBlank}
 use Rattle.vx_maps.specs.Going.{CopiesGo}
 use Rattle.vx_maps.specs.Heads.{HasFirst, HasFirstSecond, HaveFirst}
 use Rattle.vx_maps.specs.Sheets.{sheets_seen}
-use Rattle.vx_maps.specs.Slots.{SheetsSeen, filled}
+use Rattle.vx_maps.specs.Slots.{filled}
 use Rattle.vx_maps.specs.Wholes.{copy_faults, store_copies, whole_copies}
 use Rattle.vx_maps.proofs.HeadPlaces.{have_first, some_size}
 use Rattle.vx_whole_maps.specs.Bytes.{map_bit}

@@ -1,5 +1,5 @@
 -- Pieces of regions and of copies, one after the other.
-use Rattle.std.proofs.Common.{◌≡◌, ◌++◌, List, sym, subst, append_assoc}
+use Rattle.std.proofs.Common.{◌++◌, List, sym, subst, append_assoc}
 use Rattle.std.proofs.lemmas.List.Sorted.{IsPermutation-append_comm}
 use Rattle.vx_piece.specs.Seen.{Seen}
 use Rattle.vx_carve.specs.Together.{SameSectors}

@@ -1,22 +1,16 @@
 -- What the log of a volume is as it is loaded, or made new.
-use Rattle.std.specs.Prelude.{◌≡◌, ◌≤◌, ◌&&◌, ℕ, nat_lt, Bool, true, false, List, [], Option, Some, None}
-use Rattle.vx_base.specs.Counts.{Rose}
+use Rattle.std.specs.Prelude.{◌≡◌, ◌&&◌, ℕ, nat_lt, Bool, true, false, List, [], Option, Some, None}
 use Rattle.vx_block.specs.Regions.{region_count}
 use Rattle.vx_block.specs.declared.geometry.Geometry.{Geometry}
 use Rattle.vx_mask.specs.Mask.{has}
 use Rattle.vx_mask.specs.Marks.{Marks}
 use Rattle.vx_mapfmt.specs.Header.{maps_header}
 use Rattle.vx_piece.specs.Seen.{Seen}
-use Rattle.vx_marks.specs.Log.{LogSeen}
 use Rattle.vx_pages.specs.declared.local_piece.LocalPiece.{Ghosts}
-use Rattle.vx_maps.specs.declared.fault.StoreFault.{StoreFault}
-use Rattle.vx_maps.specs.declared.fault.StoreFault.TheVariants.{OutOfMemory, NoCopy, Failed, PowerLost}
-use Rattle.vx_maps.specs.Copies.{SameRuns}
-use Rattle.vx_maps.specs.Creating.{AllBeginWith, AllTell, copies_cut}
-use Rattle.vx_maps.specs.Cutness.{store_cut}
-use Rattle.vx_maps.specs.Loading.{IsLoaded, IsNotLoaded}
+use Rattle.vx_maps.specs.Creating.{AllBeginWith, AllTell}
+use Rattle.vx_maps.specs.Loading.{IsLoaded}
 use Rattle.vx_maps.specs.Stores.{shape_of, store_seen}
-use Rattle.vx_maps.specs.Wholes.{copy_faults, store_copies, store_faults}
+use Rattle.vx_maps.specs.Wholes.{store_copies, store_faults}
 use Rattle.vx_maps.specs.declared.store.MapStore.{MapStore}
 use Rattle.vx_volume.specs.declared.log.VolumeLog.{VolumeLog}
 use Rattle.vx_volume.specs.declared.log.VolumeLog.TheVariants.{Absent, Maps}

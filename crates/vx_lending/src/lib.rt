@@ -4,6 +4,7 @@
 mod back;
 mod copies;
 mod fresh;
+pub mod laws;
 mod left;
 mod logs;
 mod pieces;

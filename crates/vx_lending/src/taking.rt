@@ -57,9 +57,7 @@ pub fn take_pieces<P: Piece + Drop>(
         Ok(regions) => {
             match take_copies(alloc, pool, numbers, &form.shape.geometry, &form.logs) {
                 Ok(copies) => Ok(VolumePieces { regions, copies }),
-                Err((copies, _)) => {
-                    Err(refused(alloc, pool, VolumePieces { regions, copies }))
-                }
+                Err((copies, _)) => { Err(refused(alloc, pool, VolumePieces { regions, copies })) }
             }
         }
         Err((regions, _)) => {

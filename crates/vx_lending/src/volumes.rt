@@ -34,17 +34,12 @@ pub fn put_volume<P: Piece + Drop>(
     let (shape, cells, log, scratch, most) = volume.into_cells();
     match copies_of(alloc, log) {
         Ok(copies) => put_parts(alloc, pool, cells, copies),
-        Err(log) => Err(VolumeLeft::Whole(Volume::from_cells(
-            shape, cells, log, scratch, most,
-        ))),
+        Err(log) => Err(VolumeLeft::Whole(Volume::from_cells(shape, cells, log, scratch, most))),
     }
 }
 
 /// The copies of a log. Where there is no memory for their lists it comes back.
-fn copies_of<P: Piece + Drop>(
-    alloc: Global,
-    log: VolumeLog<P>,
-) -> Result<Vec<Vec<P>>, VolumeLog<P>>
+fn copies_of<P: Piece + Drop>(alloc: Global, log: VolumeLog<P>) -> Result<Vec<Vec<P>>, VolumeLog<P>>
     ensures copies { IfOk result (λ v. copies_seen P.seen v.items ≡ log_copies P.seen log) }
     ensures kept { IfErr result (λ x. x ≡ log) }
 {

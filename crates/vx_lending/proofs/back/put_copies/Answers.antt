@@ -1,5 +1,5 @@
 -- The copies are put back one after the other.
-use Rattle.std.proofs.Common.{rules, arith, ◌≡◌, ◌++◌, [], ◌∷◌, List, length, map, ap, ◌∙◌, subst, sym, refl}
+use Rattle.std.proofs.Common.{rules, arith, ◌≡◌, ◌++◌, [], ◌∷◌, List, map, ◌∙◌, subst, sym, refl}
 use Rattle.std.proofs.lemmas.List.{length-map}
 use Rattle.vx_piece.specs.Seen.{Seen}
 use Rattle.vx_carve.specs.Together.{SameSectors}

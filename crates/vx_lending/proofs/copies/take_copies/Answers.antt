@@ -1,8 +1,7 @@
 -- What carving a region asks of the plexes of a log, and what it gives.
-use Rattle.std.proofs.Common.{arith, ◌∙◌, ◌+◌, ◌<◌, ◌≡◌, ℕ, List, get_or, length, map}
+use Rattle.std.proofs.Common.{arith, ◌∙◌, ◌+◌, get_or, map}
 use Rattle.std.proofs.lemmas.List.{length-map}
 use Rattle.std.proofs.lemmas.Result.{IfOk-weaker}
-use Rattle.vx_layout.specs.declared.layout.Layout.{Layout}
 use Rattle.vx_carve.proofs.Places.{blocks_on, blocks_free, list_apart}
 use Rattle.vx_maps.specs.Spares.{copies_seen}
 use Rattle.vx_maps.proofs.Sources.{if_both}

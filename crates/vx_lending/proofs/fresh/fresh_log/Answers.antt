@@ -1,5 +1,5 @@
 -- The copies go on together, as they are cut and called.
-use Rattle.std.proofs.Common.{arith, ◌≡◌, ◌∙◌, ◌/◌, ◌<◌, ℕ, List, replicate}
+use Rattle.std.proofs.Common.{arith, ◌∙◌}
 use Rattle.vx_maps.specs.Spares.{copies_seen}
 use Rattle.vx_maps.specs.Wholes.{store_copies}
 use Rattle.vx_lending.specs.Left.{left_copies}

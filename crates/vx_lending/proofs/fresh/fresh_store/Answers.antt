@@ -1,5 +1,5 @@
 -- A store that was created is marked.
-use Rattle.std.proofs.Common.{◌≡◌, ◌∙◌, ℕ, Bool, sym, ap, subst}
+use Rattle.std.proofs.Common.{◌∙◌, ℕ, Bool, sym, ap, subst}
 use Rattle.std.proofs.lemmas.Result.{IfErr-weaker, IfOk-weaker}
 use Rattle.vx_mapfmt.specs.declared.shape.DcoShape.{DcoShape}
 use Rattle.vx_pages.specs.Sector.{KeepsPiece}

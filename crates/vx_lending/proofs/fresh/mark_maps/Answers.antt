@@ -1,8 +1,7 @@
 -- The maps of the mask are marked one after the other.
-use Rattle.std.proofs.Common.{arith, ◌≡◌, ◌∙◌, ◌+◌, ◌||◌, ℕ, Bool, Err, refl, sym, ap, subst, false, true}
+use Rattle.std.proofs.Common.{arith, ◌≡◌, ◌∙◌, ◌+◌, ◌||◌, ℕ, Bool, Err, refl, sym, ap, subst, false}
 use Rattle.std.specs.Prelude.{nat_lt, ◌&&◌}
 use Rattle.vx_mask.specs.Mask.{has}
-use Rattle.vx_pages.specs.Sector.{KeepsPiece}
 use Rattle.vx_maps.specs.Cutness.{store_cut}
 use Rattle.vx_maps.specs.Onward.{store_kept, store_kept_on}
 use Rattle.vx_maps.specs.Stores.{store_seen}

@@ -1,5 +1,5 @@
 -- The plexes of the regions are taken, and then those of the log.
-use Rattle.std.proofs.Common.{◌++◌, List, map, subst, sym}
+use Rattle.std.proofs.Common.{map, subst, sym}
 use Rattle.std.specs.List.{All}
 use Rattle.vx_layout.specs.declared.layout.Layout.{Layout}
 use Rattle.vx_carve.specs.Carved.{StaysBeside}

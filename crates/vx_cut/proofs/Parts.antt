@@ -39,13 +39,18 @@ module _ {P : Type 0} (see : P → Seen) where
       ap (λ (zs : List P). map see zs ++ reverse (map see xs)) f ∙ ap (λ (zs : List Seen). zs ++ reverse (map see xs)) (map_push see singles p) ∙ append_assoc (map see singles) (see p ∷ []) (reverse (map see xs))
       ∙ sym (ap (λ (zs : List Seen). map see singles ++ zs) (turned left xs p e))
 
+  -- the last piece stays
+  pub same_put_back : (left xs ys singles : List P) (p q : P) → left ≡ xs ++ p ∷ [] → ys ≡ xs ++ q ∷ [] → see q ≡ see p → map see singles ++ reverse (map see ys) ≡ map see singles ++ reverse (map see left)
+  same_put_back left xs ys singles p q e f same =
+      ap (λ (zs : List Seen). map see singles ++ zs) (turned ys xs q f ∙ ap (λ (x : Seen). x ∷ reverse (map see xs)) same ∙ sym (turned left xs p e))
+
   -- the last piece is cut in two
-  pub same_halved : (at : ℕ) (left xs ys zs singles : List P) (p a b : P) → left ≡ xs ++ p ∷ [] → ys ≡ xs ++ b ∷ [] → zs ≡ ys ++ a ∷ [] → IsSplit at (see p) (see a) (see b) →
+  pub same_halved : (at : ℕ) (left xs ys zs singles : List P) (p a b : P) → left ≡ xs ++ p ∷ [] → ys ≡ xs ++ b ∷ [] → zs ≡ ys ++ a ∷ [] → IsSplit at (see p) (see a) (see b) → 0 < at → at < (see p).sectors →
       SameRun (map see singles ++ reverse (map see left)) (map see singles ++ reverse (map see zs))
-  same_halved at left xs ys zs singles p a b e f g is =
+  same_halved at left xs ys zs singles p a b e f g is low high =
       same_behind (map see singles) (reverse (map see left)) (reverse (map see zs))
       (subst (λ (ws : List Seen). SameRun ws (reverse (map see zs))) (sym (turned left xs p e))
-      (subst (SameRun (see p ∷ reverse (map see xs))) (sym (turned zs ys a g ∙ ap (λ (ws : List Seen). see a ∷ ws) (turned ys xs b f))) (same_split at (see p) (see a) (see b) (reverse (map see xs)) is)))
+      (subst (SameRun (see p ∷ reverse (map see xs))) (sym (turned zs ys a g ∙ ap (λ (ws : List Seen). see a ∷ ws) (turned ys xs b f))) (same_split at (see p) (see a) (see b) (reverse (map see xs)) is low high)))
 
   pub some_left : (Q : Seen → Type 0) (left xs : List P) (p : P) → left ≡ xs ++ p ∷ [] → All Q (map see left) → All Q (map see xs) × Q (see p)
   some_left Q left xs p e h =

@@ -2,14 +2,15 @@
 use Rattle.std.proofs.Common.{◌≡◌, ℕ, ◌+◌, ◌-◌, ◌<◌, ◌≤◌, ◌==◌, Bool, true, false, cond, List, [], ◌∷◌, ◌++◌, Option, Some, None, refl, sym, ap, ◌∙◌, subst, arith}
 use Rattle.std.specs.Prelude.{nat_lt}
 use Rattle.std.specs.Option.{option_map}
+use Rattle.std.proofs.lemmas.List.Elements.{All-cons, All-head, All-tail}
 use Rattle.vx_base.specs.Blocks.{Contents}
 use Rattle.vx_piece.specs.Seen.{Seen, IsSplit}
 use Rattle.vx_piece.specs.Told.{front_told, back_told}
 use Rattle.vx_runs.specs.Part.{Tells}
-use Rattle.vx_cut.specs.Same.{SectorSeen, sector_in, run_at, SameRun}
+use Rattle.vx_cut.specs.Same.{SectorSeen, HasSome, sector_in, run_at, SameRun}
 
 pub same_refl : (ps : List Seen) → SameRun ps ps
-same_refl ps = record { each = λ k. refl; sectors = refl; tells = λ t. t; faults = λ d. refl; writes = λ d. refl; reads = λ d. refl }
+same_refl ps = record { each = λ k. refl; sectors = refl; tells = λ t. t; faults = λ d. refl; writes = λ d. refl; reads = λ d. refl; some = λ h. h }
 
 pub same_is : (ps qs : List Seen) → qs ≡ ps → SameRun ps qs
 same_is ps qs e = subst (λ (xs : List Seen). SameRun ps xs) (sym e) (same_refl ps)
@@ -22,6 +23,7 @@ same_trans ps qs rs a b = record {
   faults = λ d. b.faults d ∙ a.faults d;
   writes = λ d. b.writes d ∙ a.writes d;
   reads = λ d. b.reads d ∙ a.reads d;
+  some = λ h. b.some (a.some h);
 }
 
 behind_one : (x : Seen) (ps qs : List Seen) → SameRun ps qs → SameRun (x ∷ ps) (x ∷ qs)
@@ -32,6 +34,7 @@ behind_one x ps qs a = record {
   faults = λ d. ap (λ (n : ℕ). cond (x.device == d) x.faults 0 + n) (a.faults d);
   writes = λ d. ap (λ (n : ℕ). cond (x.device == d) x.writes 0 + n) (a.writes d);
   reads = λ d. ap (λ (n : ℕ). cond (x.device == d) x.reads 0 + n) (a.reads d);
+  some = λ h. All-cons HasSome x qs (All-head HasSome x ps h) (a.some (All-tail HasSome x ps h));
 }
 
 pub same_behind : (xs ps qs : List Seen) → SameRun ps qs → SameRun (xs ++ ps) (xs ++ qs)
@@ -89,12 +92,16 @@ add_on false false false m n k rest e f g = omega arith
 add_on false false true m n k rest e f g = cc
 add_on false true b'' m n k rest e f g = cc
 
-pub same_split : (at : ℕ) (p a b : Seen) (ps : List Seen) → IsSplit at p a b → SameRun (p ∷ ps) (a ∷ b ∷ ps)
-same_split at p a b ps is = record {
+pub same_split : (at : ℕ) (p a b : Seen) (ps : List Seen) → IsSplit at p a b → 0 < at → at < p.sectors → SameRun (p ∷ ps) (a ∷ b ∷ ps)
+same_split at p a b ps is low high = record {
   each = λ k. two_at at p a b ps k is;
   sectors = (let s = is.sizes.0 in let t = is.sizes.1 in omega (arith, s, t));
   tells = λ t. let both = tells_both at p.told a.told b.told is.front is.back t.0 in (both.0, (both.1, t.1));
   faults = λ d. add_on (p.device == d) (a.device == d) (b.device == d) a.faults b.faults p.faults _ (ap (λ (n : ℕ). n == d) is.devices.0) (ap (λ (n : ℕ). n == d) is.devices.1) is.faults;
   writes = λ d. add_on (p.device == d) (a.device == d) (b.device == d) a.writes b.writes p.writes _ (ap (λ (n : ℕ). n == d) is.devices.0) (ap (λ (n : ℕ). n == d) is.devices.1) is.writes;
   reads = λ d. add_on (p.device == d) (a.device == d) (b.device == d) a.reads b.reads p.reads _ (ap (λ (n : ℕ). n == d) is.devices.0) (ap (λ (n : ℕ). n == d) is.devices.1) is.reads;
+  some = λ h.
+      let s = is.sizes.0 in
+      let t = is.sizes.1 in
+      All-cons HasSome a (b ∷ ps) (omega (arith, s, low)) (All-cons HasSome b ps (omega (arith, s, t, high)) (All-tail HasSome p ps h));
 }

@@ -1,6 +1,7 @@
 -- What a run is, sector by sector, whatever pieces it is made of.
 use Rattle.std.specs.Prelude.{◌≡◌, ℕ, zero, suc, ◌+◌, ◌-◌, ◌*◌, ◌<◌, ◌==◌, nat_lt, Bool, if◌then◌else◌, List, [], ◌∷◌, Option, Some, None, slice_index_or}
 use Rattle.std.specs.Option.{option_map}
+use Rattle.std.specs.List.{All}
 use Rattle.vx_base.specs.Blocks.{Contents}
 use Rattle.vx_piece.specs.Seen.{Seen}
 use Rattle.vx_runs.specs.Run.{run_sectors, RunTells}
@@ -27,7 +28,12 @@ abbrev pub counted : (Seen → ℕ) → ℕ → List Seen → ℕ
 counted count device [] = 0
 counted count device (p ∷ ps) = (if p.device == device then count p else 0) + counted count device ps
 
--- the two runs have the same sectors in the same order, which hold the same, and the counts of each device are the same
+-- the piece has a sector
+abbrev pub HasSome : Seen → Type 0
+HasSome p = 0 < p.sectors
+
+-- the two runs have the same sectors in the same order, which hold the same, and the counts of each device are the same; and
+-- where no piece of the one is empty, none of the other is
 pub record SameRun (old new : List Seen) : Type 0 where
   pub each : (k : ℕ) → run_at new k ≡ run_at old k
   pub sectors : run_sectors new ≡ run_sectors old
@@ -35,10 +41,7 @@ pub record SameRun (old new : List Seen) : Type 0 where
   pub faults : (device : ℕ) → counted (λ p. p.faults) device new ≡ counted (λ p. p.faults) device old
   pub writes : (device : ℕ) → counted (λ p. p.writes) device new ≡ counted (λ p. p.writes) device old
   pub reads : (device : ℕ) → counted (λ p. p.reads) device new ≡ counted (λ p. p.reads) device old
-
--- the piece has a sector
-abbrev pub HasSome : Seen → Type 0
-HasSome p = 0 < p.sectors
+  pub some : All HasSome old → All HasSome new
 
 -- the piece has one sector
 abbrev pub IsSingle : Seen → Type 0

@@ -12,7 +12,7 @@ use Rattle.vx_pages.specs.Stays.{piece_same}
 use Rattle.vx_maps.specs.Creating.{AllBeginWith, BeginsWith, head_tells}
 use Rattle.vx_maps.specs.Cutness.{sheets_cut}
 use Rattle.vx_maps.specs.Going.{ReadsPiece, SheetsGo}
-use Rattle.vx_maps.specs.Heads.{AreChanged, IsPutFirst}
+use Rattle.vx_maps.specs.Heads.{AreChanged, ArePut, IsPutFirst}
 use Rattle.vx_maps.specs.Slots.{MovedBoth, MovedSecond, SheetsSeen, copies_in, filled, slot_at}
 use Rattle.vx_maps.specs.Copies.{copies_list}
 use Rattle.vx_maps.specs.Loading.{IsHeadAs, copy_at}
@@ -40,6 +40,9 @@ first_keeps f f' (Some p) (Some q) one same (suc n) = let e : q ≡ p = cc in su
 pub put_goes : {T : Type 0} (bytes : List ℕ) (old new : SheetsSeen) (result : Result T MarkFault) → AreChanged (λ before after. IsPutFirst bytes before after result) old new → SheetsGo KeepsPiece old new
 put_goes bytes old new result p =
     sheets_changed KeepsPiece piece_same p.before p.after old p.between new p.out p.back (first_keeps p.before.first p.after.first p.before.second p.after.second (p.change.0.kept.each 0) p.change.1)
+
+pub heads_goes : {T : Type 0} (bytes : List ℕ) (old new : SheetsSeen) (result : Result T MarkFault) → ArePut bytes old new result → SheetsGo KeepsPiece old new
+heads_goes bytes old new result p = sheets_changed KeepsPiece piece_same p.before p.after old p.between new p.out p.back (λ m. p.put.kept.each m)
 
 -- ---- why
 

@@ -7,6 +7,7 @@ use Rattle.vx_pages.specs.declared.page.Page.{Page}
 use Rattle.vx_pages.specs.Items.{EachItem}
 use Rattle.vx_pages.specs.Sector.{SectorSeen, KeepsPiece}
 use Rattle.vx_pages.specs.Pages.{RowGoes, grid_seen}
+use Rattle.vx_maps.specs.Copies.{SameRuns}
 use Rattle.vx_maps.specs.Slots.{SheetsSeen, slot_at}
 use Rattle.vx_maps.specs.Sheets.{sheets_seen}
 use Rattle.vx_maps.specs.declared.store.MapStore.{MapStore}
@@ -58,3 +59,9 @@ abbrev pub CopiesGo : (Seen → Seen → Type 0) → List (List Seen) → List (
 CopiesGo rel [] [] = Unit {0}
 CopiesGo rel (x ∷ xs) (y ∷ ys) = EachPiece rel x y × CopiesGo rel xs ys
 CopiesGo rel _ _ = ⊥
+
+-- each copy was cut, perhaps, and is then the same run; and each of its pieces goes on so
+pub record CutCopiesGo (rel : Seen → Seen → Type 0) (old new : List (List Seen)) : Type 0 where
+  pub cut : List (List Seen)
+  pub same : SameRuns old cut
+  pub goes : CopiesGo rel cut new

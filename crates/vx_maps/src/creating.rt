@@ -1,16 +1,17 @@
 //! The maps of a volume are created: no copy marks anything.
 
-ghost use Rattle.std.specs.Prelude.{◌≡◌, ℕ, false, ◌/◌, length, IfOk, IfErr, OnOk, Ok};
+ghost use Rattle.std.specs.Prelude.{◌≡◌, ◌≤◌, ℕ, false, ◌/◌, length, IfOk, IfErr, OnOk, Ok};
 ghost use Rattle.vx_mapfmt.specs.Header.{maps_header};
 ghost use Rattle.vx_marks.specs.Log.{OnMarks};
 ghost use Rattle.vx_maps.specs.Copies.{AreCopies};
 ghost use Rattle.vx_maps.specs.Creating.{AllBeginWith, AllTell, AreBlank, IsRefusedAfter, IsRefusedFor};
 ghost use Rattle.vx_pages.specs.Firm.{FirmsStore};
-ghost use Rattle.vx_pages.specs.Sector.{HasCause};
+ghost use Rattle.vx_pages.specs.Sector.{HasCause, KeepsPiece};
+ghost use Rattle.vx_maps.specs.Going.{CopiesGo, CutCopiesGo, StoreGoes};
 ghost use Rattle.vx_maps.specs.Sheets.{sheets_seen};
 ghost use Rattle.vx_maps.specs.Spares.{HasRoom, copies_seen};
 ghost use Rattle.vx_maps.specs.Stores.{shape_of, store_seen};
-ghost use Rattle.vx_maps.specs.Wholes.{store_copies, store_faults};
+ghost use Rattle.vx_maps.specs.Wholes.{copy_faults, store_copies, store_faults};
 ghost use Rattle.vx_maps.specs.Cutness.{store_cut};
 ghost use Rattle.vx_maps.specs.declared.joining.Spares.{Spares};
 
@@ -31,6 +32,7 @@ fn write_heads<P: LocalPiece + Drop>(
 ) -> Result<(), MarkFault>
     requires { length sector.now ≡ 512 }
     ensures shape { store.new.base.shape ≡ store.old.base.shape }
+    ensures goes { StoreGoes P.seen KeepsPiece store.old store.new }
     ensures log { store_seen P.seen store.new ≡ store_seen P.seen store.old }
     ensures room { (spares : Spares P) → HasRoom (sheets_seen P.seen store.old.base.sheets) spares → HasRoom (sheets_seen P.seen store.new.base.sheets) spares }
     ensures heads { OnOk result (AllBeginWith sector.now (store_copies P.seen store.new)) }
@@ -43,6 +45,7 @@ fn write_heads<P: LocalPiece + Drop>(
 /// old marks.
 fn write_new<P: LocalPiece + Drop>(store: &mut MapStore<P>) -> Result<(), MarkFault>
     ensures shape { store.new.base.shape ≡ store.old.base.shape }
+    ensures goes { StoreGoes P.seen KeepsPiece store.old store.new }
     ensures room { (spares : Spares P) → HasRoom (sheets_seen P.seen store.old.base.sheets) spares → HasRoom (sheets_seen P.seen store.new.base.sheets) spares }
     ensures claims { (region map : ℕ) → (store_seen P.seen store.new).claims region map ≡ (store_seen P.seen store.old).claims region map }
     ensures told { OnOk result (OnMarks (FirmsStore {T = Unit {0}} (Ok tt)) (store_seen P.seen store.old).told (store_seen P.seen store.new).told) }
@@ -73,7 +76,10 @@ impl<P: Piece + Drop> MapStore<P> {
         ensures claims { IfOk result (λ store. (region map : ℕ) → (store_seen P.seen store).claims region map ≡ false) }
         ensures told { IfOk result (λ store. AllTell (copies_seen P.seen copies.items) → AreBlank (store_seen P.seen store).told) }
         ensures headed { IfOk result (λ store. AllBeginWith (maps_header shape.geometry.length shape.geometry.region 32) (store_copies P.seen store)) }
+        ensures counts { IfOk result (λ store. (copy device : ℕ) → copy_faults (copies_seen P.seen copies.items) copy device ≤ store_faults P.seen store copy device) }
+        ensures goes { IfOk result (λ store. CutCopiesGo KeepsPiece (copies_seen P.seen copies.items) (store_copies P.seen store)) }
         ensures refused { IfErr result (λ refused. IsRefusedFor refused.fault (copies_seen P.seen copies.items) (copies_seen P.seen refused.copies.items)) }
+        ensures back { IfErr result (λ refused. CutCopiesGo KeepsPiece (copies_seen P.seen copies.items) (copies_seen P.seen refused.copies.items)) }
     {
         match cut_store(alloc, shape, copies) {
             Ok(cut) => create_in(cut),
@@ -92,7 +98,9 @@ fn create_in<P: LocalPiece + Drop>(cut: CutStore<P>) -> Result<MapStore<P>, Stor
     ensures claims { IfOk result (λ store. (region map : ℕ) → (store_seen P.seen store).claims region map ≡ (store_seen P.seen cut.store).claims region map) }
     ensures told { IfOk result (λ store. OnMarks (FirmsStore {T = Unit {0}} (Ok tt)) (store_seen P.seen cut.store).told (store_seen P.seen store).told) }
     ensures headed { IfOk result (λ store. AllBeginWith (maps_header cut.store.base.shape.geometry.length cut.store.base.shape.geometry.region cut.store.base.shape.maps) (store_copies P.seen store)) }
+    ensures goes { IfOk result (λ store. StoreGoes P.seen KeepsPiece cut.store store) }
     ensures refused { IfErr result (λ refused. IsRefusedAfter refused.fault (store_faults P.seen cut.store) (copies_seen P.seen refused.copies.items)) }
+    ensures back { IfErr result (λ refused. CopiesGo KeepsPiece (store_copies P.seen cut.store) (copies_seen P.seen refused.copies.items)) }
 {
     let CutStore { mut store, spares } = cut;
     match write_new(&mut store) {

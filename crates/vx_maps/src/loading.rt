@@ -8,7 +8,7 @@ ghost use Rattle.vx_pages.specs.Sector.{IsOpen, KeepsPiece};
 ghost use Rattle.vx_maps.specs.Copies.{AreCopies};
 ghost use Rattle.vx_maps.specs.Creating.{AllBeginWith};
 ghost use Rattle.vx_maps.specs.Cutness.{store_cut};
-ghost use Rattle.vx_maps.specs.Going.{StoreGoes, places_of};
+ghost use Rattle.vx_maps.specs.Going.{CopiesGo, CutCopiesGo, StoreGoes, places_of};
 ghost use Rattle.vx_maps.specs.Loading.{AreOpen, AreRows, FilledAt, GridSettled, IsFilledAs, IsLoaded, IsNotLoaded, IsSettledAs, IsUnfilledAs, header_of, rows_seen};
 ghost use Rattle.vx_maps.specs.Sheets.{sheets_seen};
 ghost use Rattle.vx_maps.specs.Spares.{HasRoom, copies_seen};
@@ -139,6 +139,7 @@ fn load_in<P: LocalPiece + Drop>(
     ensures goes { IfOk result (λ store. StoreGoes P.seen KeepsPiece cut.store store) }
     ensures filled { IfOk result (λ store. FilledAt (header_of cut.store.base.shape) cut.store.base.shape.regions (store_faults P.seen cut.store) (store_faults P.seen store) (store_copies P.seen cut.store) (store_copies P.seen store) (grid_seen P.seen cut.store.pages.items) (grid_seen P.seen store.pages.items)) }
     ensures refused { IfErr result (λ refused. IsUnfilledAs (header_of cut.store.base.shape) refused.fault (store_faults P.seen cut.store) (store_copies P.seen cut.store) (copies_seen P.seen refused.copies.items)) }
+    ensures back { IfErr result (λ refused. CopiesGo KeepsPiece (store_copies P.seen cut.store) (copies_seen P.seen refused.copies.items)) }
 {
     let CutStore { mut store, spares } = cut;
     match fill_store(&mut store, &mut images) {
@@ -167,7 +168,9 @@ impl<P: Piece + Drop> MapStore<P> {
         requires { AreCopies (shape.map_bytes / 512) (copies_seen P.seen copies.items) }
         ensures shape { IfOk result (λ store. shape_of store ≡ shape) }
         ensures loaded { IfOk result (λ store. IsLoaded (header_of shape) shape.regions (copies_seen P.seen copies.items) (store_faults P.seen store) (store_copies P.seen store) (store_seen P.seen store)) }
+        ensures goes { IfOk result (λ store. CutCopiesGo KeepsPiece (copies_seen P.seen copies.items) (store_copies P.seen store)) }
         ensures refused { IfErr result (λ refused. IsNotLoaded (header_of shape) refused.fault (copies_seen P.seen copies.items) (copies_seen P.seen refused.copies.items)) }
+        ensures back { IfErr result (λ refused. CutCopiesGo KeepsPiece (copies_seen P.seen copies.items) (copies_seen P.seen refused.copies.items)) }
     {
         let Ok(images) = images_of(alloc, shape.pages()) else {
             return Err(StoreRefused {

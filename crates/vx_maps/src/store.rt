@@ -104,6 +104,7 @@ impl<P: LocalPiece> MapStore<P> {
         ensures kept { KeepsLog (store_seen P.seen self.old) (store_seen P.seen self.new) }
         ensures set { IsSetOn (region / 4096) map (bit_in image.now) result (store_seen P.seen self.old) (store_seen P.seen self.new) }
         ensures cause { MarkHasCause (store_seen P.seen self.old) (store_seen P.seen self.new) result }
+        ensures base { self.new.base ≡ self.old.base }
         ensures goes { StoreGoes P.seen KeepsPiece self.old self.new }
     {
         let page = &mut self.pages[(region / 4096) as usize];
@@ -179,6 +180,8 @@ impl<P: LocalPiece + Drop> MapStore<P> {
     /// The pieces of each copy, in order. Where there is no memory for the lists the store comes back.
     pub fn into_copies(self, alloc: Global) -> Result<Vec<Vec<P>>, (MapStore<P>, OutOfMemory)>
         ensures copies { IfOk result (λ copies. copies_seen P.seen copies.items ≡ store_copies P.seen self) }
+        ensures faults { IfOk result (λ copies. (copy device : ℕ) → copy_faults (copies_seen P.seen copies.items) copy device ≡ store_faults P.seen self copy device) }
+        ensures cut { IfOk result (λ copies. store_cut P.seen self ≡ true → copies_cut (copies_seen P.seen copies.items) ≡ true) }
         ensures kept { IfErr result (λ x. x.0 ≡ self) }
     {
         match spares_of(alloc, &self.base.sheets) {

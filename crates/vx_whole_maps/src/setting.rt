@@ -1,4 +1,4 @@
-ghost use Rattle.std.specs.Prelude.{◌<◌};
+ghost use Rattle.std.specs.Prelude.{◌≡◌, ◌<◌};
 ghost use Rattle.vx_marks.specs.Log.{KeepsLog, MarkHasCause};
 ghost use Rattle.vx_pages.specs.Sector.{KeepsPiece};
 ghost use Rattle.vx_pages.specs.Setting.{IsMapSet};
@@ -22,6 +22,7 @@ pub fn set_from<P: LocalPiece>(
     ensures set { IsMapSet map (map_bit bits.now) result (store_seen P.seen store.old) (store_seen P.seen store.new) }
     ensures cause { MarkHasCause (store_seen P.seen store.old) (store_seen P.seen store.new) result }
     ensures goes { StoreGoes P.seen KeepsPiece store.old store.new }
+    ensures base { store.new.base ≡ store.old.base }
 {
     let shape = store.shape();
     for page in 0..shape.pages() {

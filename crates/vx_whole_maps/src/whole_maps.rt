@@ -54,6 +54,7 @@ impl<P: LocalPiece> WholeMaps for MapStore<P> {
         ensures set { IsMapSet map (λ region. false) result (store_seen P.seen self.old) (store_seen P.seen self.new) }
         ensures cause { MarkHasCause (store_seen P.seen self.old) (store_seen P.seen self.new) result }
         ensures goes { StoreGoes P.seen KeepsPiece self.old self.new }
+        ensures base { self.new.base ≡ self.old.base }
     {
         set_from(self, map, &[])
     }
@@ -64,6 +65,7 @@ impl<P: LocalPiece> WholeMaps for MapStore<P> {
         ensures set { IsMapSet map (map_bit bits.now) result (store_seen P.seen self.old) (store_seen P.seen self.new) }
         ensures cause { MarkHasCause (store_seen P.seen self.old) (store_seen P.seen self.new) result }
         ensures goes { StoreGoes P.seen KeepsPiece self.old self.new }
+        ensures base { self.new.base ≡ self.old.base }
     {
         set_from(self, map, bits)
     }

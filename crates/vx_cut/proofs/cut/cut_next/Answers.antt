@@ -1,7 +1,7 @@
 use Rattle.std.proofs.Common.{rules, arith, ◌≡◌, ◌∷◌, ◌++◌, [], sym, subst}
 use Rattle.vx_cut.specs.Same.{HasSome}
 use Rattle.vx_cut.proofs.Same.{same_is}
-use Rattle.vx_cut.proofs.Parts.{same_moved, same_halved, some_left, some_push, less_moved, less_halved}
+use Rattle.vx_cut.proofs.Parts.{same_moved, same_put_back, same_halved, some_left, some_push, less_moved, less_halved}
 use Rattle.vx_cut.proofs.cut.cut_next.Goals as goal
 
 pub returns-then-sectors-eq1-clause-same : goal.returns-then-sectors-eq1-clause-same
@@ -22,7 +22,11 @@ returns-then-sectors-eq1-clause-progress g c =
 pub returns-in-Ok-clause-same : goal.returns-in-Ok-clause-same
 returns-in-Ok-clause-same g c =
     let items : c.args.left.now.items ≡ c.pop.new.self.items ++ c.unwrap-piece.result ∷ [] = search rules in
-    same_halved g.P.Piece.seen _ c.args.left.now.items c.pop.new.self.items c.push_reserved-in-Ok.new.self.items c.push_reserved-in-Ok-2.new.self.items c.args.singles.now.items c.unwrap-piece.result c.in-Ok.front c.in-Ok.behind items c.push_reserved-in-Ok.ensures.items c.push_reserved-in-Ok-2.ensures.items c.in-Ok.ensures.parts
+    let had = some_left g.P.Piece.seen HasSome c.args.left.now.items c.pop.new.self.items c.unwrap-piece.result items c.requires.some in
+    let one = c.if-sectors-eq1.false in
+    let n = c.sectors-sectors.ensures in
+    let some = had.1 in
+    same_halved g.P.Piece.seen _ c.args.left.now.items c.pop.new.self.items c.push_reserved-in-Ok.new.self.items c.push_reserved-in-Ok-2.new.self.items c.args.singles.now.items c.unwrap-piece.result c.in-Ok.front c.in-Ok.behind items c.push_reserved-in-Ok.ensures.items c.push_reserved-in-Ok-2.ensures.items c.in-Ok.ensures.parts (grind (arith, one, n, some)) (grind (arith, one, n, some))
 
 pub returns-in-Ok-clause-some : goal.returns-in-Ok-clause-some
 returns-in-Ok-clause-some g c =
@@ -45,6 +49,11 @@ returns-in-Ok-clause-progress g c =
     let n = c.sectors-sectors.ensures in
     let some = had.1 in
     less_halved g.P.Piece.seen _ c.args.left.now.items c.pop.new.self.items c.push_reserved-in-Ok.new.self.items c.push_reserved-in-Ok-2.new.self.items c.unwrap-piece.result c.in-Ok.front c.in-Ok.behind items c.push_reserved-in-Ok.ensures.items c.push_reserved-in-Ok-2.ensures.items c.in-Ok.ensures.parts (grind (arith, one, n, some)) (grind (arith, one, n, some))
+
+pub returns-in-Err-clause-same : goal.returns-in-Err-clause-same
+returns-in-Err-clause-same g c =
+    let items : c.args.left.now.items ≡ c.pop.new.self.items ++ c.unwrap-piece.result ∷ [] = search rules in
+    same_is _ _ (same_put_back g.P.Piece.seen c.args.left.now.items c.pop.new.self.items c.push_reserved-in-Err.new.self.items c.args.singles.now.items c.unwrap-piece.result c.in-Err.piece items c.push_reserved-in-Err.ensures.items c.in-Err.ensures.kept)
 
 pub returns-in-Err-clause-some : goal.returns-in-Err-clause-some
 returns-in-Err-clause-some g c =

@@ -8,6 +8,9 @@ use Rattle.vx_maps.specs.Cutness.{sheets_cut, store_cut}
 use Rattle.vx_pages.proofs.Whole.{cause_after}
 use Rattle.vx_maps.proofs.Beginnings.{cause_add, or_right}
 use Rattle.vx_maps.proofs.Refusals.{grid_pages, plain_cause}
+use Rattle.vx_pages.specs.Sector.{KeepsPiece}
+use Rattle.vx_pages.specs.Stays.{piece_then}
+use Rattle.vx_maps.proofs.Steps.{store_then}
 use Rattle.vx_maps.proofs.creating.write_new.Goals as goal
 
 pub returns-in-Err-clause-claims : goal.returns-in-Err-clause-claims
@@ -50,3 +53,11 @@ returns-clause-shape g c = c.write_heads-2.ensures.shape ∙ ap (λ base. base.s
 
 pub returns-in-Err-firm-clause-shape : goal.returns-in-Err-firm-clause-shape
 returns-in-Err-firm-clause-shape g c = ap (λ base. base.shape) c.firm.ensures.base ∙ c.write_heads.ensures.shape
+
+pub returns-in-Err-firm-clause-goes : goal.returns-in-Err-firm-clause-goes
+returns-in-Err-firm-clause-goes g c = store_then KeepsPiece KeepsPiece KeepsPiece piece_then c.args.store.now c.write_heads.new.store c.firm.new.self c.write_heads.ensures.goes c.firm.ensures.goes
+
+pub returns-clause-goes : goal.returns-clause-goes
+returns-clause-goes g c =
+    store_then KeepsPiece KeepsPiece KeepsPiece piece_then c.args.store.now c.firm.new.self c.write_heads-2.new.store
+    (store_then KeepsPiece KeepsPiece KeepsPiece piece_then c.args.store.now c.write_heads.new.store c.firm.new.self c.write_heads.ensures.goes c.firm.ensures.goes) c.write_heads-2.ensures.goes

@@ -36,6 +36,7 @@ loop-page-preserved g c =
           (λ region known same. c.page_of-image.ensures region same ∙ known_bit _ region _ _ (ap (λ (s : DcoShape). s.regions) c.shape-shape.ensures) known) (goes_on c.loop-page.page);
       quiet = λ copy device. c.in_default.ensures.cause copy device ∙ c.loop-page.invariant.quiet copy device;
       goes = store_kept_on _ _ _ c.loop-page.invariant.goes c.in_default.ensures.goes;
+      base = c.set_page.ensures.base ∙ c.loop-page.invariant.base;
     }
 
 pub returns-clause-set : goal.returns-clause-set

@@ -14,4 +14,5 @@ invariant-loop-page g l = record {
   sets : SetsSoFar l.map (map_bit l.bits) (come_before l.page) (store_seen g.P.LocalPiece.seen l.fn.store) (store_seen g.P.LocalPiece.seen l.store);
   quiet : (copy device : ℕ) → (store_seen g.P.LocalPiece.seen l.store).faults copy device ≡ (store_seen g.P.LocalPiece.seen l.fn.store).faults copy device;
   goes : StoreGoes g.P.LocalPiece.seen KeepsPiece l.fn.store l.store;
+  base : l.store.base ≡ l.fn.store.base;
 }

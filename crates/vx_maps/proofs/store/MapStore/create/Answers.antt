@@ -13,9 +13,14 @@ use Rattle.vx_maps.specs.Stores.{store_seen}
 use Rattle.vx_maps.specs.Wholes.{store_copies, store_faults}
 use Rattle.vx_maps.proofs.Blank.{claims_none, blank, pages_told, log_told}
 use Rattle.vx_maps.proofs.Cells.{row_tells, sector_tells}
+use Rattle.vx_maps.proofs.Growth.{faults_grow}
 use Rattle.vx_maps.proofs.Refusals.{refused_for, runs_tell}
 use Rattle.vx_maps.proofs.Rows.{laid_holed}
 use Rattle.vx_maps.proofs.StoreChanges.{size_seen}
+use Rattle.vx_pages.specs.Sector.{KeepsPiece}
+use Rattle.vx_pages.specs.Stays.{piece_same}
+use Rattle.vx_maps.proofs.CopyLaws.{store_goes}
+use Rattle.vx_maps.proofs.CopyRuns.{only_cut}
 use Rattle.vx_maps.proofs.store.MapStore.create.Goals as goal
 
 pub returns-in-Ok-clause-claims : goal.returns-in-Ok-clause-claims
@@ -51,3 +56,22 @@ returns-in-Ok-clause-refused g c =
 
 pub returns-in-Ok-clause-shape : goal.returns-in-Ok-clause-shape
 returns-in-Ok-clause-shape g c = IfOk-weaker c.create_in.result _ _ (λ store same. same ∙ c.in-Ok.ensures.shape) c.create_in.ensures.shape
+
+pub returns-in-Ok-clause-goes : goal.returns-in-Ok-clause-goes
+returns-in-Ok-clause-goes g c =
+    IfOk-weaker c.create_in.result _ _ (λ store go. record { cut = store_copies g.P.Piece.seen c.in-Ok.cut.store; same = c.in-Ok.ensures.same; goes = store_goes KeepsPiece piece_same c.in-Ok.cut.store store go }) c.create_in.ensures.goes
+
+pub returns-in-Ok-clause-back : goal.returns-in-Ok-clause-back
+returns-in-Ok-clause-back g c = IfErr-weaker c.create_in.result _ _ (λ x go. record { cut = store_copies g.P.Piece.seen c.in-Ok.cut.store; same = c.in-Ok.ensures.same; goes = go }) c.create_in.ensures.back
+
+pub returns-in-Err-clause-back : goal.returns-in-Err-clause-back
+returns-in-Err-clause-back g c = only_cut _ _ c.in-Err.ensures.kept
+
+pub returns-in-Ok-clause-counts : goal.returns-in-Ok-clause-counts
+returns-in-Ok-clause-counts g c =
+    IfOk-weaker c.create_in.result _ _
+    (λ store go copy device.
+    let more = faults_grow c.in-Ok.cut.store store go copy device in
+    let same = c.in-Ok.ensures.faults copy device in
+    omega (arith, more, same))
+    c.create_in.ensures.goes

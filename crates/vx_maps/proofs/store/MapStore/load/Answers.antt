@@ -3,7 +3,7 @@ use Rattle.std.proofs.lemmas.Result.{IfErr-weaker, IfOk-weaker}
 use Rattle.vx_mapfmt.specs.declared.shape.DcoShape.{DcoShape}
 use Rattle.std.specs.Prelude.{is_some}
 use Rattle.vx_pages.specs.Pages.{grid_seen}
-use Rattle.vx_pages.specs.Sector.{IsOpen}
+use Rattle.vx_pages.specs.Sector.{IsOpen, KeepsPiece}
 use Rattle.vx_maps.specs.Sheets.{sheets_seen}
 use Rattle.vx_maps.specs.Store.{AreLogsOf, pages_seen}
 use Rattle.vx_maps.specs.Loading.{IsLoaded, IsNotLoaded, header_of}
@@ -11,6 +11,9 @@ use Rattle.vx_maps.specs.Spares.{copies_seen}
 use Rattle.vx_maps.specs.Stores.{store_seen}
 use Rattle.vx_maps.specs.Wholes.{store_copies, store_faults}
 use Rattle.vx_maps.proofs.Sources.{if_both, loaded, not_loaded}
+use Rattle.vx_pages.specs.Stays.{piece_same}
+use Rattle.vx_maps.proofs.CopyLaws.{store_goes}
+use Rattle.vx_maps.proofs.CopyRuns.{none_cut, only_cut}
 use Rattle.vx_maps.proofs.store.MapStore.load.Goals as goal
 
 pub returns-in-Ok-cut_store-clause-loaded : goal.returns-in-Ok-cut_store-clause-loaded
@@ -33,3 +36,17 @@ returns-in-Ok-cut_store-clause-refused g c =
 
 pub returns-in-Ok-cut_store-clause-shape : goal.returns-in-Ok-cut_store-clause-shape
 returns-in-Ok-cut_store-clause-shape g c = IfOk-weaker c.load_in.result _ _ (λ store go. go.shape ∙ c.in-Ok-cut_store.ensures.shape) c.load_in.ensures.goes
+
+pub returns-in-Ok-cut_store-clause-goes : goal.returns-in-Ok-cut_store-clause-goes
+returns-in-Ok-cut_store-clause-goes g c =
+    IfOk-weaker c.load_in.result _ _ (λ store go. record { cut = store_copies g.P.Piece.seen c.in-Ok-cut_store.cut.store; same = c.in-Ok-cut_store.ensures.same; goes = store_goes KeepsPiece piece_same c.in-Ok-cut_store.cut.store store go }) c.load_in.ensures.goes
+
+pub returns-in-Ok-cut_store-clause-back : goal.returns-in-Ok-cut_store-clause-back
+returns-in-Ok-cut_store-clause-back g c =
+    IfErr-weaker c.load_in.result _ _ (λ x go. record { cut = store_copies g.P.Piece.seen c.in-Ok-cut_store.cut.store; same = c.in-Ok-cut_store.ensures.same; goes = go }) c.load_in.ensures.back
+
+pub returns-in-Err-clause-back : goal.returns-in-Err-clause-back
+returns-in-Err-clause-back g c = only_cut _ _ c.in-Err.ensures.kept
+
+pub returns-in_default-clause-back : goal.returns-in_default-clause-back
+returns-in_default-clause-back g c = none_cut _

@@ -1,0 +1,9 @@
+pub mod Counts
+pub mod NewLogs
+pub mod Goings
+pub mod Held
+pub mod LogCopies
+pub mod LogPlexes
+pub mod LogShapes
+pub mod Marked
+pub mod Sums

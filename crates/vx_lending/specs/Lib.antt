@@ -1,0 +1,7 @@
+pub mod Pieces
+pub mod Taken
+pub mod Going
+pub mod Laws
+pub mod Left
+pub mod Logs
+pub mod Marking

@@ -1,0 +1,37 @@
+ghost use Rattle.std.specs.Prelude.{IfOk, IfErr};
+ghost use Rattle.vx_block.specs.Regions.{region_count};
+ghost use Rattle.vx_maps.specs.Loading.{IsNotLoaded};
+ghost use Rattle.vx_maps.specs.Spares.{copies_seen};
+ghost use Rattle.vx_lending.specs.Going.{GoTogether};
+ghost use Rattle.vx_lending.specs.Logs.{IsLoadedLog, log_header, log_pieces};
+ghost use Rattle.vx_lending.specs.Pieces.{copy_pieces};
+ghost use Rattle.vx_lending.specs.Taken.{AreLogCopies, slot_of};
+
+use crate::copies::log_shape;
+use std::alloc::Global;
+use vx_maps::{MapStore, StoreRefused};
+use vx_piece::Piece;
+use vx_volume::VolumeLog;
+use vx_volume_form::VolumeForm;
+
+/// The log of a volume, loaded from its copies; without copies there is none. After a refusal the copies come back, perhaps of
+/// more pieces.
+pub fn load_log<P: Piece + Drop>(
+    alloc: Global,
+    form: &VolumeForm,
+    copies: Vec<Vec<P>>,
+) -> Result<VolumeLog<P>, StoreRefused<P>>
+    requires { AreLogCopies (slot_of form.now.shape.geometry) (copies_seen P.seen copies.items) }
+    ensures loaded { IfOk result (λ log. IsLoadedLog P.seen form.now.shape.geometry (copies_seen P.seen copies.items) log) }
+    ensures goes { IfOk result (λ log. GoTogether (copy_pieces (copies_seen P.seen copies.items)) (log_pieces P.seen log)) }
+    ensures refused { IfErr result (λ refused. IsNotLoaded (log_header form.now.shape.geometry) refused.fault (copies_seen P.seen copies.items) (copies_seen P.seen refused.copies.items)) }
+    ensures back { IfErr result (λ refused. GoTogether (copy_pieces (copies_seen P.seen copies.items)) (copy_pieces (copies_seen P.seen refused.copies.items))) }
+{
+    if copies.is_empty() {
+        return Ok(VolumeLog::Absent);
+    }
+    match MapStore::load(alloc, log_shape(&form.shape.geometry), copies) {
+        Ok(store) => Ok(VolumeLog::Maps(store)),
+        Err(refused) => Err(refused),
+    }
+}

@@ -1,0 +1,5 @@
+pub mod Laws
+pub mod Leaving
+pub mod Running
+pub mod Starting
+pub mod Telling

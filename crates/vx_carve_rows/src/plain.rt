@@ -14,6 +14,7 @@ pub struct PlainPiece {
     reads: u64,
     stop: Option<u64>,
     ghost on_device: { start + sectors < 2 ^ 64 },
+    ghost counted: { (writes < 2 ^ 64) × (reads < 2 ^ 64) },
 }
 
 impl PlainPiece {
@@ -36,6 +37,8 @@ impl Piece for PlainPiece {
     ghost seen = { plain_seen };
 
     ghost ends = { λ p. tt };
+
+    ghost counts = { λ p. record { faults = tt; writes = p.counted.0; reads = p.counted.1 } };
 
     fn device(&self) -> u32 {
         self.device

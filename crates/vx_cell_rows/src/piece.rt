@@ -1,4 +1,4 @@
-ghost use Rattle.std.specs.Prelude.{◌≡◌, IfSome};
+ghost use Rattle.std.specs.Prelude.{◌≡◌, ◌<◌, ◌^◌, IfSome};
 ghost use Rattle.vx_piece.specs.MemPiece.{mem_seen};
 
 use std::alloc::Global;
@@ -14,6 +14,7 @@ pub struct RowPiece {
     cut: bool,
     writes: u64,
     reads: u64,
+    ghost counted: { (writes < 2 ^ 64) × (reads < 2 ^ 64) },
 }
 
 impl RowPiece {
@@ -67,6 +68,8 @@ impl Piece for RowPiece {
     ghost seen = { row_seen };
 
     ghost ends = { λ p. tt };
+
+    ghost counts = { λ p. record { faults = p.memory.counted.0; writes = p.counted.0; reads = p.counted.1 } };
 
     fn device(&self) -> u32 {
         self.memory.device()

@@ -22,6 +22,7 @@ pub struct FilePiece<R> {
     reads: u64,
     stop: Option<u64>,
     pub ghost on_device: { 512 * (start + sectors) < 2 ^ 64 },
+    ghost counted: { (faults < 2 ^ 64) × (writes < 2 ^ 64) × (reads < 2 ^ 64) },
 }
 
 impl<R> FilePiece<R> {
@@ -62,6 +63,8 @@ where
     ghost seen = { file_seen };
 
     ghost ends = { λ _. tt };
+
+    ghost counts = { λ p. record { faults = p.counted.0; writes = p.counted.1; reads = p.counted.2 } };
 
     fn device(&self) -> u32 {
         self.device

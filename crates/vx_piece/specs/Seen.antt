@@ -1,5 +1,5 @@
 -- What contracts see of a piece, and what a call may change.
-use Rattle.std.specs.Prelude.{◌≡◌, ℕ, ◌+◌, ◌/◌, ◌%◌, ◌<◌, ◌≤◌, Bool, ◌||◌, IsTrue, if◌then◌else◌, List, [], Option, Some, None, IfSome, Result, Ok, Err, OnOk, IsErrOf}
+use Rattle.std.specs.Prelude.{◌≡◌, ℕ, ◌+◌, ◌/◌, ◌%◌, ◌^◌, ◌<◌, ◌≤◌, Bool, ◌||◌, IsTrue, if◌then◌else◌, List, [], Option, Some, None, IfSome, Result, Ok, Err, OnOk, IsErrOf}
 use Rattle.vx_base.specs.Counts.{Rose, later_count}
 use Rattle.vx_base.specs.Blocks.{Contents, blocks_in, written, IsTorn}
 use Rattle.vx_piece.specs.Told.{front_told, back_told, joined_told}
@@ -26,6 +26,12 @@ pub record Seen : Type 0 where
 -- nothing stands behind the last sector, where the piece tells what it holds
 abbrev pub EndsThere : Seen → Type 0
 EndsThere piece = IfSome piece.told (λ contents. (k : ℕ) → piece.sectors ≤ k → contents k ≡ [])
+
+-- its counts are numbers of 64 bits
+pub record AreCounts (piece : Seen) : Type 0 where
+  pub faults : piece.faults < 2 ^ 64
+  pub writes : piece.writes < 2 ^ 64
+  pub reads : piece.reads < 2 ^ 64
 
 -- the count of sectors after so many bytes were handed over; without power it stays
 abbrev pub count_after : Bool → ℕ → List ℕ → ℕ

@@ -30,6 +30,7 @@ pub struct MemPiece {
     stop: Option<u64>,
     ghost whole: { vec_len bytes % 512 ≡ 0 },
     ghost on_device: { start + vec_len bytes / 512 < 2 ^ 64 },
+    pub ghost counted: { (faults < 2 ^ 64) × (writes < 2 ^ 64) × (reads < 2 ^ 64) },
 }
 
 impl MemPiece {
@@ -108,6 +109,8 @@ impl Piece for MemPiece {
     ghost seen = { mem_seen };
 
     ghost ends = { λ p k le. ap (take 512) (drop_all (512 * k) p.bytes.items (Prim.omega (arith, p.whole, le))) };
+
+    ghost counts = { λ p. record { faults = p.counted.0; writes = p.counted.1; reads = p.counted.2 } };
 
     fn device(&self) -> u32 {
         self.device

@@ -1,6 +1,6 @@
 ghost use Rattle.std.specs.Prelude.{◌≡◌, ◌+◌, ◌<◌, IsTrue, length, IfOk, OnOk, IfErr, IfSome, if◌then◌else◌};
 ghost use Rattle.vx_base.specs.Blocks.{AreBlocks};
-ghost use Rattle.vx_piece.specs.Seen.{Seen, IsInside, EndsThere, Keeps, IsRead, CountsRead, IsWritten, IsOff, HasCause, IsSplit, IsNeighbour, IsJoined};
+ghost use Rattle.vx_piece.specs.Seen.{Seen, IsInside, EndsThere, AreCounts, Keeps, IsRead, CountsRead, IsWritten, IsOff, HasCause, IsSplit, IsNeighbour, IsJoined};
 
 use std::alloc::Global;
 use vx_base::OutOfMemory;
@@ -71,4 +71,7 @@ pub trait Piece: Sized + Send {
 
     /// Nothing is told behind the last sector.
     ghost ends: { (piece : Self) → EndsThere (seen piece) };
+
+    /// Its counts are numbers of 64 bits.
+    ghost counts: { (piece : Self) → AreCounts (seen piece) };
 }

@@ -63,6 +63,8 @@ impl Piece for RowPiece {
 
     ghost ends = { λ p. tt };
 
+    ghost counts = { λ p. record { faults = p.watch.counted.0; writes = p.watch.counted.1; reads = p.watch.counted.2 } };
+
     fn device(&self) -> u32 {
         self.memory.device()
     }

@@ -1,4 +1,4 @@
-ghost use Rattle.std.specs.Prelude.{◌≡◌, ◌≤◌, ◌||◌, false, IfOk};
+ghost use Rattle.std.specs.Prelude.{◌≡◌, ◌^◌, ◌<◌, ◌≤◌, ◌||◌, false, IfOk};
 ghost use Rattle.vx_base.specs.Counts.{later_count};
 
 use crate::clock::Clock;
@@ -17,6 +17,7 @@ pub struct Watch {
     pub failed: u64,
     pub writes: u64,
     pub reads: u64,
+    pub ghost counted: { (failed < 2 ^ 64) × (writes < 2 ^ 64) × (reads < 2 ^ 64) },
 }
 
 impl Watch {

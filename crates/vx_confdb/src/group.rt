@@ -17,6 +17,7 @@ use crate::joining::{Prepared, join_one};
 use crate::text::Text;
 use crate::writing::write_all;
 use std::alloc::Global;
+use std::mem;
 use vx_copies::{Disk, Lost, good_slots};
 use vx_header::MOST_TEXT;
 use vx_names::Name;
@@ -214,6 +215,14 @@ impl<P: Piece> Group<P> {
         ensures { result ≡ self.now.sequence }
     {
         self.sequence
+    }
+
+    /// Takes other disks in the place of its own, which are given back.
+    pub fn swap_disks(&mut self, disks: Vec<Disk<P>>) -> Vec<Disk<P>>
+        ensures old { result ≡ self.old.disks }
+        ensures new { self.new ≡ record self.old { disks = disks } }
+    {
+        mem::replace(&mut self.disks, disks)
     }
 
     /// Gives the disks back, without a device call.

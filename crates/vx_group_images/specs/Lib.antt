@@ -3,3 +3,4 @@ pub mod Laws
 pub mod Lives
 pub mod Volumes
 pub mod Drops
+pub mod Tracks

@@ -30,9 +30,10 @@ use Rattle.vx_volume.proofs.Volumes.{going_stands}
 use Rattle.vx_moments.specs.World.{Volume}
 use Rattle.vx_image.specs.Image.{PlexImage}
 use Rattle.vx_group_images.proofs.Blocks.{below_count}
-use Rattle.vx_volume_laws.specs.Tracks.{EachCallIsTracked, GoesAt, TellOf, TrackOwner, has_failed, volume_failed, volume_goes, was_torn_in, was_unsettled}
+use Rattle.vx_volume_laws.specs.Tracks.{EachCallIsTracked, GoesAt, TellOf}
+use Rattle.vx_group_images.specs.Tracks.{TrackOwner, has_failed, volume_failed, volume_goes, was_torn_in, was_unsettled, volume_lived}
 use Rattle.vx_volume_lives.specs.Running.{IsSureOfOthers, RegionRunsAs, RunsAsVolume, entries_in, state_at}
-use Rattle.vx_volume_lives.specs.Laws.{FailuresAreTold, MayComeNext, OwnersFit, RunsOn, volume_lived}
+use Rattle.vx_volume_lives.specs.Laws.{FailuresAreTold, MayComeNext, OwnersFit, RunsOn}
 use Rattle.vx_volume_lives.proofs.Lives.{Agrees, HasRecord, IsPlaced, life_goes, lived, record_last, torn_lived}
 use Rattle.vx_volume_lives.proofs.Marking.{KeepsRest, Within, any_front, failed_sure, goes_rest, here_in, made_front, sure_goes, torn_told, within_goes, within_same}
 

@@ -14,7 +14,8 @@ use Rattle.vx_volume.specs.Passes.{Clears, CopyEnds, PassEnds, Settles}
 use Rattle.vx_volume.specs.Volume.{IsVolume, VolumeSeen, cell_at}
 use Rattle.vx_moments.specs.World.{Volume}
 use Rattle.vx_image.specs.Image.{PlexImage}
-use Rattle.vx_volume_laws.specs.Tracks.{TrackOwner, HasMap, has_failed, volume_failed, volume_goes}
+use Rattle.vx_volume_laws.specs.Tracks.{HasMap}
+use Rattle.vx_group_images.specs.Tracks.{TrackOwner, has_failed, volume_failed, volume_lived}
 use Rattle.vx_volume_lives.specs.Running.{IsSureOfOthers, RunsAsVolume}
 use Rattle.vx_volume_lives.specs.Telling.{TellsEntries}
 
@@ -32,10 +33,6 @@ FailuresAreTold plexes owners failed old new =
 -- a call of theirs may come next in the life
 abbrev pub MayComeNext : Caller → Life → Type 0
 MayComeNext who life = AllOf (MayPrecede who.session who.place life.epoch) life.entries
-
--- the volume of the world once these devices have failed too, and its life has gone on by these entries
-abbrev pub volume_lived : (owners : Word → TrackOwner) (failed : Word → Bool) → List Entry → Life → Volume → Volume
-volume_lived owners failed es life w = record (volume_goes owners es (volume_failed owners failed w)) { life = life }
 
 -- The volume of the code now runs as the one of the world whose life has gone on by these entries. Where nothing was sure of
 -- plexes that are written to, nothing is.

@@ -10,7 +10,7 @@ use Rattle.vx_image.specs.Image.{PlexImage, LogCopy, Image, WasStarted, IsFilled
 use Rattle.vx_group_images.specs.Volumes.{StandsForVolume}
 use Rattle.vx_volume_laws.specs.Loss.{ReadsOneList}
 use Rattle.vx_volume_laws.specs.Regions.{LeaveImage}
-use Rattle.vx_volume_laws.specs.Tracks.{TrackOwner}
+use Rattle.vx_group_images.specs.Tracks.{TrackOwner}
 use Rattle.vx_volume_lives.specs.Laws.{OwnersFit}
 use Rattle.vx_volume_lives.specs.Running.{IsSureOfOthers, RunsAsVolume, states_of}
 

@@ -1,0 +1,29 @@
+-- The pieces of the public regions of a group's disks.
+use Rattle.std.specs.Prelude.{Option, List, ◌++◌, map}
+use Rattle.std.specs.List.{flat_map}
+use Rattle.std.specs.BTreeMap.{get}
+use Rattle.std.specs.Cmp.Lexicographic.{slice_cmp}
+use Rattle.std.specs.Ordering.{nat_cmp}
+use Rattle.vx_base.specs.Named.{Word}
+use Rattle.vx_piece.specs.Seen.{Seen}
+use Rattle.vx_pages.specs.declared.local_piece.LocalPiece.{Ghosts}
+use Rattle.vx_lending.specs.Left.{held_pieces}
+use Rattle.vx_lending.specs.Pieces.{volume_pieces}
+use Rattle.vx_running.specs.declared.public.Public.{Public}
+use Rattle.vx_running.specs.declared.public.Running.{Running}
+
+-- the pieces of a running volume
+abbrev pub running_pieces : {P : Type 0} {ghosts : Ghosts P} → (P → Seen) → Word × Running P ghosts → List Seen
+running_pieces see e = held_pieces see e.1.volume
+
+-- the pieces that lie still, which no volume has
+abbrev pub still_pieces : {P : Type 0} {ghosts : Ghosts P} → (P → Seen) → Public P ghosts → List Seen
+still_pieces see p = map see p.pool.items.items ++ flat_map (volume_pieces see) p.left.items
+
+-- those that running volumes have
+abbrev pub lent_pieces : {P : Type 0} {ghosts : Ghosts P} → (P → Seen) → Public P ghosts → List Seen
+lent_pieces see p = flat_map (running_pieces see) p.running.entries
+
+-- the running volume of a name
+abbrev pub running_at : {P : Type 0} {ghosts : Ghosts P} → Public P ghosts → Word → Option (Running P ghosts)
+running_at p name = get (slice_cmp nat_cmp) p.running name

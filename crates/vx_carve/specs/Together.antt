@@ -88,3 +88,8 @@ pub record IsRunOf (device start count : ℕ) (p : Seen) : Type 0 where
   pub device_is : p.device ≡ device
   pub start_is : p.start ≡ start
   pub count_is : p.sectors ≡ count
+
+-- the piece is that one, or a longer one that begins with it: it has its stop, and tells nothing where that does not
+pub record IsLonger (front whole : Seen) : Type 0 where
+  pub stop : whole.stop ≡ front.stop
+  pub told : front.told ≡ None → whole.told ≡ None

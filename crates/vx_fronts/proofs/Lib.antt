@@ -1,3 +1,5 @@
 pub mod Contents
 pub mod Disks
 pub mod Groups
+pub mod Sectors
+pub mod Behind

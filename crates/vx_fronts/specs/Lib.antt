@@ -1,3 +1,5 @@
 pub mod Fronts
 pub mod Laws
 pub mod Rests
+pub mod Parted
+pub mod RestLaws

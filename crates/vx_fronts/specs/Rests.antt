@@ -1,21 +1,21 @@
 -- The rests of devices, out of the pieces behind their fronts: those that lie still, and those that running volumes have.
-use Rattle.std.specs.Prelude.{◌≡◌, ℕ, ◌-◌, ◌≤◌, ◌==◌, Bool, true, is_some, if◌then◌else◌, List, [], ◌∷◌, ◌++◌, map, Some, None, MatchOption}
+use Rattle.std.specs.Prelude.{◌≡◌, ℕ, ◌-◌, ◌==◌, Bool, true, is_some, if◌then◌else◌, List, [], ◌∷◌, ◌++◌, Option, Some, None}
 use Rattle.std.specs.List.{list_any, All}
 use Rattle.vx_base.specs.Blocks.{Contents}
 use Rattle.vx_piece.specs.Seen.{Seen}
-use Rattle.vx_carve.specs.Together.{HasSome, covers, cut_on, faults_on, has_at, owners, reads_on, writes_on}
+use Rattle.vx_carve.specs.Together.{covers, cut_on, faults_on, reads_on, writes_on}
 use Rattle.vx_copies.specs.Disks.{DiskSeen}
-use Rattle.vx_copies.specs.Lists.{AllOf, AnyOf}
 use Rattle.vx_fronts.specs.Fronts.{Rest, Rests}
 
--- what a piece holds of a sector, as its device counts them
-abbrev pub sector_of : Seen → ℕ → List ℕ
-sector_of p k = MatchOption p.told [] (λ contents. contents (k - p.start))
+-- what is told of a sector; nothing where nothing is told
+abbrev pub told_at : Option Contents → ℕ → List ℕ
+told_at None k = []
+told_at (Some contents) k = contents k
 
 -- what the first of the pieces holds that has the sector of the device; nothing where none has
 abbrev pub sector_in : List Seen → ℕ → Contents
 sector_in [] device k = []
-sector_in (p ∷ ps) device k = if covers device k p then sector_of p k else sector_in ps device k
+sector_in (p ∷ ps) device k = if covers device k p then told_at p.told (k - p.start) else sector_in ps device k
 
 -- the piece is one of the device
 abbrev pub is_of : ℕ → Seen → Bool
@@ -35,32 +35,20 @@ rest_in still lent device = record {
 abbrev pub rests_of : (still lent : List Seen) → Rests
 rests_of still lent device = if list_any (is_of device) (still ++ lent) then Some (rest_in still lent device) else None
 
--- ---- disks that are parted
+-- ---- what pieces tell
 
--- the piece begins its device, and has its private region
-pub record IsFront (h : DiskSeen) : Type 0 where
-  pub start : h.seen.start ≡ 0
-  pub private : 2048 ≤ h.seen.sectors
+-- the piece tells what it holds
+abbrev pub IsTelling : Seen → Type 0
+IsTelling p = is_some p.told ≡ true
 
--- the pieces have each sector of the disk's device once, and none behind its last
-abbrev pub HasDevice : List Seen → DiskSeen → Type 0
-HasDevice ps h = (k : ℕ) → owners h.seen.device k ps ≡ has_at h.seen.device 0 h.sectors h.seen.device k
+abbrev pub AllTell : List Seen → Type 0
+AllTell ps = All IsTelling ps
 
--- where the front tells what it holds, so do the pieces of its device
-abbrev pub TellsBehind : List Seen → DiskSeen → Type 0
-TellsBehind ps h = is_some h.seen.told ≡ true → All (λ p. is_of h.seen.device p ≡ true → is_some p.told ≡ true) ps
+-- a rest, but for what it holds
+abbrev pub bare : Option Rest → Option Rest
+bare None = None
+bare (Some rest) = Some (record rest { contents = λ k. [] })
 
--- some disk is of the device
-abbrev pub IsOfSome : List DiskSeen → Seen → Type 0
-IsOfSome disks p = AnyOf (λ h. h.seen.device ≡ p.device) disks
-
-abbrev pub fronts_of : List DiskSeen → List Seen
-fronts_of disks = map (λ (h : DiskSeen). h.seen) disks
-
--- The fronts of these disks and the pieces behind them are together the devices, each sector once.
-pub record AreParted (disks : List DiskSeen) (behind : List Seen) : Type 0 where
-  pub fronts : AllOf IsFront disks
-  pub each : AllOf (HasDevice (fronts_of disks ++ behind)) disks
-  pub own : All (IsOfSome disks) behind
-  pub some : All HasSome behind
-  pub tell : AllOf (TellsBehind behind) disks
+-- a disk, but for what it holds
+abbrev pub untold : DiskSeen → DiskSeen
+untold h = record h { seen = record h.seen { told = None } }

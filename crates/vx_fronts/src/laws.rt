@@ -1,6 +1,7 @@
 //! Laws of disks of which a group has the fronts, each a function with an empty body whose contract states it.
 
 ghost use Rattle.vx_fronts.specs.Laws.{EachCommitIsWhole, EachConfigurationIsWhole, EachCutIsWhole, EachFailureIsWhole, EachLeadIsWhole, EachMaskIsWhole, EachTextIsCarriedWhole, EachWriteIsWhole};
+ghost use Rattle.vx_fronts.specs.RestLaws.{BackAreCounted, BackAreHeld, DevicesWereCalled, LentAreCounted, LentAreEmpty, NoneIsBehind, PiecesTellStill, RestsAreCounted, RestsStay};
 
 /// A commit to the fronts of a group's disks is one to their whole devices, however it ends.
 pub fn each_commit_is_whole()
@@ -20,4 +21,21 @@ pub fn each_configuration_is_whole()
     ensures gives { EachConfigurationIsWhole }
     ensures mask { EachMaskIsWhole }
     ensures led { EachLeadIsWhole }
+{}
+
+/// What becomes of the rests of devices where the pieces behind are moved, cut, joined, lent and put back.
+pub fn each_rest_stays()
+    ensures counted { RestsAreCounted }
+    ensures stay { RestsStay }
+    ensures tell { PiecesTellStill }
+    ensures lent { LentAreCounted }
+    ensures empty { LentAreEmpty }
+    ensures back { BackAreCounted }
+    ensures held { BackAreHeld }
+{}
+
+/// A device of which there is no piece is there whole, and one of which pieces were called has failed no less than before.
+pub fn each_device_goes_on()
+    ensures none { NoneIsBehind }
+    ensures called { DevicesWereCalled }
 {}

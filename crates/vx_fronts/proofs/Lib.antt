@@ -3,3 +3,4 @@ pub mod Disks
 pub mod Groups
 pub mod Sectors
 pub mod Behind
+pub mod Parted

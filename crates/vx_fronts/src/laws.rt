@@ -1,7 +1,7 @@
 //! Laws of disks of which a group has the fronts, each a function with an empty body whose contract states it.
 
 ghost use Rattle.vx_fronts.specs.Laws.{EachCommitIsWhole, EachConfigurationIsWhole, EachCutIsWhole, EachFailureIsWhole, EachLeadIsWhole, EachMaskIsWhole, EachTextIsCarriedWhole, EachWriteIsWhole};
-ghost use Rattle.vx_fronts.specs.RestLaws.{BackAreCounted, BackAreHeld, DevicesWereCalled, LentAreCounted, LentAreEmpty, NoneIsBehind, PiecesTellStill, RestsAreCounted, RestsStay};
+ghost use Rattle.vx_fronts.specs.RestLaws.{BackAreCounted, BackAreHeld, DevicesWereCalled, LentAreCounted, LentAreEmpty, NoneIsBehind, PartedAreFree, PartedAreOnce, PartedHavePrivate, PartedStay, PartedWereCalled, PartedWereCommitted, PiecesTellStill, RestsAreCounted, RestsStay, WholeArePartedAlone};
 
 /// A commit to the fronts of a group's disks is one to their whole devices, however it ends.
 pub fn each_commit_is_whole()
@@ -38,4 +38,15 @@ pub fn each_rest_stays()
 pub fn each_device_goes_on()
     ensures none { NoneIsBehind }
     ensures called { DevicesWereCalled }
+{}
+
+/// Disks whose devices are in pieces: what they begin with, what is known of them, and what keeps them so.
+pub fn each_disk_stays_parted()
+    ensures alone { WholeArePartedAlone }
+    ensures private { PartedHavePrivate }
+    ensures once { PartedAreOnce }
+    ensures free { PartedAreFree }
+    ensures stay { PartedStay }
+    ensures called { PartedWereCalled }
+    ensures committed { PartedWereCommitted }
 {}

@@ -4,7 +4,7 @@ use Rattle.std.specs.List.{list_all}
 use Rattle.std.proofs.lemmas.Bool.{and_parts, and_from, and_left, cond-false}
 use Rattle.std.proofs.lemmas.List.{take_all}
 use Rattle.vx_base.specs.Named.{Word}
-use Rattle.vx_shelf.specs.MemShelf.{Place, is_under, is_empty, is_whole, is_at_rest, fits, are_devices, held_by, held_in}
+use Rattle.vx_shelf.specs.MemShelf.{Place, is_under, is_empty, is_whole, is_at_rest, are_apart, differ_in_number, are_numbered, fits, are_devices, held_by, held_in}
 
 not_true : (b : Bool) → not b ≡ true → b ≡ false
 not_true true e = cc
@@ -21,6 +21,15 @@ pub devices_at_rest : (ps : List Place) → are_devices ps ≡ true → list_all
 devices_at_rest [] e = refl
 devices_at_rest (p ∷ ps) e =
     and_from _ _ (cond-false _ _ _ (is_full p ps e) ∙ (and_parts _ _ (devices_whole p ps e)).0) (devices_at_rest ps (and_parts _ _ e).1)
+
+-- no two have one number
+pub devices_numbered : (ps : List Place) → are_devices ps ≡ true → are_numbered ps ≡ true
+devices_numbered [] e = refl
+devices_numbered (p ∷ ps) e = and_from _ _ (differ ps (and_parts _ _ (and_parts _ _ e).0).1) (devices_numbered ps (and_parts _ _ e).1)
+  where
+    differ : (qs : List Place) → list_all (are_apart p) qs ≡ true → list_all (differ_in_number p) qs ≡ true
+    differ [] apart = refl
+    differ (q ∷ qs) apart = and_from _ _ (and_parts _ _ (and_parts _ _ apart).0).1 (differ qs (and_parts _ _ apart).1)
 
 pub devices_not_held : (ps : List Place) (name : Word) → are_devices ps ≡ true → held_in ps name ≡ None
 devices_not_held [] name e = refl

@@ -11,8 +11,8 @@ use Rattle.vx_piece.specs.Device.{new_device}
 use Rattle.vx_piece.specs.Seen.{Seen}
 use Rattle.vx_piece.specs.MemPiece.{mem_seen}
 use Rattle.vx_shelf.specs.Shelf.{IsBlank, IsFresh, Joins}
-use Rattle.vx_shelf.specs.MemShelf.{Place, is_empty, is_at_rest, is_numbered_below, free_by, held_by, free_in, held_in, IsAppended, IsMissing}
-use Rattle.vx_shelf.proofs.Numbers.{below_more, fresh}
+use Rattle.vx_shelf.specs.MemShelf.{Place, is_empty, is_at_rest, is_numbered_below, are_numbered, free_by, held_by, free_in, held_in, IsAppended, IsMissing}
+use Rattle.vx_shelf.proofs.Numbers.{below_more, fresh, numbers_more}
 use Rattle.vx_shelf.proofs.Places.{shown_none, shown_push, list_all-push}
 use Rattle.vx_shelf.proofs.Holds.{is_free, not_held}
 
@@ -53,6 +53,9 @@ module _ (name : Word) (count number : ℕ) (ps more : List Place) (some : 1 ≤
       let is = has.numbered in
       ap (list_all (is_numbered_below (number + 1))) has.behind
       ∙ list_all-push (is_numbered_below (number + 1)) ps (name, has.piece) (below_more number (number + 1) ps (omega arith) below) (lt-ltb _ _ (omega (arith, is)))
+
+  pub made_numbered : list_all (is_numbered_below number) ps ≡ true → are_numbered ps ≡ true → are_numbered more ≡ true
+  made_numbered below numbered = ap are_numbered has.behind ∙ numbers_more number ps (name, has.piece) numbered below has.numbered
 
   pub made_joins : list_all (is_numbered_below number) ps ≡ true → Joins name count (held_in ps) (free_in ps) (free_in more)
   made_joins below = record {

@@ -58,6 +58,15 @@ is_whole p = (mem_seen p).start == 0 && not (is_empty p)
 abbrev pub are_apart : Place → Place → Bool
 are_apart p q = not (bytes_eq p.0 q.0) && not ((mem_seen p.1).device == (mem_seen q.1).device)
 
+-- the number of the one is not that of the other
+abbrev pub differ_in_number : Place → Place → Bool
+differ_in_number p q = not ((mem_seen p.1).device == (mem_seen q.1).device)
+
+-- no two places have one number
+abbrev pub are_numbered : List Place → Bool
+are_numbered [] = true
+are_numbered (p ∷ ps) = list_all (differ_in_number p) ps && are_numbered ps
+
 -- it is a whole device, and has a name and a number that no other has
 abbrev pub fits : Place → List Place → Bool
 fits p others = is_whole p.1 && list_all (are_apart p) others

@@ -12,6 +12,10 @@ pub record Held : Type 0 where
 abbrev pub held_as : Seen → Held
 held_as seen = record { device = seen.device; sectors = seen.sectors }
 
+-- two devices that were taken have two numbers
+abbrev pub AreNumbered : (Word → Option Held) → Type 0
+AreNumbered held = (a b : Word) (x y : Held) → held a ≡ Some x → held b ≡ Some y → x.device ≡ y.device → a ≡ b
+
 -- the run is a whole device
 abbrev pub IsWhole : Seen → Type 0
 IsWhole seen = seen.start ≡ 0

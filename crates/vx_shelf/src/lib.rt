@@ -7,4 +7,4 @@ mod shelf;
 
 pub use mem_shelf::MemShelf;
 pub use names::in_order;
-pub use shelf::{Shelf, ShelfFault};
+pub use shelf::{Shelf, ShelfFault, numbers_differ};

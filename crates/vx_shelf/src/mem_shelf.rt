@@ -5,7 +5,7 @@ ghost use Rattle.vx_piece.specs.Seen.{Seen};
 ghost use Rattle.vx_piece.specs.MemPiece.{mem_seen};
 ghost use Rattle.vx_shelf.specs.Shelf.{IsBlank};
 ghost use Rattle.vx_shelf.specs.Listed.{IsRising, is_listed};
-ghost use Rattle.vx_shelf.specs.MemShelf.{is_under, is_empty, is_whole_or_left, free_by, held_by, free_in, held_in, counted_in, is_at_rest, is_whole, are_apart, fits, are_devices, is_numbered_below, HasLeft, IsAppended, IsFirst, IsMissing};
+ghost use Rattle.vx_shelf.specs.MemShelf.{is_under, is_empty, is_whole_or_left, free_by, held_by, free_in, held_in, counted_in, is_at_rest, is_whole, are_apart, fits, are_devices, are_numbered, is_numbered_below, HasLeft, IsAppended, IsFirst, IsMissing};
 
 use crate::names::in_order;
 use crate::{Shelf, ShelfFault};
@@ -23,6 +23,7 @@ pub struct MemShelf {
     next: u64,
     ghost at_rest: { IsTrue (list_all is_at_rest places.items) },
     ghost below: { IsTrue (list_all (is_numbered_below next) places.items) },
+    ghost numbered: { IsTrue (are_numbered places.items) },
 }
 
 impl MemShelf {
@@ -74,7 +75,7 @@ impl MemShelf {
 }
 
 impl Shelf for MemShelf {
-    ghost use Rattle.vx_shelf.specs.OnShelf.{free_on, held_on, counted_on, free_counted};
+    ghost use Rattle.vx_shelf.specs.OnShelf.{free_on, held_on, counted_on, free_counted, held_numbered};
 
     type P = MemPiece;
 
@@ -87,6 +88,8 @@ impl Shelf for MemShelf {
     ghost counted = { counted_on };
 
     ghost counts_are = { λ s name. free_counted s.places.items name };
+
+    ghost numbers_differ = { λ s. held_numbered s.places.items s.numbered };
 
     fn names(&mut self, alloc: Global) -> Result<Vec<Name>, ShelfFault> {
         match names_of(alloc, self.places.as_slice()) {

@@ -2,7 +2,7 @@ ghost use Rattle.std.specs.Prelude.{◌≡◌, ◌≤◌, ◌^◌, ◌↔◌, �
 ghost use Rattle.vx_base.specs.Counts.{Rose};
 ghost use Rattle.vx_base.specs.Named.{Word, SameUnder};
 ghost use Rattle.vx_piece.specs.Seen.{Seen};
-ghost use Rattle.vx_shelf.specs.Shelf.{Held, AreCounted, SameCounts, put_count, IsWhole, IsOut, IsTaken, LeavesShelf, IsGiven, ComesToShelf, IsNowhere, IsUsed, IsMade};
+ghost use Rattle.vx_shelf.specs.Shelf.{Held, AreNumbered, AreCounted, SameCounts, put_count, IsWhole, IsOut, IsTaken, LeavesShelf, IsGiven, ComesToShelf, IsNowhere, IsUsed, IsMade};
 ghost use Rattle.vx_shelf.specs.Listed.{IsRising, Lists};
 ghost use Rattle.vx_shelf.specs.Causes.{ListCause, MakeCause};
 
@@ -25,7 +25,7 @@ pub enum ShelfFault {
     Exists,
 }
 
-/// A set of whole devices under names.
+/// A set of whole devices under names. Each has a number, which no other has as long as both are held.
 pub trait Shelf {
     type P: Piece + Drop;
 
@@ -100,4 +100,12 @@ pub trait Shelf {
 
     /// A device that nobody holds has the count of its name.
     ghost counts_are: { (shelf : Self) → AreCounted (free shelf) (counted shelf) };
+
+    /// Two devices that were taken have two numbers.
+    ghost numbers_differ: { (shelf : Self) → AreNumbered (held shelf) };
 }
+
+/// Two devices that were taken have two numbers.
+pub fn numbers_differ<S: Shelf>(shelf: &S)
+    ensures { AreNumbered (S.held shelf.now) }
+{}

@@ -1,6 +1,8 @@
+use Rattle.std.proofs.Common.{◌∙◌, ap}
+use Rattle.vx_piece.specs.MemPiece.{mem_seen}
 use Rattle.vx_shelf.proofs.Holds.{nowhere, given, comes, given_at_rest, given_number}
 use Rattle.vx_shelf.proofs.Counts.{counted_set}
-use Rattle.vx_shelf.proofs.Numbers.{numbered_set}
+use Rattle.vx_shelf.proofs.Numbers.{numbered_set, numbers_still}
 use Rattle.vx_shelf.proofs.mem_shelf.MemShelfShelf.give.Goals as goal
 
 pub invariant_of-self : goal.invariant_of-self
@@ -12,6 +14,7 @@ invariant_of-self c =
     record {
       at_rest = given_at_rest places c.args.name.now c.in-Some.i place place c.args.piece c.args.self.now.at_rest found.0 found.1 c.index_mut-place.ensures.value c.requires.whole c.requires.out;
       below = numbered_set c.args.self.now.next places c.in-Some.i place place c.args.piece c.args.self.now.below found.0 c.index_mut-place.ensures.value number;
+      numbered = numbers_still places c.in-Some.i (place.0, c.args.piece) place c.args.self.now.numbered found.0 (number ∙ ap (λ p. (mem_seen p.1).device) c.index_mut-place.ensures.value);
     }
 
 pub returns-in-Some-clause-given : goal.returns-in-Some-clause-given

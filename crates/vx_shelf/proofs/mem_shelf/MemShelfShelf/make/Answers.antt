@@ -1,7 +1,7 @@
 use Rattle.std.proofs.Common.{refl, inr}
 use Rattle.vx_shelf.proofs.Counts.{counted_made}
 use Rattle.vx_shelf.proofs.Listings.{first_used, missing_unused}
-use Rattle.vx_shelf.proofs.NewImages.{made_at_rest, made_below, made_joins, made_held}
+use Rattle.vx_shelf.proofs.NewImages.{made_at_rest, made_below, made_numbered, made_joins, made_held}
 use Rattle.vx_shelf.proofs.mem_shelf.MemShelfShelf.make.Goals as goal
 
 pub invariant_of-self : goal.invariant_of-self
@@ -11,6 +11,7 @@ invariant_of-self c =
     record {
       at_rest = made_at_rest c.args.name.now c.args.sectors self.next self.places.items c.append.new.places.items c.requires.some missing c.in-Ok.ensures.more self.at_rest;
       below = made_below c.args.name.now c.args.sectors self.next self.places.items c.append.new.places.items c.requires.some missing c.in-Ok.ensures.more self.below;
+      numbered = made_numbered c.args.name.now c.args.sectors self.next self.places.items c.append.new.places.items c.requires.some missing c.in-Ok.ensures.more self.below self.numbered;
     }
 
 pub returns-in-Some-clause-exists : goal.returns-in-Some-clause-exists

@@ -1,9 +1,9 @@
-use Rattle.std.proofs.Common.{◌≡◌, ap, arith, refl, subst, sym, IsSome, false, true}
+use Rattle.std.proofs.Common.{◌≡◌, ◌∙◌, ap, arith, refl, subst, sym, IsSome, false, true}
 use Rattle.vx_piece.specs.MemPiece.{mem_seen}
 use Rattle.vx_shelf.specs.MemShelf.{is_empty}
 use Rattle.vx_shelf.proofs.Holds.{not_some, not_true, nowhere, rest_here, free_under, none_held, taken, leaves, held_under, free_gone, stays_at_rest}
 use Rattle.vx_shelf.proofs.Counts.{counted_here, counted_same}
-use Rattle.vx_shelf.proofs.Numbers.{numbered_set}
+use Rattle.vx_shelf.proofs.Numbers.{numbered_set, numbers_still}
 use Rattle.vx_shelf.proofs.mem_shelf.MemShelfShelf.take.Goals as goal
 
 pub invariant_of-self : goal.invariant_of-self
@@ -15,6 +15,7 @@ invariant_of-self c =
     record {
       at_rest = stays_at_rest places c.args.name.now c.in-Some.i place place c.args.self.now.at_rest found.0 found.1 c.index_mut-place.ensures.value c.take_out.new.device (c.take_out.ensures.rest rest);
       below = numbered_set c.args.self.now.next places c.in-Some.i place place c.take_out.new.device c.args.self.now.below found.0 c.index_mut-place.ensures.value c.take_out.ensures.same;
+      numbered = numbers_still places c.in-Some.i (place.0, c.take_out.new.device) place c.args.self.now.numbered found.0 (c.take_out.ensures.same ∙ ap (λ p. (mem_seen p.1).device) c.index_mut-place.ensures.value);
     }
 
 pub returns-in-None-clause-no_disk : goal.returns-in-None-clause-no_disk

@@ -1,6 +1,7 @@
 ghost use Rattle.std.specs.Prelude.{◌≡◌, ◌≤◌, ℕ, None, IfOk};
 ghost use Rattle.vx_base.specs.Named.{Word};
 ghost use Rattle.vx_base.specs.Counts.{Rose};
+ghost use Rattle.vx_files.specs.Known.{AreNumbered};
 
 use crate::FilePiece;
 use crate::folder::Folder;
@@ -24,6 +25,7 @@ pub struct FileShelf<R> {
     folder: Folder,
     known: BTreeMap<Name, Known>,
     faults: u64,
+    ghost numbered: { AreNumbered known },
 }
 
 impl<R: AllocGlobal + Drop> FileShelf<R> {
@@ -50,7 +52,7 @@ impl<R: Files + AllocGlobal + Clone + Drop + Send> Shelf for FileShelf<R>
 where
     R::File: FileExt,
 {
-    ghost use Rattle.vx_files.specs.FileShelf.{held_by_files, counted_by_files, shelf_faults};
+    ghost use Rattle.vx_files.specs.FileShelf.{held_by_files, counted_by_files, shelf_faults, held_numbered};
 
     type P = FilePiece<R>;
 
@@ -63,6 +65,8 @@ where
     ghost counted = { counted_by_files };
 
     ghost counts_are = { λ _. tt };
+
+    ghost numbers_differ = { λ s. held_numbered s.known s.numbered };
 
     fn names(&mut self, alloc: Global) -> Result<Vec<Name>, ShelfFault> {
         let Ok(names) = self.folder.names(&self.rt, alloc) else {

@@ -4,7 +4,7 @@ ghost use Rattle.std.specs.Cmp.Lexicographic.{slice_cmp};
 ghost use Rattle.std.specs.Ordering.{nat_cmp};
 ghost use Rattle.vx_base.specs.Named.{put, SameUnder};
 ghost use Rattle.vx_shelf.specs.Shelf.{SameCounts, put_count};
-ghost use Rattle.vx_files.specs.Known.{held_in, held_with, counted_in};
+ghost use Rattle.vx_files.specs.Known.{held_in, held_with, counted_in, number_in, AreNumbered};
 
 use std::collections::BTreeMap;
 use vx_base::OutOfMemory;
@@ -39,6 +39,7 @@ pub fn hold(
     ensures stays { OnErr result (SameUnder (held_in known.old) (held_in known.new)) }
     ensures counted { IfOk result (λ one. one.faults ≡ counted_in known.old name.now) }
     ensures counts { SameCounts (counted_in known.old) (counted_in known.new) }
+    ensures numbered { AreNumbered known.old → AreNumbered known.new }
 {
     let one = known_as(known, name)?;
     let held = Some(sectors);
@@ -53,6 +54,7 @@ pub fn release(known: &mut BTreeMap<Name, Known>, name: &Name, faults: u64)
     requires { IsSome (held_in known.old name.now) }
     ensures given { SameUnder (put name.now None (held_in known.old)) (held_in known.new) }
     ensures counts { SameCounts (put_count name.now faults (counted_in known.old)) (counted_in known.new) }
+    ensures numbered { AreNumbered known.old → AreNumbered known.new }
 {
     let Some(one) = known.get(name).copied() else {
         unreachable!();
@@ -73,7 +75,8 @@ pub fn release(known: &mut BTreeMap<Name, Known>, name: &Name, faults: u64)
 
 /// The device of that name, or one with the next number where the name is new.
 fn known_as(known: &BTreeMap<Name, Known>, name: &Name) -> Result<Known, OutOfMemory>
-    ensures { IfOk result (λ one. one.faults ≡ counted_in known.now name.now) }
+    ensures faults { IfOk result (λ one. one.faults ≡ counted_in known.now name.now) }
+    ensures device { IfOk result (λ one. one.device ≡ number_in known.now name.now) }
 {
     match known.get(name) {
         Some(one) => Ok(*one),

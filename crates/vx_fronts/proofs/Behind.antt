@@ -1,18 +1,16 @@
 -- The rests of devices, where the pieces behind are moved, lent, put back and called.
-use Rattle.std.proofs.Common.{◌≡◌, ◌∙◌, ℕ, zero, suc, ◌+◌, ◌-◌, ◌^◌, ◌<◌, ◌≤◌, ◌==◌, min, Bool, true, false, cond, ◌||◌, List, [], ◌∷◌, ◌++◌, Option, Some, None, refl, sym, ap, subst, arith, append_assoc}
+use Rattle.std.proofs.Common.{◌≡◌, ◌∙◌, ℕ, ◌+◌, ◌≤◌, ◌==◌, min, Bool, true, false, cond, ◌||◌, List, [], ◌∷◌, ◌++◌, Some, None, refl, sym, ap, subst, arith, append_assoc}
 use Rattle.std.specs.Prelude.{IsTrue}
-use Rattle.std.specs.List.{sum_by, list_any, All}
-use Rattle.std.specs.List.Sorted.{IsPermutation}
+use Rattle.std.specs.List.{list_any, All}
 use Rattle.std.proofs.lemmas.List.Sums.{sum_by-cons, sum_by-append}
 use Rattle.std.proofs.lemmas.List.Sorted.{IsPermutation-append_comm, IsPermutation-append_left}
-use Rattle.vx_base.specs.Blocks.{Contents}
 use Rattle.vx_piece.specs.Seen.{Seen, Keeps}
-use Rattle.vx_carve.specs.Together.{covers, has, owners, faults_on, cut_on, HasSome, AreOnce, SameSectors}
+use Rattle.vx_carve.specs.Together.{covers, has, owners, HasSome, SameSectors}
 use Rattle.vx_carve.proofs.Same.{same_trans, same_moved, same_beside}
 use Rattle.vx_copies.specs.Disks.{DiskSeen}
 use Rattle.vx_fronts.specs.Fronts.{Rest, with_device, whole_disk}
-use Rattle.vx_fronts.specs.Rests.{told_at, sector_in, is_of, rest_in, rests_of, bare, AllTell}
-use Rattle.vx_fronts.specs.RestLaws.{RestsAreCounted, RestsStay, PiecesTellStill, LentAreCounted, LentAreEmpty, BackAreCounted, BackAreHeld, NoneIsBehind, WereCalled, DevicesWereCalled}
+use Rattle.vx_fronts.specs.Rests.{sector_in, is_of, rest_in, rests_of, bare}
+use Rattle.vx_fronts.specs.RestLaws.{RestsAreCounted, RestsStay, PiecesTellStill, LentAreCounted, LentAreEmpty, BackAreCounted, BackAreHeld, NoneIsBehind, DevicesWereCalled}
 use Rattle.vx_fronts.proofs.Sectors.{sector_same, sector_none, sector_append, tell_same, any_same, once_kept}
 
 -- ---- counts

@@ -4,3 +4,5 @@ pub mod Groups
 pub mod Sectors
 pub mod Behind
 pub mod Parted
+pub mod Devices
+pub mod Steps

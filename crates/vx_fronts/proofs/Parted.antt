@@ -1,5 +1,5 @@
 -- Disks of which the devices are in pieces.
-use Rattle.std.proofs.Common.{◌≡◌, ◌∙◌, ◌⊎◌, inl, inr, ℕ, zero, suc, ◌+◌, ◌-◌, ◌<◌, ◌≤◌, ◌==◌, Bool, true, false, cond, List, [], ◌∷◌, ◌++◌, map, get_or, Option, Some, None, refl, sym, ap, subst, arith}
+use Rattle.std.proofs.Common.{◌≡◌, ◌∙◌, inl, inr, ℕ, zero, suc, ◌+◌, ◌-◌, ◌<◌, ◌≤◌, Bool, true, false, cond, List, [], ◌∷◌, ◌++◌, get_or, Option, Some, None, refl, sym, ap, subst, arith}
 use Rattle.std.specs.Prelude.{is_some}
 use Rattle.std.specs.List.{sum_by, list_any, All}
 use Rattle.std.proofs.lemmas.List.Sums.{sum_by-cons, sum_by-append, get_or-le-sum_by}
@@ -14,7 +14,7 @@ use Rattle.vx_fronts.specs.Fronts.{HasPrivate}
 use Rattle.vx_fronts.specs.Rests.{is_of, IsTelling, AllTell}
 use Rattle.vx_fronts.specs.Parted.{AreParted, HasDevice, IsFront, IsOfSome, IsWhole, fronts_of}
 use Rattle.vx_fronts.specs.RestLaws.{PartedAreFree, PartedHavePrivate}
-use Rattle.vx_fronts.proofs.Sectors.{covered, is_one, lacks_all, none_counted, not_zero, other_lacks, self, tell_same}
+use Rattle.vx_fronts.proofs.Sectors.{covered, is_one, lacks_all, none_counted, other_lacks, tell_same}
 
 -- ---- members of lists
 
@@ -210,7 +210,7 @@ module _ (hs : List DiskSeen) (behind : List Seen) (parted : AreParted hs behind
   pub private_all : AllOf HasPrivate hs
   private_all = all_by HasPrivate hs (λ h is. let private = (all_at IsFront hs h parted.fronts is).private in let fits = front_fits h is in record { front = private; device = omega (arith, private, fits) })
 
-  free_at : (h : DiskSeen) → IsIn h hs → IsFree h.seen.device h.seen.sectors (h.sectors - h.seen.sectors) behind
+  pub free_at : (h : DiskSeen) → IsIn h hs → IsFree h.seen.device h.seen.sectors (h.sectors - h.seen.sectors) behind
   free_at h is k lt =
       let front = all_at IsFront hs h parted.fronts is in
       let at = h.seen.sectors + k in

@@ -2,9 +2,8 @@
 use Rattle.std.proofs.Common.{◌≡◌, ◌∙◌, ℕ, zero, suc, ◌+◌, ◌-◌, ◌<◌, ◌≤◌, ◌==◌, Bool, true, false, cond, ◌||◌, ◌&&◌, List, [], ◌∷◌, ◌++◌, get_or, Option, Some, None, refl, sym, ap, subst, arith}
 use Rattle.std.specs.Prelude.{is_some, nat_le, nat_lt}
 use Rattle.std.specs.List.{sum_by, list_any, All}
-use Rattle.std.proofs.lemmas.List.Sums.{sum_by-cons, sum_by-append, get_or-le-sum_by}
-use Rattle.std.proofs.lemmas.List.Folds.{list_any-append}
-use Rattle.std.proofs.lemmas.List.Elements.{All-nil, All-cons, All-head, All-tail, All-append, All-weaker}
+use Rattle.std.proofs.lemmas.List.Sums.{sum_by-cons, get_or-le-sum_by}
+use Rattle.std.proofs.lemmas.List.Elements.{All-nil, All-cons, All-head, All-tail, All-weaker}
 use Rattle.vx_base.specs.Blocks.{Contents}
 use Rattle.vx_piece.specs.Seen.{Seen}
 use Rattle.vx_carve.specs.Together.{covers_at, covers, has_at, has, owners, HoldsTold, Holds, HasSome, AreOnce, SameSectors}
@@ -176,11 +175,14 @@ some_owner [] device some any = let no : ⊥ = cc in absurd no
 some_owner (p ∷ ps) device some any = one_more (is_of device p) refl any (λ e. some_owner ps device (All-tail HasSome p ps some) e)
   where
     one_more : (b : Bool) → is_of device p ≡ b → b || list_any (is_of device) ps ≡ true → (list_any (is_of device) ps ≡ true → (k : ℕ) × (1 ≤ owners device k ps)) → (k : ℕ) × (1 ≤ owners device k (p ∷ ps))
-    one_more true e any rest = (p.start + 0, (
-        let one = is_one p 0 (All-head HasSome p ps some) in
-        let here : has device (p.start + 0) p ≡ 1 = subst (λ d. has d (p.start + 0) p ≡ 1) (same_number device p.device e) one in
-        let sum = sum_by-cons (has device (p.start + 0)) p ps in
-        omega (arith, here, sum)))
+    one_more true e any rest = (
+      p.start + 0,
+      (
+          let one = is_one p 0 (All-head HasSome p ps some) in
+          let here : has device (p.start + 0) p ≡ 1 = subst (λ d. has d (p.start + 0) p ≡ 1) (same_number device p.device e) one in
+          let sum = sum_by-cons (has device (p.start + 0)) p ps in
+          omega (arith, here, sum)),
+    )
     one_more false e any rest = let there = rest any in (there.0, (let le = there.1 in let sum = sum_by-cons (has device there.0) p ps in omega (arith, le, sum)))
 
 pub any_same : (ps qs : List Seen) (device : ℕ) → All HasSome ps → All HasSome qs → ((k : ℕ) → owners device k qs ≡ owners device k ps) → list_any (is_of device) qs ≡ list_any (is_of device) ps

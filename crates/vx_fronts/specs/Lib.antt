@@ -3,3 +3,4 @@ pub mod Laws
 pub mod Rests
 pub mod Parted
 pub mod RestLaws
+pub mod Forms

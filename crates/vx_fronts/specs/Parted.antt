@@ -1,8 +1,8 @@
 -- Disks of which the devices are in pieces: the fronts, and the pieces behind them.
-use Rattle.std.specs.Prelude.{◌≡◌, ℕ, ◌≤◌, List, ◌∷◌, ◌++◌, map}
+use Rattle.std.specs.Prelude.{◌≡◌, ℕ, ◌-◌, ◌≤◌, List, ◌∷◌, ◌++◌, map}
 use Rattle.std.specs.List.{All}
 use Rattle.vx_piece.specs.Seen.{Seen}
-use Rattle.vx_carve.specs.Together.{HasSome, SameSectors, has_at, owners}
+use Rattle.vx_carve.specs.Together.{AreOnce, HasSome, IsFree, SameSectors, has_at, owners}
 use Rattle.vx_copies.specs.Disks.{DiskSeen}
 use Rattle.vx_copies.specs.Lists.{AllOf, AnyOf, Each}
 use Rattle.vx_fronts.specs.Rests.{AllTell, IsTelling, rests_of, untold}
@@ -57,6 +57,13 @@ pub record IsSameDisk (old new : DiskSeen) : Type 0 where
   -- it has the private region still, and tells nothing where the other did not
   pub private : 2048 ≤ old.seen.sectors → 2048 ≤ new.seen.sectors
   pub tell : IsTelling new.seen → IsTelling old.seen
+
+-- the front begins its device, is not longer than that, and all sectors behind it are in one of the pieces, each once
+pub record IsJoinable (h : DiskSeen) (still : List Seen) : Type 0 where
+  pub front : IsFront h
+  pub fits : h.seen.sectors ≤ h.sectors
+  pub once : AreOnce (h.seen ∷ still)
+  pub free : IsFree h.seen.device h.seen.sectors (h.sectors - h.seen.sectors) still
 
 -- one disk is parted otherwise: its front and the pieces behind are together what they were
 pub record RepartsOne (old new : DiskSeen) (still still' : List Seen) : Type 0 where

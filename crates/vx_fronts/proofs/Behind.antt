@@ -32,10 +32,10 @@ pub rests_counted : RestsAreCounted
 rests_counted still still' lent some same device = counts_same still lent still' lent some (same_beside lent still still' same) device
 
 -- those that were taken are behind the others
-turned : (taken still lent : List Seen) → SameSectors ((taken ++ still) ++ lent) (still ++ (taken ++ lent))
+pub turned : (taken still lent : List Seen) → SameSectors ((taken ++ still) ++ lent) (still ++ (taken ++ lent))
 turned taken still lent = subst (λ xs. SameSectors ((taken ++ still) ++ lent) xs) (append_assoc still taken lent) (same_moved _ _ (IsPermutation-append_left lent (taken ++ still) (still ++ taken) (IsPermutation-append_comm taken still)))
 
-turned_back : (back still lent : List Seen) → SameSectors (still ++ (back ++ lent)) ((back ++ still) ++ lent)
+pub turned_back : (back still lent : List Seen) → SameSectors (still ++ (back ++ lent)) ((back ++ still) ++ lent)
 turned_back back still lent = subst (λ xs. SameSectors xs ((back ++ still) ++ lent)) (append_assoc still back lent) (same_moved _ _ (IsPermutation-append_left lent (still ++ back) (back ++ still) (IsPermutation-append_comm still back)))
 
 pub lent_counted : LentAreCounted

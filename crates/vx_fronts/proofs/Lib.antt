@@ -6,3 +6,4 @@ pub mod Behind
 pub mod Parted
 pub mod Devices
 pub mod Steps
+pub mod Joined

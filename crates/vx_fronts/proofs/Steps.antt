@@ -94,7 +94,7 @@ is_in_middle : (xs ys : List DiskSeen) (h : DiskSeen) → IsIn h (xs ++ h ∷ ys
 is_in_middle [] ys h = inl refl
 is_in_middle (x ∷ xs) ys h = inr (is_in_middle xs ys h)
 
-all_push : (Q : DiskSeen → Type 0) (xs : List DiskSeen) (h : DiskSeen) → AllOf Q xs → Q h → AllOf Q (xs ++ h ∷ [])
+pub all_push : (Q : DiskSeen → Type 0) (xs : List DiskSeen) (h : DiskSeen) → AllOf Q xs → Q h → AllOf Q (xs ++ h ∷ [])
 all_push Q [] h all q = (q, tt)
 all_push Q (x ∷ xs) h all q = (all.0, all_push Q xs h all.1 q)
 

@@ -1,10 +1,11 @@
 -- What becomes of the rests of devices, and of their parts, where the pieces behind are moved, lent, put back and called.
-use Rattle.std.specs.Prelude.{◌≡◌, ℕ, ◌-◌, ◌≤◌, if◌then◌else◌, List, [], ◌++◌}
+use Rattle.std.specs.Prelude.{◌≡◌, ℕ, ◌-◌, ◌≤◌, ◌≢◌, if◌then◌else◌, List, [], ◌∷◌, ◌++◌}
 use Rattle.std.specs.List.{list_any, All}
 use Rattle.vx_piece.specs.Seen.{Seen, Keeps}
 use Rattle.vx_carve.specs.Together.{AreOnce, HasSome, IsFree, SameSectors, covers, cut_on, faults_on, owners}
 use Rattle.vx_copies.specs.Disks.{DiskSeen, CommitGoes}
 use Rattle.vx_copies.specs.Lists.{AllOf, Each}
+use Rattle.vx_confdb.specs.Prepare.{Tells}
 use Rattle.vx_fronts.specs.Fronts.{HasPrivate, whole_disk}
 use Rattle.vx_fronts.specs.Rests.{AllTell, bare, rests_of, sector_in}
 use Rattle.vx_fronts.specs.Parted.{AreParted, IsFront, IsWhole, fronts_of}
@@ -100,7 +101,42 @@ PartedWereCalled =
     (disks : List DiskSeen) (behind behind' : List Seen) → ((device sector : ℕ) → owners device sector behind' ≡ owners device sector behind) →
     All HasSome behind' → (AllTell behind → AllTell behind') → AreParted disks behind → AreParted disks behind'
 
--- .. and through a commit to the fronts.
+-- .. through a commit to the fronts, ..
 abbrev pub PartedWereCommitted : Type 0
 PartedWereCommitted =
     (first last : ℕ) (text : List ℕ) (old new : List DiskSeen) (behind : List Seen) → Each (CommitGoes first last text) old new → AreParted old behind → AreParted new behind
+
+-- .. and where pieces are taken out and lent, or put back.
+abbrev pub LentStayParted : Type 0
+LentStayParted =
+    (disks : List DiskSeen) (still taken still' lent : List Seen) → SameSectors still (taken ++ still') → AreParted disks (still ++ lent) → AreParted disks (still' ++ (taken ++ lent))
+
+abbrev pub BackStayParted : Type 0
+BackStayParted =
+    (disks : List DiskSeen) (still back still' lent : List Seen) → SameSectors (back ++ still) still' → AreParted disks (still ++ (back ++ lent)) → AreParted disks (still' ++ lent)
+
+-- ---- a disk that joins
+
+-- the disk is there whole, and none of these is of its device
+pub record IsApart (disks : List DiskSeen) (h : DiskSeen) : Type 0 where
+  pub front : IsFront h
+  pub whole : IsWhole h
+  pub other : AllOf (λ g. g.seen.device ≢ h.seen.device) disks
+
+-- With it the disks are parted as before, ..
+abbrev pub JoinedStayParted : Type 0
+JoinedStayParted = (disks : List DiskSeen) (behind : List Seen) (h : DiskSeen) → IsApart disks h → AreParted disks behind → AreParted (disks ++ h ∷ []) behind
+
+-- .. and it is there whole.
+abbrev pub JoinedIsWhole : Type 0
+JoinedIsWhole = (disks : List DiskSeen) (still lent : List Seen) (h : DiskSeen) → IsApart disks h → AreParted disks (still ++ lent) → whole_disk (rests_of still lent) h ≡ h
+
+-- ---- small steps
+
+-- Disks that tell have fronts that do, ..
+abbrev pub DisksTell : Type 0
+DisksTell = (disks : List DiskSeen) → AllOf Tells disks → AllTell (fronts_of disks)
+
+-- .. and parts of pieces that have no sector twice have none twice.
+abbrev pub PartsAreOnce : Type 0
+PartsAreOnce = (ps qs : List Seen) → AreOnce (ps ++ qs) → AreOnce ps × AreOnce qs

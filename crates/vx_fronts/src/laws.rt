@@ -1,7 +1,7 @@
 //! Laws of disks of which a group has the fronts, each a function with an empty body whose contract states it.
 
 ghost use Rattle.vx_fronts.specs.Laws.{EachCommitIsWhole, EachConfigurationIsWhole, EachCutIsWhole, EachFailureIsWhole, EachLeadIsWhole, EachMaskIsWhole, EachTextIsCarriedWhole, EachWriteIsWhole};
-ghost use Rattle.vx_fronts.specs.RestLaws.{BackAreCounted, BackAreHeld, DevicesWereCalled, LentAreCounted, LentAreEmpty, NoneIsBehind, PartedAreFree, PartedAreOnce, PartedHavePrivate, PartedStay, PartedWereCalled, PartedWereCommitted, PiecesTellStill, RestsAreCounted, RestsStay, WholeArePartedAlone};
+ghost use Rattle.vx_fronts.specs.RestLaws.{BackAreCounted, BackAreHeld, BackStayParted, DevicesWereCalled, DisksTell, JoinedIsWhole, JoinedStayParted, LentAreCounted, LentAreEmpty, LentStayParted, NoneIsBehind, PartedAreFree, PartedAreOnce, PartedHavePrivate, PartedStay, PartedWereCalled, PartedWereCommitted, PartsAreOnce, PiecesTellStill, RestsAreCounted, RestsStay, WholeArePartedAlone};
 
 /// A commit to the fronts of a group's disks is one to their whole devices, however it ends.
 pub fn each_commit_is_whole()
@@ -49,4 +49,14 @@ pub fn each_disk_stays_parted()
     ensures stay { PartedStay }
     ensures called { PartedWereCalled }
     ensures committed { PartedWereCommitted }
+    ensures lent { LentStayParted }
+    ensures back { BackStayParted }
+{}
+
+/// A disk that joins is there whole, and the others stay parted; and small steps to the conditions of other calls.
+pub fn each_joined_disk_is_whole()
+    ensures parted { JoinedStayParted }
+    ensures whole { JoinedIsWhole }
+    ensures tell { DisksTell }
+    ensures once { PartsAreOnce }
 {}

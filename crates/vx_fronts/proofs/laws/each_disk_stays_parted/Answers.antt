@@ -1,3 +1,4 @@
+use Rattle.vx_fronts.proofs.Joined.{back_parted, lent_parted}
 use Rattle.vx_fronts.proofs.Parted.{free_parted, parted_alone, parted_called, parted_committed, parted_once, parted_stay, private_parted}
 use Rattle.vx_fronts.proofs.laws.each_disk_stays_parted.Goals as goal
 
@@ -21,3 +22,9 @@ returns-clause-called c = parted_called
 
 pub returns-clause-committed : goal.returns-clause-committed
 returns-clause-committed c = parted_committed
+
+pub returns-clause-lent : goal.returns-clause-lent
+returns-clause-lent c = lent_parted
+
+pub returns-clause-back : goal.returns-clause-back
+returns-clause-back c = back_parted

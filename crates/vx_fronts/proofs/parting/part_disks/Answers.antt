@@ -26,7 +26,7 @@ pub left-preserved-in-Ok-part_disk : goal.left-preserved-in-Ok-part_disk
 left-preserved-in-Ok-part_disk g c =
     let left : c.left.left.items ≡ c.pop.new.self.items ++ c.in-Some.disk ∷ [] = search rules in
     record {
-      parts = loop_goes g.P.Piece.seen _ c.left.parted.items c.left.left.items c.pop.new.self.items c.push_reserved.new.self.items c.in-Some.disk c.in-Ok-part_disk.disk _ _ _ left c.push_reserved.ensures.items c.left.invariant.parts c.in-Ok-part_disk.ensures.parts;
+      parts = loop_goes g.P.Piece.seen (map (disk_seen g.P.Piece.seen) c.args.disks.items) c.left.parted.items c.left.left.items c.pop.new.self.items c.push_reserved.new.self.items c.in-Some.disk c.in-Ok-part_disk.disk (map g.P.Piece.seen c.args.pool.now.items.items) (map g.P.Piece.seen c.left.pool.items.items) (map g.P.Piece.seen c.part_disk.new.pool.items.items) left c.push_reserved.ensures.items c.left.invariant.parts c.in-Ok-part_disk.ensures.parts;
       formed = on_ok c.left.result (AllOf (HasForm c.args.parting) (map (disk_seen g.P.Piece.seen) c.left.parted.items)) (AllOf (HasForm c.args.parting) (map (disk_seen g.P.Piece.seen) c.push_reserved.new.self.items)) (λ all. loop_formed g.P.Piece.seen (HasForm c.args.parting) c.left.parted.items c.push_reserved.new.self.items c.in-Ok-part_disk.disk c.push_reserved.ensures.items all c.in-Ok-part_disk.ensures.formed) c.left.invariant.formed;
       room = search rules;
     }
@@ -35,7 +35,7 @@ pub left-preserved : goal.left-preserved
 left-preserved g c =
     let left : c.left.left.items ≡ c.pop.new.self.items ++ c.in-Some.disk ∷ [] = search rules in
     record {
-      parts = loop_goes g.P.Piece.seen _ c.left.parted.items c.left.left.items c.pop.new.self.items c.push_reserved-in-Err.new.self.items c.in-Some.disk c.in-Err.disk _ _ _ left c.push_reserved-in-Err.ensures.items c.left.invariant.parts c.in-Err.ensures.kept;
+      parts = loop_goes g.P.Piece.seen (map (disk_seen g.P.Piece.seen) c.args.disks.items) c.left.parted.items c.left.left.items c.pop.new.self.items c.push_reserved-in-Err.new.self.items c.in-Some.disk c.in-Err.disk (map g.P.Piece.seen c.args.pool.now.items.items) (map g.P.Piece.seen c.left.pool.items.items) (map g.P.Piece.seen c.part_disk.new.pool.items.items) left c.push_reserved-in-Err.ensures.items c.left.invariant.parts c.in-Err.ensures.kept;
       formed = tt;
       room = search rules;
     }

@@ -66,8 +66,8 @@ copy_is_choice v r c one =
 bits_between : (regions : Regions) (r : ℕ) → IsBetween (regions r).stage (regions r).stage.phase (regions r).around (has (regions r).stage.bits)
 bits_between regions r = record { least = λ k bit. bit; most = λ k bit. inl bit }
 
-value_in : (v : Image) (regions : Regions) (p : PlexImage) (b r : ℕ) → IsPlexOfRegions v.length v.region regions p → b < v.length → b / v.region ≡ r → p.values b ≡ (regions r).around.disks.blocks p.map b
-value_in v regions p b r of lt here = subst (λ (n : ℕ). p.values b ≡ (regions n).around.disks.blocks p.map b) here (of.values b lt)
+value_in : (v : Image) (regions : Regions) (p : PlexImage) (b r : ℕ) → IsPlexOfRegions v.length v.region regions p → p.held ≡ true → b < v.length → b / v.region ≡ r → p.values b ≡ (regions r).around.disks.blocks p.map b
+value_in v regions p b r of held lt here = subst (λ (n : ℕ). p.values b ≡ (regions n).around.disks.blocks p.map b) here (of.values held b lt)
 
 -- a plex that some choice leaves unmarked is one of the regions'
 of_regions : (v : Image) (regions : Regions) (r : ℕ) (B : ℕ → Bool) → LeaveImage regions v → r < regions_of v → IsChoiceOfMarks v r B → (p : PlexImage) → Contains v.plexes p → B p.map ≡ false → IsPlexOfRegions v.length v.region regions p
@@ -91,9 +91,9 @@ sound_left v regions kept left was r B low choice =
             | inl agree ↦ inl (λ p q at_p at_q b lt here.
                 let of_p = of_regions v regions r B left low choice p at_p.of at_p.unmarked in
                 let of_q = of_regions v regions r B left low choice q at_q.of at_q.unmarked in
-                value_in v regions p b r of_p lt here
+                value_in v regions p b r of_p at_p.held lt here
                 ∙ agree p.map q.map b (of_p.held r at_p.held, at_p.unmarked) (of_q.held r at_q.held, at_q.unmarked)
-                ∙ sym (value_in v regions q b r of_q lt here))
+                ∙ sym (value_in v regions q b r of_q at_q.held lt here))
             | inr may ↦ inr (elim (was r) [
               | inr settled ↦ absurd (closed settled may.0)
               | inl is ↦ may_differ v.state v B is (record {
@@ -113,10 +113,10 @@ sound_left v regions kept left was r B low choice =
       tracked = λ m snap clear p q at_p at_q b lt here.
           let of_p = of_regions v regions r B left low choice p at_p.of at_p.unmarked in
           let of_q = of_regions v regions r B left low choice q at_q.of at_q.unmarked in
-          value_in v regions p b r of_p lt here
+          value_in v regions p b r of_p at_p.held lt here
           ∙ under.tracked m p.map b (left.snaps m snap r) clear (of_p.held r at_p.held, at_p.unmarked)
           ∙ sym (under.tracked m q.map b (left.snaps m snap r) clear (of_q.held r at_q.held, at_q.unmarked))
-          ∙ sym (value_in v regions q b r of_q lt here);
+          ∙ sym (value_in v regions q b r of_q at_q.held lt here);
     }
 
 -- a plex that is read of a volume that is not empty
@@ -159,7 +159,7 @@ stands_left v regions kept left was life lives b lt p one =
     let x = read_unmarked v regions r p (kept r) left (below_count b v.length v.region left.sized lt) read.0 parts.1 in
     let among = ((kept r).sound.under x.0 x.1).candidates p.map b (x.3.held r held, x.2) in
     subst (λ values. IsAmong values (p.values b)) (sym (lives.candidates b lt))
-    (subst (λ (value : List ℕ). IsAmong (candidates_of (regions r).around.fixed.first (told (regions r).around) b) value) (sym (x.3.values b lt)) among)
+    (subst (λ (value : List ℕ). IsAmong (candidates_of (regions r).around.fixed.first (told (regions r).around) b) value) (sym (x.3.values held b lt)) among)
 
 -- the marks that are left are on every copy where they are sure, ..
 pub marked_left : (v : Image) (regions : Regions) → AreKept regions → LeaveImage regions v → (k : ℕ) (lower upper : ℕ → Bool) → GoWith regions k lower upper → IsMarkedInEach v k lower
@@ -215,7 +215,7 @@ each_stop_stands regions happenings fresh fits settled v left was life lives =
             let parts = both_parts (is_available p) (is_unmarked_by_some v r p.map || is_alone v) read.1 in
             let held = (both_parts p.held (is_available_state p.state) parts.0).0 in
             let x = read_unmarked v after r p (kept r) left (below_count b v.length v.region left.sized lt) read.0 parts.1 in
-            x.3.values b lt
+            x.3.values held b lt
             ∙ (settled_begins (after r) (kept r) (settled r)).1.hold p.map b (x.3.held r held, not_before (has (after r).stage.bits p.map) (x.0 p.map) (x.1.least p.map) x.2);
       },
     )
@@ -230,8 +230,8 @@ each_pair_stands one other happenings happenings' fresh fits fresh' fits' v w le
     let low' : r < regions_of w = subst (λ (n : ℕ). r < region_count n w.region) (sym length) (subst (λ (size : ℕ). r < region_count v.length size) (sym region) low) in
     let of_p = of_regions v (run happenings one) r B left low choice p at_p.of at_p.unmarked in
     let of_q = of_regions w (run happenings' other) r C left' low' choice' q at_q.of at_q.unmarked in
-    value_in v (run happenings one) p b r of_p lt here
+    value_in v (run happenings one) p b r of_p at_p.held lt here
     ∙ under.tracked m p.map b (left.snaps m snap r) clear (of_p.held r at_p.held, at_p.unmarked)
     ∙ same r b
     ∙ sym (under'.tracked n q.map b (left'.snaps n snap' r) clear' (of_q.held r at_q.held, at_q.unmarked))
-    ∙ sym (value_in w (run happenings' other) q b r of_q (subst (λ (n : ℕ). b < n) (sym length) lt) here')
+    ∙ sym (value_in w (run happenings' other) q b r of_q at_q.held (subst (λ (n : ℕ). b < n) (sym length) lt) here')

@@ -51,7 +51,7 @@ each_recovery_agrees v candidates sound stands fill well c one regions opened re
             let plex = is.plexes p one_p in
             let r = b / v.region in
             let held = (both_parts p.held (is_available_state p.state) there).0 in
-            subst (λ (size : ℕ). p.values b ≡ (after (b / size)).around.disks.blocks p.map b) is.region (plex.values b lt)
+            subst (λ (size : ℕ). p.values b ≡ (after (b / size)).around.disks.blocks p.map b) is.region (plex.values held b lt)
             ∙ (settled_begins (after r) (kept r) (settled r)).1.hold p.map b (plex.held r held, (equal r).copied p.map (is.on p one_p there r));
       },
     )

@@ -12,10 +12,10 @@ use Rattle.vx_image.specs.Image.{PlexImage, LogCopy, Image, regions_of, is_stale
 abbrev pub Regions : Type 0
 Regions = ℕ → RegionState
 
--- The bytes of a data plex are those that the regions have, for a volume of this length and region size: each block is that of
--- its own region.
+-- The bytes of a data plex that is held are those that the regions have, for a volume of this length and region size: each block
+-- is that of its own region. What lies on disks that are not good is nobody's.
 pub record IsPlexOfRegions (length size : ℕ) (regions : Regions) (p : PlexImage) : Type 0 where
-  pub values : (b : ℕ) → b < length → p.values b ≡ (regions (b / size)).around.disks.blocks p.map b
+  pub values : p.held ≡ true → (b : ℕ) → b < length → p.values b ≡ (regions (b / size)).around.disks.blocks p.map b
   pub held : (r : ℕ) → p.held ≡ true → (regions r).around.fixed.held p.map ≡ true
   -- a plex that is recorded stale is off, or all is settled while that record is written
   pub stale : (r : ℕ) → p.held ≡ true → is_stale p ≡ true → (has (regions r).stage.off p.map ≡ true) ⊎ ((regions r).stage.phase ≡ Settled)

@@ -62,6 +62,8 @@ each_running_forgets plexes v w run owners fit = (
     region_is = run.region_is;
     epoch = run.epoch;
     told = run.told;
+    held = run.held;
+    copies = run.copies;
     each = λ r lt.
         let was = run.each r lt in
         record {
@@ -271,7 +273,7 @@ module _ (plexes : List PlexImage) (v : VolumeSeen) (w : Volume) (is : IsVolume 
                 let held = (both_parts p.held (is_available_state p.state) parts.0).0 in
                 let low = below_count b image.length image.region left.leave.sized lt in
                 let x = plex_read r p low read.0 parts.1 in
-                x.1.values b lt ∙ (settled_begins (regions r) (kept_all r) (settled_all r)).1.hold p.map b (x.1.held r held, x.0);
+                x.1.values held b lt ∙ (settled_begins (regions r) (kept_all r) (settled_all r)).1.hold p.map b (x.1.held r held, x.0);
           }
 
       pub stands_settled : EachVolumeIsLeft → StandsForVolume image w × (list : Contents) × ReadsOneList image w.life.candidates list

@@ -96,5 +96,7 @@ each_opening_runs law image v w is over stands begins filled formed =
       region_is = begins.region_is ∙ sym over.region_is;
       epoch = λ r lt. over.epoch r lt ∙ sym (ap (λ (life : Life). life.epoch) begins.life);
       told = over.told;
+      held = over.held;
+      copies = over.copies;
       each = region_runs law image v w is over stands begins filled formed;
     }

@@ -19,6 +19,7 @@ use Rattle.vx_core_laws.proofs.Tracks.{each_track_holds}
 use Rattle.vx_cell.specs.declared.fault.CellFault.{CellFault}
 use Rattle.vx_cell.specs.Region.{state_of}
 use Rattle.vx_cell.specs.Running.{Caller}
+use Rattle.vx_cell.proofs.Changes.{keep_holds}
 use Rattle.vx_volume.specs.Laws.{GoesOn as RegionGoesOn, IsNotedBy, RegionsGoOn, with_made}
 use Rattle.vx_volume.specs.Laws as volume
 use Rattle.vx_volume.specs.Loop.{AreDone, AreMade}
@@ -229,6 +230,10 @@ module _ (tracked : EachCallIsTracked) (plexes : List PlexImage) (old new : Volu
         region_is = rest.region ∙ run.region_is ∙ sym same_region;
         epoch = λ r lt. let before = subst (λ (m : ℕ). r < m) goes.count lt in (goes.each r before).stays.epoch ∙ run.epoch r before ∙ sym on.1.epoch_is;
         told = goes.told;
+        held = λ r k lt.
+            let before = subst (λ (m : ℕ). r < m) goes.count lt in
+            run.held r k before ∙ sym (keep_holds (cell_at old r).plexes (cell_at new r).plexes (goes.each r before).stays.plexes k);
+        copies = λ r lt. let before = subst (λ (m : ℕ). r < m) goes.count lt in run.copies r before ∙ sym (goes.each r before).stays.log.copies;
         each = λ r lt. region_now r (subst (λ (m : ℕ). r < m) goes.count lt);
       }
 

@@ -7,6 +7,7 @@ use Rattle.vx_core.specs.History.{NoCall}
 use Rattle.vx_core.specs.Region.{Fixed, RegionState}
 use Rattle.vx_core_laws.specs.Course.{IsKeptState}
 use Rattle.vx_core_laws.specs.Tracking.{IsOther, IsSeen}
+use Rattle.vx_cell.specs.Plexes.{holds}
 use Rattle.vx_cell.specs.Region.{state_of}
 use Rattle.vx_volume.specs.Laws.{AreTold}
 use Rattle.vx_volume.specs.Volume.{VolumeSeen, cell_at, region_at}
@@ -40,7 +41,8 @@ pub record RegionRunsAs (plexes : List PlexImage) (s : RegionState) (r : ℕ) (w
   pub unsettled : s.stage.phase ≡ Unsettled → was_unsettled w r ≡ true
 
 -- The volume of the code runs as this one of the world: it has its length, regions and epoch, and some blocks; its devices tell
--- what they hold, and each of its regions runs so, with the entries that the life has of it.
+-- what they hold, and each of its regions runs so, with the entries that the life has of it. What is fixed of a region is of its
+-- plexes, and of the copies of the log.
 pub record RunsAsVolume (plexes : List PlexImage) (v : VolumeSeen) (w : Volume) : Type 0 where
   pub fixed : ℕ → Fixed
   pub some : 0 < v.length
@@ -49,6 +51,8 @@ pub record RunsAsVolume (plexes : List PlexImage) (v : VolumeSeen) (w : Volume) 
   pub region_is : w.region ≡ v.region
   pub epoch : (r : ℕ) → r < length v.cells → (cell_at v r).epoch ≡ w.life.epoch
   pub told : AreTold v
+  pub held : (r k : ℕ) → r < length v.cells → (fixed r).held k ≡ holds (cell_at v r).plexes k
+  pub copies : (r : ℕ) → r < length v.cells → (fixed r).copies ≡ v.log.copies
   pub each : (r : ℕ) → r < length v.cells → RegionRunsAs plexes (state_at v fixed w.life.entries r) r w
 
 -- in each region the tracks are sure of those plexes alone that are not written to

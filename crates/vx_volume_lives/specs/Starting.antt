@@ -2,6 +2,7 @@
 use Rattle.std.specs.Prelude.{◌≡◌, ℕ, ◌<◌, [], length, Contains}
 use Rattle.vx_life.specs.Life.{begun_from}
 use Rattle.vx_core.specs.Region.{Fixed}
+use Rattle.vx_cell.specs.Plexes.{holds}
 use Rattle.vx_volume.specs.Laws.{AreTold}
 use Rattle.vx_volume.specs.Volume.{IsVolume, VolumeSeen, cell_at}
 use Rattle.vx_moments.specs.World.{Volume}
@@ -11,7 +12,7 @@ use Rattle.vx_volume_laws.specs.Opening.{IsOpened, IsWellFormed}
 use Rattle.vx_volume_lives.specs.Running.{RunsAsVolume, state_at}
 
 -- The volume is opened over the image, by the marks of one of its copies: each region is, over the candidates of the volume of the
--- world, and no number was drawn.
+-- world, no number was drawn, and what is fixed of it is of its plexes and of the copies of the log.
 pub record IsOpenedOver (image : Image) (v : VolumeSeen) (w : Volume) : Type 0 where
   pub fixed : ℕ → Fixed
   pub copy : LogCopy
@@ -23,6 +24,8 @@ pub record IsOpenedOver (image : Image) (v : VolumeSeen) (w : Volume) : Type 0 w
   pub here : (r : ℕ) → r < length v.cells → (fixed r).region ≡ r
   pub number : (r : ℕ) → r < length v.cells → (cell_at v r).number ≡ 0
   pub epoch : (r : ℕ) → r < length v.cells → (cell_at v r).epoch ≡ 0
+  pub held : (r k : ℕ) → r < length v.cells → (fixed r).held k ≡ holds (cell_at v r).plexes k
+  pub copies : (r : ℕ) → r < length v.cells → (fixed r).copies ≡ v.log.copies
   pub opened : (r : ℕ) → r < length v.cells → IsOpened image copy w.life.candidates r (state_at v fixed [] r)
 
 -- a volume of the world of which nothing has happened, with the length and regions of the image

@@ -11,7 +11,7 @@ ghost use Rattle.vx_maps.specs.Wholes.{store_copies, store_faults};
 ghost use Rattle.vx_whole_maps.specs.Bytes.{map_bit};
 ghost use Rattle.vx_lending.specs.Going.{GoTogether};
 ghost use Rattle.vx_lending.specs.Left.{IsNotFresh, left_copies, left_cut, left_faults};
-ghost use Rattle.vx_lending.specs.Logs.{IsFreshLog, IsFreshStore, log_pieces};
+ghost use Rattle.vx_lending.specs.Logs.{IsFreshLog, IsFreshStore, log_copies, log_pieces};
 ghost use Rattle.vx_lending.specs.Marking.{IsMarkRefused, IsMarkedAll, IsMarkedOne};
 ghost use Rattle.vx_lending.specs.Pieces.{copy_pieces};
 ghost use Rattle.vx_lending.specs.Taken.{AreLogCopies, slot_of};
@@ -40,6 +40,7 @@ pub fn fresh_log<P: Piece + Drop>(
 ) -> Result<VolumeLog<P>, FreshRefused<P>>
     requires { AreLogCopies (slot_of form.now.shape.geometry) (copies_seen P.seen copies.items) }
     ensures fresh { IfOk result (λ log. IsFreshLog P.seen form.now.shape.geometry marked (copies_seen P.seen copies.items) log) }
+    ensures cut { IfOk result (λ log. CutCopiesGo KeepsPiece (copies_seen P.seen copies.items) (log_copies P.seen log)) }
     ensures goes { IfOk result (λ log. GoTogether (copy_pieces (copies_seen P.seen copies.items)) (log_pieces P.seen log)) }
     ensures refused { IfErr result (λ refused. IsNotFresh refused.fault (copies_seen P.seen copies.items) (left_copies P.seen refused.left) (left_faults P.seen refused.left) (left_cut P.seen refused.left)) }
     ensures back { IfErr result (λ refused. GoTogether (copy_pieces (copies_seen P.seen copies.items)) (copy_pieces (left_copies P.seen refused.left))) }

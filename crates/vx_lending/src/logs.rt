@@ -1,9 +1,11 @@
 ghost use Rattle.std.specs.Prelude.{IfOk, IfErr};
 ghost use Rattle.vx_block.specs.Regions.{region_count};
+ghost use Rattle.vx_pages.specs.Sector.{KeepsPiece};
+ghost use Rattle.vx_maps.specs.Going.{CutCopiesGo};
 ghost use Rattle.vx_maps.specs.Loading.{IsNotLoaded};
 ghost use Rattle.vx_maps.specs.Spares.{copies_seen};
 ghost use Rattle.vx_lending.specs.Going.{GoTogether};
-ghost use Rattle.vx_lending.specs.Logs.{IsLoadedLog, log_header, log_pieces};
+ghost use Rattle.vx_lending.specs.Logs.{IsLoadedLog, log_copies, log_header, log_pieces};
 ghost use Rattle.vx_lending.specs.Pieces.{copy_pieces};
 ghost use Rattle.vx_lending.specs.Taken.{AreLogCopies, slot_of};
 
@@ -23,6 +25,7 @@ pub fn load_log<P: Piece + Drop>(
 ) -> Result<VolumeLog<P>, StoreRefused<P>>
     requires { AreLogCopies (slot_of form.now.shape.geometry) (copies_seen P.seen copies.items) }
     ensures loaded { IfOk result (λ log. IsLoadedLog P.seen form.now.shape.geometry (copies_seen P.seen copies.items) log) }
+    ensures cut { IfOk result (λ log. CutCopiesGo KeepsPiece (copies_seen P.seen copies.items) (log_copies P.seen log)) }
     ensures goes { IfOk result (λ log. GoTogether (copy_pieces (copies_seen P.seen copies.items)) (log_pieces P.seen log)) }
     ensures refused { IfErr result (λ refused. IsNotLoaded (log_header form.now.shape.geometry) refused.fault (copies_seen P.seen copies.items) (copies_seen P.seen refused.copies.items)) }
     ensures back { IfErr result (λ refused. GoTogether (copy_pieces (copies_seen P.seen copies.items)) (copy_pieces (copies_seen P.seen refused.copies.items))) }

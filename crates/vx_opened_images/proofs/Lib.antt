@@ -1,5 +1,5 @@
-mod Ranges
-mod Runs
-mod Held
-mod Opening
-mod Loaded
+pub mod Ranges
+pub mod Runs
+pub mod Held
+pub mod Opening
+pub mod Loaded

@@ -54,11 +54,11 @@ told_tells : (contents : ℕ → Contents) (device start count : ℕ) (told : Op
 told_tells contents device start count None h = absurd h
 told_tells contents device start count (Some t) h = tt
 
-run_tells : (contents : ℕ → Contents) (ps : List Seen) → All (Holds contents) ps → RunTells ps
+pub run_tells : (contents : ℕ → Contents) (ps : List Seen) → All (Holds contents) ps → RunTells ps
 run_tells contents [] h = tt
 run_tells contents (p ∷ ps) h = (told_tells contents p.device p.start p.sectors p.told (All-head (Holds contents) p ps h), run_tells contents ps (All-tail (Holds contents) p ps h))
 
-all_tell : (contents : ℕ → Contents) (copies : List (List Seen)) → All (λ copy. All (Holds contents) copy) copies → AllTell copies
+pub all_tell : (contents : ℕ → Contents) (copies : List (List Seen)) → All (λ copy. All (Holds contents) copy) copies → AllTell copies
 all_tell contents [] h = tt
 all_tell contents (x ∷ xs) h = (run_tells contents x (All-head (λ copy. All (Holds contents) copy) x xs h), all_tell contents xs (All-tail (λ copy. All (Holds contents) copy) x xs h))
 
@@ -84,7 +84,7 @@ some_sectors : (regions count : ℕ) → plex_bytes_of 32 (map_bytes_of regions)
 some_sectors regions count fits = omega (arith, fits)
 
 -- marks are those of what holds the same in the sectors of the maps
-same_marks : (regions count : ℕ) (x y : Contents) → ((i : ℕ) → i < count → x i ≡ y i) → plex_bytes_of 32 (map_bytes_of regions) ≤ 512 * count → (map region : ℕ) → marks regions x map region ≡ marks regions y map region
+pub same_marks : (regions count : ℕ) (x y : Contents) → ((i : ℕ) → i < count → x i ≡ y i) → plex_bytes_of 32 (map_bytes_of regions) ≤ 512 * count → (map region : ℕ) → marks regions x map region ≡ marks regions y map region
 same_marks regions count x y same fits map region = by (nat_lt region regions) (nat_lt map 32) refl refl
   where
     by : (a b : Bool) → nat_lt region regions ≡ a → nat_lt map 32 ≡ b → ((a && b) && bit_in (x (page_sector (map_bytes_of regions) map (region / 4096))) region) ≡ ((a && b) && bit_in (y (page_sector (map_bytes_of regions) map (region / 4096))) region)
@@ -104,7 +104,7 @@ active_in plex.SnapAtt h = h
 active_in plex.SnapDone h = h
 active_in plex.DcoSnp h = h
 
-copy_in : (c : Config) (good : ℕ) (bytes : Sectors) (v : Vol) (dco : Option Word) (q : Plex) → IsIn (used_logs dco c good false v.name) q → is_headed v.len v.region (plex_contents c bytes q) ≡ true → Contains (log_copies dco c good bytes v) (plex_marks c bytes v q)
+pub copy_in : (c : Config) (good : ℕ) (bytes : Sectors) (v : Vol) (dco : Option Word) (q : Plex) → IsIn (used_logs dco c good false v.name) q → is_headed v.len v.region (plex_contents c bytes q) ≡ true → Contains (log_copies dco c good bytes v) (plex_marks c bytes v q)
 copy_in c good bytes v None q h headed = absurd h
 copy_in c good bytes v (Some dco) q h headed =
     let w = filtered (is_used_log c good false v.name) c.plexes q h in

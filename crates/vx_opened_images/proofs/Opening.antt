@@ -50,7 +50,7 @@ use Rattle.vx_volume_form.proofs.Bits.{kept, into_on, on_plex, on_off, held_on}
 use Rattle.vx_volume_form.proofs.Places.{columns_lie}
 use Rattle.vx_volume_form.proofs.Zips.{zip_length, zip_at}
 use Rattle.vx_opened_images.specs.Contents.{AreSectorsOf, HoldRegions, ShowsCopy}
-use Rattle.vx_opened_images.specs.Opened.{IsOpenedBy}
+use Rattle.vx_opened_images.specs.Opened.{IsFixedOf, IsOpenedBy}
 use Rattle.vx_opened_images.proofs.Ranges.{in_range, same_blocks}
 use Rattle.vx_opened_images.proofs.Runs.{cut_holds}
 use Rattle.vx_opened_images.proofs.Held.{contents_at, own_hold, of_image, in_image, IsPlaceOf, place_in, at_map}
@@ -203,6 +203,7 @@ module _ (c : Config) (good : ℕ) (bytes : Sectors) (v : Vol) (of : IsVolOf c v
 
   opened_as : (log : LogSeen) (copy : LogCopy) → ShowsCopy log copy (count_of form.shape) → (bits : ℕ) → AreClaimed (log.claims r) bits → IsWhole (region_with form.shape log r (slice_index_or regions r []) bits) → (candidates : Candidates) →
       (fixed : Fixed) × IsOpened (image_of c good bytes v) copy candidates r (state_of (region_with form.shape log r (slice_index_or regions r []) bits) fixed [] NoCall 0)
+      × IsFixedOf (region_with form.shape log r (slice_index_or regions r []) bits) fixed
   opened_as log copy shows bits claimed whole candidates =
       let image = image_of c good bytes v in
       let bits_are = λ (k : ℕ). claimed k ∙ shows.claims r k low in
@@ -234,12 +235,13 @@ module _ (c : Config) (good : ℕ) (bytes : Sectors) (v : Vol) (of : IsVolOf c v
           no_entries = refl;
           no_number = refl;
         },
+        record { held = λ k. refl; copies = refl; region = refl },
       )
 
 -- ---- a volume
 
 pub opened_is : (c : Config) (good : ℕ) (bytes : Sectors) (v : Vol) (form : VolumeForm) (copy : LogCopy) (volume : VolumeSeen) → IsOpenedBy c good bytes v form copy volume → (candidates : Candidates) (r : ℕ) → r < length volume.cells →
-    (fixed : Fixed) × IsOpened (image_of c good bytes v) copy candidates r (state_of (region_at volume r) fixed [] NoCall (cell_at volume r).number)
+    (fixed : Fixed) × IsOpened (image_of c good bytes v) copy candidates r (state_of (region_at volume r) fixed [] NoCall (cell_at volume r).number) × IsFixedOf (region_at volume r) fixed
 opened_is c good bytes v form copy volume by candidates r lt =
     let count = by.opened.cells.count in
     let many = by.long in
@@ -252,16 +254,17 @@ opened_is c good bytes v form copy volume by candidates r lt =
     let second = ap (λ (x : CellSeen). with_log x by.log) cell.is in
     let third = ap (λ ps. region_with form.shape by.log r ps cell.bits) place in
     let same : region_at volume r ≡ region_with form.shape by.log r plexes cell.bits = first ∙ second ∙ third in
-    subst (λ (x : RegionSeen). (fixed : Fixed) × IsOpened (image_of c good bytes v) copy candidates r (state_of x fixed [] NoCall x.number)) (sym same)
+    subst (λ (x : RegionSeen). (fixed : Fixed) × IsOpened (image_of c good bytes v) copy candidates r (state_of x fixed [] NoCall x.number) × IsFixedOf x fixed) (sym same)
     (opened_as c good bytes v by.of by.fresh form by.form_is by.numbers by.contents by.sectors by.regions by.hold r inside low (by.taken r inside) by.log copy by.shows cell.bits cell.claimed (subst IsWhole same (by.whole.each r lt).whole) candidates)
 
 pub opened_stands : (c : Config) (good : ℕ) (bytes : Sectors) (v : Vol) (form : VolumeForm) (copy : LogCopy) (volume : VolumeSeen) → IsOpenedBy c good bytes v form copy volume → (candidates : Candidates) →
     IsSoundImage (image_of c good bytes v) → StandsForCandidates (image_of c good bytes v) candidates → IsFilled v.state → Contains (image_of c good bytes v).copies copy → (r : ℕ) → r < length volume.cells →
-    (fixed : Fixed) × IsOpened (image_of c good bytes v) copy candidates r (state_of (region_at volume r) fixed [] NoCall (cell_at volume r).number) × StandsFor (region_at volume r) fixed [] NoCall
+    (fixed : Fixed) × IsOpened (image_of c good bytes v) copy candidates r (state_of (region_at volume r) fixed [] NoCall (cell_at volume r).number) × StandsFor (region_at volume r) fixed [] NoCall × IsFixedOf (region_at volume r) fixed
 opened_stands c good bytes v form copy volume by candidates sound stands filled one r lt =
     let w = opened_is c good bytes v form copy volume by candidates r lt in (
       w.0,
       w.1,
       kept_from_fresh (state_of (region_at volume r) w.0 [] NoCall (cell_at volume r).number)
           (each_opening_is_fresh (image_of c good bytes v) candidates sound stands filled (well_formed c good bytes v by.of) copy one r (state_of (region_at volume r) w.0 [] NoCall (cell_at volume r).number) w.1),
+      w.2,
     )

@@ -5,8 +5,8 @@ use Rattle.vx_life.specs.Candidates.{Candidates}
 use Rattle.vx_marks.specs.Log.{LogSeen}
 use Rattle.vx_core.specs.History.{NoCall}
 use Rattle.vx_core.specs.Region.{Fixed}
-use Rattle.vx_cell.specs.Plexes.{PlexSeen}
-use Rattle.vx_cell.specs.Region.{StandsFor, state_of}
+use Rattle.vx_cell.specs.Plexes.{PlexSeen, holds}
+use Rattle.vx_cell.specs.Region.{RegionSeen, StandsFor, state_of}
 use Rattle.vx_config_parts.specs.declared.vol.Vol.{Vol}
 use Rattle.vx_objects.specs.declared.config.Config.{Config}
 use Rattle.vx_image.specs.Image.{LogCopy, IsFilled}
@@ -41,12 +41,19 @@ pub record IsOpenedBy (c : Config) (good : ℕ) (bytes : Sectors) (v : Vol) (for
   pub opened : opening.IsOpened form.shape log regions volume
   pub whole : IsVolume volume
 
+-- what is fixed of a region is of its plexes, and of the copies of the log
+pub record IsFixedOf (s : RegionSeen) (fixed : Fixed) : Type 0 where
+  pub held : (k : ℕ) → fixed.held k ≡ holds s.plexes k
+  pub copies : fixed.copies ≡ s.log.copies
+  pub region : fixed.region ≡ s.region
+
 -- Then each region is opened as its image by the marks of that copy, over whatever candidates.
 abbrev pub EachOpenedVolumeIsItsImage : Type 0
 EachOpenedVolumeIsItsImage =
     (c : Config) (good : ℕ) (bytes : Sectors) (v : Vol) (form : VolumeForm) (copy : LogCopy) (volume : VolumeSeen) → IsOpenedBy c good bytes v form copy volume →
     (candidates : Candidates) (r : ℕ) → r < length volume.cells →
     (fixed : Fixed) × IsOpened (image_of c good bytes v) copy candidates r (state_of (region_at volume r) fixed [] NoCall (cell_at volume r).number)
+    × IsFixedOf (region_at volume r) fixed
 
 -- The image of a volume of a configuration is well formed.
 abbrev pub EachImageIsWellFormed : Type 0
@@ -60,3 +67,4 @@ EachOpenedVolumeStands =
     (r : ℕ) → r < length volume.cells →
     (fixed : Fixed) × IsOpened (image_of c good bytes v) copy candidates r (state_of (region_at volume r) fixed [] NoCall (cell_at volume r).number)
     × StandsFor (region_at volume r) fixed [] NoCall
+    × IsFixedOf (region_at volume r) fixed

@@ -1,0 +1,10 @@
+pub mod Spots
+pub mod Plexes
+pub mod Copies
+pub mod Leavings
+pub mod Keepings
+pub mod Lyings
+pub mod Logs
+pub mod Lowest
+pub mod Starts
+pub mod Restated

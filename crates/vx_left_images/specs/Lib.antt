@@ -1,0 +1,6 @@
+pub mod Places
+pub mod Lying
+pub mod Keeping
+pub mod Left
+pub mod Calls
+pub mod Starts

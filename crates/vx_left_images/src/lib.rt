@@ -1,0 +1,86 @@
+//! A started volume that is left is the image that its bytes are: laws, as functions that do nothing and promise them.
+#![tactic(auto)]
+
+ghost use Rattle.std.specs.Prelude.{ℕ, ◌<◌, List};
+ghost use Rattle.vx_block.specs.Regions.{region_count};
+ghost use Rattle.vx_block.specs.declared.geometry.Geometry.{Geometry};
+ghost use Rattle.vx_piece.specs.Seen.{Seen};
+ghost use Rattle.vx_pages.specs.Sector.{KeepsPiece};
+ghost use Rattle.vx_maps.specs.Creating.{AllTell};
+ghost use Rattle.vx_maps.specs.Going.{CopiesGo};
+ghost use Rattle.vx_maps.specs.Stores.{store_seen};
+ghost use Rattle.vx_maps.specs.Wholes.{store_copies};
+ghost use Rattle.vx_volume.specs.Log.{LogGoes, log_seen};
+ghost use Rattle.vx_lending.specs.Logs.{IsFreshStore, log_copies};
+ghost use Rattle.vx_left_images.specs.Calls.{EachClearingKeeps, EachCopyKeeps, EachKeepingKeeps, EachKeptVolumeLies, EachOpenedVolumeLies, EachReadKeeps, EachSettlingKeeps, EachWriteKeeps};
+ghost use Rattle.vx_left_images.specs.Keeping.{EachRestatedVolumeIsKept};
+ghost use Rattle.vx_left_images.specs.Left.{EachVolumeLeavesItsImage};
+ghost use Rattle.vx_left_images.specs.Lying.{IsLogFor, IsLogOver};
+ghost use Rattle.vx_left_images.specs.Places.{EachCutLies, EachKeptRunLies, EachSameRunLies};
+ghost use Rattle.vx_left_images.specs.Starts.{EachPlainStartIsRecorded, EachStartIsRecorded, IsNewLog};
+
+use vx_maps::MapStore;
+use vx_pages::LocalPiece;
+use vx_volume::VolumeLog;
+
+/// Pieces lie where their blocks do, however they are cut and called.
+pub fn each_run_lies_where_it_did()
+    ensures cut { EachCutLies }
+    ensures same { EachSameRunLies }
+    ensures kept { EachKeptRunLies }
+{}
+
+/// A volume lies where its form says as it is opened, and goes on lying there while its places are kept.
+pub fn each_volume_lies_where_its_form_says()
+    ensures opened { EachOpenedVolumeLies }
+    ensures kept { EachKeptVolumeLies }
+{}
+
+/// Each call and each pass keeps the places of a volume.
+pub fn each_call_keeps_places()
+    ensures read { EachReadKeeps }
+    ensures written { EachWriteKeeps }
+    ensures settled { EachSettlingKeeps }
+    ensures cleared { EachClearingKeeps }
+    ensures copied { EachCopyKeeps }
+    ensures again { EachKeepingKeeps }
+{}
+
+/// The log of a volume shows what its copies hold.
+pub fn each_log_shows_its_copies<P: LocalPiece>(log: &VolumeLog<P>)
+    ensures { (geometry : Geometry) → IsLogFor geometry log.now → 0 < region_count geometry.length geometry.region → IsLogOver (log_seen P.seen log.now) (region_count geometry.length geometry.region) (log_copies P.seen log.now) }
+{
+    let _ = log;
+}
+
+/// As the pieces of a log go on, so do those of its copies, and it is a log for the same volume.
+pub fn each_log_goes_on<P: LocalPiece>(old: &VolumeLog<P>, new: &VolumeLog<P>)
+    ensures copies { LogGoes P.seen old.now new.now → CopiesGo KeepsPiece (log_copies P.seen old.now) (log_copies P.seen new.now) }
+    ensures shape { LogGoes P.seen old.now new.now → (geometry : Geometry) → IsLogFor geometry old.now → IsLogFor geometry new.now }
+{
+    let _ = old;
+    let _ = new;
+}
+
+/// A configuration of which only states have changed, and of which disks have failed, keeps a volume.
+pub fn each_restated_volume_is_kept()
+    ensures { EachRestatedVolumeIsKept }
+{}
+
+/// A volume that lies where its form says leaves its image.
+pub fn each_volume_leaves_its_image()
+    ensures { EachVolumeLeavesItsImage }
+{}
+
+/// A store that was made new over copies that tell what they hold is a new log.
+pub fn each_new_store_is_a_new_log<P: LocalPiece>(store: &MapStore<P>)
+    ensures { (geometry : Geometry) (mask : ℕ) (old : List (List Seen)) → AllTell old → IsFreshStore P.seen geometry mask old store.now → IsNewLog geometry mask (store_seen P.seen store.now) (store_copies P.seen store.now) }
+{
+    let _ = store;
+}
+
+/// A volume that was EMPTY is recorded as started: with a new log, or without a DCO.
+pub fn each_start_is_recorded()
+    ensures logged { EachStartIsRecorded }
+    ensures plain { EachPlainStartIsRecorded }
+{}

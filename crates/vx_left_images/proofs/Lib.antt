@@ -8,3 +8,4 @@ pub mod Logs
 pub mod Lowest
 pub mod Starts
 pub mod Restated
+pub mod Configurations

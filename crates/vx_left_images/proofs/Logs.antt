@@ -27,7 +27,7 @@ use Rattle.vx_maps.proofs.Shows.{marks_bits}
 use Rattle.vx_volume.specs.declared.log.VolumeLog.{VolumeLog}
 use Rattle.vx_volume.specs.declared.log.VolumeLog.TheVariants.{Absent, Maps}
 use Rattle.vx_volume.specs.Log.{LogGoes, log_seen}
-use Rattle.vx_lending.specs.Logs.{AreShown, IsFreshStore, log_copies, log_header, marked_maps}
+use Rattle.vx_lending.specs.Logs.{AreShown, IsFreshLog, IsFreshStore, IsLoadedLog, log_copies, log_header, marked_maps}
 use Rattle.vx_opened_images.proofs.Opening.{same_item}
 use Rattle.vx_left_images.specs.Lying.{IsLogFor, IsLogOver}
 use Rattle.vx_left_images.specs.Starts.{IsNewLog}
@@ -76,6 +76,15 @@ log_goes Absent Absent goes = (tt, λ geometry fits. fits)
 log_goes Absent (Maps new) goes = absurd goes
 log_goes (Maps old) Absent goes = absurd goes
 log_goes (Maps old) (Maps new) goes = (store_goes KeepsPiece piece_same old new goes, λ geometry fits. ap (λ shape. shape.geometry) goes.shape ∙ fits)
+
+-- a log that was loaded, or made new, is one for its volume
+pub loaded_for : {P : Type 0} {ghosts : Ghosts P} (geometry : Geometry) (old : List (List Seen)) (log : VolumeLog P ghosts) → IsLoadedLog ghosts.seen geometry old log → IsLogFor geometry log
+loaded_for geometry old Absent is = tt
+loaded_for geometry old (Maps store) is = is.0
+
+pub fresh_for : {P : Type 0} {ghosts : Ghosts P} (geometry : Geometry) (mask : ℕ) (old : List (List Seen)) (log : VolumeLog P ghosts) → IsFreshLog ghosts.seen geometry mask old log → IsLogFor geometry log
+fresh_for geometry mask old Absent is = tt
+fresh_for geometry mask old (Maps store) is = is.geometry_is
 
 -- ---- a new log
 

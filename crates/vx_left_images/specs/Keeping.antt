@@ -9,7 +9,8 @@ use Rattle.vx_config_parts.specs.Objects.{is_data_plex_of, is_log_plex_of}
 use Rattle.vx_objects.specs.declared.config.Config.{Config}
 use Rattle.vx_plexes.specs.Lies.{columns_of}
 use Rattle.vx_image.specs.Image.{is_available_state}
-use Rattle.vx_image.specs.Bytes.{is_active, is_held, map_or_zero, relation_maps}
+use Rattle.vx_image.specs.Bytes.{Sectors, image_of, is_active, is_held, map_or_zero, relation_maps}
+use Rattle.vx_volume_lives.specs.Leaving.{AreNamedIn}
 use Rattle.vx_volume_form.specs.Plexes.{is_used_state, used_logs}
 
 -- the data plexes of a volume, in order
@@ -39,6 +40,24 @@ pub record KeepsVolume (c0 : Config) (good0 : ℕ) (v0 : Vol) (fresh : Bool) (c 
   pub plexes : AllZip (KeepsPlex c0 good0 c good) (data_plexes c0 v0.name) (data_plexes c v.name)
   pub logs : (q : Plex) → Contains (used_logs v.dco c good false v.name) q → (p : Plex) × Contains (used_logs v0.dco c0 good0 fresh v0.name) p × LiesStill c0 c p q
   pub relations : relation_maps c.snaps v.name ≡ relation_maps c0.snaps v0.name
+
+-- ---- laws
+
+-- A configuration keeps its own volumes, ..
+abbrev pub EachVolumeKeepsItself : Type 0
+EachVolumeKeepsItself = (c : Config) (good : ℕ) (v : Vol) (fresh : Bool) → KeepsVolume c good v fresh c good v
+
+-- .. what keeps a volume after another has kept it keeps it, ..
+abbrev pub EachKeepingGoesOn : Type 0
+EachKeepingGoesOn =
+    (c0 : Config) (good0 : ℕ) (v0 : Vol) (fresh : Bool) (c : Config) (good : ℕ) (v : Vol) (c' : Config) (good' : ℕ) (v' : Vol) →
+    KeepsVolume c0 good0 v0 fresh c good v → KeepsVolume c good v false c' good' v' → KeepsVolume c0 good0 v0 fresh c' good' v'
+
+-- .. and the data plexes of its image have the names and maps that they had.
+abbrev pub EachKeptVolumeIsNamed : Type 0
+EachKeptVolumeIsNamed =
+    (c0 : Config) (good0 : ℕ) (v0 : Vol) (fresh : Bool) (c : Config) (good : ℕ) (v : Vol) → KeepsVolume c0 good0 v0 fresh c good v →
+    (bytes0 bytes : Sectors) → AreNamedIn (image_of c good bytes v).plexes (image_of c0 good0 bytes0 v0).plexes
 
 -- ---- states that change
 

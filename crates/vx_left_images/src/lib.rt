@@ -11,9 +11,9 @@ ghost use Rattle.vx_maps.specs.Going.{CopiesGo};
 ghost use Rattle.vx_maps.specs.Stores.{store_seen};
 ghost use Rattle.vx_maps.specs.Wholes.{store_copies};
 ghost use Rattle.vx_volume.specs.Log.{LogGoes, log_seen};
-ghost use Rattle.vx_lending.specs.Logs.{IsFreshStore, log_copies};
+ghost use Rattle.vx_lending.specs.Logs.{IsFreshLog, IsFreshStore, IsLoadedLog, log_copies};
 ghost use Rattle.vx_left_images.specs.Calls.{EachClearingKeeps, EachCopyKeeps, EachKeepingKeeps, EachKeptVolumeLies, EachOpenedVolumeLies, EachReadKeeps, EachSettlingKeeps, EachWriteKeeps};
-ghost use Rattle.vx_left_images.specs.Keeping.{EachRestatedVolumeIsKept};
+ghost use Rattle.vx_left_images.specs.Keeping.{EachKeepingGoesOn, EachKeptVolumeIsNamed, EachRestatedVolumeIsKept, EachVolumeKeepsItself};
 ghost use Rattle.vx_left_images.specs.Left.{EachVolumeLeavesItsImage};
 ghost use Rattle.vx_left_images.specs.Lying.{IsLogFor, IsLogOver};
 ghost use Rattle.vx_left_images.specs.Places.{EachCutLies, EachKeptRunLies, EachSameRunLies};
@@ -53,6 +53,14 @@ pub fn each_log_shows_its_copies<P: LocalPiece>(log: &VolumeLog<P>)
     let _ = log;
 }
 
+/// A log that was loaded or made new is one for the volume.
+pub fn each_lent_log_is_for_its_volume<P: LocalPiece>(log: &VolumeLog<P>)
+    ensures loaded { (geometry : Geometry) (old : List (List Seen)) → IsLoadedLog P.seen geometry old log.now → IsLogFor geometry log.now }
+    ensures fresh { (geometry : Geometry) (mask : ℕ) (old : List (List Seen)) → IsFreshLog P.seen geometry mask old log.now → IsLogFor geometry log.now }
+{
+    let _ = log;
+}
+
 /// As the pieces of a log go on, so do those of its copies, and it is a log for the same volume.
 pub fn each_log_goes_on<P: LocalPiece>(old: &VolumeLog<P>, new: &VolumeLog<P>)
     ensures copies { LogGoes P.seen old.now new.now → CopiesGo KeepsPiece (log_copies P.seen old.now) (log_copies P.seen new.now) }
@@ -61,6 +69,13 @@ pub fn each_log_goes_on<P: LocalPiece>(old: &VolumeLog<P>, new: &VolumeLog<P>)
     let _ = old;
     let _ = new;
 }
+
+/// A configuration keeps its volumes, whatever kept them before; and their plexes keep their names.
+pub fn each_volume_is_kept()
+    ensures own { EachVolumeKeepsItself }
+    ensures again { EachKeepingGoesOn }
+    ensures named { EachKeptVolumeIsNamed }
+{}
 
 /// A configuration of which only states have changed, and of which disks have failed, keeps a volume.
 pub fn each_restated_volume_is_kept()

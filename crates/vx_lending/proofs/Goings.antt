@@ -4,7 +4,7 @@ use Rattle.std.specs.Prelude.{IsTrue, nat_lt}
 use Rattle.std.specs.List.{sum_by, All}
 use Rattle.std.proofs.lemmas.List.Sums.{sum_by-cons, sum_by-append}
 use Rattle.std.proofs.lemmas.List.Elements.{All-nil, All-cons, All-head, All-tail, All-append}
-use Rattle.vx_piece.specs.Seen.{Seen}
+use Rattle.vx_piece.specs.Seen.{Keeps, Seen}
 use Rattle.vx_runs.specs.Run.{EachPiece}
 use Rattle.vx_cut.specs.Same.{SectorSeen, SameRun, counted, run_at, sector_in}
 use Rattle.vx_cut.proofs.Parts.{all_parts}
@@ -133,32 +133,39 @@ cut_less true true false f = let e = f refl in cc
 cut_less true false c' f = omega arith
 cut_less false c c' f = omega arith
 
-piece_goes : (p q : Seen) → KeepsPiece p q → GoTogether (p ∷ []) (q ∷ [])
+piece_goes : (p q : Seen) → Keeps p q → GoTogether (p ∷ []) (q ∷ [])
 piece_goes p q k = record {
   sectors = λ d s.
       let x = sum_by-cons (has d s) q [] in
       let y = sum_by-cons (has d s) p [] in
-      let e : has d s q ≡ has d s p = ap (λ n. has_at n q.start q.sectors d s) k.kept.device ∙ ap (λ n. has_at p.device n q.sectors d s) k.kept.start ∙ ap (λ n. has_at p.device p.start n d s) k.kept.sectors in
+      let e : has d s q ≡ has d s p = ap (λ n. has_at n q.start q.sectors d s) k.device ∙ ap (λ n. has_at p.device n q.sectors d s) k.start ∙ ap (λ n. has_at p.device p.start n d s) k.sectors in
       omega (arith, x, y, e);
   faults = λ d. (
-      let a = cond_less (p.device == d) p.faults q.faults k.kept.faults in
-      let b : cond (q.device == d) q.faults 0 ≡ cond (p.device == d) q.faults 0 = ap (λ n. cond (n == d) q.faults 0) k.kept.device in
+      let a = cond_less (p.device == d) p.faults q.faults k.faults in
+      let b : cond (q.device == d) q.faults 0 ≡ cond (p.device == d) q.faults 0 = ap (λ n. cond (n == d) q.faults 0) k.device in
       omega (arith, a, b)
       );
   cut = λ d. (
-      let a = cut_less (p.device == d) p.cut q.cut k.kept.cut in
-      let b : cut_of d q ≡ cut_of d (record q { device = p.device }) = ap (λ n. cut_of d (record q { device = n })) k.kept.device in
+      let a = cut_less (p.device == d) p.cut q.cut k.cut in
+      let b : cut_of d q ≡ cut_of d (record q { device = p.device }) = ap (λ n. cut_of d (record q { device = n })) k.device in
       omega (arith, a, b)
       );
-  some = λ h. All-cons HasSome q [] (subst (λ n. 0 < n) (sym k.kept.sectors) (All-head HasSome p [] h)) (All-nil HasSome);
-  stops = λ s h. All-cons (HasStop s) q [] (k.kept.stop ∙ All-head (HasStop s) p [] h) (All-nil (HasStop s));
+  some = λ h. All-cons HasSome q [] (subst (λ n. 0 < n) (sym k.sectors) (All-head HasSome p [] h)) (All-nil HasSome);
+  stops = λ s h. All-cons (HasStop s) q [] (k.stop ∙ All-head (HasStop s) p [] h) (All-nil (HasStop s));
 }
 
-each_goes : (ps qs : List Seen) → EachPiece KeepsPiece ps qs → GoTogether ps qs
+-- pieces that keep their places
+pub each_goes : (ps qs : List Seen) → EachPiece Keeps ps qs → GoTogether ps qs
 each_goes [] [] go = go_same []
 each_goes [] (q ∷ qs) go = absurd go
 each_goes (p ∷ ps) [] go = absurd go
 each_goes (p ∷ ps) (q ∷ qs) go = go_beside (p ∷ []) (q ∷ []) ps qs (piece_goes p q go.0) (each_goes ps qs go.1)
+
+kept_each : (ps qs : List Seen) → EachPiece KeepsPiece ps qs → EachPiece Keeps ps qs
+kept_each [] [] go = tt
+kept_each [] (q ∷ qs) go = absurd go
+kept_each (p ∷ ps) [] go = absurd go
+kept_each (p ∷ ps) (q ∷ qs) go = (go.0.kept, kept_each ps qs go.1)
 
 -- ---- copies
 
@@ -166,7 +173,7 @@ pub copies_go : (xs ys : List (List Seen)) → CopiesGo KeepsPiece xs ys → GoT
 copies_go [] [] go = go_same []
 copies_go [] (y ∷ ys) go = absurd go
 copies_go (x ∷ xs) [] go = absurd go
-copies_go (x ∷ xs) (y ∷ ys) go = go_beside x y (copy_pieces xs) (copy_pieces ys) (each_goes x y go.0) (copies_go xs ys go.1)
+copies_go (x ∷ xs) (y ∷ ys) go = go_beside x y (copy_pieces xs) (copy_pieces ys) (each_goes x y (kept_each x y go.0)) (copies_go xs ys go.1)
 
 runs_go : (xs ys : List (List Seen)) → SameRuns xs ys → All HasSome (copy_pieces xs) → GoTogether (copy_pieces xs) (copy_pieces ys)
 runs_go [] [] same some = go_same []

@@ -42,6 +42,13 @@ impl<P: Piece> Volume<P> {
         self.shape
     }
 
+    /// No region has drawn a number above this one.
+    pub fn most(&self) -> u64
+        ensures { result ≡ (volume_seen P.seen self.now).most }
+    {
+        self.most
+    }
+
     /// The volume of these regions, one cell for each of the geometry's, in order; `scratch` has the bytes of one region, and
     /// no number is above `most`.
     pub fn from_cells(

@@ -72,7 +72,7 @@ module _ (rests : Rests) where
   same_count [] = refl
   same_count (h ∷ hs) = ap (λ g. cond g 1 0 + good_count (map w hs)) (same_good (rests h.seen.device) h) ∙ ap (λ n. cond h.good 1 0 + n) (same_count hs)
 
-  take_whole : (n : ℕ) (hs : List DiskSeen) → take n (map w hs) ≡ map w (take n hs)
+  pub take_whole : (n : ℕ) (hs : List DiskSeen) → take n (map w hs) ≡ map w (take n hs)
   take_whole zero hs = refl
   take_whole (suc n) [] = refl
   take_whole (suc n) (h ∷ hs) = ap (λ hs. w h ∷ hs) (take_whole n hs)
@@ -111,7 +111,7 @@ module _ (rests : Rests) where
       pub whole_goes : Each Goes (map w hs) (map w bs)
       whole_goes = both Goes Goes (λ o a b wide g t. goes_one first last text o a b wide g) goes
 
-      whole_mask : (mask : ℕ) → IsMaskOf hs bs mask → IsMaskOf (map w hs) (map w bs) mask
+      pub whole_mask : (mask : ℕ) → IsMaskOf hs bs mask → IsMaskOf (map w hs) (map w bs) mask
       whole_mask mask is = record {
         good = λ slot e. same_slots slot hs ∙ is.good slot e;
         lacks = both (λ a b. IsTrue a.good → has mask a.slot ≡ false → Rose a.seen.faults b.seen.faults) (λ a b. IsTrue a.good → has mask a.slot ≡ false → Rose a.seen.faults b.seen.faults)
@@ -131,7 +131,7 @@ module _ (rests : Rests) where
       pub whole_risen : Each HasRisen hs bs → Each HasRisen (map w hs) (map w bs)
       whole_risen risen = both HasRisen HasRisen (λ o a b wide g t. risen_one o a b t) risen
 
-      private_then : AllOf HasPrivate bs
+      pub private_then : AllOf HasPrivate bs
       private_then = by hs bs wide goes
         where
           by : (hs bs : List DiskSeen) → AllOf HasPrivate hs → Each Goes hs bs → AllOf HasPrivate bs

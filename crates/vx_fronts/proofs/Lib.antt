@@ -1,6 +1,7 @@
 pub mod Contents
 pub mod Disks
 pub mod Groups
+pub mod Entries
 pub mod Sectors
 pub mod Behind
 pub mod Parted

@@ -1,5 +1,5 @@
 -- What is written to the fronts of a group's disks is written to their whole devices.
-use Rattle.std.specs.Prelude.{◌≡◌, ℕ, ◌+◌, Bool, List, map}
+use Rattle.std.specs.Prelude.{◌≡◌, ℕ, ◌+◌, Bool, List, ◌++◌, map, length, take, drop, None}
 use Rattle.vx_base.specs.Named.{Word}
 use Rattle.vx_copies.specs.Lists.{Each, AllOf, AnyOf}
 use Rattle.vx_copies.specs.Disks.{DiskSeen, IsCut, IsReady, IsBelow, CommitGoes, good_mask}
@@ -8,6 +8,8 @@ use Rattle.vx_copies.specs.Chain.{AreInOrder, IsLed}
 use Rattle.vx_copies.specs.Commit.{AllOffer, HasRisen}
 use Rattle.vx_copies.specs.Written.{Recorded, IsDone, IsQuiet, WritesJust}
 use Rattle.vx_confdb.specs.Groups.{IsMemberOf}
+use Rattle.vx_confdb.specs.Create.{Joins}
+use Rattle.vx_confdb.specs.Enlisted.{IsAddedTo, IsEnlisted}
 use Rattle.vx_fronts.specs.Fronts.{Rests, whole_disk, HasPrivate}
 
 -- the disks with their whole devices
@@ -71,3 +73,28 @@ abbrev pub EachLeadIsWhole : Type 0
 EachLeadIsWhole =
     (rests : Rests) (group : Word) (before carriers : ℕ) (disks : List DiskSeen) → AllOf HasPrivate disks →
     IsLed group before carriers disks → IsLed group before carriers (whole_disks rests disks)
+
+-- ---- disks that join
+
+-- no piece is behind the front of the disk
+abbrev pub IsUnparted : Rests → DiskSeen → Type 0
+IsUnparted rests h = rests h.seen.device ≡ None
+
+-- these disks had a commit, and those behind them in the list joined
+pub record Gains (rests : Rests) (group : Word) (first last : ℕ) (text : List ℕ) (old joiners now : List DiskSeen) : Type 0 where
+  pub private : AllOf HasPrivate (old ++ joiners)
+  pub alone : AllOf (IsUnparted rests) joiners
+  pub goes : Each (CommitGoes first last text) old (take (length old) now)
+  pub joins : Each (Joins group text) joiners (drop (length old) now)
+
+-- What a call writes that adds whole disks is written to the whole devices, however it ends, ..
+abbrev pub EachEntryIsWhole : Type 0
+EachEntryIsWhole =
+    (rests : Rests) (group : Word) (first last : ℕ) (text : List ℕ) (old joiners now : List DiskSeen) → Gains rests group first last text old joiners now →
+    IsEnlisted group first last (length old) text (old ++ joiners) now → IsEnlisted group first last (length old) text (whole_disks rests old ++ joiners) (whole_disks rests now)
+
+-- .. and so is what one leaves that is done.
+abbrev pub EachAdditionIsWhole : Type 0
+EachAdditionIsWhole =
+    (rests : Rests) (group : Word) (first last : ℕ) (text : List ℕ) (old joiners now : List DiskSeen) → Gains rests group first last text old joiners now → AllOf HasPrivate now →
+    IsAddedTo last (length old) text (old ++ joiners) now → IsAddedTo last (length old) text (whole_disks rests old ++ joiners) (whole_disks rests now)

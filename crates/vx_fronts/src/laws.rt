@@ -1,6 +1,6 @@
 //! Laws of disks of which a group has the fronts, each a function with an empty body whose contract states it.
 
-ghost use Rattle.vx_fronts.specs.Laws.{EachCommitIsWhole, EachConfigurationIsWhole, EachCutIsWhole, EachFailureIsWhole, EachLeadIsWhole, EachMaskIsWhole, EachTextIsCarriedWhole, EachWriteIsWhole};
+ghost use Rattle.vx_fronts.specs.Laws.{EachAdditionIsWhole, EachCommitIsWhole, EachConfigurationIsWhole, EachCutIsWhole, EachEntryIsWhole, EachFailureIsWhole, EachLeadIsWhole, EachMaskIsWhole, EachTextIsCarriedWhole, EachWriteIsWhole};
 ghost use Rattle.vx_fronts.specs.RestLaws.{BackAreCounted, BackAreHeld, BackStayParted, DevicesWereCalled, DisksTell, JoinedIsWhole, JoinedStayParted, LentAreCounted, LentAreEmpty, LentStayParted, NoneIsBehind, PartedAreFree, PartedAreOnce, PartedHavePrivate, PartedStay, PartedWereCalled, PartedWereCommitted, PartsAreOnce, PiecesTellStill, RestsAreCounted, RestsStay, WholeArePartedAlone};
 
 /// A commit to the fronts of a group's disks is one to their whole devices, however it ends.
@@ -59,4 +59,10 @@ pub fn each_joined_disk_is_whole()
     ensures whole { JoinedIsWhole }
     ensures tell { DisksTell }
     ensures once { PartsAreOnce }
+{}
+
+/// A call that adds whole disks to those of which a group has the fronts is one to their whole devices, however it ends.
+pub fn each_entry_is_whole()
+    ensures entry { EachEntryIsWhole }
+    ensures added { EachAdditionIsWhole }
 {}

@@ -6,9 +6,7 @@ use Rattle.vx_core.specs.declared.stage.Stage.{Stage}
 use Rattle.vx_core.specs.Follow.{SameMasks}
 use Rattle.vx_cell.specs.declared.fault.CellFault.{CellFault}
 use Rattle.vx_cell.specs.Changes.{CellSeen}
-use Rattle.vx_cell.specs.Plexes.{KeepPlexes}
 use Rattle.vx_cell.specs.Region.{RegionSeen}
-use Rattle.vx_cell.proofs.Changes.{keep_more, keep_same}
 use Rattle.vx_volume.specs.declared.fault.IoFault.{IoFault}
 use Rattle.vx_volume.specs.declared.fault.IoFault.TheVariants.{Range, Fault, PowerLost}
 use Rattle.vx_volume.specs.declared.receipt.Receipt.{Receipt}
@@ -18,18 +16,19 @@ use Rattle.vx_volume.specs.Passes.{Clears, CopiesTo, Copying, IsClearedAt, IsCop
 use Rattle.vx_volume.specs.Volume.{VolumeSeen, cell_at, region_at}
 use Rattle.vx_volume.proofs.Entries.{dead_or}
 use Rattle.vx_volume.proofs.Volumes.{IsGone, clear_job, copy_job, read_way, settle_job, write_way}
-use Rattle.vx_left_images.specs.Calls.{EachClearingKeeps, EachCopyKeeps, EachKeepingKeeps, EachReadKeeps, EachSettlingKeeps, EachWriteKeeps, KeepsPlaces}
+use Rattle.vx_left_images.specs.Calls.{EachClearingKeeps, EachCopyKeeps, EachKeepingKeeps, EachReadKeeps, EachSettlingKeeps, EachWriteKeeps, KeepsPlaces, StayPlexes}
+use Rattle.vx_left_images.proofs.Stays.{stay_kept, stay_more, stay_same}
 
 -- ---- one thing after another
 
-masks_same : (s : Stage) → SameMasks s s
+pub masks_same : (s : Stage) → SameMasks s s
 masks_same s = (refl, refl, refl, refl)
 
 masks_then : (s t u : Stage) → SameMasks s t → SameMasks t u → SameMasks s u
 masks_then s t u a b = (b.0 ∙ a.0, b.1 ∙ a.1, b.2 ∙ a.2, b.3 ∙ a.3)
 
-keeps_same : (v : VolumeSeen) → KeepsPlaces v v
-keeps_same v = record { length_is = refl; region_is = refl; count = refl; plexes = λ r lt. keep_same (cell_at v r).plexes; masks = λ r lt. masks_same (cell_at v r).stage; there = refl }
+pub keeps_same : (v : VolumeSeen) → KeepsPlaces v v
+keeps_same v = record { length_is = refl; region_is = refl; count = refl; plexes = λ r lt. stay_same (cell_at v r).plexes; masks = λ r lt. masks_same (cell_at v r).stage; there = refl }
 
 pub keeping_keeps : EachKeepingKeeps
 keeping_keeps old mid new a b =
@@ -37,7 +36,7 @@ keeping_keeps old mid new a b =
       length_is = b.length_is ∙ a.length_is;
       region_is = b.region_is ∙ a.region_is;
       count = b.count ∙ a.count;
-      plexes = λ r lt. keep_more (cell_at old r).plexes (cell_at mid r).plexes (cell_at new r).plexes (a.plexes r lt) (b.plexes r (let same = a.count in omega (arith, lt, same)));
+      plexes = λ r lt. stay_more (cell_at old r).plexes (cell_at mid r).plexes (cell_at new r).plexes (a.plexes r lt) (b.plexes r (let same = a.count in omega (arith, lt, same)));
       masks = λ r lt. masks_then (cell_at old r).stage (cell_at mid r).stage (cell_at new r).stage (a.masks r lt) (b.masks r (let same = a.count in omega (arith, lt, same)));
       there = b.there ∙ a.there;
     }
@@ -68,8 +67,8 @@ region_keeps Way way r old new change =
       count = change.count;
       plexes = λ i lt.
           elim (cases_eq i r) [
-            | inl is ↦ subst (λ m. KeepPlexes (cell_at old m).plexes (cell_at new m).plexes) (sym is) one.gone.stays.plexes
-            | inr apart ↦ subst (λ (x : CellSeen). KeepPlexes (cell_at old i).plexes x.plexes) (sym (change.others i apart)) (keep_same (cell_at old i).plexes)
+            | inl is ↦ subst (λ m. StayPlexes (cell_at old m).plexes (cell_at new m).plexes) (sym is) (stay_kept (cell_at old r).plexes (cell_at new r).plexes one.gone.stays.plexes)
+            | inr apart ↦ subst (λ (x : CellSeen). StayPlexes (cell_at old i).plexes x.plexes) (sym (change.others i apart)) (stay_same (cell_at old i).plexes)
           ];
       masks = λ i lt.
           elim (cases_eq i r) [
@@ -107,7 +106,7 @@ copy_keeps map stop old new r call =
 -- ---- a call
 
 begun : (v : VolumeSeen) → KeepsPlaces v (called v)
-begun v = record { length_is = refl; region_is = refl; count = refl; plexes = λ r lt. keep_same (cell_at v r).plexes; masks = λ r lt. masks_same (cell_at v r).stage; there = refl }
+begun v = record { length_is = refl; region_is = refl; count = refl; plexes = λ r lt. stay_same (cell_at v r).plexes; masks = λ r lt. masks_same (cell_at v r).stage; there = refl }
 
 module _ (Way : Span → List ℕ → Option CellFault → RegionSeen → RegionSeen → Type 0) (way : (span : Span) (bytes : List ℕ) (stop : Option CellFault) (old new : RegionSeen) → Way span bytes stop old new → KeepsOne old new) (start : ℕ) where
   parts_keep : (old new : VolumeSeen) (result : Result (Unit {0}) IoFault) (before after : Receipt) → CallsParts Way start old new result before after → KeepsPlaces old new

@@ -9,3 +9,4 @@ pub mod Lowest
 pub mod Starts
 pub mod Restated
 pub mod Configurations
+pub mod Stays

@@ -30,7 +30,9 @@ use Rattle.vx_volume.specs.Log.{LogGoes, log_seen}
 use Rattle.vx_lending.specs.Logs.{AreShown, IsFreshLog, IsFreshStore, IsLoadedLog, log_copies, log_header, marked_maps}
 use Rattle.vx_opened_images.proofs.Opening.{same_item}
 use Rattle.vx_left_images.specs.Lying.{IsLogFor, IsLogOver}
+use Rattle.vx_left_images.specs.Places.{IsSamePlace}
 use Rattle.vx_left_images.specs.Starts.{IsNewLog}
+use Rattle.vx_left_images.proofs.Stays.{copies_weaker, place_kept}
 
 marks_told : (told : Option (ℕ → Marks)) (fact : (ℕ → Marks) → Type 0) → IfSome told fact → Tells told → fact (marks_or told)
 marks_told None fact h tells = absurd tells
@@ -71,11 +73,11 @@ log_over {ghosts = ghosts} geometry (Maps store) fits some =
     subst (λ n. IsLogOver (store_seen ghosts.seen store) n (store_copies ghosts.seen store)) same (store_over store (omega (arith, some, same)))
 
 -- as its pieces go on, so do those of its copies, and it is a log for the same volume
-pub log_goes : {P : Type 0} {ghosts : Ghosts P} (old new : VolumeLog P ghosts) → LogGoes ghosts.seen old new → CopiesGo KeepsPiece (log_copies ghosts.seen old) (log_copies ghosts.seen new) × ((geometry : Geometry) → IsLogFor geometry old → IsLogFor geometry new)
+pub log_goes : {P : Type 0} {ghosts : Ghosts P} (old new : VolumeLog P ghosts) → LogGoes ghosts.seen old new → CopiesGo IsSamePlace (log_copies ghosts.seen old) (log_copies ghosts.seen new) × ((geometry : Geometry) → IsLogFor geometry old → IsLogFor geometry new)
 log_goes Absent Absent goes = (tt, λ geometry fits. fits)
 log_goes Absent (Maps new) goes = absurd goes
 log_goes (Maps old) Absent goes = absurd goes
-log_goes (Maps old) (Maps new) goes = (store_goes KeepsPiece piece_same old new goes, λ geometry fits. ap (λ shape. shape.geometry) goes.shape ∙ fits)
+log_goes {ghosts = ghosts} (Maps old) (Maps new) goes = (copies_weaker KeepsPiece IsSamePlace (λ p q h. place_kept p q h.kept) (store_copies ghosts.seen old) (store_copies ghosts.seen new) (store_goes KeepsPiece piece_same old new goes), λ geometry fits. ap (λ shape. shape.geometry) goes.shape ∙ fits)
 
 -- a log that was loaded, or made new, is one for its volume
 pub loaded_for : {P : Type 0} {ghosts : Ghosts P} (geometry : Geometry) (old : List (List Seen)) (log : VolumeLog P ghosts) → IsLoadedLog ghosts.seen geometry old log → IsLogFor geometry log

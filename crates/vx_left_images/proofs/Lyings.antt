@@ -2,7 +2,7 @@
 use Rattle.std.proofs.Common.{◌≡◌, ℕ, zero, suc, ◌+◌, ◌-◌, ◌*◌, ◌<◌, Bool, min, List, [], ◌∷◌, length, map, refl, sym, ap, ◌∙◌, subst, arith}
 use Rattle.std.specs.Prelude.{slice_index_or}
 use Rattle.std.proofs.lemmas.List.{length-map}
-use Rattle.vx_piece.specs.Seen.{Seen, Keeps}
+use Rattle.vx_piece.specs.Seen.{Seen}
 use Rattle.vx_runs.specs.Run.{EachPiece}
 use Rattle.vx_marks.specs.Log.{LogSeen}
 use Rattle.vx_core.specs.declared.stage.Stage.{Stage}
@@ -17,8 +17,7 @@ use Rattle.vx_layout.specs.declared.run.Run.{Run}
 use Rattle.vx_layout.specs.declared.strip.Strip.{Strip}
 use Rattle.vx_carve.specs.Carved.{AreCut, ArePieces}
 use Rattle.vx_cell.specs.Changes.{CellSeen}
-use Rattle.vx_cell.specs.Plexes.{KeepPlexes, PlexSeen}
-use Rattle.vx_cell.proofs.Changes.{keep_cover, keep_differ, keep_holds}
+use Rattle.vx_cell.specs.Plexes.{PlexSeen}
 use Rattle.vx_volume.specs.declared.volume.VolumeShape.{VolumeShape}
 use Rattle.vx_core.specs.Follow.{SameMasks}
 use Rattle.vx_volume.specs.Opening.{count_of}
@@ -27,15 +26,16 @@ use Rattle.vx_volume_pieces.specs.Pieces.{own_pieces}
 use Rattle.vx_volume_pieces.specs.Taken.{IsTakenRegion, own_map}
 use Rattle.vx_lending.specs.Left.{region_plexes}
 use Rattle.vx_opened_images.proofs.Opening.{same_item}
-use Rattle.vx_left_images.specs.Places.{LieOnLogs, spot_at}
+use Rattle.vx_left_images.specs.Places.{IsSamePlace, LieOnLogs, spot_at}
 use Rattle.vx_left_images.specs.Lying.{HasMasksOf, IsLogOver}
-use Rattle.vx_left_images.specs.Calls.{EachKeptVolumeLies, EachOpenedVolumeLies}
+use Rattle.vx_left_images.specs.Calls.{EachKeptVolumeLies, EachOpenedVolumeLies, StayPlexes}
 use Rattle.vx_left_images.proofs.Plexes.{plexes_at}
+use Rattle.vx_left_images.proofs.Stays.{copies_weaker, place_kept, stay_cover, stay_differ, stay_holds}
 use Rattle.vx_left_images.proofs.Spots.{cut_lies, kept_lies, same_lies}
 
 -- ---- kept plexes
 
-pieces_kept : (numbers : List ℕ) (runs : List Run) (ps qs : List Seen) → EachPiece Keeps ps qs → ArePieces numbers runs ps → ArePieces numbers runs qs
+pieces_kept : (numbers : List ℕ) (runs : List Run) (ps qs : List Seen) → EachPiece IsSamePlace ps qs → ArePieces numbers runs ps → ArePieces numbers runs qs
 pieces_kept numbers [] [] [] kept are = tt
 pieces_kept numbers [] [] (q ∷ qs) kept are = absurd kept
 pieces_kept numbers [] (p ∷ ps) qs kept are = absurd are
@@ -46,48 +46,42 @@ pieces_kept numbers (run ∷ runs) (p ∷ ps) (q ∷ qs) kept are = (
   pieces_kept numbers runs ps qs kept.1 are.1,
 )
 
-cut_kept : (numbers : List ℕ) (unit : ℕ) (columns : List (List Strip)) (start end : ℕ) (ps qs : List Seen) → EachPiece Keeps ps qs → AreCut numbers unit columns start end ps → AreCut numbers unit columns start end qs
+cut_kept : (numbers : List ℕ) (unit : ℕ) (columns : List (List Strip)) (start end : ℕ) (ps qs : List Seen) → EachPiece IsSamePlace ps qs → AreCut numbers unit columns start end ps → AreCut numbers unit columns start end qs
 cut_kept numbers unit columns start end ps qs kept cut = record { runs = cut.runs; are_runs = cut.are_runs; pieces = pieces_kept numbers cut.runs ps qs kept cut.pieces }
 
-maps_kept : (ps qs : List PlexSeen) → KeepPlexes ps qs → map own_map qs ≡ map own_map ps
+maps_kept : (ps qs : List PlexSeen) → StayPlexes ps qs → map own_map qs ≡ map own_map ps
 maps_kept [] [] kept = refl
 maps_kept [] (q ∷ qs) kept = absurd kept
 maps_kept (p ∷ ps) [] kept = absurd kept
 maps_kept (p ∷ ps) (q ∷ qs) kept = ap (λ (m : ℕ). m ∷ map own_map qs) kept.0.same_map ∙ ap (λ ms. p.map ∷ ms) (maps_kept ps qs kept.1)
 
-own_kept : (ps qs : List PlexSeen) (k : ℕ) → KeepPlexes ps qs → EachPiece Keeps (slice_index_or (map own_pieces ps) k []) (slice_index_or (map own_pieces qs) k [])
+own_kept : (ps qs : List PlexSeen) (k : ℕ) → StayPlexes ps qs → EachPiece IsSamePlace (slice_index_or (map own_pieces ps) k []) (slice_index_or (map own_pieces qs) k [])
 own_kept [] [] k kept = tt
 own_kept [] (q ∷ qs) k kept = absurd kept
 own_kept (p ∷ ps) [] k kept = absurd kept
 own_kept (p ∷ ps) (q ∷ qs) zero kept = kept.0.pieces
 own_kept (p ∷ ps) (q ∷ qs) (suc k) kept = own_kept ps qs k kept.1
 
-region_kept : (numbers maps : List ℕ) (layouts : List Layout) (start count : ℕ) (ps qs : List PlexSeen) → KeepPlexes ps qs → IsTakenRegion numbers maps layouts start count ps → IsTakenRegion numbers maps layouts start count qs
+region_kept : (numbers maps : List ℕ) (layouts : List Layout) (start count : ℕ) (ps qs : List PlexSeen) → StayPlexes ps qs → IsTakenRegion numbers maps layouts start count ps → IsTakenRegion numbers maps layouts start count qs
 region_kept numbers maps layouts start count ps qs kept taken =
     record {
       maps_are = maps_kept ps qs kept ∙ taken.maps_are;
       cut = λ k d lt. cut_kept numbers (slice_index_or layouts k d).unit (slice_index_or layouts k d).columns start (start + count) (slice_index_or (map own_pieces ps) k []) (slice_index_or (map own_pieces qs) k []) (own_kept ps qs k kept) (taken.cut k d lt);
-      cover = keep_cover count ps qs kept taken.cover;
-      held = λ k. keep_holds ps qs kept k ∙ taken.held k;
-      differ = keep_differ ps qs kept taken.differ;
+      cover = stay_cover count ps qs kept taken.cover;
+      held = λ k. stay_holds ps qs kept k ∙ taken.held k;
+      differ = stay_differ ps qs kept taken.differ;
     }
 
 -- ---- copies
 
-weaker_kept : (ps qs : List Seen) → EachPiece KeepsPiece ps qs → EachPiece Keeps ps qs
-weaker_kept [] [] kept = tt
-weaker_kept [] (q ∷ qs) kept = absurd kept
-weaker_kept (p ∷ ps) [] kept = absurd kept
-weaker_kept (p ∷ ps) (q ∷ qs) kept = (kept.0.kept, weaker_kept ps qs kept.1)
-
-copy_goes_at : (xs ys : List (List Seen)) (n : ℕ) → CopiesGo KeepsPiece xs ys → EachPiece Keeps (slice_index_or xs n []) (slice_index_or ys n [])
+copy_goes_at : (xs ys : List (List Seen)) (n : ℕ) → CopiesGo IsSamePlace xs ys → EachPiece IsSamePlace (slice_index_or xs n []) (slice_index_or ys n [])
 copy_goes_at xs ys n goes =
-    subst (λ (x : List Seen). EachPiece Keeps x (slice_index_or ys n [])) (same_item [] xs n) (subst (λ (y : List Seen). EachPiece Keeps (copy_at xs n) y) (same_item [] ys n) (weaker_kept (copy_at xs n) (copy_at ys n) (copy_goes KeepsPiece xs ys n goes)))
+    subst (λ (x : List Seen). EachPiece IsSamePlace x (slice_index_or ys n [])) (same_item [] xs n) (subst (λ (y : List Seen). EachPiece IsSamePlace (copy_at xs n) y) (same_item [] ys n) (copy_goes IsSamePlace xs ys n goes))
 
-logs_kept : (numbers : List ℕ) (layouts : List Layout) (count : ℕ) (xs ys : List (List Seen)) → CopiesGo KeepsPiece xs ys → LieOnLogs numbers layouts count xs → LieOnLogs numbers layouts count ys
+logs_kept : (numbers : List ℕ) (layouts : List Layout) (count : ℕ) (xs ys : List (List Seen)) → CopiesGo IsSamePlace xs ys → LieOnLogs numbers layouts count xs → LieOnLogs numbers layouts count ys
 logs_kept numbers layouts count xs ys goes on =
     record {
-      long = copies_count KeepsPiece xs ys goes ∙ on.long;
+      long = copies_count IsSamePlace xs ys goes ∙ on.long;
       each = λ k d lt i low. kept_lies (slice_index_or xs k []) (slice_index_or ys k []) (copy_goes_at xs ys k goes) i ∙ on.each k d lt i low;
     }
 
@@ -119,8 +113,8 @@ kept_volume_lies numbers form old new copies copies' lies kept goes log =
           let size = form.shape.geometry.region in
           let blocks = form.shape.geometry.length in
           let was : r < length old.cells = omega (arith, lt, a, count) in
-          let plexes : KeepPlexes (slice_index_or (region_plexes old.cells) r []) (slice_index_or (region_plexes new.cells) r []) =
-          subst (λ (x : List PlexSeen). KeepPlexes x (slice_index_or (region_plexes new.cells) r [])) (sym (plexes_at old.cells r)) (subst (λ (x : List PlexSeen). KeepPlexes (cell_at old r).plexes x) (sym (plexes_at new.cells r)) (kept.plexes r was)) in
+          let plexes : StayPlexes (slice_index_or (region_plexes old.cells) r []) (slice_index_or (region_plexes new.cells) r []) =
+          subst (λ (x : List PlexSeen). StayPlexes x (slice_index_or (region_plexes new.cells) r [])) (sym (plexes_at old.cells r)) (subst (λ (x : List PlexSeen). StayPlexes (cell_at old r).plexes x) (sym (plexes_at new.cells r)) (kept.plexes r was)) in
           region_kept numbers form.maps.items form.layouts.items (r * size) (min size (blocks - r * size)) (slice_index_or (region_plexes old.cells) r []) (slice_index_or (region_plexes new.cells) r []) plexes (lies.regions r (omega (arith, was, b)));
       masks = λ r lt.
           let count = kept.count in
@@ -152,7 +146,7 @@ opened_volume_lies numbers form regions long taken_regions taken copies taken_co
             snaps = ap (λ (x : CellSeen). x.stage.snaps) cell;
             logged_is = ap (λ (x : CellSeen). x.stage.logged) cell ∙ sym there;
           };
-      logs = logs_kept numbers form.logs.items _ cut.cut copies cut.goes
+      logs = logs_kept numbers form.logs.items _ cut.cut copies (copies_weaker KeepsPiece IsSamePlace (λ p q h. place_kept p q h.kept) cut.cut copies cut.goes)
           (logs_same numbers form.logs.items _ taken cut.cut cut.same
           (record { long = taken_copies.long; each = λ k d lt. cut_lies numbers (slice_index_or form.logs.items k d).unit (slice_index_or form.logs.items k d).columns 0 _ (slice_index_or taken k []) (taken_copies.cut k d lt) }));
       log = subst (λ (l : LogSeen). IsLogOver l (count_of form.shape) copies) (sym opened.log_is) over;

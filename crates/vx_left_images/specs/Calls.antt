@@ -1,11 +1,12 @@
 -- That a volume goes on lying where its form says.
-use Rattle.std.specs.Prelude.{◌≡◌, ℕ, ◌<◌, List, length, Result}
+use Rattle.std.specs.Prelude.{◌≡◌, ℕ, ◌<◌, List, [], ◌∷◌, length, Result}
 use Rattle.vx_piece.specs.Seen.{Seen}
+use Rattle.vx_runs.specs.Run.{EachPiece}
 use Rattle.vx_core.specs.Follow.{SameMasks}
 use Rattle.vx_marks.specs.Log.{LogSeen}
 use Rattle.vx_pages.specs.Sector.{KeepsPiece}
 use Rattle.vx_maps.specs.Going.{CopiesGo, CutCopiesGo}
-use Rattle.vx_cell.specs.Plexes.{KeepPlexes, PlexSeen}
+use Rattle.vx_cell.specs.Plexes.{PlexSeen}
 use Rattle.vx_volume.specs.declared.fault.IoFault.{IoFault}
 use Rattle.vx_volume.specs.declared.receipt.Receipt.{Receipt}
 use Rattle.vx_volume.specs.Calls.{ReadEnds, WriteEndsAll}
@@ -16,6 +17,7 @@ use Rattle.vx_volume_form.specs.declared.form.VolumeForm.{VolumeForm}
 use Rattle.vx_volume_pieces.specs.Taken.{AreTakenRegions}
 use Rattle.vx_lending.specs.Taken.{AreTakenCopies, log_sectors}
 use Rattle.vx_left_images.specs.Lying.{IsLogOver, LiesAs}
+use Rattle.vx_left_images.specs.Places.{IsSamePlace}
 
 -- ---- as it is opened
 
@@ -31,20 +33,30 @@ EachOpenedVolumeLies =
 
 -- ---- as it is called
 
+-- the plex has its map, and its pieces have the sectors that they had
+pub record StaysPlex (old new : PlexSeen) : Type 0 where
+  pub same_map : new.map ≡ old.map
+  pub pieces : EachPiece IsSamePlace old.pieces new.pieces
+
+abbrev pub StayPlexes : List PlexSeen → List PlexSeen → Type 0
+StayPlexes [] [] = Unit {0}
+StayPlexes (p ∷ ps) (q ∷ qs) = StaysPlex p q × StayPlexes ps qs
+StayPlexes _ _ = ⊥
+
 -- what keeps a volume where it lies: its regions are those, with their pieces, plexes and relations, and it has a log or none
 pub record KeepsPlaces (old new : VolumeSeen) : Type 0 where
   pub length_is : new.length ≡ old.length
   pub region_is : new.region ≡ old.region
   pub count : length new.cells ≡ length old.cells
-  pub plexes : (r : ℕ) → r < length old.cells → KeepPlexes (cell_at old r).plexes (cell_at new r).plexes
+  pub plexes : (r : ℕ) → r < length old.cells → StayPlexes (cell_at old r).plexes (cell_at new r).plexes
   pub masks : (r : ℕ) → r < length old.cells → SameMasks (cell_at old r).stage (cell_at new r).stage
   pub there : new.log.there ≡ old.log.there
 
--- So it goes on lying there, where each piece of its log goes on.
+-- So it goes on lying there, where each piece of its log has the sectors that it had.
 abbrev pub EachKeptVolumeLies : Type 0
 EachKeptVolumeLies =
     (numbers : List ℕ) (form : VolumeForm) (old new : VolumeSeen) (copies copies' : List (List Seen)) → LiesAs numbers form old copies →
-    KeepsPlaces old new → CopiesGo KeepsPiece copies copies' → IsLogOver new.log (count_of form.shape) copies' → LiesAs numbers form new copies'
+    KeepsPlaces old new → CopiesGo IsSamePlace copies copies' → IsLogOver new.log (count_of form.shape) copies' → LiesAs numbers form new copies'
 
 -- One thing that keeps it after another keeps it.
 abbrev pub EachKeepingKeeps : Type 0

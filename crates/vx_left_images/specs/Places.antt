@@ -1,6 +1,6 @@
 -- The sectors that pieces have, one behind the other, whatever pieces they are cut into.
 use Rattle.std.specs.Prelude.{◌≡◌, ℕ, ◌+◌, ◌-◌, ◌<◌, nat_lt, if◌then◌else◌, List, [], ◌∷◌, length, slice_index, slice_index_or, Option, Some, None}
-use Rattle.vx_piece.specs.Seen.{Seen, Keeps}
+use Rattle.vx_piece.specs.Seen.{Seen}
 use Rattle.vx_runs.specs.Run.{EachPiece}
 use Rattle.vx_cut.specs.Same.{SameRun}
 use Rattle.vx_layout.specs.declared.layout.Layout.{Layout}
@@ -8,6 +8,12 @@ use Rattle.vx_layout.specs.declared.place.Place.{Place}
 use Rattle.vx_layout.specs.declared.strip.Strip.{Strip}
 use Rattle.vx_layout.specs.Columns.{place_of}
 use Rattle.vx_carve.specs.Carved.{AreCut}
+
+-- the second piece has the sectors of the first
+pub record IsSamePlace (old new : Seen) : Type 0 where
+  pub device : new.device ≡ old.device
+  pub start : new.start ≡ old.start
+  pub sectors : new.sectors ≡ old.sectors
 
 -- a sector of a device
 pub record Spot : Type 0 where
@@ -46,6 +52,6 @@ EachCutLies = (numbers : List ℕ) (unit : ℕ) (columns : List (List Strip)) (s
 abbrev pub EachSameRunLies : Type 0
 EachSameRunLies = (old new : List Seen) → SameRun old new → (k : ℕ) → spot_at new k ≡ spot_at old k
 
--- .. and so have pieces that are kept.
+-- .. and so have pieces with the sectors that others had.
 abbrev pub EachKeptRunLies : Type 0
-EachKeptRunLies = (old new : List Seen) → EachPiece Keeps old new → (k : ℕ) → spot_at new k ≡ spot_at old k
+EachKeptRunLies = (old new : List Seen) → EachPiece IsSamePlace old new → (k : ℕ) → spot_at new k ≡ spot_at old k

@@ -5,7 +5,6 @@ ghost use Rattle.std.specs.Prelude.{ℕ, ◌<◌, List};
 ghost use Rattle.vx_block.specs.Regions.{region_count};
 ghost use Rattle.vx_block.specs.declared.geometry.Geometry.{Geometry};
 ghost use Rattle.vx_piece.specs.Seen.{Seen};
-ghost use Rattle.vx_pages.specs.Sector.{KeepsPiece};
 ghost use Rattle.vx_maps.specs.Creating.{AllTell};
 ghost use Rattle.vx_maps.specs.Going.{CopiesGo};
 ghost use Rattle.vx_maps.specs.Stores.{store_seen};
@@ -16,7 +15,7 @@ ghost use Rattle.vx_left_images.specs.Calls.{EachClearingKeeps, EachCopyKeeps, E
 ghost use Rattle.vx_left_images.specs.Keeping.{EachKeepingGoesOn, EachKeptVolumeIsNamed, EachRestatedVolumeIsKept, EachVolumeKeepsItself};
 ghost use Rattle.vx_left_images.specs.Left.{EachVolumeLeavesItsImage};
 ghost use Rattle.vx_left_images.specs.Lying.{IsLogFor, IsLogOver};
-ghost use Rattle.vx_left_images.specs.Places.{EachCutLies, EachKeptRunLies, EachSameRunLies};
+ghost use Rattle.vx_left_images.specs.Places.{EachCutLies, EachKeptRunLies, EachSameRunLies, IsSamePlace};
 ghost use Rattle.vx_left_images.specs.Starts.{EachPlainStartIsRecorded, EachStartIsRecorded, IsNewLog};
 
 use vx_maps::MapStore;
@@ -61,9 +60,9 @@ pub fn each_lent_log_is_for_its_volume<P: LocalPiece>(log: &VolumeLog<P>)
     let _ = log;
 }
 
-/// As the pieces of a log go on, so do those of its copies, and it is a log for the same volume.
+/// As the pieces of a log go on, those of its copies have the sectors that they had, and it is a log for the same volume.
 pub fn each_log_goes_on<P: LocalPiece>(old: &VolumeLog<P>, new: &VolumeLog<P>)
-    ensures copies { LogGoes P.seen old.now new.now → CopiesGo KeepsPiece (log_copies P.seen old.now) (log_copies P.seen new.now) }
+    ensures copies { LogGoes P.seen old.now new.now → CopiesGo IsSamePlace (log_copies P.seen old.now) (log_copies P.seen new.now) }
     ensures shape { LogGoes P.seen old.now new.now → (geometry : Geometry) → IsLogFor geometry old.now → IsLogFor geometry new.now }
 {
     let _ = old;

@@ -10,3 +10,4 @@ pub mod Starts
 pub mod Restated
 pub mod Configurations
 pub mod Stays
+pub mod Armings

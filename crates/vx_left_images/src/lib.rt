@@ -1,7 +1,7 @@
 //! A started volume that is left is the image that its bytes are: laws, as functions that do nothing and promise them.
 #![tactic(auto)]
 
-ghost use Rattle.std.specs.Prelude.{ℕ, ◌<◌, List};
+ghost use Rattle.std.specs.Prelude.{ℕ, ◌<◌, List, Option};
 ghost use Rattle.vx_block.specs.Regions.{region_count};
 ghost use Rattle.vx_block.specs.declared.geometry.Geometry.{Geometry};
 ghost use Rattle.vx_piece.specs.Seen.{Seen};
@@ -9,9 +9,11 @@ ghost use Rattle.vx_maps.specs.Creating.{AllTell};
 ghost use Rattle.vx_maps.specs.Going.{CopiesGo};
 ghost use Rattle.vx_maps.specs.Stores.{store_seen};
 ghost use Rattle.vx_maps.specs.Wholes.{store_copies};
+ghost use Rattle.vx_volume.specs.Arming.{VolumeArmed};
 ghost use Rattle.vx_volume.specs.Log.{LogGoes, log_seen};
+ghost use Rattle.vx_volume.specs.Volume.{log_of, volume_seen};
 ghost use Rattle.vx_lending.specs.Logs.{IsFreshLog, IsFreshStore, IsLoadedLog, log_copies};
-ghost use Rattle.vx_left_images.specs.Calls.{EachClearingKeeps, EachCopyKeeps, EachKeepingKeeps, EachKeptVolumeLies, EachOpenedVolumeLies, EachReadKeeps, EachSettlingKeeps, EachWriteKeeps};
+ghost use Rattle.vx_left_images.specs.Calls.{EachClearingKeeps, EachCopyKeeps, EachKeepingKeeps, EachKeptVolumeLies, EachOpenedVolumeLies, EachReadKeeps, EachSettlingKeeps, EachWriteKeeps, KeepsPlaces};
 ghost use Rattle.vx_left_images.specs.Keeping.{EachKeepingGoesOn, EachKeptVolumeIsNamed, EachRestatedVolumeIsKept, EachVolumeKeepsItself};
 ghost use Rattle.vx_left_images.specs.Left.{EachVolumeLeavesItsImage};
 ghost use Rattle.vx_left_images.specs.Lying.{IsLogFor, IsLogOver};
@@ -20,7 +22,7 @@ ghost use Rattle.vx_left_images.specs.Starts.{EachPlainStartIsRecorded, EachStar
 
 use vx_maps::MapStore;
 use vx_pages::LocalPiece;
-use vx_volume::VolumeLog;
+use vx_volume::{Volume, VolumeLog};
 
 /// Pieces lie where their blocks do, however they are cut and called.
 pub fn each_run_lies_where_it_did()
@@ -64,6 +66,16 @@ pub fn each_lent_log_is_for_its_volume<P: LocalPiece>(log: &VolumeLog<P>)
 pub fn each_log_goes_on<P: LocalPiece>(old: &VolumeLog<P>, new: &VolumeLog<P>)
     ensures copies { LogGoes P.seen old.now new.now → CopiesGo IsSamePlace (log_copies P.seen old.now) (log_copies P.seen new.now) }
     ensures shape { LogGoes P.seen old.now new.now → (geometry : Geometry) → IsLogFor geometry old.now → IsLogFor geometry new.now }
+{
+    let _ = old;
+    let _ = new;
+}
+
+/// A power switch that is set on the pieces of a volume keeps its places, and those of its log.
+pub fn each_arming_keeps_places<P: LocalPiece>(old: &Volume<P>, new: &Volume<P>)
+    ensures places { (stop : Option ℕ) → VolumeArmed P.seen stop old.now new.now → KeepsPlaces (volume_seen P.seen old.now) (volume_seen P.seen new.now) }
+    ensures copies { (stop : Option ℕ) → VolumeArmed P.seen stop old.now new.now → CopiesGo IsSamePlace (log_copies P.seen (log_of old.now)) (log_copies P.seen (log_of new.now)) }
+    ensures shape { (stop : Option ℕ) → VolumeArmed P.seen stop old.now new.now → (geometry : Geometry) → IsLogFor geometry (log_of old.now) → IsLogFor geometry (log_of new.now) }
 {
     let _ = old;
     let _ = new;

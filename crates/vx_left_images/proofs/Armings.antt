@@ -1,5 +1,5 @@
 -- A power switch that is set keeps the places of a volume.
-use Rattle.std.proofs.Common.{◌≡◌, ℕ, ◌<◌, List, Option, Some, None, refl, sym, ap, subst, ◌∙◌}
+use Rattle.std.proofs.Common.{◌≡◌, ℕ, List, Option, Some, None, refl, sym, ap, subst, ◌∙◌}
 use Rattle.vx_block.specs.declared.geometry.Geometry.{Geometry}
 use Rattle.vx_piece.specs.Seen.{Seen}
 use Rattle.vx_runs.specs.Run.{IsArmed}
@@ -16,14 +16,13 @@ use Rattle.vx_maps.proofs.CopyLaws.{store_goes}
 use Rattle.vx_volume.specs.declared.log.VolumeLog.{VolumeLog}
 use Rattle.vx_volume.specs.declared.log.VolumeLog.TheVariants.{Absent, Maps}
 use Rattle.vx_volume.specs.declared.volume.Volume.{Volume}
-use Rattle.vx_volume.specs.declared.volume.VolumeShape.{VolumeShape}
 use Rattle.vx_volume.specs.Arming.{LogArmed, VolumeArmed}
 use Rattle.vx_volume.specs.Log.{log_seen}
-use Rattle.vx_volume.specs.Volume.{cell_at, log_of, shape_of, volume_seen}
+use Rattle.vx_volume.specs.Volume.{cell_at, log_of, volume_seen}
 use Rattle.vx_lending.specs.Logs.{log_copies}
 use Rattle.vx_left_images.specs.Places.{IsSamePlace}
 use Rattle.vx_left_images.specs.Lying.{IsLogFor}
-use Rattle.vx_left_images.specs.Calls.{KeepsPlaces, StayPlexes}
+use Rattle.vx_left_images.specs.Calls.{KeepsPlaces}
 use Rattle.vx_left_images.proofs.Keepings.{masks_same}
 use Rattle.vx_left_images.proofs.Stays.{place_armed, place_same, stay_armed}
 

@@ -1,13 +1,12 @@
 -- What keeps volumes, one configuration after another.
-use Rattle.std.proofs.Common.{◌≡◌, inl, inr, ℕ, Bool, true, false, Option, Some, None, List, [], ◌∷◌, refl, sym, ap, ◌∙◌}
-use Rattle.std.specs.Prelude.{◌&&◌, Contains}
+use Rattle.std.proofs.Common.{◌≡◌, ℕ, Bool, true, false, Option, Some, None, List, [], ◌∷◌, refl, sym, ap, ◌∙◌}
+use Rattle.std.specs.Prelude.{◌&&◌}
 use Rattle.std.specs.List.{AllZip}
 use Rattle.std.proofs.lemmas.Bool.{and_parts, and_from, false≢true}
 use Rattle.vx_base.specs.Named.{Word}
 use Rattle.vx_config_parts.specs.declared.plex.Plex.{Plex}
 use Rattle.vx_config_parts.specs.declared.state.PlexState.{PlexState}
 use Rattle.vx_config_parts.specs.declared.state.PlexState.TheVariants as plex
-use Rattle.vx_config_parts.specs.declared.vol.Vol.{Vol}
 use Rattle.vx_config_parts.specs.Objects.{is_data_plex_of, is_log_plex_of}
 use Rattle.vx_objects.specs.declared.config.Config.{Config}
 use Rattle.vx_plexes.proofs.Members.{IsIn}
@@ -18,7 +17,7 @@ use Rattle.vx_volume_form.specs.Plexes.{is_used_log, is_used_state, used_logs}
 use Rattle.vx_volume_form.proofs.Bits.{kept}
 use Rattle.vx_volume_form.proofs.Distinct.{filtered}
 use Rattle.vx_opened_images.proofs.Held.{in_image, of_image}
-use Rattle.vx_left_images.specs.Keeping.{EachKeepingGoesOn, EachKeptVolumeIsNamed, EachVolumeKeepsItself, KeepsPlex, KeepsVolume, LiesStill, data_plexes}
+use Rattle.vx_left_images.specs.Keeping.{EachKeepingGoesOn, EachKeptVolumeIsNamed, EachVolumeKeepsItself, KeepsPlex, LiesStill, data_plexes}
 use Rattle.vx_left_images.proofs.Plexes.{zip_right}
 
 zip_same : {A : Type 0} (R : A → A → Type 0) → ((x : A) → R x x) → (xs : List A) → AllZip R xs xs

@@ -11,3 +11,4 @@ pub mod Restated
 pub mod Configurations
 pub mod Stays
 pub mod Armings
+pub mod Forms

@@ -28,7 +28,7 @@ use Rattle.vx_left_images.proofs.Plexes.{zip_right}
 -- ---- lists
 
 -- two lists that go together do so where each is filtered alike
-zip_filter : {A B : Type 0} (R S : A → B → Type 0) (t : A → Bool) (u : B → Bool) → ((x : A) (y : B) → R x y → u y ≡ t x) → ((x : A) (y : B) → R x y → t x ≡ true → S x y) →
+pub zip_filter : {A B : Type 0} (R S : A → B → Type 0) (t : A → Bool) (u : B → Bool) → ((x : A) (y : B) → R x y → u y ≡ t x) → ((x : A) (y : B) → R x y → t x ≡ true → S x y) →
     (xs : List A) (ys : List B) → AllZip R xs ys → AllZip S (filter t xs) (filter u ys)
 zip_filter R S t u alike each [] [] h = tt
 zip_filter R S t u alike each [] (y ∷ ys) h = absurd h
@@ -58,7 +58,7 @@ module _ (c0 c : Config) (disks : c.disks ≡ c0.disks) (subdisks : c.subdisks �
       by rest None = refl
       by rest (Some s) = ap (λ (more : List Strip). strip_of c0.disks s ∷ more) (rest s)
 
-  columns_same : (n : ℕ) (name : Word) (col : ℕ) → columns_from n c name col ≡ columns_from n c0 name col
+  pub columns_same : (n : ℕ) (name : Word) (col : ℕ) → columns_from n c name col ≡ columns_from n c0 name col
   columns_same zero name col = refl
   columns_same (suc n) name col =
       ap (λ (ss : List Subdisk). strips_from (length ss) c name col 0 ∷ columns_from n c name (col + 1)) subdisks

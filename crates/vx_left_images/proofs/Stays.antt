@@ -1,9 +1,8 @@
 -- Pieces and plexes that have the sectors that they had.
-use Rattle.std.proofs.Common.{◌≡◌, ℕ, zero, suc, ◌+◌, Bool, true, false, List, [], ◌∷◌, refl, sym, ap, ◌∙◌}
+use Rattle.std.proofs.Common.{◌≡◌, ℕ, ◌+◌, Bool, true, false, List, [], ◌∷◌, refl, ap, ◌∙◌}
 use Rattle.std.specs.Prelude.{◌==◌, ◌||◌, if◌then◌else◌, Option}
 use Rattle.vx_piece.specs.Seen.{Seen, Keeps}
 use Rattle.vx_runs.specs.Run.{EachPiece, IsArmed, run_sectors}
-use Rattle.vx_pages.specs.Sector.{KeepsPiece}
 use Rattle.vx_maps.specs.Going.{CopiesGo}
 use Rattle.vx_cell.specs.Changes.{AreArmed}
 use Rattle.vx_cell.specs.Plexes.{AllCover, KeepPlexes, MapsDiffer, PlexSeen, holds}

@@ -4,3 +4,4 @@ pub mod Keeping
 pub mod Left
 pub mod Calls
 pub mod Starts
+pub mod Forms

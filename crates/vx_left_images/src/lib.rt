@@ -14,6 +14,7 @@ ghost use Rattle.vx_volume.specs.Log.{LogGoes, log_seen};
 ghost use Rattle.vx_volume.specs.Volume.{log_of, volume_seen};
 ghost use Rattle.vx_lending.specs.Logs.{IsFreshLog, IsFreshStore, IsLoadedLog, log_copies};
 ghost use Rattle.vx_left_images.specs.Calls.{EachClearingKeeps, EachCopyKeeps, EachKeepingKeeps, EachKeptVolumeLies, EachOpenedVolumeLies, EachReadKeeps, EachSettlingKeeps, EachWriteKeeps, KeepsPlaces};
+ghost use Rattle.vx_left_images.specs.Forms.{EachFormIsKept};
 ghost use Rattle.vx_left_images.specs.Keeping.{EachKeepingGoesOn, EachKeptVolumeIsNamed, EachRestatedVolumeIsKept, EachVolumeKeepsItself};
 ghost use Rattle.vx_left_images.specs.Left.{EachVolumeLeavesItsImage};
 ghost use Rattle.vx_left_images.specs.Lying.{IsLogFor, IsLogOver};
@@ -91,6 +92,11 @@ pub fn each_volume_is_kept()
 /// A configuration of which only states have changed, and of which disks have failed, keeps a volume.
 pub fn each_restated_volume_is_kept()
     ensures { EachRestatedVolumeIsKept }
+{}
+
+/// The form of a volume of which only states have changed, and none that a start has to do with, is its form again.
+pub fn each_form_is_kept()
+    ensures { EachFormIsKept }
 {}
 
 /// A volume that lies where its form says leaves its image.

@@ -12,3 +12,4 @@ pub mod Configurations
 pub mod Stays
 pub mod Armings
 pub mod Forms
+pub mod Lasting

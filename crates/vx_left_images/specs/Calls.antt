@@ -4,6 +4,7 @@ use Rattle.vx_piece.specs.Seen.{Seen}
 use Rattle.vx_runs.specs.Run.{EachPiece}
 use Rattle.vx_core.specs.Follow.{SameMasks}
 use Rattle.vx_marks.specs.Log.{LogSeen}
+use Rattle.vx_pages.specs.declared.local_piece.LocalPiece.{Ghosts}
 use Rattle.vx_pages.specs.Sector.{KeepsPiece}
 use Rattle.vx_maps.specs.Going.{CopiesGo, CutCopiesGo}
 use Rattle.vx_cell.specs.Plexes.{PlexSeen}
@@ -12,11 +13,14 @@ use Rattle.vx_volume.specs.declared.receipt.Receipt.{Receipt}
 use Rattle.vx_volume.specs.Calls.{ReadEnds, WriteEndsAll}
 use Rattle.vx_volume.specs.Opening.{IsOpened, count_of}
 use Rattle.vx_volume.specs.Passes.{Clears, CopyEnds, PassEnds, Settles}
-use Rattle.vx_volume.specs.Volume.{VolumeSeen, cell_at}
+use Rattle.vx_volume.specs.declared.volume.Volume.{Volume}
+use Rattle.vx_volume.specs.Log.{log_seen}
+use Rattle.vx_volume.specs.Volume.{VolumeSeen, cell_at, log_of, volume_seen}
 use Rattle.vx_volume_form.specs.declared.form.VolumeForm.{VolumeForm}
 use Rattle.vx_volume_pieces.specs.Taken.{AreTakenRegions}
+use Rattle.vx_lending.specs.Logs.{log_copies}
 use Rattle.vx_lending.specs.Taken.{AreTakenCopies, log_sectors}
-use Rattle.vx_left_images.specs.Lying.{IsLogOver, LiesAs}
+use Rattle.vx_left_images.specs.Lying.{IsLogFor, IsLogOver, LiesAs}
 use Rattle.vx_left_images.specs.Places.{IsSamePlace}
 
 -- ---- as it is opened
@@ -79,3 +83,15 @@ EachClearingKeeps = (old new : VolumeSeen) (result : Result (Unit {0}) IoFault) 
 
 abbrev pub EachCopyKeeps : Type 0
 EachCopyKeeps = (map : ℕ) (old new : VolumeSeen) (result : Result ℕ IoFault) → CopyEnds map old new result → KeepsPlaces old new
+
+-- ---- a volume of the code
+
+-- What is known of a volume as it was opened with its form over the regions and the copies that were taken.
+pub record IsOpenedOn {P : Type 0} {ghosts : Ghosts P} (seen : P → Seen) (numbers : List ℕ) (form : VolumeForm) (regions : List (List PlexSeen)) (taken : List (List Seen)) (volume : Volume P ghosts) : Type 0 where
+  pub some : 0 < count_of form.shape
+  pub long : length regions ≡ count_of form.shape
+  pub regions_taken : AreTakenRegions numbers form.maps.items form.layouts.items form.shape.geometry.length form.shape.geometry.region regions
+  pub copies_taken : AreTakenCopies numbers form.logs.items (log_sectors form.shape.geometry) taken
+  pub cut : CutCopiesGo KeepsPiece taken (log_copies seen (log_of volume))
+  pub log_for : IsLogFor form.shape.geometry (log_of volume)
+  pub opened : IsOpened form.shape (log_seen seen (log_of volume)) regions (volume_seen seen volume)

@@ -13,11 +13,13 @@ use Rattle.vx_volume.specs.declared.log.VolumeLog.{VolumeLog}
 use Rattle.vx_volume.specs.declared.log.VolumeLog.TheVariants.{Absent, Maps}
 use Rattle.vx_volume.specs.declared.volume.VolumeShape.{VolumeShape}
 use Rattle.vx_volume.specs.Opening.{count_of}
-use Rattle.vx_volume.specs.Volume.{VolumeSeen, cell_at}
+use Rattle.vx_volume.specs.declared.volume.Volume.{Volume}
+use Rattle.vx_volume.specs.Volume.{VolumeSeen, cell_at, log_of, volume_seen}
 use Rattle.vx_volume_pieces.specs.Pieces.{all_pieces}
 use Rattle.vx_volume_pieces.specs.Taken.{AreTakenRegions}
 use Rattle.vx_volume_form.specs.declared.form.VolumeForm.{VolumeForm}
 use Rattle.vx_lending.specs.Left.{region_plexes}
+use Rattle.vx_lending.specs.Logs.{log_copies}
 use Rattle.vx_lending.specs.Pieces.{copy_pieces}
 use Rattle.vx_lending.specs.Taken.{log_sectors}
 use Rattle.vx_left_images.specs.Places.{LieOnLogs}
@@ -55,3 +57,9 @@ pieces_in v copies = all_pieces (region_plexes v.cells) ++ copy_pieces copies
 abbrev pub IsLogFor : {P : Type 0} {ghosts : Ghosts P} → Geometry → VolumeLog P ghosts → Type 0
 IsLogFor geometry Absent = Unit {0}
 IsLogFor geometry (Maps store) = (shape_of store).geometry ≡ geometry
+
+-- A volume of the code lies where its form says, with regions of its own and a log for them.
+pub record LiesIn {P : Type 0} {ghosts : Ghosts P} (seen : P → Seen) (numbers : List ℕ) (form : VolumeForm) (volume : Volume P ghosts) : Type 0 where
+  pub some : 0 < count_of form.shape
+  pub log_for : IsLogFor form.shape.geometry (log_of volume)
+  pub lies : LiesAs numbers form (volume_seen seen volume) (log_copies seen (log_of volume))

@@ -9,15 +9,17 @@ ghost use Rattle.vx_maps.specs.Creating.{AllTell};
 ghost use Rattle.vx_maps.specs.Going.{CopiesGo};
 ghost use Rattle.vx_maps.specs.Stores.{store_seen};
 ghost use Rattle.vx_maps.specs.Wholes.{store_copies};
+ghost use Rattle.vx_cell.specs.Plexes.{PlexSeen};
 ghost use Rattle.vx_volume.specs.Arming.{VolumeArmed};
 ghost use Rattle.vx_volume.specs.Log.{LogGoes, log_seen};
 ghost use Rattle.vx_volume.specs.Volume.{log_of, volume_seen};
+ghost use Rattle.vx_volume_form.specs.declared.form.VolumeForm.{VolumeForm};
 ghost use Rattle.vx_lending.specs.Logs.{IsFreshLog, IsFreshStore, IsLoadedLog, log_copies};
-ghost use Rattle.vx_left_images.specs.Calls.{EachClearingKeeps, EachCopyKeeps, EachKeepingKeeps, EachKeptVolumeLies, EachOpenedVolumeLies, EachReadKeeps, EachSettlingKeeps, EachWriteKeeps, KeepsPlaces};
+ghost use Rattle.vx_left_images.specs.Calls.{EachClearingKeeps, EachCopyKeeps, EachKeepingKeeps, EachKeptVolumeLies, EachOpenedVolumeLies, EachReadKeeps, EachSettlingKeeps, EachWriteKeeps, IsOpenedOn, KeepsPlaces};
 ghost use Rattle.vx_left_images.specs.Forms.{EachFormIsKept};
 ghost use Rattle.vx_left_images.specs.Keeping.{EachKeepingGoesOn, EachKeptVolumeIsNamed, EachRestatedVolumeIsKept, EachVolumeKeepsItself};
 ghost use Rattle.vx_left_images.specs.Left.{EachVolumeLeavesItsImage};
-ghost use Rattle.vx_left_images.specs.Lying.{IsLogFor, IsLogOver};
+ghost use Rattle.vx_left_images.specs.Lying.{IsLogFor, IsLogOver, LiesIn};
 ghost use Rattle.vx_left_images.specs.Places.{EachCutLies, EachKeptRunLies, EachSameRunLies, IsSamePlace};
 ghost use Rattle.vx_left_images.specs.Starts.{EachPlainStartIsRecorded, EachStartIsRecorded, IsNewLog};
 
@@ -77,6 +79,22 @@ pub fn each_arming_keeps_places<P: LocalPiece>(old: &Volume<P>, new: &Volume<P>)
     ensures places { (stop : Option ℕ) → VolumeArmed P.seen stop old.now new.now → KeepsPlaces (volume_seen P.seen old.now) (volume_seen P.seen new.now) }
     ensures copies { (stop : Option ℕ) → VolumeArmed P.seen stop old.now new.now → CopiesGo IsSamePlace (log_copies P.seen (log_of old.now)) (log_copies P.seen (log_of new.now)) }
     ensures shape { (stop : Option ℕ) → VolumeArmed P.seen stop old.now new.now → (geometry : Geometry) → IsLogFor geometry (log_of old.now) → IsLogFor geometry (log_of new.now) }
+{
+    let _ = old;
+    let _ = new;
+}
+
+/// A volume of the code that was opened with its form lies where that says.
+pub fn each_opened_volume_lies<P: LocalPiece>(volume: &Volume<P>)
+    ensures { (numbers : List ℕ) (form : VolumeForm) (regions : List (List PlexSeen)) (taken : List (List Seen)) → IsOpenedOn P.seen numbers form regions taken volume.now → LiesIn P.seen numbers form volume.now }
+{
+    let _ = volume;
+}
+
+/// It goes on lying there through each call, and where a power switch is set on its pieces.
+pub fn each_volume_goes_on_lying<P: LocalPiece>(old: &Volume<P>, new: &Volume<P>)
+    ensures called { (numbers : List ℕ) (form : VolumeForm) → LiesIn P.seen numbers form old.now → KeepsPlaces (volume_seen P.seen old.now) (volume_seen P.seen new.now) → LogGoes P.seen (log_of old.now) (log_of new.now) → LiesIn P.seen numbers form new.now }
+    ensures armed { (numbers : List ℕ) (form : VolumeForm) (stop : Option ℕ) → LiesIn P.seen numbers form old.now → VolumeArmed P.seen stop old.now new.now → LiesIn P.seen numbers form new.now }
 {
     let _ = old;
     let _ = new;

@@ -13,3 +13,4 @@ pub mod Stays
 pub mod Armings
 pub mod Forms
 pub mod Lasting
+pub mod Openings

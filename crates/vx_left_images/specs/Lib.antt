@@ -5,3 +5,4 @@ pub mod Left
 pub mod Calls
 pub mod Starts
 pub mod Forms
+pub mod Over

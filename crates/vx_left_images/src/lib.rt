@@ -20,6 +20,7 @@ ghost use Rattle.vx_left_images.specs.Forms.{EachFormIsKept};
 ghost use Rattle.vx_left_images.specs.Keeping.{EachKeepingGoesOn, EachKeptVolumeIsNamed, EachRestatedVolumeIsKept, EachVolumeKeepsItself};
 ghost use Rattle.vx_left_images.specs.Left.{EachVolumeLeavesItsImage};
 ghost use Rattle.vx_left_images.specs.Lying.{IsLogFor, IsLogOver, LiesIn};
+ghost use Rattle.vx_left_images.specs.Over.{EachOpenedVolumeIsOver};
 ghost use Rattle.vx_left_images.specs.Places.{EachCutLies, EachKeptRunLies, EachSameRunLies, IsSamePlace};
 ghost use Rattle.vx_left_images.specs.Starts.{EachPlainStartIsRecorded, EachStartIsRecorded, IsNewLog};
 
@@ -83,6 +84,11 @@ pub fn each_arming_keeps_places<P: LocalPiece>(old: &Volume<P>, new: &Volume<P>)
     let _ = old;
     let _ = new;
 }
+
+/// A volume that is opened by the marks of a copy of its image is opened over that image.
+pub fn each_opened_volume_is_over_its_image()
+    ensures { EachOpenedVolumeIsOver }
+{}
 
 /// A volume of the code that was opened with its form lies where that says.
 pub fn each_opened_volume_lies<P: LocalPiece>(volume: &Volume<P>)

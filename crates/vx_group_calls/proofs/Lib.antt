@@ -1,0 +1,7 @@
+pub mod Keeping
+pub mod Failures
+pub mod HeldPieces
+pub mod LogSums
+pub mod LogFaults
+pub mod Tellings
+pub mod Service

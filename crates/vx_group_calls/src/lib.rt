@@ -1,0 +1,10 @@
+//! Reads and writes of a script, served by a running volume of a disk group.
+#![tactic(auto)]
+
+mod bytes;
+mod calling;
+mod ending;
+mod served;
+
+pub use calling::serve;
+pub use served::Served;

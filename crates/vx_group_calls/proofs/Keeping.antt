@@ -109,24 +109,35 @@ pub record SomeRegionCut (v : VolumeSeen) : Type 0 where
   pub inside : region < length v.cells
   pub cut : IsCut (region_at v region)
 
+-- calls of which each changes a volume so
+module _ {S : Type 0} (volume_in : S → VolumeSeen) (Call : ℕ → Option CellFault → S → S → Type 0) (one : (n : ℕ) (stop : Option CellFault) (old new : S) → Call n stop old new → HasGone (volume_in old) (volume_in new)) where
+  pub done_gone : (n : ℕ) (old new : S) → AreDone Call n old new → HasGone (volume_in old) (volume_in new)
+  done_gone zero old new is = subst (λ (x : S). HasGone (volume_in old) (volume_in x)) (sym is) (gone_same (volume_in old))
+  done_gone (suc n) old new (mid, done, call) = gone_then (volume_in old) (volume_in mid) (volume_in new) (done_gone n old mid done) (one n None mid new call)
+
+  pub made_gone : (total : ℕ) (stop : Option CellFault) (old new : S) → AreMade Call total stop old new → HasGone (volume_in old) (volume_in new)
+  made_gone total None old new done = done_gone total old new done
+  made_gone total (Some fault) old new (n, mid, low, done, call) = gone_then (volume_in old) (volume_in mid) (volume_in new) (done_gone n old mid done) (one n (Some fault) mid new call)
+
+abbrev volume_of : Calling → VolumeSeen
+volume_of c = c.volume
+
 module _ (Way : Span → List ℕ → Option CellFault → RegionSeen → RegionSeen → Type 0) (way : IsCalling Way) (start count : ℕ) (bytes : List ℕ) where
   call_gone : (index : ℕ) (stop : Option CellFault) (old new : Calling) → CallsPart Way start count bytes index stop old new → HasGone old.volume new.volume
   call_gone index stop old new call =
       one_gone call.region _ old.volume new.volume call.ends (way.stays _ _ _ _ _ call.ends.goes) (way.dead _ _ _ _ _ call.ends.goes)
 
-  done_gone : (n : ℕ) (old new : Calling) → AreDone (CallsPart Way start count bytes) n old new → HasGone old.volume new.volume
-  done_gone zero old new is = subst (λ (c : Calling). HasGone old.volume c.volume) (sym is) (gone_same old.volume)
-  done_gone (suc n) old new (mid, done, call) = gone_then old.volume mid.volume new.volume (done_gone n old mid done) (call_gone n None mid new call)
+  parts_done : (n : ℕ) (old new : Calling) → AreDone (CallsPart Way start count bytes) n old new → HasGone old.volume new.volume
+  parts_done n old new done = done_gone volume_of (CallsPart Way start count bytes) call_gone n old new done
 
-  pub made_gone : (total : ℕ) (stop : Option CellFault) (old new : Calling) → AreMade (CallsPart Way start count bytes) total stop old new → HasGone old.volume new.volume
-  made_gone total None old new done = done_gone total old new done
-  made_gone total (Some fault) old new (n, mid, low, done, call) = gone_then old.volume mid.volume new.volume (done_gone n old mid done) (call_gone n (Some fault) mid new call)
+  pub parts_gone : (total : ℕ) (stop : Option CellFault) (old new : Calling) → AreMade (CallsPart Way start count bytes) total stop old new → HasGone old.volume new.volume
+  parts_gone total stop old new made = made_gone volume_of (CallsPart Way start count bytes) call_gone total stop old new made
 
   pub made_fault : (total : ℕ) (place : Place) (old new : Calling) → AreMade (CallsPart Way start count bytes) total (Some (cell.Fault place)) old new → FailedIn place old.volume new.volume
   made_fault total place old new (n, mid, low, done, call) =
       record {
         mid = mid.volume;
-        gone = done_gone n old mid done;
+        gone = parts_done n old mid done;
         last = call_gone n (Some (cell.Fault place)) mid new call;
         region = call.region;
         inside = call.ends.inside;
@@ -140,4 +151,4 @@ module _ (Way : Span → List ℕ → Option CellFault → RegionSeen → Region
 
   pub made_lost : (total : ℕ) (old new : Calling) → AreMade (CallsPart Way start count bytes) total (Some cell.PowerLost) old new → AreCutWhereDead old.volume → SomeRegionCut new.volume
   made_lost total old new (n, mid, low, done, call) cut =
-      lost_here call.region mid.volume new.volume call.ends.inside call.ends.count ((done_gone n old mid done).cut cut) (way.lost _ _ _ _ call.ends.goes)
+      lost_here call.region mid.volume new.volume call.ends.inside call.ends.count ((parts_done n old mid done).cut cut) (way.lost _ _ _ _ call.ends.goes)

@@ -42,7 +42,7 @@ use Rattle.vx_group_calls.specs.Ending.{EndsAs, IsReadServed, IsWriteServed, dev
 use Rattle.vx_group_calls.specs.Serving.{LivesOn, ServesVolume, Tells}
 use Rattle.vx_group_calls.proofs.Failures.{read_calling, write_calling}
 use Rattle.vx_group_calls.proofs.HeldPieces.{SumRose, cell_cut, cell_rose, cells_stay, cut_first, cut_then, each_beside, log_stays, plex_rose, sum_rose, sums_grow}
-use Rattle.vx_group_calls.proofs.Keeping.{FailedIn, HasGone, IsCalling, SomeRegionCut, made_fault, made_gone, made_lost}
+use Rattle.vx_group_calls.proofs.Keeping.{FailedIn, HasGone, IsCalling, SomeRegionCut, made_fault, made_lost, parts_gone}
 use Rattle.vx_group_calls.proofs.LogFaults.{beside_first, beside_then, log_cut, log_rose}
 use Rattle.vx_group_calls.proofs.Tellings.{IsCallOf, call_tells, data_call, fill_call, outside, read_call}
 
@@ -160,7 +160,7 @@ module _ {P : Type 0} {ghosts : Ghosts P} (old new : Volume P ghosts) (follows :
 
   module _ (Way : Span → List ℕ → Option CellFault → RegionSeen → RegionSeen → Type 0) (way : IsCalling Way) (start : ℕ) (before after : Receipt) (parts : List Part) (printed : List ℕ) (served : Served) where
     all_gone : (result : Result (Unit {0}) IoFault) → CallsParts Way start was now result before after → HasGone (called was) now
-    all_gone result made = made_gone Way way start before.count after.blocks.items (parts_in was.region start before.count) _ _ _ made.made
+    all_gone result made = parts_gone Way way start before.count after.blocks.items (parts_in was.region start before.count) _ _ _ made.made
 
     caused : (result : Result (Unit {0}) IoFault) → CallsParts Way start was now result before after → EndsAs result parts printed served → ServedHasCause ghosts.seen served old new
     caused (Ok u) made ends = subst (λ (s : Served). ServedHasCause ghosts.seen s old new) (sym ends) tt

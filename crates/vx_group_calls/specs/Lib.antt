@@ -1,3 +1,4 @@
 pub mod Serving
 pub mod Causes
 pub mod Ending
+pub mod Laws

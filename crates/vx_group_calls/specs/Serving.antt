@@ -45,5 +45,6 @@ ServesVolume call served old new =
     (place : ℕ) → MayComeNext (record { session = 0; place = place }) w.life →
     LivesOn place call served plexes owners failed w old new
 
+-- the same of a running volume
 abbrev pub ServesCall : {P : Type 0} {ghosts : Ghosts P} → (P → Seen) → Call → Served → Running P ghosts → Running P ghosts → Type 0
 ServesCall see call served old new = ServesVolume call served (volume_seen see old.volume) (volume_seen see new.volume)

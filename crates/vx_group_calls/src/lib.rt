@@ -4,6 +4,7 @@
 mod bytes;
 mod calling;
 mod ending;
+pub mod laws;
 mod served;
 
 pub use calling::serve;

@@ -84,7 +84,7 @@ module _ (Q : SectorSeen → Type 0) where
       All-cons (λ p. Q (sector_in p 0)) p ps (each 0 (sector_in p 0) (in_first p ps 0 (All-head HasSome p ps some)))
       (from_sectors ps (All-tail HasSome p ps some) (λ k x e. each (p.sectors + k) x (behind_first p ps k ∙ e)))
 
-counted_on : (device : ℕ) (ps : List Seen) → counted (λ p. p.faults) device ps ≡ sum_by (faults_of device) ps
+pub counted_on : (device : ℕ) (ps : List Seen) → counted (λ p. p.faults) device ps ≡ sum_by (faults_of device) ps
 counted_on device [] = refl
 counted_on device (p ∷ ps) = let rest = counted_on device ps in let sum = sum_by-cons (faults_of device) p ps in omega (arith, rest, sum)
 

@@ -44,6 +44,7 @@ pub fn fresh_log<P: Piece + Drop>(
     ensures goes { IfOk result (λ log. GoTogether (copy_pieces (copies_seen P.seen copies.items)) (log_pieces P.seen log)) }
     ensures refused { IfErr result (λ refused. IsNotFresh refused.fault (copies_seen P.seen copies.items) (left_copies P.seen refused.left) (left_faults P.seen refused.left) (left_cut P.seen refused.left)) }
     ensures back { IfErr result (λ refused. GoTogether (copy_pieces (copies_seen P.seen copies.items)) (copy_pieces (left_copies P.seen refused.left))) }
+    ensures cut_back { IfErr result (λ refused. CutCopiesGo KeepsPiece (copies_seen P.seen copies.items) (left_copies P.seen refused.left)) }
 {
     if copies.is_empty() {
         return Ok(VolumeLog::Absent);

@@ -1,4 +1,4 @@
-ghost use Rattle.std.specs.Prelude.{IfOk, IfErr};
+ghost use Rattle.std.specs.Prelude.{◌<◌, length, IfOk, IfErr};
 ghost use Rattle.vx_block.specs.Regions.{region_count};
 ghost use Rattle.vx_pages.specs.Sector.{KeepsPiece};
 ghost use Rattle.vx_maps.specs.Going.{CutCopiesGo};
@@ -29,6 +29,8 @@ pub fn load_log<P: Piece + Drop>(
     ensures goes { IfOk result (λ log. GoTogether (copy_pieces (copies_seen P.seen copies.items)) (log_pieces P.seen log)) }
     ensures refused { IfErr result (λ refused. IsNotLoaded (log_header form.now.shape.geometry) refused.fault (copies_seen P.seen copies.items) (copies_seen P.seen refused.copies.items)) }
     ensures back { IfErr result (λ refused. GoTogether (copy_pieces (copies_seen P.seen copies.items)) (copy_pieces (copies_seen P.seen refused.copies.items))) }
+    ensures some { IfErr result (λ refused. 0 < length copies.items) }
+    ensures cut_back { IfErr result (λ refused. CutCopiesGo KeepsPiece (copies_seen P.seen copies.items) (copies_seen P.seen refused.copies.items)) }
 {
     if copies.is_empty() {
         return Ok(VolumeLog::Absent);

@@ -11,5 +11,5 @@ mod taking;
 pub use back::{put_plexes, put_regions};
 pub use cells::put_cells;
 pub use region::take_region;
-pub use room::reserve_cells;
+pub use room::{pieces_in, reserve_cells};
 pub use taking::take_regions;

@@ -23,7 +23,7 @@ pub fn reserve_cells<P: Piece + Drop>(
 }
 
 /// How many pieces the cells have, where a list may be as long.
-fn pieces_in<P: Piece>(cells: &[Cell<P>]) -> Option<usize>
+pub fn pieces_in<P: Piece>(cells: &[Cell<P>]) -> Option<usize>
     ensures { IfSome result (λ n. n ≡ length (all_pieces (cell_plexes P.seen cells.now))) }
 {
     let mut count = 0_usize;

@@ -2,6 +2,7 @@
 use Rattle.std.proofs.Common.{arith, ◌∙◌}
 use Rattle.vx_maps.specs.Spares.{copies_seen}
 use Rattle.vx_maps.specs.Wholes.{store_copies}
+use Rattle.vx_maps.proofs.CopyRuns.{none_cut}
 use Rattle.vx_lending.specs.Left.{left_copies}
 use Rattle.vx_lending.specs.Taken.{slot_of}
 use Rattle.vx_lending.proofs.NewLogs.{all_bits}
@@ -21,3 +22,6 @@ returns-in-Ok-fresh_store-clause-goes g c =
 pub returns-clause-back : goal.returns-clause-back
 returns-clause-back g c =
     cut_go (copies_seen g.P.Piece.seen c.args.copies.items) (left_copies g.P.Piece.seen c.in-Err.refused.left) (none_empty (slot_of c.args.form.now.shape.geometry) (copies_seen g.P.Piece.seen c.args.copies.items) c.requires) c.in-Err.ensures.back
+
+pub returns-in_default-clause-cut_back : goal.returns-in_default-clause-cut_back
+returns-in_default-clause-cut_back g c = none_cut (copies_seen g.P.Piece.seen c.args.copies.items)

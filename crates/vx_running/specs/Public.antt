@@ -7,18 +7,25 @@ use Rattle.std.specs.Ordering.{nat_cmp}
 use Rattle.vx_base.specs.Named.{Word}
 use Rattle.vx_piece.specs.Seen.{Seen}
 use Rattle.vx_pages.specs.declared.local_piece.LocalPiece.{Ghosts}
-use Rattle.vx_lending.specs.Left.{held_pieces}
-use Rattle.vx_lending.specs.Pieces.{volume_pieces}
+use Rattle.vx_volume.specs.Opening.{regions_seen}
+use Rattle.vx_volume_pieces.specs.Pieces.{all_pieces}
+use Rattle.vx_lending.specs.Left.{held_pieces, left_copies}
+use Rattle.vx_lending.specs.Pieces.{copy_pieces}
 use Rattle.vx_running.specs.declared.public.Public.{Public}
+use Rattle.vx_running.specs.declared.public.Remains.{Remains}
 use Rattle.vx_running.specs.declared.public.Running.{Running}
 
 -- the pieces of a running volume
 abbrev pub running_pieces : {P : Type 0} {ghosts : Ghosts P} → (P → Seen) → Word × Running P ghosts → List Seen
 running_pieces see e = held_pieces see e.1.volume
 
+-- those that are left of a volume that was not started
+abbrev pub remaining_pieces : {P : Type 0} {ghosts : Ghosts P} → (P → Seen) → Remains P ghosts → List Seen
+remaining_pieces see r = all_pieces (regions_seen see r.regions.items) ++ copy_pieces (left_copies see r.log)
+
 -- the pieces that lie still, which no volume has
 abbrev pub still_pieces : {P : Type 0} {ghosts : Ghosts P} → (P → Seen) → Public P ghosts → List Seen
-still_pieces see p = map see p.pool.items.items ++ flat_map (volume_pieces see) p.left.items
+still_pieces see p = map see p.pool.items.items ++ flat_map (remaining_pieces see) p.left.items
 
 -- those that running volumes have
 abbrev pub lent_pieces : {P : Type 0} {ghosts : Ghosts P} → (P → Seen) → Public P ghosts → List Seen

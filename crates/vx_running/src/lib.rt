@@ -3,4 +3,4 @@
 
 mod public;
 
-pub use public::{Public, Running};
+pub use public::{Public, Remains, Running};

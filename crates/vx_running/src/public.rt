@@ -3,7 +3,8 @@ ghost use Rattle.std.specs.Prelude.{◌≡◌, []};
 use std::alloc::Global;
 use std::collections::BTreeMap;
 use vx_carve::Pool;
-use vx_lending::VolumePieces;
+use vx_cell::Plex;
+use vx_lending::LogLeft;
 use vx_names::Name;
 use vx_pages::LocalPiece;
 use vx_piece::Piece;
@@ -17,13 +18,21 @@ pub struct Running<P: LocalPiece> {
     pub volume: Volume<P>,
 }
 
+/// What is left of a volume that was not started: plexes of its regions and copies of its log for which the pool has had no
+/// room, or the log itself, where there was no memory to take it apart.
+#[derive(Drop)]
+pub struct Remains<P: LocalPiece> {
+    pub regions: Vec<Vec<Plex<P>>>,
+    pub log: LogLeft<P>,
+}
+
 /// The public regions of a group's disks, so far as they are apart from the fronts: the pieces that no volume has, and the
 /// volumes that run, by their names.
 #[derive(Drop)]
 pub struct Public<P: LocalPiece> {
     pub pool: Pool<P>,
-    /// Pieces that were taken for a volume which was not started, and for which the pool has had no room.
-    pub left: Vec<VolumePieces<P>>,
+    /// What could not be put back into the pool.
+    pub left: Vec<Remains<P>>,
     pub running: BTreeMap<Name, Running<P>>,
 }
 

@@ -1,0 +1,10 @@
+mod Counts
+mod Early
+mod Fits
+mod Forms
+mod NoLogs
+mod Rises
+mod Same
+mod Starts
+mod Stills
+mod Unstarted

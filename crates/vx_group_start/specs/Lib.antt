@@ -1,0 +1,5 @@
+pub mod Fresh
+pub mod Logs
+pub mod Refused
+pub mod Started
+pub mod Steps

@@ -89,7 +89,13 @@ pub record IsRunOf (device start count : ℕ) (p : Seen) : Type 0 where
   pub start_is : p.start ≡ start
   pub count_is : p.sectors ≡ count
 
--- the piece is that one, or a longer one that begins with it: it has its stop, and tells nothing where that does not
+-- what a longer piece tells, of the first so many sectors of which this was told: the same, or nothing at all
+abbrev pub TellsFront : ℕ → Option Contents → Option Contents → Type 0
+TellsFront n None whole = whole ≡ None
+TellsFront n (Some front) None = Unit {0}
+TellsFront n (Some front) (Some whole) = (k : ℕ) → k < n → whole k ≡ front k
+
+-- the piece is that one, or a longer one that begins with it: it has its stop, and tells of its sectors what it does, or nothing
 pub record IsLonger (front whole : Seen) : Type 0 where
   pub stop : whole.stop ≡ front.stop
-  pub told : front.told ≡ None → whole.told ≡ None
+  pub told : TellsFront front.sectors front.told whole.told

@@ -15,7 +15,7 @@ use Rattle.vx_fronts.specs.Fronts.{whole_told, with_device, whole_disk}
 use Rattle.vx_fronts.specs.Rests.{sector_in, is_of, rest_in, rests_of, untold, IsTelling, AllTell}
 use Rattle.vx_fronts.specs.Parted.{AreParted, AreSameWhole, HasDevice, IsFront, IsOfSome, IsSameDisk, Reparts, fronts_of}
 use Rattle.vx_fronts.proofs.Sectors.{none_counted, other_lacks, own_told, sector_none, sector_same, sector_skip, self, tell_same}
-use Rattle.vx_fronts.proofs.Parted.{IsIn, all_at, all_by, all_fronts, all_onto, all_parts, any_onto, front_alone, front_at, fronts_have, few_fronts, own_kept, parted_once, tell_back}
+use Rattle.vx_fronts.proofs.Parted.{IsIn, all_at, all_by, all_fronts, all_onto, all_parts, any_onto, front_alone, front_at, fronts_have, few_fronts, own_kept, parted_once, tell_back, tells_back}
 
 -- ---- a device out of all pieces of it
 
@@ -296,7 +296,7 @@ module _ (lent : List Seen) (hs bs : List DiskSeen) (still still' : List Seen) (
     own = own_new;
     some = some_new;
     tell = λ tells'.
-        let tells = tell_back IsSameDisk (λ a b is. is.tell) hs bs re.disks tells' in
+        let tells = tell_back IsSameDisk (λ a b is. tells_back 2048 a.seen.told b.seen.told is.told) hs bs re.disks tells' in
         All-append IsTelling still' lent ((all_parts IsTelling (fronts_of bs) still' (tell_new tells)).1) ((all_parts IsTelling still lent (parted.tell tells)).1);
   }
 

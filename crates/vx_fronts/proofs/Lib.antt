@@ -8,3 +8,4 @@ pub mod Parted
 pub mod Devices
 pub mod Steps
 pub mod Joined
+pub mod Alive

@@ -6,7 +6,7 @@ use Rattle.std.proofs.lemmas.List.Sums.{sum_by-cons, sum_by-append, get_or-le-su
 use Rattle.std.proofs.lemmas.List.Elements.{All-nil, All-cons, All-head, All-tail, All-append, All-weaker}
 use Rattle.vx_base.specs.Blocks.{Contents}
 use Rattle.vx_piece.specs.Seen.{Seen}
-use Rattle.vx_carve.specs.Together.{covers_at, covers, has_at, has, owners, HasSome, IsFree, AreOnce, SameSectors}
+use Rattle.vx_carve.specs.Together.{covers_at, covers, has_at, has, owners, HasSome, IsFree, AreOnce, SameSectors, TellsFront}
 use Rattle.vx_copies.specs.Lists.{Each, AllOf, AnyOf}
 use Rattle.vx_copies.specs.Disks.{DiskSeen, CommitGoes, Offers}
 use Rattle.vx_copies.proofs.StepLaws.{each_map}
@@ -261,6 +261,11 @@ record IsAlike (old new : DiskSeen) : Type 0 where
   start : new.seen.start ≡ old.seen.start
   sectors : new.seen.sectors ≡ old.seen.sectors
   tell : IsTelling new.seen → IsTelling old.seen
+
+-- what tells of a piece that begins with another, that one tells
+pub tells_back : (n : ℕ) (o u : Option Contents) → TellsFront n o u → is_some u ≡ true → is_some o ≡ true
+tells_back n None u e some = let no : ⊥ = cc in absurd no
+tells_back n (Some c) u front some = refl
 
 pub tell_back : (R : DiskSeen → DiskSeen → Type 0) → ((a b : DiskSeen) → R a b → IsTelling b.seen → IsTelling a.seen) → (hs bs : List DiskSeen) → Each R hs bs → AllTell (fronts_of bs) → AllTell (fronts_of hs)
 tell_back R f [] [] each tells = tells

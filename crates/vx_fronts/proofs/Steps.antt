@@ -1,14 +1,16 @@
 -- Disks that are parted otherwise, one after the other.
-use Rattle.std.proofs.Common.{◌≡◌, ◌∙◌, inl, inr, ℕ, ◌+◌, ◌<◌, ◌≤◌, true, List, [], ◌∷◌, ◌++◌, map, reverse, Option, Some, None, refl, sym, ap, subst, append_assoc, arith}
-use Rattle.std.specs.Prelude.{is_some, Result, Ok, Err, OnOk}
+use Rattle.std.proofs.Common.{◌≡◌, ◌∙◌, inl, inr, ℕ, ◌+◌, ◌<◌, ◌≤◌, List, [], ◌∷◌, ◌++◌, map, reverse, Option, Some, None, refl, sym, ap, subst, append_assoc, arith}
+use Rattle.std.specs.Prelude.{Result, Ok, Err, OnOk}
 use Rattle.std.specs.List.{sum_by}
+use Rattle.std.proofs.lemmas.Bool.{cond-true, lt-ltb}
 use Rattle.std.proofs.lemmas.List.{append-nil, map-append, reverse-append, reverse-reverse}
 use Rattle.std.proofs.lemmas.List.Sums.{sum_by-cons, sum_by-append}
 use Rattle.std.proofs.lemmas.List.Elements.{All-head}
 use Rattle.vx_base.specs.Blocks.{Contents}
 use Rattle.vx_piece.specs.Seen.{Seen, AreCounts, EndsThere, IsSplit}
 use Rattle.vx_piece.specs.Told.{front_told}
-use Rattle.vx_carve.specs.Together.{has_at, has, HasSome, SameSectors}
+use Rattle.vx_carve.specs.Together.{has_at, has, HasSome, SameSectors, TellsFront}
+use Rattle.vx_carve.proofs.Again.{tells_self}
 use Rattle.vx_carve.proofs.Same.{same_refl, same_trans, same_beside, same_cut}
 use Rattle.vx_carve.proofs.Swaps.{same_behind, same_swapped}
 use Rattle.vx_copies.specs.Lists.{Each, AllOf}
@@ -24,8 +26,18 @@ use Rattle.vx_fronts.proofs.Devices.{parted_new, same_whole}
 
 -- ---- one disk
 
+tells_after : (n : ℕ) (o u v : Option Contents) → TellsFront n o u → TellsFront n u v → TellsFront n o v
+tells_after n None u v e front = by u e front
+  where
+    by : (u : Option Contents) → u ≡ None → TellsFront n u v → v ≡ None
+    by None e front = front
+    by (Some c) e front = let no : ⊥ = cc in absurd no
+tells_after n (Some c) None v front e = subst (TellsFront n (Some c)) (sym e) tt
+tells_after n (Some c) (Some d) None front later = tt
+tells_after n (Some c) (Some d) (Some b) front later = λ k lt. later k lt ∙ front k lt
+
 same_disk : (h : DiskSeen) → IsSameDisk h h
-same_disk h = record { name = refl; device = refl; slot = refl; size = refl; good = refl; half = refl; number = refl; start = refl; stop = refl; private = λ p. p; tell = λ t. t }
+same_disk h = record { name = refl; device = refl; slot = refl; size = refl; good = refl; half = refl; number = refl; start = refl; stop = refl; private = λ p. p; told = tells_self 2048 h.seen.told }
 
 same_after : (a b c : DiskSeen) → IsSameDisk a b → IsSameDisk b c → IsSameDisk a c
 same_after a b c p q = record {
@@ -39,13 +51,13 @@ same_after a b c p q = record {
   start = q.start ∙ p.start;
   stop = q.stop ∙ p.stop;
   private = λ le. q.private (p.private le);
-  tell = λ t. p.tell (q.tell t);
+  told = tells_after 2048 a.seen.told b.seen.told c.seen.told p.told q.told;
 }
 
--- the part in front tells nothing where the piece did not
-front_tells : (n : ℕ) (o u : Option Contents) → u ≡ front_told n o → is_some u ≡ true → is_some o ≡ true
-front_tells n None u e some = let no : ⊥ = cc in absurd no
-front_tells n (Some c) u e some = refl
+-- the part in front tells of itself what the piece did
+tells_part : (n : ℕ) (o u : Option Contents) → u ≡ front_told n o → TellsFront n o u
+tells_part n None u e = e
+tells_part n (Some c) u e = subst (TellsFront n (Some c)) (sym e) (λ k lt. cond-true _ _ _ (lt-ltb k n lt))
 
 -- a disk is parted, and the part behind is put in
 pub opened_one : (h : DiskSeen) (x y : Seen) (still still' : List Seen) → 2048 < h.seen.sectors → IsSplit 2048 h.seen x y → SameSectors (y ∷ still) still' → RepartsOne h (record h { seen = x }) still still'
@@ -61,7 +73,7 @@ opened_one h x y still still' long cut put = record {
     start = cut.starts.0;
     stop = cut.stops.0;
     private = λ le. (let size = cut.sizes.0 in omega (arith, size));
-    tell = front_tells 2048 h.seen.told x.told cut.front;
+    told = tells_part 2048 h.seen.told x.told cut.front;
   };
   pieces = same_trans _ _ _ (same_beside still (h.seen ∷ []) (x ∷ y ∷ []) (same_cut 2048 h.seen x y (omega arith) long cut)) (same_behind x (y ∷ still) still' put);
 }

@@ -2,10 +2,10 @@
 use Rattle.std.specs.Prelude.{◌≡◌, ℕ, ◌-◌, ◌≤◌, List, ◌∷◌, ◌++◌, map}
 use Rattle.std.specs.List.{All}
 use Rattle.vx_piece.specs.Seen.{Seen}
-use Rattle.vx_carve.specs.Together.{AreOnce, HasSome, IsFree, SameSectors, has_at, owners}
+use Rattle.vx_carve.specs.Together.{AreOnce, HasSome, IsFree, SameSectors, TellsFront, has_at, owners}
 use Rattle.vx_copies.specs.Disks.{DiskSeen}
 use Rattle.vx_copies.specs.Lists.{AllOf, AnyOf, Each}
-use Rattle.vx_fronts.specs.Rests.{AllTell, IsTelling, rests_of, untold}
+use Rattle.vx_fronts.specs.Rests.{AllTell, rests_of, untold}
 use Rattle.vx_fronts.specs.Laws.{whole_disks}
 
 -- the piece begins its device, and has its private region
@@ -54,9 +54,9 @@ pub record IsSameDisk (old new : DiskSeen) : Type 0 where
   pub number : new.seen.device ≡ old.seen.device
   pub start : new.seen.start ≡ old.seen.start
   pub stop : new.seen.stop ≡ old.seen.stop
-  -- it has the private region still, and tells nothing where the other did not
+  -- it has the private region still, and tells of it what the other did, or nothing
   pub private : 2048 ≤ old.seen.sectors → 2048 ≤ new.seen.sectors
-  pub tell : IsTelling new.seen → IsTelling old.seen
+  pub told : TellsFront 2048 old.seen.told new.seen.told
 
 -- the front begins its device, is not longer than that, and all sectors behind it are in one of the pieces, each once
 pub record IsJoinable (h : DiskSeen) (still : List Seen) : Type 0 where

@@ -1,6 +1,6 @@
 ghost use Rattle.std.specs.Prelude.{◌≡◌, List, [], ◌++◌, map, IfOk, IfErr, OnOk};
 ghost use Rattle.vx_piece.specs.Seen.{AreCounts, EndsThere, Seen};
-ghost use Rattle.vx_confdb.specs.Groups.{members};
+ghost use Rattle.vx_confdb.specs.Groups.{IsGroup, members};
 ghost use Rattle.vx_copies.specs.Disks.{disk_seen};
 ghost use Rattle.vx_copies.specs.Lists.{AllOf};
 ghost use Rattle.vx_fronts.specs.Forms.{HasForm};
@@ -31,6 +31,7 @@ pub fn open_group<P: Piece + Drop>(
     pool: &mut Pool<P>,
 ) -> Result<(), OutOfMemory>
     ensures group { group.new ≡ record group.old { disks = group.new.disks } }
+    ensures alive { IsGroup P.seen group.old → IsGroup P.seen group.new }
     ensures same { (lent : List Seen) → AreParted (members P.seen group.old) (map P.seen pool.old.items.items ++ lent) →
         AreSameWhole lent (members P.seen group.old) (members P.seen group.new) (map P.seen pool.old.items.items) (map P.seen pool.new.items.items) }
     ensures opened { OnOk result (AllOf IsCutShort (members P.seen group.new)) }
@@ -51,6 +52,7 @@ pub fn close_group<P: Piece + Drop>(
 ) -> Result<(), OutOfMemory>
     requires parted { AreParted (members P.seen group.old) (map P.seen pool.old.items.items) }
     ensures group { group.new ≡ record group.old { disks = group.new.disks } }
+    ensures alive { IsGroup P.seen group.old → IsGroup P.seen group.new }
     ensures same { AreSameWhole [] (members P.seen group.old) (members P.seen group.new) (map P.seen pool.old.items.items) (map P.seen pool.new.items.items) }
     ensures closed { OnOk result (AllOf IsWhole (members P.seen group.new)) }
     ensures empty { OnOk result (pool.new.items.items ≡ []) }

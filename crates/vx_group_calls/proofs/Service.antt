@@ -27,7 +27,7 @@ use Rattle.vx_volume.specs.declared.fault.IoFault.TheVariants.{Fault, PowerLost,
 use Rattle.vx_volume.specs.declared.receipt.Receipt.{Receipt}
 use Rattle.vx_volume.specs.declared.volume.Volume.{Volume}
 use Rattle.vx_volume.specs.Calls.{CallsParts, IsRead, IsWritten, ReadEnds, WriteEndsAll, called, parts_in}
-use Rattle.vx_volume.specs.Log.{LogGoes}
+use Rattle.vx_volume.specs.Log.{LogGoes, log_kept}
 use Rattle.vx_volume.specs.Volume.{IsVolume, VolumeSeen, log_of, region_at, volume_seen}
 use Rattle.vx_volume_pieces.specs.Pieces.{all_pieces}
 use Rattle.vx_lending.specs.Going.{GoTogether}
@@ -37,12 +37,12 @@ use Rattle.vx_lending.proofs.Goings.{each_goes}
 use Rattle.vx_volume_lives.specs.Laws.{EachReadRunsOn, EachWriteRunsOn, RunsOn}
 use Rattle.vx_volume_lives.specs.Telling.{TellsEntries}
 use Rattle.vx_group_calls.specs.declared.served.Served.{Served}
-use Rattle.vx_group_calls.specs.Causes.{AreCutWhereDead, ServedHasCause}
+use Rattle.vx_group_calls.specs.Causes.{AreCutWhereDead, FailuresAreCounted, ServedHasCause}
 use Rattle.vx_group_calls.specs.Ending.{EndsAs, IsReadServed, IsWriteServed, device_of}
 use Rattle.vx_group_calls.specs.Serving.{LivesOn, ServesVolume, Tells}
 use Rattle.vx_group_calls.proofs.Failures.{read_calling, write_calling}
 use Rattle.vx_group_calls.proofs.HeldPieces.{SumRose, cell_cut, cell_rose, cells_stay, cut_first, cut_then, each_beside, log_stays, plex_rose, sum_rose, sums_grow}
-use Rattle.vx_group_calls.proofs.Keeping.{FailedIn, HasGone, IsCalling, SomeRegionCut, made_fault, made_lost, parts_gone}
+use Rattle.vx_group_calls.proofs.Keeping.{gone_same, FailedIn, HasGone, IsCalling, SomeRegionCut, made_fault, made_lost, parts_gone}
 use Rattle.vx_group_calls.proofs.LogFaults.{beside_first, beside_then, log_cut, log_rose}
 use Rattle.vx_group_calls.proofs.Tellings.{IsCallOf, call_tells, data_call, fill_call, outside, read_call}
 
@@ -115,6 +115,7 @@ pub record HasServed {P : Type 0} {ghosts : Ghosts P} (served : Served) (old new
   pub stays : EachPiece Keeps (held_pieces ghosts.seen old) (held_pieces ghosts.seen new)
   pub goes : GoTogether (held_pieces ghosts.seen old) (held_pieces ghosts.seen new)
   pub cause : ServedHasCause ghosts.seen served old new
+  pub counted : FailuresAreCounted ghosts.seen old new
   pub dead : AreCutWhereDead (volume_seen ghosts.seen old) → AreCutWhereDead (volume_seen ghosts.seen new)
 
 module _ {P : Type 0} {ghosts : Ghosts P} (old new : Volume P ghosts) (follows : LogGoes ghosts.seen (log_of old) (log_of new)) where
@@ -135,6 +136,12 @@ module _ {P : Type 0} {ghosts : Ghosts P} (old new : Volume P ghosts) (follows :
 
   rose_on : (device : ℕ) → SumRose (sum_by (faults_of device) (held_pieces ghosts.seen old)) (sum_by (faults_of device) (held_pieces ghosts.seen new)) → Rose (faults_on device (held_pieces ghosts.seen old)) (faults_on device (held_pieces ghosts.seen new))
   rose_on device rose = clipped _ _ rose
+
+  counted_on : HasGone was now → FailuresAreCounted ghosts.seen old new
+  counted_on gone r map piece device inside rose =
+      let cells = sum_rose device (cells_of was) (cells_of now) (kept_cells was now gone)
+      (cell_rose device was.cells now.cells r inside gone.kept.count gone.kept.plexes (plex_rose map piece device _ _ (gone.kept.plexes r inside) rose)) in
+      rose_on device (beside_first device (cells_of was) (cells_of now) (log_pieces ghosts.seen (log_of old)) (log_pieces ghosts.seen (log_of new)) cells kept_log)
 
   failed_on : (place : Place) (gone : HasGone (called was) now) → FailedIn place (called was) now → Rose (faults_on (device_of place) (held_pieces ghosts.seen old)) (faults_on (device_of place) (held_pieces ghosts.seen new))
   failed_on (Data map piece device) gone failed =
@@ -162,6 +169,10 @@ module _ {P : Type 0} {ghosts : Ghosts P} (old new : Volume P ghosts) (follows :
     all_gone : (result : Result (Unit {0}) IoFault) → CallsParts Way start was now result before after → HasGone (called was) now
     all_gone result made = parts_gone Way way start before.count after.blocks.items (parts_in was.region start before.count) _ _ _ made.made
 
+    -- the volume as a call begins has the cells and the log of the volume
+    begun_gone : HasGone (called was) now → HasGone was now
+    begun_gone gone = record { kept = record { count = gone.kept.count; plexes = gone.kept.plexes; log = gone.kept.log }; cut = gone.cut }
+
     caused : (result : Result (Unit {0}) IoFault) → CallsParts Way start was now result before after → EndsAs result parts printed served → ServedHasCause ghosts.seen served old new
     caused (Ok u) made ends = subst (λ (s : Served). ServedHasCause ghosts.seen s old new) (sym ends) tt
     caused (Err Range) made ends = absurd ends
@@ -176,7 +187,7 @@ module _ {P : Type 0} {ghosts : Ghosts P} (old new : Volume P ghosts) (follows :
     has_served result made ends =
         let gone = all_gone result made in
         let stays : EachPiece Keeps (held_pieces ghosts.seen old) (held_pieces ghosts.seen new) = each_beside (cells_of was) (cells_of now) (log_pieces ghosts.seen (log_of old)) (log_pieces ghosts.seen (log_of new)) (kept_cells (called was) now gone) kept_log in
-        record { stays = stays; goes = each_goes (held_pieces ghosts.seen old) (held_pieces ghosts.seen new) stays; cause = caused result made ends; dead = gone.cut }
+        record { stays = stays; goes = each_goes (held_pieces ghosts.seen old) (held_pieces ghosts.seen new) stays; cause = caused result made ends; counted = counted_on (begun_gone gone); dead = gone.cut }
 
   pub read_leaves : (start count : ℕ) (served : Served) → IsReadServed start count served was now → HasServed served old new
   read_leaves start count served s =
@@ -192,6 +203,9 @@ pub each_same : (ps : List Seen) → EachPiece Keeps ps ps
 each_same [] = tt
 each_same (p ∷ ps) = (record { device = refl; start = refl; sectors = refl; stop = refl; faults = omega arith; cut = λ h. h }, each_same ps)
 
+pub same_counted : {P : Type 0} {ghosts : Ghosts P} (volume : Volume P ghosts) → FailuresAreCounted ghosts.seen volume volume
+same_counted {ghosts = ghosts} volume = counted_on volume volume (log_kept (log_of volume)) (gone_same (volume_seen ghosts.seen volume))
+
 module _ {P : Type 0} {ghosts : Ghosts P} {E : Type 0} (old new : Volume P ghosts) where
   pub stays_by : (result : Result Served E) → OnErr result (new ≡ old) → IfOk result (λ s. HasServed s old new) → EachPiece Keeps (held_pieces ghosts.seen old) (held_pieces ghosts.seen new)
   stays_by (Ok s) refused served = served.stays
@@ -202,6 +216,10 @@ module _ {P : Type 0} {ghosts : Ghosts P} {E : Type 0} (old new : Volume P ghost
 
   pub cause_by : (result : Result Served E) → IfOk result (λ s. HasServed s old new) → IfOk result (λ s. ServedHasCause ghosts.seen s old new)
   cause_by result served = IfOk-weaker result (λ s. HasServed s old new) (λ s. ServedHasCause ghosts.seen s old new) (λ s h. h.cause) served
+
+  pub counted_by : (result : Result Served E) → OnErr result (new ≡ old) → IfOk result (λ s. HasServed s old new) → FailuresAreCounted ghosts.seen old new
+  counted_by (Ok s) refused served = served.counted
+  counted_by (Err e) refused served = subst (λ v. FailuresAreCounted ghosts.seen old v) (sym refused) (same_counted old)
 
   pub dead_by : (result : Result Served E) → OnErr result (new ≡ old) → IfOk result (λ s. HasServed s old new) → AreCutWhereDead (volume_seen ghosts.seen old) → AreCutWhereDead (volume_seen ghosts.seen new)
   dead_by (Ok s) refused served = served.dead

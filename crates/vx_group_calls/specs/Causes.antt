@@ -6,6 +6,7 @@ use Rattle.vx_carve.specs.Together.{faults_on}
 use Rattle.vx_piece.specs.Seen.{Seen}
 use Rattle.vx_runs.specs.Run.{SomeCut}
 use Rattle.vx_pages.specs.declared.local_piece.LocalPiece.{Ghosts}
+use Rattle.vx_cell.specs.Plexes.{RoseAt}
 use Rattle.vx_cell.specs.Region.{IsCut}
 use Rattle.vx_volume.specs.Volume.{VolumeSeen, cell_at, region_at, volume_seen}
 use Rattle.vx_volume.specs.declared.volume.Volume.{Volume}
@@ -23,3 +24,9 @@ abbrev pub ServedHasCause : {P : Type 0} {ghosts : Ghosts P} → (P → Seen) �
 ServedHasCause see (Done parts blocks) old new = Unit {0}
 ServedHasCause see (Fault device parts) old new = Rose (faults_on device (held_pieces see old)) (faults_on device (held_pieces see new))
 ServedHasCause see (Lost parts) old new = AreCutWhereDead (volume_seen see old) → SomeCut (held_pieces see new)
+
+-- Where the count of a piece of a plex rose in some region, that of its device did among all pieces of the volume.
+abbrev pub FailuresAreCounted : {P : Type 0} {ghosts : Ghosts P} → (P → Seen) → Volume P ghosts → Volume P ghosts → Type 0
+FailuresAreCounted see old new =
+    (r map piece device : ℕ) → r < length (volume_seen see old).cells → RoseAt map piece device (cell_at (volume_seen see old) r).plexes (cell_at (volume_seen see new) r).plexes →
+    Rose (faults_on device (held_pieces see old)) (faults_on device (held_pieces see new))

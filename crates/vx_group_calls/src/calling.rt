@@ -8,7 +8,7 @@ ghost use Rattle.vx_plans.specs.Calls.{start_of, count_of};
 ghost use Rattle.vx_volume.specs.Log.{LogGoes};
 ghost use Rattle.vx_volume.specs.Volume.{IsVolume, log_of, shape_of, volume_seen};
 ghost use Rattle.vx_group_calls.specs.Serving.{IsWithinLimits, ServesCall};
-ghost use Rattle.vx_group_calls.specs.Causes.{AreCutWhereDead, ServedHasCause};
+ghost use Rattle.vx_group_calls.specs.Causes.{AreCutWhereDead, FailuresAreCounted, ServedHasCause};
 ghost use Rattle.vx_group_calls.specs.Ending.{Continues, IsReadServed, IsWriteServed};
 
 use crate::bytes::{bytes_of, filled};
@@ -47,6 +47,7 @@ pub fn serve<P: Piece + Drop>(
     ensures goes { GoTogether (held_pieces P.seen running.old.volume) (held_pieces P.seen running.new.volume) }
     ensures follows { LogGoes P.seen (log_of running.old.volume) (log_of running.new.volume) }
     ensures cause { IfOk result (λ served. ServedHasCause P.seen served running.old.volume running.new.volume) }
+    ensures counted { FailuresAreCounted P.seen running.old.volume running.new.volume }
     ensures dead { AreCutWhereDead (volume_seen P.seen running.old.volume) → AreCutWhereDead (volume_seen P.seen running.new.volume) }
 {
     each_call_runs_on();

@@ -1,7 +1,6 @@
-ghost use Rattle.vx_volume.specs.Calls.{IsNoRange};
-ghost use Rattle.vx_group_calls.specs.Ending.{EndsAs};
 ghost use Rattle.std.specs.Prelude.{◌≡◌};
-ghost use Rattle.vx_group_calls.specs.Ending.{device_of};
+ghost use Rattle.vx_volume.specs.Calls.{IsNoRange};
+ghost use Rattle.vx_group_calls.specs.Ending.{EndsAs, device_of};
 
 use crate::served::Served;
 use vx_answers::{Bytes, Parts};

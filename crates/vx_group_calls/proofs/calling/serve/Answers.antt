@@ -5,11 +5,14 @@ use Rattle.vx_script_forms.specs.declared.call.Call.{Call}
 use Rattle.vx_volume.specs.Volume.{volume_seen}
 use Rattle.vx_group_calls.specs.Serving.{IsWithinLimits, ServesVolume}
 use Rattle.vx_lending.specs.Left.{held_pieces}
-use Rattle.vx_group_calls.proofs.Service.{cause_by, data_serves, dead_by, each_same, fill_serves, goes_by, read_all, read_serves, stays_by, write_all}
+use Rattle.vx_group_calls.proofs.Service.{cause_by, counted_by, same_counted, data_serves, dead_by, each_same, fill_serves, goes_by, read_all, read_serves, stays_by, write_all}
 use Rattle.vx_group_calls.proofs.calling.serve.Goals as goal
 
 pub returns-then-most-gt-MOST_NUMBERS-clause-stays : goal.returns-then-most-gt-MOST_NUMBERS-clause-stays
 returns-then-most-gt-MOST_NUMBERS-clause-stays g c = each_same (held_pieces g.P.Piece.seen c.args.running.now.volume)
+
+pub returns-then-most-gt-MOST_NUMBERS-clause-counted : goal.returns-then-most-gt-MOST_NUMBERS-clause-counted
+returns-then-most-gt-MOST_NUMBERS-clause-counted g c = same_counted c.args.running.now.volume
 
 pub returns-in-Read-clause-served : goal.returns-in-Read-clause-served
 returns-in-Read-clause-served g c =
@@ -22,6 +25,9 @@ returns-in-Read-clause-stays g c = stays_by c.args.running.now.volume c.read_blo
 
 pub returns-in-Read-clause-goes : goal.returns-in-Read-clause-goes
 returns-in-Read-clause-goes g c = goes_by c.args.running.now.volume c.read_blocks.new.volume c.read_blocks.result c.read_blocks.ensures.refused (read_all c.args.running.now.volume c.read_blocks.new.volume c.read_blocks.result c.in-Read.start c.in-Read.count c.read_blocks.ensures.continues.follows c.read_blocks.ensures.served)
+
+pub returns-in-Read-clause-counted : goal.returns-in-Read-clause-counted
+returns-in-Read-clause-counted g c = counted_by c.args.running.now.volume c.read_blocks.new.volume c.read_blocks.result c.read_blocks.ensures.refused (read_all c.args.running.now.volume c.read_blocks.new.volume c.read_blocks.result c.in-Read.start c.in-Read.count c.read_blocks.ensures.continues.follows c.read_blocks.ensures.served)
 
 pub returns-in-Read-clause-cause : goal.returns-in-Read-clause-cause
 returns-in-Read-clause-cause g c = cause_by c.args.running.now.volume c.read_blocks.new.volume c.read_blocks.result (read_all c.args.running.now.volume c.read_blocks.new.volume c.read_blocks.result c.in-Read.start c.in-Read.count c.read_blocks.ensures.continues.follows c.read_blocks.ensures.served)
@@ -41,6 +47,9 @@ returns-in-Fill-clause-stays g c = stays_by c.args.running.now.volume c.fill_blo
 pub returns-in-Fill-clause-goes : goal.returns-in-Fill-clause-goes
 returns-in-Fill-clause-goes g c = goes_by c.args.running.now.volume c.fill_blocks.new.volume c.fill_blocks.result c.fill_blocks.ensures.refused (write_all c.args.running.now.volume c.fill_blocks.new.volume c.fill_blocks.result c.in-Fill.start c.in-Fill.count (replicate (512 * c.in-Fill.count) c.in-Fill.byte) c.fill_blocks.ensures.continues.follows c.fill_blocks.ensures.served)
 
+pub returns-in-Fill-clause-counted : goal.returns-in-Fill-clause-counted
+returns-in-Fill-clause-counted g c = counted_by c.args.running.now.volume c.fill_blocks.new.volume c.fill_blocks.result c.fill_blocks.ensures.refused (write_all c.args.running.now.volume c.fill_blocks.new.volume c.fill_blocks.result c.in-Fill.start c.in-Fill.count (replicate (512 * c.in-Fill.count) c.in-Fill.byte) c.fill_blocks.ensures.continues.follows c.fill_blocks.ensures.served)
+
 pub returns-in-Fill-clause-cause : goal.returns-in-Fill-clause-cause
 returns-in-Fill-clause-cause g c = cause_by c.args.running.now.volume c.fill_blocks.new.volume c.fill_blocks.result (write_all c.args.running.now.volume c.fill_blocks.new.volume c.fill_blocks.result c.in-Fill.start c.in-Fill.count (replicate (512 * c.in-Fill.count) c.in-Fill.byte) c.fill_blocks.ensures.continues.follows c.fill_blocks.ensures.served)
 
@@ -58,6 +67,9 @@ returns-in-Data-clause-stays g c = stays_by c.args.running.now.volume c.write_bl
 
 pub returns-in-Data-clause-goes : goal.returns-in-Data-clause-goes
 returns-in-Data-clause-goes g c = goes_by c.args.running.now.volume c.write_blocks.new.volume c.write_blocks.result c.write_blocks.ensures.refused (write_all c.args.running.now.volume c.write_blocks.new.volume c.write_blocks.result c.in-Data.start (length c.in-Data.blocks / 512) c.in-Data.blocks c.write_blocks.ensures.continues.follows c.write_blocks.ensures.served)
+
+pub returns-in-Data-clause-counted : goal.returns-in-Data-clause-counted
+returns-in-Data-clause-counted g c = counted_by c.args.running.now.volume c.write_blocks.new.volume c.write_blocks.result c.write_blocks.ensures.refused (write_all c.args.running.now.volume c.write_blocks.new.volume c.write_blocks.result c.in-Data.start (length c.in-Data.blocks / 512) c.in-Data.blocks c.write_blocks.ensures.continues.follows c.write_blocks.ensures.served)
 
 pub returns-in-Data-clause-cause : goal.returns-in-Data-clause-cause
 returns-in-Data-clause-cause g c = cause_by c.args.running.now.volume c.write_blocks.new.volume c.write_blocks.result (write_all c.args.running.now.volume c.write_blocks.new.volume c.write_blocks.result c.in-Data.start (length c.in-Data.blocks / 512) c.in-Data.blocks c.write_blocks.ensures.continues.follows c.write_blocks.ensures.served)

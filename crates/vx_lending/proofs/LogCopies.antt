@@ -13,8 +13,7 @@ use Rattle.vx_cut.specs.Same.{HasSome}
 use Rattle.vx_maps.specs.Copies.{IsCopy}
 use Rattle.vx_lending.specs.Taken.{AreLogCopies, AreTakenCopies}
 
--- the pieces of runs have the sectors of the blocks, and none is empty
-pub runs_cover : (numbers : List ℕ) (unit : ℕ) (columns : List (List Strip)) (start end : ℕ) (runs : List Run) (ps : List Seen) → AreRuns unit columns start end runs → ArePieces numbers runs ps → (start + run_sectors ps ≡ end) × All HasSome ps
+runs_cover : (numbers : List ℕ) (unit : ℕ) (columns : List (List Strip)) (start end : ℕ) (runs : List Run) (ps : List Seen) → AreRuns unit columns start end runs → ArePieces numbers runs ps → (start + run_sectors ps ≡ end) × All HasSome ps
 runs_cover numbers unit columns start end [] [] are of = (omega (arith, are), All-nil HasSome)
 runs_cover numbers unit columns start end [] (p ∷ ps) are of = absurd of
 runs_cover numbers unit columns start end (run ∷ runs) [] are of = absurd of

@@ -2,6 +2,7 @@
 use Rattle.std.specs.Prelude.{◌≡◌, ◌++◌, ℕ, Bool, true, List, map}
 use Rattle.vx_base.specs.Counts.{Rose}
 use Rattle.vx_piece.specs.Seen.{Seen}
+use Rattle.vx_carve.specs.declared.pool.Pool.{Pool}
 use Rattle.vx_pages.specs.declared.local_piece.LocalPiece.{Ghosts}
 use Rattle.vx_cell.specs.Changes.{CellSeen}
 use Rattle.vx_cell.specs.Plexes.{PlexSeen}
@@ -44,6 +45,11 @@ IsWholeLeft seen old (Parts cells copies) = ⊥
 abbrev pub IsLeftOf : {P : Type 0} {ghosts : Ghosts P} → (P → Seen) → Volume P ghosts → VolumeLeft P ghosts → Type 0
 IsLeftOf seen old (Whole new) = IsWholeLeft seen old (Whole new)
 IsLeftOf seen old (Parts cells copies) = Unit {0}
+
+-- if all of it is left, then the pool is as it was
+abbrev pub StaysWhole : {P : Type 0} {ghosts : Ghosts P} → VolumeLeft P ghosts → Pool P → Pool P → Type 0
+StaysWhole (Whole new) old now = now ≡ old
+StaysWhole (Parts cells copies) old now = Unit {0}
 
 -- not all of it is left
 abbrev pub AreParts : {P : Type 0} {ghosts : Ghosts P} → VolumeLeft P ghosts → Type 0

@@ -3,7 +3,7 @@ ghost use Rattle.vx_carve.specs.Together.{SameSectors};
 ghost use Rattle.vx_maps.specs.Spares.{copies_seen};
 ghost use Rattle.vx_volume.specs.Volume.{IsVolume, volume_seen};
 ghost use Rattle.vx_volume_pieces.specs.Pieces.{all_pieces, cell_plexes};
-ghost use Rattle.vx_lending.specs.Left.{AreParts, IsLeftOf, IsWholeLeft, held_pieces, left_pieces};
+ghost use Rattle.vx_lending.specs.Left.{AreParts, IsLeftOf, IsWholeLeft, StaysWhole, held_pieces, left_pieces};
 ghost use Rattle.vx_lending.specs.Logs.{log_copies};
 ghost use Rattle.vx_lending.specs.Pieces.{copy_pieces};
 
@@ -28,6 +28,7 @@ pub fn put_volume<P: Piece + Drop>(
     ensures left { IfErr result (λ left. SameSectors (held_pieces P.seen volume ++ map P.seen pool.old.items.items) (left_pieces P.seen left ++ map P.seen pool.new.items.items)) }
     ensures whole { IfErr result (λ left. IsLeftOf P.seen volume left) }
     ensures room { vec_len pool.old.items + length (held_pieces P.seen volume) ≤ vec_capacity pool.old.items → IfErr result (λ left. IsWholeLeft P.seen volume left) }
+    ensures still { IfErr result (λ left. StaysWhole left pool.old pool.new) }
     ensures longer { OnOk result (vec_len pool.new.items ≤ vec_len pool.old.items + length (held_pieces P.seen volume)) }
     ensures capacity { vec_capacity pool.new.items ≡ vec_capacity pool.old.items }
 {

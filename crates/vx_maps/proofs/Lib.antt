@@ -31,3 +31,4 @@ pub mod Sources
 pub mod Steps
 pub mod StoreChanges
 pub mod Together
+pub mod PieceCounts

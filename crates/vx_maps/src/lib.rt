@@ -3,6 +3,7 @@
 
 mod arming;
 mod assembly;
+mod counting;
 mod creating;
 mod cutting;
 mod fault;
@@ -17,5 +18,6 @@ mod showing;
 mod slots;
 mod store;
 
+pub use counting::store_pieces;
 pub use fault::{StoreFault, StoreRefused};
 pub use store::{Base, MapStore};

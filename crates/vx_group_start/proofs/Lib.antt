@@ -1,4 +1,4 @@
-mod Counts
+mod Closings
 mod Early
 mod Fits
 mod Forms

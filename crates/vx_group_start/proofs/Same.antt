@@ -41,7 +41,6 @@ module _ {P : Type 0} {ghosts : Ghosts P} (v : Vol) (numbers : List ℕ) (old wa
         shape = s.shape;
         goes = subst (λ (xs : List Seen). GoTogether xs (held_pieces ghosts.seen running.volume ++ still_pieces ghosts.seen new)) still s.goes;
         others = subst (λ (xs : List Seen). OthersStay numbers (all_layouts running.form) xs (map ghosts.seen new.pool.items.items)) pool s.others;
-        few = s.few;
       }
 
   pub not_started_from : (form : VolumeForm) (fault : StartFault) → IsNotStarted ghosts.seen v numbers form was new fault → IsNotStarted ghosts.seen v numbers form old new fault

@@ -41,7 +41,6 @@ use Rattle.vx_group_start.specs.Logs.{AreStartCopies, IsPassedOver, IsStartLog, 
 use Rattle.vx_group_start.specs.Refused.{IsNotStarted}
 use Rattle.vx_group_start.specs.Started.{IsStarted}
 use Rattle.vx_group_start.specs.Steps.{IsLogOver, IsRefusedOver, RunsOver, StartsOver}
-use Rattle.vx_group_start.proofs.Counts.{few_pieces}
 
 -- ---- the plexes of an opened volume
 
@@ -85,7 +84,6 @@ pub record AreTakenFor (numbers : List ℕ) (ps qs : List Seen) (regions : List 
   pub long : length regions ≡ count_of form.shape
   pub regions_are : AreTakenRegions numbers form.maps.items form.layouts.items form.shape.geometry.length form.shape.geometry.region regions
   pub copies_are : AreTakenCopies numbers form.logs.items (log_sectors form.shape.geometry) copies
-  pub few : length form.logs.items ≤ 2
   pub same : SameSectors ps ((all_pieces regions ++ copy_pieces copies) ++ qs)
   pub others : OthersStay numbers (all_layouts form) ps qs
 
@@ -153,5 +151,4 @@ module _ {P : Type 0} {ghosts : Ghosts P} (v : Vol) (numbers : List ℕ) (old mi
         shape = starts.runs.shape ∙ ap (λ (f : VolumeForm). f.shape) same;
         goes = started_as form taken running starts.runs.form_is over opened;
         others = taken'.others;
-        few = few_pieces numbers (log_sectors running.form.shape.geometry) running.form.logs.items copies _ taken'.few taken'.copies_are over.cut;
       }

@@ -1,3 +1,4 @@
+pub mod Closed
 pub mod Fresh
 pub mod Logs
 pub mod Refused

@@ -1,5 +1,5 @@
 -- How a volume is started out of the pieces of its group.
-use Rattle.std.specs.Prelude.{◌≡◌, ℕ, ◌*◌, ◌≤◌, ◌++◌, List, length, map}
+use Rattle.std.specs.Prelude.{◌≡◌, ℕ, ◌++◌, List, length, map}
 use Rattle.std.specs.List.{All}
 use Rattle.vx_base.specs.Blocks.{Contents}
 use Rattle.vx_piece.specs.Seen.{Seen}
@@ -16,16 +16,11 @@ use Rattle.vx_volume_pieces.specs.Pieces.{all_pieces}
 use Rattle.vx_volume_pieces.specs.Taken.{AreTakenRegions}
 use Rattle.vx_lending.specs.Going.{GoTogether}
 use Rattle.vx_lending.specs.Left.{held_pieces}
-use Rattle.vx_lending.specs.Logs.{log_pieces}
-use Rattle.vx_lending.specs.Taken.{OthersStay, log_sectors}
+use Rattle.vx_lending.specs.Taken.{OthersStay}
 use Rattle.vx_running.specs.declared.public.Public.{Public}
 use Rattle.vx_running.specs.declared.public.Running.{Running}
 use Rattle.vx_running.specs.Public.{still_pieces}
 use Rattle.vx_group_start.specs.Logs.{IsStartLog}
-
--- the log has no more pieces than there are sectors in two copies of it
-abbrev pub HasFewPieces : {P : Type 0} {ghosts : Ghosts P} → (P → Seen) → Running P ghosts → Type 0
-HasFewPieces seen running = length (log_pieces seen (log_of running.volume)) ≤ 2 * log_sectors running.form.shape.geometry
 
 -- The volume was opened with its form over regions and a log that were taken out of the pieces. No call was made on those of the regions,
 -- nor on those that lie still; all pieces have together each sector as often; and the plexes of other layouts are in the pool as before.
@@ -40,4 +35,3 @@ pub record IsStarted {P : Type 0} {ghosts : Ghosts P} (seen : P → Seen) (v : V
   pub shape : shape_of running.volume ≡ running.form.shape
   pub goes : GoTogether (still_pieces seen old) (held_pieces seen running.volume ++ still_pieces seen new)
   pub others : OthersStay numbers (all_layouts running.form) (map seen old.pool.items.items) (map seen new.pool.items.items)
-  pub few : HasFewPieces seen running

@@ -1,11 +1,13 @@
 //! A volume of a disk group is started out of the pool of its group's pieces, and put back.
 #![tactic(auto)]
 
+mod closing;
 mod fault;
 mod logs;
 mod opening;
 mod remains;
 
+pub use closing::close_volume;
 pub use fault::StartFault;
 pub use logs::{is_fresh, mask_to_copy};
 pub use opening::open_volume;

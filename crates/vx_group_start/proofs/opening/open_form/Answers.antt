@@ -28,7 +28,6 @@ returns-in-Ok-clause-started g c =
       long = length-map c.in-Ok.pieces.regions.items (λ plexes. plexes_seen g.P.Piece.seen plexes.items) ∙ c.in-Ok.ensures.long;
       regions_are = c.in-Ok.ensures.regions;
       copies_are = c.in-Ok.ensures.copies;
-      few = c.requires.few;
       same = c.in-Ok.ensures.taken;
       others = c.in-Ok.ensures.others;
     } in
@@ -45,7 +44,6 @@ returns-in-Ok-clause-refused g c =
       long = length-map c.in-Ok.pieces.regions.items (λ plexes. plexes_seen g.P.Piece.seen plexes.items) ∙ c.in-Ok.ensures.long;
       regions_are = c.in-Ok.ensures.regions;
       copies_are = c.in-Ok.ensures.copies;
-      few = c.requires.few;
       same = c.in-Ok.ensures.taken;
       others = c.in-Ok.ensures.others;
     } in

@@ -3,6 +3,7 @@
 #![tactic(auto)]
 
 mod calls;
+mod cells;
 mod fault;
 pub mod laws;
 mod log;

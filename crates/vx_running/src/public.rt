@@ -43,6 +43,7 @@ impl<P: Piece + Drop> Public<P> {
     pub fn new(alloc: Global) -> Public<P>
         ensures still { still_pieces P.seen result ≡ [] }
         ensures lent { lent_pieces P.seen result ≡ [] }
+        ensures left { result.left.items ≡ [] }
         ensures running { result.running.entries ≡ [] }
     {
         Public {

@@ -1,6 +1,5 @@
 -- A volume that is as another has its pieces.
-use Rattle.std.proofs.Common.{◌≡◌, ◌++◌, List, ◌∙◌, ap}
-use Rattle.vx_piece.specs.Seen.{Seen}
+use Rattle.std.proofs.Common.{◌≡◌, ◌++◌, ◌∙◌, ap}
 use Rattle.vx_pages.specs.declared.local_piece.LocalPiece.{Ghosts}
 use Rattle.vx_volume.specs.declared.log.VolumeLog.{VolumeLog}
 use Rattle.vx_volume.specs.declared.volume.Volume.{Volume}

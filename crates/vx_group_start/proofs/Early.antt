@@ -1,29 +1,26 @@
 -- A volume that is refused before anything is touched.
-use Rattle.std.proofs.Common.{◌≡◌, ℕ, zero, suc, ◌<◌, Bool, true, false, List, [], length, Option, Some, None, refl, sym, ap, ◌∙◌, subst, arith}
+use Rattle.std.proofs.Common.{◌≡◌, ℕ, zero, suc, ◌<◌, Bool, true, false, List, [], length, None, refl, sym, ap, ◌∙◌, subst, arith}
 use Rattle.std.specs.Prelude.{is_some, ◌&&◌, nat_lt}
 use Rattle.std.specs.List.{All}
 use Rattle.std.proofs.lemmas.Bool.{and_parts, false≢true}
-use Rattle.std.proofs.lemmas.Bool.Decides.{nat_tests}
 use Rattle.std.proofs.lemmas.List.Elements.{All-nil}
 use Rattle.vx_block.specs.Geometry.{is_region_size}
 use Rattle.vx_block.specs.Regions.{region_count}
 use Rattle.vx_mask.specs.Mask.{has}
 use Rattle.vx_mask.proofs.MaskLemmas.{has-zero}
-use Rattle.vx_base.specs.Blocks.{Contents}
 use Rattle.vx_piece.specs.Seen.{Seen}
 use Rattle.vx_carve.specs.Together.{Holds}
 use Rattle.vx_layout.specs.declared.layout.Layout.{Layout}
 use Rattle.vx_pages.specs.declared.local_piece.LocalPiece.{Ghosts}
 use Rattle.vx_config_parts.specs.declared.vol.Vol.{Vol}
 use Rattle.vx_objects.specs.declared.config.Config.{Config}
-use Rattle.vx_volume.specs.declared.log.VolumeLog.{VolumeLog}
 use Rattle.vx_volume.specs.declared.log.VolumeLog.TheVariants.{Absent}
 use Rattle.vx_volume.specs.declared.volume.VolumeShape.{VolumeShape}
-use Rattle.vx_volume.specs.Log.{absent_log, log_seen}
-use Rattle.vx_volume.specs.Opening.{IsFirstUnread, count_of}
+use Rattle.vx_volume.specs.Log.{absent_log}
+use Rattle.vx_volume.specs.Opening.{IsFirstUnread}
 use Rattle.vx_volume_form.specs.declared.form.VolumeForm.{VolumeForm}
 use Rattle.vx_volume_form.specs.Form.{IsFormOf}
-use Rattle.vx_volume_form.specs.Laws.{HasLogs, IsLogFor}
+use Rattle.vx_volume_form.specs.Laws.{IsLogFor}
 use Rattle.vx_volume_form.specs.Plexes.{IsVolOf}
 use Rattle.vx_volume_form.proofs.Rules.{vol_geometry}
 use Rattle.vx_volume_form.proofs.Rooms.{logs_are}

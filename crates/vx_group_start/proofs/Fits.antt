@@ -2,7 +2,6 @@
 use Rattle.std.proofs.Common.{◌≡◌, ℕ, ◌<◌, Bool, true, false, List, [], ◌∷◌, length, Option, Some, None, refl, sym, ap, ◌∙◌, subst, arith}
 use Rattle.std.specs.Prelude.{is_some, nat_lt}
 use Rattle.std.proofs.lemmas.Bool.Decides.{nat_tests}
-use Rattle.std.specs.Option.{option_map}
 use Rattle.vx_block.specs.Regions.{region_count}
 use Rattle.vx_block.specs.declared.geometry.Geometry.{Geometry}
 use Rattle.vx_mapfmt.specs.declared.shape.DcoShape.{DcoShape}

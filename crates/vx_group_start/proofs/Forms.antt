@@ -1,15 +1,12 @@
 -- What the form of a volume is good for as it is started.
-use Rattle.std.proofs.Common.{◌≡◌, ◌≢◌, ℕ, ◌*◌, ◌/◌, ◌<◌, ◌≤◌, ◌^◌, Bool, true, false, List, [], length, Option, Some, None, refl, sym, ap, ◌∙◌, subst, arith}
+use Rattle.std.proofs.Common.{◌≡◌, ◌≢◌, ℕ, ◌*◌, ◌/◌, ◌<◌, ◌≤◌, ◌^◌, Bool, true, false, List, length, Option, Some, None, refl, sym, ap, ◌∙◌, arith}
 use Rattle.std.specs.Prelude.{is_some, nat_lt, slice_index_or}
-use Rattle.std.specs.List.{All}
 use Rattle.std.proofs.lemmas.Bool.{false≢true}
 use Rattle.std.proofs.lemmas.Bool.Decides.{nat_tests}
 use Rattle.vx_block.specs.Regions.{region_count}
-use Rattle.vx_block.specs.declared.geometry.Geometry.{Geometry}
 use Rattle.vx_mapfmt.specs.Sizes.{map_bytes_of, plex_bytes_of}
 use Rattle.vx_mask.specs.Mask.{lowest}
 use Rattle.vx_mask.proofs.MaskLemmas.{lowest_there}
-use Rattle.vx_piece.specs.Seen.{Seen}
 use Rattle.vx_marks.specs.Log.{LogSeen}
 use Rattle.vx_cell.specs.Plexes.{PlexSeen}
 use Rattle.vx_layout.specs.Columns.{capacity}
@@ -17,7 +14,7 @@ use Rattle.vx_layout.specs.declared.layout.Layout.{Layout}
 use Rattle.vx_config_parts.specs.declared.vol.Vol.{Vol}
 use Rattle.vx_objects.specs.declared.config.Config.{Config}
 use Rattle.vx_volume.specs.declared.volume.VolumeShape.{VolumeShape}
-use Rattle.vx_volume.specs.Opening.{AreOpenable, AreVolumeMasks, count_of}
+use Rattle.vx_volume.specs.Opening.{AreOpenable, count_of}
 use Rattle.vx_volume_form.specs.declared.form.VolumeForm.{VolumeForm}
 use Rattle.vx_volume_form.specs.Form.{IsFormOf}
 use Rattle.vx_volume_form.specs.Laws.{HasLogs, HasOn, IsLogFor}
@@ -25,7 +22,7 @@ use Rattle.vx_volume_form.specs.Plexes.{IsVolOf}
 use Rattle.vx_volume_form.proofs.Bits.{maps, masks}
 use Rattle.vx_volume_pieces.specs.Taken.{AreTakenRegions}
 use Rattle.vx_volume_pieces.proofs.Openable.{regions_open}
-use Rattle.vx_lending.specs.Taken.{HaveBlocks, log_sectors, slot_of}
+use Rattle.vx_lending.specs.Taken.{HaveBlocks, log_sectors}
 
 -- ---- room for the log
 

@@ -3,6 +3,7 @@ mod Early
 mod Fits
 mod Forms
 mod NoLogs
+mod Passes
 mod Rises
 mod Same
 mod Starts

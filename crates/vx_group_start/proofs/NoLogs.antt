@@ -1,12 +1,8 @@
 -- Why there is no log, by all pieces of its copies.
-use Rattle.std.proofs.Common.{◌≡◌, ℕ, ◌<◌, List, length, inl, inr}
-use Rattle.std.specs.Prelude.{◌⊎◌}
-use Rattle.vx_base.specs.Counts.{Rose}
+use Rattle.std.proofs.Common.{ℕ, ◌<◌, List, length, inl, inr}
 use Rattle.vx_piece.specs.Seen.{Seen}
-use Rattle.vx_runs.specs.Run.{RunTells, run_contents}
 use Rattle.vx_pages.specs.Sector.{KeepsPiece}
 use Rattle.vx_pages.specs.declared.local_piece.LocalPiece.{Ghosts}
-use Rattle.vx_carve.specs.Together.{SameSectors}
 use Rattle.vx_maps.specs.Creating.{copies_cut}
 use Rattle.vx_maps.specs.Going.{CutCopiesGo}
 use Rattle.vx_maps.specs.Loading.{IsNotLoaded, IsPassed, copy_at}

@@ -6,7 +6,7 @@ use Rattle.std.proofs.lemmas.List.Sums.{sum_by-append, sum_by-cons}
 use Rattle.vx_base.specs.Counts.{Rose}
 use Rattle.vx_piece.specs.Seen.{Seen}
 use Rattle.vx_runs.specs.Run.{EachPiece}
-use Rattle.vx_carve.specs.Together.{SameSectors, cut_of, cut_on, faults_of, faults_on}
+use Rattle.vx_carve.specs.Together.{SameSectors, cut_of, faults_of, faults_on}
 use Rattle.vx_cut.specs.Same.{SameRun}
 use Rattle.vx_pages.specs.Sector.{KeepsPiece}
 use Rattle.vx_maps.specs.Copies.{SameRuns}

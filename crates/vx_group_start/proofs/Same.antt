@@ -1,5 +1,5 @@
 -- What was told of the pieces before a start is told of the same pieces.
-use Rattle.std.proofs.Common.{◌≡◌, ℕ, ◌++◌, List, map, refl, ap, ◌∙◌, subst}
+use Rattle.std.proofs.Common.{◌≡◌, ℕ, ◌++◌, List, map, subst}
 use Rattle.std.specs.List.{All}
 use Rattle.vx_base.specs.Blocks.{Contents}
 use Rattle.vx_base.specs.Counts.{Rose}

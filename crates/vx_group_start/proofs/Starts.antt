@@ -1,6 +1,6 @@
 -- A volume that was opened over pieces that were taken is started.
-use Rattle.std.proofs.Common.{◌≡◌, ℕ, zero, suc, ◌<◌, ◌≤◌, ◌*◌, List, [], ◌∷◌, ◌++◌, length, map, Result, Ok, Err, refl, sym, ap, ◌∙◌, subst, arith, append_assoc, inl, inr}
-use Rattle.std.specs.Prelude.{IfOk, nat_lt, is_some, true, ◌⊎◌}
+use Rattle.std.proofs.Common.{◌≡◌, ℕ, zero, suc, ◌<◌, List, [], ◌∷◌, ◌++◌, length, map, Result, Ok, Err, refl, sym, ap, ◌∙◌, subst, arith, append_assoc, inl, inr}
+use Rattle.std.specs.Prelude.{IfOk, nat_lt, is_some, true}
 use Rattle.std.specs.List.{All, flat_map}
 use Rattle.std.proofs.lemmas.Bool.Decides.{nat_tests}
 use Rattle.std.proofs.lemmas.List.Elements.{All-nil, All-cons}
@@ -8,7 +8,7 @@ use Rattle.vx_base.specs.Blocks.{Contents}
 use Rattle.vx_base.specs.Counts.{Rose}
 use Rattle.vx_piece.specs.Seen.{Seen}
 use Rattle.vx_carve.specs.Together.{Holds, SameSectors, faults_on}
-use Rattle.vx_carve.proofs.Same.{same_beside, same_trans}
+use Rattle.vx_carve.proofs.Same.{same_beside}
 use Rattle.vx_cut.proofs.Parts.{all_parts}
 use Rattle.vx_cell.specs.Changes.{CellSeen}
 use Rattle.vx_cell.specs.Plexes.{PlexSeen}
@@ -20,8 +20,8 @@ use Rattle.vx_volume.specs.declared.log.VolumeLog.{VolumeLog}
 use Rattle.vx_volume.specs.declared.volume.VolumeShape.{VolumeShape}
 use Rattle.vx_volume.specs.Log.{log_seen}
 use Rattle.vx_marks.specs.Log.{LogSeen}
-use Rattle.vx_volume.specs.Opening.{AreOpenedCells, IsOpened, IsOpenedCell, count_of}
-use Rattle.vx_volume.specs.Volume.{IsVolume, VolumeSeen, log_of, no_cell, shape_of, volume_seen}
+use Rattle.vx_volume.specs.Opening.{IsOpened, count_of}
+use Rattle.vx_volume.specs.Volume.{VolumeSeen, log_of, no_cell, volume_seen}
 use Rattle.vx_volume_form.specs.declared.form.VolumeForm.{VolumeForm}
 use Rattle.vx_volume_form.specs.Laws.{all_layouts}
 use Rattle.vx_volume_pieces.specs.Pieces.{all_pieces}
@@ -37,10 +37,10 @@ use Rattle.vx_running.specs.declared.public.Running.{Running}
 use Rattle.vx_running.specs.Public.{remaining_pieces, still_pieces}
 use Rattle.vx_group_start.specs.declared.fault.StartFault.{StartFault}
 use Rattle.vx_group_start.specs.declared.fault.StartFault.TheVariants.{OutOfMemory, NoLog, NoCurrent, Failed, PowerLost}
-use Rattle.vx_group_start.specs.Logs.{AreStartCopies, IsPassedOver, IsStartLog, SomeCut}
+use Rattle.vx_group_start.specs.Logs.{AreStartCopies, IsPassedOver, IsStartLog}
 use Rattle.vx_group_start.specs.Refused.{IsNotStarted}
 use Rattle.vx_group_start.specs.Started.{IsStarted}
-use Rattle.vx_group_start.specs.Steps.{IsLogOver, IsRefusedOver, RunsOver, StartsOver}
+use Rattle.vx_group_start.specs.Steps.{IsLogOver, IsRefusedOver, StartsOver}
 
 -- ---- the plexes of an opened volume
 

@@ -1,14 +1,11 @@
 -- Why a volume is not started over pieces that were taken.
-use Rattle.std.proofs.Common.{◌≡◌, ℕ, ◌<◌, ◌++◌, Bool, true, List, length, inl, inr, sym, subst, ◌∙◌}
-use Rattle.std.specs.Prelude.{◌⊎◌}
-use Rattle.vx_base.specs.Counts.{Rose}
+use Rattle.std.proofs.Common.{ℕ, ◌++◌, List, inl, inr}
 use Rattle.vx_piece.specs.Seen.{Seen}
-use Rattle.vx_carve.specs.Together.{SameSectors, faults_on}
+use Rattle.vx_carve.specs.Together.{SameSectors}
 use Rattle.vx_pages.specs.declared.local_piece.LocalPiece.{Ghosts}
 use Rattle.vx_maps.specs.Loading.{copy_at}
 use Rattle.vx_config_parts.specs.declared.vol.Vol.{Vol}
 use Rattle.vx_volume.specs.declared.log.VolumeLog.{VolumeLog}
-use Rattle.vx_volume.specs.declared.volume.VolumeShape.{VolumeShape}
 use Rattle.vx_volume.specs.Log.{log_seen}
 use Rattle.vx_volume_form.specs.declared.form.VolumeForm.{VolumeForm}
 use Rattle.vx_lending.specs.Going.{GoTogether}

@@ -1,4 +1,5 @@
 pub mod Closed
+pub mod Copying
 pub mod Fresh
 pub mod Logs
 pub mod Refused

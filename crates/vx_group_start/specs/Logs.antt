@@ -1,5 +1,5 @@
 -- What the log of a volume that is started is made of.
-use Rattle.std.specs.Prelude.{◌≡◌, ℕ, ◌<◌, ◌⊎◌, Bool, true, false, List, length}
+use Rattle.std.specs.Prelude.{◌≡◌, ℕ, ◌⊎◌, Bool, true, false, List}
 use Rattle.std.specs.List.{All}
 use Rattle.vx_base.specs.Blocks.{Contents}
 use Rattle.vx_base.specs.Counts.{Rose}

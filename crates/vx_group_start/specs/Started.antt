@@ -10,7 +10,6 @@ use Rattle.vx_config_parts.specs.declared.vol.Vol.{Vol}
 use Rattle.vx_volume.specs.Log.{log_seen}
 use Rattle.vx_volume.specs.Opening.{IsOpened, count_of}
 use Rattle.vx_volume.specs.Volume.{IsVolume, log_of, shape_of, volume_seen}
-use Rattle.vx_volume_form.specs.declared.form.VolumeForm.{VolumeForm}
 use Rattle.vx_volume_form.specs.Laws.{all_layouts}
 use Rattle.vx_volume_pieces.specs.Pieces.{all_pieces}
 use Rattle.vx_volume_pieces.specs.Taken.{AreTakenRegions}

@@ -2,12 +2,14 @@
 #![tactic(auto)]
 
 mod closing;
+mod copying;
 mod fault;
 mod logs;
 mod opening;
 mod remains;
 
 pub use closing::close_volume;
+pub use copying::copy_all;
 pub use fault::StartFault;
 pub use logs::{is_fresh, mask_to_copy};
 pub use opening::open_volume;

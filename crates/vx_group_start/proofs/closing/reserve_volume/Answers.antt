@@ -1,5 +1,5 @@
 -- The pieces of the volume are those of its cells and of its log.
-use Rattle.std.proofs.Common.{◌≡◌, ◌+◌, ◌≤◌, List, length, ap, arith, subst, sym}
+use Rattle.std.proofs.Common.{◌+◌, ◌≤◌, List, length, ap, arith, subst, sym}
 use Rattle.std.specs.Prelude.{vec_capacity, vec_len}
 use Rattle.std.proofs.lemmas.List.{length-append}
 use Rattle.vx_piece.specs.Seen.{Seen}

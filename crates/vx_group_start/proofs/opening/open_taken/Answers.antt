@@ -1,5 +1,4 @@
 -- The log is made, and the volume opened over it.
-use Rattle.std.specs.Prelude.{◌++◌, IfErr}
 use Rattle.std.proofs.lemmas.Result.{IfErr-weaker, IfOk-weaker, on_err_weaker}
 use Rattle.vx_maps.specs.Spares.{copies_seen}
 use Rattle.vx_volume.specs.Log.{log_seen}

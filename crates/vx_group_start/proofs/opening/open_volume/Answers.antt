@@ -1,8 +1,7 @@
 -- The form is that of the configuration, and the volume is opened with it.
-use Rattle.std.proofs.Common.{◌≡◌, refl, ap, subst, inl, inr, map, ◌++◌, Bool, List}
+use Rattle.std.proofs.Common.{◌≡◌, refl, ap, subst, inr, map, ◌++◌}
 use Rattle.std.specs.List.{flat_map}
-use Rattle.std.proofs.lemmas.Result.{IfErr-weaker, IfOk-weaker, on_err_weaker}
-use Rattle.vx_piece.specs.Seen.{Seen}
+use Rattle.std.proofs.lemmas.Result.{IfErr-weaker, IfOk-weaker}
 use Rattle.vx_volume_form.specs.Form.{IsFormOf}
 use Rattle.vx_volume_form.proofs.Places.{can_be_taken}
 use Rattle.vx_volume_form.proofs.Rooms.{logs_are}

@@ -2,6 +2,7 @@ mod Closings
 mod Early
 mod Fits
 mod Forms
+mod Missed
 mod NoLogs
 mod Passes
 mod Rises

@@ -4,6 +4,7 @@
 mod closing;
 mod copying;
 mod fault;
+pub mod laws;
 mod logs;
 mod opening;
 mod remains;

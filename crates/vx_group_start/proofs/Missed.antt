@@ -1,0 +1,52 @@
+-- Each region of a volume that was never started has a plex to copy to.
+use Rattle.std.proofs.Common.{◌≡◌, ◌≢◌, ℕ, zero, suc, ◌<◌, ◌==◌, ◌^◌, Bool, true, false, cond, List, [], ◌∷◌, length, refl, sym, ap, ◌∙◌, arith}
+use Rattle.std.specs.Prelude.{◌&&◌, not, nat_lt, count_by}
+use Rattle.std.proofs.lemmas.Bool.{and_from, and_parts, false≢true}
+use Rattle.std.proofs.lemmas.Bool.Decides.{nat_tests}
+use Rattle.std.proofs.lemmas.List.Sums.{sum_by-cons}
+use Rattle.vx_mask.specs.Mask.{has, lowest, only, without}
+use Rattle.vx_mask.proofs.MaskLemmas.{has-lowest, has-without, not_empty, without-lt}
+use Rattle.vx_cell.specs.Changes.{CellSeen}
+use Rattle.vx_pages.specs.Items.{item_at}
+use Rattle.vx_volume.specs.Volume.{no_cell}
+use Rattle.vx_group_start.specs.Copying.{common, misses}
+use Rattle.vx_group_start.specs.Fresh.{maps_to_copy}
+use Rattle.vx_group_start.specs.Laws.{EachFreshRegionIsMissed}
+
+kept : (a b : Bool) → a ≡ true → b ≡ true → (a && not (a && not b)) ≡ true
+kept true true e f = refl
+kept true false e f = absurd (false≢true f)
+kept false b e f = e
+
+has_common : (a b k : ℕ) → has a k ≡ true → has b k ≡ true → has (common a b) k ≡ true
+has_common a b k e f = has-without a (without a b) k ∙ ap (λ (x : Bool). has a k && not x) (has-without a b k) ∙ kept (has a k) (has b k) e f
+
+some_left : (n : ℕ) → n ≢ 0 → not (n == 0) ≡ true
+some_left zero some = absurd (some refl)
+some_left (suc n) some = grind (arith, nat_tests)
+
+below_all : (k n : ℕ) → k < n → nat_lt k n ≡ true
+below_all k n lt = grind (arith, nat_tests)
+
+count_all : (p : CellSeen → Bool) (cells : List CellSeen) → ((i : ℕ) → i < length cells → p (item_at no_cell cells i) ≡ true) → count_by p cells ≡ length cells
+count_all p [] each = refl
+count_all p (x ∷ xs) each =
+    let here : ◌≡◌ {A = ℕ} (cond (p x) 1 0) 1 = ap (λ (b : Bool). cond b 1 0) (each 0 (omega arith)) in
+    let rest = count_all p xs (λ i lt. each (suc i) (omega (arith, lt))) in
+    let sum = sum_by-cons (λ (y : CellSeen). cond (p y) 1 0) x xs in
+    omega (arith, here, rest, sum)
+
+pub fresh_missed : EachFreshRegionIsMissed
+fresh_missed shape log regions v opened long fits low claims some =
+    let mask = maps_to_copy shape in
+    let fits' : mask < 2 ^ 64 = without-lt shape.on (only (lowest shape.on)) fits in
+    let k = lowest mask in
+    let marked : has mask k ≡ true = has-lowest mask some fits' in
+    let on : has shape.on k ≡ true = (and_parts (has shape.on k) _ (sym (has-without shape.on (only (lowest shape.on)) k) ∙ marked)).0 in
+    let count = opened.cells.count in
+    let all : count_by (λ (cell : CellSeen). misses mask cell.stage) v.cells ≡ length v.cells = count_all (λ cell. misses mask cell.stage) v.cells (λ r lt.
+    let inside : r < length regions = omega (arith, lt, count) in
+    let cell = opened.cells.each r inside in
+    let bit : has cell.bits k ≡ true = cell.claimed k ∙ claims r k (omega (arith, inside, long)) ∙ and_from (nat_lt k 32) (has mask k) (below_all k 32 (low k on)) marked in
+    ap (λ (x : CellSeen). misses mask x.stage) cell.is ∙ some_left _ (not_empty _ k (has_common (common mask shape.on) cell.bits k (has_common mask shape.on k marked on) bit))) in
+    all ∙ count ∙ long

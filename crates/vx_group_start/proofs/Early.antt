@@ -24,6 +24,7 @@ use Rattle.vx_volume_form.specs.Laws.{IsLogFor}
 use Rattle.vx_volume_form.specs.Plexes.{IsVolOf}
 use Rattle.vx_volume_form.proofs.Rules.{vol_geometry}
 use Rattle.vx_volume_form.proofs.Rooms.{logs_are}
+use Rattle.vx_maps.proofs.CopyRuns.{none_cut}
 use Rattle.vx_lending.specs.Taken.{AreTakenCopies}
 use Rattle.vx_running.specs.declared.public.Public.{Public}
 use Rattle.vx_running.specs.Public.{still_pieces}
@@ -94,6 +95,7 @@ module _ {P : Type 0} {ghosts : Ghosts P} (c : Config) (good : ℕ) (v : Vol) (n
           copies = [];
           are = start_none numbers form (still_pieces ghosts.seen old) ((logs_are c good v (is_fresh v.state) form of is).none h.0);
           log_is = absent_of ghosts (is_fresh v.state) form.shape;
+          cut = none_cut [];
           fits = absent_for v h.0;
         };
         first = subst (IsFirstUnread form.shape absent_log) (sym h.2) (first_none c good v (is_fresh v.state) form of is h.1);

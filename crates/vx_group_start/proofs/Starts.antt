@@ -107,7 +107,7 @@ module _ {P : Type 0} {ghosts : Ghosts P} (v : Vol) (numbers : List ℕ) (old mi
     start_copies = record { taken = taken.copies_are; hold = λ contents h. all_copies contents copies (held_parts contents h).1 }
 
     start_log : (log : VolumeLog P ghosts) → IsLogOver ghosts.seen v form.shape copies log → IsStartLog ghosts.seen v numbers form (still_pieces ghosts.seen old) log
-    start_log log over = record { copies = copies; are = start_copies; log_is = over.log_is; fits = over.fits }
+    start_log log over = record { copies = copies; are = start_copies; log_is = over.log_is; cut = over.cut; fits = over.fits }
 
     started_as : (running : Running P ghosts) → running.form ≡ form → IsLogOver ghosts.seen v form.shape copies (log_of running.volume) → IsOpened form.shape (log_seen ghosts.seen (log_of running.volume)) regions (volume_seen ghosts.seen running.volume) →
         GoTogether (still_pieces ghosts.seen old) (held_pieces ghosts.seen running.volume ++ still_pieces ghosts.seen mid)

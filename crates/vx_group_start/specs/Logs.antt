@@ -6,6 +6,8 @@ use Rattle.vx_base.specs.Counts.{Rose}
 use Rattle.vx_piece.specs.Seen.{Seen}
 use Rattle.vx_runs.specs.Run.{RunTells, run_contents}
 use Rattle.vx_carve.specs.Together.{Holds, cut_on, faults_on}
+use Rattle.vx_maps.specs.Going.{CutCopiesGo}
+use Rattle.vx_pages.specs.Sector.{KeepsPiece}
 use Rattle.vx_pages.specs.declared.local_piece.LocalPiece.{Ghosts}
 use Rattle.vx_config_parts.specs.declared.vol.Vol.{Vol}
 use Rattle.vx_volume.specs.declared.log.VolumeLog.{VolumeLog}
@@ -13,7 +15,7 @@ use Rattle.vx_volume.specs.declared.volume.VolumeShape.{VolumeShape}
 use Rattle.vx_volume.specs.Log.{log_seen}
 use Rattle.vx_volume_form.specs.declared.form.VolumeForm.{VolumeForm}
 use Rattle.vx_volume_form.specs.Laws.{IsLogFor}
-use Rattle.vx_lending.specs.Logs.{IsFreshLog, IsLoadedLog}
+use Rattle.vx_lending.specs.Logs.{IsFreshLog, IsLoadedLog, log_copies}
 use Rattle.vx_lending.specs.Taken.{AreTakenCopies, log_sectors}
 use Rattle.vx_group_start.specs.Fresh.{is_fresh, maps_to_copy}
 
@@ -27,11 +29,12 @@ pub record AreStartCopies (numbers : List ℕ) (form : VolumeForm) (before : Lis
   pub taken : AreTakenCopies numbers form.logs.items (log_sectors form.shape.geometry) copies
   pub hold : (contents : ℕ → Contents) → All (Holds contents) before → All (λ copy. All (Holds contents) copy) copies
 
--- the log was made of copies that were taken, and is one for the volume
+-- The log was made of copies that were taken, and is one for the volume. Each copy was cut, perhaps, and then each of its pieces has gone on.
 pub record IsStartLog {P : Type 0} {ghosts : Ghosts P} (seen : P → Seen) (v : Vol) (numbers : List ℕ) (form : VolumeForm) (before : List Seen) (log : VolumeLog P ghosts) : Type 0 where
   pub copies : List (List Seen)
   pub are : AreStartCopies numbers form before copies
   pub log_is : IsLogOf seen (is_fresh v.state) form.shape copies log
+  pub cut : CutCopiesGo KeepsPiece copies (log_copies seen log)
   pub fits : IsLogFor v (log_seen seen log)
 
 -- ---- why there is none

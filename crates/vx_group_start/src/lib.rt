@@ -4,6 +4,7 @@
 mod closing;
 mod copying;
 mod fault;
+mod gathering;
 pub mod laws;
 mod logs;
 mod opening;
@@ -12,5 +13,6 @@ mod remains;
 pub use closing::close_volume;
 pub use copying::copy_all;
 pub use fault::StartFault;
+pub use gathering::gather;
 pub use logs::{is_fresh, mask_to_copy};
 pub use opening::open_volume;

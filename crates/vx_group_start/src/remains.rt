@@ -49,7 +49,7 @@ pub fn put_back<P: Piece + Drop>(
 }
 
 /// Puts pieces back into the pool. What it has no room for comes back, and so does a log that is not taken apart.
-fn put_remains<P: Piece + Drop>(
+pub fn put_remains<P: Piece + Drop>(
     alloc: Global,
     pool: &mut Pool<P>,
     regions: Vec<Vec<Plex<P>>>,

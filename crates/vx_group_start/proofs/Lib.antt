@@ -4,6 +4,7 @@ mod Fits
 mod Forms
 mod Missed
 mod NoLogs
+mod Parted
 mod Passes
 mod Rises
 mod Same

@@ -1,6 +1,7 @@
 pub mod Closed
 pub mod Copying
 pub mod Fresh
+pub mod GroupDisks
 pub mod Laws
 pub mod Logs
 pub mod Refused

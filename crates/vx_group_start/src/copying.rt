@@ -13,8 +13,7 @@ use vx_piece::Piece;
 use vx_volume::{IoFault, Volume};
 
 /// Copies each region to the plexes of a mask that are on and miss it, one pass for each plex, the lowest map first. It ends at
-/// the first region of which that fails. It answers in how many regions some of these plexes were on and marked as it began:
-/// of a volume that is settled just these are copied.
+/// the first region of which that fails. It answers in how many regions some of these plexes were on and marked as it began.
 pub fn copy_all<P: Piece>(volume: &mut Volume<P>, mask: u64) -> Result<u64, IoFault>
     requires { IsVolume (volume_seen P.seen volume.old) }
     ensures copied { AreCopied mask (volume_seen P.seen volume.old) (volume_seen P.seen volume.new) result }

@@ -14,7 +14,7 @@ pub struct PlainPiece {
     reads: u64,
     stop: Option<u64>,
     ghost on_device: { start + sectors < 2 ^ 64 },
-    ghost counted: { (writes < 2 ^ 64) × (reads < 2 ^ 64) },
+    ghost counted: { (0 < 2 ^ 64) × (writes < 2 ^ 64) × (reads < 2 ^ 64) },
 }
 
 impl PlainPiece {
@@ -38,7 +38,7 @@ impl Piece for PlainPiece {
 
     ghost ends = { λ p. tt };
 
-    ghost counts = { λ p. record { faults = tt; writes = p.counted.0; reads = p.counted.1 } };
+    ghost counts = { λ p. record { faults = p.counted.0; writes = p.counted.1; reads = p.counted.2 } };
 
     fn device(&self) -> u32 {
         self.device

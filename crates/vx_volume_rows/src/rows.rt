@@ -1,0 +1,112 @@
+ghost use Rattle.std.specs.Prelude.{◌≡◌, ℕ, [], map};
+ghost use Rattle.vx_carve.specs.Carved.{HaveNumbers};
+ghost use Rattle.vx_confdb.specs.Groups.{members};
+ghost use Rattle.vx_copies.specs.Lists.{AllOf};
+ghost use Rattle.vx_piece.specs.MemPiece.{mem_seen};
+ghost use Rattle.vx_fronts.specs.Parted.{AreParted, IsCutShort};
+ghost use Rattle.vx_volume_form.specs.Plexes.{IsVolOf};
+ghost use Rattle.vx_group_start.specs.GroupDisks.{AreGroupDisks};
+
+use crate::group::group;
+use crate::matching::{are_group_disks, differ, first_volume, numbers_of};
+use crate::running::ran;
+use crate::shown::show_fault;
+use crate::text::{ALONE, TWICE};
+use std::alloc::Global;
+use std::collections::BTreeMap;
+use std::io;
+use vx_carve::Pool;
+use vx_confdb::Group;
+use vx_fronts::open_group;
+use vx_group_start::laws::volumes_can_be_opened;
+use vx_group_start::open_volume;
+use vx_objects::{Config, Vol};
+use vx_piece::{Bad, MemPiece};
+use vx_record::read;
+use vx_running::Public;
+
+pub fn show(rt: &HostRuntime) -> io::Result<()> {
+    println!(rt; "one plex on the first disk, no log")?;
+    row(rt, ALONE, Vec::new(rt.alloc()))?;
+    println!(rt; "the same, and a write of one of its sectors fails")?;
+    let bad = vec![in rt.alloc(); failing(2186)]?;
+    row(rt, ALONE, bad)?;
+    println!(rt; "a plex and a log on each disk")?;
+    row(rt, TWICE, Vec::new(rt.alloc()))?;
+    println!(rt; "the same, and a write of a sector of the first plex fails")?;
+    let bad = vec![in rt.alloc(); failing(2186)]?;
+    row(rt, TWICE, bad)
+}
+
+/// A sector whose first write fails.
+fn failing(sector: u64) -> Bad {
+    Bad {
+        start: sector,
+        count: 1,
+        on_read: false,
+        on_write: true,
+        skip: 0,
+        times: 1,
+    }
+}
+
+fn row(rt: &HostRuntime, text: &[u8], bad: Vec<Bad>) -> io::Result<()> {
+    let Some(config) = config_of(rt.alloc(), text) else {
+        return println!(rt; "  no configuration");
+    };
+    match group(rt.alloc(), bad) {
+        Some(group) => opened(rt, &config, group),
+        None => println!(rt; "  no group"),
+    }
+}
+
+fn config_of(alloc: Global, text: &[u8]) -> Option<Config> {
+    let records = read(alloc, text).ok()?;
+    Config::read(alloc, records.as_slice()).ok()
+}
+
+/// Parts the devices of a group.
+fn opened(rt: &HostRuntime, config: &Config, group: Group<MemPiece>) -> io::Result<()>
+    requires { AreParted (members mem_seen group) [] }
+{
+    let mut group = group;
+    let mut pool = Pool::from_vec(Vec::new(rt.alloc()));
+    if open_group(rt.alloc(), &mut group, &mut pool).is_err() {
+        return println!(rt; "  no memory");
+    }
+    let numbers = numbers_of(rt.alloc(), &group)?;
+    let Some(vol) = first_volume(config) else {
+        return println!(rt; "  no volume");
+    };
+    if !differ(&numbers) || !are_group_disks(config, &numbers, &group) {
+        return println!(rt; "  other disks");
+    }
+    started(rt, config, &vol, &numbers, group, pool)
+}
+
+/// Opens a volume over parted devices, of which all are good.
+fn started(
+    rt: &HostRuntime,
+    config: &Config,
+    vol: &Vol,
+    numbers: &[u32],
+    group: Group<MemPiece>,
+    pool: Pool<MemPiece>,
+) -> io::Result<()>
+    requires of { IsVolOf config.now vol.now }
+    requires apart { HaveNumbers numbers.now }
+    requires disks { (good : ℕ) → AreGroupDisks numbers.now (members mem_seen group) good config.now.disks }
+    requires short { AllOf IsCutShort (members mem_seen group) }
+    requires parted { AreParted (members mem_seen group) (map mem_seen pool.items.items) }
+{
+    volumes_can_be_opened();
+    let mut public = Public {
+        pool,
+        left: Vec::new(rt.alloc()),
+        running: BTreeMap::new(rt.alloc()),
+    };
+    match open_volume(rt.alloc(), config, 3, vol, numbers, &mut public) {
+        Ok(running) => ran(rt, vol.name, group, public, running),
+        Err(fault) => show_fault(rt, fault),
+    }
+}

@@ -1,4 +1,4 @@
-ghost use Rattle.std.specs.Prelude.{◌≡◌, ◌≤◌, ℕ, None, IfOk};
+ghost use Rattle.std.specs.Prelude.{◌≡◌, ◌≤◌, ℕ, None, false, IfOk};
 ghost use Rattle.vx_base.specs.Named.{Word};
 ghost use Rattle.vx_base.specs.Counts.{Rose};
 ghost use Rattle.vx_files.specs.Known.{AreNumbered};
@@ -65,6 +65,8 @@ where
     ghost counted = { counted_by_files };
 
     ghost counts_are = { λ _. tt };
+
+    ghost pieces_tell = { λ p q i. false };
 
     ghost numbers_differ = { λ s. held_numbered s.known s.numbered };
 

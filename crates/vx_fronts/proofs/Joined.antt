@@ -12,7 +12,7 @@ use Rattle.vx_carve.proofs.Same.{same_trans, same_beside}
 use Rattle.vx_copies.specs.Lists.{AllOf, AnyOf}
 use Rattle.vx_copies.specs.Disks.{DiskSeen}
 use Rattle.vx_fronts.specs.Fronts.{with_device}
-use Rattle.vx_fronts.specs.Rests.{is_of, rest_in, IsTelling, AllTell}
+use Rattle.vx_fronts.specs.Rests.{is_of, rest_in, IsTelling, AllTell, rests_of}
 use Rattle.vx_fronts.specs.Parted.{AreParted, HasDevice, IsFront, IsOfSome, fronts_of}
 use Rattle.vx_fronts.specs.RestLaws.{BackStayParted, DisksTell, IsApart, JoinedIsWhole, JoinedStayParted, LentStayParted, PartsAreOnce}
 use Rattle.vx_fronts.proofs.Sectors.{other_lacks, same_number}
@@ -101,13 +101,18 @@ joined_parted hs behind h apart parted = record {
         let same : has h.seen.device k h.seen ≡ has_at h.seen.device 0 h.sectors h.seen.device k = ap (λ n. has_at h.seen.device n h.seen.sectors h.seen.device k) apart.front.start ∙ ap (λ n. has_at h.seen.device 0 n h.seen.device k) apart.whole in
         omega (arith, none, sum, same)
 
-pub joined_whole : JoinedIsWhole
-joined_whole hs still lent h apart parted =
-    ap (λ v. with_device (cond v (Some (rest_in still lent h.seen.device)) None) h)
+-- no piece is behind its front, ..
+pub joined_unparted : (hs : List DiskSeen) (still lent : List Seen) (h : DiskSeen) → IsApart hs h → AreParted hs (still ++ lent) → rests_of still lent h.seen.device ≡ None
+joined_unparted hs still lent h apart parted =
+    ap (λ v. cond v (Some (rest_in still lent h.seen.device)) None)
     (list_any_none (is_of h.seen.device) (still ++ lent) (All-weaker (IsOfSome hs) (λ p. is_of h.seen.device p ≡ false) other (still ++ lent) parted.own))
   where
     other : (p : Seen) → IsOfSome hs p → is_of h.seen.device p ≡ false
     other p is = differs h.seen.device p.device (λ e. none_is (λ g. g.seen.device ≡ p.device) hs (all_map (λ g. g.seen.device ≢ h.seen.device) (λ g. g.seen.device ≡ p.device → ⊥) hs (λ g not f. not (f ∙ e)) apart.other) is)
+
+-- .. so it is there whole
+pub joined_whole : JoinedIsWhole
+joined_whole hs still lent h apart parted = ap (λ o. with_device o h) (joined_unparted hs still lent h apart parted)
 
 -- ---- small steps
 

@@ -10,6 +10,9 @@ use Rattle.vx_carve.specs.Together.{covers_at, covers, has_at, has, owners, HasS
 use Rattle.vx_copies.specs.Lists.{Each, AllOf, AnyOf}
 use Rattle.vx_copies.specs.Disks.{DiskSeen, CommitGoes, Offers}
 use Rattle.vx_copies.proofs.StepLaws.{each_map}
+use Rattle.vx_base.specs.Named.{Word}
+use Rattle.vx_confdb.specs.Create.{Enters, Joins}
+use Rattle.vx_confdb.specs.Prepare.{label_in}
 use Rattle.vx_fronts.specs.Fronts.{HasPrivate}
 use Rattle.vx_fronts.specs.Rests.{is_of, IsTelling, AllTell}
 use Rattle.vx_fronts.specs.Parted.{AreParted, HasDevice, IsFront, IsOfSome, IsWhole, fronts_of}
@@ -315,6 +318,31 @@ alike_by first last text a b goes = record {
     told None None is some = some
     told None (Some d) is some = absurd is
     told (Some c) u is some = refl
+
+alike_joined : (group : Word) (text : List ℕ) (a b : DiskSeen) → Joins group text a b → IsAlike a b
+alike_joined group text a b joins = record {
+  size = joins.size;
+  number = joins.kept.device;
+  start = joins.kept.start;
+  sectors = joins.kept.sectors;
+  tell = told a.seen.told b.seen.told joins.told;
+}
+  where
+    told : (t u : Option Contents) → Enters (label_in group a) text t u → is_some u ≡ true → is_some t ≡ true
+    told None None is some = some
+    told None (Some d) is some = absurd is
+    told (Some c) u is some = refl
+
+-- disks of which the last have joined, and the others had a commit
+pub parted_entered : (group : Word) (first last : ℕ) (text : List ℕ) (hs bs js ks : List DiskSeen) (behind : List Seen) → Each (CommitGoes first last text) hs bs → Each (Joins group text) js ks → AreParted (hs ++ js) behind → AreParted (bs ++ ks) behind
+parted_entered group first last text hs bs js ks behind goes joins parted =
+    parted_alike (hs ++ js) (bs ++ ks) behind (both hs bs (each_map (CommitGoes first last text) IsAlike (alike_by first last text) hs bs goes) (each_map (Joins group text) IsAlike (alike_joined group text) js ks joins)) parted
+  where
+    both : (xs ys : List DiskSeen) → Each IsAlike xs ys → Each IsAlike js ks → Each IsAlike (xs ++ js) (ys ++ ks)
+    both [] [] e d = d
+    both [] (y ∷ ys) e d = absurd e
+    both (x ∷ xs) [] e d = absurd e
+    both (x ∷ xs) (y ∷ ys) e d = (e.0, both xs ys e.1 d)
 
 pub parted_committed : (first last : ℕ) (text : List ℕ) (hs bs : List DiskSeen) (behind : List Seen) → Each (CommitGoes first last text) hs bs → AreParted hs behind → AreParted bs behind
 parted_committed first last text hs bs behind each parted = parted_alike hs bs behind (each_map (CommitGoes first last text) IsAlike (alike_by first last text) hs bs each) parted

@@ -1,4 +1,4 @@
-ghost use Rattle.std.specs.Prelude.{◌≡◌, ◌↔◌, ◌<◌, ◌≤◌, ◌^◌, ◌++◌, IsTrue, IsNone, IfSome, IfOk, OnOk, OnErr, MatchOption, length, map};
+ghost use Rattle.std.specs.Prelude.{◌≡◌, ◌↔◌, ◌<◌, ◌≤◌, ◌^◌, ◌++◌, IsTrue, IsNone, true, IfSome, IfOk, OnOk, OnErr, MatchOption, length, map};
 ghost use Rattle.std.specs.List.{list_all, list_any, position};
 ghost use Rattle.vx_base.specs.Named.{Word};
 ghost use Rattle.vx_piece.specs.Seen.{Seen};
@@ -88,6 +88,8 @@ impl Shelf for MemShelf {
     ghost counted = { counted_on };
 
     ghost counts_are = { λ s name. free_counted s.places.items name };
+
+    ghost pieces_tell = { λ p q i. true };
 
     ghost numbers_differ = { λ s. held_numbered s.places.items s.numbered };
 

@@ -1,4 +1,4 @@
-ghost use Rattle.std.specs.Prelude.{◌≡◌, ◌≤◌, ◌^◌, ◌↔◌, ℕ, List, Option, None, IsSome, IfOk, IfErr, IfSome, OnOk, OnErr, IsErrOf};
+ghost use Rattle.std.specs.Prelude.{◌≡◌, ◌≤◌, ◌^◌, ◌↔◌, ℕ, List, Option, None, is_some, IsSome, IfOk, IfErr, IfSome, OnOk, OnErr, IsErrOf};
 ghost use Rattle.vx_base.specs.Counts.{Rose};
 ghost use Rattle.vx_base.specs.Named.{Word, SameUnder};
 ghost use Rattle.vx_piece.specs.Seen.{Seen};
@@ -100,6 +100,9 @@ pub trait Shelf {
 
     /// A device that nobody holds has the count of its name.
     ghost counts_are: { (shelf : Self) → AreCounted (free shelf) (counted shelf) };
+
+    /// All its devices tell what they hold, or none does.
+    ghost pieces_tell: { (p q : Self.P) → is_some (Self.P.seen p).told ≡ is_some (Self.P.seen q).told };
 
     /// Two devices that were taken have two numbers.
     ghost numbers_differ: { (shelf : Self) → AreNumbered (held shelf) };

@@ -12,17 +12,13 @@ use Rattle.vx_copies.specs.Lists.{AllOf, AnyOf, Each}
 use Rattle.vx_copies.specs.Written.{BothTell}
 use Rattle.vx_moments.specs.World.{Device, Group}
 use Rattle.vx_moments.specs.Moment.{Moment, AreLater}
-use Rattle.vx_house.specs.Holders.{Holder, held_as, AreApart}
+use Rattle.vx_house.specs.Holders.{Holder, holder_in, held_as, AreApart}
 use Rattle.vx_house.specs.Scene.{Shelved, Scene, seen_in, seen_at, faults_in, faults_at, count_in, AreCountsOf, counts_of, FaultsGoOn}
 use Rattle.vx_house.specs.View.{IsDeviceOf}
 use Rattle.vx_house.proofs.Holders.{IsLater, later_apart}
 use Rattle.vx_house.proofs.AllLaws.{all_front, all_back, all_unmapped, held_each}
 use Rattle.vx_copies.proofs.StepLaws.{each_refl}
 use Rattle.vx_house.proofs.Lists.{each_two, each_first, each_second, each_append, each_mapped, apart_front, apart_back, held_around}
-
--- a disk as a holder of its device
-abbrev pub holder_in : DiskSeen → Holder
-holder_in h = record { name = h.device; seen = h.seen }
 
 -- the device of a disk that was written to, and not read; it tells its sectors as long as it did
 pub record IsCalled (a b : DiskSeen) : Type 0 where

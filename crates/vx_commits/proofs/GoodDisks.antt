@@ -23,7 +23,8 @@ use Rattle.vx_moments.specs.Moment.{Moment, HasFailed}
 use Rattle.vx_moments.specs.Copies.{IsCurrent, label_of}
 use Rattle.vx_moments.specs.Commit.{Writing, parties, is_written_slot, IsMaskOf, NoneFailed, IsCarrying, IsHeaded, WritesOnce}
 use Rattle.vx_commits.proofs.Slots.{AreSlotted, mask_names, mask_tells, slots_kept}
-use Rattle.vx_commits.proofs.Members.{member_in, IsGone, writing, same_mask, rose_one}
+use Rattle.vx_house.specs.View.{member_in}
+use Rattle.vx_commits.proofs.Members.{IsGone, writing, same_mask, rose_one}
 use Rattle.vx_copies.proofs.StepLaws.{each_map}
 use Rattle.vx_house.proofs.Lists.{each_two, each_first, each_second, all_of_each, any_of_each}
 

@@ -2,6 +2,7 @@
 use Rattle.std.proofs.Common.{◌≡◌, ◌∙◌, ◌⊎◌, ℕ, ◌+◌, ◌≤◌, max, true, false, List, [], ◌++◌, map, length, Option, Some, refl, sym, ap, subst, arith, inl, inr}
 use Rattle.std.specs.Prelude.{IsTrue}
 use Rattle.std.proofs.lemmas.List.{map-append}
+use Rattle.vx_pages.specs.declared.local_piece.LocalPiece.{Ghosts}
 use Rattle.vx_base.specs.Named.{Word}
 use Rattle.vx_mask.specs.Mask.{has}
 use Rattle.vx_piece.specs.Seen.{Seen}
@@ -21,17 +22,17 @@ use Rattle.vx_moments.specs.World.{Member, Group}
 use Rattle.vx_moments.specs.Moment.{Moment, AreLater, HasFailed}
 use Rattle.vx_moments.specs.Copies.{IsTextOf}
 use Rattle.vx_moments.specs.Commit.{Writing, IsHeaded, parties, is_written_slot, WritesOnce, CarriersFailed, IsCommitting, IsCommitted, IsStopped}
-use Rattle.vx_house.specs.Holders.{Holder, holders, volume_holder, volume_at, AreHeld, AreApart}
+use Rattle.vx_house.specs.Holders.{Holder, holder_in, holders, volume_holder, volume_at, AreHeld, AreApart}
 use Rattle.vx_house.specs.Scene.{Shelved, seen_at, AreCountsOf, FaultsGoOn}
-use Rattle.vx_house.specs.View.{at, scene, is_lent, IsDeviceOf, IsAtVolume, IsMomentButGroup}
+use Rattle.vx_house.specs.View.{at, scene, is_lent, member_in, IsDeviceOf, IsAtVolume, IsMomentButGroup}
 use Rattle.vx_house.specs.declared.house.House.{House}
 use Rattle.vx_house.proofs.Hands.{volumes_apart}
 use Rattle.vx_house.proofs.Holders.{later_held}
 use Rattle.vx_house.proofs.AllLaws.{all_front, all_back, all_unmapped}
 use Rattle.vx_house.proofs.Moments.{counts_own}
-use Rattle.vx_commits.proofs.DeviceLaws.{holder_in, IsCalled, IsPair, holders_then, holders_now, scene_then, scene_now, goes_later, faults_go_on, next, pairs, devices_are_now, reads_same, shelf_same, left, later}
+use Rattle.vx_commits.proofs.DeviceLaws.{IsCalled, IsPair, holders_then, holders_now, scene_then, scene_now, goes_later, faults_go_on, next, pairs, devices_are_now, reads_same, shelf_same, left, later}
 use Rattle.vx_commits.proofs.GoodDisks.{all_quiet, risen_failed, cut_one, known, new_mask, all_carry, one_good, writes_once, headed_one, number_rose}
-use Rattle.vx_commits.proofs.Members.{member_in, AreLed, IsGone, IsMemberWritten, IsJoinerWritten, writing, same_mask, written_good, is_committing}
+use Rattle.vx_commits.proofs.Members.{AreLed, IsGone, IsMemberWritten, IsJoinerWritten, writing, same_mask, written_good, is_committing}
 use Rattle.vx_commits.proofs.Slots.{AreSlotted}
 use Rattle.vx_house.proofs.Lists.{each_two, each_second, each_front, each_back, all_of_each, any_front, any_back}
 
@@ -59,7 +60,7 @@ pub record IsNamedAs (a b : DiskSeen) : Type 0 where
   pub sectors : a.sectors ≡ a.seen.sectors
 
 -- A house whose disks were called: those of its group, which have become others, and those that join it.
-pub record AreCalled {P : Type 0} (see : P → Seen) (shelf : Shelved) (old new : House P) (os : List Holder) (hs bs js ks : List DiskSeen) : Type 0 where
+pub record AreCalled {P : Type 0} {ghosts : Ghosts P} (see : P → Seen) (shelf : Shelved) (old new : House P ghosts) (os : List Holder) (hs bs js ks : List DiskSeen) : Type 0 where
   pub long : length hs ≡ length bs
   pub was : holders see old ≡ holders_then shelf (map (volume_holder see) old.volumes.entries) os (hs ++ js) (bs ++ ks)
   pub is : holders see new ≡ holders_now shelf (map (volume_holder see) old.volumes.entries) os (hs ++ js) (bs ++ ks)
@@ -103,7 +104,7 @@ max_most a b c p q = omega arith
 pub max_is : (a b : ℕ) → a + 1 ≤ b → max a b ≡ b
 max_is a b lt = omega arith
 
-module _ {P : Type 0} {see : P → Seen} {shelf : Shelved} {old new : House P} {os : List Holder} {hs bs js ks : List DiskSeen} (s : AreCalled see shelf old new os hs bs js ks) where
+module _ {P : Type 0} {ghosts : Ghosts P} {see : P → Seen} {shelf : Shelved} {old new : House P ghosts} {os : List Holder} {hs bs js ks : List DiskSeen} (s : AreCalled see shelf old new os hs bs js ks) where
   abbrev vs : List Holder
   vs = map (volume_holder see) old.volumes.entries
 
@@ -142,9 +143,9 @@ module _ {P : Type 0} {see : P → Seen} {shelf : Shelved} {old new : House P} {
     pub but_group_on : IsMomentButGroup see (at shelf new) n
     but_group_on = record {
       told = is.told;
-      devices_are = λ name. subst (λ b. IsDeviceOf b (seen_at (scene see (at shelf new)) name) (n.world.devices name)) (ap (λ v. is_lent (let h : House P = record { volumes = v; group = old.group; hand = old.hand } in h) name) (sym s.volumes))
+      devices_are = λ name. subst (λ b. IsDeviceOf b (seen_at (scene see (at shelf new)) name) (n.world.devices name)) (ap (λ v. is_lent (let h : House P ghosts = record { volumes = v; group = old.group; hand = old.hand } in h) name) (sym s.volumes))
           (subst (λ l. IsDeviceOf (is_lent old name) (seen_at (record { shelf = shelf; taken = l }) name) (n.world.devices name)) (sym s.is) (devices_are_now shelf vs os (hs ++ js) (bs ++ ks) s.called apart (is_lent old) m devices_then counts_then own world name));
-      volumes_are = λ vol. subst (λ o. IsAtVolume see o (m.world.volumes vol)) (ap (λ v. volume_at (let h : House P = record { volumes = v; group = old.group; hand = old.hand } in h) vol) (sym s.volumes)) (is.volumes_are vol);
+      volumes_are = λ vol. subst (λ o. IsAtVolume see o (m.world.volumes vol)) (ap (λ v. volume_at (let h : House P ghosts = record { volumes = v; group = old.group; hand = old.hand } in h) vol) (sym s.volumes)) (is.volumes_are vol);
       counts = subst (λ l. AreCountsOf (record { shelf = shelf; taken = l }) n.counts) (sym s.is) (counts_own (scene_now shelf vs os (hs ++ js) (bs ++ ks)));
     }
 

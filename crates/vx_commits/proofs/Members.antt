@@ -22,16 +22,13 @@ use Rattle.vx_moments.specs.World.{Device, Member, Group}
 use Rattle.vx_moments.specs.Moment.{Moment, HasFailed}
 use Rattle.vx_moments.specs.Copies.{IsTextOf, IsEntered, label_of}
 use Rattle.vx_moments.specs.Commit.{Writing, parties, is_slot_of, is_written_slot, IsMaskOf, NoneFailed, MemberGoes, JoinerGoes, IsNoDeviceOf, sectors_of, OffersSince, AreInOrder, OneOffersSince, IsCommitting}
+use Rattle.vx_house.specs.View.{member_in}
 use Rattle.vx_house.proofs.AllLaws.{all_front}
 use Rattle.vx_commits.proofs.DeviceLaws.{IsPair}
 use Rattle.vx_commits.proofs.Slots.{AreSlotted, mask_names, good_slots}
 use Rattle.vx_commits.proofs.DiskToDevice.{struck, entered}
 use Rattle.vx_copies.proofs.StepLaws.{each_map}
 use Rattle.vx_house.proofs.Lists.{each_two, each_first, all_of_each, all_before, all_of_pairs, any_mapped, any_of_each}
-
--- a disk as the world's member
-abbrev pub member_in : DiskSeen → Member
-member_in h = record { device = h.device; disk = h.name; slot = h.slot }
 
 -- a disk before and now: it has kept its slot, and it is good unless it has failed
 pub record IsGone (m n : Moment) (a b : DiskSeen) : Type 0 where

@@ -1,5 +1,5 @@
 -- Disks whose slots differ: each good one is known by its slot.
-use Rattle.std.proofs.Common.{◌≡◌, ◌≢◌, ◌∙◌, ℕ, ◌<◌, Bool, true, false, cond, List, [], ◌∷◌, map, refl, sym, ap, arith, inl, inr}
+use Rattle.std.proofs.Common.{◌≡◌, ◌≢◌, ◌∙◌, ℕ, ◌<◌, Bool, true, false, cond, List, [], ◌∷◌, map, Option, Some, None, refl, sym, ap, arith, inl, inr}
 use Rattle.std.specs.Prelude.{◌&&◌, ◌||◌, ◌==◌}
 use Rattle.std.proofs.lemmas.Bool.{cases_eq, eq-eqb, ne_eqb, eqb-true}
 use Rattle.std.proofs.Math.Bool.{or_comm}
@@ -9,6 +9,8 @@ use Rattle.vx_mask.proofs.MaskLemmas.{has-union, has-only_same, has-only_other, 
 use Rattle.vx_copies.specs.Lists.{AllOf, Each}
 use Rattle.vx_copies.specs.Disks.{DiskSeen, disk_seen, HasSlot, is_good_slot, good_mask}
 use Rattle.vx_copies.specs.declared.disk.Disk.{Disk}
+use Rattle.vx_fronts.specs.Fronts.{Rest, Rests, whole_disk, with_device}
+use Rattle.vx_fronts.specs.Laws.{whole_disks}
 use Rattle.vx_house.specs.View.{HaveSlots}
 
 has_only : (slot k : ℕ) → slot < 32 → has (only slot) k ≡ (slot == k)
@@ -38,6 +40,19 @@ slotted {P = P} see (d ∷ ds) have = (all d.slot ds have.0, slotted see ds have
     all : (slot : ℕ) (es : List (Disk P)) → AllOf (λ e. e.slot ≢ slot) es → AllOf (λ e. e.slot ≢ slot) (map (disk_seen see) es)
     all slot [] other = tt
     all slot (e ∷ es) other = (other.0, all slot es other.1)
+
+slot_whole : (o : Option Rest) (h : DiskSeen) → (with_device o h).slot ≡ h.slot
+slot_whole None h = refl
+slot_whole (Some r) h = refl
+
+-- a disk has its slot with its whole device
+pub slotted_wholes : (rests : Rests) (hs : List DiskSeen) → AreSlotted hs → AreSlotted (whole_disks rests hs)
+slotted_wholes rests [] have = tt
+slotted_wholes rests (h ∷ hs) have = (all hs have.0, slotted_wholes rests hs have.1)
+  where
+    all : (es : List DiskSeen) → AllOf (λ e. e.slot ≢ h.slot) es → AllOf (λ e. e.slot ≢ (whole_disk rests h).slot) (whole_disks rests es)
+    all [] other = tt
+    all (e ∷ es) other = ((λ same. other.0 (sym (slot_whole (rests e.seen.device) e) ∙ same ∙ slot_whole (rests h.seen.device) h)), all es other.1)
 
 not_slot : (slot : ℕ) (hs : List DiskSeen) → AllOf (λ e. e.slot ≢ slot) hs → is_good_slot slot hs ≡ false
 not_slot slot [] other = refl

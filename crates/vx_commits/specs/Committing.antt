@@ -1,5 +1,6 @@
 -- What the commit of a group leaves of its disks.
 use Rattle.std.specs.Prelude.{◌≡◌, ◌+◌, ℕ, List, [], length, Result, Ok, Err}
+use Rattle.vx_pages.specs.declared.local_piece.LocalPiece.{Ghosts}
 use Rattle.vx_piece.specs.Seen.{Seen}
 use Rattle.vx_copies.specs.Commit.{HasRisen}
 use Rattle.vx_copies.specs.Disks.{IsCut, IsReady}
@@ -9,6 +10,7 @@ use Rattle.vx_confdb.specs.Groups.{members, IsCommitted, CarriesText}
 use Rattle.vx_confdb.specs.declared.fault.GroupFault.{GroupFault}
 use Rattle.vx_confdb.specs.declared.fault.GroupFault.TheVariants as fault
 use Rattle.vx_confdb.specs.declared.group.Group.{Group}
+use Rattle.vx_fronts.specs.Fronts.{HasPrivate}
 use Rattle.vx_answers.specs.declared.answer.End.TheVariants as ends
 use Rattle.vx_answers.specs.declared.refusal.Refusal.TheVariants as refusal
 use Rattle.vx_house.specs.View.{HaveSlots}
@@ -43,7 +45,8 @@ CommitEnds see (Err (stops.Ended ends.GroupLost)) text old new = IsTried see tex
 CommitEnds see (Err (stops.Ended (ends.Lost parts))) text old new = (parts ≡ []) × IsTried see text old new × AnyOf IsCut (members see new)
 CommitEnds see (Err (stops.Ended end)) text old new = ⊥
 
--- the disks can take a commit: their slots differ, and each that is good is ready
-pub record IsWritable {P : Type 0} (see : P → Seen) (g : Imported P) : Type 0 where
+-- the disks can take a commit: their slots differ, each that is good is ready, and each has a private region
+pub record IsWritable {P : Type 0} {ghosts : Ghosts P} (see : P → Seen) (g : Imported P ghosts) : Type 0 where
   pub slots : HaveSlots g.base.disks.items
   pub ready : AllOf IsReady (members see g.base)
+  pub private : AllOf HasPrivate (members see g.base)

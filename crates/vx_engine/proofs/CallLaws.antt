@@ -1,6 +1,6 @@
 -- A call that is served is what the plans say of it.
 use Rattle.std.proofs.Common.{◌≡◌, ◌∙◌, ◌+◌, ◌<◌, ◌≤◌, ℕ, Bool, true, false, List, [], ◌++◌, map, Option, Some, None, refl, sym, ap, subst}
-use Rattle.std.specs.Prelude.{Ok, MatchOption, MatchBool, nat_lt}
+use Rattle.std.specs.Prelude.{MatchOption, MatchBool, nat_lt}
 use Rattle.std.specs.BTreeMap.{BTreeMap}
 use Rattle.std.specs.Cmp.Lexicographic.{slice_cmp}
 use Rattle.std.specs.Ordering.{nat_cmp}
@@ -9,6 +9,7 @@ use Rattle.std.specs.List.{list_any}
 use Rattle.std.specs.List.Sorted.{IsStrictlySortedBy}
 use Rattle.std.specs.Str.{bytes_eq}
 use Rattle.std.proofs.lemmas.Bool.{ltb-true, ltb-false, lt-ltb}
+use Rattle.vx_pages.specs.declared.local_piece.LocalPiece.{Ghosts}
 use Rattle.vx_base.specs.Named.{Word}
 use Rattle.vx_piece.specs.Seen.{Seen}
 use Rattle.vx_script_forms.specs.declared.call.Call.{Call}
@@ -29,14 +30,14 @@ use Rattle.vx_house.specs.Leaves.{IsLeft}
 use Rattle.vx_house.specs.Scene.{Shelved, FaultsGoOn, IsBlamed, seen_at, AreCountsOf}
 use Rattle.vx_house.specs.View.{View, at, scene, IsAtVolume, IsDeviceOf, is_lent, IsMoment, Keeps}
 use Rattle.vx_house.specs.declared.house.House.{House}
-use Rattle.vx_house.proofs.Ends.{keeps_ended}
+use Rattle.vx_house.proofs.Ends.{keeps_but_group, keeps_ended}
 use Rattle.vx_house.proofs.Free.{at_house}
 use Rattle.vx_house.proofs.Moments.{later_refl, faults_refl}
 use Rattle.vx_house.proofs.AllLaws.{found_in}
 use Rattle.vx_house.proofs.Scenes.{scene_of}
 use Rattle.vx_house.proofs.Takes.{rests_self}
 use Rattle.vx_engine.specs.Calling.{IsCall, IsServedAmong, ServesAmong}
-use Rattle.vx_engine.specs.Serving.{CommandGoes}
+use Rattle.vx_engine.specs.Serving.{CommandGoes, IsRefused}
 use Rattle.vx_engine.proofs.Lives.{lived_keeps, lived_faults, lived_blamed, lived_moment, lived_later, lived_runs, n, new}
 use Rattle.vx_engine.proofs.CommandEnds.{HasDone, moment_end, over_goes}
 
@@ -50,8 +51,8 @@ no_world : {P : Type 0} (see : P → Seen) (o : Option Volume) → IsAtVolume se
 no_world see None is = refl
 no_world see (Some v) is = absurd is
 
-module _ {P : Type 0} (see : P → Seen) (shelf : Shelved) (h : House P) (volumes : BTreeMap Word (Started P)) (call : Call) (valid : IsCall call) (keeps : Keeps see (at shelf h)) where
-  abbrev mid : House P
+module _ {P : Type 0} {ghosts : Ghosts P} (see : P → Seen) (shelf : Shelved) (h : House P ghosts) (volumes : BTreeMap Word (Started P)) (call : Call) (valid : IsCall call) (keeps : Keeps see (at shelf h)) where
+  abbrev mid : House P ghosts
   mid = record { volumes = volumes; group = h.group; hand = h.hand }
 
   -- where the entries are the same, so is all that is kept and seen
@@ -82,6 +83,15 @@ module _ {P : Type 0} (see : P → Seen) (shelf : Shelved) (h : House P) (volume
 
     same_faults : FaultsGoOn (scene see (at shelf h)) (scene see (at shelf mid))
     same_faults = subst (λ hs. FaultsGoOn (scene see (at shelf h)) (scene_of shelf hs)) (sym same_holders) (faults_refl (scene see (at shelf h)))
+
+    -- memory was wanting
+    pub call_refused : h.hand.items ≡ [] → IsRefused see (at shelf h) (at shelf mid)
+    call_refused empty = record {
+      keeps = keeps_but_group see (at shelf mid) same_kept;
+      empty = empty;
+      goes = λ m is. (m, same_moment m is, later_refl m.counts, refl);
+      faults = same_faults;
+    }
 
   -- what a served call gives, before it is over
   pub record Given (place : ℕ) (end : End) : Type 0 where
@@ -147,7 +157,7 @@ module _ {P : Type 0} (see : P → Seen) (shelf : Shelved) (h : House P) (volume
   given place end None found serves = subst (Given place) (sym serves.0) (refused_given place (NotStarted (volume_of call)) serves.1 (not_started place found))
   given place end (Some b) found serves = by_range place end b found (nat_lt b.geometry.length (start_of call + count_of call)) refl serves
 
-  pub call_goes : {E : Type 0} (place : ℕ) (end : End) (new : View P) → ServesAmong see call (volume_at h (volume_of call)) h.volumes volumes end → IsLeft see end (at shelf mid) new → CommandGoes {E = E} see (DoesCall place call) (Ok (One [] end)) (at shelf h) new
+  pub call_goes : (place : ℕ) (end : End) (new : View P ghosts) → ServesAmong see call (volume_at h (volume_of call)) h.volumes volumes end → IsLeft see end (at shelf mid) new → CommandGoes see (DoesCall place call) (One [] end) (at shelf h) new
   call_goes place end new serves left =
       let g = given place end (volume_at h (volume_of call)) refl serves in
       over_goes see (DoesCall place call) end (at shelf h) (at shelf mid) new (keeps_ended see end (at shelf mid) g.keeps_mid) g.goes g.faults g.blamed left

@@ -1,8 +1,9 @@
 -- A command that is over, and what is left of it.
 use Rattle.std.proofs.Common.{◌≡◌, ◌∙◌, ◌≤◌, ◌<◌, ℕ, List, [], ◌∷◌, Option, Some, None, refl, sym, ap, subst, arith, inl, inr}
-use Rattle.std.specs.Prelude.{Ok, Err, IfSome, MatchOption}
+use Rattle.std.specs.Prelude.{Result, Ok, Err, IfSome, IfOk, IfErr, OnOk, MatchOption}
 use Rattle.std.specs.List.Sorted.{IsStrictlySortedBy}
 use Rattle.std.specs.Map.{keys_of}
+use Rattle.vx_pages.specs.declared.local_piece.LocalPiece.{Ghosts}
 use Rattle.vx_objects.specs.Config.{objects_of}
 use Rattle.vx_print.specs.Shown.{IsPrinted}
 use Rattle.vx_answers.specs.declared.answer.View.TheVariants.{Text}
@@ -16,6 +17,7 @@ use Rattle.vx_piece.specs.Seen.{Seen}
 use Rattle.vx_copies.specs.Lists.{AllOf}
 use Rattle.vx_script_words.specs.declared.value.DiskAt.{DiskAt}
 use Rattle.vx_started.specs.declared.started.Started.{Started}
+use Rattle.vx_answers.specs.declared.answer.Answer.{Answer}
 use Rattle.vx_answers.specs.declared.answer.Answer.TheVariants.{One}
 use Rattle.vx_answers.specs.declared.answer.End.{End}
 use Rattle.vx_answers.specs.declared.answer.End.TheVariants as ends
@@ -33,7 +35,7 @@ use Rattle.vx_house.specs.Holders.{volume_at}
 use Rattle.vx_house.specs.Leaves.{IsLeft, IsLater, LeavesBoth, LeavesVolumes, LeavesNone, StaysBy}
 use Rattle.vx_house.specs.Plain.{plain}
 use Rattle.vx_house.specs.Scene.{Scene, faults_at, FaultsGoOn, IsBlamed}
-use Rattle.vx_house.specs.View.{View, scene, Keeps, KeepsButGroup, IsGroupKept, IsMoment, group_of}
+use Rattle.vx_house.specs.View.{View, scene, Keeps, KeepsButGroup, IsGroupKept, IsGroupWhole, IsMoment, group_of}
 use Rattle.vx_house.specs.declared.house.House.{House}
 use Rattle.vx_house.specs.declared.house.Imported.{Imported}
 use Rattle.vx_house.specs.declared.house.Taken.{Taken}
@@ -43,10 +45,12 @@ use Rattle.vx_house.proofs.AfterLoss.{power_goes, all_gone, without_group}
 use Rattle.vx_house.proofs.AfterLoss.{left as left_world}
 use Rattle.vx_house.proofs.AllLaws.{found_in}
 use Rattle.vx_house.proofs.Moments.{faults_trans, faults_moved, moment_moved}
-use Rattle.vx_house.proofs.Ends.{moment_but_group}
+use Rattle.vx_house.proofs.Ends.{keeps_but_group, moment_but_group}
 use Rattle.vx_engine.specs.Fed.{AreOrdered}
 use Rattle.vx_engine.specs.Runs.{StagesGo, KeepWorld, HasRun, IsMomentBy, HasEnded, HasRested}
-use Rattle.vx_engine.specs.Serving.{CommandGoes}
+use Rattle.vx_engine.specs.Serving.{CommandEnds, CommandGoes, IsHeldUp, IsRefused}
+use Rattle.vx_engine.specs.declared.unserved.Unserved.{Unserved}
+use Rattle.vx_engine.specs.declared.unserved.Unserved.TheVariants as unserved
 use Rattle.vx_engine.specs.Fed.{ShowsAfter}
 use Rattle.vx_engine.specs.Shows.{CanShow, ShowsRecords}
 use Rattle.vx_plans.specs.Tests.{fails, unless, is_here}
@@ -73,7 +77,7 @@ unfolding IsStrictlySortedBy
 no_order {X = X} es e = subst (λ (xs : List (Word × X)). IsStrictlySortedBy (slice_cmp nat_cmp) (keys_of xs)) (sym e) tt
 
 -- what a house keeps once a command is over
-module _ {P : Type 0} (see : P → Seen) (mid new : View P) (later : IsLater see mid new) where
+module _ {P : Type 0} {ghosts : Ghosts P} (see : P → Seen) (mid new : View P ghosts) (later : IsLater see mid new) where
   empty_hand : (Q : Taken P → Type 0) → AllOf Q new.house.hand.items
   empty_hand Q = subst (AllOf Q) (sym later.hand) tt
 
@@ -86,6 +90,16 @@ module _ {P : Type 0} (see : P → Seen) (mid new : View P) (later : IsLater see
       volumes = λ vol b is. keeps.house.volumes vol b (ap (λ (v : BTreeMap Word (Started P)). found_in v.entries vol) (sym stays.volumes) ∙ is);
       group = subst (λ o. IfSome o (IsGroupKept see)) (sym stays.group) keeps.house.group;
     };
+  }
+
+  -- the same, where some devices of the group may be joined
+  but_kept : LeavesBoth mid new → KeepsButGroup see mid → KeepsButGroup see new
+  but_kept stays keeps = record {
+    devices = later.devices;
+    ordered = subst (IsOrdered (slice_cmp nat_cmp)) (sym stays.volumes) keeps.ordered;
+    hand = empty_hand (λ t. 0 < (see t.piece).sectors);
+    volumes = λ vol b is. keeps.volumes vol b (ap (λ (v : BTreeMap Word (Started P)). found_in v.entries vol) (sym stays.volumes) ∙ is);
+    whole = subst (λ o. IfSome o (IsGroupWhole see)) (sym stays.group) keeps.whole;
   }
 
   volumes_kept : LeavesVolumes mid new → KeepsButGroup see mid → Keeps see new
@@ -132,7 +146,7 @@ module _ {P : Type 0} (see : P → Seen) (mid new : View P) (later : IsLater see
   left_moment (ends.Lost parts) stays keeps began n is refused = (left_world see mid n is keeps, all_gone see mid n is keeps new (record { later = later; stays = stays }), power_goes see mid n is keeps)
 
 -- a moment of the house, however the command ended
-pub moment_end : {P : Type 0} (see : P → Seen) (end : End) (v : View P) (m : Moment) → IsMoment see v m → IsMomentBy end see v m
+pub moment_end : {P : Type 0} {ghosts : Ghosts P} (see : P → Seen) (end : End) (v : View P ghosts) (m : Moment) → IsMoment see v m → IsMomentBy end see v m
 moment_end see (ends.Done copied parts blocks) v m is = is
 moment_end see (ends.Refused r) v m is = is
 moment_end see (ends.Fault told device parts) v m is = is
@@ -141,14 +155,14 @@ moment_end see ends.GroupLost v m is = moment_but_group see v m is
 moment_end see (ends.Lost parts) v m is = moment_but_group see v m is
 
 -- what a command that ended has done by then
-pub record HasDone {P : Type 0} (see : P → Seen) (Does : Moment → List Shown → End → Moment → Type 0) (end : End) (mid : View P) (m n : Moment) : Type 0 where
+pub record HasDone {P : Type 0} {ghosts : Ghosts P} (see : P → Seen) (Does : Moment → List Shown → End → Moment → Type 0) (end : End) (mid : View P ghosts) (m n : Moment) : Type 0 where
   pub is : IsMomentBy end see mid n
   pub later : AreLater m.counts n.counts
   pub does : Does m [] end n
   pub refused : (r : Refusal) → end ≡ ends.Refused r → n.world ≡ m.world
 
-pub over_goes : {P E : Type 0} (see : P → Seen) (Does : Moment → List Shown → End → Moment → Type 0) (end : End) (old mid new : View P) → KeepsBy {T = Unit {0}} see (Err (stops.Ended end)) mid
-    → ((m : Moment) → IsMoment see old m → (n : Moment) × HasDone see Does end mid m n) → FaultsGoOn (scene see old) (scene see mid) → IsBlamed end (scene see old) (scene see mid) → IsLeft see end mid new → CommandGoes {E = E} see Does (Ok (One [] end)) old new
+pub over_goes : {P : Type 0} {ghosts : Ghosts P} (see : P → Seen) (Does : Moment → List Shown → End → Moment → Type 0) (end : End) (old mid new : View P ghosts) → KeepsBy {T = Unit {0}} see (Err (stops.Ended end)) mid
+    → ((m : Moment) → IsMoment see old m → (n : Moment) × HasDone see Does end mid m n) → FaultsGoOn (scene see old) (scene see mid) → IsBlamed end (scene see old) (scene see mid) → IsLeft see end mid new → CommandGoes see Does (One [] end) old new
 over_goes see Does end old mid new keeps goes faults blamed gone = record {
   keeps = left_kept see mid new gone.later end gone.stays keeps;
   empty = gone.later.hand;
@@ -160,18 +174,15 @@ over_goes see Does end old mid new keeps goes faults blamed gone = record {
   blamed = blamed_on end (scene see old) (scene see mid) (scene see new) blamed (faults_moved (scene see mid) (scene see new) gone.later.moved);
 }
 
-module _ {P : Type 0} (see : P → Seen) (disks : List DiskAt) (stages : List Stage) (finish : Finish) where
-  abbrev Does : Moment → List Shown → End → Moment → Type 0
-  Does m views end n = Runs disks stages finish m views end n
-
+module _ {P : Type 0} {ghosts : Ghosts P} (see : P → Seen) (disks : List DiskAt) (stages : List Stage) (finish : Finish) where
   -- a stage has ended the command
-  pub ended_goes : {E : Type 0} (end : End) (old mid new : View P) → HasEnded see disks stages end old mid → IsLeft see end mid new → CommandGoes {E = E} see Does (Ok (One [] end)) old new
+  pub ended_goes : (end : End) (old mid new : View P ghosts) → HasEnded see disks stages end old mid → IsLeft see end mid new → CommandGoes see (λ m views end n. Runs disks stages finish m views end n) (One [] end) old new
   ended_goes end old mid new run gone =
-      over_goes see Does end old mid new run.keeps
+      over_goes see (λ m views end n. Runs disks stages finish m views end n) end old mid new run.keeps
       (λ m is. let n = run.goes m is in (n.0, record { is = n.1.is; later = n.1.later; does = n.1.runs finish; refused = n.1.refused }))
       run.faults run.blamed gone
 
-  shown_there : (mid : View P) (n : Moment) (views : List Shown) → IsMoment see mid n → Shows finish (plain see mid.house) views → Shows finish n.world views
+  shown_there : (mid : View P ghosts) (n : Moment) (views : List Shown) → IsMoment see mid n → Shows finish (plain see mid.house) views → Shows finish n.world views
   shown_there mid n views is shows = by finish shows
     where
       by : (f : Finish) → Shows f (plain see mid.house) views → Shows f n.world views
@@ -179,7 +190,7 @@ module _ {P : Type 0} (see : P → Seen) (disks : List DiskAt) (stages : List St
       by (Records vol) shows = subst (λ g. MatchOption g ⊥ (λ x. (text : List ℕ) × (views ≡ Text text ∷ []) × IsPrinted vol (objects_of x.config) [] text)) (sym is.group_is) shows
 
   -- all stages are done, and this is shown
-  pub done_goes : {E : Type 0} (views : List Shown) (old mid new : View P) → HasRun see disks stages old mid → Shows finish (plain see mid.house) views → IsLeft see done mid new → CommandGoes {E = E} see Does (Ok (One views done)) old new
+  pub done_goes : (views : List Shown) (old mid new : View P ghosts) → HasRun see disks stages old mid → Shows finish (plain see mid.house) views → IsLeft see done mid new → CommandGoes see (λ m views end n. Runs disks stages finish m views end n) (One views done) old new
   done_goes views old mid new run shows gone = record {
     keeps = both_kept see mid new gone.later gone.stays run.keeps;
     empty = gone.later.hand;
@@ -203,40 +214,47 @@ module _ {P : Type 0} (see : P → Seen) (disks : List DiskAt) (stages : List St
   }
 
   -- memory was wanting
-  pub rested_goes : {E : Type 0} (e : E) (old mid new : View P) → HasRested see old mid → IsLeft see done mid new → CommandGoes see Does (Err e) old new
-  rested_goes e old mid new run gone = record {
-    keeps = both_kept see mid new gone.later gone.stays run.keeps;
+  pub rested_goes : (old mid new : View P ghosts) → HasRested see old mid → IsLeft see done mid new → IsRefused see old new
+  rested_goes old mid new run gone = record {
+    keeps = but_kept see mid new gone.later gone.stays run.keeps;
     empty = gone.later.hand;
     goes = λ m is.
         let n = run.goes m is in
         (n.0, moment_moved see (scene see mid) (scene see new) mid.house new.house n.0 gone.later.moved gone.stays.volumes gone.stays.group n.1, n.2, n.3);
     faults = faults_trans (scene see old) (scene see mid) (scene see new) run.faults (faults_moved (scene see mid) (scene see new) gone.later.moved);
-    blamed = tt;
   }
 
   -- memory was wanting for what was to be shown
-  pub unshown_goes : {E : Type 0} (e : E) (old mid new : View P) → HasRun see disks stages old mid → KeepWorld stages → IsLeft see done mid new → CommandGoes see Does (Err e) old new
-  unshown_goes e old mid new run kept gone = rested_goes e old mid new (record {
-    keeps = run.keeps;
+  pub unshown_goes : (old mid new : View P ghosts) → HasRun see disks stages old mid → KeepWorld stages → IsLeft see done mid new → IsRefused see old new
+  unshown_goes old mid new run kept gone = rested_goes old mid new (record {
+    keeps = keeps_but_group see mid run.keeps;
     goes = λ m is. let n = run.goes m is in (n.0, n.1.is, n.1.later, n.1.kept kept);
     faults = run.faults;
   }) gone
 
+-- what the end of a command leaves in the house, by its answer
+pub over_ends : {P : Type 0} {ghosts : Ghosts P} (see : P → Seen) (Does : Moment → List Shown → End → Moment → Type 0) (result : Result Answer Unserved) (views : List Shown) (end : End) (old mid new : View P ghosts)
+    → IfOk result (λ a. a ≡ One views end) → OnOk result (IsLeft see end mid new) → IfErr result (λ e. (e ≡ unserved.HeldUp) × IsHeldUp see new)
+    → (IsLeft see end mid new → CommandGoes see Does (One views end) old new) → CommandEnds see Does result old new
+over_ends see Does (Ok a) views end old mid new told left held goes = subst (λ x. CommandGoes see Does x old new) (sym told) (goes left)
+over_ends see Does (Err unserved.OutOfMemory) views end old mid new told left held goes = let is = held.0 in cc
+over_ends see Does (Err unserved.HeldUp) views end old mid new told left held goes = held.1
+
 -- the group is there that is to be shown
-here_some : {P : Type 0} (see : P → Seen) (dg : Option Word) (disks : List DiskAt) (h : House P) → fails (tests.GroupIs dg) disks (plain see h) ≡ None → MatchOption h.group ⊥ (λ g. Unit {0})
+here_some : {P : Type 0} {ghosts : Ghosts P} (see : P → Seen) (dg : Option Word) (disks : List DiskAt) (h : House P ghosts) → fails (tests.GroupIs dg) disks (plain see h) ≡ None → MatchOption h.group ⊥ (λ g. Unit {0})
 unfolding fails
-here_some {P = P} see dg disks h is = by h.group is
+here_some {P = P} {ghosts = ghosts} see dg disks h is = by h.group is
   where
-    by : (o : Option (Imported P)) → unless (is_here dg (group_of see o)) (refusal.NoGroup dg) ≡ None → MatchOption o ⊥ (λ g. Unit {0})
+    by : (o : Option (Imported P ghosts)) → unless (is_here dg (group_of see o)) (refusal.NoGroup dg) ≡ None → MatchOption o ⊥ (λ g. Unit {0})
     by None is = cc
     by (Some g) is = tt
 
-pub can_show : {P : Type 0} (see : P → Seen) (disks : List DiskAt) (stages : List Stage) (finish : Finish) (old now : View P) → AreOrdered stages finish → ShowsAfter stages finish → HasRun see disks stages old now → CanShow finish now.house
+pub can_show : {P : Type 0} {ghosts : Ghosts P} (see : P → Seen) (disks : List DiskAt) (stages : List Stage) (finish : Finish) (old now : View P ghosts) → AreOrdered stages finish → ShowsAfter stages finish → HasRun see disks stages old now → CanShow finish now.house
 can_show see disks stages Nothing old now ordered shows run = tt
 can_show see disks stages (Records None) old now ordered shows run = here_some see shows.0 disks now.house (given_one see disks now.house stages (stage.Gate (tests.GroupIs shows.0)) (run.gives (ordered_all stages None ordered)) shows.1)
 can_show see disks stages (Records (Some vol)) old now ordered shows run = here_some see shows.0.0 disks now.house (given_one see disks now.house stages (stage.Gate (tests.GroupIs shows.0.0)) (run.gives (ordered_all stages (Some vol) ordered)) shows.0.1)
 
-module _ {P : Type 0} (see : P → Seen) (disks : List DiskAt) (stages ss : List Stage) (same : ss ≡ stages) (old mid : View P) where
+module _ {P : Type 0} {ghosts : Ghosts P} (see : P → Seen) (disks : List DiskAt) (stages ss : List Stage) (same : ss ≡ stages) (old mid : View P ghosts) where
   pub ended_from : (stop : Stop) (end : End) → stop ≡ stops.Ended end → StagesGo see disks ss (Err stop) old mid → HasEnded see disks stages end old mid
   ended_from stop end is go = subst (λ x. HasEnded see disks x end old mid) same (subst (λ s. StagesGo see disks ss (Err s) old mid) is go)
 

@@ -1,9 +1,12 @@
--- A test of a stage, and a group that leaves.
+-- A test of a stage, and a group that leaves, or for which memory was wanting.
 use Rattle.std.proofs.Common.{◌≡◌, ◌∙◌, ◌<◌, true, false, List, [], ◌∷◌, Some, None, refl, sym, ap, subst}
 use Rattle.std.specs.Prelude.{Ok, Err, IfSome}
+use Rattle.std.specs.List.{list_any}
+use Rattle.std.specs.Str.{bytes_eq}
 use Rattle.std.specs.BTreeMap.{BTreeMap, IsOrdered}
 use Rattle.std.specs.Cmp.Lexicographic.{slice_cmp}
 use Rattle.std.specs.Ordering.{nat_cmp}
+use Rattle.vx_pages.specs.declared.local_piece.LocalPiece.{Ghosts}
 use Rattle.vx_base.specs.Named.{Word}
 use Rattle.vx_piece.specs.Seen.{Seen}
 use Rattle.vx_copies.specs.Lists.{AllOf, Each}
@@ -12,30 +15,34 @@ use Rattle.vx_started.specs.declared.started.Started.{Started}
 use Rattle.vx_answers.specs.declared.refusal.Refusal.{Refusal}
 use Rattle.vx_answers.specs.declared.answer.End.TheVariants as ends
 use Rattle.vx_moments.specs.Leaving.{group_gone}
+use Rattle.vx_moments.specs.Moment.{Moment}
 use Rattle.vx_plans.specs.Tests.{fails}
 use Rattle.vx_plans.specs.declared.stage.Stage.TheVariants as stage
 use Rattle.vx_plans.specs.declared.test.Test.{Test}
-use Rattle.vx_house.specs.Closing.{GivesGroup}
+use Rattle.vx_house.specs.Closing.{GivesGroup, KeepsGroup}
 use Rattle.vx_house.specs.Goes.{IsReady, IsStill, StageGoes}
 use Rattle.vx_house.specs.Plain.{plain}
-use Rattle.vx_house.specs.Scene.{Shelved}
+use Rattle.vx_house.specs.Holders.{AreHeld, holders}
+use Rattle.vx_house.specs.Scene.{Shelved, FaultsGoOn, AreCountsOf, seen_at}
 use Rattle.vx_house.specs.Unmoved.{Unmoved}
-use Rattle.vx_house.specs.View.{View, at, scene, Keeps, IsGroupKept}
+use Rattle.vx_house.specs.View.{View, at, scene, is_lent, Keeps, IsAtVolume, IsDeviceOf, IsGroupKept, IsMoment}
 use Rattle.vx_house.specs.declared.house.House.{House}
 use Rattle.vx_house.specs.declared.house.Taken.{Taken}
 use Rattle.vx_house.specs.declared.stop.Stop.TheVariants.{Ended, OutOfMemory}
 use Rattle.vx_house.proofs.Ends.{keeps_but_group, moment_but_group}
 use Rattle.vx_house.proofs.AfterLoss.{group_away}
-use Rattle.vx_house.proofs.Leaves.{group_held, group_moved}
+use Rattle.vx_house.proofs.Leaves.{group_held, group_moved, holders_kept}
 use Rattle.vx_house.proofs.AllLaws.{found_in}
 use Rattle.vx_house.proofs.Moments.{faults_moved, faults_refl, later_refl}
+use Rattle.vx_house.proofs.Scenes.{scene_of}
+use Rattle.vx_engine.specs.Runs.{HasRested}
 use Rattle.vx_engine.proofs.Tests.{fails_there}
 
 still_all : {P : Type 0} (see : P → Seen) (ts : List (Taken P)) → Each (IsStill see) ts ts
 still_all see [] = tt
 still_all see (t ∷ ts) = (record { device = refl; sectors = refl; told = refl }, still_all see ts)
 
-module _ {P : Type 0} (see : P → Seen) (test : Test) (disks : List DiskAt) (v : View P) (keeps : Keeps see v) (ready : IsReady see (stage.Gate test) disks v.house) where
+module _ {P : Type 0} {ghosts : Ghosts P} (see : P → Seen) (test : Test) (disks : List DiskAt) (v : View P ghosts) (keeps : Keeps see v) (ready : IsReady see (stage.Gate test) disks v.house) where
   pub test_passed : fails test disks (plain see v.house) ≡ None → StageGoes {T = Unit {0}} see (stage.Gate test) disks (Ok tt) v v
   test_passed none = record {
     keeps = keeps;
@@ -67,7 +74,7 @@ module _ {P : Type 0} (see : P → Seen) (test : Test) (disks : List DiskAt) (v 
   }
 
 -- the group leaves, and all else stays
-pub group_let_go : {P : Type 0} (see : P → Seen) (disks : List DiskAt) (old new : Shelved) (h k : House P) → Keeps see (at old h) → GivesGroup see old h new k → StageGoes {T = Unit {0}} see stage.LetGo disks (Ok tt) (at old h) (at new k)
+pub group_let_go : {P : Type 0} {ghosts : Ghosts P} (see : P → Seen) (disks : List DiskAt) (old new : Shelved) (h k : House P ghosts) → Keeps see (at old h) → GivesGroup see old h new k → StageGoes {T = Unit {0}} see stage.LetGo disks (Ok tt) (at old h) (at new k)
 group_let_go {P = P} see disks old new h k keeps gives = record {
   keeps = record {
     devices = group_held see old new h k keeps.devices gives;
@@ -90,3 +97,31 @@ group_let_go {P = P} see disks old new h k keeps gives = record {
 
     moved : Unmoved (scene see (at old h)) (scene see (at new k))
     moved = group_moved see old new h k keeps.devices gives
+
+-- there was no memory to join the group's devices, and all else stays
+module _ {P : Type 0} {ghosts : Ghosts P} (see : P → Seen) (s : Shelved) (h k : House P ghosts) (keeps : Keeps see (at s h)) (stays : KeepsGroup see h k) where
+  same : holders see k ≡ holders see h
+  same = holders_kept see h k stays
+
+  moment_stays : (m : Moment) → IsMoment see (at s h) m → IsMoment see (at s k) m
+  moment_stays m is = record {
+    told = is.told;
+    devices_are = λ name. subst (λ (v : BTreeMap Word (Started P)). IsDeviceOf (list_any (λ e. bytes_eq e.1.device name) v.entries) (seen_at (scene see (at s k)) name) (m.world.devices name)) (sym stays.volumes)
+        (subst (λ hs. IsDeviceOf (is_lent h name) (seen_at (scene_of s hs) name) (m.world.devices name)) (sym same) (is.devices_are name));
+    volumes_are = λ vol. subst (λ o. IsAtVolume see o (m.world.volumes vol)) (ap (λ (v : BTreeMap Word (Started P)). found_in v.entries vol) (sym stays.volumes)) (is.volumes_are vol);
+    group_is = is.group_is ∙ sym stays.group;
+    counts = subst (λ hs. AreCountsOf (scene_of s hs) m.counts) (sym same) is.counts;
+  }
+
+  pub group_stays : HasRested see (at s h) (at s k)
+  group_stays = record {
+    keeps = record {
+      devices = subst (AreHeld s.held) (sym same) keeps.devices;
+      ordered = subst (IsOrdered (slice_cmp nat_cmp)) (sym stays.volumes) keeps.house.ordered;
+      hand = subst (λ xs. AllOf (λ t. 0 < (see t.piece).sectors) xs.items) (sym stays.hand) keeps.house.hand;
+      volumes = λ vol b is. keeps.house.volumes vol b (ap (λ (v : BTreeMap Word (Started P)). found_in v.entries vol) (sym stays.volumes) ∙ is);
+      whole = stays.whole;
+    };
+    goes = λ m is. (m, moment_stays m is, later_refl m.counts, refl);
+    faults = subst (λ hs. FaultsGoOn (scene_of s (holders see h)) (scene_of s hs)) (sym same) (faults_refl (scene see (at s h)));
+  }

@@ -11,6 +11,7 @@ use Rattle.std.specs.Ordering.{nat_cmp}
 use Rattle.std.proofs.lemmas.Bool.{le-ltb, cond-true, cond-false}
 use Rattle.std.proofs.lemmas.List.{map-append}
 use Rattle.std.proofs.lemmas.Map.{keys-set_value}
+use Rattle.vx_pages.specs.declared.local_piece.LocalPiece.{Ghosts}
 use Rattle.vx_base.specs.Counts.{Rose}
 use Rattle.vx_base.specs.Named.{Word, put}
 use Rattle.vx_base.proofs.NamedLemmas.{bytes_eq_self, bytes_eq_same}
@@ -54,12 +55,12 @@ lent_here (e ∷ before) behind key b = by (bytes_eq e.1.device b.device) (lent_
     by true is = refl
     by false is = is
 
-module _ {P : Type 0} (see : P → Seen) (shelf : Shelved) (h : House P) (volumes : BTreeMap Word (Started P)) (call : Call) (b : Started P) (end : End)
+module _ {P : Type 0} {ghosts : Ghosts P} (see : P → Seen) (shelf : Shelved) (h : House P ghosts) (volumes : BTreeMap Word (Started P)) (call : Call) (b : Started P) (end : End)
     (found : volume_at h (volume_of call) ≡ Some b) (among : IsServedAmong see call b end h.volumes volumes) (keeps : Keeps see (at shelf h)) where
   abbrev pub later : Started P
   later = among.later
 
-  abbrev pub k : House P
+  abbrev pub k : House P ghosts
   k = record { volumes = volumes; group = h.group; hand = h.hand }
 
   spot : IsSetAt h.volumes.entries volumes.entries b later

@@ -1,7 +1,8 @@
 -- One stage more, and a stage that ends the command.
 use Rattle.std.proofs.Common.{◌≡◌, ◌∙◌, true, List, [], ◌∷◌, ◌++◌, ◌+◌, ℕ, take, drop, Option, refl, sym, ap, subst, inl, inr, append_assoc}
-use Rattle.std.specs.Prelude.{Ok, Err}
+use Rattle.std.specs.Prelude.{Result, Ok, Err}
 use Rattle.std.proofs.lemmas.List.{append-nil, take-append-drop}
+use Rattle.vx_pages.specs.declared.local_piece.LocalPiece.{Ghosts}
 use Rattle.vx_base.specs.Named.{Word}
 use Rattle.vx_piece.specs.Seen.{Seen}
 use Rattle.vx_copies.specs.Lists.{AllOf}
@@ -21,10 +22,11 @@ use Rattle.vx_house.specs.declared.house.House.{House}
 use Rattle.vx_house.specs.declared.stop.Stop.{Stop}
 use Rattle.vx_house.specs.declared.stop.Stop.TheVariants as stops
 use Rattle.vx_house.proofs.AllLaws.{all_append, all_front, all_back}
+use Rattle.vx_house.proofs.Ends.{keeps_but_group}
 use Rattle.vx_house.proofs.Moments.{later_refl, later_trans, faults_refl, faults_trans}
 use Rattle.vx_house.proofs.Takes.{blamed_later}
 use Rattle.vx_engine.specs.Fed.{IsAmong, AreFed, AreOrdered, keeps_world}
-use Rattle.vx_engine.specs.Runs.{KeepWorld, HasRun, IsMomentBy, HasEnded, HasRested, StagesGo}
+use Rattle.vx_engine.specs.Runs.{KeepWorld, HasRun, IsMomentBy, HasEnded, HasRested, StageEnds, StagesGo}
 use Rattle.vx_engine.proofs.Tests.{gives_still}
 use Rattle.vx_engine.proofs.WorldLaws.{world_kept, refused_kept}
 
@@ -44,8 +46,12 @@ ordered_all [] vol ordered = tt
 ordered_all (x ∷ []) vol ordered = (ordered, tt)
 ordered_all (x ∷ y ∷ xs) vol ordered = (ordered.0, ordered_all (y ∷ xs) vol ordered.1)
 
-module _ {P : Type 0} (see : P → Seen) (disks : List DiskAt) where
-  pub none_run : (v : View P) → Keeps see v → v.house.hand.items ≡ [] → HasRun see disks [] v v
+not_empty : (done : List Stage) (s : Stage) → done ++ s ∷ [] ≡ [] → ⊥
+not_empty [] s e = cc
+not_empty (d ∷ done) s e = cc
+
+module _ {P : Type 0} {ghosts : Ghosts P} (see : P → Seen) (disks : List DiskAt) where
+  pub none_run : (v : View P ghosts) → Keeps see v → v.house.hand.items ≡ [] → HasRun see disks [] v v
   none_run v keeps empty = record {
     keeps = keeps;
     empty = λ is. empty;
@@ -54,24 +60,24 @@ module _ {P : Type 0} (see : P → Seen) (disks : List DiskAt) where
     faults = faults_refl (scene see v);
   }
 
-  pub given_one : (h : House P) (done : List Stage) (t : Stage) → AllOf (λ s. Gives see s disks h) done → IsAmong done t → Gives see t disks h
+  pub given_one : (h : House P ghosts) (done : List Stage) (t : Stage) → AllOf (λ s. Gives see s disks h) done → IsAmong done t → Gives see t disks h
   given_one h [] t all any = absurd any
   given_one h (d ∷ done) t all (inl is) = subst (λ s. Gives see s disks h) is all.0
   given_one h (d ∷ done) t all (inr any) = given_one h done t all.1 any
 
-  given_all : (h : House P) (done ts : List Stage) → AllOf (λ s. Gives see s disks h) done → AllOf (IsAmong done) ts → AllOf (λ s. Gives see s disks h) ts
+  given_all : (h : House P ghosts) (done ts : List Stage) → AllOf (λ s. Gives see s disks h) done → AllOf (IsAmong done) ts → AllOf (λ s. Gives see s disks h) ts
   given_all h done [] all among = tt
   given_all h done (t ∷ ts) all among = (given_one h done t all among.0, given_all h done ts all among.1)
 
   -- the house has what the stage needs
-  pub stage_ready : (done : List Stage) (s : Stage) (old now : View P) → HasRun see disks done old now → KeepWorld done → (is_first s ≡ true → done ≡ []) × AllOf (IsAmong done) (wanted s) → IsReady see s disks now.house
+  pub stage_ready : (done : List Stage) (s : Stage) (old now : View P ghosts) → HasRun see disks done old now → KeepWorld done → (is_first s ≡ true → done ≡ []) × AllOf (IsAmong done) (wanted s) → IsReady see s disks now.house
   stage_ready done s old now run kept fed = record {
     wants = given_all now.house done (wanted s) (run.gives kept) fed.1;
     empty = λ is. run.empty (fed.0 is);
   }
 
   -- what was given before a stage that keeps the world is given behind it
-  kept_gives : (s : Stage) (done : List Stage) (mid new : View P) → keeps_world s ≡ true → (is_first s ≡ true → done ≡ []) → (only_reads s ≡ true → Still see mid.house new.house) → AllOf (λ t. Gives see t disks mid.house) done → AllOf (λ t. Gives see t disks new.house) done
+  kept_gives : (s : Stage) (done : List Stage) (mid new : View P ghosts) → keeps_world s ≡ true → (is_first s ≡ true → done ≡ []) → (only_reads s ≡ true → Still see mid.house new.house) → AllOf (λ t. Gives see t disks mid.house) done → AllOf (λ t. Gives see t disks new.house) done
   kept_gives s done mid new keeps first still all = by s keeps first still
     where
       on : Still see mid.house new.house → (xs : List Stage) → AllOf (λ t. Gives see t disks mid.house) xs → AllOf (λ t. Gives see t disks new.house) xs
@@ -99,12 +105,8 @@ module _ {P : Type 0} (see : P → Seen) (disks : List DiskAt) where
       by (stage.Import dg) keeps first still = cc
       by stage.LetGo keeps first still = cc
 
-  not_empty : (done : List Stage) (s : Stage) → done ++ s ∷ [] ≡ [] → ⊥
-  not_empty [] s e = cc
-  not_empty (d ∷ done) s e = cc
-
   -- one stage more is done
-  pub run_then : (done : List Stage) (s : Stage) (old mid new : View P) → HasRun see disks done old mid → (is_first s ≡ true → done ≡ []) → StageGoes {T = Unit {0}} see s disks (Ok tt) mid new → HasRun see disks (done ++ s ∷ []) old new
+  pub run_then : (done : List Stage) (s : Stage) (old mid new : View P ghosts) → HasRun see disks done old mid → (is_first s ≡ true → done ≡ []) → StageGoes {T = Unit {0}} see s disks (Ok tt) mid new → HasRun see disks (done ++ s ∷ []) old new
   run_then done s old mid new run first goes = record {
     keeps = goes.keeps;
     empty = λ e. absurd (not_empty done s e);
@@ -126,7 +128,7 @@ module _ {P : Type 0} (see : P → Seen) (disks : List DiskAt) where
   }
 
   -- by how the stage ended the command there is a moment
-  moment_by : (s : Stage) (end : End) (mid new : View P) → GoesBy {T = Unit {0}} see (IsDone s disks) (Stops s disks) (Err (stops.Ended end)) mid new → (m : Moment) → IsMoment see mid m → (n : Moment) × IsMomentBy end see new n × AreLater m.counts n.counts × Stops s disks m end n
+  moment_by : (s : Stage) (end : End) (mid new : View P ghosts) → GoesBy {T = Unit {0}} see (IsDone s disks) (Stops s disks) (Err (stops.Ended end)) mid new → (m : Moment) → IsMoment see mid m → (n : Moment) × IsMomentBy end see new n × AreLater m.counts n.counts × Stops s disks m end n
   moment_by s (ends.Done copied parts blocks) mid new goes = goes
   moment_by s (ends.Refused r) mid new goes = goes
   moment_by s (ends.Fault told device parts) mid new goes = goes
@@ -135,7 +137,7 @@ module _ {P : Type 0} (see : P → Seen) (disks : List DiskAt) where
   moment_by s (ends.Lost parts) mid new goes = goes
 
   -- a stage ends the command
-  pub run_ends : (done : List Stage) (s : Stage) (ss : List Stage) (end : End) (old mid new : View P) → HasRun see disks done old mid → KeepWorld done → StageGoes {T = Unit {0}} see s disks (Err (stops.Ended end)) mid new → HasEnded see disks (done ++ s ∷ ss) end old new
+  pub run_ends : (done : List Stage) (s : Stage) (ss : List Stage) (end : End) (old mid new : View P ghosts) → HasRun see disks done old mid → KeepWorld done → StageGoes {T = Unit {0}} see s disks (Err (stops.Ended end)) mid new → HasEnded see disks (done ++ s ∷ ss) end old new
   run_ends done s ss end old mid new run kept goes = record {
     keeps = goes.keeps;
     goes = λ m is.
@@ -154,7 +156,7 @@ module _ {P : Type 0} (see : P → Seen) (disks : List DiskAt) where
   }
 
   -- memory was wanting in a stage
-  pub run_rests : (done : List Stage) (s : Stage) (old mid new : View P) → HasRun see disks done old mid → KeepWorld done → StageGoes {T = Unit {0}} see s disks (Err stops.OutOfMemory) mid new → HasRested see old new
+  pub run_rests : (done : List Stage) (s : Stage) (old mid new : View P ghosts) → HasRun see disks done old mid → KeepWorld done → HasRested see mid new → HasRested see old new
   run_rests done s old mid new run kept goes = record {
     keeps = goes.keeps;
     goes = λ m is.
@@ -164,8 +166,14 @@ module _ {P : Type 0} (see : P → Seen) (disks : List DiskAt) where
     faults = faults_trans (scene see old) (scene see mid) (scene see new) run.faults goes.faults;
   }
 
+  -- what a stage says of its answer
+  pub stage_ends : (s : Stage) (result : Result (Unit {0}) Stop) (old new : View P ghosts) → StageGoes {T = Unit {0}} see s disks result old new → StageEnds see s disks result old new
+  stage_ends s (Ok u) old new goes = goes
+  stage_ends s (Err (stops.Ended end)) old new goes = goes
+  stage_ends s (Err stops.OutOfMemory) old new goes = record { keeps = keeps_but_group see new goes.keeps; goes = goes.goes; faults = goes.faults }
+
   -- a stage that is not done
-  pub run_stops : (done : List Stage) (s : Stage) (ss : List Stage) (stop : Stop) (old mid new : View P) → HasRun see disks done old mid → KeepWorld done → StageGoes {T = Unit {0}} see s disks (Err stop) mid new → StagesGo see disks (done ++ s ∷ ss) (Err stop) old new
+  pub run_stops : (done : List Stage) (s : Stage) (ss : List Stage) (stop : Stop) (old mid new : View P ghosts) → HasRun see disks done old mid → KeepWorld done → StageEnds see s disks (Err stop) mid new → StagesGo see disks (done ++ s ∷ ss) (Err stop) old new
   run_stops done s ss (stops.Ended end) old mid new run kept goes = run_ends done s ss end old mid new run kept goes
   run_stops done s ss stops.OutOfMemory old mid new run kept goes = run_rests done s old mid new run kept goes
 

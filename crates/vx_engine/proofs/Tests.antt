@@ -4,6 +4,7 @@ use Rattle.std.specs.Prelude.{is_some, IfSome}
 use Rattle.std.specs.BTreeMap.{BTreeMap, get}
 use Rattle.std.specs.Cmp.Lexicographic.{slice_cmp}
 use Rattle.std.specs.Ordering.{nat_cmp}
+use Rattle.vx_pages.specs.declared.local_piece.LocalPiece.{Ghosts}
 use Rattle.vx_base.specs.Blocks.{Contents}
 use Rattle.vx_header.specs.Named.{header_of}
 use Rattle.std.specs.Option.{option_map}
@@ -51,7 +52,7 @@ some_alike see f None (Some v) is = absurd is
 some_alike see f (Some b) None is = absurd is
 some_alike see f (Some b) (Some v) is = refl
 
-module _ {P : Type 0} (see : P → Seen) (v : View P) (held : AreHeld v.shelf.held (holders see v.house)) (m : Moment) (is : IsMoment see v m) where
+module _ {P : Type 0} {ghosts : Ghosts P} (see : P → Seen) (v : View P ghosts) (held : AreHeld v.shelf.held (holders see v.house)) (m : Moment) (is : IsMoment see v m) where
   -- the size of a device in hand
   hand_size : (name : Word) → AnyOf (λ n. n ≡ name) (hand_names v.house) → sectors_at m.world name ≡ sectors_at (plain see v.house) name
   hand_size name any =
@@ -109,7 +110,7 @@ still_size see (x ∷ xs) (y ∷ ys) name still =
     by true rest = still.0.sectors
     by false rest = rest
 
-module _ {P : Type 0} (see : P → Seen) (h k : House P) (still : Still see h k) where
+module _ {P : Type 0} {ghosts : Ghosts P} (see : P → Seen) (h k : House P ghosts) (still : Still see h k) where
   still_fails : (test : Test) (disks : List DiskAt) → fails test disks (plain see k) ≡ fails test disks (plain see h)
   still_fails test disks = same_fails (plain see h) (plain see k) (ap (group_of see) still.group) (λ vol. ap (λ (w : BTreeMap Word (Started P)). is_some (option_map some_volume (get (slice_cmp nat_cmp) w vol))) still.volumes) test disks (λ name any. still_size see h.hand.items k.hand.items name still.hand)
 

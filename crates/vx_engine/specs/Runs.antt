@@ -1,5 +1,6 @@
 -- Stages that are done one after the other.
 use Rattle.std.specs.Prelude.{◌≡◌, true, List, [], ◌++◌, Result, Ok, Err}
+use Rattle.vx_pages.specs.declared.local_piece.LocalPiece.{Ghosts}
 use Rattle.vx_piece.specs.Seen.{Seen}
 use Rattle.vx_copies.specs.Lists.{AllOf}
 use Rattle.vx_script_words.specs.declared.value.DiskAt.{DiskAt}
@@ -11,9 +12,9 @@ use Rattle.vx_moments.specs.Moment.{Moment, AreLater}
 use Rattle.vx_plans.specs.Steps.{Runs}
 use Rattle.vx_plans.specs.declared.stage.Stage.{Stage}
 use Rattle.vx_plans.specs.declared.stages.Finish.{Finish}
-use Rattle.vx_house.specs.Goes.{Goes, Gives, KeepsBy}
+use Rattle.vx_house.specs.Goes.{Goes, Gives, KeepsBy, StageGoes}
 use Rattle.vx_house.specs.Scene.{FaultsGoOn, IsBlamed}
-use Rattle.vx_house.specs.View.{View, Keeps, IsMoment, IsMomentButGroup, scene}
+use Rattle.vx_house.specs.View.{View, Keeps, KeepsButGroup, IsMoment, IsMomentButGroup, scene}
 use Rattle.vx_house.specs.declared.stop.Stop.{Stop}
 use Rattle.vx_house.specs.declared.stop.Stop.TheVariants as stops
 use Rattle.vx_engine.specs.Fed.{keeps_world}
@@ -23,14 +24,14 @@ abbrev pub KeepWorld : List Stage → Type 0
 KeepWorld done = AllOf (λ s. keeps_world s ≡ true) done
 
 -- The moment is reached from another by these stages: what follows them follows all.
-pub record IsReached {P : Type 0} (see : P → Seen) (disks : List DiskAt) (done : List Stage) (now : View P) (m n : Moment) : Type 0 where
+pub record IsReached {P : Type 0} {ghosts : Ghosts P} (see : P → Seen) (disks : List DiskAt) (done : List Stage) (now : View P ghosts) (m n : Moment) : Type 0 where
   pub is : IsMoment see now n
   pub later : AreLater m.counts n.counts
   pub kept : KeepWorld done → n.world ≡ m.world
   pub runs : (rest : List Stage) (finish : Finish) (views : List Shown) (end : End) (o : Moment) → Runs disks rest finish n views end o → Runs disks (done ++ rest) finish m views end o
 
 -- these stages are done
-pub record HasRun {P : Type 0} (see : P → Seen) (disks : List DiskAt) (done : List Stage) (old now : View P) : Type 0 where
+pub record HasRun {P : Type 0} {ghosts : Ghosts P} (see : P → Seen) (disks : List DiskAt) (done : List Stage) (old now : View P ghosts) : Type 0 where
   pub keeps : Keeps see now
   pub empty : done ≡ [] → now.house.hand.items ≡ []
   pub gives : KeepWorld done → AllOf (λ s. Gives see s disks now.house) done
@@ -38,32 +39,38 @@ pub record HasRun {P : Type 0} (see : P → Seen) (disks : List DiskAt) (done : 
   pub faults : FaultsGoOn (scene see old) (scene see now)
 
 -- where the group or the power is lost, the group of the house says nothing
-abbrev pub IsMomentBy : {P : Type 0} → End → (P → Seen) → View P → Moment → Type 0
+abbrev pub IsMomentBy : {P : Type 0} {ghosts : Ghosts P} → End → (P → Seen) → View P ghosts → Moment → Type 0
 IsMomentBy ends.GroupLost see v m = IsMomentButGroup see v m
 IsMomentBy (ends.Lost parts) see v m = IsMomentButGroup see v m
 IsMomentBy other see v m = IsMoment see v m
 
 -- The stages end the command so; where it is refused the world is as it began.
-pub record IsEnded {P : Type 0} (see : P → Seen) (disks : List DiskAt) (stages : List Stage) (end : End) (now : View P) (m n : Moment) : Type 0 where
+pub record IsEnded {P : Type 0} {ghosts : Ghosts P} (see : P → Seen) (disks : List DiskAt) (stages : List Stage) (end : End) (now : View P ghosts) (m n : Moment) : Type 0 where
   pub is : IsMomentBy end see now n
   pub later : AreLater m.counts n.counts
   pub runs : (finish : Finish) → Runs disks stages finish m [] end n
   pub refused : (r : Refusal) → end ≡ ends.Refused r → n.world ≡ m.world
 
-pub record HasEnded {P : Type 0} (see : P → Seen) (disks : List DiskAt) (stages : List Stage) (end : End) (old now : View P) : Type 0 where
+pub record HasEnded {P : Type 0} {ghosts : Ghosts P} (see : P → Seen) (disks : List DiskAt) (stages : List Stage) (end : End) (old now : View P ghosts) : Type 0 where
   pub keeps : KeepsBy {T = Unit {0}} see (Err (stops.Ended end)) now
   pub goes : (m : Moment) → IsMoment see old m → (n : Moment) × IsEnded see disks stages end now m n
   pub faults : FaultsGoOn (scene see old) (scene see now)
   pub blamed : IsBlamed end (scene see old) (scene see now)
 
--- for want of memory the world is as it began
-pub record HasRested {P : Type 0} (see : P → Seen) (old now : View P) : Type 0 where
-  pub keeps : Keeps see now
+-- For want of memory the world is as it began. Of the group's devices some may be joined.
+pub record HasRested {P : Type 0} {ghosts : Ghosts P} (see : P → Seen) (old now : View P ghosts) : Type 0 where
+  pub keeps : KeepsButGroup see now
   pub goes : Goes see (λ m n. n.world ≡ m.world) old now
   pub faults : FaultsGoOn (scene see old) (scene see now)
 
+-- what a stage does, by its answer
+abbrev pub StageEnds : {P : Type 0} {ghosts : Ghosts P} → (P → Seen) → Stage → List DiskAt → Result (Unit {0}) Stop → View P ghosts → View P ghosts → Type 0
+StageEnds see s disks (Ok u) old new = StageGoes {T = Unit {0}} see s disks (Ok u) old new
+StageEnds see s disks (Err (stops.Ended end)) old new = StageGoes {T = Unit {0}} see s disks (Err (stops.Ended end)) old new
+StageEnds see s disks (Err stops.OutOfMemory) old new = HasRested see old new
+
 -- by the answer: all are done, or the command has ended, or memory was wanting
-abbrev pub StagesGo : {P : Type 0} → (P → Seen) → List DiskAt → List Stage → Result (Unit {0}) Stop → View P → View P → Type 0
+abbrev pub StagesGo : {P : Type 0} {ghosts : Ghosts P} → (P → Seen) → List DiskAt → List Stage → Result (Unit {0}) Stop → View P ghosts → View P ghosts → Type 0
 StagesGo see disks stages (Ok u) old new = HasRun see disks stages old new
 StagesGo see disks stages (Err (stops.Ended end)) old new = HasEnded see disks stages end old new
 StagesGo see disks stages (Err stops.OutOfMemory) old new = HasRested see old new

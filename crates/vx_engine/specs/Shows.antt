@@ -1,5 +1,6 @@
 -- What a house can show.
 use Rattle.std.specs.Prelude.{◌≡◌, List, [], Option, MatchOption, ℕ}
+use Rattle.vx_pages.specs.declared.local_piece.LocalPiece.{Ghosts}
 use Rattle.vx_base.specs.Named.{Word}
 use Rattle.vx_objects.specs.declared.config.Config.{Config}
 use Rattle.vx_objects.specs.Config.{objects_of}
@@ -9,7 +10,7 @@ use Rattle.vx_plans.specs.declared.stages.Finish.TheVariants.{Nothing, Records}
 use Rattle.vx_house.specs.declared.house.House.{House}
 
 -- the group is imported, where its records are to be shown
-abbrev pub CanShow : {P : Type 0} → Finish → House P → Type 0
+abbrev pub CanShow : {P : Type 0} {ghosts : Ghosts P} → Finish → House P ghosts → Type 0
 CanShow Nothing h = Unit {0}
 CanShow (Records vol) h = MatchOption h.group ⊥ (λ g. Unit {0})
 

@@ -8,11 +8,12 @@ ghost use Rattle.vx_started.specs.declared.started.Started.{Started as StartedVa
 ghost use Rattle.vx_plans.specs.Calls.{volume_of, start_of, count_of};
 ghost use Rattle.vx_plans.specs.Steps.{DoesCall};
 ghost use Rattle.vx_engine.specs.Calling.{IsCall, IsServedBy, ServesAmong};
-ghost use Rattle.vx_engine.specs.Serving.{CommandGoes};
+ghost use Rattle.vx_engine.specs.Serving.{CommandEnds};
 ghost use Rattle.vx_house.specs.Scene.{shelved};
 ghost use Rattle.vx_house.specs.View.{Keeps, at};
 
 use crate::planning::over;
+use crate::unserved::Unserved;
 use std::alloc::Global;
 use std::collections::BTreeMap;
 use vx_answers::{Answer, End, Refusal, Views};
@@ -33,16 +34,16 @@ pub fn serve_call<S: Shelf>(
     house: &mut House<S::P>,
     shelf: &mut S,
     call: &Call,
-) -> Result<Answer, OutOfMemory>
+) -> Result<Answer, Unserved>
     requires keeps { Keeps S.P.seen (at (shelved S.free S.held S.counted S.faults shelf.old) house.old) }
     requires empty { house.old.hand.items ≡ [] }
     requires valid { IsCall call.now }
-    ensures goes { (place : ℕ) → CommandGoes S.P.seen (DoesCall place call.now) result
+    ensures goes { (place : ℕ) → CommandEnds S.P.seen (DoesCall place call.now) result
         (at (shelved S.free S.held S.counted S.faults shelf.old) house.old) (at (shelved S.free S.held S.counted S.faults shelf.new) house.new) }
 {
     match serve_among(alloc, &mut house.volumes, call) {
-        Ok(end) => Ok(over(house, shelf, Views::from_vec(Vec::new(alloc)), end)),
-        Err(refused) => Err(refused),
+        Ok(end) => over(alloc, house, shelf, Views::from_vec(Vec::new(alloc)), end),
+        Err(_) => Err(Unserved::OutOfMemory),
     }
 }
 

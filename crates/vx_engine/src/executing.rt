@@ -4,7 +4,7 @@ ghost use Rattle.vx_answers.specs.declared.answer.Answer.TheVariants.{One};
 ghost use Rattle.vx_answers.specs.declared.answer.End.TheVariants as ends;
 ghost use Rattle.vx_answers.specs.declared.refusal.Refusal.TheVariants.{NotBuilt};
 ghost use Rattle.vx_engine.specs.Calling.{IsCallIfBuilt};
-ghost use Rattle.vx_engine.specs.Serving.{CommandGoes};
+ghost use Rattle.vx_engine.specs.Serving.{CommandEnds};
 ghost use Rattle.vx_engine.specs.Sound.{HasFormSize};
 ghost use Rattle.vx_house.specs.Scene.{shelved};
 ghost use Rattle.vx_house.specs.View.{Keeps, at};
@@ -14,6 +14,7 @@ ghost use Rattle.vx_script.specs.Kept.{is_command};
 
 use crate::calling::serve_call;
 use crate::planning::serve_plan;
+use crate::unserved::Unserved;
 use std::alloc::Global;
 use vx_answers::{Answer, End, Refusal, Views};
 use vx_base::OutOfMemory;
@@ -31,11 +32,11 @@ pub fn execute<S: Shelf>(
     house: &mut House<S::P>,
     shelf: &mut S,
     command: &Command,
-) -> Result<Answer, OutOfMemory>
+) -> Result<Answer, Unserved>
     requires kept { IsTrue (is_command command.now) }
     requires keeps { Keeps S.P.seen (at (shelved S.free S.held S.counted S.faults shelf.old) house.old) }
     requires empty { house.old.hand.items ≡ [] }
-    ensures goes { (place : ℕ) → CommandGoes S.P.seen (Does place command.now) result
+    ensures goes { (place : ℕ) → CommandEnds S.P.seen (Does place command.now) result
         (at (shelved S.free S.held S.counted S.faults shelf.old) house.old) (at (shelved S.free S.held S.counted S.faults shelf.new) house.new) }
 {
     if command.cut.is_some() {
@@ -53,11 +54,11 @@ fn serve_said<S: Shelf>(
     house: &mut House<S::P>,
     shelf: &mut S,
     call: &Call,
-) -> Result<Answer, OutOfMemory>
+) -> Result<Answer, Unserved>
     requires keeps { Keeps S.P.seen (at (shelved S.free S.held S.counted S.faults shelf.old) house.old) }
     requires empty { house.old.hand.items ≡ [] }
     requires within { IsCallIfBuilt call.now }
-    ensures goes { (place : ℕ) → CommandGoes S.P.seen (DoesCall place call.now) result
+    ensures goes { (place : ℕ) → CommandEnds S.P.seen (DoesCall place call.now) result
         (at (shelved S.free S.held S.counted S.faults shelf.old) house.old) (at (shelved S.free S.held S.counted S.faults shelf.new) house.new) }
 {
     match call {
@@ -73,22 +74,22 @@ fn serve_form<S: Shelf>(
     shelf: &mut S,
     group: Option<Name>,
     form: &Form,
-) -> Result<Answer, OutOfMemory>
+) -> Result<Answer, Unserved>
     requires keeps { Keeps S.P.seen (at (shelved S.free S.held S.counted S.faults shelf.old) house.old) }
     requires empty { house.old.hand.items ≡ [] }
     requires sized { HasFormSize form.now }
-    ensures goes { CommandGoes S.P.seen (DoesPlan (disks_of form.now) (plan_of group form.now)) result
+    ensures goes { CommandEnds S.P.seen (DoesPlan (disks_of form.now) (plan_of group form.now)) result
         (at (shelved S.free S.held S.counted S.faults shelf.old) house.old) (at (shelved S.free S.held S.counted S.faults shelf.new) house.new) }
 {
     let Ok(found) = plan(alloc, group, form) else {
-        return Err(OutOfMemory);
+        return Err(Unserved::OutOfMemory);
     };
     let Some(plan) = found else {
         return Ok(not_built(alloc));
     };
     match disks_of(alloc, form) {
         Ok(disks) => serve_plan(alloc, house, shelf, &plan, disks.as_slice()),
-        Err(refused) => Err(refused),
+        Err(_) => Err(Unserved::OutOfMemory),
     }
 }
 

@@ -7,5 +7,7 @@ mod planning;
 mod running;
 mod showing;
 mod stages;
+mod unserved;
 
 pub use executing::execute;
+pub use unserved::Unserved;

@@ -1,21 +1,21 @@
 //! A command that is a plan.
-ghost use Rattle.std.specs.Prelude.{◌≡◌, [], None};
+ghost use Rattle.std.specs.Prelude.{◌≡◌, [], None, Err, IfSome, IfOk, IfErr, OnOk};
 ghost use Rattle.vx_answers.specs.declared.answer.Answer.TheVariants.{One};
 ghost use Rattle.vx_answers.specs.declared.answer.End.TheVariants as ends;
 ghost use Rattle.vx_engine.specs.Sound.{IsSound};
-ghost use Rattle.vx_engine.specs.Serving.{CommandGoes};
+ghost use Rattle.vx_engine.specs.Serving.{CommandEnds, IsHeldUp};
 ghost use Rattle.vx_house.specs.Holders.{AreHeld, holders};
 ghost use Rattle.vx_house.specs.Leaves.{IsLeft};
 ghost use Rattle.vx_house.specs.Scene.{shelved};
-ghost use Rattle.vx_house.specs.View.{Keeps, at};
+ghost use Rattle.vx_house.specs.View.{IsGroupWhole, Keeps, at};
 ghost use Rattle.vx_plans.specs.Steps.{Runs};
 
 use crate::running::run_stages;
 use crate::showing::show;
+use crate::unserved::Unserved;
 use std::alloc::Global;
 use vx_answers::{Answer, Bytes, End, Parts, Views};
-use vx_base::OutOfMemory;
-use vx_house::{House, Stop, leave};
+use vx_house::{House, Stop, give_hand, leave};
 use vx_plans::Plan;
 use vx_script_words::DiskAt;
 use vx_shelf::Shelf;
@@ -27,26 +27,20 @@ pub fn serve_plan<S: Shelf>(
     shelf: &mut S,
     plan: &Plan,
     disks: &[DiskAt],
-) -> Result<Answer, OutOfMemory>
+) -> Result<Answer, Unserved>
     requires keeps { Keeps S.P.seen (at (shelved S.free S.held S.counted S.faults shelf.old) house.old) }
     requires empty { house.old.hand.items ≡ [] }
     requires sound { IsSound plan.now }
-    ensures goes { CommandGoes S.P.seen (λ m views end n. Runs disks.now plan.now.stages plan.now.finish m views end n) result
+    ensures goes { CommandEnds S.P.seen (λ m views end n. Runs disks.now plan.now.stages plan.now.finish m views end n) result
         (at (shelved S.free S.held S.counted S.faults shelf.old) house.old) (at (shelved S.free S.held S.counted S.faults shelf.new) house.new) }
 {
     match run_stages(alloc, house, shelf, plan.stages.as_slice(), disks) {
         Ok(()) => match show(alloc, house, plan.finish) {
-            Ok(views) => Ok(over(house, shelf, views, done(alloc))),
-            Err(refused) => {
-                rest(alloc, house, shelf);
-                Err(refused)
-            }
+            Ok(views) => over(alloc, house, shelf, views, done(alloc)),
+            Err(_) => rest(alloc, house, shelf),
         },
-        Err(Stop::Ended(end)) => Ok(over(house, shelf, Views::from_vec(Vec::new(alloc)), end)),
-        Err(Stop::OutOfMemory) => {
-            rest(alloc, house, shelf);
-            Err(OutOfMemory)
-        }
+        Err(Stop::Ended(end)) => over(alloc, house, shelf, Views::from_vec(Vec::new(alloc)), end),
+        Err(Stop::OutOfMemory) => rest(alloc, house, shelf),
     }
 }
 
@@ -63,24 +57,30 @@ fn done(alloc: Global) -> End
 
 /// The command is over, and what it leaves goes back.
 pub(crate) fn over<S: Shelf>(
+    alloc: Global,
     house: &mut House<S::P>,
     shelf: &mut S,
     views: Views,
     end: End,
-) -> Answer
+) -> Result<Answer, Unserved>
     requires held { AreHeld (S.held shelf.old) (holders S.P.seen house.old) }
-    ensures told { result ≡ One views end }
-    ensures left { IsLeft S.P.seen end (at (shelved S.free S.held S.counted S.faults shelf.old) house.old) (at (shelved S.free S.held S.counted S.faults shelf.new) house.new) }
+    requires whole { IfSome house.old.group (IsGroupWhole S.P.seen) }
+    ensures told { IfOk result (λ answer. answer ≡ One views end) }
+    ensures left { OnOk result (IsLeft S.P.seen end (at (shelved S.free S.held S.counted S.faults shelf.old) house.old) (at (shelved S.free S.held S.counted S.faults shelf.new) house.new)) }
+    ensures held_up { IfErr result (λ e. (e ≡ Unserved.HeldUp) × IsHeldUp S.P.seen (at (shelved S.free S.held S.counted S.faults shelf.new) house.new)) }
 {
-    leave(house, shelf, &end);
-    Answer::One { views, end }
+    match leave(alloc, house, shelf, &end) {
+        Ok(()) => Ok(Answer::One { views, end }),
+        Err(_) => Err(Unserved::HeldUp),
+    }
 }
 
 /// Memory was wanting, and the devices in hand go back.
-fn rest<S: Shelf>(alloc: Global, house: &mut House<S::P>, shelf: &mut S)
+fn rest<S: Shelf>(alloc: Global, house: &mut House<S::P>, shelf: &mut S) -> Result<Answer, Unserved>
     requires held { AreHeld (S.held shelf.old) (holders S.P.seen house.old) }
+    ensures refused { result ≡ Err Unserved.OutOfMemory }
     ensures left { IsLeft S.P.seen (ends.Done None [] []) (at (shelved S.free S.held S.counted S.faults shelf.old) house.old) (at (shelved S.free S.held S.counted S.faults shelf.new) house.new) }
 {
-    let end = done(alloc);
-    leave(house, shelf, &end);
+    give_hand(house, shelf);
+    Err(Unserved::OutOfMemory)
 }

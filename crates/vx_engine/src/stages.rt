@@ -1,5 +1,6 @@
 //! One stage of a command.
 ghost use Rattle.vx_engine.specs.Fed.{HasSize};
+ghost use Rattle.vx_engine.specs.Runs.{StageEnds};
 ghost use Rattle.vx_house.specs.Goes.{IsReady, StageGoes};
 ghost use Rattle.vx_house.specs.Scene.{Shelved, shelved};
 ghost use Rattle.vx_house.specs.View.{Keeps, at};
@@ -30,7 +31,7 @@ pub(crate) fn run_stage<S: Shelf>(
     requires keeps { Keeps S.P.seen (at (shelved S.free S.held S.counted S.faults shelf.old) house.old) }
     requires ready { IsReady S.P.seen stage.now disks.now house.old }
     requires sized { HasSize stage.now }
-    ensures goes { StageGoes S.P.seen stage.now disks.now result (at (shelved S.free S.held S.counted S.faults shelf.old) house.old) (at (shelved S.free S.held S.counted S.faults shelf.new) house.new) }
+    ensures goes { StageEnds S.P.seen stage.now disks.now result (at (shelved S.free S.held S.counted S.faults shelf.old) house.old) (at (shelved S.free S.held S.counted S.faults shelf.new) house.new) }
 {
     match stage {
         Stage::Gate(test) => pass(alloc, house, *test, disks),
@@ -46,7 +47,7 @@ pub(crate) fn run_stage<S: Shelf>(
         Stage::Change(edit) => change(alloc, house, *edit),
         Stage::Make(text) => make(alloc, house, text.as_slice()),
         Stage::Import(dg) => import(alloc, house, shelf, dg, disks),
-        Stage::LetGo => let_go(house, shelf),
+        Stage::LetGo => let_go(alloc, house, shelf),
         Stage::Join => join(alloc, house, disks),
         Stage::Create(dg) => create(alloc, house, dg, disks),
     }
@@ -64,11 +65,13 @@ fn pass<P: Piece>(alloc: Global, house: &House<P>, test: Test, disks: &[DiskAt])
     }
 }
 
-/// Lets the imported group go.
-fn let_go<S: Shelf>(house: &mut House<S::P>, shelf: &mut S) -> Result<(), Stop>
+/// Lets the imported group go. Where there is no memory to join its devices it stays, and some may be joined.
+fn let_go<S: Shelf>(alloc: Global, house: &mut House<S::P>, shelf: &mut S) -> Result<(), Stop>
     requires keeps { Keeps S.P.seen (at (shelved S.free S.held S.counted S.faults shelf.old) house.old) }
-    ensures goes { (disks : List DiskAt) → StageGoes S.P.seen stages.LetGo disks result (at (shelved S.free S.held S.counted S.faults shelf.old) house.old) (at (shelved S.free S.held S.counted S.faults shelf.new) house.new) }
+    ensures goes { (disks : List DiskAt) → StageEnds S.P.seen stages.LetGo disks result (at (shelved S.free S.held S.counted S.faults shelf.old) house.old) (at (shelved S.free S.held S.counted S.faults shelf.new) house.new) }
 {
-    give_group(house, shelf);
-    Ok(())
+    match give_group(alloc, house, shelf) {
+        Ok(()) => Ok(()),
+        Err(_) => Err(Stop::OutOfMemory),
+    }
 }

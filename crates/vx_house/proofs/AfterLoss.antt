@@ -6,6 +6,7 @@ use Rattle.std.specs.Str.{bytes_eq}
 use Rattle.std.specs.BTreeMap.{BTreeMap, get}
 use Rattle.std.specs.Cmp.Lexicographic.{slice_cmp}
 use Rattle.std.specs.Ordering.{nat_cmp}
+use Rattle.vx_pages.specs.declared.local_piece.LocalPiece.{Ghosts}
 use Rattle.vx_base.specs.Blocks.{Contents}
 use Rattle.vx_base.specs.Named.{Word}
 use Rattle.vx_base.proofs.NamedLemmas.{bytes_eq_self, bytes_eq_same}
@@ -73,8 +74,8 @@ entry_any {P = P} (e ∷ es) = (by (bytes_eq e.1.device e.1.device) (bytes_eq_se
     later [] all = tt
     later (x ∷ xs) all = (or_true (bytes_eq e.1.device x.1.device) (list_any (λ y. bytes_eq y.1.device x.1.device) es) all.0, later xs all.1)
 
-module _ {P : Type 0} (see : P → Seen) (old : View P) (m : Moment) (is : IsMomentButGroup see old m) (keeps : KeepsButGroup see old) where
-  abbrev h : House P
+module _ {P : Type 0} {ghosts : Ghosts P} (see : P → Seen) (old : View P ghosts) (m : Moment) (is : IsMomentButGroup see old m) (keeps : KeepsButGroup see old) where
+  abbrev h : House P ghosts
   h = old.house
 
   -- each volume that is started is one of the world's
@@ -143,7 +144,7 @@ module _ {P : Type 0} (see : P → Seen) (old : View P) (m : Moment) (is : IsMom
       others name none false lent = refl
 
   -- the house holds nothing, and this is the moment
-  module _ (new : View P) (gone : IsLeft see (ends.Lost []) old new) where
+  module _ (new : View P ghosts) (gone : IsLeft see (ends.Lost []) old new) where
     no_lent : (name : Word) → is_lent new.house name ≡ false
     no_lent name = ap (λ es. list_any (λ e. bytes_eq e.1.device name) es) gone.stays.volumes
 
@@ -172,7 +173,7 @@ module _ {P : Type 0} (see : P → Seen) (old : View P) (m : Moment) (is : IsMom
     }
 
   -- the group has left, and all else is as before
-  pub group_away : (new : View P) → Unmoved (scene see old) (scene see new) → new.house.volumes ≡ h.volumes → new.house.group ≡ None → IsMoment see new (record { world = group_gone m.world; counts = m.counts })
+  pub group_away : (new : View P ghosts) → Unmoved (scene see old) (scene see new) → new.house.volumes ≡ h.volumes → new.house.group ≡ None → IsMoment see new (record { world = group_gone m.world; counts = m.counts })
   group_away new moved volumes none = record {
     told = moved.told is.told;
     devices_are = λ name. subst (λ b. IsDeviceOf b (seen_at (scene see new) name) (m.world.devices name)) (ap (λ (v : BTreeMap Word (Started P)). list_any (λ e. bytes_eq e.1.device name) v.entries) (sym volumes))
@@ -183,5 +184,5 @@ module _ {P : Type 0} (see : P → Seen) (old : View P) (m : Moment) (is : IsMom
   }
 
   -- the group leaves at the end of a command
-  pub without_group : (new : View P) → IsLeft see ends.GroupLost old new → IsMoment see new (record { world = group_gone m.world; counts = m.counts })
+  pub without_group : (new : View P ghosts) → IsLeft see ends.GroupLost old new → IsMoment see new (record { world = group_gone m.world; counts = m.counts })
   without_group new gone = group_away new gone.later.moved gone.stays.volumes gone.stays.group

@@ -2,24 +2,26 @@
 use Rattle.std.proofs.Common.{◌≡◌, ◌∙◌, ◌⊎◌, Bool, true, false, cond, ◌||◌, List, [], ◌∷◌, ◌++◌, map, Option, Some, None, refl, sym, ap, subst, inl, inr}
 use Rattle.std.specs.Prelude.{IsSome}
 use Rattle.std.specs.Str.{bytes_eq}
+use Rattle.vx_pages.specs.declared.local_piece.LocalPiece.{Ghosts}
 use Rattle.vx_base.specs.Named.{Word}
 use Rattle.vx_base.proofs.NamedLemmas.{bytes_eq_same}
 use Rattle.vx_piece.specs.Seen.{Seen}
 use Rattle.vx_shelf.specs.Shelf.{Held, IsNowhere}
 use Rattle.vx_shelf.specs.Shelf.{held_as as held_of}
 use Rattle.vx_copies.specs.Lists.{AllOf, AnyOf}
-use Rattle.vx_copies.specs.declared.disk.Disk.{Disk}
+use Rattle.vx_copies.specs.Disks.{DiskSeen}
 use Rattle.vx_started.specs.declared.started.Started.{Started}
 use Rattle.vx_moments.specs.World.{World, Device, Volume, Member, Lies, OnDevice}
 use Rattle.vx_moments.specs.Holding.{IsHeld, IsLent, IsMemberDevice, HasDevice, is_among}
 use Rattle.vx_plans.specs.Stages.{IsFree}
-use Rattle.vx_house.specs.Holders.{Holder, holders, volume_holder, disk_holder, hand_holder, group_holders, hand_names, volume_at, held_as, AreHeld, IsTakenFrom}
+use Rattle.vx_house.specs.Holders.{Holder, holders, volume_holder, holder_in, hand_holder, group_holders, whole_members, hand_names, volume_at, held_as, AreHeld, IsTakenFrom}
 use Rattle.vx_house.specs.Scene.{Scene, seen_in, seen_at}
-use Rattle.vx_house.specs.View.{IsDeviceOf, IsVolumeOf, IsAtVolume, member_of, group_of, is_lent, KeepsHouse}
+use Rattle.vx_house.specs.View.{IsDeviceOf, IsVolumeOf, IsAtVolume, member_in, group_of, is_lent, KeepsHouse}
 use Rattle.vx_house.specs.declared.house.House.{House}
 use Rattle.vx_house.specs.declared.house.Imported.{Imported}
 use Rattle.vx_house.specs.declared.house.Taken.{Taken}
 use Rattle.vx_house.proofs.AllLaws.{all_front, all_back, all_unmapped, held_by_one, found_by_one, found_each}
+use Rattle.vx_house.proofs.Wholes.{group_members}
 
 -- an entry that passes both, in a list where each that passes the first passes the other
 gone : (o : Option Held) (h : Held) → o ≡ None → o ≡ Some h → ⊥
@@ -33,14 +35,14 @@ not_held held hs name taken none = by_seen (held_as hs name) refl
     by_seen None e = e
     by_seen (Some seen) e = absurd (held_by_one (IsTakenFrom held) hs name seen e taken (λ h named is from. gone (held h.name) (held_of h.seen) (ap held named ∙ none) from.1))
 
-disks_out : {P : Type 0} (see : P → Seen) (held : Word → Option Held) (ds : List (Disk P)) (name : Word) → AllOf (IsTakenFrom held) (map (disk_holder see) ds) → AnyOf (λ (m : Member). m.device ≡ name) (map member_of ds) → IsSome (held name)
-disks_out see held [] name taken any = absurd any
-disks_out see held (d ∷ ds) name taken (inl is) = subst IsSome (sym (ap held (sym is) ∙ taken.0.1)) refl
-disks_out see held (d ∷ ds) name taken (inr any) = disks_out see held ds name taken.1 any
+disks_out : (held : Word → Option Held) (hs : List DiskSeen) (name : Word) → AllOf (IsTakenFrom held) (map holder_in hs) → AnyOf (λ (m : Member). m.device ≡ name) (map member_in hs) → IsSome (held name)
+disks_out held [] name taken any = absurd any
+disks_out held (h ∷ hs) name taken (inl is) = subst IsSome (sym (ap held (sym is) ∙ taken.0.1)) refl
+disks_out held (h ∷ hs) name taken (inr any) = disks_out held hs name taken.1 any
 
-group_out : {P : Type 0} (see : P → Seen) (held : Word → Option Held) (o : Option (Imported P)) (name : Word) → AllOf (IsTakenFrom held) (group_holders see o) → IsMemberDevice (group_of see o) name → IsSome (held name)
+group_out : {P : Type 0} {ghosts : Ghosts P} (see : P → Seen) (held : Word → Option Held) (o : Option (Imported P ghosts)) (name : Word) → AllOf (IsTakenFrom held) (group_holders see o) → IsMemberDevice (group_of see o) name → IsSome (held name)
 group_out see held None name taken is = absurd is
-group_out see held (Some g) name taken is = disks_out see held g.base.disks.items name taken is
+group_out see held (Some g) name taken is = disks_out held (whole_members see g) name taken (subst (AnyOf (λ (m : Member). m.device ≡ name)) (group_members see g) is)
 
 hand_out : {P : Type 0} (see : P → Seen) (held : Word → Option Held) (ts : List (Taken P)) (name : Word) → AllOf (IsTakenFrom held) (map (hand_holder see) ts) → is_among name (map (λ t. t.device) ts) ≡ true → IsSome (held name)
 hand_out see held [] name taken is = cc
@@ -71,17 +73,17 @@ held_either (x ∷ xs) ys name seen is = by_test (bytes_eq x.name name) (held_ei
     by_test true rest e = inl e
     by_test false rest e = rest e
 
-disks_in : {P : Type 0} (see : P → Seen) (ds : List (Disk P)) (name : Word) (seen : Seen) → held_as (map (disk_holder see) ds) name ≡ Some seen → AnyOf (λ (m : Member). m.device ≡ name) (map member_of ds)
-disks_in see [] name seen is = cc
-disks_in see (d ∷ ds) name seen is = by_test (bytes_eq d.device name) refl (disks_in see ds name seen) is
+disks_in : (hs : List DiskSeen) (name : Word) (seen : Seen) → held_as (map holder_in hs) name ≡ Some seen → AnyOf (λ (m : Member). m.device ≡ name) (map member_in hs)
+disks_in [] name seen is = cc
+disks_in (h ∷ hs) name seen is = by_test (bytes_eq h.device name) refl (disks_in hs name seen) is
   where
-    by_test : (b : Bool) → bytes_eq d.device name ≡ b → (held_as (map (disk_holder see) ds) name ≡ Some seen → AnyOf (λ (m : Member). m.device ≡ name) (map member_of ds)) → cond b (Some (see d.piece)) (held_as (map (disk_holder see) ds) name) ≡ Some seen → AnyOf (λ (m : Member). m.device ≡ name) (map member_of (d ∷ ds))
-    by_test true e rest is = inl (bytes_eq_same d.device name e)
+    by_test : (b : Bool) → bytes_eq h.device name ≡ b → (held_as (map holder_in hs) name ≡ Some seen → AnyOf (λ (m : Member). m.device ≡ name) (map member_in hs)) → cond b (Some h.seen) (held_as (map holder_in hs) name) ≡ Some seen → AnyOf (λ (m : Member). m.device ≡ name) (map member_in (h ∷ hs))
+    by_test true e rest is = inl (bytes_eq_same h.device name e)
     by_test false e rest is = inr (rest is)
 
-group_in : {P : Type 0} (see : P → Seen) (o : Option (Imported P)) (name : Word) (seen : Seen) → held_as (group_holders see o) name ≡ Some seen → IsMemberDevice (group_of see o) name
+group_in : {P : Type 0} {ghosts : Ghosts P} (see : P → Seen) (o : Option (Imported P ghosts)) (name : Word) (seen : Seen) → held_as (group_holders see o) name ≡ Some seen → IsMemberDevice (group_of see o) name
 group_in see None name seen is = cc
-group_in see (Some g) name seen is = disks_in see g.base.disks.items name seen is
+group_in see (Some g) name seen is = subst (AnyOf (λ (m : Member). m.device ≡ name)) (sym (group_members see g)) (disks_in (whole_members see g) name seen is)
 
 hand_in : {P : Type 0} (see : P → Seen) (ts : List (Taken P)) (name : Word) (seen : Seen) → held_as (map (hand_holder see) ts) name ≡ Some seen → is_among name (map (λ t. t.device) ts) ≡ true
 hand_in see [] name seen is = cc
@@ -100,7 +102,7 @@ volumes_in see (e ∷ es) w name seen all is = by_test (bytes_eq e.1.device name
     by_test true same rest is = (e.0, all.0.0, all.0.1, subst (λ l. HasDevice l name) (sym all.0.2.lies) (bytes_eq_same e.1.device name same))
     by_test false same rest is = rest is
 
-module _ {P : Type 0} (see : P → Seen) (h : House P) (w : World) (volumes : (vol : Word) → IsAtVolume see (volume_at h vol) (w.volumes vol)) (group : w.group ≡ group_of see h.group) where
+module _ {P : Type 0} {ghosts : Ghosts P} (see : P → Seen) (h : House P ghosts) (w : World) (volumes : (vol : Word) → IsAtVolume see (volume_at h vol) (w.volumes vol)) (group : w.group ≡ group_of see h.group) where
   volume_out : (held : Word → Option Held) → AllOf (IsTakenFrom held) (map (volume_holder see) h.volumes.entries) → (name vol : Word) (v : Volume) → w.volumes vol ≡ Some v → HasDevice v.lies name → IsSome (held name)
   volume_out held each name vol v is lies =
       let b = at_world see (volume_at h vol) v (subst (IsAtVolume see (volume_at h vol)) is (volumes vol)) in
@@ -157,7 +159,7 @@ not_some : (o : Option Held) → IsSome o → o ≡ None → ⊥
 not_some o some none = cc
 
 -- what the world says of devices, where the house holds all that was taken
-module _ {P : Type 0} (see : P → Seen) (s : Scene) (h : House P) (are : AreHeld s.shelf.held (holders see h)) (taken : s.taken ≡ holders see h) (keeps : KeepsHouse see h) (w : World)
+module _ {P : Type 0} {ghosts : Ghosts P} (see : P → Seen) (s : Scene) (h : House P ghosts) (are : AreHeld s.shelf.held (holders see h)) (taken : s.taken ≡ holders see h) (keeps : KeepsHouse see h) (w : World)
     (volumes : (vol : Word) → IsAtVolume see (volume_at h vol) (w.volumes vol)) (group : w.group ≡ group_of see h.group) (devices : Word → Option Seen) (told : s.shelf.free ≡ Some devices)
     (devices_are : (name : Word) → IsDeviceOf (is_lent h name) (seen_at s name) (w.devices name)) where
   seen_none : (name : Word) → s.shelf.held name ≡ None → seen_at s name ≡ devices name

@@ -2,6 +2,7 @@
 use Rattle.std.proofs.Common.{◌≡◌, ◌∙◌, ◌<◌, Bool, true, false, cond, ◌||◌, List, [], ◌∷◌, ◌++◌, map, Option, Some, None, refl, sym, ap, subst, arith}
 use Rattle.std.specs.List.{list_any}
 use Rattle.std.specs.Str.{bytes_eq}
+use Rattle.vx_pages.specs.declared.local_piece.LocalPiece.{Ghosts}
 use Rattle.vx_base.specs.Named.{Word}
 use Rattle.vx_piece.specs.Seen.{Seen}
 use Rattle.vx_piece.specs.Seen.{Keeps as StaysDevice}
@@ -83,7 +84,7 @@ hand_none see (h ∷ hs) ts name none = by_test (bytes_eq h.name name) (hand_non
     by_test true rest e = cc
     by_test false rest e = rest e
 
-module _ {P : Type 0} (see : P → Seen) (h : House P) where
+module _ {P : Type 0} {ghosts : Ghosts P} (see : P → Seen) (h : House P ghosts) where
   abbrev pub volumes_held : List Holder
   volumes_held = map (volume_holder see) h.volumes.entries
 
@@ -146,11 +147,11 @@ module _ {P : Type 0} (see : P → Seen) (h : House P) where
           by_test false rest e = rest e
 
 -- a house whose hand is as in another, and all else stays
-abbrev pub after : {P : Type 0} → House P → House P → House P
+abbrev pub after : {P : Type 0} {ghosts : Ghosts P} → House P ghosts → House P ghosts → House P ghosts
 after h k = record { volumes = h.volumes; group = h.group; hand = k.hand }
 
 -- The devices in hand were called, and the volumes and the group are as they were.
-module _ {P : Type 0} (see : P → Seen) (h k : House P) (Q : Word → Seen → Seen → Type 0) (on : (name : Word) (s t : Seen) → Q name s t → StaysDevice s t)
+module _ {P : Type 0} {ghosts : Ghosts P} (see : P → Seen) (h k : House P ghosts) (Q : Word → Seen → Seen → Type 0) (on : (name : Word) (s t : Seen) → Q name s t → StaysDevice s t)
     (volumes : AllOf (λ o. Q o.name o.seen o.seen) (volumes_held see h)) (group : AllOf (λ o. Q o.name o.seen o.seen) (group_held see h))
     (hand : Each (IsStep Q) (map (hand_holder see) h.hand.items) (map (hand_holder see) k.hand.items)) where
   same_step : (hs : List Holder) → AllOf (λ o. Q o.name o.seen o.seen) hs → Each (IsStep Q) hs hs

@@ -5,7 +5,7 @@ use Rattle.std.proofs.lemmas.Bool.{cond-true, cond-false}
 use Rattle.vx_base.specs.Named.{Word, put}
 use Rattle.vx_base.proofs.NamedLemmas.{bytes_eq_self, bytes_eq_same}
 use Rattle.vx_piece.specs.Seen.{Seen, Keeps}
-use Rattle.vx_shelf.specs.Shelf.{Held, IsTaken, IsGiven}
+use Rattle.vx_shelf.specs.Shelf.{Held, AreNumbered, IsTaken, IsGiven}
 use Rattle.vx_shelf.specs.Shelf.{held_as as held_of}
 use Rattle.vx_copies.specs.Lists.{AllOf, Each}
 use Rattle.vx_house.specs.Holders.{Holder, held_as, AreApart, IsTakenFrom, AreHeld}
@@ -89,8 +89,17 @@ module _ (held held' : Word → Option Held) (xs : List Holder) (h : Holder) (ys
     each = give_each given are.apart are.each;
     apart = apart_others xs h ys are.apart;
     only = λ name none. given name ∙ by_test name (bytes_eq h.name name) refl none;
+    numbers = λ a b x y p q. are.numbers a b x y (stays a x p) (stays b y q);
   }
     where
+      -- what is held now was held
+      stays : (name : Word) (x : Held) → held' name ≡ Some x → held name ≡ Some x
+      stays name x is = by_name (bytes_eq h.name name) (sym (given name) ∙ is)
+        where
+          by_name : (b : Bool) → cond b None (held name) ≡ Some x → held name ≡ Some x
+          by_name true e = cc
+          by_name false e = e
+
       by_test : (name : Word) (b : Bool) → bytes_eq h.name name ≡ b → held_as (xs ++ ys) name ≡ None → cond b None (held name) ≡ None
       by_test name true e none = refl
       by_test name false e none = are.only name (held_at xs h ys name are.apart ∙ cond-false _ _ _ e ∙ none)
@@ -105,12 +114,13 @@ module _ (held held' : Word → Option Held) (xs : List Holder) (h : Holder) (ys
       by_test true e = let same : h.name ≡ o.name = bytes_eq_same h.name o.name e in let there : held h.name ≡ Some (held_of o.seen) = ap held same ∙ taken.0.1 in cc
 
   -- one is taken
-  pub take_one : IsTaken h.name h.seen held held' → AreHeld held (xs ++ ys) → AreHeld held' (xs ++ h ∷ ys)
-  take_one taken are = record {
+  pub take_one : AreNumbered held' → IsTaken h.name h.seen held held' → AreHeld held (xs ++ ys) → AreHeld held' (xs ++ h ∷ ys)
+  take_one numbers taken are = record {
     each = all_put (IsTakenFrom held') xs h ys (taken.whole, taken.after h.name ∙ cond-true _ _ _ (bytes_eq_self h.name))
         (all_both (IsApart h) (IsTakenFrom held) (IsTakenFrom held') (λ o apart from. taken_stays held held' o (taken.after o.name ∙ cond-false _ _ _ apart) from) (xs ++ ys) others are.each);
     apart = apart;
     only = λ name none. taken.after name ∙ by_test name (bytes_eq h.name name) (sym (held_at xs h ys name apart) ∙ none);
+    numbers = numbers;
   }
     where
       others : AllOf (IsApart h) (xs ++ ys)
@@ -129,6 +139,7 @@ same_held held held' hs same are = record {
   each = all_map (IsTakenFrom held) (IsTakenFrom held') (λ o taken. taken_stays held held' o (same o.name) taken) hs are.each;
   apart = are.apart;
   only = λ name none. same name ∙ are.only name none;
+  numbers = λ a b x y p q. are.numbers a b x y (sym (same a) ∙ p) (sym (same b) ∙ q);
 }
 
 -- where nobody holds anything, nothing is held
@@ -136,7 +147,7 @@ pub none_held : (held : Word → Option Held) → AreHeld held [] → NoneHeld h
 none_held held are name = are.only name refl
 
 pub holds_none : (held : Word → Option Held) → NoneHeld held → AreHeld held []
-holds_none held none = record { each = tt; apart = tt; only = λ name _. none name }
+holds_none held none = record { each = tt; apart = tt; only = λ name _. none name; numbers = λ a b x y p q. let gone = none a in cc }
 
 -- the same whole device, as it is seen now
 pub record IsLater (old new : Holder) : Type 0 where
@@ -183,6 +194,7 @@ later_held held hs ns later are = record {
   each = later_each held hs ns later are.each;
   apart = later_apart hs ns later are.apart;
   only = λ name none. are.only name (later_none hs ns name later none);
+  numbers = are.numbers;
 }
 
 -- nothing is held under a name that none of them has

@@ -3,6 +3,7 @@ use Rattle.std.proofs.Common.{◌≡◌, ◌∙◌, ◌≤◌, ◌⊎◌, Bool, 
 use Rattle.std.specs.Str.{bytes_eq}
 use Rattle.std.proofs.lemmas.Bool.{cond-true}
 use Rattle.std.proofs.lemmas.List.{map-append}
+use Rattle.vx_pages.specs.declared.local_piece.LocalPiece.{Ghosts}
 use Rattle.vx_base.specs.Named.{Word}
 use Rattle.vx_base.proofs.NamedLemmas.{bytes_eq_self, bytes_eq_same}
 use Rattle.vx_piece.specs.Seen.{Seen, Keeps}
@@ -101,10 +102,10 @@ module _ (shelf : Shelved) (xs : List Holder) (h k : Holder) (ys : List Holder) 
       by_test false e = place_refl (seen_at old name)
 
 -- the devices before one in hand, and those behind it
-abbrev pub before_hand : {P : Type 0} → (P → Seen) → House P → List (Taken P) → List Holder
+abbrev pub before_hand : {P : Type 0} {ghosts : Ghosts P} → (P → Seen) → House P ghosts → List (Taken P) → List Holder
 before_hand see h xs = map (volume_holder see) h.volumes.entries ++ (group_holders see h.group ++ map (hand_holder see) xs)
 
-pub hand_split : {P : Type 0} (see : P → Seen) (h : House P) (xs : List (Taken P)) (t : Taken P) (ys : List (Taken P)) → h.hand.items ≡ xs ++ t ∷ ys → holders see h ≡ before_hand see h xs ++ hand_holder see t ∷ map (hand_holder see) ys
+pub hand_split : {P : Type 0} {ghosts : Ghosts P} (see : P → Seen) (h : House P ghosts) (xs : List (Taken P)) (t : Taken P) (ys : List (Taken P)) → h.hand.items ≡ xs ++ t ∷ ys → holders see h ≡ before_hand see h xs ++ hand_holder see t ∷ map (hand_holder see) ys
 hand_split see h xs t ys is =
     let vs = map (volume_holder see) h.volumes.entries in
     let gs = group_holders see h.group in

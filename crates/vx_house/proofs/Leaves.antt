@@ -2,22 +2,25 @@
 use Rattle.std.proofs.Common.{◌≡◌, ◌∙◌, List, [], ◌++◌, map, refl, sym, ap, subst, append_assoc}
 use Rattle.std.proofs.lemmas.List.{append-nil}
 use Rattle.std.specs.BTreeMap.{BTreeMap}
+use Rattle.std.specs.Global.{Vec}
+use Rattle.vx_pages.specs.declared.local_piece.LocalPiece.{Ghosts}
 use Rattle.vx_base.specs.Named.{Word}
 use Rattle.vx_piece.specs.Seen.{Seen}
 use Rattle.vx_started.specs.declared.started.Started.{Started}
-use Rattle.vx_house.specs.Closing.{GivesHand, GivesGroup, GivesVolumes}
+use Rattle.vx_house.specs.Closing.{GivesHand, GivesGroup, GivesVolumes, KeepsGroup}
 use Rattle.vx_house.specs.Holders.{Holder, AreHeld, holders, volume_holder, group_holders, hand_holder}
 use Rattle.vx_life.specs.declared.Part.{Part}
 use Rattle.vx_answers.specs.declared.answer.End.{End}
 use Rattle.vx_answers.specs.declared.answer.End.TheVariants as ends
-use Rattle.vx_house.specs.Leaves.{IsLater, IsLeft, StaysBy, LeavesBoth}
+use Rattle.vx_house.specs.Leaves.{IsLater, IsLeft, IsStuck, StaysBy, LeavesBoth}
 use Rattle.vx_house.specs.Scene.{Shelved}
 use Rattle.vx_house.specs.Unmoved.{Unmoved}
 use Rattle.vx_house.specs.View.{View, at, scene}
 use Rattle.vx_house.specs.declared.house.House.{House}
+use Rattle.vx_house.specs.declared.house.Taken.{Taken}
 use Rattle.vx_house.proofs.Scenes.{scene_of, unmoved_trans}
 
-module _ {P : Type 0} (see : P → Seen) (old new : Shelved) (h k : House P) (are : AreHeld old.held (holders see h)) where
+module _ {P : Type 0} {ghosts : Ghosts P} (see : P → Seen) (old new : Shelved) (h k : House P ghosts) (are : AreHeld old.held (holders see h)) where
   abbrev vs : List Holder
   vs = map (volume_holder see) h.volumes.entries
 
@@ -81,11 +84,11 @@ module _ {P : Type 0} (see : P → Seen) (old new : Shelved) (h k : House P) (ar
       hand = ap (λ xs. xs.items) gives.hand ∙ empty;
     }
 
-pub later_then : {P : Type 0} (see : P → Seen) (a b c : View P) → IsLater see a b → IsLater see b c → IsLater see a c
+pub later_then : {P : Type 0} {ghosts : Ghosts P} (see : P → Seen) (a b c : View P ghosts) → IsLater see a b → IsLater see b c → IsLater see a c
 later_then see a b c p q = record { devices = q.devices; moved = unmoved_trans (scene see a) (scene see b) (scene see c) p.moved q.moved; hand = q.hand }
 
 -- the end is none at which the group or the power is lost
-pub stays_both : {P : Type 0} (end : End) (old new : View P) → (end ≡ ends.GroupLost → ⊥) → ((parts : List Part) → end ≡ ends.Lost parts → ⊥) → LeavesBoth old new → StaysBy end old new
+pub stays_both : {P : Type 0} {ghosts : Ghosts P} (end : End) (old new : View P ghosts) → (end ≡ ends.GroupLost → ⊥) → ((parts : List Part) → end ≡ ends.Lost parts → ⊥) → LeavesBoth old new → StaysBy end old new
 stays_both (ends.Done copied parts blocks) old new not_group not_power both = both
 stays_both (ends.Refused r) old new not_group not_power both = both
 stays_both (ends.Fault told device parts) old new not_group not_power both = both
@@ -94,7 +97,7 @@ stays_both ends.GroupLost old new not_group not_power both = absurd (not_group r
 stays_both (ends.Lost parts) old new not_group not_power both = absurd (not_power parts refl)
 
 -- the hand, and then the group
-module _ {P : Type 0} (see : P → Seen) (s t u : Shelved) (h k m : House P) (are : AreHeld s.held (holders see h)) (hand : GivesHand see s h t k) (group : GivesGroup see t k u m) where
+module _ {P : Type 0} {ghosts : Ghosts P} (see : P → Seen) (s t u : Shelved) (h k m : House P ghosts) (are : AreHeld s.held (holders see h)) (hand : GivesHand see s h t k) (group : GivesGroup see t k u m) where
   mid : IsLater see (at s h) (at t k)
   mid = hand_given see s t h k are hand
 
@@ -105,9 +108,36 @@ module _ {P : Type 0} (see : P → Seen) (s t u : Shelved) (h k m : House P) (ar
   left_group = record { later = both_given; stays = record { volumes = group.volumes ∙ hand.volumes; group = group.none } }
 
   -- and then the volumes
-  module _ (v : Shelved) (n : House P) (volumes : GivesVolumes see u m v n) where
+  module _ (v : Shelved) (n : House P ghosts) (volumes : GivesVolumes see u m v n) where
     pub left_all : (parts : List Part) → IsLeft see (ends.Lost parts) (at s h) (at v n)
     left_all parts = record {
       later = later_then see (at s h) (at u m) (at v n) both_given (volumes_given see u v m n both_given.devices volumes both_given.hand);
       stays = record { volumes = volumes.empty; group = volumes.group ∙ group.none };
     }
+
+-- where memory was wanting for the group, all that was held is
+pub holders_kept : {P : Type 0} {ghosts : Ghosts P} (see : P → Seen) (k m : House P ghosts) → KeepsGroup see k m → holders see m ≡ holders see k
+holders_kept {P = P} see k m keeps =
+    ap (λ (v : BTreeMap Word (Started P)). map (volume_holder see) v.entries ++ (group_holders see m.group ++ map (hand_holder see) m.hand.items)) keeps.volumes
+    ∙ ap (λ gs. map (volume_holder see) k.volumes.entries ++ (gs ++ map (hand_holder see) m.hand.items)) keeps.holders
+    ∙ ap (λ (ts : Vec (Taken P)). map (volume_holder see) k.volumes.entries ++ (group_holders see k.group ++ map (hand_holder see) ts.items)) keeps.hand
+
+-- the hand, and then memory was wanting for the group
+module _ {P : Type 0} {ghosts : Ghosts P} (see : P → Seen) (s t : Shelved) (h k m : House P ghosts) (are : AreHeld s.held (holders see h)) (hand : GivesHand see s h t k) (keeps : KeepsGroup see k m) where
+  kept : IsLater see (at s h) (at t k)
+  kept = hand_given see s t h k are hand
+
+  same : holders see m ≡ holders see k
+  same = holders_kept see k m keeps
+
+  pub stuck_so : IsStuck see (at s h) (at t m)
+  stuck_so = record {
+    later = record {
+      devices = subst (AreHeld t.held) (sym same) kept.devices;
+      moved = subst (λ hs. Unmoved (scene_of s (holders see h)) (scene_of t hs)) (sym same) kept.moved;
+      hand = ap (λ (ts : Vec (Taken P)). ts.items) keeps.hand ∙ kept.hand;
+    };
+    some = keeps.some;
+    whole = keeps.whole;
+    disks = keeps.disks;
+  }

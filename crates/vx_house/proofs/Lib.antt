@@ -3,6 +3,10 @@ pub mod AllLaws
 pub mod Scenes
 pub mod Moments
 pub mod Ends
+pub mod Wholes
+pub mod Results
+pub mod Joined
+pub mod Founded
 pub mod Free
 pub mod LaterFaults
 pub mod Takes

@@ -1,6 +1,7 @@
 -- Moments that a house is, as devices are taken, given back and called.
 use Rattle.std.proofs.Common.{◌≡◌, ◌∙◌, false, Option, Some, None, refl, sym, ap, subst, arith}
 use Rattle.std.specs.Prelude.{IsSome, IsTrue}
+use Rattle.vx_pages.specs.declared.local_piece.LocalPiece.{Ghosts}
 use Rattle.vx_base.specs.Named.{Word}
 use Rattle.vx_piece.specs.Seen.{Seen}
 use Rattle.vx_moments.specs.World.{World}
@@ -46,7 +47,7 @@ faults_trans a b c p q = record {
 }
 
 -- the same moment, where nothing is seen otherwise, and the volumes and the group are the same
-pub moment_moved : {P : Type 0} (see : P → Seen) (s t : Scene) (h k : House P) (m : Moment) → Unmoved s t → k.volumes ≡ h.volumes → k.group ≡ h.group → IsMomentIn see s h m → IsMomentIn see t k m
+pub moment_moved : {P : Type 0} {ghosts : Ghosts P} (see : P → Seen) (s t : Scene) (h k : House P ghosts) (m : Moment) → Unmoved s t → k.volumes ≡ h.volumes → k.group ≡ h.group → IsMomentIn see s h m → IsMomentIn see t k m
 moment_moved {P = P} see s t h k m moved volumes group is = record {
   told = moved.told is.told;
   devices_are = λ name. subst (λ b. IsDeviceOf b (seen_at t name) (m.world.devices name)) (ap (λ v. is_lent (record { volumes = v; group = h.group; hand = h.hand }) name) (sym volumes))

@@ -2,6 +2,7 @@
 use Rattle.std.proofs.Common.{◌≡◌, ◌∙◌, Bool, true, false, List, [], ◌∷◌, map, get_or, Some, refl, sym, ap, subst}
 use Rattle.std.proofs.Math.ListN.{set}
 use Rattle.std.specs.Str.{bytes_eq}
+use Rattle.vx_pages.specs.declared.local_piece.LocalPiece.{Ghosts}
 use Rattle.vx_base.specs.Named.{Word, put}
 use Rattle.vx_base.proofs.NamedLemmas.{bytes_eq_self, put_same, put_other}
 use Rattle.vx_piece.specs.Seen.{Seen}
@@ -48,7 +49,7 @@ not_both : (b : Bool) → b ≡ true → b ≡ false → ⊥
 not_both b t f = cc
 
 -- the only device in hand was called, and a house that keeps holds all that was taken
-pub record IsOneCalled {P : Type 0} (see : P → Seen) (h k : House P) (t u : Taken P) (shelf : Shelved) : Type 0 where
+pub record IsOneCalled {P : Type 0} {ghosts : Ghosts P} (see : P → Seen) (h k : House P ghosts) (t u : Taken P) (shelf : Shelved) : Type 0 where
   pub was : h.hand.items ≡ t ∷ []
   pub is : k.hand.items ≡ u ∷ []
   pub device : u.device ≡ t.device
@@ -56,7 +57,7 @@ pub record IsOneCalled {P : Type 0} (see : P → Seen) (h k : House P) (t u : Ta
   pub are : AreHeld shelf.held (holders see h)
   pub keeps : KeepsHouse see h
 
-module _ {P : Type 0} {see : P → Seen} {h k : House P} {t u : Taken P} {shelf : Shelved} (called : IsOneCalled see h k t u shelf) where
+module _ {P : Type 0} {ghosts : Ghosts P} {see : P → Seen} {h k : House P ghosts} {t u : Taken P} {shelf : Shelved} (called : IsOneCalled see h k t u shelf) where
   one_step : Each (IsStep (IsElse t.device)) (map (hand_holder see) h.hand.items) (map (hand_holder see) k.hand.items)
   one_step =
       subst (λ ts. Each (IsStep (IsElse t.device)) (map (hand_holder see) ts) (map (hand_holder see) k.hand.items)) (sym called.was)

@@ -24,7 +24,7 @@ module _ (old mid : Shelved) (xs ys : List Holder) (name : Word) (seen after : S
   now = record { name = name; seen = after }
 
   held_first : AreHeld mid.held (xs ++ before ∷ ys)
-  held_first = take_one old.held mid.held xs before ys handed.taken are
+  held_first = take_one old.held mid.held xs before ys handed.numbers handed.taken are
 
   moved_first : Unmoved (scene_of old (xs ++ ys)) (scene_of mid (xs ++ before ∷ ys))
   moved_first = take_scene old mid xs before ys held_first.apart handed

@@ -1,18 +1,18 @@
 -- Devices that go back, one after the other.
 use Rattle.std.proofs.Common.{◌≡◌, ◌∙◌, ◌<◌, true, false, length, arith, List, [], ◌∷◌, ◌++◌, map, Option, Some, None, refl, sym, ap, subst, append_assoc}
 use Rattle.std.proofs.lemmas.List.{append-nil, map-append}
+use Rattle.vx_pages.specs.declared.local_piece.LocalPiece.{Ghosts}
 use Rattle.vx_base.specs.Named.{Word}
 use Rattle.vx_piece.specs.Seen.{Seen}
 use Rattle.vx_shelf.specs.Shelf.{Held, IsGiven, ComesToShelf, SameCounts, put_count}
 use Rattle.vx_copies.specs.Lists.{AllOf}
 use Rattle.vx_house.specs.Closing.{GivesBack}
-use Rattle.vx_house.specs.Holders.{Holder, AreHeld, AreApart, IsTakenFrom, holders, volume_holder, group_holders, hand_holder, disk_holder}
+use Rattle.vx_house.specs.Holders.{Holder, AreHeld, AreApart, IsTakenFrom, holders, volume_holder, group_holders, hand_holder}
 use Rattle.vx_house.specs.Scene.{Shelved}
 use Rattle.vx_house.specs.Unmoved.{Unmoved}
 use Rattle.std.specs.Prelude.{IsSome}
 use Rattle.std.specs.Str.{bytes_eq}
 use Rattle.vx_house.specs.declared.house.House.{House}
-use Rattle.vx_house.specs.declared.house.Imported.{Imported}
 use Rattle.vx_house.proofs.AllLaws.{all_front, all_back}
 use Rattle.vx_house.proofs.Holders.{give_one, give_each, all_here, apart_others}
 use Rattle.vx_house.proofs.Scenes.{scene_of, give_scene, unmoved_refl, unmoved_trans}
@@ -91,7 +91,7 @@ apart_front [] ys apart = tt
 apart_front (x ∷ xs) ys apart = (all_front (λ o. bytes_eq x.name o.name ≡ false) xs ys apart.0, apart_front xs ys apart.1)
 
 -- what a house holds, part by part
-module _ {P : Type 0} (see : P → Seen) (h : House P) where
+module _ {P : Type 0} {ghosts : Ghosts P} (see : P → Seen) (h : House P ghosts) where
   abbrev vs : List Holder
   vs = map (volume_holder see) h.volumes.entries
 
@@ -113,12 +113,12 @@ module _ {P : Type 0} (see : P → Seen) (h : House P) where
   pub volumes_apart : AreApart (holders see h) → AreApart vs
   volumes_apart apart = apart_front vs (gs ++ ts) apart
 
-  module _ (g : Imported P) (is : h.group ≡ Some g) where
-    pub disks_each : (held : Word → Option Held) → AllOf (IsTakenFrom held) (holders see h) → AllOf (IsTakenFrom held) (map (disk_holder see) g.base.disks.items)
-    disks_each held each = subst (λ o. AllOf (IsTakenFrom held) (group_holders see o)) is (all_front (IsTakenFrom held) gs ts (all_back (IsTakenFrom held) vs (gs ++ ts) each))
+  module _ (ds : List Holder) (is : ds ≡ gs) where
+    pub disks_each : (held : Word → Option Held) → AllOf (IsTakenFrom held) (holders see h) → AllOf (IsTakenFrom held) ds
+    disks_each held each = subst (AllOf (IsTakenFrom held)) (sym is) (all_front (IsTakenFrom held) gs ts (all_back (IsTakenFrom held) vs (gs ++ ts) each))
 
-    pub disks_apart : AreApart (holders see h) → AreApart (map (disk_holder see) g.base.disks.items)
-    disks_apart apart = subst (λ o. AreApart (group_holders see o)) is (apart_front gs ts (apart_back vs (gs ++ ts) apart))
+    pub disks_apart : AreApart (holders see h) → AreApart ds
+    disks_apart apart = subst AreApart (sym is) (apart_front gs ts (apart_back vs (gs ++ ts) apart))
 
 pub no_entries : {X : Type 0} (o : Option X) (entries : List X) → (0 < length entries → IsSome o) → ((x : X) → o ≡ Some x → ⊥) → entries ≡ []
 no_entries o [] some none = refl

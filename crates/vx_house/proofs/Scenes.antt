@@ -6,7 +6,7 @@ use Rattle.std.proofs.lemmas.Bool.{cond-true, cond-false}
 use Rattle.vx_base.specs.Named.{Word}
 use Rattle.vx_base.proofs.NamedLemmas.{bytes_eq_same}
 use Rattle.vx_piece.specs.Seen.{Seen}
-use Rattle.vx_shelf.specs.Shelf.{IsTaken, ComesToShelf, LeavesShelf, SameCounts, put_count, AreCounted}
+use Rattle.vx_shelf.specs.Shelf.{IsTaken, ComesToShelf, LeavesShelf, SameCounts, put_count, AreCounted, AreNumbered}
 use Rattle.vx_house.specs.Holders.{Holder, held_as, AreApart}
 use Rattle.vx_house.specs.Scene.{Shelved, Scene, seen_in, faults_in}
 use Rattle.vx_house.specs.Unmoved.{Unmoved}
@@ -131,6 +131,7 @@ pub record IsHanded (name : Word) (seen : Seen) (old new : Shelved) : Type 0 whe
   pub counted : old.counted name ≤ seen.faults
   pub counts : SameCounts old.counted new.counted
   pub law : AreCounted old.free old.counted
+  pub numbers : AreNumbered new.held
 
 -- a device is taken
 pub take_scene : (old new : Shelved) (xs : List Holder) (h : Holder) (ys : List Holder) → AreApart (xs ++ h ∷ ys) → IsHanded h.name h.seen old new

@@ -2,6 +2,7 @@
 use Rattle.std.proofs.Common.{◌≡◌, ◌∙◌, ◌≤◌, ◌<◌, ◌⊎◌, ℕ, List, [], ◌∷◌, ◌++◌, ◌+◌, map, take, drop, Option, Some, None, refl, sym, ap, subst, arith, inl, inr, append_assoc}
 use Rattle.std.specs.Prelude.{◌↔◌, IsSome, IfSome}
 use Rattle.std.proofs.lemmas.List.{append-nil, map-append, take-append-drop}
+use Rattle.vx_pages.specs.declared.local_piece.LocalPiece.{Ghosts}
 use Rattle.vx_base.specs.Named.{Word, SameUnder}
 use Rattle.vx_base.specs.Counts.{Rose}
 use Rattle.vx_piece.specs.Seen.{Seen}
@@ -55,27 +56,27 @@ some_of None some = cc
 some_of (Some x) some = (x, refl)
 
 -- the moment is the same
-pub rested_moment : {P : Type 0} (see : P → Seen) (old new : View P) → Rested see old new → (m : Moment) → IsMoment see old m → IsMoment see new m
+pub rested_moment : {P : Type 0} {ghosts : Ghosts P} (see : P → Seen) (old new : View P ghosts) → Rested see old new → (m : Moment) → IsMoment see old m → IsMoment see new m
 rested_moment see old new rested m is = moment_moved see (scene see old) (scene see new) old.house new.house m rested.moved rested.volumes rested.group is
 
-pub rested_trans : {P : Type 0} (see : P → Seen) (a b c : View P) → Rested see a b → Rested see b c → Rested see a c
+pub rested_trans : {P : Type 0} {ghosts : Ghosts P} (see : P → Seen) (a b c : View P ghosts) → Rested see a b → Rested see b c → Rested see a c
 rested_trans see a b c p q = record { keeps = q.keeps; moved = unmoved_trans (scene see a) (scene see b) (scene see c) p.moved q.moved; volumes = q.volumes ∙ p.volumes; group = q.group ∙ p.group }
 
 -- a house with the same things holds the same devices
-pub same_holders : {P : Type 0} (see : P → Seen) (h k : House P) → k.volumes ≡ h.volumes → k.group ≡ h.group → k.hand.items ≡ h.hand.items → holders see k ≡ holders see h
+pub same_holders : {P : Type 0} {ghosts : Ghosts P} (see : P → Seen) (h k : House P ghosts) → k.volumes ≡ h.volumes → k.group ≡ h.group → k.hand.items ≡ h.hand.items → holders see k ≡ holders see h
 same_holders {P = P} see h k volumes group hand =
     ap (λ (v : BTreeMap Word (Started P)). map (volume_holder see) v.entries ++ (group_holders see k.group ++ map (hand_holder see) k.hand.items)) volumes
     ∙ ap (λ g. map (volume_holder see) h.volumes.entries ++ (group_holders see g ++ map (hand_holder see) k.hand.items)) group
     ∙ ap (λ ts. map (volume_holder see) h.volumes.entries ++ (group_holders see h.group ++ map (hand_holder see) ts)) hand
 
-pub same_kept : {P : Type 0} (see : P → Seen) (h k : House P) → k.volumes ≡ h.volumes → k.group ≡ h.group → k.hand.items ≡ h.hand.items → KeepsHouse see h → KeepsHouse see k
-same_kept {P = P} see h k volumes group hand keeps = subst (KeepsHouse see) whole (record { ordered = keeps.ordered; hand = subst (AllOf (λ t. 0 < (see t.piece).sectors)) (sym hand) keeps.hand; volumes = keeps.volumes; group = keeps.group })
+pub same_kept : {P : Type 0} {ghosts : Ghosts P} (see : P → Seen) (h k : House P ghosts) → k.volumes ≡ h.volumes → k.group ≡ h.group → k.hand.items ≡ h.hand.items → KeepsHouse see h → KeepsHouse see k
+same_kept {P = P} {ghosts = ghosts} see h k volumes group hand keeps = subst (KeepsHouse see) whole (record { ordered = keeps.ordered; hand = subst (AllOf (λ t. 0 < (see t.piece).sectors)) (sym hand) keeps.hand; volumes = keeps.volumes; group = keeps.group })
   where
-    whole : (let x : House P = record { volumes = h.volumes; group = h.group; hand = k.hand } in x) ≡ k
+    whole : (let x : House P ghosts = record { volumes = h.volumes; group = h.group; hand = k.hand } in x) ≡ k
     whole i = record { volumes = sym volumes i; group = sym group i; hand = k.hand }
 
 -- a house that is as before beside a shelf that is
-module _ {P : Type 0} (see : P → Seen) (v : View P) (keeps : Keeps see v) (shelf : Shelved) (k : House P) (volumes : k.volumes ≡ v.house.volumes) (group : k.group ≡ v.house.group) where
+module _ {P : Type 0} {ghosts : Ghosts P} (see : P → Seen) (v : View P ghosts) (keeps : Keeps see v) (shelf : Shelved) (k : House P ghosts) (volumes : k.volumes ≡ v.house.volumes) (group : k.group ≡ v.house.group) where
   -- a device stands behind the others in hand
   module _ (t : Taken P) (hand : k.hand.items ≡ v.house.hand.items ++ t ∷ []) (handed : IsHanded t.device (see t.piece) v.shelf shelf) where
     abbrev one : Holder
@@ -90,7 +91,7 @@ module _ {P : Type 0} (see : P → Seen) (v : View P) (keeps : Keeps see v) (she
         ∙ hand_split see (record { volumes = v.house.volumes; group = v.house.group; hand = k.hand }) v.house.hand.items t [] hand
 
     are : AreHeld shelf.held (before ++ one ∷ [])
-    are = take_one v.shelf.held shelf.held before one [] handed.taken (subst (AreHeld v.shelf.held) (sym (append-nil before)) keeps.devices)
+    are = take_one v.shelf.held shelf.held before one [] handed.numbers handed.taken (subst (AreHeld v.shelf.held) (sym (append-nil before)) keeps.devices)
 
     pub took_keeps : Keeps see (at shelf k)
     took_keeps = record {
@@ -187,7 +188,7 @@ module _ {P : Type 0} (see : P → Seen) (v : View P) (keeps : Keeps see v) (she
       }
 
 -- a device that is held, or that is not there, ends the command
-pub away_ends : {P : Type 0} (see : P → Seen) (name : Word) (r : Refusal) (old new : View P) → Rested see old new → ((m : Moment) → IsMoment see old m → IsAway m.world (hand_names old.house) name r) → TakesEnd see name (refused r) old new
+pub away_ends : {P : Type 0} {ghosts : Ghosts P} (see : P → Seen) (name : Word) (r : Refusal) (old new : View P ghosts) → Rested see old new → ((m : Moment) → IsMoment see old m → IsAway m.world (hand_names old.house) name r) → TakesEnd see name (refused r) old new
 away_ends see name r old new rested away = record {
   keeps = rested.keeps;
   goes = λ m is. (m, rested_moment see old new rested m is, later_refl m.counts, inl (r, away m is, (refl, rests_self m)));
@@ -196,7 +197,7 @@ away_ends see name r old new rested away = record {
 }
 
 -- what a shelf says of a device that it does not hand over
-module _ {P : Type 0} (see : P → Seen) (v : View P) (keeps : Keeps see v) (name : Word) where
+module _ {P : Type 0} {ghosts : Ghosts P} (see : P → Seen) (v : View P ghosts) (keeps : Keeps see v) (name : Word) where
   pub held_away : IsSome (v.shelf.held name) → (m : Moment) → IsMoment see v m → IsAway m.world (hand_names v.house) name (refusal.Held name)
   held_away some m is =
       let devices = some_of v.shelf.free is.told in
@@ -212,7 +213,7 @@ module _ {P : Type 0} (see : P → Seen) (v : View P) (keeps : Keeps see v) (nam
       )
 
   -- the shelf has failed
-  pub shelf_ends : (shelf : Shelved) (k : House P) → k.volumes ≡ v.house.volumes → k.group ≡ v.house.group → k.hand.items ≡ v.house.hand.items → shelf.free ≡ v.shelf.free → SameUnder v.shelf.held shelf.held → SameCounts v.shelf.counted shelf.counted → Rose v.shelf.faults shelf.faults → v.shelf.faults ≤ shelf.faults → TakesEnd see name (fault_of name) v (at shelf k)
+  pub shelf_ends : (shelf : Shelved) (k : House P ghosts) → k.volumes ≡ v.house.volumes → k.group ≡ v.house.group → k.hand.items ≡ v.house.hand.items → shelf.free ≡ v.shelf.free → SameUnder v.shelf.held shelf.held → SameCounts v.shelf.counted shelf.counted → Rose v.shelf.faults shelf.faults → v.shelf.faults ≤ shelf.faults → TakesEnd see name (fault_of name) v (at shelf k)
   shelf_ends shelf k volumes group hand free held counts rose later = record {
     keeps = still_keeps see v keeps shelf k volumes group hand free held counts;
     goes = λ m is. (
@@ -225,10 +226,10 @@ module _ {P : Type 0} (see : P → Seen) (v : View P) (keeps : Keeps see v) (nam
     blamed = inr rose;
   }
 
-pub rested_refl : {P : Type 0} (see : P → Seen) (v : View P) → Keeps see v → Rested see v v
+pub rested_refl : {P : Type 0} {ghosts : Ghosts P} (see : P → Seen) (v : View P ghosts) → Keeps see v → Rested see v v
 rested_refl see v keeps = record { keeps = keeps; moved = unmoved_refl (scene see v); volumes = refl; group = refl }
 
-pub took_none : {P : Type 0} (see : P → Seen) (v : View P) → Keeps see v → Took see [] v v
+pub took_none : {P : Type 0} {ghosts : Ghosts P} (see : P → Seen) (v : View P ghosts) → Keeps see v → Took see [] v v
 took_none see v keeps = record { rested = rested_refl see v keeps; hand = sym (append-nil (hand_names v.house)); free = λ m is. tt }
 
 free_then : (w : World) (taken xs : List Word) (x : Word) → AreFree w taken xs → IsFree w (taken ++ xs) x → AreFree w taken (xs ++ x ∷ [])
@@ -236,7 +237,7 @@ free_then w taken [] x all free = (subst (λ ns. IsFree w ns x) (append-nil take
 free_then w taken (y ∷ xs) x all free = (all.0, free_then w (taken ++ y ∷ []) xs x all.1 (subst (λ ns. IsFree w ns x) (sym (append_assoc taken (y ∷ []) xs)) free))
 
 -- one more is taken
-pub took_then : {P : Type 0} (see : P → Seen) (xs : List Word) (x : Word) (a b c : View P) → Took see xs a b → Took see (x ∷ []) b c → Took see (xs ++ x ∷ []) a c
+pub took_then : {P : Type 0} {ghosts : Ghosts P} (see : P → Seen) (xs : List Word) (x : Word) (a b c : View P ghosts) → Took see xs a b → Took see (x ∷ []) b c → Took see (xs ++ x ∷ []) a c
 took_then see xs x a b c p q = record {
   rested = rested_trans see a b c p.rested q.rested;
   hand = q.hand ∙ ap (λ ns. ns ++ x ∷ []) p.hand ∙ append_assoc (hand_names a.house) xs (x ∷ []);
@@ -250,7 +251,7 @@ stops_behind taken (y ∷ xs) x ys m end n all stops =
     inr (all.0, stops_behind (taken ++ y ∷ []) xs x ys m end n all.1 (subst (λ ns. ((r : Refusal) × IsAway m.world ns x r × EndsIn r m end n) ⊎ ShelfFailsAt x m end n) (sym (append_assoc taken (y ∷ []) xs)) stops))
 
 -- some were taken, and the next ends the command
-pub record TakingEnds {P : Type 0} (see : P → Seen) (names : List Word) (end : End) (old new : View P) : Type 0 where
+pub record TakingEnds {P : Type 0} {ghosts : Ghosts P} (see : P → Seen) (names : List Word) (end : End) (old new : View P ghosts) : Type 0 where
   pub keeps : Keeps see new
   pub goes : Goes see (λ m n. TakingStops (hand_names old.house) names m end n) old new
   pub faults : FaultsGoOn (scene see old) (scene see new)
@@ -268,7 +269,7 @@ blamed_later ends.ShelfFailed a b c on blamed = rose_on a.shelf.faults b.shelf.f
 blamed_later ends.GroupLost a b c on blamed = tt
 blamed_later (ends.Lost parts) a b c on blamed = tt
 
-pub took_ends : {P : Type 0} (see : P → Seen) (xs : List Word) (x : Word) (ys : List Word) (end : End) (a b c : View P) → Took see xs a b → TakesEnd see x end b c → TakingEnds see (xs ++ x ∷ ys) end a c
+pub took_ends : {P : Type 0} {ghosts : Ghosts P} (see : P → Seen) (xs : List Word) (x : Word) (ys : List Word) (end : End) (a b c : View P ghosts) → Took see xs a b → TakesEnd see x end b c → TakingEnds see (xs ++ x ∷ ys) end a c
 took_ends see xs x ys end a b c p q = record {
   keeps = q.keeps;
   goes = λ m is.
@@ -278,11 +279,11 @@ took_ends see xs x ys end a b c p q = record {
   blamed = blamed_later end (scene see a) (scene see b) (scene see c) (faults_moved (scene see a) (scene see b) p.rested.moved) q.blamed;
 }
 
-no_names : {P : Type 0} (h : House P) → h.hand.items ≡ [] → hand_names h ≡ []
+no_names : {P : Type 0} {ghosts : Ghosts P} (h : House P ghosts) → h.hand.items ≡ [] → hand_names h ≡ []
 no_names h is = ap (map (λ t. t.device)) is
 
 -- the stages of taking, from an empty hand
-module _ {P : Type 0} (see : P → Seen) (old new : View P) (disks : List DiskAt) (empty : old.house.hand.items ≡ []) where
+module _ {P : Type 0} {ghosts : Ghosts P} (see : P → Seen) (old new : View P ghosts) (disks : List DiskAt) (empty : old.house.hand.items ≡ []) where
   pub take_stage : (name : Word) (result : Result (Unit {0}) Stop) → TakeGives see name result old new → StageGoes see (stage.Take name) disks result old new
   take_stage name (Ok u) took = record {
     keeps = took.rested.keeps;
@@ -347,12 +348,12 @@ split_at disks i p more =
     ∙ map-append (λ q. q.device) (take i disks) (p ∷ drop (i + 1) disks)
 
 -- one more of the words' devices
-pub took_next : {P : Type 0} (see : P → Seen) (disks : List DiskAt) (i : ℕ) (p : DiskAt) (a b c : View P) → take (i + 1) disks ≡ take i disks ++ p ∷ [] → Took see (devices_of (take i disks)) a b → Took see (p.device ∷ []) b c → Took see (devices_of (take (i + 1) disks)) a c
+pub took_next : {P : Type 0} {ghosts : Ghosts P} (see : P → Seen) (disks : List DiskAt) (i : ℕ) (p : DiskAt) (a b c : View P ghosts) → take (i + 1) disks ≡ take i disks ++ p ∷ [] → Took see (devices_of (take i disks)) a b → Took see (p.device ∷ []) b c → Took see (devices_of (take (i + 1) disks)) a c
 took_next see disks i p a b c more took one =
     subst (λ ns. Took see ns a c) (sym (ap devices_of more ∙ map-append (λ q. q.device) (take i disks) (p ∷ []))) (took_then see (devices_of (take i disks)) p.device a b c took one)
 
 -- one of the words' devices is not taken
-pub stop_next : {P : Type 0} (see : P → Seen) (disks : List DiskAt) (i : ℕ) (p : DiskAt) (stop : Stop) (a b c : View P) → a.house.hand.items ≡ [] → take (i + 1) disks ≡ take i disks ++ p ∷ [] → Took see (devices_of (take i disks)) a b → TakeGives see p.device (Err stop) b c
+pub stop_next : {P : Type 0} {ghosts : Ghosts P} (see : P → Seen) (disks : List DiskAt) (i : ℕ) (p : DiskAt) (stop : Stop) (a b c : View P ghosts) → a.house.hand.items ≡ [] → take (i + 1) disks ≡ take i disks ++ p ∷ [] → Took see (devices_of (take i disks)) a b → TakeGives see p.device (Err stop) b c
     → StageGoes {T = Unit {0}} see stage.TakeDisks disks (Err stop) a c
 stop_next see disks i p (stops.Ended end) a b c empty more took gives =
     disks_end see a c disks empty end (subst (λ ns. TakingEnds see ns end a c) (sym (split_at disks i p more)) (took_ends see (devices_of (take i disks)) p.device (devices_of (drop (i + 1) disks)) end a b c took gives))

@@ -1,5 +1,6 @@
 -- What a stage does to a house and its shelf, by its answer.
 use Rattle.std.specs.Prelude.{◌≡◌, Bool, true, false, List, [], ◌∷◌, None, IfSome, Result, Ok, Err, OnOk}
+use Rattle.vx_pages.specs.declared.local_piece.LocalPiece.{Ghosts}
 use Rattle.vx_header.specs.Named.{header_of}
 use Rattle.vx_piece.specs.Seen.{Seen}
 use Rattle.vx_copies.specs.Lists.{AllOf, Each}
@@ -23,15 +24,15 @@ use Rattle.vx_house.specs.declared.stop.Stop.{Stop}
 use Rattle.vx_house.specs.declared.stop.Stop.TheVariants as stops
 
 -- from each moment that the house was there is one that it is now, to which it goes so
-abbrev pub Goes : {P : Type 0} → (P → Seen) → (Moment → Moment → Type 0) → View P → View P → Type 0
+abbrev pub Goes : {P : Type 0} {ghosts : Ghosts P} → (P → Seen) → (Moment → Moment → Type 0) → View P ghosts → View P ghosts → Type 0
 Goes see R old new = (m : Moment) → IsMoment see old m → (n : Moment) × IsMoment see new n × AreLater m.counts n.counts × R m n
 
 -- where the group or the power is lost, the group of the house says nothing any more
-abbrev pub GoesOff : {P : Type 0} → (P → Seen) → (Moment → Moment → Type 0) → View P → View P → Type 0
+abbrev pub GoesOff : {P : Type 0} {ghosts : Ghosts P} → (P → Seen) → (Moment → Moment → Type 0) → View P ghosts → View P ghosts → Type 0
 GoesOff see R old new = (m : Moment) → IsMoment see old m → (n : Moment) × IsMomentButGroup see new n × AreLater m.counts n.counts × R m n
 
 -- by the answer: it is done so, or has ended the command so, or for want of memory the world is as before
-abbrev pub GoesBy : {P T : Type 0} → (P → Seen) → (Moment → Moment → Type 0) → (Moment → End → Moment → Type 0) → Result T Stop → View P → View P → Type 0
+abbrev pub GoesBy : {P T : Type 0} {ghosts : Ghosts P} → (P → Seen) → (Moment → Moment → Type 0) → (Moment → End → Moment → Type 0) → Result T Stop → View P ghosts → View P ghosts → Type 0
 GoesBy see Done Ends (Ok u) old new = Goes see Done old new
 GoesBy see Done Ends (Err (stops.Ended ends.GroupLost)) old new = GoesOff see (λ m n. Ends m ends.GroupLost n) old new
 GoesBy see Done Ends (Err (stops.Ended (ends.Lost parts))) old new = GoesOff see (λ m n. Ends m (ends.Lost parts) n) old new
@@ -39,7 +40,7 @@ GoesBy see Done Ends (Err (stops.Ended end)) old new = Goes see (λ m n. Ends m 
 GoesBy see Done Ends (Err stops.OutOfMemory) old new = Goes see (λ m n. n.world ≡ m.world) old new
 
 -- by the answer: where the group or the power is lost, the group is kept no more
-abbrev pub KeepsBy : {P T : Type 0} → (P → Seen) → Result T Stop → View P → Type 0
+abbrev pub KeepsBy : {P T : Type 0} {ghosts : Ghosts P} → (P → Seen) → Result T Stop → View P ghosts → Type 0
 KeepsBy see (Err (stops.Ended ends.GroupLost)) v = KeepsButGroup see v
 KeepsBy see (Err (stops.Ended (ends.Lost parts))) v = KeepsButGroup see v
 KeepsBy see result v = Keeps see v
@@ -54,11 +55,11 @@ OnEnded (Err stops.OutOfMemory) Q = Unit {0}
 abbrev pub IsBlankSeen : Seen → Type 0
 IsBlankSeen seen = IfSome seen.told (λ contents. header_of (contents 0) ≡ None)
 
-abbrev pub IsHandBlank : {P : Type 0} → (P → Seen) → House P → Type 0
+abbrev pub IsHandBlank : {P : Type 0} {ghosts : Ghosts P} → (P → Seen) → House P ghosts → Type 0
 IsHandBlank see h = AllOf (λ t. IsBlankSeen (see t.piece)) h.hand.items
 
 -- what a stage that is done leaves in the house for those behind it
-abbrev pub Gives : {P : Type 0} → (P → Seen) → Stage → List DiskAt → House P → Type 0
+abbrev pub Gives : {P : Type 0} {ghosts : Ghosts P} → (P → Seen) → Stage → List DiskAt → House P ghosts → Type 0
 Gives see (stage.Gate test) disks h = fails test disks (plain see h) ≡ None
 Gives see (stage.Take name) disks h = hand_names h ≡ name ∷ []
 Gives see stage.TakeDisks disks h = hand_names h ≡ devices_of disks
@@ -107,7 +108,7 @@ is_first (stage.Import dg) = true
 is_first other = false
 
 -- the house has what the stage needs
-pub record IsReady {P : Type 0} (see : P → Seen) (s : Stage) (disks : List DiskAt) (h : House P) : Type 0 where
+pub record IsReady {P : Type 0} {ghosts : Ghosts P} (see : P → Seen) (s : Stage) (disks : List DiskAt) (h : House P ghosts) : Type 0 where
   pub wants : AllOf (λ t. Gives see t disks h) (wanted s)
   pub empty : is_first s ≡ true → h.hand.items ≡ []
 
@@ -118,7 +119,7 @@ pub record IsStill {P : Type 0} (see : P → Seen) (old new : Taken P) : Type 0 
   pub told : (see new.piece).told ≡ (see old.piece).told
 
 -- the house is as before, but that devices in hand were read
-pub record Still {P : Type 0} (see : P → Seen) (old new : House P) : Type 0 where
+pub record Still {P : Type 0} {ghosts : Ghosts P} (see : P → Seen) (old new : House P ghosts) : Type 0 where
   pub hand : Each (IsStill see) old.hand.items new.hand.items
   pub volumes : new.volumes ≡ old.volumes
   pub group : new.group ≡ old.group
@@ -133,7 +134,7 @@ only_reads (stage.Search dg) = true
 only_reads other = false
 
 -- A stage keeps the house, does what it says, and leaves what those behind it need.
-pub record StageGoes {P T : Type 0} (see : P → Seen) (s : Stage) (disks : List DiskAt) (result : Result T Stop) (old new : View P) : Type 0 where
+pub record StageGoes {P T : Type 0} {ghosts : Ghosts P} (see : P → Seen) (s : Stage) (disks : List DiskAt) (result : Result T Stop) (old new : View P ghosts) : Type 0 where
   pub keeps : KeepsBy see result new
   pub goes : GoesBy see (IsDone s disks) (Stops s disks) result old new
   pub gives : OnOk result (Gives see s disks new.house)

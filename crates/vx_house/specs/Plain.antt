@@ -1,5 +1,6 @@
 -- What a house itself tells of the world: enough for the tests of commands.
 use Rattle.std.specs.Prelude.{[], map, option_map}
+use Rattle.vx_pages.specs.declared.local_piece.LocalPiece.{Ghosts}
 use Rattle.vx_piece.specs.Seen.{Seen}
 use Rattle.vx_started.specs.declared.started.Started.{Started}
 use Rattle.vx_moments.specs.World.{World, Device, Volume}
@@ -17,7 +18,7 @@ abbrev pub some_volume : {P : Type 0} → Started P → Volume
 some_volume b = bare_volume b.device (record { sectors = b.geometry.length; contents = λ k. [] })
 
 -- the devices in hand with their sectors, which volumes are started, and the group
-abbrev pub plain : {P : Type 0} → (P → Seen) → House P → World
+abbrev pub plain : {P : Type 0} {ghosts : Ghosts P} → (P → Seen) → House P ghosts → World
 plain see h = record {
   devices = λ name. option_map sized_device (held_as (map (hand_holder see) h.hand.items) name);
   volumes = λ vol. option_map some_volume (volume_at h vol);

@@ -1,14 +1,19 @@
 //! Devices that go back to the shelf, without a device call.
-ghost use Rattle.std.specs.Prelude.{◌≡◌, ◌∷◌, [], map};
+ghost use Rattle.std.specs.Prelude.{◌≡◌, ◌∷◌, [], Some, is_some, map, IfSome, OnOk, OnErr};
 ghost use Rattle.vx_base.specs.Named.{Word};
 ghost use Rattle.vx_copies.specs.Lists.{AllOf};
 ghost use Rattle.vx_shelf.specs.Shelf.{IsWhole, IsOut, IsGiven};
-ghost use Rattle.vx_house.specs.Closing.{GivesBack, GivesHand, GivesGroup, GivesVolumes};
-ghost use Rattle.vx_house.specs.Holders.{AreHeld, AreApart, IsTakenFrom, holders, disk_holder, hand_holder, volume_holder};
+ghost use Rattle.vx_house.specs.Closing.{GivesBack, GivesHand, GivesGroup, GivesVolumes, KeepsGroup};
+ghost use Rattle.vx_house.specs.Holders.{AreHeld, AreApart, IsTakenFrom, holders, disk_holder, group_holders, hand_holder, volume_holder};
 ghost use Rattle.vx_house.specs.Scene.{shelved};
+ghost use Rattle.vx_house.specs.View.{HasDisk, IsGroupWhole, group_of};
 
-use crate::{House, Taken};
+use crate::{House, Imported, Taken};
+use std::alloc::Global;
+use vx_base::OutOfMemory;
 use vx_copies::Disk;
+use vx_fronts::close_group;
+use vx_piece::Piece;
 use vx_shelf::Shelf;
 use vx_started::Started;
 
@@ -32,14 +37,48 @@ fn give_taken<S: Shelf>(taken: Taken<S::P>, shelf: &mut S)
     shelf.give(&device, piece);
 }
 
-/// Gives the devices of the group back, each under its name; the group leaves.
-pub fn give_group<S: Shelf>(house: &mut House<S::P>, shelf: &mut S)
+/// Joins the devices of the group, and gives them back, each under its name; the group leaves. Where there is no memory to join
+/// them the group stays.
+pub fn give_group<S: Shelf>(
+    alloc: Global,
+    house: &mut House<S::P>,
+    shelf: &mut S,
+) -> Result<(), OutOfMemory>
     requires held { AreHeld (S.held shelf.old) (holders S.P.seen house.old) }
-    ensures gives { GivesGroup S.P.seen (shelved S.free S.held S.counted S.faults shelf.old) house.old (shelved S.free S.held S.counted S.faults shelf.new) house.new }
+    requires whole { IfSome house.old.group (IsGroupWhole S.P.seen) }
+    ensures gives { OnOk result (GivesGroup S.P.seen (shelved S.free S.held S.counted S.faults shelf.old) house.old (shelved S.free S.held S.counted S.faults shelf.new) house.new) }
+    ensures kept { OnErr result (KeepsGroup S.P.seen house.old house.new) }
+    ensures shelf { OnErr result (shelf.new ≡ shelf.old) }
 {
-    if let Some(group) = house.group.take() {
-        give_disks(group.base.deport(), shelf);
+    let Some(mut group) = house.group.take() else {
+        return Ok(());
+    };
+    match close(alloc, &mut group) {
+        Ok(()) => {
+            give_disks(group.base.deport(), shelf);
+            Ok(())
+        }
+        Err(OutOfMemory) => {
+            house.group = Some(group);
+            Err(OutOfMemory)
+        }
     }
+}
+
+/// Joins the devices of a group.
+fn close<P: Piece + Drop>(alloc: Global, group: &mut Imported<P>) -> Result<(), OutOfMemory>
+    requires whole { IsGroupWhole P.seen group.old }
+    requires alike { (p q : P) → is_some (P.seen p).told ≡ is_some (P.seen q).told }
+    ensures closed { OnOk result (map (disk_holder P.seen) group.new.base.disks.items ≡ group_holders P.seen (Some group.old)) }
+    ensures same { OnErr result (group_holders P.seen (Some group.new) ≡ group_holders P.seen (Some group.old)) }
+    ensures group { OnErr result (group_of P.seen (Some group.new) ≡ group_of P.seen (Some group.old)) }
+    ensures whole { OnErr result (IsGroupWhole P.seen group.new) }
+    ensures disks { OnErr result (HasDisk group.new) }
+{
+    if group.base.disks().is_empty() {
+        return Ok(());
+    }
+    close_group(alloc, &mut group.base, &mut group.public.pool)
 }
 
 /// Gives the devices of disks back, each under its name.

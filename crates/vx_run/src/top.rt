@@ -40,17 +40,17 @@ pub fn run<S: Shelf, A: Source, B: Sink>(
         (shelved S.free S.held S.counted S.faults shelf.new) (B.taken sink.new) false }
 
     // At 4 the same holds of the commands that were begun, and a front of their text was written; so it does at 6, or
-    // nothing was begun.
-    ensures sink_failed { result ≡ 4 → IsCutOff (A.left source.old) (A.left source.new)
+    // nothing was begun. Both where all devices were given back.
+    ensures sink_failed { result ≡ 4 → NoneHeld (S.held shelf.new) → IsCutOff (A.left source.old) (A.left source.new)
         (shelved S.free S.held S.counted S.faults shelf.old) (B.taken sink.old)
         (shelved S.free S.held S.counted S.faults shelf.new) (B.taken sink.new) }
-    ensures no_memory { result ≡ 6 → ((shelf.new ≡ shelf.old) × (sink.new ≡ sink.old)) ⊎ IsCutOff (A.left source.old) (A.left source.new)
+    ensures no_memory { result ≡ 6 → NoneHeld (S.held shelf.new) → ((shelf.new ≡ shelf.old) × (sink.new ≡ sink.old)) ⊎ IsCutOff (A.left source.old) (A.left source.new)
         (shelved S.free S.held S.counted S.faults shelf.old) (B.taken sink.old)
         (shelved S.free S.held S.counted S.faults shelf.new) (B.taken sink.new) }
 
-    // At every status: where the configuration copies of all groups were sound, so that no import takes an older one for
+    // At every status, where all devices were given back: where the configuration copies of all groups were sound, so that no import takes an older one for
     // the newest, and no command puts a header at the front of a volume, they are sound at the end.
-    ensures sound { LeavesSound (A.left source.old) (shelved S.free S.held S.counted S.faults shelf.old) (shelved S.free S.held S.counted S.faults shelf.new) }
+    ensures sound { NoneHeld (S.held shelf.new) → LeavesSound (A.left source.old) (shelved S.free S.held S.counted S.faults shelf.old) (shelved S.free S.held S.counted S.faults shelf.new) }
 
     // At 1 and 2 the line of the status was written, at 2 with the place where the bytes are no script, and at 3 and 7
     // nothing; no device was touched.
@@ -70,8 +70,9 @@ pub fn run<S: Shelf, A: Source, B: Sink>(
     ensures not_too_long { result ≢ 7 → HasPassedFew (A.passed source.old) (A.passed source.new) }
     ensures one_past { A.passed source.new ≤ A.passed source.old + (longest + 1) }
 
-    // All devices are given back.
-    ensures back { NoneHeld (S.held shelf.new) }
+    // All devices are given back; at 4 and 6 those of a group may still be held, where there was no memory to join their
+    // parts.
+    ensures back { (result ≡ 4 → ⊥) → (result ≡ 6 → ⊥) → NoneHeld (S.held shelf.new) }
 {
     if folder_of(words).is_none() {
         tell(sink, b"usage: vxrun --images DIR [--generate N]\n");
@@ -101,18 +102,18 @@ fn run_bytes<S: Shelf, B: Sink>(alloc: Global, shelf: &mut S, sink: &mut B, byte
     ensures not_fine { result ≡ 5 → IsSpelledRun bytes.now
         (shelved S.free S.held S.counted S.faults shelf.old) (B.taken sink.old)
         (shelved S.free S.held S.counted S.faults shelf.new) (B.taken sink.new) false }
-    ensures sink_failed { result ≡ 4 → IsSpelledStop bytes.now
+    ensures sink_failed { result ≡ 4 → NoneHeld (S.held shelf.new) → IsSpelledStop bytes.now
         (shelved S.free S.held S.counted S.faults shelf.old) (B.taken sink.old)
         (shelved S.free S.held S.counted S.faults shelf.new) (B.taken sink.new) }
-    ensures no_memory { result ≡ 6 → ((shelf.new ≡ shelf.old) × (sink.new ≡ sink.old)) ⊎ IsSpelledStop bytes.now
+    ensures no_memory { result ≡ 6 → NoneHeld (S.held shelf.new) → ((shelf.new ≡ shelf.old) × (sink.new ≡ sink.old)) ⊎ IsSpelledStop bytes.now
         (shelved S.free S.held S.counted S.faults shelf.old) (B.taken sink.old)
         (shelved S.free S.held S.counted S.faults shelf.new) (B.taken sink.new) }
-    ensures sound { (commands : List Command) → script_of bytes.now ≡ Ok commands → StaysSound commands (shelved S.free S.held S.counted S.faults shelf.old) (shelved S.free S.held S.counted S.faults shelf.new) }
+    ensures sound { NoneHeld (S.held shelf.new) → (commands : List Command) → script_of bytes.now ≡ Ok commands → StaysSound commands (shelved S.free S.held S.counted S.faults shelf.old) (shelved S.free S.held S.counted S.faults shelf.new) }
     ensures script { result ≡ 2 → (place : Place) × TellsPlace place (B.taken sink.old) (B.taken sink.new) (B.faults sink.old) (B.faults sink.new) × (script_of bytes.now ≡ Err place) × (shelf.new ≡ shelf.old) }
     ensures known { (result ≡ 0) ⊎ ((result ≡ 2) ⊎ ((result ≡ 4) ⊎ ((result ≡ 5) ⊎ (result ≡ 6)))) }
     ensures sink { result ≡ 4 → Rose (B.faults sink.old) (B.faults sink.new) }
     ensures sink_fine { (result ≡ 0) ⊎ ((result ≡ 5) ⊎ (result ≡ 6)) → B.faults sink.new ≡ B.faults sink.old }
-    ensures back { NoneHeld (S.held shelf.new) }
+    ensures back { (result ≡ 4 → ⊥) → (result ≡ 6 → ⊥) → NoneHeld (S.held shelf.new) }
 {
     match read(alloc, bytes) {
         Err(ScriptFault::OutOfMemory) => 6,
@@ -120,7 +121,7 @@ fn run_bytes<S: Shelf, B: Sink>(alloc: Global, shelf: &mut S, sink: &mut B, byte
         Ok(script) => match run_commands(alloc, shelf, sink, script.commands.as_slice()) {
             Ok(true) => 0,
             Ok(false) => 5,
-            Err(ServeFault::OutOfMemory) => 6,
+            Err(ServeFault::OutOfMemory | ServeFault::HeldUp) => 6,
             Err(ServeFault::SinkFailed) => 4,
         },
     }

@@ -1,24 +1,33 @@
 -- Runs of commands, one after the other.
 use Rattle.std.proofs.Common.{◌≡◌, ℕ, ◌+◌, Bool, true, false, List, [], ◌∷◌, ◌++◌, length, take, Option, Some, Result, Ok, Err, subst, sym, ap, ◌∙◌, refl, arith, append_assoc, zero-add, suc}
-use Rattle.std.specs.Prelude.{◌&&◌, IfOk, OnOk, OnErr}
+use Rattle.std.specs.Prelude.{◌&&◌, IfOk, OnOk, OnErr, IsErrOf}
 use Rattle.std.proofs.lemmas.List.Concat.{flat_map-append}
 use Rattle.std.proofs.lemmas.List.Folds.{list_all-append}
 use Rattle.std.proofs.lemmas.List.{append-nil, length-append}
+use Rattle.vx_pages.specs.declared.local_piece.LocalPiece.{Ghosts}
 use Rattle.vx_piece.specs.Seen.{Seen}
 use Rattle.vx_script.specs.declared.command.Command.{Command}
 use Rattle.vx_answers.specs.Lines.{lines_of}
 use Rattle.vx_answers.specs.declared.answer.Answer.{Answer}
 use Rattle.vx_answers.specs.declared.answer.Answer.TheVariants.{One, Block}
+use Rattle.vx_answers.specs.declared.answer.End.{End}
+use Rattle.vx_answers.specs.declared.answer.View.{View as Shown}
 use Rattle.vx_moments.specs.Moment.{Moment}
 use Rattle.vx_plans.specs.Steps.{IsTranscript, Does}
 use Rattle.vx_house.specs.Scene.{Scene, FaultsGoOn}
-use Rattle.vx_house.specs.View.{View, scene}
+use Rattle.vx_house.specs.View.{View, Keeps, scene}
+use Rattle.vx_house.proofs.Ends.{keeps_but_group}
 use Rattle.vx_house.proofs.Moments.{later_refl, later_trans, faults_refl, faults_trans}
 use Rattle.vx_house.proofs.Takes.{blamed_later}
-use Rattle.vx_engine.specs.Serving.{AnswerBlamed, CommandGoes}
+use Rattle.vx_engine.specs.Serving.{AnswerBlamed, CommandEnds, CommandGoes, IsRefused}
+use Rattle.vx_engine.specs.declared.unserved.Unserved.{Unserved}
+use Rattle.vx_engine.specs.declared.unserved.Unserved.TheVariants as unserved
 use Rattle.vx_engine.proofs.CommandEnds.{blamed_on}
 use Rattle.vx_serve.specs.Fine.{is_fine, are_fine}
 use Rattle.vx_serve.specs.Run.{AreBlamed, HasRun, HasRunPartly, HoldsButLast, text_of}
+use Rattle.vx_serve.specs.Stops.{IsKept, IsKeptButGroup, LeftBy, OnShort, fault_of}
+use Rattle.vx_serve.specs.declared.lines.ServeFault.{ServeFault}
+use Rattle.vx_serve.specs.declared.lines.ServeFault.TheVariants as stops
 
 -- ---- transcripts
 
@@ -79,8 +88,8 @@ all_fine : (b : Bool) → b ≡ (b && true)
 all_fine true = refl
 all_fine false = refl
 
-module _ {P : Type 0} (see : P → Seen) where
-  pub none_run : (place : ℕ) (v : View P) (taken : Option (List ℕ)) → HasRun see place [] v taken v taken true
+module _ {P : Type 0} {ghosts : Ghosts P} (see : P → Seen) where
+  pub none_run : (place : ℕ) (v : View P ghosts) (taken : Option (List ℕ)) → HasRun see place [] v taken v taken true
   none_run place v taken = record {
     answers = [];
     goes = λ m is. (m, is, later_refl m.counts, refl);
@@ -91,7 +100,7 @@ module _ {P : Type 0} (see : P → Seen) where
   }
 
   -- a command that was served, with its line
-  pub one_run : {E : Type 0} (place : ℕ) (c : Command) (answer : Answer) (old new : View P) (taken taken' : Option (List ℕ)) (fine : Bool) → CommandGoes {E = E} see (Does place c) (Ok answer) old new → ((text : List ℕ) → taken ≡ Some text → taken' ≡ Some (text ++ lines_of answer)) → fine ≡ is_fine answer → HasRun see place (c ∷ []) old taken new taken' fine
+  pub one_run : (place : ℕ) (c : Command) (answer : Answer) (old new : View P ghosts) (taken taken' : Option (List ℕ)) (fine : Bool) → CommandGoes see (Does place c) answer old new → ((text : List ℕ) → taken ≡ Some text → taken' ≡ Some (text ++ lines_of answer)) → fine ≡ is_fine answer → HasRun see place (c ∷ []) old taken new taken' fine
   one_run place c answer old new taken taken' fine go written is = record {
     answers = answer ∷ [];
     goes = λ m there. (let n = go.goes m there in (n.0, n.1, n.2, (n.0, n.3, refl)));
@@ -102,7 +111,7 @@ module _ {P : Type 0} (see : P → Seen) where
   }
 
   -- one whose line was not written whole
-  pub one_partly : {E : Type 0} (place : ℕ) (c : Command) (answer : Answer) (old new : View P) (taken taken' : Option (List ℕ)) → CommandGoes {E = E} see (Does place c) (Ok answer) old new → ((text : List ℕ) → taken ≡ Some text → (n : ℕ) × (taken' ≡ Some (text ++ take n (lines_of answer)))) → HasRunPartly see place (c ∷ []) old taken new taken'
+  pub one_partly : (place : ℕ) (c : Command) (answer : Answer) (old new : View P ghosts) (taken taken' : Option (List ℕ)) → CommandGoes see (Does place c) answer old new → ((text : List ℕ) → taken ≡ Some text → (n : ℕ) × (taken' ≡ Some (text ++ take n (lines_of answer)))) → HasRunPartly see place (c ∷ []) old taken new taken'
   one_partly place c answer old new taken taken' go written = record {
     begun = c ∷ [];
     left = [];
@@ -119,8 +128,8 @@ module _ {P : Type 0} (see : P → Seen) where
   }
 
   -- one that was not begun
-  pub none_partly : {E : Type 0} (place : ℕ) (c : Command) (e : E) (old new : View P) (taken : Option (List ℕ)) → CommandGoes see (Does place c) (Err e) old new → HasRunPartly see place (c ∷ []) old taken new taken
-  none_partly place c e old new taken go = record {
+  pub none_partly : (place : ℕ) (c : Command) (old new : View P ghosts) (taken : Option (List ℕ)) → IsRefused see old new → HasRunPartly see place (c ∷ []) old taken new taken
+  none_partly place c old new taken go = record {
     begun = [];
     left = c ∷ [];
     split = refl;
@@ -135,7 +144,7 @@ module _ {P : Type 0} (see : P → Seen) where
     blamed = tt;
   }
 
-  pub run_then : (place : ℕ) (cs ds : List Command) (old mid new : View P) (taken taken' taken'' : Option (List ℕ)) (fine fine' : Bool) → HasRun see place cs old taken mid taken' fine → HasRun see (place + length cs) ds mid taken' new taken'' fine' → HasRun see place (cs ++ ds) old taken new taken'' (fine && fine')
+  pub run_then : (place : ℕ) (cs ds : List Command) (old mid new : View P ghosts) (taken taken' taken'' : Option (List ℕ)) (fine fine' : Bool) → HasRun see place cs old taken mid taken' fine → HasRun see (place + length cs) ds mid taken' new taken'' fine' → HasRun see place (cs ++ ds) old taken new taken'' (fine && fine')
   run_then place cs ds old mid new taken taken' taken'' fine fine' a b = record {
     answers = a.answers ++ b.answers;
     goes = λ m there.
@@ -148,7 +157,7 @@ module _ {P : Type 0} (see : P → Seen) where
     blamed = both_blamed a.answers b.answers (scene see old) (scene see new) (all_on a.answers _ _ _ a.blamed b.faults) (all_later b.answers _ _ _ a.faults b.blamed);
   }
 
-  pub run_then_partly : (place : ℕ) (cs ds : List Command) (old mid new : View P) (taken taken' taken'' : Option (List ℕ)) (fine : Bool) → HasRun see place cs old taken mid taken' fine → HasRunPartly see (place + length cs) ds mid taken' new taken'' → HasRunPartly see place (cs ++ ds) old taken new taken''
+  pub run_then_partly : (place : ℕ) (cs ds : List Command) (old mid new : View P ghosts) (taken taken' taken'' : Option (List ℕ)) (fine : Bool) → HasRun see place cs old taken mid taken' fine → HasRunPartly see (place + length cs) ds mid taken' new taken'' → HasRunPartly see place (cs ++ ds) old taken new taken''
   run_then_partly place cs ds old mid new taken taken' taken'' fine a b = record {
     begun = cs ++ b.begun;
     left = b.left;
@@ -168,7 +177,7 @@ module _ {P : Type 0} (see : P → Seen) where
   }
 
   -- commands behind those that were begun change nothing
-  pub partly_more : (place : ℕ) (cs ds : List Command) (old new : View P) (taken taken' : Option (List ℕ)) → HasRunPartly see place cs old taken new taken' → HasRunPartly see place (cs ++ ds) old taken new taken'
+  pub partly_more : (place : ℕ) (cs ds : List Command) (old new : View P ghosts) (taken taken' : Option (List ℕ)) → HasRunPartly see place cs old taken new taken' → HasRunPartly see place (cs ++ ds) old taken new taken'
   partly_more place cs ds old new taken taken' a = record {
     begun = a.begun;
     left = a.left ++ ds;
@@ -180,10 +189,42 @@ module _ {P : Type 0} (see : P → Seen) where
     blamed = a.blamed;
   }
 
--- the outcome of a `Result` is none of the caller's business
-pub always_err : {T E P : Type 0} (r : Result T E) → P → OnErr r P
-always_err (Ok x) p = tt
-always_err (Err e) p = p
+-- ---- how a command ended its run
+
+module _ {P : Type 0} {ghosts : Ghosts P} (see : P → Seen) where
+  -- it had no answer
+  pub unserved_left : (T : Type 0) (why : Unserved) (Do : Moment → List Shown → End → Moment → Type 0) (old new : View P ghosts) → CommandEnds see Do (Err why) old new → LeftBy {T = T} see (Err (fault_of why)) new
+  unserved_left T unserved.OutOfMemory Do old new ends = record { keeps = ends.keeps; empty = ends.empty }
+  unserved_left T unserved.HeldUp Do old new ends = ends
+
+  pub unserved_partly : (T : Type 0) (why : Unserved) (c : Command) (old new : View P ghosts) (taken : Option (List ℕ)) → ((place : ℕ) → CommandEnds see (Does place c) (Err why) old new) →
+      OnShort {T = T} (Err (fault_of why)) ((place : ℕ) → HasRunPartly see place (c ∷ []) old taken new taken)
+  unserved_partly T unserved.OutOfMemory c old new taken ends = λ place. none_partly see place c old new taken (ends place)
+  unserved_partly T unserved.HeldUp c old new taken ends = tt
+
+  -- it had one, of which a line was written or not
+  pub served_left : {T : Type 0} (result : Result T ServeFault) (v : View P ghosts) → Keeps see v → v.house.hand.items ≡ [] → (IsErrOf result stops.HeldUp → ⊥) → LeftBy see result v
+  served_left (Ok x) v keeps empty kinds = record { keeps = keeps; empty = empty }
+  served_left (Err stops.OutOfMemory) v keeps empty kinds = record { keeps = keeps_but_group see v keeps; empty = empty }
+  served_left (Err stops.SinkFailed) v keeps empty kinds = record { keeps = keeps_but_group see v keeps; empty = empty }
+  served_left (Err stops.HeldUp) v keeps empty kinds = absurd (kinds refl)
+
+-- no command without an answer is for the sink's fault
+pub not_sink : (why : Unserved) → fault_of why ≡ stops.SinkFailed → ⊥
+not_sink unserved.OutOfMemory is = cc
+not_sink unserved.HeldUp is = cc
+
+pub on_short : {T : Type 0} (P : Type 0) (r : Result T ServeFault) → OnErr r P → OnShort r P
+on_short P (Ok x) p = tt
+on_short P (Err stops.OutOfMemory) p = p
+on_short P (Err stops.SinkFailed) p = p
+on_short P (Err stops.HeldUp) p = tt
+
+pub short_weaker : {T P Q : Type 0} (r : Result T ServeFault) → (P → Q) → OnShort r P → OnShort r Q
+short_weaker (Ok x) f p = tt
+short_weaker (Err stops.OutOfMemory) f p = f p
+short_weaker (Err stops.SinkFailed) f p = f p
+short_weaker (Err stops.HeldUp) f p = tt
 
 pub both_ok : {T E B : Type 0} (r : Result T E) (A P : T → Type 0) → IfOk r A → OnOk r B → ((x : T) → A x → B → P x) → IfOk r P
 both_ok (Ok x) A P a b h = h x a b

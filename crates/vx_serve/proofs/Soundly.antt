@@ -15,7 +15,7 @@ front_writes : (cs ds : List Command) → WriteNoHeader (cs ++ ds) → WriteNoHe
 front_writes [] ds none = tt
 front_writes (c ∷ cs) ds none = (none.0, front_writes cs ds none.1)
 
-carried_sound : (commands : List Command) (old : Shelved) (taken : Option (List ℕ)) (new : Shelved) (taken' : Option (List ℕ)) (fine : Bool) → CarriesOut commands old taken new taken' fine → StaysSound commands old new
+pub carried_sound : (commands : List Command) (old : Shelved) (taken : Option (List ℕ)) (new : Shelved) (taken' : Option (List ℕ)) (fine : Bool) → CarriesOut commands old taken new taken' fine → StaysSound commands old new
 carried_sound commands old taken new taken' fine run none (m, is, sound) =
     let goes = run.goes m is in (
       record { world = goes.1; counts = goes.0.counts },
@@ -23,7 +23,7 @@ carried_sound commands old taken new taken' fine run none (m, is, sound) =
       each_run_keeps_devices_sound 0 m commands run.answers goes.0 goes.1 none (record { group = is.no_group; volumes = is.no_volumes }) sound goes.2 goes.4,
     )
 
-short_sound : (commands : List Command) (old : Shelved) (taken : Option (List ℕ)) (new : Shelved) (taken' : Option (List ℕ)) → StopsShort commands old taken new taken' → StaysSound commands old new
+pub short_sound : (commands : List Command) (old : Shelved) (taken : Option (List ℕ)) (new : Shelved) (taken' : Option (List ℕ)) → StopsShort commands old taken new taken' → StaysSound commands old new
 short_sound commands old taken new taken' run none (m, is, sound) =
     let goes = run.goes m is in (
       record { world = goes.1; counts = goes.0.counts },
@@ -31,8 +31,3 @@ short_sound commands old taken new taken' run none (m, is, sound) =
       each_run_keeps_devices_sound 0 m run.begun run.answers goes.2.0 goes.1 (front_writes run.begun run.left (subst WriteNoHeader run.split none)) (record { group = is.no_group; volumes = is.no_volumes }) sound goes.2.1
           (subst (λ (w : World). PowerGoes w goes.1) goes.2.3 goes.4),
     )
-
-pub stays_sound : {E : Type 0} (result : Result Bool E) (commands : List Command) (old : Shelved) (taken : Option (List ℕ)) (new : Shelved) (taken' : Option (List ℕ))
-    → IfOk result (λ fine. CarriesOut commands old taken new taken' fine) → OnErr result (StopsShort commands old taken new taken') → StaysSound commands old new
-stays_sound (Ok fine) commands old taken new taken' run short = carried_sound commands old taken new taken' fine run
-stays_sound (Err e) commands old taken new taken' run short = short_sound commands old taken new taken' short

@@ -1,5 +1,6 @@
 pub mod Fine
 pub mod Run
+pub mod Stops
 pub mod Ends
 pub mod Told
 pub mod Soundly

@@ -1,6 +1,7 @@
 -- A run of commands over a house and its shelf, and one that was cut short.
 use Rattle.std.specs.Prelude.{◌≡◌, ℕ, ◌≤◌, Bool, List, ◌++◌, length, take, Option, Some}
 use Rattle.std.specs.List.{flat_map}
+use Rattle.vx_pages.specs.declared.local_piece.LocalPiece.{Ghosts}
 use Rattle.vx_piece.specs.Seen.{Seen}
 use Rattle.vx_copies.specs.Lists.{AllOf}
 use Rattle.vx_script.specs.declared.command.Command.{Command}
@@ -24,7 +25,7 @@ AreBlamed answers old new = AllOf (λ a. AnswerBlamed a old new) answers
 
 -- There is a transcript of the commands from each moment to one that is now, with the same answers. Their text was
 -- written behind each text, and fine tells whether all are.
-pub record HasRun {P : Type 0} (see : P → Seen) (place : ℕ) (commands : List Command) (old : View P) (taken : Option (List ℕ)) (new : View P) (taken' : Option (List ℕ)) (fine : Bool) : Type 0 where
+pub record HasRun {P : Type 0} {ghosts : Ghosts P} (see : P → Seen) (place : ℕ) (commands : List Command) (old : View P ghosts) (taken : Option (List ℕ)) (new : View P ghosts) (taken' : Option (List ℕ)) (fine : Bool) : Type 0 where
   pub answers : List Answer
   pub goes : Goes see (λ m n. IsTranscript place m commands answers n) old new
   pub written : (text : List ℕ) → taken ≡ Some text → taken' ≡ Some (text ++ text_of answers)
@@ -52,7 +53,7 @@ IsTranscriptThen place m commands answers n = (last : Moment) × IsTranscript pl
 
 -- The same of the first of the commands, those that were begun; of their text a front was written. No command was begun
 -- where a line before it was not written whole.
-pub record HasRunPartly {P : Type 0} (see : P → Seen) (place : ℕ) (commands : List Command) (old : View P) (taken : Option (List ℕ)) (new : View P) (taken' : Option (List ℕ)) : Type 0 where
+pub record HasRunPartly {P : Type 0} {ghosts : Ghosts P} (see : P → Seen) (place : ℕ) (commands : List Command) (old : View P ghosts) (taken : Option (List ℕ)) (new : View P ghosts) (taken' : Option (List ℕ)) : Type 0 where
   pub begun : List Command
   pub left : List Command
   pub split : commands ≡ begun ++ left

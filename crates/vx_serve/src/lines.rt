@@ -1,5 +1,5 @@
 //! Commands with the lines of their answers.
-ghost use Rattle.std.specs.Prelude.{◌≡◌, ◌+◌, ◌≤◌, ◌++◌, ℕ, List, length, IsTrue, ◌&&◌, IfOk, OnOk, OnErr, IsErrOf, Some, ◌∷◌, [], take};
+ghost use Rattle.std.specs.Prelude.{◌≡◌, ◌+◌, ◌≤◌, ◌++◌, ℕ, List, length, IsTrue, ◌&&◌, IfOk, OnOk, OnErr, IsErrOf, IfSome, ◌⊎◌, Some, ◌∷◌, [], take};
 ghost use Rattle.vx_base.specs.Counts.{Rose};
 ghost use Rattle.vx_script.specs.Kept.{is_command, is_kept};
 ghost use Rattle.vx_answers.specs.Lines.{lines_of};
@@ -7,9 +7,11 @@ ghost use Rattle.vx_house.specs.Closing.{NoneHeld};
 ghost use Rattle.vx_answers.specs.declared.answer.End.TheVariants as ends;
 ghost use Rattle.vx_house.specs.Leaves.{IsLeft};
 ghost use Rattle.vx_house.specs.Scene.{shelved};
-ghost use Rattle.vx_house.specs.View.{Keeps, at};
+ghost use Rattle.vx_house.specs.Holders.{AreHeld, holders};
+ghost use Rattle.vx_house.specs.View.{IsGroupWhole, Keeps, at};
 ghost use Rattle.vx_serve.specs.Fine.{is_fine};
 ghost use Rattle.vx_serve.specs.Run.{HasRun, HasRunPartly};
+ghost use Rattle.vx_serve.specs.Stops.{HoldsSome, LeftBy, OnShort, fault_of};
 ghost use Rattle.vx_serve.specs.Ends.{CarriesOut, StopsShort};
 ghost use Rattle.vx_serve.specs.Soundly.{StaysSound};
 ghost use Rattle.vx_serve.specs.declared.lines.ServeFault.TheVariants as stops;
@@ -18,7 +20,7 @@ use crate::fine::is_fine;
 use std::alloc::Global;
 use vx_answers::{Answer, End, Parts, put_answer};
 use vx_base::OutOfMemory;
-use vx_engine::execute;
+use vx_engine::{Unserved, execute};
 use vx_flow::Sink;
 use vx_house::{House, leave};
 use vx_script::Command;
@@ -28,6 +30,8 @@ use vx_shelf::Shelf;
 #[derive(Clone, Copy, Debug, PartialEq, Eq)]
 pub enum ServeFault {
     OutOfMemory,
+    /// There was no memory to join the devices of a group: they are still held.
+    HeldUp,
     /// The sink failed, and its count of faults rose.
     SinkFailed,
 }
@@ -51,14 +55,26 @@ fn write_line<B: Sink>(
     ensures fine { IfOk result (λ fine. fine ≡ is_fine answer.now) }
     ensures cause { IsErrOf result ServeFault.SinkFailed → Rose (B.faults sink.old) (B.faults sink.new) }
     ensures quiet { OnOk result (B.faults sink.new ≡ B.faults sink.old) }
-    ensures quiet_refused { IsErrOf result ServeFault.OutOfMemory → B.faults sink.new ≡ B.faults sink.old }
+    ensures quiet_refused { (IsErrOf result ServeFault.OutOfMemory ⊎ IsErrOf result ServeFault.HeldUp) → B.faults sink.new ≡ B.faults sink.old }
     ensures later { B.faults sink.old ≤ B.faults sink.new }
+    ensures kinds { IsErrOf result ServeFault.HeldUp → ⊥ }
 {
     line.clear();
     put_answer(answer, line)?;
     match sink.write(line) {
         Ok(()) => Ok(is_fine(answer)),
         Err(_) => Err(ServeFault::SinkFailed),
+    }
+}
+
+impl From<Unserved> for ServeFault {
+    ghost from_gives = { λ why e. e ≡ fault_of why };
+
+    fn from(why: Unserved) -> ServeFault {
+        match why {
+            Unserved::OutOfMemory => ServeFault::OutOfMemory,
+            Unserved::HeldUp => ServeFault::HeldUp,
+        }
     }
 }
 
@@ -74,17 +90,16 @@ fn one_line<S: Shelf, B: Sink>(
     requires kept { IsTrue (is_command command.now) }
     requires keeps { Keeps S.P.seen (at (shelved S.free S.held S.counted S.faults shelf.old) house.old) }
     requires empty { house.old.hand.items ≡ [] }
-    ensures keeps { Keeps S.P.seen (at (shelved S.free S.held S.counted S.faults shelf.new) house.new) }
-    ensures empty { house.new.hand.items ≡ [] }
+    ensures keeps { LeftBy S.P.seen result (at (shelved S.free S.held S.counted S.faults shelf.new) house.new) }
     ensures run { IfOk result (λ fine. (place : ℕ) → HasRun S.P.seen place (command.now ∷ [])
         (at (shelved S.free S.held S.counted S.faults shelf.old) house.old) (B.taken sink.old)
         (at (shelved S.free S.held S.counted S.faults shelf.new) house.new) (B.taken sink.new) fine) }
-    ensures partly { OnErr result ((place : ℕ) → HasRunPartly S.P.seen place (command.now ∷ [])
+    ensures partly { OnShort result ((place : ℕ) → HasRunPartly S.P.seen place (command.now ∷ [])
         (at (shelved S.free S.held S.counted S.faults shelf.old) house.old) (B.taken sink.old)
         (at (shelved S.free S.held S.counted S.faults shelf.new) house.new) (B.taken sink.new)) }
     ensures cause { IsErrOf result ServeFault.SinkFailed → Rose (B.faults sink.old) (B.faults sink.new) }
     ensures quiet { OnOk result (B.faults sink.new ≡ B.faults sink.old) }
-    ensures quiet_refused { IsErrOf result ServeFault.OutOfMemory → B.faults sink.new ≡ B.faults sink.old }
+    ensures quiet_refused { (IsErrOf result ServeFault.OutOfMemory ⊎ IsErrOf result ServeFault.HeldUp) → B.faults sink.new ≡ B.faults sink.old }
     ensures later { B.faults sink.old ≤ B.faults sink.new }
 {
     let answer = execute(alloc, house, shelf, command)?;
@@ -108,16 +123,16 @@ fn all_lines<S: Shelf, B: Sink>(
     requires kept { IsTrue (is_kept commands.now) }
     requires keeps { Keeps S.P.seen (at (shelved S.free S.held S.counted S.faults shelf.old) house.old) }
     requires empty { house.old.hand.items ≡ [] }
-    ensures keeps { Keeps S.P.seen (at (shelved S.free S.held S.counted S.faults shelf.new) house.new) }
+    ensures keeps { LeftBy S.P.seen result (at (shelved S.free S.held S.counted S.faults shelf.new) house.new) }
     ensures run { IfOk result (λ fine. HasRun S.P.seen 0 commands.now
         (at (shelved S.free S.held S.counted S.faults shelf.old) house.old) (B.taken sink.old)
         (at (shelved S.free S.held S.counted S.faults shelf.new) house.new) (B.taken sink.new) fine) }
-    ensures partly { OnErr result (HasRunPartly S.P.seen 0 commands.now
+    ensures partly { OnShort result (HasRunPartly S.P.seen 0 commands.now
         (at (shelved S.free S.held S.counted S.faults shelf.old) house.old) (B.taken sink.old)
         (at (shelved S.free S.held S.counted S.faults shelf.new) house.new) (B.taken sink.new)) }
     ensures cause { IsErrOf result ServeFault.SinkFailed → Rose (B.faults sink.old) (B.faults sink.new) }
     ensures quiet { OnOk result (B.faults sink.new ≡ B.faults sink.old) }
-    ensures quiet_refused { IsErrOf result ServeFault.OutOfMemory → B.faults sink.new ≡ B.faults sink.old }
+    ensures quiet_refused { (IsErrOf result ServeFault.OutOfMemory ⊎ IsErrOf result ServeFault.HeldUp) → B.faults sink.new ≡ B.faults sink.old }
     ensures later { B.faults sink.old ≤ B.faults sink.new }
 {
     let mut fine = true;
@@ -129,16 +144,19 @@ fn all_lines<S: Shelf, B: Sink>(
     Ok(fine)
 }
 
-/// The power goes: all devices are given back.
-fn close<S: Shelf>(alloc: Global, house: &mut House<S::P>, shelf: &mut S)
-    requires keeps { Keeps S.P.seen (at (shelved S.free S.held S.counted S.faults shelf.old) house.old) }
-    ensures gone { IsLeft S.P.seen (ends.Lost []) (at (shelved S.free S.held S.counted S.faults shelf.old) house.old) (at (shelved S.free S.held S.counted S.faults shelf.new) house.new) }
+/// The power goes: all devices are given back. Where there is no memory to join those of the group, they stay held.
+fn close<S: Shelf>(alloc: Global, house: &mut House<S::P>, shelf: &mut S) -> Result<(), OutOfMemory>
+    requires held { AreHeld (S.held shelf.old) (holders S.P.seen house.old) }
+    requires whole { IfSome house.old.group (IsGroupWhole S.P.seen) }
+    ensures gone { OnOk result (IsLeft S.P.seen (ends.Lost []) (at (shelved S.free S.held S.counted S.faults shelf.old) house.old) (at (shelved S.free S.held S.counted S.faults shelf.new) house.new)) }
+    ensures stuck { OnErr result (HoldsSome (S.held shelf.new)) }
 {
     let parts = Parts::from_vec(Vec::new(alloc));
-    leave(house, shelf, &End::Lost { parts });
+    leave(alloc, house, shelf, &End::Lost { parts })
 }
 
-/// Serves the commands of a script, and gives all devices back at the end. It tells whether all answers were fine.
+/// Serves the commands of a script, and gives all devices back at the end; after an error those of a group may still be held, where
+/// there was no memory to join them. It tells whether all answers were fine.
 pub fn run_commands<S: Shelf, B: Sink>(
     alloc: Global,
     shelf: &mut S,
@@ -150,18 +168,30 @@ pub fn run_commands<S: Shelf, B: Sink>(
     ensures run { IfOk result (λ fine. CarriesOut commands.now
         (shelved S.free S.held S.counted S.faults shelf.old) (B.taken sink.old)
         (shelved S.free S.held S.counted S.faults shelf.new) (B.taken sink.new) fine) }
-    ensures partly { OnErr result (StopsShort commands.now
+    ensures partly { OnErr result (NoneHeld (S.held shelf.new) → StopsShort commands.now
         (shelved S.free S.held S.counted S.faults shelf.old) (B.taken sink.old)
         (shelved S.free S.held S.counted S.faults shelf.new) (B.taken sink.new)) }
-    ensures sound { StaysSound commands.now (shelved S.free S.held S.counted S.faults shelf.old) (shelved S.free S.held S.counted S.faults shelf.new) }
-    ensures back { NoneHeld (S.held shelf.new) }
+    ensures sound { NoneHeld (S.held shelf.new) → StaysSound commands.now (shelved S.free S.held S.counted S.faults shelf.old) (shelved S.free S.held S.counted S.faults shelf.new) }
+    ensures back { OnOk result (NoneHeld (S.held shelf.new)) }
     ensures cause { IsErrOf result ServeFault.SinkFailed → Rose (B.faults sink.old) (B.faults sink.new) }
     ensures quiet { OnOk result (B.faults sink.new ≡ B.faults sink.old) }
-    ensures quiet_refused { IsErrOf result ServeFault.OutOfMemory → B.faults sink.new ≡ B.faults sink.old }
+    ensures quiet_refused { (IsErrOf result ServeFault.OutOfMemory ⊎ IsErrOf result ServeFault.HeldUp) → B.faults sink.new ≡ B.faults sink.old }
     ensures later { B.faults sink.old ≤ B.faults sink.new }
 {
     let mut house = House::new(alloc);
-    let outcome = all_lines(alloc, &mut house, shelf, sink, commands);
-    close(alloc, &mut house, shelf);
-    outcome
+    match all_lines(alloc, &mut house, shelf, sink, commands) {
+        Ok(fine) => match close(alloc, &mut house, shelf) {
+            Ok(()) => Ok(fine),
+            Err(_) => Err(ServeFault::HeldUp),
+        },
+        Err(ServeFault::HeldUp) => Err(ServeFault::HeldUp),
+        Err(ServeFault::OutOfMemory) => {
+            let _ = close(alloc, &mut house, shelf);
+            Err(ServeFault::OutOfMemory)
+        }
+        Err(ServeFault::SinkFailed) => {
+            let _ = close(alloc, &mut house, shelf);
+            Err(ServeFault::SinkFailed)
+        }
+    }
 }

@@ -1,17 +1,15 @@
--- A device that joins the imported group by a commit, or is lost with it.
-use Rattle.std.proofs.Common.{◌≡◌, ◌≢◌, ◌∙◌, ℕ, ◌+◌, List, [], ◌∷◌, ◌++◌, map, length, take, drop, Some, refl, sym, ap, subst, inl}
-use Rattle.std.specs.Prelude.{IfSome}
-use Rattle.std.proofs.lemmas.List.{take-append-drop}
+-- A device that joins the imported group by a commit, or is lost with it: its devices were called, and what was written.
+use Rattle.std.proofs.Common.{◌≡◌, ◌≢◌, ◌∙◌, ℕ, ◌+◌, List, [], ◌∷◌, ◌++◌, map, take, drop, Some, refl, sym, ap, subst, inl}
+use Rattle.vx_pages.specs.declared.local_piece.LocalPiece.{Ghosts}
 use Rattle.vx_piece.specs.Seen.{Seen}
-use Rattle.vx_copies.specs.Chain.{AreInOrder, OneOffersSince}
+use Rattle.vx_copies.specs.Chain.{AreInOrder, IsLed, OneOffersSince}
 use Rattle.vx_copies.specs.Disks.{DiskSeen, disk_seen, CommitGoes}
 use Rattle.vx_copies.specs.Lists.{AllOf, Each}
 use Rattle.vx_copies.specs.Written.{Touches, IsQuiet}
 use Rattle.vx_copies.specs.Written.{IsMaskOf as IsMaskIn}
 use Rattle.vx_copies.specs.declared.disk.Disk.{Disk}
-use Rattle.vx_confdb.specs.Add.{IsTaken}
-use Rattle.vx_confdb.specs.Enlisted.{Enlists, IsEnlisted, with_disk}
-use Rattle.vx_confdb.specs.Groups.{members}
+use Rattle.vx_confdb.specs.Enlisted.{Enlists}
+use Rattle.vx_confdb.specs.Prepare.{Tells}
 use Rattle.vx_objects.specs.declared.config.Config.{Config}
 use Rattle.vx_objects.specs.Applied.{IsEdited}
 use Rattle.vx_objects.specs.declared.edit.Edit.TheVariants.{AddDisk}
@@ -20,27 +18,30 @@ use Rattle.vx_moments.specs.Moment.{Moment}
 use Rattle.vx_moments.specs.Commit.{Writing}
 use Rattle.vx_plans.specs.Records.{disk_record, sectors_at}
 use Rattle.vx_plans.specs.Stages.{IsJoining}
-use Rattle.vx_house.specs.Holders.{Holder, holders, group_holders, hand_holder, volume_holder, AreHeld}
+use Rattle.vx_fronts.proofs.Disks.{same_slot}
+use Rattle.vx_fronts.proofs.Groups.{all_whole, whole_lead, whole_order}
+use Rattle.vx_house.specs.Holders.{Holder, group_holders, hand_holder, holder_in, volume_holder}
 use Rattle.vx_house.specs.Scene.{Shelved}
-use Rattle.vx_house.specs.View.{at, IsMoment, IsGroupKept, KeepsHouse}
+use Rattle.vx_house.specs.View.{at, member_in, IsMoment}
 use Rattle.vx_house.specs.declared.house.House.{House}
 use Rattle.vx_house.specs.declared.house.Imported.{Imported}
 use Rattle.vx_house.specs.declared.house.Taken.{Taken}
 use Rattle.vx_commits.proofs.Alone.{touched_by, called_by, went_by, low_by}
-use Rattle.vx_commits.proofs.DeviceLaws.{holder_in, IsCalled}
-use Rattle.vx_commits.proofs.Holders.{mapped_holders, world_group, group_before}
+use Rattle.vx_commits.proofs.DeviceLaws.{IsCalled}
+use Rattle.vx_commits.proofs.Holders.{world_group, group_before}
 use Rattle.vx_commits.proofs.Joins.{IsWent, AreCalled, AreWritten}
-use Rattle.vx_commits.proofs.Members.{member_in, writing}
-use Rattle.vx_commits.proofs.Slots.{AreSlotted, slotted}
-use Rattle.vx_stage_changes.specs.Joining.{disk_for, IsJoin, IsInHand}
+use Rattle.vx_commits.proofs.Members.{writing}
+use Rattle.vx_commits.proofs.Slots.{AreSlotted, slotted, slotted_wholes}
+use Rattle.vx_stage_changes.specs.Joining.{disk_for}
+use Rattle.vx_stage_changes.proofs.Admitted.{IsAdmitted, bs, entered, front_is, back_is, fronts_tell, fs, goes, hs, joins, js, kept, ks, n, ns, private, private_now, ready, rests, was, whole, wholes_now, ws}
 use Rattle.vx_stage_changes.proofs.Configs.{joined_group}
-use Rattle.vx_stage_changes.proofs.Entry.{take_front, drop_back, held_long, holders_before, joins_called, joins_went, joins_enlisted}
+use Rattle.vx_stage_changes.proofs.Entry.{held_long, joins_called, joins_went, joins_enlisted}
 use Rattle.vx_stage_changes.proofs.Room.{unrecorded}
 use Rattle.vx_stage_changes.proofs.FailedJoins.{hand_sectors}
 use Rattle.vx_house.proofs.Lists.{each_append, each_long}
 
 -- one more disk, whose slot is none of theirs
-slots_more : (h : DiskSeen) (hs : List DiskSeen) → AllOf (λ e. e.slot ≢ h.slot) hs → AreSlotted hs → AreSlotted (hs ++ h ∷ [])
+pub slots_more : (h : DiskSeen) (hs : List DiskSeen) → AllOf (λ e. e.slot ≢ h.slot) hs → AreSlotted hs → AreSlotted (hs ++ h ∷ [])
 slots_more h [] other slots = (tt, tt)
 slots_more h (a ∷ hs) other slots = (all hs slots.0, slots_more h hs other.1 slots.1)
   where
@@ -48,42 +49,13 @@ slots_more h (a ∷ hs) other slots = (all hs slots.0, slots_more h hs other.1 s
     all [] rest = ((λ same. other.0 (sym same)), tt)
     all (x ∷ xs) rest = (rest.0, all xs rest.1)
 
-all_held : {P : Type 0} (see : P → Seen) (slot : ℕ) (ds : List (Disk P)) → AllOf (λ d. d.slot ≢ slot) ds → AllOf (λ e. e.slot ≢ slot) (map (disk_seen see) ds)
+pub all_held : {P : Type 0} (see : P → Seen) (slot : ℕ) (ds : List (Disk P)) → AllOf (λ d. d.slot ≢ slot) ds → AllOf (λ e. e.slot ≢ slot) (map (disk_seen see) ds)
 all_held see slot [] other = tt
 all_held see slot (d ∷ ds) other = (other.0, all_held see slot ds other.1)
 
--- A house whose only device in hand was to join its group: with this configuration, and as they are now.
-pub record IsAdmitted {P : Type 0} (see : P → Seen) (shelf : Shelved) (pair : DiskAt) (old now : House P) (g g' : Imported P) (t : Taken P) (slot : ℕ) (text : List ℕ) (next : Config) : Type 0 where
-  pub keeps : KeepsHouse see old
-  pub held : AreHeld shelf.held (holders see old)
-  pub has : old.group ≡ Some g
-  pub is_now : now.group ≡ Some g'
-  pub volumes : now.volumes ≡ old.volumes
-  pub in_hand : IsInHand pair t old.hand.items
-  pub empty : now.hand.items ≡ []
-  pub join : IsJoin see pair t g next text slot
-  pub taken : IsTaken see text (disk_for see pair slot t) g.base g'.base
-  pub enlisted : IsEnlisted g.base.name (g.base.sequence + 1) g'.base.sequence (length g.base.disks.items) text (with_disk see g.base (disk_for see pair slot t)) (members see g'.base)
-
-module _ {P : Type 0} {see : P → Seen} {shelf : Shelved} {pair : DiskAt} {old now : House P} {g g' : Imported P} {t : Taken P} {slot : ℕ} {text : List ℕ} {next : Config} (a : IsAdmitted see shelf pair old now g g' t slot text next) where
+module _ {P : Type 0} {ghosts : Ghosts P} {see : P → Seen} {shelf : Shelved} {pair : DiskAt} {old now : House P ghosts} {g g' : Imported P ghosts} {t : Taken P} {slot : ℕ} {text : List ℕ} {next : Config} (a : IsAdmitted see shelf pair old now g g' t slot text next) where
   abbrev disk : Disk P
   disk = disk_for see pair slot t
-
-  abbrev count : ℕ
-  count = length g.base.disks.items
-
-  -- the disks of the group and the one that joins, before and now
-  abbrev pub hs : List DiskSeen
-  hs = members see g.base
-
-  abbrev pub js : List DiskSeen
-  js = disk_seen see disk ∷ []
-
-  abbrev pub bs : List DiskSeen
-  bs = take count (members see g'.base)
-
-  abbrev pub ks : List DiskSeen
-  ks = drop count (members see g'.base)
 
   abbrev first : ℕ
   first = g.base.sequence + 1
@@ -92,77 +64,72 @@ module _ {P : Type 0} {see : P → Seen} {shelf : Shelved} {pair : DiskAt} {old 
   number = g'.base.sequence
 
   abbrev Masks : ℕ → Type 0
-  Masks = IsMaskIn (hs ++ js) (bs ++ ks)
+  Masks = IsMaskIn (hs a ++ js a) (bs a ++ ks a)
 
   abbrev vs : List Holder
   vs = map (volume_holder see) old.volumes.entries
-
-  pub whole : bs ++ ks ≡ members see g'.base
-  whole = take-append-drop count (members see g'.base)
-
-  pub kept : IsGroupKept see g
-  kept = subst (λ o. IfSome o (IsGroupKept see)) a.has a.keeps.group
 
   pub same_group : next.group ≡ g.config.group
   same_group = joined_group (disk_record pair slot (see t.piece).sectors) g.config next a.join.meant.edited
 
   pub same_name : next.group ≡ g.base.name
-  same_name = same_group ∙ sym kept.named
+  same_name = same_group ∙ sym (kept a).named
 
-  -- the first of the lists, and what is behind it
-  pub front_is : take count (hs ++ js) ≡ hs
-  front_is = take_front count hs js (held_long see g.base.disks.items)
+  same_masks : IsMaskIn (hs a ++ js a) (ws a) ≡ Masks
+  same_masks = ap (IsMaskIn (hs a ++ js a)) (sym (whole a))
 
-  pub back_is : drop count (hs ++ js) ≡ js
-  back_is = drop_back count hs js (held_long see g.base.disks.items)
+  touches : Each (Touches first number text Masks) (hs a) (bs a)
+  touches = subst (λ l. Each (Touches first number text Masks) l (bs a)) (front_is a) (subst (λ M. Each (Touches first number text M) (take (n a) (hs a ++ js a)) (bs a)) same_masks (entered a).touches)
 
-  same_masks : IsMaskIn (hs ++ js) (members see g'.base) ≡ Masks
-  same_masks = ap (IsMaskIn (hs ++ js)) (sym whole)
+  enlists : Each (Enlists g.base.name first number text Masks) (js a) (ks a)
+  enlists = subst (λ l. Each (Enlists g.base.name first number text Masks) l (ks a)) (back_is a) (subst (λ M. Each (Enlists g.base.name first number text M) (drop (n a) (hs a ++ js a)) (ks a)) same_masks (entered a).enlists)
 
-  touches : Each (Touches first number text Masks) hs bs
-  touches = subst (λ l. Each (Touches first number text Masks) l bs) front_is (subst (λ M. Each (Touches first number text M) (take count (hs ++ js)) bs) same_masks a.enlisted.touches)
+  other_slots : AllOf (λ e. e.slot ≢ slot) (hs a)
+  other_slots = all_whole (rests a) (λ e. e.slot ≢ slot) (λ e. e.slot ≢ slot) (λ o h wide other same. other (sym (same_slot o h) ∙ same)) (fs a) (private a)
+      (all_held see slot g.base.disks.items (unrecorded g.config slot g.base.disks.items (kept a).recorded a.join.slotted.free))
 
-  enlists : Each (Enlists g.base.name first number text Masks) js ks
-  enlists = subst (λ l. Each (Enlists g.base.name first number text Masks) l ks) back_is (subst (λ M. Each (Enlists g.base.name first number text M) (drop count (hs ++ js)) ks) same_masks a.enlisted.enlists)
-
-  pub admitted : AreCalled see shelf old now [] hs bs js ks
+  pub admitted : AreCalled see shelf old now [] (hs a) (bs a) (js a) (ks a)
   admitted = record {
-    long = each_long (CommitGoes first number text) hs bs a.taken.goes;
-    was = holders_before see old g t disk a.has a.in_hand.only refl refl;
+    long = each_long (CommitGoes first number text) (hs a) (bs a) (goes a);
+    was = was a;
     is =
         ap (λ v. map (volume_holder see) v.entries ++ (group_holders see now.group ++ map (hand_holder see) now.hand.items)) a.volumes
         ∙ ap (λ o. vs ++ (group_holders see o ++ map (hand_holder see) now.hand.items)) a.is_now
         ∙ ap (λ l. vs ++ (group_holders see (Some g') ++ map (hand_holder see) l)) a.empty
-        ∙ ap (λ l. vs ++ (l ++ [])) (mapped_holders see g'.base.disks.items ∙ ap (map holder_in) (sym whole));
+        ∙ ap (λ l. vs ++ (map holder_in l ++ [])) (wholes_now a ∙ sym (whole a));
     volumes = a.volumes;
     held = a.held;
-    called = each_append IsCalled hs bs js ks (called_by first number text Masks hs bs a.taken.goes touches) (joins_called g.base.name first number text Masks js ks a.taken.joins enlists);
-    went = each_append IsWent hs bs js ks (went_by first number text hs bs a.taken.goes) (joins_went g.base.name first number text Masks js ks a.taken.joins);
-    low = low_by hs kept.carries.alive.ready;
-    slots = slots_more (disk_seen see disk) hs (all_held see slot g.base.disks.items (unrecorded g.config slot g.base.disks.items kept.recorded a.join.slotted.free)) (slotted see g.base.disks.items kept.slots);
+    called = each_append IsCalled (hs a) (bs a) (js a) (ks a) (called_by first number text Masks (hs a) (bs a) (goes a) touches) (joins_called g.base.name first number text Masks (js a) (ks a) (joins a) enlists);
+    went = each_append IsWent (hs a) (bs a) (js a) (ks a) (went_by first number text (hs a) (bs a) (goes a)) (joins_went g.base.name first number text Masks (js a) (ks a) (joins a));
+    low = low_by (hs a) (ready a);
+    slots = slots_more (disk_seen see disk) (hs a) other_slots (slotted_wholes (rests a) (fs a) (slotted see g.base.disks.items (kept a).slots));
     sound = (refl, tt);
   }
 
-  pub written : AreWritten (world_group see g) next text (map member_in hs) number hs bs js ks
+  -- the fronts that were there lead
+  led : AllOf Tells (hs a) → IsLed g.base.name g.base.sequence (n a) (ws a)
+  led tells = whole_lead (rests a) g.base.name g.base.sequence (n a) (ns a) (private_now a) (subst (λ m. IsLed g.base.name g.base.sequence m (ns a)) (held_long see g.base.disks.items) (a.taken.lead (fronts_tell (rests a) (fs a) tells)))
+
+  pub written : AreWritten (world_group see g) next text (map member_in (hs a)) number (hs a) (bs a) (js a) (ks a)
   written = record {
     few = a.taken.few;
-    once = λ quiet. a.enlisted.once (subst (Each IsQuiet (hs ++ js)) whole quiet);
+    once = λ quiet. (entered a).once (subst (Each IsQuiet (hs a ++ js a)) (whole a) quiet);
     printed = a.join.meant.printed.0;
     short = a.join.meant.printed.1;
-    touched = touched_by first number text Masks hs bs kept.carries.alive.ready a.taken.goes touches;
-    enlisted = joins_enlisted g.base.name first number text Masks js ks a.taken.joins next.group same_name ((refl, refl), tt) enlists;
-    order = subst (AreInOrder next.group g.base.sequence) (sym whole) (subst (λ n. AreInOrder n g.base.sequence (members see g'.base)) (sym same_name) a.taken.order);
+    touched = touched_by first number text Masks (hs a) (bs a) (ready a) (goes a) touches;
+    enlisted = joins_enlisted g.base.name first number text Masks (js a) (ks a) (joins a) next.group same_name ((refl, refl), tt) enlists;
+    order = subst (AreInOrder next.group g.base.sequence) (sym (whole a)) (subst (λ m. AreInOrder m g.base.sequence (ws a)) (sym same_name) (whole_order (rests a) g.base.name g.base.sequence (ns a) (private_now a) a.taken.order));
     lead = inl (
       refl,
       λ tells.
-          subst (λ l. OneOffersSince next.group g.base.sequence l → OneOffersSince next.group g.base.sequence bs) (sym whole)
-          (subst (λ n. OneOffersSince n g.base.sequence (members see g'.base) → OneOffersSince n g.base.sequence bs) (sym same_name) (a.taken.lead tells)),
+          subst (λ l. OneOffersSince next.group g.base.sequence l → OneOffersSince next.group g.base.sequence (bs a)) (sym (whole a))
+          (subst (λ m. OneOffersSince m g.base.sequence (ws a) → OneOffersSince m g.base.sequence (bs a)) (sym same_name) (led tells)),
     );
   }
 
   -- what is written
   abbrev pub x : Writing
-  x = writing (world_group see g) next text (map member_in hs) hs js
+  x = writing (world_group see g) next text (map member_in (hs a)) (hs a) (js a)
 
   pub joining : (m : Moment) → IsMoment see (at shelf old) m → IsJoining pair m.world x
   joining m is =
@@ -171,7 +138,7 @@ module _ {P : Type 0} {see : P → Seen} {shelf : Shelved} {pair : DiskAt} {old 
       let sized : sectors_at m.world pair.device ≡ (see t.piece).sectors = ap (sectors_at m.world) (sym device) ∙ hand_sectors see shelf old t a.in_hand.only a.held.apart m is in
       record {
         group = group_before see shelf old g a.has m is;
-        edited = subst (λ s. IsEdited (AddDisk (disk_record pair s (sectors_at m.world pair.device)) ∷ []) g.config next) (sym free) (subst (λ n. IsEdited (AddDisk (disk_record pair slot n) ∷ []) g.config next) (sym sized) a.join.meant.edited);
+        edited = subst (λ s. IsEdited (AddDisk (disk_record pair s (sectors_at m.world pair.device)) ∷ []) g.config next) (sym free) (subst (λ k. IsEdited (AddDisk (disk_record pair slot k) ∷ []) g.config next) (sym sized) a.join.meant.edited);
         joiner = cc;
         carriers = refl;
       }

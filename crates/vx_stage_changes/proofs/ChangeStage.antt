@@ -1,5 +1,6 @@
 -- A change of the configuration as a stage.
 use Rattle.std.proofs.Common.{◌≡◌, ◌∙◌, inl, inr, List, Some, None, Result, Err, refl, sym, ap, subst}
+use Rattle.vx_pages.specs.declared.local_piece.LocalPiece.{Ghosts}
 use Rattle.vx_piece.specs.Seen.{Seen}
 use Rattle.vx_answers.specs.declared.answer.End.TheVariants as ends
 use Rattle.vx_answers.specs.declared.refusal.Refusal.TheVariants as refusal
@@ -31,12 +32,12 @@ edits_same : (c : Change) (w : Group) → edits_of c (Some w) ≡ change_edits c
 edits_same (changes.Policy vol policy) w = refl
 edits_same (changes.Remove vol) w = refl
 
-module _ {P : Type 0} (see : P → Seen) (c : Change) (disks : List DiskAt) (shelf : Shelved) (old : House P) (keeps : KeepsHouse see old) (are_held : AreHeld shelf.held (holders see old)) where
+module _ {P : Type 0} {ghosts : Ghosts P} (see : P → Seen) (c : Change) (disks : List DiskAt) (shelf : Shelved) (old : House P ghosts) (keeps : KeepsHouse see old) (are_held : AreHeld shelf.held (holders see old)) where
   -- no group is imported
   pub no_group : old.group ≡ None → StageGoes {T = Unit {0}} see (stage.Change c) disks (Err (stops.Ended (ends.Refused (refusal.NoGroup None)))) (at shelf old) (at shelf old)
   no_group none = refused_here see (stage.Change c) disks shelf old keeps are_held (refusal.NoGroup None) (λ m is. inl (is.group_is ∙ ap (group_of see) none, (refl, rests_self m)))
 
-  module _ (g : Imported P) (has : old.group ≡ Some g) where
+  module _ (g : Imported P ghosts) (has : old.group ≡ Some g) where
     edits_here : (m : Moment) → IsMoment see (at shelf old) m → edits_of c m.world.group ≡ change_edits c g.config
     edits_here m is = ap (edits_of c) (group_before see shelf old g has m is) ∙ edits_same c (world_group see g)
 
@@ -54,5 +55,5 @@ module _ {P : Type 0} (see : P → Seen) (c : Change) (disks : List DiskAt) (she
       refuses = λ m w r is here same refused. inr (inl ((w, here, subst (λ es. EditsRefused es w (ends.Refused r)) (sym (edits_same c w ∙ ap (change_edits c) same)) refused), rests_self m));
     }
 
-    pub change_goes : (result : Result (Unit {0}) Stop) (g' : Imported P) → ChangeEnds see (change_edits c g.config) result g g' → StageGoes see (stage.Change c) disks result (at shelf old) (at shelf (house see (stage.Change c) disks shelf old keeps are_held g has g'))
+    pub change_goes : (result : Result (Unit {0}) Stop) (g' : Imported P ghosts) → ChangeEnds see (change_edits c g.config) result g g' → StageGoes see (stage.Change c) disks result (at shelf old) (at shelf (house see (stage.Change c) disks shelf old keeps are_held g has g'))
     change_goes result g' ends = edits_go see (stage.Change c) disks shelf old keeps are_held g has (change_edits c g.config) is_stage result g' ends

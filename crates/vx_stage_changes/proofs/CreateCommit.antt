@@ -1,6 +1,7 @@
 -- A group that is made of the devices in hand by a commit, or was to be made.
 use Rattle.std.proofs.Common.{◌≡◌, ◌∙◌, ℕ, ◌≤◌, true, List, [], ◌∷◌, ◌++◌, map, None, refl, sym, ap, subst, inr}
 use Rattle.std.proofs.lemmas.List.{append-nil}
+use Rattle.vx_pages.specs.declared.local_piece.LocalPiece.{Ghosts}
 use Rattle.vx_base.specs.Named.{Word}
 use Rattle.vx_piece.specs.Seen.{Seen}
 use Rattle.vx_copies.specs.Chain.{AreInOrder}
@@ -18,15 +19,14 @@ use Rattle.vx_moments.specs.Moment.{Moment}
 use Rattle.vx_moments.specs.Commit.{Writing}
 use Rattle.vx_plans.specs.Records.{devices_of, sectors_in, sectors_at}
 use Rattle.vx_plans.specs.Stages.{IsCreating}
-use Rattle.vx_house.specs.Holders.{holders, group_holders, hand_holder, volume_holder, AreHeld}
+use Rattle.vx_house.specs.Holders.{holders, group_holders, hand_holder, volume_holder, AreHeld, holder_in}
 use Rattle.vx_house.specs.Scene.{Shelved}
-use Rattle.vx_house.specs.View.{at, IsMoment, KeepsHouse}
+use Rattle.vx_house.specs.View.{at, IsMoment, KeepsHouse, member_in}
 use Rattle.vx_house.specs.declared.house.House.{House}
 use Rattle.vx_house.proofs.Ends.{moment_but_group}
 use Rattle.vx_house.proofs.AllLaws.{all_each}
-use Rattle.vx_commits.proofs.DeviceLaws.{holder_in}
 use Rattle.vx_commits.proofs.Joins.{AreCalled, AreWritten, moment_on, back_gone}
-use Rattle.vx_commits.proofs.Members.{member_in, writing, IsGone}
+use Rattle.vx_commits.proofs.Members.{writing, IsGone}
 use Rattle.vx_commits.proofs.Slots.{slotted}
 use Rattle.vx_stage_changes.specs.Creating.{disks_from, IsDrawn}
 use Rattle.vx_stage_changes.proofs.NewConfig.{named_so}
@@ -35,7 +35,7 @@ use Rattle.vx_stage_changes.proofs.Entry.{IsWhole, joins_called, joins_went, joi
 use Rattle.vx_house.proofs.Lists.{all_of_pairs}
 
 -- A house whose devices in hand were to become a group, with this configuration, and as their disks are now.
-pub record IsBegunOf {P : Type 0} (see : P → Seen) (dg : Word) (pairs : List DiskAt) (shelf : Shelved) (old now : House P) (text : List ℕ) (config : Config) (last : ℕ) (ks : List DiskSeen) : Type 0 where
+pub record IsBegunOf {P : Type 0} {ghosts : Ghosts P} (see : P → Seen) (dg : Word) (pairs : List DiskAt) (shelf : Shelved) (old now : House P ghosts) (text : List ℕ) (config : Config) (last : ℕ) (ks : List DiskSeen) : Type 0 where
   pub keeps : KeepsHouse see old
   pub none : old.group ≡ None
   pub named : names_in old.hand.items ≡ devices_of pairs
@@ -48,7 +48,7 @@ pub record IsBegunOf {P : Type 0} (see : P → Seen) (dg : Word) (pairs : List D
   pub order : AreInOrder dg 0 ks
   pub is : holders see now ≡ map (volume_holder see) old.volumes.entries ++ (map holder_in ks ++ [])
 
-module _ {P : Type 0} {see : P → Seen} {dg : Word} {pairs : List DiskAt} {shelf : Shelved} {old now : House P} {text : List ℕ} {config : Config} {last : ℕ} {ks : List DiskSeen} (b : IsBegunOf see dg pairs shelf old now text config last ks) where
+module _ {P : Type 0} {ghosts : Ghosts P} {see : P → Seen} {dg : Word} {pairs : List DiskAt} {shelf : Shelved} {old now : House P ghosts} {text : List ℕ} {config : Config} {last : ℕ} {ks : List DiskSeen} (b : IsBegunOf see dg pairs shelf old now text config last ks) where
   abbrev ds : List (Disk P)
   ds = disks_from see 0 old.hand.items pairs
 

@@ -1,14 +1,15 @@
 -- A group that is made of the devices in hand, or was not made, as a stage.
-use Rattle.std.proofs.Common.{◌≡◌, ◌∙◌, ℕ, ◌<◌, true, List, [], ◌++◌, map, Option, Some, None, Ok, Err, refl, sym, ap, subst, inl, inr, arith}
+use Rattle.std.proofs.Common.{◌≡◌, ◌∙◌, ℕ, ◌<◌, true, List, [], ◌∷◌, ◌++◌, map, Option, Some, None, Ok, Err, refl, sym, ap, subst, inl, inr, arith}
 use Rattle.std.specs.Prelude.{IfSome}
 use Rattle.std.proofs.lemmas.List.{append-nil}
 use Rattle.std.proofs.Math.Seq.{take-length}
 use Rattle.std.specs.BTreeMap.{IsOrdered}
 use Rattle.std.specs.Cmp.Lexicographic.{slice_cmp}
 use Rattle.std.specs.Ordering.{nat_cmp}
+use Rattle.vx_pages.specs.declared.local_piece.LocalPiece.{Ghosts}
 use Rattle.vx_piece.specs.Seen.{Seen}
 use Rattle.vx_copies.specs.Commit.{HasRisen}
-use Rattle.vx_copies.specs.Disks.{DiskSeen, disk_seen, IsCut, good_mask, good_count}
+use Rattle.vx_copies.specs.Disks.{DiskSeen, disk_seen, IsCut, IsReady, good_mask, good_count}
 use Rattle.vx_copies.specs.Config.{GivesNew}
 use Rattle.vx_copies.specs.Lists.{AllOf, AnyOf, Each}
 use Rattle.vx_copies.specs.declared.disk.Disk.{Disk}
@@ -29,9 +30,14 @@ use Rattle.vx_moments.specs.Copies.{IsTextOf}
 use Rattle.vx_plans.specs.Records.{devices_of}
 use Rattle.vx_plans.specs.declared.stage.Stage.TheVariants as stage
 use Rattle.vx_house.specs.Goes.{StageGoes}
-use Rattle.vx_house.specs.Holders.{Holder, holders, group_holders, hand_holder, volume_holder, volume_at, AreHeld}
+use Rattle.vx_house.specs.Holders.{group_holders, hand_holder, holder_in, holders, volume_at, volume_holder, whole_members, AreApart, AreHeld, Holder, IsTakenFrom}
 use Rattle.vx_house.specs.Scene.{Shelved, seen_at, AreCountsOf, FaultsGoOn}
-use Rattle.vx_house.specs.View.{at, scene, group_of, is_lent, IsDeviceOf, IsAtVolume, IsMoment, IsGroupKept, KeepsHouse}
+use Rattle.vx_house.specs.View.{at, group_of, is_lent, member_in, scene, AreSized, IsAtVolume, IsDeviceOf, IsGroupKept, IsGroupWhole, IsMoment, KeepsHouse}
+use Rattle.vx_fronts.specs.Parted.{IsFront}
+use Rattle.vx_house.proofs.AllLaws.{all_back, all_front}
+use Rattle.vx_house.proofs.Founded.{founded}
+use Rattle.vx_house.proofs.Returns.{apart_back, apart_front}
+use Rattle.vx_house.proofs.Wholes.{unparted}
 use Rattle.vx_house.specs.declared.house.House.{House}
 use Rattle.vx_house.specs.declared.house.Imported.{Imported}
 use Rattle.vx_house.specs.declared.stop.Stop.{Stop}
@@ -41,18 +47,16 @@ use Rattle.vx_house.proofs.Moments.{later_refl, faults_refl}
 use Rattle.vx_house.proofs.Takes.{rests_self}
 use Rattle.vx_commits.specs.Committing.{stop_of}
 use Rattle.vx_stage_changes.specs.Creating.{disks_from, taken_of, IsDrawn, IsFoundedBy, IsUnfounded, CreateEnds}
-use Rattle.vx_commits.proofs.DeviceLaws.{holder_in}
 use Rattle.vx_stage_changes.proofs.CreateCommit.{IsBegunOf, whole, group_name, before, written, x, creating}
 use Rattle.vx_stage_changes.proofs.CreateCommit.{begun as calls}
 use Rattle.vx_stage_changes.proofs.NewConfig.{recorded_so}
 use Rattle.vx_stage_changes.proofs.Enlistment.{names_in, disks_held, hand_again, hand_some, disks_some, all_sized, have_slots, joins_sized, joins_slots, joins_recorded}
 use Rattle.vx_stage_changes.proofs.Entry.{joins_named, joined_members}
-use Rattle.vx_commits.proofs.Holders.{mapped_holders, group_is}
+use Rattle.vx_commits.proofs.Holders.{group_is}
 use Rattle.vx_commits.proofs.Alone.{low_by}
 use Rattle.vx_commits.proofs.GoodDisks.{any_good}
-use Rattle.vx_commits.proofs.Joins.{AreDone, joiners_lost_on, power_lost_on, joiners_committed_on}
+use Rattle.vx_commits.proofs.Joins.{AreDone, held_on, joiners_lost_on, power_lost_on, joiners_committed_on}
 use Rattle.vx_commits.proofs.CommitStage.{volumes_kept, group_lost_stage, power_lost_stage, done_stage}
-use Rattle.vx_commits.proofs.Members.{member_in}
 use Rattle.vx_copies.proofs.ToggleOrder.{each_all}
 
 -- where none of a kind is there, there is none
@@ -60,9 +64,9 @@ pub none_of : {X : Type 0} (o : Option X) → ((y : X) → o ≡ Some y → ⊥)
 none_of None never = refl
 none_of (Some y) never = absurd (never y refl)
 
-module _ {P : Type 0} (see : P → Seen) (dg : Word) (pairs : List DiskAt) (shelf : Shelved) where
+module _ {P : Type 0} {ghosts : Ghosts P} (see : P → Seen) (dg : Word) (pairs : List DiskAt) (shelf : Shelved) where
   -- a group is imported already
-  pub in_use : (old : House P) → KeepsHouse see old → AreHeld shelf.held (holders see old) → (g : Imported P) → old.group ≡ Some g → StageGoes {T = Unit {0}} see (stage.Create dg) pairs (Err (stops.Ended (ends.Refused (refusal.InUse g.config.group)))) (at shelf old) (at shelf old)
+  pub in_use : (old : House P ghosts) → KeepsHouse see old → AreHeld shelf.held (holders see old) → (g : Imported P ghosts) → old.group ≡ Some g → StageGoes {T = Unit {0}} see (stage.Create dg) pairs (Err (stops.Ended (ends.Refused (refusal.InUse g.config.group)))) (at shelf old) (at shelf old)
   in_use old keeps are_held g has = record {
     keeps = record { devices = are_held; house = keeps };
     goes = λ m is. (m, is, later_refl m.counts, inl (_, is.group_is ∙ ap (group_of see) has, (refl, rests_self m)));
@@ -72,7 +76,7 @@ module _ {P : Type 0} (see : P → Seen) (dg : Word) (pairs : List DiskAt) (shel
     blamed = tt;
   }
 
-  module _ (old now : House P) (keeps : KeepsHouse see old) (none : old.group ≡ None) (named : names_in old.hand.items ≡ devices_of pairs) (volumes : now.volumes ≡ old.volumes) (are_held : AreHeld shelf.held (holders see old)) where
+  module _ (old now : House P ghosts) (keeps : KeepsHouse see old) (none : old.group ≡ None) (named : names_in old.hand.items ≡ devices_of pairs) (volumes : now.volumes ≡ old.volumes) (are_held : AreHeld shelf.held (holders see old)) where
     abbrev disks : List (Disk P)
     disks = disks_from see 0 old.hand.items pairs
 
@@ -83,22 +87,25 @@ module _ {P : Type 0} (see : P → Seen) (dg : Word) (pairs : List DiskAt) (shel
     vols = map (volume_holder see) old.volumes.entries
 
     volume_now : (vol : Word) → volume_at now vol ≡ volume_at old vol
-    volume_now vol = ap (λ v. volume_at (let h : House P = record { volumes = v; group = old.group; hand = old.hand } in h) vol) volumes
+    volume_now vol = ap (λ v. volume_at (let h : House P ghosts = record { volumes = v; group = old.group; hand = old.hand } in h) vol) volumes
 
     -- the group is made
-    module _ (g' : Imported P) (is_now : now.group ≡ Some g') (empty : now.hand.items ≡ []) (by : IsFoundedBy see dg g' disks) where
+    module _ (g' : Imported P ghosts) (is_now : now.group ≡ Some g') (empty : now.hand.items ≡ []) (by : IsFoundedBy see dg g' disks) where
       abbrev text : List ℕ
       text = by.text
 
       abbrev bs : List DiskSeen
       bs = members see g'.base
 
+      wholes : whole_members see g' ≡ bs
+      wholes = unparted see g' by.still by.lent
+
       new_is : holders see now ≡ vols ++ (map holder_in bs ++ [])
       new_is =
           ap (λ v. map (volume_holder see) v.entries ++ (group_holders see now.group ++ map (hand_holder see) now.hand.items)) volumes
           ∙ ap (λ o. vols ++ (group_holders see o ++ map (hand_holder see) now.hand.items)) is_now
           ∙ ap (λ l. vols ++ (group_holders see (Some g') ++ map (hand_holder see) l)) empty
-          ∙ ap (λ l. vols ++ (l ++ [])) (mapped_holders see g'.base.disks.items)
+          ∙ ap (λ l. vols ++ (map holder_in l ++ [])) wholes
 
       begun : IsBegunOf see dg pairs shelf old now text g'.config g'.base.sequence bs
       begun = record { keeps = keeps; none = none; named = named; volumes = volumes; are_held = are_held; drawn = by.drawn; few = by.founded.few; are = by.made.are; joins = by.founded.begun.joins; order = by.founded.begun.order; is = new_is }
@@ -109,15 +116,33 @@ module _ {P : Type 0} (see : P → Seen) (dg : Word) (pairs : List DiskAt) (shel
       holds : text_of g'.base.text ≡ text
       holds = by.founded.carries.holds
 
+      sized : AreSized bs
+      sized = joins_sized see dg text disks g'.base.disks.items by.founded.begun.joins (all_sized see 0 old.hand.items pairs)
+
+      -- its devices are those that were in hand
+      held_now : AreHeld shelf.held (holders see now)
+      held_now = held_on (calls begun)
+
+      each_now : AllOf (IsTakenFrom shelf.held) (map holder_in bs)
+      each_now = all_front (IsTakenFrom shelf.held) (map holder_in bs) [] (all_back (IsTakenFrom shelf.held) vols (map holder_in bs ++ []) (subst (AllOf (IsTakenFrom shelf.held)) new_is held_now.each))
+
+      apart_now : AreApart (map holder_in bs)
+      apart_now = apart_front (map holder_in bs) [] (apart_back vols (map holder_in bs ++ []) (subst AreApart new_is held_now.apart))
+
+      fronts_by : (xs : List DiskSeen) → AllOf (IsTakenFrom shelf.held) (map holder_in xs) → AllOf IsReady xs → AllOf IsFront xs
+      fronts_by [] each ready = tt
+      fronts_by (h ∷ xs) each ready = (record { start = each.0.0; private = ready.0.sectors }, fronts_by xs each.1 ready.1)
+
       kept : IsGroupKept see g'
       kept = record {
         named = base_named;
         text = subst (IsTextOf g'.config) (sym holds) by.drawn.printed.0;
         first = 1;
         carries = subst (λ t. CarriesText see 1 t g'.base) (sym holds) by.founded.carries;
-        sized = joins_sized see dg text disks g'.base.disks.items by.founded.begun.joins (all_sized see 0 old.hand.items pairs);
+        sized = subst AreSized (sym wholes) sized;
         slots = joins_slots see dg text disks g'.base.disks.items by.founded.begun.joins (have_slots see 0 old.hand.items pairs);
         recorded = joins_recorded see dg text g'.config disks g'.base.disks.items by.founded.begun.joins (recorded_so dg disks g'.config by.drawn.records);
+        whole = founded shelf.held held_now.numbers see g' by.still by.lent by.idle (fronts_by bs each_now by.founded.carries.alive.ready) sized each_now apart_now;
       }
 
       done : AreDone (before begun) g'.config text g'.base.sequence [] [] hs bs
@@ -133,7 +158,8 @@ module _ {P : Type 0} (see : P → Seen) (dg : Word) (pairs : List DiskAt) (shel
       here : group_of see now.group ≡ Some (record { config = g'.config; good = good_mask bs; members = parties (x begun); sequence = g'.base.sequence })
       here =
           let is = ap (group_of see) is_now ∙ group_is see g' in
-          let same : map member_in bs ≡ parties (x begun) = joined_members dg text hs bs by.founded.begun.joins in
+          let good : good_mask (whole_members see g') ≡ good_mask bs = ap good_mask wholes in
+          let same : map member_in (whole_members see g') ≡ parties (x begun) = ap (map member_in) wholes ∙ joined_members dg text hs bs by.founded.begun.joins in
           cc
 
       one : AnyOf (λ b. b.good ≡ true) bs
@@ -170,7 +196,7 @@ module _ {P : Type 0} (see : P → Seen) (dg : Word) (pairs : List DiskAt) (shel
         same_moment : (m : Moment) → IsMoment see (at shelf old) m → IsMoment see (at shelf now) m
         same_moment m is = record {
           told = is.told;
-          devices_are = λ name. subst (λ b. IsDeviceOf b (seen_at (scene see (at shelf now)) name) (m.world.devices name)) (ap (λ v. is_lent (let h : House P = record { volumes = v; group = old.group; hand = old.hand } in h) name) (sym volumes))
+          devices_are = λ name. subst (λ b. IsDeviceOf b (seen_at (scene see (at shelf now)) name) (m.world.devices name)) (ap (λ v. is_lent (let h : House P ghosts = record { volumes = v; group = old.group; hand = old.hand } in h) name) (sym volumes))
               (subst (λ l. IsDeviceOf (is_lent old name) (seen_at (record { shelf = shelf; taken = l }) name) (m.world.devices name)) (sym same_holders) (is.devices_are name));
           volumes_are = λ vol. subst (λ o. IsAtVolume see o (m.world.volumes vol)) (sym (volume_now vol)) (is.volumes_are vol);
           group_is = is.group_is ∙ ap (group_of see) (sym same_group);
@@ -219,15 +245,18 @@ module _ {P : Type 0} (see : P → Seen) (dg : Word) (pairs : List DiskAt) (shel
           hand_kept = subst (AllOf (λ u. 0 < (see u.piece).sectors)) (sym hand)
               (disks_some see back (each_all (Joins dg text) (λ h. 0 < h.seen.sectors) (λ h. 0 < h.seen.sectors) (λ a b joins some. subst (λ n. 0 < n) (sym joins.kept.sectors) some) hs ks is_begun.joins (hand_some see 0 old.hand.items pairs keeps.hand)))
 
+          whole_none : IfSome now.group (IsGroupWhole see)
+          whole_none = subst (λ o. IfSome o (IsGroupWhole see)) (sym no_group) tt
+
           group_lost : Each HasRisen hs ks → StageGoes {T = Unit {0}} see (stage.Create dg) pairs (Err (stops.Ended ends.GroupLost)) (at shelf old) (at shelf now)
-          group_lost risen = group_lost_stage (calls begun_of) (stage.Create dg) pairs keeps hand_kept (λ m is. inr (
+          group_lost risen = group_lost_stage (calls begun_of) (stage.Create dg) pairs keeps hand_kept whole_none (λ m is. inr (
             x begun_of,
             creating begun_of m is,
             joiners_lost_on (calls begun_of) m (moment_but_group see (at shelf old) m is) m.world.group (before begun_of) config text (map member_in hs) writes.last (written begun_of) refl refl risen,
           ))
 
           power_lost : AnyOf IsCut ks → StageGoes {T = Unit {0}} see (stage.Create dg) pairs (Err (stops.Ended (ends.Lost []))) (at shelf old) (at shelf now)
-          power_lost cut = power_lost_stage (calls begun_of) (stage.Create dg) pairs keeps hand_kept (λ m is. inr (
+          power_lost cut = power_lost_stage (calls begun_of) (stage.Create dg) pairs keeps hand_kept whole_none (λ m is. inr (
             x begun_of,
             creating begun_of m is,
             power_lost_on (calls begun_of) m (moment_but_group see (at shelf old) m is) m.world.group (before begun_of) config text (map member_in hs) writes.last (written begun_of) refl cut,
@@ -243,6 +272,6 @@ module _ {P : Type 0} (see : P → Seen) (dg : Word) (pairs : List DiskAt) (shel
         handed_back stop (inl is) = subst (λ s. StageGoes {T = Unit {0}} see (stage.Create dg) pairs (Err s) (at shelf old) (at shelf now)) (sym is.0) (unbegun is.1)
         handed_back stop (inr by) = subst (λ s. StageGoes {T = Unit {0}} see (stage.Create dg) pairs (Err s) (at shelf old) (at shelf now)) (sym by.stop_is) (by_fault by.fault by.text by.config by.drawn by.refused by.begun)
 
-      pub not_created : (stop : Stop) → CreateEnds see dg pairs (Err stop) old.hand.items now.hand.items → StageGoes {T = Unit {0}} see (stage.Create dg) pairs (Err stop) (at shelf old) (at shelf now)
+      pub not_created : (stop : Stop) → CreateEnds {ghosts = ghosts} see dg pairs (Err stop) old.hand.items now.hand.items → StageGoes {T = Unit {0}} see (stage.Create dg) pairs (Err stop) (at shelf old) (at shelf now)
       not_created stop (inl is) = subst (λ s. StageGoes {T = Unit {0}} see (stage.Create dg) pairs (Err s) (at shelf old) (at shelf now)) (sym is.0) (uncreated is.1)
       not_created stop (inr by) = handed_back by.back by.hand stop by.ends

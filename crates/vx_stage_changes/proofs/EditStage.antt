@@ -1,8 +1,9 @@
 -- Edits of the configuration that are committed, as a stage.
-use Rattle.std.proofs.Common.{◌≡◌, false, ◌∙◌, inl, inr, ℕ, ◌+◌, List, [], length, Some, Result, Ok, Err, refl, sym, ap, subst}
+use Rattle.std.proofs.Common.{◌≡◌, false, ◌∙◌, inl, inr, ℕ, ◌+◌, List, [], ◌++◌, length, Some, Result, Ok, Err, refl, sym, ap, subst}
 use Rattle.std.specs.Prelude.{IfSome}
+use Rattle.vx_pages.specs.declared.local_piece.LocalPiece.{Ghosts}
 use Rattle.vx_piece.specs.Seen.{Seen}
-use Rattle.vx_confdb.specs.Groups.{CarriesText}
+use Rattle.vx_confdb.specs.Groups.{CarriesText, members}
 use Rattle.vx_objects.specs.declared.config.Config.{Config}
 use Rattle.vx_objects.specs.declared.edit.Edit.{Edit}
 use Rattle.vx_objects.specs.Applied.{IsEdited}
@@ -18,20 +19,22 @@ use Rattle.vx_moments.specs.Copies.{IsTextOf}
 use Rattle.vx_plans.specs.Stages.{IsDone, Stops, IsChange, EditsRefused}
 use Rattle.vx_plans.specs.declared.stage.Stage.{Stage}
 use Rattle.vx_house.specs.Goes.{StageGoes, Gives, only_reads}
+use Rattle.vx_fronts.proofs.Parted.{private_parted}
+use Rattle.vx_running.specs.Public.{lent_pieces, still_pieces}
 use Rattle.vx_house.specs.Holders.{holders, AreHeld}
 use Rattle.vx_house.specs.Scene.{Shelved}
-use Rattle.vx_house.specs.View.{at, scene, group_of, IsMoment, IsGroupKept, KeepsHouse}
+use Rattle.vx_house.specs.View.{at, scene, group_of, IsMoment, IsGroupKept, IsGroupWhole, KeepsHouse}
 use Rattle.vx_house.specs.declared.house.House.{House}
 use Rattle.vx_house.specs.declared.house.Imported.{Imported}
 use Rattle.vx_house.specs.declared.stop.Stop.{Stop}
 use Rattle.vx_house.specs.declared.stop.Stop.TheVariants as stops
 use Rattle.vx_house.proofs.Moments.{later_refl, faults_refl}
 use Rattle.vx_house.proofs.Ends.{moment_but_group}
-use Rattle.vx_commits.proofs.Alone.{IsWrittenIn, alone, x_alone, lost_alone, cut_alone, committed_alone}
+use Rattle.vx_commits.proofs.Alone.{IsWrittenIn, alone, sized_after, x_alone, lost_alone, cut_alone, committed_alone}
 use Rattle.vx_commits.proofs.Holders.{group_before}
-use Rattle.vx_commits.proofs.Stillness.{sized_now, slots_now, recorded_now}
+use Rattle.vx_commits.proofs.Stillness.{slots_now, recorded_now, whole_now}
 use Rattle.vx_commits.proofs.CommitStage.{done_stage, group_lost_stage, power_lost_stage}
-use Rattle.vx_stage_changes.specs.Changing.{IsMeant, ChangeEnds}
+use Rattle.vx_stage_changes.specs.Changing.{IsMeant, SamePublic, ChangeEnds}
 use Rattle.vx_commits.specs.Committing.{IsTried, IsFinished, CommitEnds}
 use Rattle.vx_stage_changes.specs.Planning.{IsUnplanned}
 
@@ -41,7 +44,7 @@ refused_so edits w end (inl broken) = (broken.0, broken.2, inl broken)
 refused_so edits w end (inr long) = (refusal.TooLong (length long.2.0), long.2.3, inr long)
 
 -- the edits are refused, and nothing is done
-pub unplanned_ends : {P : Type 0} (see : P → Seen) (edits : List Edit) (g : Imported P) (stop : Stop) → IsUnplanned edits g.config stop → ChangeEnds see edits (Err stop) g g
+pub unplanned_ends : {P : Type 0} {ghosts : Ghosts P} (see : P → Seen) (edits : List Edit) (g : Imported P ghosts) (stop : Stop) → IsUnplanned edits g.config stop → ChangeEnds see edits (Err stop) g g
 unplanned_ends see edits g stops.OutOfMemory is = refl
 unplanned_ends see edits g (stops.Ended (ends.Done copied parts blocks)) is = (refl, is)
 unplanned_ends see edits g (stops.Ended (ends.Refused r)) is = (refl, is)
@@ -51,26 +54,26 @@ unplanned_ends see edits g (stops.Ended ends.GroupLost) is = let why = refused_s
 unplanned_ends see edits g (stops.Ended (ends.Lost parts)) is = let why = refused_so edits (record { config = g.config; good = 0; members = []; sequence = 0 }) (ends.Lost parts) is in let e = why.1 in cc
 
 -- the commit is not done
-pub stopped_ends : {P : Type 0} (see : P → Seen) (edits : List Edit) (g g' : Imported P) (next : Config) (text : List ℕ) (stop : Stop) → g'.config ≡ g.config → IsMeant edits g.config next text → CommitEnds see (Err stop) text g.base g'.base → ChangeEnds see edits (Err stop) g g'
-stopped_ends {P = P} see edits g g' next text stops.OutOfMemory same meant is = ap (λ k. (let h : Imported P = record { config = k; base = g'.base } in h)) same ∙ ap (λ b. (let h : Imported P = record { config = g.config; base = b } in h)) is
-stopped_ends see edits g g' next text (stops.Ended (ends.Done copied parts blocks)) same meant is = absurd is
-stopped_ends see edits g g' next text (stops.Ended (ends.Refused r)) same meant is = absurd is
-stopped_ends see edits g g' next text (stops.Ended (ends.Fault told device parts)) same meant is = absurd is
-stopped_ends see edits g g' next text (stops.Ended ends.ShelfFailed) same meant is = absurd is
-stopped_ends see edits g g' next text (stops.Ended ends.GroupLost) same meant is = (next, text, meant, is.0, is.1)
-stopped_ends see edits g g' next text (stops.Ended (ends.Lost parts)) same meant is = (is.0, (next, text, meant, is.1, is.2))
+pub stopped_ends : {P : Type 0} {ghosts : Ghosts P} (see : P → Seen) (edits : List Edit) (g g' : Imported P ghosts) (next : Config) (text : List ℕ) (stop : Stop) → g'.config ≡ g.config → SamePublic g g' → IsMeant edits g.config next text → CommitEnds see (Err stop) text g.base g'.base → ChangeEnds see edits (Err stop) g g'
+stopped_ends {P = P} {ghosts = ghosts} see edits g g' next text stops.OutOfMemory same public meant is = ap (λ k. (let h : Imported P ghosts = record { config = k; base = g'.base; public = g'.public } in h)) same ∙ ap (λ b. (let h : Imported P ghosts = record { config = g.config; base = b; public = g'.public } in h)) is ∙ ap (λ p. (let h : Imported P ghosts = record { config = g.config; base = g.base; public = p } in h)) public
+stopped_ends see edits g g' next text (stops.Ended (ends.Done copied parts blocks)) same public meant is = absurd is
+stopped_ends see edits g g' next text (stops.Ended (ends.Refused r)) same public meant is = absurd is
+stopped_ends see edits g g' next text (stops.Ended (ends.Fault told device parts)) same public meant is = absurd is
+stopped_ends see edits g g' next text (stops.Ended ends.ShelfFailed) same public meant is = absurd is
+stopped_ends see edits g g' next text (stops.Ended ends.GroupLost) same public meant is = (public, (next, text, meant, is.0, is.1))
+stopped_ends see edits g g' next text (stops.Ended (ends.Lost parts)) same public meant is = (is.0, public, (next, text, meant, is.1, is.2))
 
 -- What a stage of these edits is, over the house with this group.
-pub record IsStage {P : Type 0} (see : P → Seen) (s : Stage) (disks : List DiskAt) (shelf : Shelved) (old : House P) (g : Imported P) (edits : List Edit) : Type 0 where
+pub record IsStage {P : Type 0} {ghosts : Ghosts P} (see : P → Seen) (s : Stage) (disks : List DiskAt) (shelf : Shelved) (old : House P ghosts) (g : Imported P ghosts) (edits : List Edit) : Type 0 where
   pub writes : only_reads s ≡ false
-  pub gives : (h : House P) → Gives see s disks h
+  pub gives : (h : House P ghosts) → Gives see s disks h
   pub group : (next : Config) → IsEdited edits g.config next → next.group ≡ g.config.group
   pub keeps_disks : (next : Config) → IsEdited edits g.config next → next.disks ≡ g.config.disks
   pub done : (m n : Moment) (x : Writing) → IsMoment see (at shelf old) m → IsChange edits m.world x → IsCommitted x m n → IsDone s disks m n
   pub stops : (m n : Moment) (end : End) (x : Writing) → IsMoment see (at shelf old) m → IsChange edits m.world x → IsStopped x m end n → Stops s disks m end n
   pub refuses : (m : Moment) (w : Group) (r : Refusal) → IsMoment see (at shelf old) m → m.world.group ≡ Some w → w.config ≡ g.config → EditsRefused edits w (ends.Refused r) → Stops s disks m (ends.Refused r) m
 
-module _ {P : Type 0} (see : P → Seen) (s : Stage) (disks : List DiskAt) (shelf : Shelved) (old : House P) (keeps : KeepsHouse see old) (are_held : AreHeld shelf.held (holders see old)) where
+module _ {P : Type 0} {ghosts : Ghosts P} (see : P → Seen) (s : Stage) (disks : List DiskAt) (shelf : Shelved) (old : House P ghosts) (keeps : KeepsHouse see old) (are_held : AreHeld shelf.held (holders see old)) where
   -- want of memory
   pub unchanged : StageGoes {T = Unit {0}} see s disks (Err stops.OutOfMemory) (at shelf old) (at shelf old)
   unchanged = record {
@@ -92,21 +95,25 @@ module _ {P : Type 0} (see : P → Seen) (s : Stage) (disks : List DiskAt) (shel
     blamed = tt;
   }
 
-  module _ (g : Imported P) (has : old.group ≡ Some g) where
+  module _ (g : Imported P ghosts) (has : old.group ≡ Some g) where
     pub kept : IsGroupKept see g
     kept = subst (λ o. IfSome o (IsGroupKept see)) has keeps.group
 
-    abbrev pub house : Imported P → House P
+    abbrev pub house : Imported P ghosts → House P ghosts
     house g' = record { volumes = old.volumes; group = Some g'; hand = old.hand }
 
-    pub same_house : (g' : Imported P) → g' ≡ g → old ≡ house g'
-    same_house g' same = ap (λ o. (let h : House P = record { volumes = old.volumes; group = o; hand = old.hand } in h)) (has ∙ ap (λ x. Some x) (sym same))
+    pub same_house : (g' : Imported P ghosts) → g' ≡ g → old ≡ house g'
+    same_house g' same = ap (λ o. (let h : House P ghosts = record { volumes = old.volumes; group = o; hand = old.hand } in h)) (has ∙ ap (λ x. Some x) (sym same))
 
     pub group_at : (m : Moment) → IsMoment see (at shelf old) m → (w : Group) × (m.world.group ≡ Some w) × (w.config ≡ g.config)
     group_at m is = let w = group_of see (Some g) in (_, is.group_is ∙ ap (group_of see) has, refl)
 
-    written : (g' : Imported P) (text : List ℕ) → IsTried see text g.base g'.base → IsWrittenIn see shelf old g g' text
-    written g' text tried = record { has = has; held = are_held; writable = record { slots = kept.slots; ready = kept.carries.alive.ready }; tried = tried }
+    written : (g' : Imported P ghosts) (text : List ℕ) → SamePublic g g' → IsTried see text g.base g'.base → IsWrittenIn see shelf old g g' text
+    written g' text public tried = record { has = has; held = are_held; writable = record { slots = kept.slots; ready = kept.carries.alive.ready; private = private_parted (members see g.base) (still_pieces see g.public ++ lent_pieces see g.public) kept.whole.parted }; tried = tried; public = public }
+
+    -- its devices can be joined, as before
+    whole_after : (g' : Imported P ghosts) (text : List ℕ) → SamePublic g g' → IsTried see text g.base g'.base → IsGroupWhole see g'
+    whole_after g' text public tried = whole_now see g g' (g.base.sequence + 1) g'.base.sequence text tried.committed.goes public kept.whole
 
     module _ (edits : List Edit) (is_stage : IsStage see s disks shelf old g edits) where
       refused_by : (end : End) → IsUnplanned edits g.config (stops.Ended end) → StageGoes {T = Unit {0}} see s disks (Err (stops.Ended end)) (at shelf old) (at shelf old)
@@ -122,37 +129,38 @@ module _ {P : Type 0} (see : P → Seen) (s : Stage) (disks : List DiskAt) (shel
       same_name : (next : Config) → IsEdited edits g.config next → next.group ≡ g.base.name
       same_name next edited = is_stage.group next edited ∙ sym kept.named
 
-      kept_after : (g' : Imported P) (text : List ℕ) → IsMeant edits g.config g'.config text → IsFinished see text g.base g'.base → IsGroupKept see g'
-      kept_after g' text meant finished = record {
+      kept_after : (g' : Imported P ghosts) (text : List ℕ) → SamePublic g g' → IsMeant edits g.config g'.config text → IsFinished see text g.base g'.base → IsGroupKept see g'
+      kept_after g' text public meant finished = record {
         named = finished.tried.committed.name ∙ kept.named ∙ sym (is_stage.group g'.config meant.edited);
         text = subst (IsTextOf g'.config) (sym finished.carries.holds) meant.printed.0;
         first = g.base.sequence + 1;
         carries = subst (λ t. CarriesText see (g.base.sequence + 1) t g'.base) (sym finished.carries.holds) finished.carries;
-        sized = sized_now (g.base.sequence + 1) g'.base.sequence text see g.base.disks.items g'.base.disks.items finished.tried.committed.goes kept.sized;
+        sized = sized_after (written g' text public finished.tried) kept.sized;
         slots = slots_now (g.base.sequence + 1) g'.base.sequence text see g.base.disks.items g'.base.disks.items finished.tried.committed.goes kept.slots;
         recorded = recorded_now (g.base.sequence + 1) g'.base.sequence text see g.config g'.config (is_stage.keeps_disks g'.config meant.edited) g.base.disks.items g'.base.disks.items finished.tried.committed.goes kept.recorded;
+        whole = whole_after g' text public finished.tried;
       }
 
-      is_change : (m : Moment) → IsMoment see (at shelf old) m → (g' : Imported P) (text : List ℕ) (tried : IsTried see text g.base g'.base) (next : Config) → IsEdited edits g.config next → IsChange edits m.world (x_alone (written g' text tried) next)
-      is_change m is g' text tried next edited = record { group = group_before see shelf old g has m is; edited = edited; joiners = refl; carriers = refl }
+      is_change : (m : Moment) → IsMoment see (at shelf old) m → (g' : Imported P ghosts) (text : List ℕ) (public : SamePublic g g') (tried : IsTried see text g.base g'.base) (next : Config) → IsEdited edits g.config next → IsChange edits m.world (x_alone (written g' text public tried) next)
+      is_change m is g' text public tried next edited = record { group = group_before see shelf old g has m is; edited = edited; joiners = refl; carriers = refl }
 
-      pub edits_go : (result : Result (Unit {0}) Stop) (g' : Imported P) → ChangeEnds see edits result g g' → StageGoes see s disks result (at shelf old) (at shelf (house g'))
-      edits_go (Ok u) g' (text, meant, finished) =
-          let w = written g' text finished.tried in
-          done_stage (alone w) s disks keeps (record { ordered = keeps.ordered; hand = keeps.hand; volumes = keeps.volumes; group = kept_after g' text meant finished }) (is_stage.gives (house g')) is_stage.writes (λ m is.
-          is_stage.done m _ (x_alone w g'.config) is (is_change m is g' text finished.tried g'.config meant.edited)
+      pub edits_go : (result : Result (Unit {0}) Stop) (g' : Imported P ghosts) → ChangeEnds see edits result g g' → StageGoes see s disks result (at shelf old) (at shelf (house g'))
+      edits_go (Ok u) g' (public, (text, meant, finished)) =
+          let w = written g' text public finished.tried in
+          done_stage (alone w) s disks keeps (record { ordered = keeps.ordered; hand = keeps.hand; volumes = keeps.volumes; group = kept_after g' text public meant finished }) (is_stage.gives (house g')) is_stage.writes (λ m is.
+          is_stage.done m _ (x_alone w g'.config) is (is_change m is g' text public finished.tried g'.config meant.edited)
           (committed_alone w m (moment_but_group see (at shelf old) m is) finished meant.printed.0 meant.printed.1 (same_name g'.config meant.edited)))
       edits_go (Err stops.OutOfMemory) g' same = subst (λ h. StageGoes {T = Unit {0}} see s disks (Err stops.OutOfMemory) (at shelf old) (at shelf h)) (same_house g' same) unchanged
-      edits_go (Err (stops.Ended ends.GroupLost)) g' (next, text, meant, tried, risen) =
-          let w = written g' text tried in
-          group_lost_stage (alone w) s disks keeps keeps.hand (λ m is.
-          is_stage.stops m _ ends.GroupLost (x_alone w next) is (is_change m is g' text tried next meant.edited)
+      edits_go (Err (stops.Ended ends.GroupLost)) g' (public, (next, text, meant, tried, risen)) =
+          let w = written g' text public tried in
+          group_lost_stage (alone w) s disks keeps keeps.hand (whole_after g' text public tried) (λ m is.
+          is_stage.stops m _ ends.GroupLost (x_alone w next) is (is_change m is g' text public tried next meant.edited)
           (lost_alone w m (moment_but_group see (at shelf old) m is) next meant.printed.0 meant.printed.1 (same_name next meant.edited) risen))
-      edits_go (Err (stops.Ended (ends.Lost parts))) g' (none, (next, text, meant, tried, cut)) =
-          let w = written g' text tried in
+      edits_go (Err (stops.Ended (ends.Lost parts))) g' (none, public, (next, text, meant, tried, cut)) =
+          let w = written g' text public tried in
           subst (λ p. StageGoes {T = Unit {0}} see s disks (Err (stops.Ended (ends.Lost p))) (at shelf old) (at shelf (house g'))) (sym none)
-          (power_lost_stage (alone w) s disks keeps keeps.hand (λ m is.
-          is_stage.stops m _ (ends.Lost []) (x_alone w next) is (is_change m is g' text tried next meant.edited)
+          (power_lost_stage (alone w) s disks keeps keeps.hand (whole_after g' text public tried) (λ m is.
+          is_stage.stops m _ (ends.Lost []) (x_alone w next) is (is_change m is g' text public tried next meant.edited)
           (cut_alone w m (moment_but_group see (at shelf old) m is) next meant.printed.0 meant.printed.1 (same_name next meant.edited) cut)))
       edits_go (Err (stops.Ended (ends.Done copied parts blocks))) g' (same, why) = subst (λ h. StageGoes {T = Unit {0}} see s disks (Err (stops.Ended (ends.Done copied parts blocks))) (at shelf old) (at shelf h)) (same_house g' same) (refused_by (ends.Done copied parts blocks) why)
       edits_go (Err (stops.Ended (ends.Refused r))) g' (same, why) = subst (λ h. StageGoes {T = Unit {0}} see s disks (Err (stops.Ended (ends.Refused r))) (at shelf old) (at shelf h)) (same_house g' same) (refused_by (ends.Refused r) why)

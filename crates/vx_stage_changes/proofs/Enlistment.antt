@@ -15,13 +15,11 @@ use Rattle.vx_script_words.specs.declared.value.DiskAt.{DiskAt}
 use Rattle.vx_moments.specs.World.{World}
 use Rattle.vx_plans.specs.Records.{devices_of, sectors_at, disk_record, disk_records, new_members, member_at}
 use Rattle.vx_house.specs.Goes.{IsBlankSeen}
-use Rattle.vx_house.specs.Holders.{hand_holder}
-use Rattle.vx_house.specs.View.{AreSized, HaveSlots, AreRecorded}
+use Rattle.vx_house.specs.Holders.{hand_holder, holder_in}
+use Rattle.vx_house.specs.View.{AreSized, HaveSlots, AreRecorded, member_in}
 use Rattle.vx_house.specs.declared.house.Taken.{Taken}
 use Rattle.vx_house.specs.declared.stop.Stop.{Stop}
 use Rattle.vx_stage_changes.specs.Creating.{disks_from, taken_of, record_of, IsUnwritten, IsUnfounded}
-use Rattle.vx_commits.proofs.DeviceLaws.{holder_in}
-use Rattle.vx_commits.proofs.Members.{member_in}
 
 abbrev pub names_in : {P : Type 0} → List (Taken P) → List Word
 names_in ts = map (λ t. t.device) ts
@@ -41,7 +39,7 @@ module _ {P : Type 0} (see : P → Seen) where
     all_unwritten (slot + 1) ts ps (omega (arith, few)) blank.1,
   )
 
-  pub all_sized : (slot : ℕ) (ts : List (Taken P)) (ps : List DiskAt) → AreSized see (disks_from see slot ts ps)
+  pub all_sized : (slot : ℕ) (ts : List (Taken P)) (ps : List DiskAt) → AreSized (map (disk_seen see) (disks_from see slot ts ps))
   all_sized slot [] ps = tt
   all_sized slot (t ∷ ts) [] = tt
   all_sized slot (t ∷ ts) (p ∷ ps) = (refl, all_sized (slot + 1) ts ps)
@@ -118,7 +116,7 @@ module _ {P : Type 0} (see : P → Seen) (dg : Word) (text : List ℕ) where
   joins_long (d ∷ ds) [] joins = absurd joins
   joins_long (d ∷ ds) (e ∷ ds') joins = ap suc (joins_long ds ds' joins.1)
 
-  pub joins_sized : (ds ds' : List (Disk P)) → AllJoin ds ds' → AreSized see ds → AreSized see ds'
+  pub joins_sized : (ds ds' : List (Disk P)) → AllJoin ds ds' → AreSized (map (disk_seen see) ds) → AreSized (map (disk_seen see) ds')
   joins_sized [] [] joins sized = tt
   joins_sized [] (e ∷ ds') joins sized = absurd joins
   joins_sized (d ∷ ds) [] joins sized = absurd joins

@@ -1,6 +1,7 @@
 -- Disks that join a group, before and now, and the disks of a group that takes one more.
-use Rattle.std.proofs.Common.{◌≡◌, ◌∙◌, ℕ, suc, true, List, [], ◌∷◌, ◌++◌, map, length, take, drop, Some, refl, sym, ap, subst}
+use Rattle.std.proofs.Common.{◌≡◌, ◌∙◌, ℕ, suc, true, List, [], ◌∷◌, ◌++◌, map, length, Some, refl, sym, ap, subst}
 use Rattle.std.proofs.lemmas.List.{append-nil, map-append}
+use Rattle.vx_pages.specs.declared.local_piece.LocalPiece.{Ghosts}
 use Rattle.vx_base.specs.Named.{Word}
 use Rattle.vx_piece.specs.Seen.{Seen}
 use Rattle.vx_copies.specs.Disks.{DiskSeen, disk_seen}
@@ -8,26 +9,17 @@ use Rattle.vx_copies.specs.Lists.{AllOf, Each}
 use Rattle.vx_copies.specs.declared.disk.Disk.{Disk}
 use Rattle.vx_confdb.specs.Create.{Joins}
 use Rattle.vx_confdb.specs.Enlisted.{Enlists, Comes}
-use Rattle.vx_confdb.specs.Groups.{members}
 use Rattle.vx_confdb.specs.Prepare.{label_in}
-use Rattle.vx_house.specs.Holders.{Holder, holders, group_holders, hand_holder, volume_holder}
+use Rattle.vx_house.specs.Holders.{Holder, holders, group_holders, hand_holder, holder_in, volume_holder, whole_members}
 use Rattle.vx_house.specs.declared.house.House.{House}
 use Rattle.vx_house.specs.declared.house.Imported.{Imported}
 use Rattle.vx_house.specs.declared.house.Taken.{Taken}
-use Rattle.vx_commits.proofs.DeviceLaws.{holder_in, IsCalled}
-use Rattle.vx_commits.proofs.Holders.{mapped_holders, both_tell}
+use Rattle.vx_commits.proofs.DeviceLaws.{IsCalled}
+use Rattle.vx_commits.proofs.Holders.{both_tell}
 use Rattle.vx_commits.proofs.Joins.{IsWent, IsNamedAs, IsEnlisted}
-use Rattle.vx_commits.proofs.Members.{member_in}
+use Rattle.vx_house.specs.View.{member_in}
 use Rattle.vx_copies.proofs.StepLaws.{each_map}
 use Rattle.vx_house.proofs.Lists.{each_two, each_first}
-
-pub take_front : {X : Type 0} (n : ℕ) (xs ys : List X) → n ≡ length xs → take n (xs ++ ys) ≡ xs
-take_front n [] ys e = subst (λ k. take k ys ≡ []) (sym e) refl
-take_front n (x ∷ xs) ys e = subst (λ k. take k (x ∷ xs ++ ys) ≡ x ∷ xs) (sym e) (ap (λ l. x ∷ l) (take_front (length xs) xs ys refl))
-
-pub drop_back : {X : Type 0} (n : ℕ) (xs ys : List X) → n ≡ length xs → drop n (xs ++ ys) ≡ ys
-drop_back n [] ys e = subst (λ k. drop k ys ≡ ys) (sym e) refl
-drop_back n (x ∷ xs) ys e = subst (λ k. drop k (x ∷ xs ++ ys) ≡ ys) (sym e) (drop_back (length xs) xs ys refl)
 
 pub held_long : {P : Type 0} (see : P → Seen) (ds : List (Disk P)) → length ds ≡ length (map (disk_seen see) ds)
 held_long see [] = refl
@@ -67,13 +59,12 @@ joined_members group text (a ∷ xs) (b ∷ ys) e =
     let rest = joined_members group text xs ys e.1 in cc
 
 -- all devices of a house with this group, and the device in hand
-pub holders_before : {P : Type 0} (see : P → Seen) (h : House P) (g : Imported P) (t : Taken P) (disk : Disk P) → h.group ≡ Some g → h.hand.items ≡ t ∷ [] → disk.device ≡ t.device → disk.piece ≡ t.piece
-    → holders see h ≡ map (volume_holder see) h.volumes.entries ++ (map holder_in (members see g.base ++ disk_seen see disk ∷ []) ++ [])
+pub holders_before : {P : Type 0} {ghosts : Ghosts P} (see : P → Seen) (h : House P ghosts) (g : Imported P ghosts) (t : Taken P) (disk : Disk P) → h.group ≡ Some g → h.hand.items ≡ t ∷ [] → disk.device ≡ t.device → disk.piece ≡ t.piece
+    → holders see h ≡ map (volume_holder see) h.volumes.entries ++ (map holder_in (whole_members see g ++ disk_seen see disk ∷ []) ++ [])
 holders_before see h g t disk has hand device piece =
     let vs : List Holder = map (volume_holder see) h.volumes.entries in
     let one : hand_holder see t ≡ holder_in (disk_seen see disk) = cc in
     ap (λ o. vs ++ (group_holders see o ++ map (hand_holder see) h.hand.items)) has
-    ∙ ap (λ l. vs ++ (l ++ map (hand_holder see) h.hand.items)) (mapped_holders see g.base.disks.items)
-    ∙ ap (λ l. vs ++ (map holder_in (members see g.base) ++ map (hand_holder see) l)) hand
-    ∙ ap (λ x. vs ++ (map holder_in (members see g.base) ++ x ∷ [])) one
-    ∙ ap (λ l. vs ++ l) (sym (map-append holder_in (members see g.base) (disk_seen see disk ∷ [])) ∙ sym (append-nil (map holder_in (members see g.base ++ disk_seen see disk ∷ []))))
+    ∙ ap (λ l. vs ++ (map holder_in (whole_members see g) ++ map (hand_holder see) l)) hand
+    ∙ ap (λ x. vs ++ (map holder_in (whole_members see g) ++ x ∷ [])) one
+    ∙ ap (λ l. vs ++ l) (sym (map-append holder_in (whole_members see g) (disk_seen see disk ∷ [])) ∙ sym (append-nil (map holder_in (whole_members see g ++ disk_seen see disk ∷ []))))

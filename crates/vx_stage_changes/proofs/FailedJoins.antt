@@ -5,6 +5,7 @@ use Rattle.std.specs.BTreeMap.{IsOrdered}
 use Rattle.std.specs.Cmp.Lexicographic.{slice_cmp}
 use Rattle.std.specs.Ordering.{nat_cmp}
 use Rattle.std.proofs.lemmas.Bool.{cond-true}
+use Rattle.vx_pages.specs.declared.local_piece.LocalPiece.{Ghosts}
 use Rattle.vx_base.proofs.NamedLemmas.{bytes_eq_self}
 use Rattle.vx_piece.specs.Seen.{Seen}
 use Rattle.vx_copies.specs.Commit.{AllOffer}
@@ -24,9 +25,13 @@ use Rattle.vx_plans.specs.Records.{disk_record, next_slot, sectors_in, sectors_a
 use Rattle.vx_plans.specs.Stages.{EditsRefused}
 use Rattle.vx_plans.specs.declared.stage.Stage.TheVariants as stage
 use Rattle.vx_house.specs.Goes.{StageGoes}
-use Rattle.vx_house.specs.Holders.{Holder, holders, held_as, group_holders, disk_holder, hand_holder, volume_holder, volume_at, AreHeld, AreApart}
+use Rattle.vx_fronts.specs.Laws.{whole_disks}
+use Rattle.vx_fronts.specs.Parted.{AreParted}
+use Rattle.vx_fronts.specs.Rests.{rests_of}
+use Rattle.vx_running.specs.Public.{lent_pieces, still_pieces}
+use Rattle.vx_house.specs.Holders.{Holder, holders, held_as, group_holders, group_rests, hand_holder, holder_in, whole_members, volume_holder, volume_at, AreHeld, AreApart}
 use Rattle.vx_house.specs.Scene.{Shelved, seen_in, seen_at, AreCountsOf, FaultsGoOn}
-use Rattle.vx_house.specs.View.{at, scene, group_of, member_of, is_lent, IsDeviceOf, IsAtVolume, IsMoment, IsGroupKept, HaveSlots, AreRecorded, KeepsHouse, Keeps}
+use Rattle.vx_house.specs.View.{at, scene, group_of, member_of, is_lent, IsDeviceOf, IsAtVolume, IsMoment, IsGroupKept, AreSized, HaveSlots, AreRecorded, KeepsHouse, Keeps}
 use Rattle.vx_house.specs.declared.house.House.{House}
 use Rattle.vx_house.specs.declared.house.Imported.{Imported}
 use Rattle.vx_house.specs.declared.house.Taken.{Taken}
@@ -46,7 +51,7 @@ sectors_seen lent seen None is = absurd is
 sectors_seen lent seen (Some d) is = is.0
 
 -- a device in hand is the world's, with its sectors
-pub hand_sectors : {P : Type 0} (see : P → Seen) (shelf : Shelved) (h : House P) (t : Taken P) → h.hand.items ≡ t ∷ [] → AreApart (holders see h) → (m : Moment) → IsMoment see (at shelf h) m → sectors_at m.world t.device ≡ (see t.piece).sectors
+pub hand_sectors : {P : Type 0} {ghosts : Ghosts P} (see : P → Seen) (shelf : Shelved) (h : House P ghosts) (t : Taken P) → h.hand.items ≡ t ∷ [] → AreApart (holders see h) → (m : Moment) → IsMoment see (at shelf h) m → sectors_at m.world t.device ≡ (see t.piece).sectors
 hand_sectors see shelf h t only apart m is =
     let before : List Holder = before_hand see h [] in
     let split : holders see h ≡ before ++ hand_holder see t ∷ [] = hand_split see h [] t [] only in
@@ -55,7 +60,7 @@ hand_sectors see shelf h t only apart m is =
     sectors_seen (is_lent h t.device) (see t.piece) (m.world.devices t.device)
     (subst (λ o. IsDeviceOf (is_lent h t.device) o (m.world.devices t.device)) (ap (λ o. seen_in o shelf.free t.device) here) (is.devices_are t.device))
 
-module _ {P : Type 0} (see : P → Seen) (pair : DiskAt) (shelf : Shelved) (old now : House P) (keeps : KeepsHouse see old) (are_held : AreHeld shelf.held (holders see old)) (g g' : Imported P) (has : old.group ≡ Some g) (is_now : now.group ≡ Some g') (volumes : now.volumes ≡ old.volumes)
+module _ {P : Type 0} {ghosts : Ghosts P} (see : P → Seen) (pair : DiskAt) (shelf : Shelved) (old now : House P ghosts) (keeps : KeepsHouse see old) (are_held : AreHeld shelf.held (holders see old)) (g g' : Imported P ghosts) (has : old.group ≡ Some g) (is_now : now.group ≡ Some g') (volumes : now.volumes ≡ old.volumes) (public : g'.public ≡ g.public)
     (stop : Stop) (back : IsKeptBack see pair stop old.hand.items now.hand.items g g') where
   kept : IsGroupKept see g
   kept = subst (λ o. IfSome o (IsGroupKept see)) has keeps.group
@@ -72,11 +77,14 @@ module _ {P : Type 0} (see : P → Seen) (pair : DiskAt) (shelf : Shelved) (old 
   same_members : members see g'.base ≡ members see g.base
   same_members = ap (map (disk_seen see)) same_disks
 
+  same_wholes : whole_members see g' ≡ whole_members see g
+  same_wholes = ap (λ p. whole_disks (rests_of (still_pieces see p) (lent_pieces see p)) (members see g'.base)) public ∙ ap (whole_disks (group_rests see g)) same_members
+
   same_holders : holders see now ≡ holders see old
   same_holders =
       ap (λ v. map (volume_holder see) v.entries ++ (group_holders see now.group ++ map (hand_holder see) now.hand.items)) volumes
       ∙ ap (λ o. map (volume_holder see) old.volumes.entries ++ (group_holders see o ++ map (hand_holder see) now.hand.items)) is_now
-      ∙ ap (λ ds. map (volume_holder see) old.volumes.entries ++ (map (disk_holder see) ds ++ map (hand_holder see) now.hand.items)) same_disks
+      ∙ ap (λ l. map (volume_holder see) old.volumes.entries ++ (map holder_in l ++ map (hand_holder see) now.hand.items)) same_wholes
       ∙ ap (λ o. map (volume_holder see) old.volumes.entries ++ (group_holders see o ++ map (hand_holder see) now.hand.items)) (sym has)
       ∙ ap (λ ts. map (volume_holder see) old.volumes.entries ++ (group_holders see old.group ++ map (hand_holder see) ts)) back.same
 
@@ -91,9 +99,9 @@ module _ {P : Type 0} (see : P → Seen) (pair : DiskAt) (shelf : Shelved) (old 
   same_moment : (m : Moment) → IsMoment see (at shelf old) m → IsMoment see (at shelf now) m
   same_moment m is = record {
     told = is.told;
-    devices_are = λ name. subst (λ b. IsDeviceOf b (seen_at (scene see (at shelf now)) name) (m.world.devices name)) (ap (λ v. is_lent (let h : House P = record { volumes = v; group = old.group; hand = old.hand } in h) name) (sym volumes))
+    devices_are = λ name. subst (λ b. IsDeviceOf b (seen_at (scene see (at shelf now)) name) (m.world.devices name)) (ap (λ v. is_lent (let h : House P ghosts = record { volumes = v; group = old.group; hand = old.hand } in h) name) (sym volumes))
         (subst (λ l. IsDeviceOf (is_lent old name) (seen_at (record { shelf = shelf; taken = l }) name) (m.world.devices name)) (sym same_holders) (is.devices_are name));
-    volumes_are = λ vol. subst (λ o. IsAtVolume see o (m.world.volumes vol)) (ap (λ v. volume_at (let h : House P = record { volumes = v; group = old.group; hand = old.hand } in h) vol) (sym volumes)) (is.volumes_are vol);
+    volumes_are = λ vol. subst (λ o. IsAtVolume see o (m.world.volumes vol)) (ap (λ v. volume_at (let h : House P ghosts = record { volumes = v; group = old.group; hand = old.hand } in h) vol) (sym volumes)) (is.volumes_are vol);
     group_is = is.group_is ∙ sym same_group;
     counts = subst (λ l. AreCountsOf (record { shelf = shelf; taken = l }) m.counts) (sym same_holders) is.counts;
   }
@@ -128,9 +136,13 @@ module _ {P : Type 0} (see : P → Seen) (pair : DiskAt) (shelf : Shelved) (old 
     text = subst (λ c. IsTextOf c (text_of g'.base.text)) (sym unjoined.config) (subst (IsTextOf g.config) (sym (ap text_of unjoined.base.text)) kept.text);
     first = kept.first;
     carries = carries;
-    sized = subst (λ ds. AllOf (λ d. (see d.piece).sectors ≡ d.sectors) ds) (sym same_disks) kept.sized;
+    sized = subst AreSized (sym same_wholes) kept.sized;
     slots = subst HaveSlots (sym same_disks) kept.slots;
     recorded = subst (λ c. AreRecorded c g'.base.disks.items) (sym unjoined.config) (subst (AreRecorded g.config) (sym same_disks) kept.recorded);
+    whole = record {
+      parted = subst (λ p. AreParted (members see g'.base) (still_pieces see p ++ lent_pieces see p)) (sym public) (subst (λ l. AreParted l (still_pieces see g.public ++ lent_pieces see g.public)) (sym same_members) kept.whole.parted);
+      idle = record { running = ap (λ p. p.running.entries) public ∙ kept.whole.idle.running; left = ap (λ p. p.left.items) public ∙ kept.whole.idle.left };
+    };
   }
 
   keeps_now : Keeps see (at shelf now)
@@ -139,7 +151,7 @@ module _ {P : Type 0} (see : P → Seen) (pair : DiskAt) (shelf : Shelved) (old 
     house = record {
       ordered = subst (IsOrdered (slice_cmp nat_cmp)) (sym volumes) keeps.ordered;
       hand = subst (AllOf (λ u. 0 < (see u.piece).sectors)) (sym back.same) keeps.hand;
-      volumes = λ vol b e. keeps.volumes vol b (ap (λ v. volume_at (let h : House P = record { volumes = v; group = old.group; hand = old.hand } in h) vol) (sym volumes) ∙ e);
+      volumes = λ vol b e. keeps.volumes vol b (ap (λ v. volume_at (let h : House P ghosts = record { volumes = v; group = old.group; hand = old.hand } in h) vol) (sym volumes) ∙ e);
       group = subst (λ o. IfSome o (IsGroupKept see)) (sym is_now) kept_now;
     };
   }

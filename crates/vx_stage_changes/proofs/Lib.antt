@@ -6,6 +6,7 @@ pub mod Lowest
 pub mod Short
 pub mod Room
 pub mod Entry
+pub mod Admitted
 pub mod Admission
 pub mod Gains
 pub mod Joins

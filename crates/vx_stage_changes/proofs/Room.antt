@@ -4,6 +4,7 @@ use Rattle.std.specs.Prelude.{IfSome, IsTrue}
 use Rattle.std.specs.List.{list_any, IsDistinct, AllByRecursion}
 use Rattle.std.proofs.lemmas.Bool.{eqb-true}
 use Rattle.std.proofs.lemmas.Map.Steps.{length-le_from_distinct_below}
+use Rattle.vx_pages.specs.declared.local_piece.LocalPiece.{Ghosts}
 use Rattle.vx_base.specs.Blocks.{Contents}
 use Rattle.vx_base.specs.Named.{Word}
 use Rattle.vx_header.specs.Named.{Label, header_of}
@@ -84,7 +85,7 @@ module _ {P : Type 0} where
       omega (arith, most, slots_length ds)
 
 -- a slot is free, so the group has room
-pub has_room : {P : Type 0} (see : P → Seen) (slot : ℕ) (g : Imported P) → IsGroupKept see g → IsSlot slot g.config → length g.base.disks.items < 32
+pub has_room : {P : Type 0} {ghosts : Ghosts P} (see : P → Seen) (slot : ℕ) (g : Imported P ghosts) → IsGroupKept see g → IsSlot slot g.config → length g.base.disks.items < 32
 has_room see slot g kept free =
     few_disks slot free.low g.base.disks.items
     (all_each (λ d. IsReady (disk_seen see d)) (λ d. d.slot < 32) (λ d ready. ready.slot) g.base.disks.items (all_unmapped IsReady (disk_seen see) g.base.disks.items kept.carries.alive.ready))
@@ -101,7 +102,7 @@ offers_none group None bare = refl
 offers_none group (Some contents) bare = no_label group (header_of (contents 0)) contents bare
 
 -- the disk that is added is the device in hand
-pub join_ends : {P : Type 0} (see : P → Seen) (pair : DiskAt) (t : Taken P) (disk : Piece P) (slot : ℕ) (next : NextConfig) (old new : Imported P) (result : Result (Unit {0}) (Stop × Option (Taken P))) → disk ≡ disk_for see pair slot t → IsSlot slot old.config
+pub join_ends : {P : Type 0} {ghosts : Ghosts P} (see : P → Seen) (pair : DiskAt) (t : Taken P) (disk : Piece P) (slot : ℕ) (next : NextConfig) (old new : Imported P ghosts) (result : Result (Unit {0}) (Stop × Option (Taken P))) → disk ≡ disk_for see pair slot t → IsSlot slot old.config
     → IsFresh see old.base.name (disk_for see pair slot t) → IsPlanned (join_edits see pair slot t) old.config next → AddEnds see disk next result old new → JoinEnds see pair t result old new
 join_ends {P = P} see pair t disk slot next old new result is free fresh planned ends = by result (subst (λ d. AddEnds see d next result old new) is ends)
   where
@@ -133,7 +134,7 @@ join_ends {P = P} see pair t disk slot next old new result is free fresh planned
     }
 
 -- the device in hand becomes a disk that the group may take
-pub is_fresh : {P : Type 0} (see : P → Seen) (pair : DiskAt) (slot sectors : ℕ) (t : Taken P) (g : Imported P) → IsGroupKept see g → sectors ≡ (see t.piece).sectors → slot < 32 → 2048 < sectors → sectors ≤ 2 ^ 40 → IsTrue (is_short_name pair.disk) → IsTrue (is_short_name g.config.group)
+pub is_fresh : {P : Type 0} {ghosts : Ghosts P} (see : P → Seen) (pair : DiskAt) (slot sectors : ℕ) (t : Taken P) (g : Imported P ghosts) → IsGroupKept see g → sectors ≡ (see t.piece).sectors → slot < 32 → 2048 < sectors → sectors ≤ 2 ^ 40 → IsTrue (is_short_name pair.disk) → IsTrue (is_short_name g.config.group)
     → IsFresh see g.base.name (disk_for see pair slot t)
 is_fresh see pair slot sectors t g kept same low more most short group = record {
   good = refl;
@@ -155,10 +156,10 @@ only_one {P = P} pair t before now are named = by now are (ap (map (λ x. x.devi
     by (x ∷ []) e names = absurd (cc)
     by (x ∷ y ∷ xs) e names = absurd (cc)
 
-pub placed : {P : Type 0} (see : P → Seen) (pair : DiskAt) (t : Taken P) (result : Result (Unit {0}) (Stop × Option (Taken P))) (before now : List (Taken P)) (old new : Imported P) → before ≡ now ++ t ∷ [] → map (λ x. x.device) before ≡ pair.device ∷ [] → JoinEnds see pair t result old new → IsPlaced see pair result before now old new
+pub placed : {P : Type 0} {ghosts : Ghosts P} (see : P → Seen) (pair : DiskAt) (t : Taken P) (result : Result (Unit {0}) (Stop × Option (Taken P))) (before now : List (Taken P)) (old new : Imported P ghosts) → before ≡ now ++ t ∷ [] → map (λ x. x.device) before ≡ pair.device ∷ [] → JoinEnds see pair t result old new → IsPlaced see pair result before now old new
 placed see pair t result before now old new are named ends = let one = only_one pair t before now are named in record { taken = t; hand = one.0; empty = one.1; ends = ends }
 
-pub kept_back : {P : Type 0} (see : P → Seen) (pair : DiskAt) (t back : Taken P) (stop : Stop) (before now after : List (Taken P)) (old new : Imported P) → before ≡ now ++ t ∷ [] → map (λ x. x.device) before ≡ pair.device ∷ [] → after ≡ now ++ back ∷ [] → JoinEnds see pair t (Err (stop, Some back)) old new → IsKeptBack see pair stop before after old new
+pub kept_back : {P : Type 0} {ghosts : Ghosts P} (see : P → Seen) (pair : DiskAt) (t back : Taken P) (stop : Stop) (before now after : List (Taken P)) (old new : Imported P ghosts) → before ≡ now ++ t ∷ [] → map (λ x. x.device) before ≡ pair.device ∷ [] → after ≡ now ++ back ∷ [] → JoinEnds see pair t (Err (stop, Some back)) old new → IsKeptBack see pair stop before after old new
 kept_back see pair t back stop before now after old new are named put ends = record {
   taken = t;
   hand = (only_one pair t before now are named).0;

@@ -1,5 +1,6 @@
 -- What a change of the configuration leaves of the imported group.
 use Rattle.std.specs.Prelude.{◌≡◌, ℕ, List, [], Result, Ok, Err}
+use Rattle.vx_pages.specs.declared.local_piece.LocalPiece.{Ghosts}
 use Rattle.vx_piece.specs.Seen.{Seen}
 use Rattle.vx_copies.specs.Commit.{HasRisen}
 use Rattle.vx_copies.specs.Disks.{IsCut}
@@ -20,10 +21,14 @@ pub record IsMeant (edits : List Edit) (config next : Config) (text : List ℕ) 
   pub edited : IsEdited edits config next
   pub printed : IsShortText next text
 
+-- what is behind the fronts of the disks stays
+abbrev pub SamePublic : {P : Type 0} {ghosts : Ghosts P} → Imported P ghosts → Imported P ghosts → Type 0
+SamePublic old new = new.public ≡ old.public
+
 -- the change is done; or it is refused, and the group is as before; or the group or the power is lost
-abbrev pub ChangeEnds : {P : Type 0} → (P → Seen) → List Edit → Result (Unit {0}) Stop → Imported P → Imported P → Type 0
-ChangeEnds see edits (Ok u) old new = (text : List ℕ) × IsMeant edits old.config new.config text × IsFinished see text old.base new.base
+abbrev pub ChangeEnds : {P : Type 0} {ghosts : Ghosts P} → (P → Seen) → List Edit → Result (Unit {0}) Stop → Imported P ghosts → Imported P ghosts → Type 0
+ChangeEnds see edits (Ok u) old new = SamePublic old new × ((text : List ℕ) × IsMeant edits old.config new.config text × IsFinished see text old.base new.base)
 ChangeEnds see edits (Err stops.OutOfMemory) old new = new ≡ old
-ChangeEnds see edits (Err (stops.Ended ends.GroupLost)) old new = (next : Config) × (text : List ℕ) × IsMeant edits old.config next text × IsTried see text old.base new.base × Each HasRisen (members see old.base) (members see new.base)
-ChangeEnds see edits (Err (stops.Ended (ends.Lost parts))) old new = (parts ≡ []) × ((next : Config) × (text : List ℕ) × IsMeant edits old.config next text × IsTried see text old.base new.base × AnyOf IsCut (members see new.base))
+ChangeEnds see edits (Err (stops.Ended ends.GroupLost)) old new = SamePublic old new × ((next : Config) × (text : List ℕ) × IsMeant edits old.config next text × IsTried see text old.base new.base × Each HasRisen (members see old.base) (members see new.base))
+ChangeEnds see edits (Err (stops.Ended (ends.Lost parts))) old new = (parts ≡ []) × SamePublic old new × ((next : Config) × (text : List ℕ) × IsMeant edits old.config next text × IsTried see text old.base new.base × AnyOf IsCut (members see new.base))
 ChangeEnds see edits (Err (stops.Ended end)) old new = (new ≡ old) × IsUnplanned edits old.config (stops.Ended end)

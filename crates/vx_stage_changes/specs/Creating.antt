@@ -1,6 +1,7 @@
 -- A group that is made of the devices in hand.
 use Rattle.std.specs.Prelude.{◌≡◌, ◌⊎◌, ℕ, ◌+◌, ◌-◌, ◌<◌, ◌&&◌, Bool, true, List, [], ◌∷◌, map, Result, Ok, Err}
 use Rattle.std.specs.List.{list_all}
+use Rattle.vx_pages.specs.declared.local_piece.LocalPiece.{Ghosts}
 use Rattle.vx_base.specs.Named.{Word}
 use Rattle.vx_piece.specs.Seen.{Seen}
 use Rattle.vx_header.specs.Sectors.{is_short_name}
@@ -17,7 +18,9 @@ use Rattle.vx_objects.specs.declared.config.Config.{Config}
 use Rattle.vx_objects.specs.Config.{objects_of}
 use Rattle.vx_script_words.specs.declared.value.DiskAt.{DiskAt}
 use Rattle.vx_plans.specs.Records.{is_disk_size}
+use Rattle.vx_running.specs.Public.{lent_pieces, still_pieces}
 use Rattle.vx_house.specs.Goes.{IsBlankSeen}
+use Rattle.vx_house.specs.View.{IsGroupIdle}
 use Rattle.vx_house.specs.declared.house.Imported.{Imported}
 use Rattle.vx_house.specs.declared.house.Taken.{Taken}
 use Rattle.vx_house.specs.declared.stop.Stop.{Stop}
@@ -67,11 +70,15 @@ pub record IsDrawn {P : Type 0} (dg : Word) (ds : List (Disk P)) (config : Confi
   pub printed : IsShortText config text
 
 -- a group was made, and its disks carry the text
-pub record IsFoundedBy {P : Type 0} (see : P → Seen) (dg : Word) (g : Imported P) (ds : List (Disk P)) : Type 0 where
+pub record IsFoundedBy {P : Type 0} {ghosts : Ghosts P} (see : P → Seen) (dg : Word) (g : Imported P ghosts) (ds : List (Disk P)) : Type 0 where
   pub text : List ℕ
   pub drawn : IsDrawn dg ds g.config text
   pub founded : IsFounded see dg text ds g.base
   pub made : IsMadeOf dg g.base.sequence text (map (disk_seen see) ds) (members see g.base)
+  -- none of them is parted
+  pub still : still_pieces see g.public ≡ []
+  pub lent : lent_pieces see g.public ≡ []
+  pub idle : IsGroupIdle g
 
 -- a group was to be made, and its disks are given back
 pub record IsRefusedBy {P : Type 0} (see : P → Seen) (dg : Word) (stop : Stop) (ds back : List (Disk P)) : Type 0 where
@@ -88,7 +95,7 @@ abbrev pub IsUnfounded : {P : Type 0} → (P → Seen) → Word → Stop → Lis
 IsUnfounded see dg stop ds back = ((stop ≡ stops.OutOfMemory) × (back ≡ ds)) ⊎ IsRefusedBy see dg stop ds back
 
 -- a group is made of the disks, or they are given back
-abbrev pub FoundEnds : {P : Type 0} → (P → Seen) → Word → Result (Imported P) (Unfounded P) → List (Disk P) → Type 0
+abbrev pub FoundEnds : {P : Type 0} {ghosts : Ghosts P} → (P → Seen) → Word → Result (Imported P ghosts) (Unfounded P) → List (Disk P) → Type 0
 FoundEnds see dg (Ok g) ds = IsFoundedBy see dg g ds
 FoundEnds see dg (Err u) ds = IsUnfounded see dg u.stop ds u.disks.items
 
@@ -99,6 +106,6 @@ pub record IsHandedBack {P : Type 0} (see : P → Seen) (dg : Word) (pairs : Lis
   pub ends : IsUnfounded see dg stop (disks_from see 0 before pairs) back
 
 -- a group is made of the devices in hand; or they are in hand as they were for want of memory; or the making has left them so
-abbrev pub CreateEnds : {P : Type 0} → (P → Seen) → Word → List DiskAt → Result (Imported P) Stop → List (Taken P) → List (Taken P) → Type 0
+abbrev pub CreateEnds : {P : Type 0} {ghosts : Ghosts P} → (P → Seen) → Word → List DiskAt → Result (Imported P ghosts) Stop → List (Taken P) → List (Taken P) → Type 0
 CreateEnds see dg pairs (Ok g) before now = (now ≡ []) × IsFoundedBy see dg g (disks_from see 0 before pairs)
 CreateEnds see dg pairs (Err stop) before now = ((stop ≡ stops.OutOfMemory) × (now ≡ before)) ⊎ IsHandedBack see dg pairs stop before now

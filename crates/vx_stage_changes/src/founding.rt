@@ -88,7 +88,7 @@ fn are_fit<P>(dg: &Name, disks: &[Disk<P>]) -> bool
 }
 
 /// Makes a group of the disks by a commit. The disks are given back where it was not made.
-pub(crate) fn found<P: Piece>(
+pub(crate) fn found<P: Piece + Drop>(
     alloc: Global,
     dg: &Name,
     disks: Vec<Disk<P>>,
@@ -106,7 +106,7 @@ pub(crate) fn found<P: Piece>(
         return Err(Unfounded { stop, disks });
     };
     match create(alloc, *dg, disks, &text) {
-        Ok(base) => Ok(Imported { config, base }),
+        Ok(base) => Ok(Imported::of(alloc, config, base)),
         Err(Refused { fault, disks }) => {
             let stop = stop_of(alloc, &fault);
             Err(Unfounded { stop, disks })

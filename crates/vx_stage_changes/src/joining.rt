@@ -120,6 +120,7 @@ pub(crate) fn enter<P: Piece>(
     requires kept { IsGroupKept P.seen group.old }
     requires blank { IfSome (P.seen taken.piece).told (λ contents. header_of (contents 0) ≡ None) }
     ensures ends { JoinEnds P.seen pair.now taken result group.old group.new }
+    ensures public { group.new.public ≡ group.old.public }
 {
     let sectors = taken.piece.sectors();
     if !fits(pair, sectors) || group.base.sequence() >= LATE {
@@ -150,6 +151,7 @@ fn add<P: Piece>(
     requires none { OffersNone group.old.base.name (disk_seen P.seen disk) }
     requires short { length next.text.items ≤ 522240 }
     ensures ends { AddEnds P.seen disk next result group.old group.new }
+    ensures public { group.new.public ≡ group.old.public }
 {
     let NextConfig { config, text } = next;
     match group.base.add(alloc, disk, &text) {
@@ -173,6 +175,7 @@ pub(crate) fn join_in<P: Piece>(
     requires named { map (λ t. t.device) hand.old.items ≡ pair.now.device ∷ [] }
     requires blank { AllOf (λ t. IsBlankSeen (P.seen t.piece)) hand.old.items }
     ensures ends { HandEnds P.seen pair.now result hand.old.items hand.new.items group.old group.new }
+    ensures public { group.new.public ≡ group.old.public }
 {
     let Some(taken) = hand.pop() else {
         unreachable!();

@@ -9,6 +9,7 @@ use Rattle.std.specs.Cmp.Lexicographic.{slice_cmp}
 use Rattle.std.specs.Ordering.{nat_cmp}
 use Rattle.std.specs.Str.{bytes_eq}
 use Rattle.std.proofs.lemmas.List.{map-append, append-nil}
+use Rattle.vx_pages.specs.declared.local_piece.LocalPiece.{Ghosts}
 use Rattle.vx_base.specs.Blocks.{Contents}
 use Rattle.vx_base.specs.Named.{Word, put}
 use Rattle.vx_base.proofs.NamedLemmas.{bytes_eq_self}
@@ -50,7 +51,7 @@ use Rattle.vx_stage_devices.proofs.Entries.{IsPutAt, put_at, any_less}
 use Rattle.vx_house.proofs.Hands.{IsInWorld, hand_in_world}
 
 -- the names of volumes
-recorded_same : {P : Type 0} (see : P → Seen) (o : Option (Imported P)) (vol : Word) → has_volume (group_of see o) vol ≡ is_recorded o vol
+recorded_same : {P : Type 0} {ghosts : Ghosts P} (see : P → Seen) (o : Option (Imported P ghosts)) (vol : Word) → has_volume (group_of see o) vol ≡ is_recorded o vol
 recorded_same see None vol = refl
 recorded_same see (Some g) vol = refl
 
@@ -60,7 +61,7 @@ volume_same see None (Some v) is = absurd is
 volume_same see (Some b) None is = absurd is
 volume_same see (Some b) (Some v) is = refl
 
-named_same : {P : Type 0} (see : P → Seen) (v : View P) (m : Moment) (vol : Word) → IsMoment see v m → is_volume vol m.world ≡ is_named v.house vol
+named_same : {P : Type 0} {ghosts : Ghosts P} (see : P → Seen) (v : View P ghosts) (m : Moment) (vol : Word) → IsMoment see v m → is_volume vol m.world ≡ is_named v.house vol
 named_same see v m vol is =
     ap (λ b. b || has_volume m.world.group vol) (volume_same see (volume_at v.house vol) (m.world.volumes vol) (is.volumes_are vol))
     ∙ ap (λ b. is_some (volume_at v.house vol) || b) (ap (λ g. has_volume g vol) is.group_is ∙ recorded_same see v.house.group vol)
@@ -85,6 +86,7 @@ module _ (xs : List Holder) (h : Holder) (ys us vs : List Holder) (same : xs ++ 
     each = all_put (IsTakenFrom held) us h vs (all_here (IsTakenFrom held) xs h ys are.each) (subst (AllOf (IsTakenFrom held)) same (all_others (IsTakenFrom held) xs h ys are.each));
     apart = moved_apart are.apart;
     only = λ name none. are.only name (sym (moved_as are.apart name) ∙ none);
+    numbers = are.numbers;
   }
 
 begun_told : (told : Option Contents) (d : Device) → told ≡ Some d.contents → IsAmongTold d.sectors told (known d.contents)
@@ -98,7 +100,7 @@ weaker_lent lent now (Some s) None free of = of
 weaker_lent lent now (Some s) (Some d) free of = (of.0, λ e. of.1 (free e))
 
 -- The device of the hand is started.
-module _ {P : Type 0} (see : P → Seen) (vol : Word) (h k : House P) (started : IsStarted see vol h k) (new_name : is_named h vol ≡ false) (shelf : Shelved) (are : AreHeld shelf.held (holders see h)) (keeps : KeepsHouse see h) where
+module _ {P : Type 0} {ghosts : Ghosts P} (see : P → Seen) (vol : Word) (h k : House P ghosts) (started : IsStarted see vol h k) (new_name : is_named h vol ≡ false) (shelf : Shelved) (are : AreHeld shelf.held (holders see h)) (keeps : KeepsHouse see h) where
   abbrev t : Taken P
   t = started.taken
 
@@ -227,7 +229,7 @@ module _ {P : Type 0} (see : P → Seen) (vol : Word) (h k : House P) (started :
     blamed = tt;
   }
 
-module _ {P : Type 0} (see : P → Seen) (vol name : Word) (h : House P) (disks : List DiskAt) (shelf : Shelved) (are : AreHeld shelf.held (holders see h)) (keeps : KeepsHouse see h) where
+module _ {P : Type 0} {ghosts : Ghosts P} (see : P → Seen) (vol name : Word) (h : House P ghosts) (disks : List DiskAt) (shelf : Shelved) (are : AreHeld shelf.held (holders see h)) (keeps : KeepsHouse see h) where
   -- a volume has the name already
   pub exists_stage : is_named h vol ≡ true → StageGoes {T = Unit {0}} see (stage.StartBare vol name) disks (Err (Ended (refused (Exists vol)))) (at shelf h) (at shelf h)
   exists_stage named = record {
@@ -240,7 +242,7 @@ module _ {P : Type 0} (see : P → Seen) (vol name : Word) (h : House P) (disks 
   }
 
   -- memory is wanting
-  module _ (k : House P) (same : IsSameHouse h k) where
+  module _ (k : House P ghosts) (same : IsSameHouse h k) where
     holding : holders see k ≡ holders see h
     holding =
         ap (λ es. map (volume_holder see) es ++ (group_holders see k.group ++ map (hand_holder see) k.hand.items)) same.entries
@@ -295,7 +297,7 @@ passed true r e = refl
 passed false r e = cc
 
 -- the device of the hand was tested
-pub can_start : {P : Type 0} (see : P → Seen) (h : House P) (name : Word) (disks : List DiskAt) → map (λ t. t.device) h.hand.items ≡ name ∷ [] → fails (tests.Sized name) disks (plain see h) ≡ None → CanStart see h
+pub can_start : {P : Type 0} {ghosts : Ghosts P} (see : P → Seen) (h : House P ghosts) (name : Word) (disks : List DiskAt) → map (λ t. t.device) h.hand.items ≡ name ∷ [] → fails (tests.Sized name) disks (plain see h) ≡ None → CanStart see h
 unfolding fails
 can_start see h name disks named fits =
     let only = only_of h.hand.items name named in
@@ -309,7 +311,7 @@ popped xs (y ∷ []) t x e is = let both : y ∷ t ∷ [] ≡ x ∷ [] = sym e �
 popped xs (y ∷ z ∷ ys) t x e is = let both : y ∷ z ∷ (ys ++ t ∷ []) ≡ x ∷ [] = sym e ∙ is in cc
 
 -- the outcome of the start
-pub start_stage : {P : Type 0} (see : P → Seen) (vol name : Word) (h k : House P) (disks : List DiskAt) (shelf : Shelved) → AreHeld shelf.held (holders see h) → KeepsHouse see h → is_named h vol ≡ false → ((t : Taken P) → h.hand.items ≡ t ∷ [] → t.device ≡ name) → (result : Result (Unit {0}) Stop) → Starts see vol h result k → StageGoes see (stage.StartBare vol name) disks result (at shelf h) (at shelf k)
+pub start_stage : {P : Type 0} {ghosts : Ghosts P} (see : P → Seen) (vol name : Word) (h k : House P ghosts) (disks : List DiskAt) (shelf : Shelved) → AreHeld shelf.held (holders see h) → KeepsHouse see h → is_named h vol ≡ false → ((t : Taken P) → h.hand.items ≡ t ∷ [] → t.device ≡ name) → (result : Result (Unit {0}) Stop) → Starts see vol h result k → StageGoes see (stage.StartBare vol name) disks result (at shelf h) (at shelf k)
 start_stage see vol name h k disks shelf are keeps new_name named (Ok u) started =
     subst (λ n. StageGoes {T = Unit {0}} see (stage.StartBare vol n) disks (Ok tt) (at shelf h) (at shelf k)) (named started.taken started.hand) (started_stage see vol h k started new_name shelf are keeps disks)
 start_stage see vol name h k disks shelf are keeps new_name named (Err OutOfMemory) same = same_stage see vol name h disks shelf are keeps k same

@@ -2,6 +2,7 @@
 use Rattle.std.proofs.Common.{◌≡◌, ◌∙◌, ◌⊎◌, ◌||◌, Bool, true, false, arith, List, [], ◌∷◌, map, Option, Some, None, Ok, Err, Result, refl, sym, ap, subst, inl, inr}
 use Rattle.std.specs.Prelude.{IfSome, IsSome}
 use Rattle.std.specs.Str.{bytes_eq}
+use Rattle.vx_pages.specs.declared.local_piece.LocalPiece.{Ghosts}
 use Rattle.vx_base.specs.Counts.{Rose}
 use Rattle.vx_base.specs.Named.{Word}
 use Rattle.vx_base.specs.Blocks.{Contents}
@@ -127,7 +128,7 @@ module _ {P : Type 0} (see : P → Seen) where
     stops_blamed end (t ∷ ts) (u ∷ us) before behind (inr (blank, rest)) = stops_blamed end ts us before.1 behind.1 rest
 
 -- The hand was read once.
-module _ {P : Type 0} (see : P → Seen) (h k : House P) (shelf : Shelved) (are : AreHeld shelf.held (holders see h)) (keeps : KeepsHouse see h) (each : Each (IsReadOnce see) h.hand.items k.hand.items) where
+module _ {P : Type 0} {ghosts : Ghosts P} (see : P → Seen) (h k : House P ghosts) (shelf : Shelved) (are : AreHeld shelf.held (holders see h)) (keeps : KeepsHouse see h) (each : Each (IsReadOnce see) h.hand.items k.hand.items) where
   abbrev names : List Word
   names = hand_names h
 
@@ -158,7 +159,7 @@ module _ {P : Type 0} (see : P → Seen) (h k : House P) (shelf : Shelved) (are 
   once_still = record { hand = still_each see h.hand.items k.hand.items each; volumes = refl; group = refl }
 
 -- The hand was read at most.
-module _ {P : Type 0} (see : P → Seen) (h k : House P) (shelf : Shelved) (are : AreHeld shelf.held (holders see h)) (keeps : KeepsHouse see h) (each : Each (IsOnlyRead see) h.hand.items k.hand.items) where
+module _ {P : Type 0} {ghosts : Ghosts P} (see : P → Seen) (h k : House P ghosts) (shelf : Shelved) (are : AreHeld shelf.held (holders see h)) (keeps : KeepsHouse see h) (each : Each (IsOnlyRead see) h.hand.items k.hand.items) where
   abbrev looked : List Word
   looked = hand_names h
 
@@ -187,7 +188,7 @@ module _ {P : Type 0} (see : P → Seen) (h k : House P) (shelf : Shelved) (are 
   )
 
 -- The stages.
-module _ {P : Type 0} (see : P → Seen) (h k : House P) (shelf : Shelved) (are : AreHeld shelf.held (holders see h)) (keeps : KeepsHouse see h) where
+module _ {P : Type 0} {ghosts : Ghosts P} (see : P → Seen) (h k : House P ghosts) (shelf : Shelved) (are : AreHeld shelf.held (holders see h)) (keeps : KeepsHouse see h) where
   only_once : Each (IsReadBlank see) h.hand.items k.hand.items → Each (IsReadOnce see) h.hand.items k.hand.items
   only_once each = each_map (IsReadBlank see) (IsReadOnce see) (λ t u blank. blank.0) h.hand.items k.hand.items each
 

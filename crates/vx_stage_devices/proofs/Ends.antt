@@ -1,8 +1,9 @@
 -- The stage that searches for a group among the devices that nobody holds.
 use Rattle.std.proofs.Common.{◌≡◌, ◌∙◌, ◌⊎◌, ◌||◌, ◌+◌, ◌≤◌, ℕ, Bool, true, false, cond, List, [], ◌∷◌, ◌++◌, map, Option, Some, None, Ok, Err, Result, refl, sym, ap, subst, arith, inl, inr}
-use Rattle.std.specs.Prelude.{IsTrue, IsSome, IfSome}
+use Rattle.std.specs.Prelude.{IsSome, IfSome}
 use Rattle.std.specs.List.{list_any}
 use Rattle.std.specs.Str.{bytes_eq}
+use Rattle.vx_pages.specs.declared.local_piece.LocalPiece.{Ghosts}
 use Rattle.vx_base.specs.Blocks.{Contents}
 use Rattle.vx_base.specs.Counts.{Rose, later_count}
 use Rattle.vx_base.specs.Named.{Word}
@@ -26,7 +27,7 @@ use Rattle.vx_plans.specs.declared.stage.Stage.TheVariants as stage
 use Rattle.vx_house.specs.Goes.{Goes, StageGoes, Still, IsStill}
 use Rattle.vx_house.specs.Holders.{Holder, volume_holder, holders, hand_names, held_as}
 use Rattle.vx_house.specs.Scene.{Shelved, seen_in, seen_at, faults_in, faults_at, count_in, counts_of, FaultsGoOn, IsBlamed}
-use Rattle.vx_house.specs.View.{View, at, scene, is_lent, IsDeviceOf, IsMoment, Keeps}
+use Rattle.vx_house.specs.View.{View, at, scene, is_lent, IsMoment, Keeps}
 use Rattle.vx_house.specs.declared.house.House.{House}
 use Rattle.vx_house.specs.declared.house.Taken.{Taken}
 use Rattle.vx_house.specs.declared.stop.Stop.{Stop}
@@ -90,11 +91,11 @@ all_still : {P : Type 0} (see : P → Seen) (ts : List (Taken P)) → Each (IsSt
 all_still see [] = tt
 all_still see (t ∷ ts) = (record { device = refl; sectors = refl; told = refl }, all_still see ts)
 
-still_self : {P : Type 0} (see : P → Seen) (h : House P) → Still see h h
+still_self : {P : Type 0} {ghosts : Ghosts P} (see : P → Seen) (h : House P ghosts) → Still see h h
 still_self see h = record { hand = all_still see h.hand.items; volumes = refl; group = refl }
 
-module _ {P : Type 0} (see : P → Seen) (v : View P) (keeps : Keeps see v) (shelf : Shelved) where
-  abbrev new : View P
+module _ {P : Type 0} {ghosts : Ghosts P} (see : P → Seen) (v : View P ghosts) (keeps : Keeps see v) (shelf : Shelved) where
+  abbrev new : View P ghosts
   new = at shelf v.house
 
   -- The devices of these names were read at most.
@@ -267,7 +268,7 @@ module _ {P : Type 0} (see : P → Seen) (v : View P) (keeps : Keeps see v) (she
       by_cause (inr (inr (end_is, cut))) = subst (λ e. IsBlamed e (scene see v) (scene see new)) (sym end_is) tt
 
 -- The stage, by its outcome.
-module _ {P : Type 0} (see : P → Seen) (v : View P) (keeps : Keeps see v) (shelf : Shelved) (dg : Word) (disks : List DiskAt) (taken : hand_names v.house ≡ devices_of disks) where
+module _ {P : Type 0} {ghosts : Ghosts P} (see : P → Seen) (v : View P ghosts) (keeps : Keeps see v) (shelf : Shelved) (dg : Word) (disks : List DiskAt) (taken : hand_names v.house ≡ devices_of disks) where
   told_now : (names : List Word) → IsOnlySought names v.shelf shelf → (m : Moment) → IsMoment see v m → (b : Word → Option Seen) × (shelf.free ≡ Some b)
   told_now names only m is = some_of shelf.free (only_moment see v keeps shelf names only m is).told
 

@@ -1,6 +1,7 @@
 -- The stage that looks for the header of the only device in hand.
 use Rattle.std.proofs.Common.{◌≡◌, ◌⊎◌, List, [], ◌∷◌, map, None, Ok, Err, Result, sym, ap, subst, inl, inr}
 use Rattle.std.specs.Prelude.{IsSome}
+use Rattle.vx_pages.specs.declared.local_piece.LocalPiece.{Ghosts}
 use Rattle.vx_header.specs.Named.{header_of}
 use Rattle.vx_piece.specs.Seen.{Seen}
 use Rattle.vx_copies.specs.Lists.{Each}
@@ -25,7 +26,7 @@ use Rattle.vx_stage_devices.proofs.Blanks.{of_world, ends_counted, ends_blamed, 
 use Rattle.vx_house.proofs.OnlyInHand.{IsOneCalled, held_before, held_behind, one_in_world}
 use Rattle.vx_house.proofs.Hands.{after}
 
-module _ {P : Type 0} (see : P → Seen) (h k : House P) (t u : Taken P) (was : h.hand.items ≡ t ∷ []) (is : k.hand.items ≡ u ∷ []) (shelf : Shelved) (are : AreHeld shelf.held (holders see h)) (keeps : KeepsHouse see h) where
+module _ {P : Type 0} {ghosts : Ghosts P} (see : P → Seen) (h k : House P ghosts) (t u : Taken P) (was : h.hand.items ≡ t ∷ []) (is : k.hand.items ≡ u ∷ []) (shelf : Shelved) (are : AreHeld shelf.held (holders see h)) (keeps : KeepsHouse see h) where
   each_one : (R : Taken P → Taken P → Type 0) → R t u → Each R h.hand.items k.hand.items
   each_one R goes = subst (λ ts. Each R ts k.hand.items) (sym was) (subst (λ us. Each R (t ∷ []) us) (sym is) (goes, tt))
 

@@ -2,6 +2,7 @@
 use Rattle.std.proofs.Common.{◌≡◌, ◌∙◌, ◌↔◌, ℕ, ◌≤◌, ◌<◌, Bool, false, List, Option, Some, None, Ok, Err, replicate, refl, sym, ap, subst, arith, inl, inr}
 use Rattle.std.specs.Prelude.{IsTrue, IsSome, IfSome}
 use Rattle.std.specs.Str.{bytes_eq}
+use Rattle.vx_pages.specs.declared.local_piece.LocalPiece.{Ghosts}
 use Rattle.vx_base.specs.Blocks.{Contents}
 use Rattle.vx_base.specs.Counts.{Rose}
 use Rattle.vx_base.specs.Named.{Word, put, SameUnder}
@@ -48,8 +49,8 @@ stands lent None d of some = cc
 stands lent (Some s) None of some = absurd of
 stands lent (Some s) (Some d) of some = refl
 
-module _ {P : Type 0} (see : P → Seen) (v : View P) (keeps : Keeps see v) (shelf : Shelved) (name : Word) (sectors : ℕ) (disks : List DiskAt) (held : SameUnder v.shelf.held shelf.held) (counts : SameCounts v.shelf.counted shelf.counted) where
-  abbrev new : View P
+module _ {P : Type 0} {ghosts : Ghosts P} (see : P → Seen) (v : View P ghosts) (keeps : Keeps see v) (shelf : Shelved) (name : Word) (sectors : ℕ) (disks : List DiskAt) (held : SameUnder v.shelf.held shelf.held) (counts : SameCounts v.shelf.counted shelf.counted) where
+  abbrev new : View P ghosts
   new = at shelf v.house
 
   new_keeps : Keeps see new

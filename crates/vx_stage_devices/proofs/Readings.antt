@@ -1,5 +1,6 @@
 -- Devices in hand that were read.
 use Rattle.std.proofs.Common.{◌≡◌, ◌∙◌, ◌+◌, ◌≤◌, Bool, true, false, List, [], ◌∷◌, map, refl, sym, ap, arith}
+use Rattle.vx_pages.specs.declared.local_piece.LocalPiece.{Ghosts}
 use Rattle.vx_base.specs.Counts.{later_count}
 use Rattle.vx_base.specs.Named.{Word}
 use Rattle.vx_piece.specs.Seen.{Seen, Keeps, IsRead}
@@ -78,7 +79,7 @@ counted_each see names (t ∷ ts) (u ∷ us) all each = (
 )
 
 -- The counts of what was read.
-module _ {P : Type 0} (see : P → Seen) (h k : House P) (shelf : Shelved) (m : Moment) (is : IsMoment see (at shelf h) m) where
+module _ {P : Type 0} {ghosts : Ghosts P} (see : P → Seen) (h k : House P ghosts) (shelf : Shelved) (m : Moment) (is : IsMoment see (at shelf h) m) where
   pub writes_none : (Q : Word → Seen → Seen → Type 0) → ((name : Word) (s t : Seen) → Q name s t → IsRead s t) → (ns : List Holder) → Each (IsStep Q) (holders see h) ns → WritesNone m.counts (counts_of (record { shelf = shelf; taken = ns }))
   writes_none Q read ns each name =
       place_by (Q name) (λ a b. count_in (λ seen. seen.writes) 0 b ≡ count_in (λ seen. seen.writes) 0 a) (held_as (holders see h) name) (held_as ns name) shelf.free name (held_steps Q (holders see h) ns name each)

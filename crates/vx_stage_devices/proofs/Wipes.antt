@@ -1,5 +1,6 @@
 -- The stage that wipes out the header of the only device in hand.
 use Rattle.std.proofs.Common.{◌≡◌, ◌∙◌, ℕ, Bool, true, false, List, [], ◌∷◌, Option, Some, None, Ok, Err, Result, refl, sym, ap, subst, arith}
+use Rattle.vx_pages.specs.declared.local_piece.LocalPiece.{Ghosts}
 use Rattle.vx_base.specs.Blocks.{Contents, written, IsTorn}
 use Rattle.vx_base.specs.Counts.{later_count}
 use Rattle.vx_piece.specs.Seen.{Seen, Writes, count_after}
@@ -48,7 +49,7 @@ told_torn fault None b c is writes = cc
 told_torn fault (Some x) None c is writes = absurd writes
 told_torn fault (Some x) (Some y) c is writes = record { contents = y; told = refl; goes = let same : x ≡ c = cc in subst (λ (z : Contents). IsTorn 0 zero_sector z y) same writes }
 
-module _ {P : Type 0} (see : P → Seen) (h k : House P) (t u : Taken P) (was : h.hand.items ≡ t ∷ []) (is : k.hand.items ≡ u ∷ []) (shelf : Shelved) (are : AreHeld shelf.held (holders see h)) (keeps : KeepsHouse see h) where
+module _ {P : Type 0} {ghosts : Ghosts P} (see : P → Seen) (h k : House P ghosts) (t u : Taken P) (was : h.hand.items ≡ t ∷ []) (is : k.hand.items ≡ u ∷ []) (shelf : Shelved) (are : AreHeld shelf.held (holders see h)) (keeps : KeepsHouse see h) where
   wiped_called : IsWiped see t u → IsOneCalled see h k t u shelf
   wiped_called wiped = record { was = was; is = is; device = wiped.device; kept = wiped.kept; are = are; keeps = keeps }
 

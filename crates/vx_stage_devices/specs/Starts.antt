@@ -5,6 +5,7 @@ use Rattle.std.specs.Cmp.Lexicographic.{slice_cmp}
 use Rattle.std.specs.List.{list_any}
 use Rattle.std.specs.Ordering.{nat_cmp}
 use Rattle.std.specs.Str.{bytes_eq}
+use Rattle.vx_pages.specs.declared.local_piece.LocalPiece.{Ghosts}
 use Rattle.vx_base.specs.Named.{Word, put, SameUnder}
 use Rattle.vx_block.specs.Geometry.{is_geometry}
 use Rattle.vx_piece.specs.Seen.{Seen}
@@ -17,16 +18,16 @@ use Rattle.vx_house.specs.declared.stop.Stop.{Stop}
 use Rattle.vx_house.specs.declared.stop.Stop.TheVariants.{Ended, OutOfMemory}
 
 -- the group records a volume of the name
-abbrev pub is_recorded : {P : Type 0} → Option (Imported P) → Word → Bool
+abbrev pub is_recorded : {P : Type 0} {ghosts : Ghosts P} → Option (Imported P ghosts) → Word → Bool
 is_recorded None vol = false
 is_recorded (Some g) vol = list_any (λ v. bytes_eq v.name vol) g.config.volumes
 
 -- a volume has the name, started or recorded
-abbrev pub is_named : {P : Type 0} → House P → Word → Bool
+abbrev pub is_named : {P : Type 0} {ghosts : Ghosts P} → House P ghosts → Word → Bool
 is_named h vol = is_some (volume_at h vol) || is_recorded h.group vol
 
 -- one device is in hand, and its sectors make a volume of regions of 128
-pub record CanStart {P : Type 0} (see : P → Seen) (h : House P) : Type 0 where
+pub record CanStart {P : Type 0} {ghosts : Ghosts P} (see : P → Seen) (h : House P ghosts) : Type 0 where
   pub taken : Taken P
   pub hand : h.hand.items ≡ taken ∷ []
   pub sized : IsTrue (is_geometry (see taken.piece).sectors 128)
@@ -44,7 +45,7 @@ pub record IsPutIn {P : Type 0} (see : P → Seen) (vol : Word) (taken : Taken P
   pub ordered : IsOrdered (slice_cmp nat_cmp) new
 
 -- the only device in hand is started
-pub record IsStarted {P : Type 0} (see : P → Seen) (vol : Word) (old new : House P) : Type 0 where
+pub record IsStarted {P : Type 0} {ghosts : Ghosts P} (see : P → Seen) (vol : Word) (old new : House P ghosts) : Type 0 where
   pub taken : Taken P
   pub hand : old.hand.items ≡ taken ∷ []
   pub empty : new.hand.items ≡ []
@@ -52,13 +53,13 @@ pub record IsStarted {P : Type 0} (see : P → Seen) (vol : Word) (old new : Hou
   pub group : new.group ≡ old.group
 
 -- the house has what it had
-pub record IsSameHouse {P : Type 0} (old new : House P) : Type 0 where
+pub record IsSameHouse {P : Type 0} {ghosts : Ghosts P} (old new : House P ghosts) : Type 0 where
   pub hand : new.hand.items ≡ old.hand.items
   pub entries : new.volumes.entries ≡ old.volumes.entries
   pub group : new.group ≡ old.group
 
 -- the device is started, or memory is wanting
-abbrev pub Starts : {T P : Type 0} → (P → Seen) → Word → House P → Result T Stop → House P → Type 0
+abbrev pub Starts : {T P : Type 0} {ghosts : Ghosts P} → (P → Seen) → Word → House P ghosts → Result T Stop → House P ghosts → Type 0
 Starts see vol old (Ok u) new = IsStarted see vol old new
 Starts see vol old (Err OutOfMemory) new = IsSameHouse old new
 Starts see vol old (Err (Ended end)) new = ⊥

@@ -44,13 +44,13 @@ pub fn start_bare<P: Piece + Drop>(
 }
 
 /// A volume has the name, started or recorded.
-fn is_named<P>(house: &House<P>, vol: &Name) -> bool
+fn is_named<P: Piece>(house: &House<P>, vol: &Name) -> bool
     ensures { result ≡ is_named house.now vol.now }
 {
     house.volumes.contains_key(vol) || is_recorded(&house.group, vol)
 }
 
-fn is_recorded<P>(group: &Option<Imported<P>>, vol: &Name) -> bool
+fn is_recorded<P: Piece>(group: &Option<Imported<P>>, vol: &Name) -> bool
     ensures { result ≡ is_recorded group.now vol.now }
 {
     match group {

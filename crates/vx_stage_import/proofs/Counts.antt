@@ -5,6 +5,7 @@ use Rattle.std.specs.List.{list_any}
 use Rattle.std.specs.Str.{bytes_eq}
 use Rattle.std.proofs.Math.Dec.{leb}
 use Rattle.std.proofs.lemmas.Bool.{leb-true, le-leb, cond-false}
+use Rattle.vx_pages.specs.declared.local_piece.LocalPiece.{Ghosts}
 use Rattle.vx_base.specs.Blocks.{Contents}
 use Rattle.vx_base.specs.Counts.{Rose, later_count}
 use Rattle.vx_base.specs.Named.{Word}
@@ -149,7 +150,7 @@ each_unread (f ∷ fs) apart = (here (bytes_eq_self f.device) (none_unread (hold
     others [] away all = tt
     others (g ∷ gs) away all = (ap (λ b. (b && not f.readable) || unread_by fs g.device) away.0 ∙ all.0, others gs away.1 all.1)
 
-module _ {P : Type 0} (see : P → Seen) (group : Word) (names : List Word) (first now : Shelved) (h : House P) (fs : List Looked) (since : IsSince see all_read group names first now h fs) (m : Moment) (is : IsMoment see (at first h) m) where
+module _ {P : Type 0} {ghosts : Ghosts P} (see : P → Seen) (group : Word) (names : List Word) (first now : Shelved) (h : House P ghosts) (fs : List Looked) (since : IsSince see all_read group names first now h fs) (m : Moment) (is : IsMoment see (at first h) m) where
   abbrev pub start : Scene
   start = scene see (at first h)
 

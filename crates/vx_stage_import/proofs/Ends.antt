@@ -1,6 +1,7 @@
 -- An import that ends with all devices back on the shelf.
 use Rattle.std.proofs.Common.{◌≡◌, ◌∙◌, true, false, Some, List, [], refl, ap, inl, inr, arith}
 use Rattle.std.specs.Prelude.{Err}
+use Rattle.vx_pages.specs.declared.local_piece.LocalPiece.{Ghosts}
 use Rattle.vx_base.specs.Counts.{Rose}
 use Rattle.vx_base.specs.Named.{Word}
 use Rattle.vx_piece.specs.Seen.{Seen}
@@ -24,7 +25,7 @@ use Rattle.vx_stage_import.specs.Gathering.{IsSomeCut}
 use Rattle.vx_stage_import.proofs.ReadAtMost.{reads_so}
 use Rattle.vx_house.specs.Reading.{AreRead}
 
-module _ {P : Type 0} (see : P → Seen) (group : Word) (disks : List DiskAt) (h : House P) (first new : Shelved) where
+module _ {P : Type 0} {ghosts : Ghosts P} (see : P → Seen) (group : Word) (disks : List DiskAt) (h : House P ghosts) (first new : Shelved) where
   abbrev pub before : Scene
   before = scene see (at first h)
 
@@ -96,7 +97,7 @@ module _ {P : Type 0} (see : P → Seen) (group : Word) (disks : List DiskAt) (h
     refuses reads end refused blamed = ends_read end (λ m is. inr (inl ((refl, reads m is), inl (refused m is)))) blamed
 
 -- a group is imported already
-pub stands : {P : Type 0} (see : P → Seen) (group : Word) (disks : List DiskAt) (h : House P) (shelf : Shelved) (imported : Imported P) → h.group ≡ Some imported → Keeps see (at shelf h) → StageGoes {T = Unit {0}} see (stage.Import group) disks (Err (stops.Ended (ends.Refused (InUse imported.config.group)))) (at shelf h) (at shelf h)
+pub stands : {P : Type 0} {ghosts : Ghosts P} (see : P → Seen) (group : Word) (disks : List DiskAt) (h : House P ghosts) (shelf : Shelved) (imported : Imported P ghosts) → h.group ≡ Some imported → Keeps see (at shelf h) → StageGoes {T = Unit {0}} see (stage.Import group) disks (Err (stops.Ended (ends.Refused (InUse imported.config.group)))) (at shelf h) (at shelf h)
 stands see group disks h shelf imported some keeps = record {
   keeps = keeps;
   goes = λ m is. (m, is, later_refl m.counts, inl (by m is));

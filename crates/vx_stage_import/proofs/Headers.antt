@@ -104,7 +104,7 @@ module _ (old mid : Shelved) (xs ys : List Holder) (name : Word) (seen after : S
   -- another one is seen as it was
   other_kept : IsSome old.free → (other : Word) → bytes_eq name other ≡ false → seen_at (scene_of mid (xs ++ now ∷ ys)) other ≡ seen_at start other
   other_kept told other away =
-      let held = take_one old.held mid.held xs before ys handed.taken are in
+      let held = take_one old.held mid.held xs before ys handed.numbers handed.taken are in
       ap (λ o. seen_in o mid.free other) (held_at xs now ys other (took.held_now old mid xs ys name seen after are handed kept same).apart ∙ cond-false _ _ _ away ∙ sym (held_at xs before ys other held.apart ∙ cond-false _ _ _ away))
       ∙ (take_scene old mid xs before ys held.apart handed).seen told other
 

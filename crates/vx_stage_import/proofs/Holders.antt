@@ -2,6 +2,7 @@
 use Rattle.std.proofs.Common.{◌≡◌, ◌∙◌, ◌+◌, ◌≤◌, ℕ, Option, Some, None, Vec, List, [], ◌∷◌, ◌++◌, map, length, Result, Ok, Err, refl, sym, ap, subst, inr, arith}
 use Rattle.std.specs.declared.alloc.Global.{Global}
 use Rattle.std.proofs.lemmas.List.{append-nil}
+use Rattle.vx_pages.specs.declared.local_piece.LocalPiece.{Ghosts}
 use Rattle.vx_base.specs.Named.{Word}
 use Rattle.vx_piece.specs.Seen.{Seen}
 use Rattle.vx_copies.specs.Commit.{HasRisen}
@@ -31,20 +32,28 @@ use Rattle.vx_plans.specs.Finding.{Found}
 use Rattle.vx_plans.specs.Stages.{IsImporting, IsBetween, Stops}
 use Rattle.vx_plans.specs.declared.stage.Stage.TheVariants as stage
 use Rattle.vx_house.specs.Goes.{StageGoes}
-use Rattle.vx_house.specs.Holders.{Holder, holders, volume_holder, group_holders, hand_holder, volume_at, AreHeld}
+use Rattle.vx_fronts.specs.Fronts.{HasPrivate}
+use Rattle.vx_fronts.specs.Parted.{AreParted, IsFront}
+use Rattle.vx_fronts.proofs.Parted.{parted_committed}
+use Rattle.vx_running.specs.Public.{lent_pieces, still_pieces}
+use Rattle.vx_running.specs.declared.public.Public.{Public}
+use Rattle.vx_house.specs.Holders.{Holder, holders, volume_holder, group_holders, hand_holder, holder_in, volume_at, whole_members, AreApart, AreHeld, IsTakenFrom}
 use Rattle.vx_house.specs.Scene.{Shelved, Scene, seen_at, counts_of, FaultsGoOn}
-use Rattle.vx_house.specs.View.{at, scene, is_lent, group_of, IsMoment, IsMomentButGroup, IsGroupKept, KeepsButGroup}
+use Rattle.vx_house.specs.View.{at, scene, is_lent, group_of, member_in, AreSized, IsGroupIdle, IsGroupWhole, IsMoment, IsMomentButGroup, IsGroupKept, KeepsButGroup}
+use Rattle.vx_house.proofs.Founded.{founded}
+use Rattle.vx_house.proofs.Returns.{apart_back}
+use Rattle.vx_house.proofs.Wholes.{mapped_holders, unparted, unparted_holders}
 use Rattle.vx_house.specs.declared.house.House.{House}
 use Rattle.vx_house.specs.declared.house.Imported.{Imported}
 use Rattle.vx_house.specs.declared.stop.Stop.{Stop}
 use Rattle.vx_house.specs.declared.stop.Stop.TheVariants as stops
-use Rattle.vx_house.proofs.AllLaws.{all_each}
+use Rattle.vx_house.proofs.AllLaws.{all_back, all_each}
 use Rattle.vx_house.proofs.Moments.{counts_own, counts_later, later_trans, faults_moved, faults_trans}
 use Rattle.vx_house.proofs.Scenes.{scene_of}
-use Rattle.vx_commits.proofs.Alone.{IsWrittenIn, alone, x_alone, lost_alone, cut_alone, committed_alone}
+use Rattle.vx_commits.proofs.Alone.{IsWrittenIn, alone, sized_after, x_alone, lost_alone, cut_alone, committed_alone}
 use Rattle.vx_commits.proofs.Joins.{held_on, faults_on, moment_on, later_on, but_group_on}
-use Rattle.vx_commits.proofs.Stillness.{sized_now, slots_now, recorded_now}
-use Rattle.vx_commits.proofs.Members.{member_in}
+use Rattle.vx_commits.proofs.Holders.{world_group as world_whole}
+use Rattle.vx_commits.proofs.Stillness.{slots_now, recorded_now}
 use Rattle.vx_commits.specs.Committing.{IsTried, IsFinished, IsWritable, CommitEnds}
 use Rattle.vx_stage_import.specs.Finds.{beside, IsOfGroup, AreLooked, candidate_of, candidates_of}
 use Rattle.vx_stage_import.specs.Giving.{IsBack, good_looks, disks_in, seen_disks, disk_holders}
@@ -68,12 +77,13 @@ use Rattle.vx_house.specs.Unmoved.{Unmoved}
 use Rattle.vx_house.proofs.Readings.{stays_device, stays_place, only_trans, only_unmoved}
 
 -- the disks beside a house without a group and with an empty hand are held as those of its group
-pub holders_taken : {P : Type 0} (see : P → Seen) (h : House P) (g : Imported P) → h.hand.items ≡ [] → h.group ≡ None → holders see h ++ disk_holders see g.base.disks.items ≡ holders see (record { volumes = h.volumes; group = Some g; hand = h.hand })
-holders_taken {P = P} see h g ready none =
-    ap (λ (o : Option (Imported P)). (vs ++ (group_holders see o ++ hand)) ++ ds) none
+pub holders_taken : {P : Type 0} {ghosts : Ghosts P} (see : P → Seen) (h : House P ghosts) (g : Imported P ghosts) → still_pieces see g.public ≡ [] → lent_pieces see g.public ≡ [] → h.hand.items ≡ [] → h.group ≡ None → holders see h ++ disk_holders see g.base.disks.items ≡ holders see (record { volumes = h.volumes; group = Some g; hand = h.hand })
+holders_taken {P = P} {ghosts = ghosts} see h g still lent ready none =
+    ap (λ (o : Option (Imported P ghosts)). (vs ++ (group_holders see o ++ hand)) ++ ds) none
     ∙ ap (λ ks. (vs ++ ks) ++ ds) empty
     ∙ ap (λ ks. ks ++ ds) (append-nil vs)
     ∙ ap (λ ks. vs ++ ks) (sym (append-nil ds) ∙ ap (λ ks. ds ++ ks) (sym empty))
+    ∙ ap (λ ks. vs ++ (ks ++ hand)) (sym (unparted_holders see g still lent))
   where
     vs : List Holder
     vs = map (volume_holder see) h.volumes.entries
@@ -104,10 +114,11 @@ members_same good fs = mapped (good_looks good fs) ∙ ap (map member_of) (sym (
     mapped (g ∷ gs) = ap (λ ms. member_of (candidate_of g) ∷ ms) (mapped gs)
 
 -- the disks of a configuration that was found, as the house takes them in
-module _ {P : Type 0} (see : P → Seen) (dg : Word) (names : List Word) (disks : List DiskAt) (first now mid : Shelved) (h : House P) (ds : List (GroupDevice P)) (es : Vec (Disk P) Global) (given : Given) (after : Config) (v : Vec ℕ Global) (text : List ℕ) (text_is : text ≡ v.items)
+module _ {P : Type 0} {ghosts : Ghosts P} (see : P → Seen) (dg : Word) (names : List Word) (disks : List DiskAt) (first now mid : Shelved) (h : House P ghosts) (ds : List (GroupDevice P)) (es : Vec (Disk P) Global) (given : Given) (after : Config) (v : Vec ℕ Global) (text : List ℕ) (text_is : text ≡ v.items)
     (since : IsSince see all_read dg names first now h (map (looked see) ds)) (looks : AreLooked see dg ds) (given_is : IsGiven dg given (map (looked see) ds))
     (judged : TextJudged dg (text_of given.text) given.good (labels_in (candidates_of (map (looked see) ds))) (is_started h.volumes) (Ready after v))
-    (back : IsBack (beside now (holders see h) (map (looked see) ds)) (scene_of mid (holders see h ++ disk_holders see es.items))) (made : seen_disks see es.items ≡ disks_in (good_looks given.good (map (looked see) ds))) where
+    (back : IsBack (beside now (holders see h) (map (looked see) ds)) (scene_of mid (holders see h ++ disk_holders see es.items))) (made : seen_disks see es.items ≡ disks_in (good_looks given.good (map (looked see) ds)))
+    (public : Public P ghosts) (still : still_pieces see public ≡ []) (lent : lent_pieces see public ≡ []) (running : public.running.entries ≡ []) (left : public.left.items ≡ []) where
   abbrev fs : List Looked
   fs = map (looked see) ds
 
@@ -124,21 +135,45 @@ module _ {P : Type 0} (see : P → Seen) (dg : Word) (names : List Word) (disks 
   can = committable see dg ds looks given given_is es.items made
 
   -- the group as it was found
-  abbrev pub found_group : Imported P
-  found_group = record { config = ready.config; base = group_with dg given es }
+  abbrev pub found_group : Imported P ghosts
+  found_group = record { config = ready.config; base = group_with dg given es; public = public }
 
   -- the house as if that group were imported
-  abbrev pub found_house : House P
+  abbrev pub found_house : House P ghosts
   found_house = record { volumes = h.volumes; group = Some found_group; hand = h.hand }
 
   same_holders : holders see h ++ disk_holders see es.items ≡ holders see found_house
-  same_holders = holders_taken see h found_group since.ready since.none
+  same_holders = holders_taken see h found_group still lent since.ready since.none
 
   are_held : AreHeld mid.held (holders see found_house)
   are_held = subst (AreHeld mid.held) same_holders back.held
 
   writable : IsWritable see found_group
-  writable = record { slots = can.slots; ready = can.ready }
+  writable = record { slots = can.slots; ready = can.ready; private = private_by (seen_disks see es.items) can.ready can.sized }
+    where
+      private_by : (xs : List DiskHeld) → AllOf IsReady xs → AreSized xs → AllOf HasPrivate xs
+      private_by [] all sized = tt
+      private_by (x ∷ xs) all sized = (record { front = all.0.sectors; device = subst (λ n. 2048 ≤ n) sized.0 all.0.sectors }, private_by xs all.1 sized.1)
+
+  -- none of them is parted
+  wholes : whole_members see found_group ≡ seen_disks see es.items
+  wholes = unparted see found_group still lent
+
+  idle : (g : Imported P ghosts) → g.public ≡ public → IsGroupIdle g
+  idle g same = record { running = ap (λ p. p.running.entries) same ∙ running; left = ap (λ p. p.left.items) same ∙ left }
+
+  each_disk : AllOf (IsTakenFrom mid.held) (map holder_in (seen_disks see es.items))
+  each_disk = subst (AllOf (IsTakenFrom mid.held)) (mapped_holders see es.items) (all_back (IsTakenFrom mid.held) (holders see h) (disk_holders see es.items) back.held.each)
+
+  apart_disks : AreApart (map holder_in (seen_disks see es.items))
+  apart_disks = subst AreApart (mapped_holders see es.items) (apart_back (holders see h) (disk_holders see es.items) back.held.apart)
+
+  fronts_by : (xs : List DiskHeld) → AllOf (IsTakenFrom mid.held) (map holder_in xs) → AllOf IsReady xs → AllOf IsFront xs
+  fronts_by [] each all = tt
+  fronts_by (x ∷ xs) each all = (record { start = each.0.0; private = all.0.sectors }, fronts_by xs each.1 all.1)
+
+  parted_found : AreParted (seen_disks see es.items) (still_pieces see public ++ lent_pieces see public)
+  parted_found = (founded mid.held back.held.numbers see found_group still lent (idle found_group refl) (fronts_by (seen_disks see es.items) each_disk can.ready) can.sized each_disk apart_disks).parted
 
   abbrev start : Scene
   start = scene see (at first h)
@@ -192,6 +227,10 @@ module _ {P : Type 0} (see : P → Seen) (dg : Word) (names : List Word) (disks 
     abbrev world_group : Group
     world_group = record { config = ready.config; good = good_mask (seen_disks see es.items); members = map member_in (seen_disks see es.items); sequence = given.sequence }
 
+    -- by their whole devices they are the same
+    same_world : world_whole see found_group ≡ world_group
+    same_world = ap (λ l. let w : Group = record { config = ready.config; good = good_mask l; members = map member_in l; sequence = given.sequence } in w) wholes
+
     group_is_found : world_group ≡ group_found offer (candidates_of fs) ready.config
     group_is_found =
         let one : good_mask (seen_disks see es.items) ≡ given.good = ap good_mask made ∙ mask_is given.good fs given_is.chosen.mask_fits given_is.there (subst (AllOf HasSlot) made (low_disks (seen_disks see es.items) can.ready)) in
@@ -211,10 +250,10 @@ module _ {P : Type 0} (see : P → Seen) (dg : Word) (names : List Word) (disks 
 
   -- the commit is done, or is stopped
   module _ (base : Base P) where
-    abbrev g' : Imported P
-    g' = record { config = after; base = base }
+    abbrev g' : Imported P ghosts
+    g' = record { config = after; base = base; public = public }
 
-    abbrev pub taken_house : House P
+    abbrev pub taken_house : House P ghosts
     taken_house = record { volumes = h.volumes; group = Some g'; hand = h.hand }
 
     printed : IsTextOf after text
@@ -227,7 +266,13 @@ module _ {P : Type 0} (see : P → Seen) (dg : Word) (names : List Word) (disks 
     in_name = named see dg ds looks given given_is after v.items ready_labels
 
     written_in : IsTried see text found_group.base base → IsWrittenIn see mid found_house found_group g' text
-    written_in tried = record { has = refl; held = are_held; writable = writable; tried = tried }
+    written_in tried = record { has = refl; held = are_held; writable = writable; tried = tried; public = refl }
+
+    whole_now : IsTried see text found_group.base base → IsGroupWhole see g'
+    whole_now tried = record {
+      parted = parted_committed (given.sequence + 1) base.sequence text (seen_disks see es.items) (members see base) (still_pieces see public ++ lent_pieces see public) tried.committed.goes parted_found;
+      idle = idle g' refl;
+    }
 
     but_group : IsTried see text found_group.base base → KeepsButGroup see (at mid taken_house)
     but_group tried = record {
@@ -235,6 +280,7 @@ module _ {P : Type 0} (see : P → Seen) (dg : Word) (names : List Word) (disks 
       ordered = since.keeps.house.ordered;
       hand = since.keeps.house.hand;
       volumes = since.keeps.house.volumes;
+      whole = whole_now tried;
     }
 
     on_faults : IsTried see text found_group.base base → FaultsGoOn start (scene see (at mid taken_house))
@@ -246,9 +292,10 @@ module _ {P : Type 0} (see : P → Seen) (dg : Word) (names : List Word) (disks 
       text = subst (IsTextOf after) (sym finished.carries.holds) printed;
       first = given.sequence + 1;
       carries = subst (λ t. CarriesText see (given.sequence + 1) t base) (sym finished.carries.holds) finished.carries;
-      sized = sized_now (given.sequence + 1) base.sequence text see es.items base.disks.items finished.tried.committed.goes can.sized;
+      sized = sized_after (written_in finished.tried) (subst AreSized (sym wholes) can.sized);
       slots = slots_now (given.sequence + 1) base.sequence text see es.items base.disks.items finished.tried.committed.goes can.slots;
       recorded = recorded_now (given.sequence + 1) base.sequence text see after after refl es.items base.disks.items finished.tried.committed.goes (recorded_disks see dg ds looks given given_is after v.items ready_labels es.items made);
+      whole = whole_now finished.tried;
     }
 
     taken_done : IsFinished see text found_group.base base → StageGoes {T = Unit {0}} see (stage.Import dg) disks (Ok tt) (at first h) (at mid taken_house)
@@ -267,7 +314,7 @@ module _ {P : Type 0} (see : P → Seen) (dg : Word) (names : List Word) (disks 
             n,
             record { told = there.told; devices_are = there.devices_are; volumes_are = there.volumes_are; group_is = refl; counts = there.counts },
             later_trans m.counts (counts_of taken) n.counts (later_found m is) later,
-            (none_then m is, k, is_between m is n later, (x_alone w after, importing m is (x_alone w after) refl refl refl refl, committed_alone w k at_k finished printed short in_name)),
+            (none_then m is, k, is_between m is n later, (x_alone w after, importing m is (x_alone w after) (same_world m is) refl refl refl, committed_alone w k at_k finished printed short in_name)),
           );
       gives = tt;
       still = λ e. cc;
@@ -289,7 +336,7 @@ module _ {P : Type 0} (see : P → Seen) (dg : Word) (names : List Word) (disks 
             stopped_at,
             but_group_on (alone w) (middle m is) (is_found m is) None,
             later_trans m.counts (counts_of taken) stopped_at.counts (later_found m is) later,
-            inr (inr (middle m is, is_between m is stopped_at later, (x_alone w after, importing m is (x_alone w after) refl refl refl refl, stopped))),
+            inr (inr (middle m is, is_between m is stopped_at later, (x_alone w after, importing m is (x_alone w after) (same_world m is) refl refl refl, stopped))),
           )
 
     taken_lost : (tried : IsTried see text found_group.base base) → Each HasRisen (members see found_group.base) (members see base) → StageGoes {T = Unit {0}} see (stage.Import dg) disks (Err (stops.Ended ends.GroupLost)) (at first h) (at mid taken_house)
@@ -312,7 +359,7 @@ module _ {P : Type 0} (see : P → Seen) (dg : Word) (names : List Word) (disks 
       blamed = tt;
     }
 
-    taken_by : (result : Result (Unit {0}) Stop) → CommitEnds see result text found_group.base base → (result ≡ Err stops.OutOfMemory → ⊥) → StageGoes {T = Unit {0}} see (stage.Import dg) disks result (at first h) (at mid taken_house)
+    pub taken_by : (result : Result (Unit {0}) Stop) → CommitEnds see result text found_group.base base → (result ≡ Err stops.OutOfMemory → ⊥) → StageGoes {T = Unit {0}} see (stage.Import dg) disks result (at first h) (at mid taken_house)
     taken_by (Ok u) is on = taken_done is
     taken_by (Err stops.OutOfMemory) is on = absurd (on refl)
     taken_by (Err (stops.Ended ends.GroupLost)) is on = taken_lost is.0 is.1
@@ -322,9 +369,20 @@ module _ {P : Type 0} (see : P → Seen) (dg : Word) (names : List Word) (disks 
     taken_by (Err (stops.Ended (ends.Fault told device parts))) is on = absurd is
     taken_by (Err (stops.Ended ends.ShelfFailed)) is on = absurd is
 
+-- the same, or turned away
+module _ {P : Type 0} {ghosts : Ghosts P} (see : P → Seen) (dg : Word) (names : List Word) (disks : List DiskAt) (first now mid : Shelved) (h : House P ghosts) (ds : List (GroupDevice P)) (es : Vec (Disk P) Global) (given : Given) (after : Config) (v : Vec ℕ Global) (text : List ℕ) (text_is : text ≡ v.items)
+    (since : IsSince see all_read dg names first now h (map (looked see) ds)) (looks : AreLooked see dg ds) (given_is : IsGiven dg given (map (looked see) ds))
+    (judged : TextJudged dg (text_of given.text) given.good (labels_in (candidates_of (map (looked see) ds))) (is_started h.volumes) (Ready after v))
+    (back : IsBack (beside now (holders see h) (map (looked see) ds)) (scene_of mid (holders see h ++ disk_holders see es.items))) (made : seen_disks see es.items ≡ disks_in (good_looks given.good (map (looked see) ds))) where
+  abbrev finds : List Looked
+  finds = map (looked see) ds
+
+  abbrev before : Scene
+  before = scene see (at first h)
+
   -- the disks went back for want of memory
-  turned_away : (last : Shelved) (k : House P) → IsTurnedAway see es mid h last k → StageGoes {T = Unit {0}} see (stage.Import dg) disks (Err stops.OutOfMemory) (at first h) (at last k)
-  turned_away last k away = subst (λ (x : House P). StageGoes {T = Unit {0}} see (stage.Import dg) disks (Err stops.OutOfMemory) (at first h) (at last x)) (sym away.house_is) (starves see dg disks h first last (record { held = held_back; reads = reads_back }) since.keeps)
+  turned_away : (last : Shelved) (k : House P ghosts) → IsTurnedAway see es mid h last k → StageGoes {T = Unit {0}} see (stage.Import dg) disks (Err stops.OutOfMemory) (at first h) (at last k)
+  turned_away last k away = subst (λ (x : House P ghosts). StageGoes {T = Unit {0}} see (stage.Import dg) disks (Err stops.OutOfMemory) (at first h) (at last x)) (sym away.house_is) (starves see dg disks h first last (record { held = held_back; reads = reads_back }) since.keeps)
     where
       hs : List Holder
       hs = holders see h
@@ -341,18 +399,18 @@ module _ {P : Type 0} (see : P → Seen) (dg : Word) (names : List Word) (disks 
           (subst (λ ks. OnlyRead (scene_of mid (hs ++ ks)) (scene_of last (hs ++ []))) (append-nil (disk_holders see es.items))
           (only_unmoved (scene_of mid (hs ++ (disk_holders see es.items ++ []))) (scene_of last (hs ++ [])) (away.back.moved hs [] behind)))
 
-      reads_back : OnlyRead start (scene_of last hs)
+      reads_back : OnlyRead before (scene_of last hs)
       reads_back =
-          only_trans start (beside now hs fs) (scene_of last hs) since.reads
-          (only_trans (beside now hs fs) (scene_of mid (hs ++ disk_holders see es.items)) (scene_of last hs) (only_unmoved (beside now hs fs) (scene_of mid (hs ++ disk_holders see es.items)) back.moved) moved_back)
+          only_trans before (beside now hs finds) (scene_of last hs) since.reads
+          (only_trans (beside now hs finds) (scene_of mid (hs ++ disk_holders see es.items)) (scene_of last hs) (only_unmoved (beside now hs finds) (scene_of mid (hs ++ disk_holders see es.items)) back.moved) moved_back)
 
-  taken_in : (result : Result (Unit {0}) Stop) (last : Shelved) (k : House P) → IsTakenIn see dg given after text es result mid h last k → (result ≡ Err stops.OutOfMemory → ⊥) → StageGoes {T = Unit {0}} see (stage.Import dg) disks result (at first h) (at last k)
+  taken_in : (result : Result (Unit {0}) Stop) (last : Shelved) (k : House P ghosts) → IsTakenIn see dg given after text es result mid h last k → (result ≡ Err stops.OutOfMemory → ⊥) → StageGoes {T = Unit {0}} see (stage.Import dg) disks result (at first h) (at last k)
   taken_in result last k in_house on =
-      subst (λ (x : House P). StageGoes {T = Unit {0}} see (stage.Import dg) disks result (at first h) (at last x)) (sym in_house.house_is)
-      (subst (λ (s : Shelved). StageGoes {T = Unit {0}} see (stage.Import dg) disks result (at first h) (at s (taken_house in_house.base))) (sym in_house.shelf_is)
-      (taken_by in_house.base result in_house.ends on))
+      subst (λ (x : House P ghosts). StageGoes {T = Unit {0}} see (stage.Import dg) disks result (at first h) (at last x)) (sym in_house.house_is)
+      (subst (λ (s : Shelved). StageGoes {T = Unit {0}} see (stage.Import dg) disks result (at first h) (at s (let k : House P ghosts = record { volumes = h.volumes; group = Some (record { config = after; base = in_house.base; public = in_house.public }); hand = h.hand } in k))) (sym in_house.shelf_is)
+      (taken_by see dg names disks first now mid h ds es given after v text text_is since looks given_is judged back made in_house.public in_house.still in_house.lent in_house.idle.running in_house.idle.left in_house.base result in_house.ends on))
 
-  pub takes_in : (result : Result (Unit {0}) Stop) (last : Shelved) (k : House P) → TakesIn see dg given after text es result mid h last k → StageGoes {T = Unit {0}} see (stage.Import dg) disks result (at first h) (at last k)
+  pub takes_in : (result : Result (Unit {0}) Stop) (last : Shelved) (k : House P ghosts) → TakesIn see dg given after text es result mid h last k → StageGoes {T = Unit {0}} see (stage.Import dg) disks result (at first h) (at last k)
   takes_in (Ok u) last k is = taken_in (Ok u) last k is (λ e. cc)
   takes_in (Err (stops.Ended end)) last k is = taken_in (Err (stops.Ended end)) last k is (λ e. cc)
   takes_in (Err stops.OutOfMemory) last k is = turned_away last k is

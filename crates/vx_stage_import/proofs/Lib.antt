@@ -20,5 +20,6 @@ pub mod Goods
 pub mod Readiness
 pub mod Tellings
 pub mod Masks
+pub mod Grouped
 pub mod Holders
 pub mod Refusals

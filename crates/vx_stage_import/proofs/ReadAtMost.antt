@@ -1,6 +1,7 @@
 -- Devices that nobody holds, and what an import reads of each at most.
 use Rattle.std.proofs.Common.{◌≡◌, ◌∙◌, ◌⊎◌, ◌≤◌, ◌+◌, ℕ, Bool, true, false, cond, List, [], Option, Some, None, refl, sym, subst, inl, inr, arith}
 use Rattle.std.specs.Prelude.{IfSome, IsSome}
+use Rattle.vx_pages.specs.declared.local_piece.LocalPiece.{Ghosts}
 use Rattle.vx_base.specs.Named.{Word}
 use Rattle.vx_header.specs.Said.{toggle_of}
 use Rattle.vx_header.specs.Named.{header_of}
@@ -34,7 +35,7 @@ header_within group d = by (names_group group (header_of (d.contents 0)))
     by true = omega arith
     by false = omega arith
 
-module _ {P : Type 0} (see : P → Seen) (group : Word) (first : Shelved) (h : House P) (keeps : Keeps see (at first h)) (m : Moment) (is : IsMoment see (at first h) m) where
+module _ {P : Type 0} {ghosts : Ghosts P} (see : P → Seen) (group : Word) (first : Shelved) (h : House P ghosts) (keeps : Keeps see (at first h)) (m : Moment) (is : IsMoment see (at first h) m) where
   abbrev start : Scene
   start = scene see (at first h)
 

@@ -3,6 +3,7 @@ use Rattle.std.proofs.Common.{◌≡◌, ◌∙◌, ◌≤◌, ◌+◌, ℕ, fal
 use Rattle.std.specs.Prelude.{IfSome}
 use Rattle.std.proofs.lemmas.Bool.{cond-true}
 use Rattle.std.proofs.lemmas.Slice.Eq.{bytes_eq-Decides}
+use Rattle.vx_pages.specs.declared.local_piece.LocalPiece.{Ghosts}
 use Rattle.vx_base.specs.Blocks.{Contents}
 use Rattle.vx_base.specs.Named.{Word}
 use Rattle.vx_header.specs.Named.{Label, header_of}
@@ -30,7 +31,7 @@ use Rattle.vx_stage_import.proofs.ReadAtMost.{IsReadSo, header_so, reads_so, not
 sectors_of : (group : Word) (label : Label) (d : Device) → header_of (d.contents 0) ≡ Some label → label.group ≡ group → import_sectors group d ≡ all_read d.contents
 sectors_of group label d header named = cond-true _ _ _ (ap (names_group group) header ∙ (bytes_eq-Decides label.group group).1 named)
 
-module _ {P : Type 0} (see : P → Seen) (group : Word) (names : List Word) (first now : Shelved) (h : House P) (fs : List Looked) (since : IsSince see all_read group names first now h fs) (m : Moment) (is : IsMoment see (at first h) m) where
+module _ {P : Type 0} {ghosts : Ghosts P} (see : P → Seen) (group : Word) (names : List Word) (first now : Shelved) (h : House P ghosts) (fs : List Looked) (since : IsSince see all_read group names first now h fs) (m : Moment) (is : IsMoment see (at first h) m) where
   abbrev start : Scene
   start = scene see (at first h)
 

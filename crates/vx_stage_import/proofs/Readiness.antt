@@ -170,7 +170,7 @@ module _ {P : Type 0} (see : P → Seen) (dg : Word) (ds : List (GroupDevice P))
     ready = on es same IsReady (all_each Three (λ f. IsReady (disk_in f)) (λ f h. h.0) goods good_commits);
     headed = on es same (IsMemberOf dg) (all_each Three (λ f. IsMemberOf dg (disk_in f)) (λ f h. h.1) goods good_commits);
     below = on es same (IsBelow dg given.sequence) (all_each Three (λ f. IsBelow dg given.sequence (disk_in f)) (λ f h. h.2) goods good_commits);
-    sized = all_unmapped Sized (disk_held see) es (on es same Sized good_sized);
+    sized = on es same Sized good_sized;
     slots = slots_differ see es (subst ArePlaced (sym (ap (map (λ h. h.slot)) same ∙ disk_slots goods)) (good_placed given.good fs placed));
   }
 

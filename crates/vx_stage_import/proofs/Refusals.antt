@@ -1,5 +1,6 @@
 -- What was found is refused, or of no use: all devices go back.
 use Rattle.std.proofs.Common.{◌≡◌, ◌∙◌, ◌⊎◌, ◌≤◌, ℕ, Bool, true, Some, List, [], ◌∷◌, ◌++◌, map, length, Err, refl, sym, ap, subst, inl, inr, arith}
+use Rattle.vx_pages.specs.declared.local_piece.LocalPiece.{Ghosts}
 use Rattle.vx_base.specs.Named.{Word}
 use Rattle.vx_piece.specs.Seen.{Seen}
 use Rattle.vx_rules.specs.Rules.{first_broken}
@@ -68,7 +69,7 @@ few_disks see dg good ds es looks made =
     let c = looks_long see ds in
     let d = few_looked see dg ds looks in omega (arith, a, b, c, d)
 
-module _ {P : Type 0} (see : P → Seen) (dg : Word) (names : List Word) (disks : List DiskAt) (first now new : Shelved) (h : House P) (fs : List Looked) (since : IsSince see all_read dg names first now h fs) (back : IsBack (beside now (holders see h) fs) (scene see (at new h))) where
+module _ {P : Type 0} {ghosts : Ghosts P} (see : P → Seen) (dg : Word) (names : List Word) (disks : List DiskAt) (first now new : Shelved) (h : House P ghosts) (fs : List Looked) (since : IsSince see all_read dg names first now h fs) (back : IsBack (beside now (holders see h) fs) (scene see (at new h))) where
   read : AreRead (scene see (at first h)) (scene see (at new h))
   read = since_back see dg names first now new h fs since back
 
@@ -144,7 +145,7 @@ pub judged_labels : {P : Type 0} (see : P → Seen) (dg : Word) (good : ℕ) (st
 judged_labels see dg good started j text ds judges = subst (λ ls. TextJudged dg text good ls started j) (found_labels see ds) judges
 
 -- the search found nothing
-pub searched_back : {P : Type 0} (see : P → Seen) (dg : Word) (names : List Word) (disks : List DiskAt) (first mid new : Shelved) (h : House P) → IsAsked see names first mid h → AreRead (scene see (at mid h)) (scene see (at new h)) → (stop : Stop) → SearchStops stop names (scene see (at mid h)) (scene see (at new h)) → StageGoes {T = Unit {0}} see (stage.Import dg) disks (Err stop) (at first h) (at new h)
+pub searched_back : {P : Type 0} {ghosts : Ghosts P} (see : P → Seen) (dg : Word) (names : List Word) (disks : List DiskAt) (first mid new : Shelved) (h : House P ghosts) → IsAsked see names first mid h → AreRead (scene see (at mid h)) (scene see (at new h)) → (stop : Stop) → SearchStops stop names (scene see (at mid h)) (scene see (at new h)) → StageGoes {T = Unit {0}} see (stage.Import dg) disks (Err stop) (at first h) (at new h)
 searched_back see dg names disks first mid new h asked read (stops.Ended end) is =
     subst (λ e. StageGoes {T = Unit {0}} see (stage.Import dg) disks (Err (stops.Ended e)) (at first h) (at new h)) (sym is.0)
     (loses see dg disks h first new (asked_read see names first mid new h asked read) asked.keeps (asked_reads see dg names first mid new h asked read is.2) (λ told. is.1 (asked.still.reads.told told)))

@@ -1,6 +1,7 @@
 -- What holds since the shelf told its names, as devices are found and their toggles read.
 use Rattle.std.proofs.Common.{◌≡◌, ◌∙◌, ◌⊎◌, ◌≤◌, ◌+◌, ℕ, Bool, true, false, Option, Some, None, List, [], ◌∷◌, ◌++◌, map, refl, sym, ap, subst, inl, inr, arith}
 use Rattle.std.specs.Prelude.{IfSome, IsSome}
+use Rattle.vx_pages.specs.declared.local_piece.LocalPiece.{Ghosts}
 use Rattle.vx_base.specs.Blocks.{Contents}
 use Rattle.vx_base.specs.Counts.{Rose}
 use Rattle.vx_base.specs.Named.{Word, SameUnder}
@@ -39,11 +40,11 @@ use Rattle.vx_house.specs.Reading.{Stays, OnlyRead, AreRead}
 use Rattle.vx_house.proofs.Readings.{IsReadOn, only_trans, only_each, only_unmoved, each_behind, each_later}
 use Rattle.vx_house.proofs.Refusals.{told_free, only_asked, held_asked}
 
-pub unread_asked : {P : Type 0} (see : P → Seen) (first now : Shelved) (h : House P) → now.free ≡ first.free → (name : Word) → reads_at (scene see (at now h)) name ≡ reads_at (scene see (at first h)) name
+pub unread_asked : {P : Type 0} {ghosts : Ghosts P} (see : P → Seen) (first now : Shelved) (h : House P ghosts) → now.free ≡ first.free → (name : Word) → reads_at (scene see (at now h)) name ≡ reads_at (scene see (at first h)) name
 unread_asked see first now h stays name = same_reads (scene see (at first h)) (scene see (at now h)) name (ap (λ f. seen_in (held_as (holders see h) name) f name) stays)
 
 -- the names are told: nothing was taken
-pub names_asked : {P : Type 0} (see : P → Seen) (names : List Word) (first now : Shelved) (h : House P) → Keeps see (at first h) → h.hand.items ≡ [] → h.group ≡ None → IfSome first.free (λ devices. Lists names devices first.held)
+pub names_asked : {P : Type 0} {ghosts : Ghosts P} (see : P → Seen) (names : List Word) (first now : Shelved) (h : House P ghosts) → Keeps see (at first h) → h.hand.items ≡ [] → h.group ≡ None → IfSome first.free (λ devices. Lists names devices first.held)
     → SameUnder first.held now.held → now.free ≡ first.free → SameCounts first.counted now.counted → first.faults ≤ now.faults → IsAsked see names first now h
 names_asked see names first now h keeps ready none lists same stays counts later = record {
   keeps = keeps;
@@ -55,7 +56,7 @@ names_asked see names first now h keeps ready none lists same stays counts later
 }
 
 -- the shelf was asked, and nothing was taken
-pub still_asked : {P : Type 0} (see : P → Seen) (first now : Shelved) (h : House P) → Keeps see (at first h) → SameUnder first.held now.held → now.free ≡ first.free → SameCounts first.counted now.counted → first.faults ≤ now.faults → AreRead (scene see (at first h)) (scene see (at now h))
+pub still_asked : {P : Type 0} {ghosts : Ghosts P} (see : P → Seen) (first now : Shelved) (h : House P ghosts) → Keeps see (at first h) → SameUnder first.held now.held → now.free ≡ first.free → SameCounts first.counted now.counted → first.faults ≤ now.faults → AreRead (scene see (at first h)) (scene see (at now h))
 still_asked see first now h keeps same stays counts later = record { held = held_asked first now same stays counts later (holders see h) keeps.devices; reads = only_asked first now same stays counts later (holders see h) }
 
 -- one that is met from then on is met from the beginning on
@@ -86,7 +87,7 @@ slots_mapped see [] = refl
 slots_mapped see (d ∷ ds) = ap (λ ns. d.header.slot ∷ ns) (slots_mapped see ds)
 
 -- the devices were found
-pub since_found : {P : Type 0} (see : P → Seen) (group : Word) (names : List Word) (first mid now : Shelved) (h : House P) (room : ℕ) (ds : List (GroupDevice P)) → IsAsked see names first mid h → AreFinds see group room ds
+pub since_found : {P : Type 0} {ghosts : Ghosts P} (see : P → Seen) (group : Word) (names : List Word) (first mid now : Shelved) (h : House P ghosts) (room : ℕ) (ds : List (GroupDevice P)) → IsAsked see names first mid h → AreFinds see group room ds
     → GatherGoes Done group names (scene see (at mid h)) (beside now (holders see h) (map (looked see) ds)) (map (looked see) ds) → IsSince see header_alone group names first now h (map (looked see) ds)
 since_found see group names first mid now h room ds asked are goes = record {
   keeps = asked.keeps;
@@ -134,7 +135,7 @@ since_found see group names first mid now h room ds asked are goes = record {
         by None = tt
         by (Some contents) = most
 
-module _ {P : Type 0} (see : P → Seen) (group : Word) (names : List Word) (first now : Shelved) (h : House P) (room : ℕ) (ds es : List (GroupDevice P)) (since : IsSince see header_alone group names first now h (map (looked see) ds)) (are : AreFinds see group room ds) (each : Each Inspects (map (looked see) ds) (map (looked see) es)) (looks : AreLooked see group es) where
+module _ {P : Type 0} {ghosts : Ghosts P} (see : P → Seen) (group : Word) (names : List Word) (first now : Shelved) (h : House P ghosts) (room : ℕ) (ds es : List (GroupDevice P)) (since : IsSince see header_alone group names first now h (map (looked see) ds)) (are : AreFinds see group room ds) (each : Each Inspects (map (looked see) ds) (map (looked see) es)) (looks : AreLooked see group es) where
   abbrev fs : List Looked
   fs = map (looked see) ds
 
@@ -223,17 +224,17 @@ module _ {P : Type 0} (see : P → Seen) (group : Word) (names : List Word) (fir
       met_then name (inr met) = inr (met_on group name start (beside now (holders see h) fs) (beside now (holders see h) gs) fs gs inspected (λ slot has. slot_inspected fs gs each slot name has) met)
 
 -- all devices that were found go back
-pub since_back : {P : Type 0} (see : P → Seen) (group : Word) (names : List Word) (first now new : Shelved) (h : House P) (fs : List Looked) → IsSince see all_read group names first now h fs → IsBack (beside now (holders see h) fs) (scene see (at new h)) → AreRead (scene see (at first h)) (scene see (at new h))
+pub since_back : {P : Type 0} {ghosts : Ghosts P} (see : P → Seen) (group : Word) (names : List Word) (first now new : Shelved) (h : House P ghosts) (fs : List Looked) → IsSince see all_read group names first now h fs → IsBack (beside now (holders see h) fs) (scene see (at new h)) → AreRead (scene see (at first h)) (scene see (at new h))
 since_back see group names first now new h fs since back = record {
   held = back.held;
   reads = only_trans (scene see (at first h)) (beside now (holders see h) fs) (scene see (at new h)) since.reads (only_unmoved (beside now (holders see h) fs) (scene see (at new h)) back.moved);
 }
 
 -- the search found nothing
-pub asked_read : {P : Type 0} (see : P → Seen) (names : List Word) (first mid new : Shelved) (h : House P) → IsAsked see names first mid h → AreRead (scene see (at mid h)) (scene see (at new h)) → AreRead (scene see (at first h)) (scene see (at new h))
+pub asked_read : {P : Type 0} {ghosts : Ghosts P} (see : P → Seen) (names : List Word) (first mid new : Shelved) (h : House P ghosts) → IsAsked see names first mid h → AreRead (scene see (at mid h)) (scene see (at new h)) → AreRead (scene see (at first h)) (scene see (at new h))
 asked_read see names first mid new h asked read = record { held = read.held; reads = only_trans (scene see (at first h)) (scene see (at mid h)) (scene see (at new h)) asked.still.reads read.reads }
 
-pub asked_reads : {P : Type 0} (see : P → Seen) (group : Word) (names : List Word) (first mid new : Shelved) (h : House P) (asked : IsAsked see names first mid h) (read : AreRead (scene see (at mid h)) (scene see (at new h))) → (IsSome mid.free → HeadersRead names (scene see (at mid h)) (scene see (at new h))) → (m : Moment) → IsMoment see (at first h) m → ImportReads group m.world m.counts (counts_of (scene see (at new h)))
+pub asked_reads : {P : Type 0} {ghosts : Ghosts P} (see : P → Seen) (group : Word) (names : List Word) (first mid new : Shelved) (h : House P ghosts) (asked : IsAsked see names first mid h) (read : AreRead (scene see (at mid h)) (scene see (at new h))) → (IsSome mid.free → HeadersRead names (scene see (at mid h)) (scene see (at new h))) → (m : Moment) → IsMoment see (at first h) m → ImportReads group m.world m.counts (counts_of (scene see (at new h)))
 asked_reads see group names first mid new h asked read headers m is =
     reads_so see group first h asked.keeps m is (scene see (at new h)) ((asked_read see names first mid new h asked read).reads.seen is.told)
     (λ name. header_so see group first h asked.keeps m is names asked.lists (scene see (at new h)) name

@@ -1,5 +1,6 @@
 -- The import of a group, once its devices were looked for.
 use Rattle.std.specs.Prelude.{◌≡◌, ℕ, ◌+◌, ◌≤◌, false, List, [], ◌++◌, map, Option, Some, None, IsSome, IfSome}
+use Rattle.vx_pages.specs.declared.local_piece.LocalPiece.{Ghosts}
 use Rattle.vx_base.specs.Counts.{Rose}
 use Rattle.vx_base.specs.Blocks.{Contents}
 use Rattle.vx_base.specs.Named.{Word}
@@ -33,7 +34,7 @@ SearchStops (stops.Ended end) names old new = (end ≡ ends.Lost []) × IsSomeCu
 SearchStops stops.OutOfMemory names old new = Unit {0}
 
 -- The shelf has told its names, and nothing was taken.
-pub record IsAsked {P : Type 0} (see : P → Seen) (names : List Word) (first now : Shelved) (h : House P) : Type 0 where
+pub record IsAsked {P : Type 0} {ghosts : Ghosts P} (see : P → Seen) (names : List Word) (first now : Shelved) (h : House P ghosts) : Type 0 where
   pub keeps : Keeps see (at first h)
   pub ready : h.hand.items ≡ []
   pub none : h.group ≡ None
@@ -56,7 +57,7 @@ abbrev pub all_read : Contents → ℕ
 all_read contents = 2 + text_sectors (toggle_of (contents 1))
 
 -- Since the shelf told its names, these devices of the group were found: each was met, and all were only read.
-pub record IsSince {P : Type 0} (see : P → Seen) (most : Contents → ℕ) (group : Word) (names : List Word) (first now : Shelved) (h : House P) (fs : List Looked) : Type 0 where
+pub record IsSince {P : Type 0} {ghosts : Ghosts P} (see : P → Seen) (most : Contents → ℕ) (group : Word) (names : List Word) (first now : Shelved) (h : House P ghosts) (fs : List Looked) : Type 0 where
   pub keeps : Keeps see (at first h)
   pub ready : h.hand.items ≡ []
   pub none : h.group ≡ None

@@ -31,5 +31,5 @@ pub record AreCommittable {P : Type 0} (see : P → Seen) (dg : Word) (sequence 
   pub ready : AllOf IsReady (seen_disks see ds)
   pub headed : AllOf (IsMemberOf dg) (seen_disks see ds)
   pub below : AllOf (IsBelow dg sequence) (seen_disks see ds)
-  pub sized : AreSized see ds
+  pub sized : AreSized (seen_disks see ds)
   pub slots : HaveSlots ds

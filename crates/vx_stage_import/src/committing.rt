@@ -60,11 +60,11 @@ fn commit_disks<S: Shelf>(
             Err(Stop::OutOfMemory)
         }
         Err(Stop::Ended(end)) => {
-            house.group = Some(Imported { config, base });
+            house.group = Some(Imported::of(alloc, config, base));
             Err(Stop::Ended(end))
         }
         Ok(()) => {
-            house.group = Some(Imported { config, base });
+            house.group = Some(Imported::of(alloc, config, base));
             Ok(())
         }
     }

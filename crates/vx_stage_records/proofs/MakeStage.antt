@@ -2,6 +2,7 @@
 use Rattle.std.proofs.Common.{◌≡◌, ◌∙◌, inl, inr, Bool, List, [], ◌∷◌, ℕ, Some, None, Option, is_some, Result, Err, refl, sym, ap, subst}
 use Rattle.std.proofs.Math.Path.{subst₂}
 use Rattle.std.specs.List.{filter_map}
+use Rattle.vx_pages.specs.declared.local_piece.LocalPiece.{Ghosts}
 use Rattle.vx_base.specs.Named.{Word}
 use Rattle.vx_piece.specs.Seen.{Seen}
 use Rattle.vx_config_parts.specs.declared.object.Object.{Object}
@@ -52,7 +53,7 @@ making_refused : (text : List ℕ) (w : World) (g : Group) (r : Refusal) → IsU
 making_refused text w g r (inl (line, bad, is)) = inl (line, bad, ap (λ r. ends.Refused r) is)
 making_refused text w g r (inr (added, adds, is)) = inr (added, adds, inl (r, is, refl))
 
-module _ {P : Type 0} (see : P → Seen) (text : List ℕ) (disks : List DiskAt) (shelf : Shelved) (old : House P) (keeps : KeepsHouse see old) (are_held : AreHeld shelf.held (holders see old)) (g : Imported P) (has : old.group ≡ Some g) where
+module _ {P : Type 0} {ghosts : Ghosts P} (see : P → Seen) (text : List ℕ) (disks : List DiskAt) (shelf : Shelved) (old : House P ghosts) (keeps : KeepsHouse see old) (are_held : AreHeld shelf.held (holders see old)) (g : Imported P ghosts) (has : old.group ≡ Some g) where
   -- what the house's started names and configuration have, those of each of its moments have
   there : (Has : (Word → Bool) → List Object → Type 0) → Has (is_running old.volumes) (objects_of g.config) → (m : Moment) → IsMoment see (at shelf old) m → (w : Group) → w.config ≡ g.config → Has (is_started m.world) (objects_of w.config)
   there Has here m is w same = subst₂ Has (λ i vol. same_some see (volume_at old vol) (m.world.volumes vol) (is.volumes_are vol) i) (ap objects_of (sym same)) here
@@ -83,7 +84,7 @@ module _ {P : Type 0} (see : P → Seen) (text : List ℕ) (disks : List DiskAt)
       let here = group_at see (stage.Make text) disks shelf old keeps are_held g has m at_m in
       inr (inl ((here.0, here.1, making_refused text m.world here.0 r (there (λ names os. IsUnready names text os r) why m at_m here.0 here.2)), rests_self m))))
 
-  pub make_goes : (result : Result (Unit {0}) Stop) (g' : Imported P) → MakeEnds see (is_running old.volumes) text result g g' → StageGoes see (stage.Make text) disks result (at shelf old) (at shelf (house see (stage.Make text) disks shelf old keeps are_held g has g'))
+  pub make_goes : (result : Result (Unit {0}) Stop) (g' : Imported P ghosts) → MakeEnds see (is_running old.volumes) text result g g' → StageGoes see (stage.Make text) disks result (at shelf old) (at shelf (house see (stage.Make text) disks shelf old keeps are_held g has g'))
   make_goes result g' (inl (added, ready, ends)) = edits_go see (stage.Make text) disks shelf old keeps are_held g has (Make added ∷ []) (is_stage added ready) result g' ends
   make_goes result g' (inr (same, stop, is, why)) =
       subst (λ h. StageGoes see (stage.Make text) disks result (at shelf old) (at shelf h)) (same_house see (stage.Make text) disks shelf old keeps are_held g has g' same)

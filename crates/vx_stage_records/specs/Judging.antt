@@ -1,6 +1,7 @@
 -- What becomes of the records of a text, before anything is written and behind it.
 use Rattle.std.specs.Prelude.{◌≡◌, ◌⊎◌, ℕ, Bool, Some, None, List, [], ◌∷◌, Result, Err}
 use Rattle.std.specs.List.{filter_map}
+use Rattle.vx_pages.specs.declared.local_piece.LocalPiece.{Ghosts}
 use Rattle.vx_base.specs.Named.{Word}
 use Rattle.vx_piece.specs.Seen.{Seen}
 use Rattle.vx_record.specs.Content.{Content}
@@ -41,7 +42,7 @@ StopsAs IsCause (stops.Ended end) = (r : Refusal) × (end ≡ ends.Refused r) ×
 StopsAs IsCause stops.OutOfMemory = Unit {0}
 
 -- the records are added, or their commit is stopped; or they are refused, or memory is wanting, and the group is as before
-abbrev pub MakeEnds : {P : Type 0} → (P → Seen) → (Word → Bool) → List ℕ → Result (Unit {0}) Stop → Imported P → Imported P → Type 0
+abbrev pub MakeEnds : {P : Type 0} {ghosts : Ghosts P} → (P → Seen) → (Word → Bool) → List ℕ → Result (Unit {0}) Stop → Imported P ghosts → Imported P ghosts → Type 0
 MakeEnds see is_started text result old new =
     ((added : List Object) × IsReady is_started text (objects_of old.config) added × ChangeEnds see (Make added ∷ []) result old new)
     ⊎ ((new ≡ old) × (stop : Stop) × (result ≡ Err stop) × StopsAs (IsUnready is_started text (objects_of old.config)) stop)

@@ -6,7 +6,7 @@ pub returns-in-Ok : goal.returns-in-Ok
 returns-in-Ok g c = record {
   gives = took_one g.S.P.Piece.seen _ c.requires.keeps _ _ refl refl (record { device = c.args.name.now; piece = c.in-Ok.piece })
       (c.push_reserved.ensures.items ∙ search rules)
-      (record { taken = c.in-Ok.ensures.taken; left = c.in-Ok.ensures.left; quiet = c.in-Ok.ensures.quiet (search rules); counted = c.in-Ok.ensures.counted; counts = c.in-Ok.ensures.counts; law = g.met.S.Shelf.counts_are c.args.shelf.now });
+      (record { taken = c.in-Ok.ensures.taken; left = c.in-Ok.ensures.left; quiet = c.in-Ok.ensures.quiet (search rules); counted = c.in-Ok.ensures.counted; counts = c.in-Ok.ensures.counts; law = g.met.S.Shelf.counts_are c.args.shelf.now; numbers = g.met.S.Shelf.numbers_differ c.take.new.self });
 }
 
 pub returns-in-Err-NoDisk : goal.returns-in-Err-NoDisk

@@ -13,6 +13,6 @@ pub returns-in_err-commit : goal.returns-in_err-commit
 returns-in_err-commit g c =
     let p = err_from_is_err_and c.from_residual-in_err-commit.result c.from_residual-in_err-commit.ensures.1 in
     record {
-      ends = rw (p.1, p.2) (stopped_ends g.P.Piece.seen _ c.args.group.now _ c.in_ok-config.field-0.config c.in_ok-config.field-0.text.items c.in_err-commit.field-0.0 refl
+      ends = rw (p.1, p.2) (stopped_ends g.P.Piece.seen _ c.args.group.now _ c.in_ok-config.field-0.config c.in_ok-config.field-0.text.items c.in_err-commit.field-0.0 refl refl
           (record { edited = c.in_ok-config.ensures.planned.0; printed = c.in_ok-config.ensures.planned.1 }) (subst (λ t. CommitEnds g.P.Piece.seen (Err c.in_err-commit.field-0.0) t c.args.group.now.base c.commit.new.base) c.deref.ensures.value c.in_err-commit.ensures.ends));
     }

@@ -16,11 +16,9 @@ add-requires-clause-fresh g c κs within =
 pub add-requires-clause-none : goal.add-requires-clause-none
 add-requires-clause-none g c κs within = rw c.disk_for.ensures (offers_none c.args.group.now.base.name (g.P.Piece.seen c.args.taken.piece).told c.requires.blank)
 
-pub returns : goal.returns
-returns g c = record {
-  ends =
-      join_ends g.P.Piece.seen c.args.pair.now c.args.taken c.disk_for.result c.in-Some.slot c.in-Ok.next c.args.group.now c.add.new.group c.add.result c.disk_for.ensures c.in-Some.ensures
-      (is_fresh g.P.Piece.seen c.args.pair.now c.in-Some.slot c.sectors-sectors.result c.args.taken c.args.group.now c.requires.kept c.sectors-sectors.ensures c.in-Some.ensures.low
-      (c.fits.ensures.more c.if-not-fits.false) (c.fits.ensures.most c.if-not-fits.false) (c.fits.ensures.short c.if-not-fits.false) c.name_is_short.ensures)
-      (subst (λ n. IsPlanned (AddDisk (disk_record c.args.pair.now c.in-Some.slot n) ∷ []) c.args.group.now.config c.in-Ok.next) c.sectors-sectors.ensures c.in-Ok.ensures.planned) c.add.ensures.ends;
-}
+pub returns-clause-ends : goal.returns-clause-ends
+returns-clause-ends g c =
+    join_ends g.P.Piece.seen c.args.pair.now c.args.taken c.disk_for.result c.in-Some.slot c.in-Ok.next c.args.group.now c.add.new.group c.add.result c.disk_for.ensures c.in-Some.ensures
+    (is_fresh g.P.Piece.seen c.args.pair.now c.in-Some.slot c.sectors-sectors.result c.args.taken c.args.group.now c.requires.kept c.sectors-sectors.ensures c.in-Some.ensures.low
+    (c.fits.ensures.more c.if-not-fits.false) (c.fits.ensures.most c.if-not-fits.false) (c.fits.ensures.short c.if-not-fits.false) c.name_is_short.ensures)
+    (subst (λ n. IsPlanned (AddDisk (disk_record c.args.pair.now c.in-Some.slot n) ∷ []) c.args.group.now.config c.in-Ok.next) c.sectors-sectors.ensures c.in-Ok.ensures.planned) c.add.ensures.ends

@@ -1,4 +1,4 @@
-use Rattle.std.proofs.Common.{◌≡◌, ◌∙◌, ◌+◌, ◌++◌, ◌∷◌, [], ℕ, List, sym, ap, length, take, rules, arith}
+use Rattle.std.proofs.Common.{◌≡◌, ◌∙◌, ◌+◌, ◌++◌, ◌∷◌, [], ℕ, sym, ap, take, rules, arith}
 use Rattle.std.proofs.lemmas.List.{take_more, length-take-le}
 use Rattle.vx_plans.specs.Records.{disk_record, sectors_at}
 use Rattle.vx_house.specs.Plain.{plain}

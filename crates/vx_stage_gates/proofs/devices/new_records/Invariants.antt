@@ -1,5 +1,4 @@
-use Rattle.std.proofs.Common.{◌≡◌, ◌∷◌, take}
-use Rattle.vx_config_parts.specs.declared.object.Object.TheVariants.{GroupRecord}
+use Rattle.std.proofs.Common.{◌≡◌, take}
 use Rattle.vx_plans.specs.Records.{new_records}
 use Rattle.vx_house.specs.Plain.{plain}
 use Rattle.vx_stage_gates.proofs.devices.new_records.Given as goal

@@ -9,21 +9,21 @@ pub returns-in-Ok-clause-goes : goal.returns-in-Ok-clause-goes
 returns-in-Ok-clause-goes g c = λ others are.
     look_goes c.args.dg.now c.args.name.now (shelved g.S.Shelf.free g.S.Shelf.held g.S.Shelf.counted g.S.Shelf.faults c.args.shelf.now) (shelved g.S.Shelf.free g.S.Shelf.held g.S.Shelf.counted g.S.Shelf.faults c.take.new.self) (shelved g.S.Shelf.free g.S.Shelf.held g.S.Shelf.counted g.S.Shelf.faults c.look.new.shelf)
     (map (looked g.S.P.Piece.seen) c.args.finds.now.items) (map (looked g.S.P.Piece.seen) c.look.new.finds.items) (g.S.P.Piece.seen c.in-Ok.piece) c.look.ensures.ends.after
-    (record { taken = c.in-Ok.ensures.taken; left = c.in-Ok.ensures.left; quiet = c.take.ensures.quiet (λ e. cc (c.in-Ok.is, e)); counted = c.in-Ok.ensures.counted; counts = c.take.ensures.counts; law = g.met.S.Shelf.counts_are c.args.shelf.now })
+    (record { taken = c.in-Ok.ensures.taken; left = c.in-Ok.ensures.left; quiet = c.take.ensures.quiet (λ e. cc (c.in-Ok.is, e)); counted = c.in-Ok.ensures.counted; counts = c.take.ensures.counts; law = g.met.S.Shelf.counts_are c.args.shelf.now; numbers = g.met.S.Shelf.numbers_differ c.take.new.self })
     c.look.ensures.ends.kept c.look.ensures.ends.same c.look.ensures.ends.most others are c.requires.before c.look.result c.look.ensures.ends.ends
 
 pub returns-in-Ok-clause-before : goal.returns-in-Ok-clause-before
 returns-in-Ok-clause-before g c =
     look_before c.args.dg.now c.args.name.now (shelved g.S.Shelf.free g.S.Shelf.held g.S.Shelf.counted g.S.Shelf.faults c.args.shelf.now) (shelved g.S.Shelf.free g.S.Shelf.held g.S.Shelf.counted g.S.Shelf.faults c.take.new.self) (shelved g.S.Shelf.free g.S.Shelf.held g.S.Shelf.counted g.S.Shelf.faults c.look.new.shelf)
     (map (looked g.S.P.Piece.seen) c.args.finds.now.items) (map (looked g.S.P.Piece.seen) c.look.new.finds.items) (g.S.P.Piece.seen c.in-Ok.piece) c.look.ensures.ends.after
-    (record { taken = c.in-Ok.ensures.taken; left = c.in-Ok.ensures.left; quiet = c.take.ensures.quiet (λ e. cc (c.in-Ok.is, e)); counted = c.in-Ok.ensures.counted; counts = c.take.ensures.counts; law = g.met.S.Shelf.counts_are c.args.shelf.now })
+    (record { taken = c.in-Ok.ensures.taken; left = c.in-Ok.ensures.left; quiet = c.take.ensures.quiet (λ e. cc (c.in-Ok.is, e)); counted = c.in-Ok.ensures.counted; counts = c.take.ensures.counts; law = g.met.S.Shelf.counts_are c.args.shelf.now; numbers = g.met.S.Shelf.numbers_differ c.take.new.self })
     c.look.ensures.ends.kept c.look.ensures.ends.same c.look.result c.look.ensures.ends.ends
 
 pub returns-in-Ok-clause-more : goal.returns-in-Ok-clause-more
 returns-in-Ok-clause-more g c =
     look_more c.args.dg.now c.args.name.now (shelved g.S.Shelf.free g.S.Shelf.held g.S.Shelf.counted g.S.Shelf.faults c.args.shelf.now) (shelved g.S.Shelf.free g.S.Shelf.held g.S.Shelf.counted g.S.Shelf.faults c.take.new.self) (shelved g.S.Shelf.free g.S.Shelf.held g.S.Shelf.counted g.S.Shelf.faults c.look.new.shelf)
     (map (looked g.S.P.Piece.seen) c.args.finds.now.items) (map (looked g.S.P.Piece.seen) c.look.new.finds.items) (g.S.P.Piece.seen c.in-Ok.piece) c.look.ensures.ends.after
-    (record { taken = c.in-Ok.ensures.taken; left = c.in-Ok.ensures.left; quiet = c.take.ensures.quiet (λ e. cc (c.in-Ok.is, e)); counted = c.in-Ok.ensures.counted; counts = c.take.ensures.counts; law = g.met.S.Shelf.counts_are c.args.shelf.now })
+    (record { taken = c.in-Ok.ensures.taken; left = c.in-Ok.ensures.left; quiet = c.take.ensures.quiet (λ e. cc (c.in-Ok.is, e)); counted = c.in-Ok.ensures.counted; counts = c.take.ensures.counts; law = g.met.S.Shelf.counts_are c.args.shelf.now; numbers = g.met.S.Shelf.numbers_differ c.take.new.self })
     c.look.ensures.ends.kept c.look.ensures.ends.same c.look.result c.look.ensures.ends.ends
 
 pub returns-in-Err-OutOfMemory-clause-goes : goal.returns-in-Err-OutOfMemory-clause-goes

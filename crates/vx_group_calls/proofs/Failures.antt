@@ -17,6 +17,7 @@ use Rattle.vx_volume.specs.Loop.{stop_of}
 use Rattle.vx_volume.proofs.Entries.{dead_or}
 use Rattle.vx_volume.proofs.Volumes.{clear_job, copy_job, read_way, settle_job, write_way}
 use Rattle.vx_volume.specs.Passes.{Clears, Copying, CopiesTo, CopyEnds, IsClearedAt, IsCopiedAt, IsSettledAt, JobEnds, PassEnds, Settles}
+use Rattle.vx_volume.specs.declared.fault.IoFault.{IoFault}
 use Rattle.vx_volume.specs.Volume.{VolumeSeen}
 use Rattle.vx_group_calls.specs.Laws.{OpenedAreAlive, PassKeepsCuts}
 use Rattle.vx_group_calls.proofs.Keeping.{HasGone, IsCalling, made_gone, one_gone}
@@ -98,15 +99,24 @@ itself v = v
 abbrev copied_in : Copying → VolumeSeen
 copied_in c = c.volume
 
+pub settling_gone : (old new : VolumeSeen) (result : Result (Unit {0}) IoFault) → PassEnds Settles old new result → HasGone old new
+settling_gone old new result ends = made_gone itself Settles settles_gone (length old.cells) _ old new ends.0
+
+pub clearing_gone : (old new : VolumeSeen) (result : Result (Unit {0}) IoFault) → PassEnds Clears old new result → HasGone old new
+clearing_gone old new result ends = made_gone itself Clears clears_gone (length old.cells) _ old new ends.0
+
+pub copying_gone : (map : ℕ) (old new : VolumeSeen) (result : Result ℕ IoFault) → CopyEnds map old new result → HasGone old new
+copying_gone map old new (Ok n) ends = made_gone copied_in (CopiesTo map) (copies_gone map) (length old.cells) None (record { volume = old; copied = 0 }) (record { volume = new; copied = n }) ends
+copying_gone map old new (Err fault) ends = made_gone copied_in (CopiesTo map) (copies_gone map) (length old.cells) (io_stop {T = ℕ} (Err fault)) (record { volume = old; copied = 0 }) (record { volume = new; copied = ends.0 }) ends.1
+
 pub settling_keeps : PassKeepsCuts (PassEnds Settles)
-settling_keeps old new result ends = (made_gone itself Settles settles_gone (length old.cells) _ old new ends.0).cut
+settling_keeps old new result ends = (settling_gone old new result ends).cut
 
 pub clearing_keeps : PassKeepsCuts (PassEnds Clears)
-clearing_keeps old new result ends = (made_gone itself Clears clears_gone (length old.cells) _ old new ends.0).cut
+clearing_keeps old new result ends = (clearing_gone old new result ends).cut
 
 pub copying_keeps : (map : ℕ) → PassKeepsCuts (CopyEnds map)
-copying_keeps map old new (Ok n) ends = (made_gone copied_in (CopiesTo map) (copies_gone map) (length old.cells) None (record { volume = old; copied = 0 }) (record { volume = new; copied = n }) ends).cut
-copying_keeps map old new (Err fault) ends = (made_gone copied_in (CopiesTo map) (copies_gone map) (length old.cells) (io_stop {T = ℕ} (Err fault)) (record { volume = old; copied = 0 }) (record { volume = new; copied = ends.0 }) ends.1).cut
+copying_keeps map old new result ends = (copying_gone map old new result ends).cut
 
 -- ---- a volume that was just opened
 

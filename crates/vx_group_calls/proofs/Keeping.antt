@@ -34,7 +34,7 @@ pub record HasGone (old new : VolumeSeen) : Type 0 where
 pub gone_same : (v : VolumeSeen) → HasGone v v
 gone_same v = record { kept = record { count = refl; plexes = λ r lt. keep_same (cell_at v r).plexes; log = log_same v.log }; cut = λ h. h }
 
-gone_then : (a b c : VolumeSeen) → HasGone a b → HasGone b c → HasGone a c
+pub gone_then : (a b c : VolumeSeen) → HasGone a b → HasGone b c → HasGone a c
 gone_then a b c first after =
     record {
       kept = record {

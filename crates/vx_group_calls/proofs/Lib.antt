@@ -5,3 +5,4 @@ pub mod LogSums
 pub mod LogFaults
 pub mod Tellings
 pub mod Service
+pub mod Lying

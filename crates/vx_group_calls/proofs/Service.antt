@@ -38,6 +38,7 @@ use Rattle.vx_volume_lives.specs.Laws.{EachReadRunsOn, EachWriteRunsOn, RunsOn}
 use Rattle.vx_volume_lives.specs.Telling.{TellsEntries}
 use Rattle.vx_group_calls.specs.declared.served.Served.{Served}
 use Rattle.vx_group_calls.specs.Causes.{AreCutWhereDead, FailuresAreCounted, ServedHasCause}
+use Rattle.vx_group_calls.specs.Laws.{StaysTogether}
 use Rattle.vx_group_calls.specs.Ending.{EndsAs, IsReadServed, IsWriteServed, device_of}
 use Rattle.vx_group_calls.specs.Serving.{LivesOn, ServesVolume, Tells}
 use Rattle.vx_group_calls.proofs.Failures.{read_calling, write_calling}
@@ -142,6 +143,11 @@ module _ {P : Type 0} {ghosts : Ghosts P} (old new : Volume P ghosts) (follows :
       let cells = sum_rose device (cells_of was) (cells_of now) (kept_cells was now gone)
       (cell_rose device was.cells now.cells r inside gone.kept.count gone.kept.plexes (plex_rose map piece device _ _ (gone.kept.plexes r inside) rose)) in
       rose_on device (beside_first device (cells_of was) (cells_of now) (log_pieces ghosts.seen (log_of old)) (log_pieces ghosts.seen (log_of new)) cells kept_log)
+
+  pub gone_stays : HasGone was now → StaysTogether ghosts.seen old new
+  gone_stays gone =
+      let stays : EachPiece Keeps (held_pieces ghosts.seen old) (held_pieces ghosts.seen new) = each_beside (cells_of was) (cells_of now) (log_pieces ghosts.seen (log_of old)) (log_pieces ghosts.seen (log_of new)) (kept_cells was now gone) kept_log in
+      record { stays = stays; goes = each_goes (held_pieces ghosts.seen old) (held_pieces ghosts.seen new) stays; counted = counted_on gone }
 
   failed_on : (place : Place) (gone : HasGone (called was) now) → FailedIn place (called was) now → Rose (faults_on (device_of place) (held_pieces ghosts.seen old)) (faults_on (device_of place) (held_pieces ghosts.seen new))
   failed_on (Data map piece device) gone failed =

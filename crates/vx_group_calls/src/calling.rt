@@ -1,8 +1,9 @@
-ghost use Rattle.std.specs.Prelude.{◌≡◌, ◌≢◌, ◌+◌, ◌*◌, ◌/◌, ◌%◌, ◌^◌, ◌<◌, ◌≤◌, true, length, replicate, IfOk, OnErr};
+ghost use Rattle.std.specs.Prelude.{◌≡◌, ◌≢◌, ℕ, List, ◌+◌, ◌*◌, ◌/◌, ◌%◌, ◌^◌, ◌<◌, ◌≤◌, true, length, replicate, IfOk, OnErr};
 ghost use Rattle.vx_mask.specs.Mask.{has};
 ghost use Rattle.vx_piece.specs.Seen.{Keeps};
 ghost use Rattle.vx_runs.specs.Run.{EachPiece};
 ghost use Rattle.vx_lending.specs.Going.{GoTogether};
+ghost use Rattle.vx_left_images.specs.Lying.{LiesIn};
 ghost use Rattle.vx_lending.specs.Left.{held_pieces};
 ghost use Rattle.vx_plans.specs.Calls.{start_of, count_of};
 ghost use Rattle.vx_volume.specs.Log.{LogGoes};
@@ -24,7 +25,7 @@ use vx_script_words::Blocks;
 use vx_volume::{Receipt, Volume};
 use vx_volume_lives::laws::each_call_runs_on;
 
-/// No volume draws a number above this one: the next call finds no memory for it.
+/// A volume of which a region may have drawn a number above this one serves no call: there is no memory for it.
 const MOST_NUMBERS: u64 = 1 << 61;
 
 /// Serves a call of a running volume whose blocks it keeps to. After a refusal of memory nothing has changed.
@@ -49,6 +50,7 @@ pub fn serve<P: Piece + Drop>(
     ensures cause { IfOk result (λ served. ServedHasCause P.seen served running.old.volume running.new.volume) }
     ensures counted { FailuresAreCounted P.seen running.old.volume running.new.volume }
     ensures dead { AreCutWhereDead (volume_seen P.seen running.old.volume) → AreCutWhereDead (volume_seen P.seen running.new.volume) }
+    ensures lies { (numbers : List ℕ) → LiesIn P.seen numbers running.old.form running.old.volume → LiesIn P.seen numbers running.new.form running.new.volume }
 {
     each_call_runs_on();
     if running.volume.most() > MOST_NUMBERS {

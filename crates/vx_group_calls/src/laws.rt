@@ -2,7 +2,10 @@
 
 ghost use Rattle.std.specs.Prelude.{ℕ};
 ghost use Rattle.vx_volume.specs.Passes.{Clears, CopyEnds, PassEnds, Settles};
-ghost use Rattle.vx_group_calls.specs.Laws.{OpenedAreAlive, PassKeepsCuts};
+ghost use Rattle.vx_group_calls.specs.Laws.{OpenedAreAlive, PassKeepsCuts, PassKeepsPieces};
+
+use vx_piece::Piece;
+use vx_volume::Volume;
 
 /// From its opening on a region of a volume is dead only where a piece of it or of the log is cut; passes keep that, as calls do.
 pub fn dead_regions_are_cut()
@@ -11,3 +14,13 @@ pub fn dead_regions_are_cut()
     ensures cleared { PassKeepsCuts (PassEnds Clears) }
     ensures copied { (map : ℕ) → PassKeepsCuts (CopyEnds map) }
 {}
+
+/// Passes keep each piece of a volume in its place, as calls do.
+pub fn passes_keep_pieces<P: Piece + Drop>(old: &Volume<P>, new: &Volume<P>)
+    ensures settled { PassKeepsPieces P.seen (PassEnds Settles) old.now new.now }
+    ensures cleared { PassKeepsPieces P.seen (PassEnds Clears) old.now new.now }
+    ensures copied { (map : ℕ) → PassKeepsPieces P.seen (CopyEnds map) old.now new.now }
+{
+    let _ = old;
+    let _ = new;
+}

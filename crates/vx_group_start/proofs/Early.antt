@@ -1,5 +1,5 @@
 -- A volume that is refused before anything is touched.
-use Rattle.std.proofs.Common.{◌≡◌, ℕ, zero, suc, ◌<◌, Bool, true, false, List, [], length, None, refl, sym, ap, ◌∙◌, subst, arith}
+use Rattle.std.proofs.Common.{◌≡◌, ℕ, zero, suc, ◌<◌, Bool, true, false, List, [], length, None, refl, sym, ap, ◌∙◌, subst, arith, inl, inr}
 use Rattle.std.specs.Prelude.{is_some, ◌&&◌, nat_lt}
 use Rattle.std.specs.List.{All}
 use Rattle.std.proofs.lemmas.Bool.{and_parts, false≢true}
@@ -88,8 +88,8 @@ module _ {P : Type 0} {ghosts : Ghosts P} (c : Config) (good : ℕ) (v : Vol) (n
   pub early : (fault : StartFault) → IsEarly v form fault → IsNotStarted ghosts.seen v numbers form old new fault
   early OutOfMemory h = absurd h
   early NoLog h = record { dco = h.0; copies = []; are = start_none numbers form (still_pieces ghosts.seen old) h.1; passed = λ n lt. absurd (omega (arith, lt)) }
-  early (NoCurrent r) h =
-      record {
+  early (NoCurrent r) (zero_is, inl h) =
+      inl (record {
         log = Absent;
         is = record {
           copies = [];
@@ -98,7 +98,8 @@ module _ {P : Type 0} {ghosts : Ghosts P} (c : Config) (good : ℕ) (v : Vol) (n
           cut = none_cut [];
           fits = absent_for v h.0;
         };
-        first = subst (IsFirstUnread form.shape absent_log) (sym h.2) (first_none c good v (is_fresh v.state) form of is h.1);
-      }
+        first = subst (IsFirstUnread form.shape absent_log) (sym zero_is) (first_none c good v (is_fresh v.state) form of is h.1);
+      })
+  early (NoCurrent r) (zero_is, inr h) = inr (record { fresh = h.0; away = h.1; first = zero_is })
   early (Failed device) h = absurd h
   early PowerLost h = absurd h

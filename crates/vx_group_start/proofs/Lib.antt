@@ -11,3 +11,4 @@ mod Same
 mod Starts
 mod Stills
 mod Unstarted
+mod Untouched

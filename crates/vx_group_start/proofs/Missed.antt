@@ -1,11 +1,11 @@
 -- Each region of a volume that was never started has a plex to copy to.
-use Rattle.std.proofs.Common.{◌≡◌, ◌≢◌, ℕ, zero, suc, ◌<◌, ◌==◌, ◌^◌, Bool, true, false, cond, List, [], ◌∷◌, length, refl, sym, ap, ◌∙◌, arith}
+use Rattle.std.proofs.Common.{◌≡◌, ◌≢◌, ℕ, zero, suc, ◌<◌, ◌==◌, Bool, true, false, cond, List, [], ◌∷◌, length, refl, ap, ◌∙◌, arith}
 use Rattle.std.specs.Prelude.{◌&&◌, not, nat_lt, count_by}
-use Rattle.std.proofs.lemmas.Bool.{and_from, and_parts, false≢true}
+use Rattle.std.proofs.lemmas.Bool.{and_from, false≢true}
 use Rattle.std.proofs.lemmas.Bool.Decides.{nat_tests}
 use Rattle.std.proofs.lemmas.List.Sums.{sum_by-cons}
-use Rattle.vx_mask.specs.Mask.{has, lowest, only, without}
-use Rattle.vx_mask.proofs.MaskLemmas.{has-lowest, has-without, not_empty, without-lt}
+use Rattle.vx_mask.specs.Mask.{has, without}
+use Rattle.vx_mask.proofs.MaskLemmas.{has-without, not_empty}
 use Rattle.vx_cell.specs.Changes.{CellSeen}
 use Rattle.vx_pages.specs.Items.{item_at}
 use Rattle.vx_volume.specs.Volume.{no_cell}
@@ -37,12 +37,8 @@ count_all p (x ∷ xs) each =
     omega (arith, here, rest, sum)
 
 pub fresh_missed : EachFreshRegionIsMissed
-fresh_missed shape log regions v opened long fits low claims some =
+fresh_missed shape log regions v opened long fits low claims k on marked =
     let mask = maps_to_copy shape in
-    let fits' : mask < 2 ^ 64 = without-lt shape.on (only (lowest shape.on)) fits in
-    let k = lowest mask in
-    let marked : has mask k ≡ true = has-lowest mask some fits' in
-    let on : has shape.on k ≡ true = (and_parts (has shape.on k) _ (sym (has-without shape.on (only (lowest shape.on)) k) ∙ marked)).0 in
     let count = opened.cells.count in
     let all : count_by (λ (cell : CellSeen). misses mask cell.stage) v.cells ≡ length v.cells = count_all (λ cell. misses mask cell.stage) v.cells (λ r lt.
     let inside : r < length regions = omega (arith, lt, count) in

@@ -1,5 +1,5 @@
 -- What was told of the pieces before a start is told of the same pieces.
-use Rattle.std.proofs.Common.{◌≡◌, ℕ, ◌++◌, List, map, subst}
+use Rattle.std.proofs.Common.{◌≡◌, ℕ, ◌++◌, List, map, subst, inl, inr}
 use Rattle.std.specs.List.{All}
 use Rattle.vx_base.specs.Blocks.{Contents}
 use Rattle.vx_base.specs.Counts.{Rose}
@@ -46,6 +46,7 @@ module _ {P : Type 0} {ghosts : Ghosts P} (v : Vol) (numbers : List ℕ) (old wa
   pub not_started_from : (form : VolumeForm) (fault : StartFault) → IsNotStarted ghosts.seen v numbers form was new fault → IsNotStarted ghosts.seen v numbers form old new fault
   not_started_from form OutOfMemory h = tt
   not_started_from form NoLog h = subst (λ (xs : List Seen). IsUnlogged v numbers form xs (still_pieces ghosts.seen new)) still h
-  not_started_from form (NoCurrent r) h = record { log = h.log; is = log_from form h.log h.is; first = h.first }
+  not_started_from form (NoCurrent r) (inl h) = inl (record { log = h.log; is = log_from form h.log h.is; first = h.first })
+  not_started_from form (NoCurrent r) (inr h) = inr h
   not_started_from form (Failed device) h = subst (λ (xs : List Seen). Rose (faults_on device xs) (faults_on device (still_pieces ghosts.seen new))) still h
   not_started_from form PowerLost h = h

@@ -128,7 +128,7 @@ module _ {P : Type 0} {ghosts : Ghosts P} (v : Vol) (numbers : List ℕ) (old mi
           are = start_copies;
           passed = λ n lt. passed_before (log_header form.shape.geometry) (copy_at copies n) (still_pieces ghosts.seen old) ((all_pieces regions ++ copy_pieces copies) ++ still_pieces ghosts.seen mid) (still_pieces ghosts.seen new) all_same (h.1 n lt);
         }
-    unstarted_by new (NoCurrent r) dco h = record { log = h.log; is = start_log h.log h.over; first = h.first }
+    unstarted_by new (NoCurrent r) dco h = inl (record { log = h.log; is = start_log h.log h.over; first = h.first })
     unstarted_by new (Failed device) dco h = subst (λ n. Rose n (faults_on device (still_pieces ghosts.seen new))) (all_same.faults device) h
     unstarted_by new PowerLost dco h = h
 

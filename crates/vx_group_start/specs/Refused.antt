@@ -1,5 +1,5 @@
 -- Why a volume is not started.
-use Rattle.std.specs.Prelude.{◌≡◌, ℕ, ◌<◌, ◌⊎◌, true, is_some, List, length}
+use Rattle.std.specs.Prelude.{◌≡◌, ℕ, ◌<◌, ◌⊎◌, true, false, is_some, List, length}
 use Rattle.vx_base.specs.Counts.{Rose}
 use Rattle.vx_piece.specs.Seen.{Seen}
 use Rattle.vx_carve.specs.Together.{faults_on}
@@ -8,6 +8,7 @@ use Rattle.vx_pages.specs.declared.local_piece.LocalPiece.{Ghosts}
 use Rattle.vx_config_parts.specs.declared.vol.Vol.{Vol}
 use Rattle.vx_objects.specs.declared.config.Config.{Config}
 use Rattle.vx_volume.specs.declared.log.VolumeLog.{VolumeLog}
+use Rattle.vx_volume.specs.declared.volume.VolumeShape.{VolumeShape}
 use Rattle.vx_volume.specs.Log.{log_seen}
 use Rattle.vx_volume.specs.Opening.{IsFirstUnread}
 use Rattle.vx_volume_form.specs.declared.form.VolumeForm.{VolumeForm}
@@ -17,7 +18,7 @@ use Rattle.vx_running.specs.declared.public.Public.{Public}
 use Rattle.vx_running.specs.Public.{still_pieces}
 use Rattle.vx_group_start.specs.declared.fault.StartFault.{StartFault}
 use Rattle.vx_group_start.specs.declared.fault.StartFault.TheVariants.{OutOfMemory, NoLog, NoCurrent, Failed, PowerLost}
-use Rattle.vx_group_start.specs.Fresh.{is_fresh}
+use Rattle.vx_group_start.specs.Fresh.{is_fresh, is_lowest_on}
 use Rattle.vx_group_start.specs.Logs.{AreStartCopies, IsPassedOver, IsStartLog, SomeCut}
 
 -- the volume has a DCO, and each copy of its log that is on good disks was passed over
@@ -33,11 +34,17 @@ pub record IsUnread {P : Type 0} {ghosts : Ghosts P} (seen : P → Seen) (v : Vo
   pub is : IsStartLog seen v numbers form (still_pieces seen old) log
   pub first : IsFirstUnread form.shape (log_seen seen log) r
 
+-- the volume was never started, and its lowest data plex is not on: no plex is current, so not in region 0
+pub record IsLowestAway (v : Vol) (shape : VolumeShape) (r : ℕ) : Type 0 where
+  pub fresh : is_fresh v.state ≡ true
+  pub away : is_lowest_on shape ≡ false
+  pub first : r ≡ 0
+
 -- why a volume of this form is not started
 abbrev pub IsNotStarted : {P : Type 0} {ghosts : Ghosts P} → (P → Seen) → Vol → List ℕ → VolumeForm → Public P ghosts → Public P ghosts → StartFault → Type 0
 IsNotStarted seen v numbers form old new OutOfMemory = Unit {0}
 IsNotStarted seen v numbers form old new NoLog = IsUnlogged v numbers form (still_pieces seen old) (still_pieces seen new)
-IsNotStarted seen v numbers form old new (NoCurrent r) = IsUnread seen v numbers form old r
+IsNotStarted seen v numbers form old new (NoCurrent r) = IsUnread seen v numbers form old r ⊎ IsLowestAway v form.shape r
 IsNotStarted seen v numbers form old new (Failed device) = Rose (faults_on device (still_pieces seen old)) (faults_on device (still_pieces seen new))
 IsNotStarted seen v numbers form old new PowerLost = SomeCut (still_pieces seen new)
 

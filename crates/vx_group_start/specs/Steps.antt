@@ -1,5 +1,5 @@
 -- The steps of a start, over pieces that were taken.
-use Rattle.std.specs.Prelude.{◌≡◌, ℕ, ◌<◌, ◌++◌, true, is_some, None, List, [], length}
+use Rattle.std.specs.Prelude.{◌≡◌, ◌⊎◌, ℕ, ◌<◌, ◌++◌, true, false, is_some, None, List, [], length}
 use Rattle.vx_base.specs.Counts.{Rose}
 use Rattle.vx_piece.specs.Seen.{Seen}
 use Rattle.vx_carve.specs.Together.{faults_on}
@@ -31,16 +31,17 @@ use Rattle.vx_running.specs.declared.public.Running.{Running}
 use Rattle.vx_running.specs.Public.{still_pieces}
 use Rattle.vx_group_start.specs.declared.fault.StartFault.{StartFault}
 use Rattle.vx_group_start.specs.declared.fault.StartFault.TheVariants.{OutOfMemory, NoLog, NoCurrent, Failed, PowerLost}
-use Rattle.vx_group_start.specs.Fresh.{is_fresh}
+use Rattle.vx_group_start.specs.Fresh.{is_fresh, is_lowest_on}
 use Rattle.vx_group_start.specs.Logs.{IsLogOf, IsPassedOver, SomeCut}
 
 -- ---- before anything is touched
 
--- a volume with a DCO has no log on good disks; one without has no plex that is available
+-- a volume with a DCO has no log on good disks; one without has no plex that is available; one that was never started has not its
+-- lowest
 abbrev pub IsEarly : Vol → VolumeForm → StartFault → Type 0
 IsEarly v form OutOfMemory = ⊥
 IsEarly v form NoLog = (is_some v.dco ≡ true) × (form.logs.items ≡ [])
-IsEarly v form (NoCurrent r) = (v.dco ≡ None) × (form.shape.on ≡ 0) × (r ≡ 0)
+IsEarly v form (NoCurrent r) = (r ≡ 0) × (((v.dco ≡ None) × (form.shape.on ≡ 0)) ⊎ ((is_fresh v.state ≡ true) × (is_lowest_on form.shape ≡ false)))
 IsEarly v form (Failed device) = ⊥
 IsEarly v form PowerLost = ⊥
 

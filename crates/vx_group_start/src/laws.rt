@@ -3,7 +3,7 @@
 ghost use Rattle.vx_group_start.specs.GroupDisks.{BehindAreOnce, GroupDisksAreNumbered, VolumesAreFree};
 ghost use Rattle.vx_group_start.specs.Laws.{EachFreshRegionIsMissed};
 
-/// A start of a volume that never was started has all regions to copy, where more than one plex is on.
+/// A start of a volume that never was started has all regions to copy, where a plex save the lowest is on.
 pub fn each_fresh_region_is_missed()
     ensures { EachFreshRegionIsMissed }
 {}

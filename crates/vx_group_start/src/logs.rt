@@ -9,7 +9,7 @@ ghost use Rattle.vx_lending.specs.Left.{left_copies};
 ghost use Rattle.vx_lending.specs.Logs.{IsFreshLog, IsLoadedLog, log_copies, log_header, log_pieces};
 ghost use Rattle.vx_lending.specs.Pieces.{copy_pieces};
 ghost use Rattle.vx_lending.specs.Taken.{AreLogCopies, slot_of};
-ghost use Rattle.vx_group_start.specs.Fresh.{is_fresh, maps_to_copy};
+ghost use Rattle.vx_group_start.specs.Fresh.{all_maps, is_fresh, is_lowest_on, maps_to_copy};
 ghost use Rattle.vx_group_start.specs.Logs.{IsLogOf};
 ghost use Rattle.vx_group_start.specs.Steps.{IsNoLog, left_fault, start_fault};
 
@@ -40,11 +40,26 @@ pub fn is_fresh(state: VolState) -> bool
     }
 }
 
-/// The maps that a new log marks: those of the plexes that are on, save the lowest. Where one plex is on there are none.
+/// The maps that a new log marks: those of all data plexes save the lowest, whether they are on or not. Of a volume with one
+/// plex there are none.
 pub fn mask_to_copy(form: &VolumeForm) -> u64
     ensures { result ≡ maps_to_copy form.now.shape }
 {
-    vx_mask::rest(form.shape.on)
+    vx_mask::rest(all_maps(form))
+}
+
+/// Whether the lowest data plex is on.
+pub(crate) fn is_lowest_on(form: &VolumeForm) -> bool
+    ensures { result ≡ is_lowest_on form.now.shape }
+{
+    vx_mask::contains(form.shape.on, vx_mask::first(all_maps(form)))
+}
+
+/// The maps of all data plexes.
+fn all_maps(form: &VolumeForm) -> u64
+    ensures { result ≡ all_maps form.now.shape }
+{
+    vx_mask::with(form.shape.on, form.shape.off)
 }
 
 /// The log of a volume that is started: a new one where it was never started, else that of its copies. After a refusal the
@@ -69,7 +84,7 @@ pub fn start_log<P: Piece + Drop>(
     }
 }
 
-/// A new log, that marks the plexes that are on, save the lowest.
+/// A new log, that marks all data plexes save the lowest.
 fn new_log<P: Piece + Drop>(
     alloc: Global,
     form: &VolumeForm,

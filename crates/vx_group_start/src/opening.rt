@@ -1,6 +1,6 @@
 //! A volume of the configuration is opened over pieces of the pool.
 
-ghost use Rattle.std.specs.Prelude.{◌≡◌, ◌≢◌, ℕ, ◌<◌, ◌≤◌, ◌++◌, nat_lt, is_some, true, false, map, length, vec_len, vec_capacity, List, IfOk, IfErr, IfSome, IfNone, OnErr};
+ghost use Rattle.std.specs.Prelude.{◌≡◌, ◌≢◌, ℕ, ◌<◌, ◌≤◌, ◌++◌, nat_lt, is_some, true, false, map, length, vec_len, vec_capacity, List, IfOk, IfErr, IfSome, IfNone, IsErrOf, OnErr};
 ghost use Rattle.vx_carve.specs.Carved.{HaveNumbers};
 ghost use Rattle.vx_carve.specs.Together.{AreOnce, SameSectors};
 ghost use Rattle.vx_cell.specs.Plexes.{PlexSeen};
@@ -20,13 +20,13 @@ ghost use Rattle.vx_lending.specs.Logs.{log_pieces};
 ghost use Rattle.vx_lending.specs.Pieces.{volume_pieces};
 ghost use Rattle.vx_lending.specs.Taken.{AreLogCopies, HaveBlocks, log_sectors, slot_of};
 ghost use Rattle.vx_running.specs.Public.{still_pieces};
-ghost use Rattle.vx_group_start.specs.Fresh.{is_fresh};
+ghost use Rattle.vx_group_start.specs.Fresh.{is_fresh, is_lowest_on};
 ghost use Rattle.vx_group_start.specs.Refused.{IsNotStarted, IsRefused};
 ghost use Rattle.vx_group_start.specs.Started.{IsStarted};
 ghost use Rattle.vx_group_start.specs.Steps.{IsEarly, IsRefusedOver, IsUnopened, RunsOver, StartsOver, open_fault};
 
 use crate::fault::StartFault;
-use crate::logs::{is_fresh, start_log};
+use crate::logs::{is_fresh, is_lowest_on, start_log};
 use crate::remains::{log_left, put_back};
 use std::alloc::Global;
 use vx_cell::Plex;
@@ -38,7 +38,7 @@ use vx_volume::{OpenFault, OpenRefused, Volume, VolumeLog};
 use vx_volume_form::{VolumeForm, form_of};
 
 /// Takes the pieces of a volume of the configuration out of the pool, makes its log (of a volume that is EMPTY nothing is
-/// marked but the map of each data plex that is on, save the lowest one) or loads it, and opens it. `good` are the slots whose
+/// marked but the map of each data plex save the lowest one, whether its disks are good or not) or loads it, and opens it. `good` are the slots whose
 /// disks are good, and `numbers` has the number of the device of each slot. It does not run yet: the caller puts it among the
 /// running volumes. After a refusal all pieces lie still: in the pool, or where it has no room for them among those that are
 /// left.
@@ -61,6 +61,8 @@ pub fn open_volume<P: Piece + Drop>(
     ensures refused { IfErr result (λ fault. IsRefused P.seen config.now good vol.now numbers.now public.old public.new fault) }
     ensures back { OnErr result (GoTogether (still_pieces P.seen public.old) (still_pieces P.seen public.new)) }
     ensures running { public.new.running ≡ public.old.running }
+    // Of a volume that was never started it is known before any piece is touched that no plex is current.
+    ensures untouched { is_fresh vol.now.state ≡ true → (r : ℕ) → IsErrOf result (StartFault.NoCurrent r) → still_pieces P.seen public.new ≡ still_pieces P.seen public.old }
 {
     if public.left.reserve(1).is_err() {
         return Err(StartFault::OutOfMemory);
@@ -75,23 +77,23 @@ pub fn open_volume<P: Piece + Drop>(
 }
 
 /// Why a volume cannot be opened whatever its pieces hold: it has a DCO and no log on good disks, or none and no plex that is
-/// on.
+/// on, or it was never started, so that its lowest data plex alone is current, and that is not on.
 fn early_fault(vol: &Vol, form: &VolumeForm) -> Option<StartFault>
     ensures some { IfSome result (λ fault. IsEarly vol.now form.now fault) }
     ensures logs { IfNone result (is_some vol.now.dco ≡ true → 0 < length form.now.logs.items) }
     ensures on { IfNone result (is_some vol.now.dco ≡ false → form.now.shape.on ≢ 0) }
+    ensures lowest { IfNone result (is_fresh vol.now.state ≡ true → is_lowest_on form.now.shape ≡ true) }
 {
-    if vol.dco.is_some() {
-        if form.logs.is_empty() {
-            Some(StartFault::NoLog)
-        } else {
-            None
-        }
-    } else if form.shape.on == 0 {
-        Some(StartFault::NoCurrent(0))
-    } else {
-        None
+    if vol.dco.is_some() && form.logs.is_empty() {
+        return Some(StartFault::NoLog);
     }
+    if vol.dco.is_none() && form.shape.on == 0 {
+        return Some(StartFault::NoCurrent(0));
+    }
+    if is_fresh(vol.state) && !is_lowest_on(form) {
+        return Some(StartFault::NoCurrent(0));
+    }
+    None
 }
 
 /// Opens a volume of this form over pieces that it takes out of the pool.

@@ -1,5 +1,5 @@
 -- Disks of a configuration that are those of a group.
-use Rattle.std.proofs.Common.{◌≡◌, ◌≢◌, inl, inr, ℕ, zero, suc, ◌-◌, ◌<◌, ◌≤◌, ◌==◌, ◌&&◌, Bool, true, false, List, [], ◌∷◌, map, get_or, length, refl, sym, arith}
+use Rattle.std.proofs.Common.{◌≡◌, ◌≢◌, inl, inr, ℕ, zero, suc, ◌-◌, ◌<◌, ◌==◌, ◌&&◌, true, false, List, [], ◌∷◌, map, get_or, length, refl, sym, arith}
 use Rattle.std.specs.Prelude.{nat_le, nat_lt, slice_index}
 use Rattle.std.specs.List.{All, list_any, list_all}
 use Rattle.std.proofs.lemmas.Bool.{and_parts, or_cases, false≢true}
@@ -18,7 +18,6 @@ use Rattle.vx_objects.specs.Config.{objects_of}
 use Rattle.vx_piece.specs.MemPiece.{mem_seen}
 use Rattle.vx_piece.specs.declared.mem_piece.MemPiece.{MemPiece}
 use Rattle.vx_plexes.proofs.Members.{in_at, in_left, in_map, in_one, in_right}
-use Rattle.vx_volume_form.specs.Laws.{good_disks}
 use Rattle.vx_volume_form.specs.Plexes.{IsVolOf}
 use Rattle.vx_group_start.specs.GroupDisks.{AreGroupDisks, IsDiskOn}
 use Rattle.vx_volume_rows.specs.Matching.{is_disk_on}

@@ -22,7 +22,7 @@ pub fn group(alloc: Global, bad: Vec<Bad>) -> Option<Group<MemPiece>>
 }
 
 /// A group of two disks on whole devices that differ and have a private region.
-fn group_of(alloc: Global, first: MemPiece, second: MemPiece) -> Option<Group<MemPiece>>
+pub fn group_of(alloc: Global, first: MemPiece, second: MemPiece) -> Option<Group<MemPiece>>
     ensures { IfSome result (λ g. AreParted (members mem_seen g) []) }
 {
     each_disk_stays_parted();

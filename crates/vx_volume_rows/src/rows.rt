@@ -27,15 +27,20 @@ use vx_running::Public;
 
 pub fn show(rt: &HostRuntime) -> io::Result<()> {
     println!(rt; "one plex on the first disk, no log")?;
-    row(rt, ALONE, Vec::new(rt.alloc()))?;
+    row(rt, false, ALONE, Vec::new(rt.alloc()))?;
     println!(rt; "the same, and a write of one of its sectors fails")?;
     let bad = vec![in rt.alloc(); failing(2186)]?;
-    row(rt, ALONE, bad)?;
+    row(rt, false, ALONE, bad)?;
     println!(rt; "a plex and a log on each disk")?;
-    row(rt, TWICE, Vec::new(rt.alloc()))?;
+    row(rt, false, TWICE, Vec::new(rt.alloc()))?;
     println!(rt; "the same, and a write of a sector of the first plex fails")?;
     let bad = vec![in rt.alloc(); failing(2186)]?;
-    row(rt, TWICE, bad)
+    row(rt, false, TWICE, bad)?;
+    println!(rt; "a plex and a log on each disk, and the second plex is copied to")?;
+    row(rt, true, TWICE, Vec::new(rt.alloc()))?;
+    println!(rt; "the same, and a write of a sector of the first plex fails")?;
+    let bad = vec![in rt.alloc(); failing(2186)]?;
+    row(rt, true, TWICE, bad)
 }
 
 /// A sector whose first write fails.
@@ -50,12 +55,12 @@ fn failing(sector: u64) -> Bad {
     }
 }
 
-fn row(rt: &HostRuntime, text: &[u8], bad: Vec<Bad>) -> io::Result<()> {
+fn row(rt: &HostRuntime, copies: bool, text: &[u8], bad: Vec<Bad>) -> io::Result<()> {
     let Some(config) = config_of(rt.alloc(), text) else {
         return println!(rt; "  no configuration");
     };
     match group(rt.alloc(), bad) {
-        Some(group) => opened(rt, &config, group),
+        Some(group) => opened(rt, copies, &config, group),
         None => println!(rt; "  no group"),
     }
 }
@@ -66,7 +71,7 @@ fn config_of(alloc: Global, text: &[u8]) -> Option<Config> {
 }
 
 /// Parts the devices of a group.
-fn opened(rt: &HostRuntime, config: &Config, group: Group<MemPiece>) -> io::Result<()>
+fn opened(rt: &HostRuntime, copies: bool, config: &Config, group: Group<MemPiece>) -> io::Result<()>
     requires { AreParted (members mem_seen group) [] }
 {
     let mut group = group;
@@ -81,12 +86,13 @@ fn opened(rt: &HostRuntime, config: &Config, group: Group<MemPiece>) -> io::Resu
     if !differ(&numbers) || !are_group_disks(config, &numbers, &group) {
         return println!(rt; "  other disks");
     }
-    started(rt, config, &vol, &numbers, group, pool)
+    started(rt, copies, config, &vol, &numbers, group, pool)
 }
 
 /// Opens a volume over parted devices, of which all are good.
 fn started(
     rt: &HostRuntime,
+    copies: bool,
     config: &Config,
     vol: &Vol,
     numbers: &[u32],
@@ -106,7 +112,7 @@ fn started(
         running: BTreeMap::new(rt.alloc()),
     };
     match open_volume(rt.alloc(), config, 3, vol, numbers, &mut public) {
-        Ok(running) => ran(rt, vol.name, group, public, running),
+        Ok(running) => ran(rt, copies, vol.name, group, public, running),
         Err(fault) => show_fault(rt, fault),
     }
 }

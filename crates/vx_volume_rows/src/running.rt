@@ -2,12 +2,14 @@ ghost use Rattle.std.specs.Prelude.{◌≡◌, ◌++◌, [], map};
 ghost use Rattle.vx_confdb.specs.Groups.{members};
 ghost use Rattle.vx_piece.specs.MemPiece.{mem_seen};
 ghost use Rattle.vx_fronts.specs.Parted.{AreParted};
+ghost use Rattle.vx_lending.specs.Going.{GoTogether};
 ghost use Rattle.vx_lending.specs.Left.{held_pieces};
 ghost use Rattle.vx_running.specs.Public.{still_pieces};
 ghost use Rattle.vx_volume.specs.Volume.{IsVolume, volume_seen};
 ghost use Rattle.vx_volume_rows.specs.Whole.{AreFromBehind};
 
 use crate::calls::calls;
+use crate::passes::{copy, rest};
 use crate::shown::show_device;
 use std::io;
 use vx_carve::Pool;
@@ -18,9 +20,10 @@ use vx_names::Name;
 use vx_piece::MemPiece;
 use vx_running::{Public, Running};
 
-/// Makes calls on a volume, and puts it back.
+/// Copies to the plexes of a volume, if that is wanted, makes calls on it, brings it to rest, and puts it back.
 pub fn ran(
     rt: &HostRuntime,
+    copies: bool,
     vol: Name,
     group: Group<MemPiece>,
     public: Public<MemPiece>,
@@ -32,11 +35,26 @@ pub fn ran(
 {
     let mut public = public;
     let mut running = running;
-    calls(rt, &mut running, vol)?;
+    used(rt, copies, &mut running, vol)?;
     match close_volume(rt.alloc(), &mut public, running) {
         Ok(()) => closed(rt, group, public.pool),
         Err(_) => println!(rt; "  no memory"),
     }
+}
+
+fn used(
+    rt: &HostRuntime,
+    copies: bool,
+    running: &mut Running<MemPiece>,
+    vol: Name,
+) -> io::Result<()>
+    requires { IsVolume (volume_seen mem_seen running.old.volume) }
+    ensures whole { IsVolume (volume_seen mem_seen running.new.volume) }
+    ensures goes { GoTogether (held_pieces mem_seen running.old.volume) (held_pieces mem_seen running.new.volume) }
+{
+    copy(rt, copies, running)?;
+    calls(rt, running, vol)?;
+    rest(rt, running)
 }
 
 /// Joins the devices, and shows them.

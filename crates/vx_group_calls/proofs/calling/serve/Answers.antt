@@ -6,6 +6,7 @@ use Rattle.vx_volume.specs.Volume.{volume_seen}
 use Rattle.vx_group_calls.specs.Serving.{IsWithinLimits, ServesVolume}
 use Rattle.vx_lending.specs.Left.{held_pieces}
 use Rattle.vx_group_calls.proofs.Service.{cause_by, counted_by, same_counted, data_serves, dead_by, each_same, fill_serves, goes_by, read_all, read_serves, stays_by, write_all}
+use Rattle.vx_group_calls.proofs.Lying.{lies_read, lies_written}
 use Rattle.vx_group_calls.proofs.calling.serve.Goals as goal
 
 pub returns-then-most-gt-MOST_NUMBERS-clause-stays : goal.returns-then-most-gt-MOST_NUMBERS-clause-stays
@@ -76,3 +77,12 @@ returns-in-Data-clause-cause g c = cause_by c.args.running.now.volume c.write_bl
 
 pub returns-in-Data-clause-dead : goal.returns-in-Data-clause-dead
 returns-in-Data-clause-dead g c = dead_by c.args.running.now.volume c.write_blocks.new.volume c.write_blocks.result c.write_blocks.ensures.refused (write_all c.args.running.now.volume c.write_blocks.new.volume c.write_blocks.result c.in-Data.start (length c.in-Data.blocks / 512) c.in-Data.blocks c.write_blocks.ensures.continues.follows c.write_blocks.ensures.served)
+
+pub returns-in-Read-clause-lies : goal.returns-in-Read-clause-lies
+returns-in-Read-clause-lies g c numbers was = lies_read numbers c.args.running.now.form c.args.running.now.volume c.read_blocks.new.volume was c.in-Read.start c.in-Read.count c.read_blocks.result c.read_blocks.ensures.refused c.read_blocks.ensures.continues.follows c.read_blocks.ensures.served
+
+pub returns-in-Fill-clause-lies : goal.returns-in-Fill-clause-lies
+returns-in-Fill-clause-lies g c numbers was = lies_written numbers c.args.running.now.form c.args.running.now.volume c.fill_blocks.new.volume was c.in-Fill.start c.in-Fill.count (replicate (512 * c.in-Fill.count) c.in-Fill.byte) c.fill_blocks.result c.fill_blocks.ensures.refused c.fill_blocks.ensures.continues.follows c.fill_blocks.ensures.served
+
+pub returns-in-Data-clause-lies : goal.returns-in-Data-clause-lies
+returns-in-Data-clause-lies g c numbers was = lies_written numbers c.args.running.now.form c.args.running.now.volume c.write_blocks.new.volume was c.in-Data.start (length c.in-Data.blocks / 512) c.in-Data.blocks c.write_blocks.result c.write_blocks.ensures.refused c.write_blocks.ensures.continues.follows c.write_blocks.ensures.served

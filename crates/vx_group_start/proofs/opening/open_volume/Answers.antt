@@ -10,6 +10,7 @@ use Rattle.vx_group_start.specs.Fresh.{is_fresh}
 use Rattle.vx_group_start.proofs.Early.{early}
 use Rattle.vx_group_start.proofs.Forms.{logged, no_logs, openable, roomy}
 use Rattle.vx_group_start.proofs.Same.{not_started_from, started_from}
+use Rattle.vx_group_start.proofs.Untouched.{never_unread}
 use Rattle.vx_group_start.proofs.opening.open_volume.Goals as goal
 
 pub open_form-requires-clause-taking : goal.open_form-requires-clause-taking
@@ -48,3 +49,11 @@ returns-in-None-clause-refused g c =
     IfErr-weaker c.open_form.result _ _
     (λ fault h. inr (c.in-Ok.form, is, not_started_from c.args.vol.now c.args.numbers.now c.args.public.now (record c.args.public.now { left = c.reserve.new.self }) c.open_form.new.public still c.in-Ok.form fault h))
     c.open_form.ensures.refused
+
+pub returns-in-None-clause-untouched : goal.returns-in-None-clause-untouched
+returns-in-None-clause-untouched g c fresh r same =
+    let is : IsFormOf c.args.config.now c.args.good c.args.vol.now (is_fresh c.args.vol.now.state) c.in-Ok.form = subst (λ b. IsFormOf c.args.config.now c.args.good c.args.vol.now b c.in-Ok.form) c.is_fresh.ensures c.in-Ok.ensures in
+    never_unread c.args.config.now c.args.good c.args.vol.now c.args.numbers.now c.in-Ok.form is fresh (c.in-None.ensures.lowest fresh) (record c.args.public.now { left = c.reserve.new.self }) c.open_form.new.public c.open_form.result r c.open_form.ensures.refused same
+
+pub returns-in-Some-clause-untouched : goal.returns-in-Some-clause-untouched
+returns-in-Some-clause-untouched g c fresh r same = ap (λ xs. map g.P.Piece.seen c.args.public.now.pool.items.items ++ flat_map (remaining_pieces g.P.Piece.seen) xs) c.reserve.ensures.items

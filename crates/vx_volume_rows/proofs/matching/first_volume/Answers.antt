@@ -1,4 +1,3 @@
-use Rattle.std.proofs.Common.{length, sym, subst}
 use Rattle.vx_volume_rows.proofs.Matches.{some_if, vol_is_of}
 use Rattle.vx_volume_rows.proofs.matching.first_volume.Goals as goal
 

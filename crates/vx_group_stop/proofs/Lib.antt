@@ -1,0 +1,3 @@
+mod Clearings
+mod Marks
+mod Passes

@@ -1,0 +1,4 @@
+pub mod Starts
+pub mod Leavings
+pub mod Passes
+pub mod Recorded

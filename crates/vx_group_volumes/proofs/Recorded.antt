@@ -1,0 +1,137 @@
+-- What a start and a stop record changes states alone.
+use Rattle.std.proofs.Common.{◌≡◌, ℕ, Bool, true, false, List, [], ◌∷◌, refl, sym, ap, ◌∙◌, subst, inl, inr}
+use Rattle.std.specs.Prelude.{◌&&◌}
+use Rattle.std.specs.List.{AllZip}
+use Rattle.std.proofs.lemmas.Bool.{and_parts, false≢true}
+use Rattle.vx_base.specs.Named.{Word}
+use Rattle.vx_mask.specs.Mask.{has}
+use Rattle.vx_config_parts.specs.declared.object.Object.{Object}
+use Rattle.vx_config_parts.specs.declared.object.Object.TheVariants.{VolRecord}
+use Rattle.vx_config_parts.specs.declared.plex.Plex.{Plex}
+use Rattle.vx_config_parts.specs.declared.plex.PlexKind.{PlexKind}
+use Rattle.vx_config_parts.specs.declared.plex.PlexKind.TheVariants.{Data, Log}
+use Rattle.vx_config_parts.specs.declared.state.PlexState.{PlexState}
+use Rattle.vx_config_parts.specs.declared.state.PlexState.TheVariants as plex
+use Rattle.vx_config_parts.specs.declared.state.VolState.{VolState}
+use Rattle.vx_config_parts.specs.declared.state.VolState.TheVariants as vol
+use Rattle.vx_config_parts.specs.declared.vol.Vol.{Vol}
+use Rattle.vx_config_parts.specs.Objects.{is_data, is_log, is_data_plex_of, is_log_plex_of, refers}
+use Rattle.vx_objects.specs.declared.config.Config.{Config}
+use Rattle.vx_objects.specs.Config.{objects_of}
+use Rattle.vx_plexes.specs.Once.{IsOneOf}
+use Rattle.vx_image.specs.Image.{is_available_state}
+use Rattle.vx_image.specs.Bytes.{is_active}
+use Rattle.vx_states.specs.Table.{plex_started, plex_stopped}
+use Rattle.vx_state_edits.specs.Edits.{is_new, log_started, started, started_as, stopped, stopped_as}
+use Rattle.vx_state_edits.specs.Laws.{EachRestatedVolumeIsRecorded, EachStartRestates, EachStopRestates, IsAmong, IsPlexAfter, Restates}
+use Rattle.vx_volume_form.specs.Plexes.{IsVolOf, is_used_state}
+use Rattle.vx_left_images.specs.Keeping.{ChangesStates, IsRestated}
+use Rattle.vx_group_start.specs.Fresh.{is_fresh}
+use Rattle.vx_group_volumes.specs.Laws.{EachStartChangesStates, EachStopChangesStates}
+
+zip_weaker : {A B : Type 0} (R S : A → B → Type 0) → ((x : A) (y : B) → R x y → S x y) → (xs : List A) (ys : List B) → AllZip R xs ys → AllZip S xs ys
+zip_weaker R S f [] [] all = tt
+zip_weaker R S f [] (y ∷ ys) all = absurd all
+zip_weaker R S f (x ∷ xs) [] all = absurd all
+zip_weaker R S f (x ∷ xs) (y ∷ ys) all = (f x y all.0, zip_weaker R S f xs ys all.1)
+
+-- ---- among the records
+
+among : (os : List Object) (o : Object) → IsOneOf os o → IsAmong os o
+among [] o one = absurd one
+among (p ∷ ps) o (inl is) = inl is
+among (p ∷ ps) o (inr more) = inr (among ps o more)
+
+one_of : (os : List Object) (o : Object) → IsAmong os o → IsOneOf os o
+one_of [] o one = absurd one
+one_of (p ∷ ps) o (inl is) = inl is
+one_of (p ∷ ps) o (inr more) = inr (one_of ps o more)
+
+-- ---- states of plexes
+
+start_available : (s : PlexState) → is_available_state (plex_started s) ≡ is_available_state s
+start_available plex.Empty = refl
+start_available plex.Clean = refl
+start_available plex.IoFail = refl
+start_available other = refl
+
+stop_available : (marked : Bool) (s : PlexState) → is_available_state (plex_stopped marked s) ≡ is_available_state s
+stop_available true plex.Active = refl
+stop_available false plex.Active = refl
+stop_available marked other = refl
+
+log_used : (first : Bool) (s : PlexState) → is_active (log_started first s) ≡ true → is_used_state first s ≡ true
+log_used true plex.Empty active = refl
+log_used false plex.Empty active = absurd (false≢true active)
+log_used first plex.Active active = refl
+log_used first other active = absurd (false≢true active)
+
+log_stays_used : (s : PlexState) → is_active s ≡ true → is_used_state false s ≡ true
+log_stays_used plex.Active active = refl
+log_stays_used other active = absurd (false≢true active)
+
+started_available : (first : Bool) (k : PlexKind) (s : PlexState) → is_data k ≡ true → is_available_state (started_as first k s) ≡ is_available_state s
+started_available first Data s kind = start_available s
+started_available first Log s kind = absurd (false≢true kind)
+
+started_used : (first : Bool) (k : PlexKind) (s : PlexState) → is_log k ≡ true → is_active (started_as first k s) ≡ true → is_used_state first s ≡ true
+started_used first Data s log active = absurd (false≢true log)
+started_used first Log s log active = log_used first s active
+
+stopped_available : (k : PlexKind) (marked : Bool) (s : PlexState) → is_data k ≡ true → is_available_state (stopped_as k marked s) ≡ is_available_state s
+stopped_available Data marked s kind = stop_available marked s
+stopped_available Log marked s kind = absurd (false≢true kind)
+
+stopped_used : (k : PlexKind) (marked : Bool) (s : PlexState) → is_log k ≡ true → is_active (stopped_as k marked s) ≡ true → is_used_state false s ≡ true
+stopped_used Data marked s log active = absurd (false≢true log)
+stopped_used Log marked s log active = log_stays_used s active
+
+-- ---- the configuration
+
+module _ (c : Config) (v : Vol) (next : VolState) (after : Plex → PlexState) (c' : Config) (fresh : Bool) (good : ℕ) (changes : Restates v.name next after c c')
+    (available : (p : Plex) → is_data p.kind ≡ true → is_available_state (after p) ≡ is_available_state p.state)
+    (used : (p : Plex) → is_log p.kind ≡ true → is_active (after p) ≡ true → is_used_state fresh p.state ≡ true) where
+  restated : (p q : Plex) → IsPlexAfter v.name after p q → IsRestated v.name fresh p q
+  restated p q is = record {
+    same = is.same;
+    available = λ kind.
+        let both = and_parts (refers p.vol v.name) (is_data p.kind) kind in
+        ap is_available_state (is.own both.0) ∙ available p both.1;
+    active = λ log active.
+        let both = and_parts (refers p.vol v.name) (is_log p.kind) log in
+        used p both.1 (ap is_active (sym (is.own both.0)) ∙ active);
+  }
+
+  pub changes_states : ChangesStates c good v fresh c' good (record v { state = next })
+  changes_states = record {
+    vol = refl;
+    disks = changes.disks;
+    subdisks = changes.subdisks;
+    snaps = changes.snaps;
+    plexes = zip_weaker (IsPlexAfter v.name after) (IsRestated v.name fresh) restated c.plexes c'.plexes changes.plexes;
+    failed = λ slot there. there;
+  }
+
+fresh_is : (s : VolState) → is_new s ≡ is_fresh s
+fresh_is vol.Empty = refl
+fresh_is vol.Clean = refl
+fresh_is vol.Active = refl
+fresh_is vol.NeedSync = refl
+fresh_is vol.Sync = refl
+
+pub start_changes : EachStartRestates → EachRestatedVolumeIsRecorded → EachStartChangesStates
+start_changes restates recorded c v of c' edited good =
+    let here = among (objects_of c) (VolRecord v) of in
+    let changes = restates c v here c' edited in (
+      one_of (objects_of c') _ (recorded c v vol.Active (started (is_new v.state)) c' here changes),
+      subst (λ fresh. ChangesStates c good v fresh c' good (record v { state = vol.Active })) (fresh_is v.state)
+          (changes_states c v vol.Active (started (is_new v.state)) c' (is_new v.state) good changes (λ p. started_available (is_new v.state) p.kind p.state) (λ p. started_used (is_new v.state) p.kind p.state)),
+    )
+
+pub stop_changes : EachStopRestates → EachRestatedVolumeIsRecorded → EachStopChangesStates
+stop_changes restates recorded c v marks of c' edited good =
+    let here = among (objects_of c) (VolRecord v) of in
+    let changes = restates c v marks here c' edited in (
+      one_of (objects_of c') _ (recorded c v vol.Clean (stopped marks) c' here changes),
+      changes_states c v vol.Clean (stopped marks) c' false good changes (λ p. stopped_available p.kind _ p.state) (λ p. stopped_used p.kind _ p.state),
+    )

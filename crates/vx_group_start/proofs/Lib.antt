@@ -2,8 +2,10 @@ mod Closings
 mod Early
 mod Fits
 mod Forms
+mod Laid
 mod Missed
 mod NoLogs
+mod OneByOne
 mod Parted
 mod Passes
 mod Rises

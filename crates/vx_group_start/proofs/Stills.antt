@@ -18,7 +18,7 @@ still_left xs ps rs qs ls put =
     (subst (λ (zs : List Seen). SameSectors ((rs ++ qs) ++ ls) zs) (append_assoc qs ls rs)
     (subst (λ (zs : List Seen). SameSectors zs ((qs ++ ls) ++ rs)) (sym (append_assoc rs qs ls)) (same_moved _ _ (IsPermutation-append_comm rs (qs ++ ls)))))
 
-one_more : {X : Type 0} (f : X → List Seen) (xs ys : List X) (x : X) → ys ≡ xs ++ x ∷ [] → flat_map f xs ++ f x ≡ flat_map f ys
+pub one_more : {X : Type 0} (f : X → List Seen) (xs ys : List X) (x : X) → ys ≡ xs ++ x ∷ [] → flat_map f xs ++ f x ≡ flat_map f ys
 one_more f xs ys x e = sym (ap (flat_map f) e ∙ flat_map-append f xs (x ∷ []) ∙ ap (λ (zs : List Seen). flat_map f xs ++ zs) (append-nil (f x)))
 
 pub still_more : {X : Type 0} (f : X → List Seen) (left left' : List X) (x : X) (xs ps qs : List Seen) → left' ≡ left ++ x ∷ [] → SameSectors (xs ++ ps) (f x ++ qs) → SameSectors (xs ++ (ps ++ flat_map f left)) (qs ++ flat_map f left')
@@ -27,7 +27,7 @@ still_more f left left' x xs ps qs e put = subst (λ (zs : List Seen). SameSecto
 -- ---- what is left is put in
 
 -- that of one volume, which comes first
-first_of : {X : Type 0} (f : X → List Seen) (left rest : List X) (x : X) (ps : List Seen) → left ≡ rest ++ x ∷ [] → SameSectors (ps ++ flat_map f left) (f x ++ (ps ++ flat_map f rest))
+pub first_of : {X : Type 0} (f : X → List Seen) (left rest : List X) (x : X) (ps : List Seen) → left ≡ rest ++ x ∷ [] → SameSectors (ps ++ flat_map f left) (f x ++ (ps ++ flat_map f rest))
 first_of f left rest x ps e =
     subst (λ (zs : List Seen). SameSectors (ps ++ zs) (f x ++ (ps ++ flat_map f rest))) (one_more f rest left x e)
     (subst (λ (zs : List Seen). SameSectors zs (f x ++ (ps ++ flat_map f rest))) (append_assoc ps (flat_map f rest) (f x)) (same_moved _ _ (IsPermutation-append_comm (ps ++ flat_map f rest) (f x))))

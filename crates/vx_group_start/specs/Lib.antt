@@ -3,6 +3,7 @@ pub mod Copying
 pub mod Fresh
 pub mod GroupDisks
 pub mod Laws
+pub mod Laying
 pub mod Logs
 pub mod Refused
 pub mod Started

@@ -33,6 +33,7 @@ pub fn close_volume<P: Piece + Drop>(
     ensures kept { OnErr result (SameSectors (still_pieces P.seen public.old) (still_pieces P.seen public.new)) }
     ensures left { public.new.left ≡ public.old.left }
     ensures running { public.new.running ≡ public.old.running }
+    ensures stuck { public.new.stuck ≡ public.old.stuck }
 {
     let Running { form, volume } = running;
     match reserve_volume(&mut public.pool, volume) {

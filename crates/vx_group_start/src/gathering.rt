@@ -20,6 +20,7 @@ pub fn gather<P: Piece + Drop>(alloc: Global, public: &mut Public<P>) -> Result<
     ensures still { SameSectors (still_pieces P.seen public.old) (still_pieces P.seen public.new) }
     ensures none { OnOk result (public.new.left.items ≡ []) }
     ensures running { public.new.running ≡ public.old.running }
+    ensures stuck { public.new.stuck ≡ public.old.stuck }
 {
     'left: while let Some(remains) = public.left.pop() {
         if let Err(remains) = put_again(alloc, &mut public.pool, remains) {

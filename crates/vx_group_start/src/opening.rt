@@ -61,6 +61,7 @@ pub fn open_volume<P: Piece + Drop>(
     ensures refused { IfErr result (λ fault. IsRefused P.seen config.now good vol.now numbers.now public.old public.new fault) }
     ensures back { OnErr result (GoTogether (still_pieces P.seen public.old) (still_pieces P.seen public.new)) }
     ensures running { public.new.running ≡ public.old.running }
+    ensures stuck { public.new.stuck ≡ public.old.stuck }
     // Of a volume that was never started it is known before any piece is touched that no plex is current.
     ensures untouched { is_fresh vol.now.state ≡ true → (r : ℕ) → IsErrOf result (StartFault.NoCurrent r) → still_pieces P.seen public.new ≡ still_pieces P.seen public.old }
 {
@@ -121,6 +122,7 @@ fn open_form<P: Piece + Drop>(
     ensures refused { IfErr result (λ fault. IsNotStarted P.seen vol.now numbers.now form public.old public.new fault) }
     ensures back { OnErr result (GoTogether (still_pieces P.seen public.old) (still_pieces P.seen public.new)) }
     ensures running { public.new.running ≡ public.old.running }
+    ensures stuck { public.new.stuck ≡ public.old.stuck }
 {
     match take_pieces(alloc, &mut public.pool, numbers, &form) {
         Ok(pieces) => open_taken(alloc, vol, public, form, pieces),
@@ -151,6 +153,7 @@ fn open_taken<P: Piece + Drop>(
     ensures refused { IfErr result (λ fault. IsRefusedOver P.seen vol.now form (copies_seen P.seen pieces.copies.items) (volume_pieces P.seen pieces) public.old public.new fault) }
     ensures back { OnErr result (GoTogether (volume_pieces P.seen pieces ++ still_pieces P.seen public.old) (still_pieces P.seen public.new)) }
     ensures running { public.new.running ≡ public.old.running }
+    ensures stuck { public.new.stuck ≡ public.old.stuck }
 {
     let VolumePieces { regions, copies } = pieces;
     match start_log(alloc, &form, is_fresh(vol.state), copies) {
@@ -177,6 +180,7 @@ fn open_over<P: Piece + Drop>(
     ensures refused { IfErr result (λ fault. IsUnopened form.shape (log_seen P.seen log) fault) }
     ensures back { OnErr result (SameSectors ((all_pieces (regions_seen P.seen regions.items) ++ log_pieces P.seen log) ++ still_pieces P.seen public.old) (still_pieces P.seen public.new)) }
     ensures running { public.new.running ≡ public.old.running }
+    ensures stuck { public.new.stuck ≡ public.old.stuck }
 {
     match Volume::open(alloc, form.shape, regions, log) {
         Ok(volume) => Ok(Running { form, volume }),

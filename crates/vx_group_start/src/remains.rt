@@ -42,6 +42,7 @@ pub fn put_back<P: Piece + Drop>(
     requires { vec_len public.old.left < vec_capacity public.old.left }
     ensures still { SameSectors ((all_pieces (regions_seen P.seen regions.items) ++ copy_pieces (left_copies P.seen log)) ++ still_pieces P.seen public.old) (still_pieces P.seen public.new) }
     ensures running { public.new.running ≡ public.old.running }
+    ensures stuck { public.new.stuck ≡ public.old.stuck }
 {
     if let Err(remains) = put_remains(alloc, &mut public.pool, regions, log) {
         public.left.push_reserved(remains);

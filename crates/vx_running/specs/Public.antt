@@ -27,9 +27,13 @@ remaining_pieces see r = all_pieces (regions_seen see r.regions.items) ++ copy_p
 abbrev pub still_pieces : {P : Type 0} {ghosts : Ghosts P} → (P → Seen) → Public P ghosts → List Seen
 still_pieces see p = map see p.pool.items.items ++ flat_map (remaining_pieces see) p.left.items
 
--- those that running volumes have
+-- the pieces of a volume that could not be put back
+abbrev pub stuck_pieces : {P : Type 0} {ghosts : Ghosts P} → (P → Seen) → Running P ghosts → List Seen
+stuck_pieces see r = held_pieces see r.volume
+
+-- those that volumes have: the ones that run, and the ones that could not be put back
 abbrev pub lent_pieces : {P : Type 0} {ghosts : Ghosts P} → (P → Seen) → Public P ghosts → List Seen
-lent_pieces see p = flat_map (running_pieces see) p.running.entries
+lent_pieces see p = flat_map (running_pieces see) p.running.entries ++ flat_map (stuck_pieces see) p.stuck.items
 
 -- the running volume of a name
 abbrev pub running_at : {P : Type 0} {ghosts : Ghosts P} → Public P ghosts → Word → Option (Running P ghosts)

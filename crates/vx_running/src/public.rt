@@ -26,14 +26,16 @@ pub struct Remains<P: LocalPiece> {
     pub log: LogLeft<P>,
 }
 
-/// The public regions of a group's disks, so far as they are apart from the fronts: the pieces that no volume has, and the
-/// volumes that run, by their names.
+/// The public regions of a group's disks, so far as they are apart from the fronts: the pieces that no volume has, the
+/// volumes that run, by their names, and those that ran and could not be put back yet.
 #[derive(Drop)]
 pub struct Public<P: LocalPiece> {
     pub pool: Pool<P>,
     /// What could not be put back into the pool.
     pub left: Vec<Remains<P>>,
     pub running: BTreeMap<Name, Running<P>>,
+    /// Volumes that could not be put back for want of memory as their group was to leave.
+    pub stuck: Vec<Running<P>>,
 }
 
 impl<P: Piece + Drop> Public<P> {
@@ -45,11 +47,13 @@ impl<P: Piece + Drop> Public<P> {
         ensures lent { lent_pieces P.seen result ≡ [] }
         ensures left { result.left.items ≡ [] }
         ensures running { result.running.entries ≡ [] }
+        ensures stuck { result.stuck.items ≡ [] }
     {
         Public {
             pool: Pool::from_vec(Vec::new(alloc)),
             left: Vec::new(alloc),
             running: BTreeMap::new(alloc),
+            stuck: Vec::new(alloc),
         }
     }
 }

@@ -110,6 +110,7 @@ fn started(
         pool,
         left: Vec::new(rt.alloc()),
         running: BTreeMap::new(rt.alloc()),
+        stuck: Vec::new(rt.alloc()),
     };
     match open_volume(rt.alloc(), config, 3, vol, numbers, &mut public) {
         Ok(running) => ran(rt, copies, vol.name, group, public, running),

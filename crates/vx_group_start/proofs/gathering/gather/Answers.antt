@@ -12,6 +12,7 @@ left-preserved g c =
       same = same_trans _ _ _ c.left.invariant.same
           (still_less (remaining_pieces g.P.Piece.seen) c.left.public.left.items c.pop.new.self.items c.in-Some.remains (map g.P.Piece.seen c.left.public.pool.items.items) (map g.P.Piece.seen c.put_again.new.pool.items.items) items c.in_default-put_again.ensures.put);
       running = c.left.invariant.running;
+      stuck = c.left.invariant.stuck;
     }
 
 pub returns-in-Err-clause-still : goal.returns-in-Err-clause-still

@@ -8,6 +8,7 @@ abbrev pub invariant-left : goal.invariant-left
 invariant-left g l = record {
   same : SameSectors (still_pieces g.P.Piece.seen l.fn.public) (still_pieces g.P.Piece.seen l.public);
   running : l.public.running ≡ l.fn.public.running;
+  stuck : l.public.stuck ≡ l.fn.public.stuck;
 }
 
 abbrev pub decreases-left : goal.decreases-left

@@ -2,6 +2,7 @@
 use Rattle.std.proofs.Common.{◌≡◌, ℕ, List, false}
 use Rattle.std.specs.List.{All}
 use Rattle.vx_base.specs.Blocks.{Contents}
+use Rattle.vx_piece.specs.Seen.{Seen}
 use Rattle.vx_carve.specs.Together.{Holds}
 use Rattle.vx_pages.specs.declared.local_piece.LocalPiece.{Ghosts}
 use Rattle.vx_config_parts.specs.declared.vol.Vol.{Vol}
@@ -24,8 +25,8 @@ use Rattle.vx_left_images.proofs.Restated.{restated_kept}
 use Rattle.vx_running.specs.declared.public.Running.{Running}
 use Rattle.vx_group_volumes.specs.Runs.{Opening, RunsIn}
 
-module _ {P : Type 0} {ghosts : Ghosts P} (running : Running P ghosts) (c : Config) (good : ℕ) (numbers : List ℕ) (v : Vol) (runs : RunsIn ghosts.seen c good numbers v running) where
-  pub recorded_runs : (c' : Config) (good' : ℕ) (v' : Vol) → IsVolOf c' v' → IsFilled v'.state → ChangesStates c good v false c' good' v' → RunsIn ghosts.seen c' good' numbers v' running
+module _ {P : Type 0} {ghosts : Ghosts P} (see : P → Seen) (running : Running P ghosts) (c : Config) (good : ℕ) (numbers : List ℕ) (v : Vol) (runs : RunsIn see c good numbers v running) where
+  unfoldable pub recorded_runs : (c' : Config) (good' : ℕ) (v' : Vol) → IsVolOf c' v' → IsFilled v'.state → ChangesStates c good v false c' good' v' → RunsIn see c' good' numbers v' running
   recorded_runs c' good' v' of' filled changes = record {
     recorded = of';
     filled = filled;
@@ -39,11 +40,11 @@ module _ {P : Type 0} {ghosts : Ghosts P} (running : Running P ghosts) (c : Conf
     cut = runs.cut;
   }
 
-  pub leaving_stands : EachLeavingStands → WasStarted v.state → (plexes : List PlexImage) (w : Volume) → RunsAsVolume plexes (volume_seen ghosts.seen running.volume) w →
-      IsSureOfOthers plexes (volume_seen ghosts.seen running.volume) w → (contents : ℕ → Contents) → All (Holds contents) (held_pieces ghosts.seen running.volume) → (bytes : Sectors) →
+  pub leaving_stands : EachLeavingStands → WasStarted v.state → (plexes : List PlexImage) (w : Volume) → RunsAsVolume plexes (volume_seen see running.volume) w →
+      IsSureOfOthers plexes (volume_seen see running.volume) w → (contents : ℕ → Contents) → All (Holds contents) (held_pieces see running.volume) → (bytes : Sectors) →
       AreSectorsOf good numbers contents bytes → AreNamedIn (image_of c good bytes v).plexes plexes → StandsForVolume (image_of c good bytes v) w
   leaving_stands law was plexes w run sure contents hold bytes sectors named =
-      law plexes (volume_seen ghosts.seen running.volume) w runs.whole run sure (image_of c good bytes v)
-      (volume_leaves runs.opening.config runs.opening.good runs.opening.vol runs.opening.fresh running.form runs.of runs.form numbers (volume_seen ghosts.seen running.volume)
-      (log_copies ghosts.seen (log_of running.volume)) runs.whole runs.lies.lies contents hold c good v runs.keeps runs.filled bytes sectors plexes w run named)
+      law plexes (volume_seen see running.volume) w runs.whole run sure (image_of c good bytes v)
+      (volume_leaves runs.opening.config runs.opening.good runs.opening.vol runs.opening.fresh running.form runs.of runs.form numbers (volume_seen see running.volume)
+      (log_copies see (log_of running.volume)) runs.whole runs.lies.lies contents hold c good v runs.keeps runs.filled bytes sectors plexes w run named)
       was

@@ -102,7 +102,7 @@ no_dco (Some x) is = absurd (false≢true is)
 
 module _ {P : Type 0} {ghosts : Ghosts P} (c : Config) (good : ℕ) (v : Vol) (numbers : List ℕ) (old new : Public P ghosts) (running : Running P ghosts) (of : IsVolOf c v)
     (form_is : IsFormOf c good v (is_fresh v.state) running.form) (started : IsStarted ghosts.seen v numbers old new running) where
-  opened_on : IsOpenedOn ghosts.seen numbers running.form started.regions started.log.copies running.volume
+  pub opened_on : IsOpenedOn ghosts.seen numbers running.form started.regions started.log.copies running.volume
   opened_on = record {
     some = some_count c good v (is_fresh v.state) running.form of form_is;
     long = started.long;
@@ -113,7 +113,7 @@ module _ {P : Type 0} {ghosts : Ghosts P} (c : Config) (good : ℕ) (v : Vol) (n
     opened = started.opened;
   }
 
-  pub started_runs : (c' : Config) (good' : ℕ) (v' : Vol) → IsVolOf c' v' → IsFilled v'.state → ChangesStates c good v (is_fresh v.state) c' good' v' → RunsIn ghosts.seen c' good' numbers v' running
+  unfoldable pub started_runs : (c' : Config) (good' : ℕ) (v' : Vol) → IsVolOf c' v' → IsFilled v'.state → ChangesStates c good v (is_fresh v.state) c' good' v' → RunsIn ghosts.seen c' good' numbers v' running
   started_runs c' good' v' of' filled changes = record {
     recorded = of';
     filled = filled;

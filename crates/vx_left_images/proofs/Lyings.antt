@@ -3,7 +3,7 @@ use Rattle.std.proofs.Common.{◌≡◌, ℕ, zero, suc, ◌+◌, ◌-◌, ◌*�
 use Rattle.std.specs.Prelude.{slice_index_or}
 use Rattle.std.proofs.lemmas.List.{length-map}
 use Rattle.vx_piece.specs.Seen.{Seen}
-use Rattle.vx_runs.specs.Run.{EachPiece}
+use Rattle.vx_runs.specs.Run.{EachPiece, run_sectors}
 use Rattle.vx_marks.specs.Log.{LogSeen}
 use Rattle.vx_core.specs.declared.stage.Stage.{Stage}
 use Rattle.vx_pages.specs.Sector.{KeepsPiece}
@@ -25,13 +25,14 @@ use Rattle.vx_volume.specs.Volume.{cell_at}
 use Rattle.vx_volume_pieces.specs.Pieces.{own_pieces}
 use Rattle.vx_volume_pieces.specs.Taken.{IsTakenRegion, own_map}
 use Rattle.vx_lending.specs.Left.{region_plexes}
-use Rattle.vx_opened_images.proofs.Opening.{same_item}
+use Rattle.vx_lending.specs.Taken.{log_sectors}
+use Rattle.vx_opened_images.proofs.Opening.{same_item, some_of}
 use Rattle.vx_left_images.specs.Places.{IsSamePlace, LieOnLogs, spot_at}
 use Rattle.vx_left_images.specs.Lying.{HasMasksOf, IsLogOver}
 use Rattle.vx_left_images.specs.Calls.{EachKeptVolumeLies, EachOpenedVolumeLies, StayPlexes}
 use Rattle.vx_left_images.proofs.Plexes.{plexes_at}
-use Rattle.vx_left_images.proofs.Stays.{copies_weaker, place_kept, stay_cover, stay_differ, stay_holds}
-use Rattle.vx_left_images.proofs.Spots.{cut_lies, kept_lies, same_lies}
+use Rattle.vx_left_images.proofs.Stays.{copies_weaker, place_kept, run_long, stay_cover, stay_differ, stay_holds}
+use Rattle.vx_left_images.proofs.Spots.{cut_lies, cut_long, kept_lies, same_lies}
 
 -- ---- kept plexes
 
@@ -82,6 +83,7 @@ logs_kept : (numbers : List ℕ) (layouts : List Layout) (count : ℕ) (xs ys : 
 logs_kept numbers layouts count xs ys goes on =
     record {
       long = copies_count IsSamePlace xs ys goes ∙ on.long;
+      sectors = λ k lt. run_long (slice_index_or xs k []) (slice_index_or ys k []) (copy_goes_at xs ys k goes) ∙ on.sectors k lt;
       each = λ k d lt i low. kept_lies (slice_index_or xs k []) (slice_index_or ys k []) (copy_goes_at xs ys k goes) i ∙ on.each k d lt i low;
     }
 
@@ -89,6 +91,7 @@ logs_same : (numbers : List ℕ) (layouts : List Layout) (count : ℕ) (xs ys : 
 logs_same numbers layouts count xs ys same on =
     record {
       long = same_count xs ys same ∙ on.long;
+      sectors = λ k lt. ap run_sectors (sym (same_item [] ys k)) ∙ (same_at xs ys k same).sectors ∙ ap run_sectors (same_item [] xs k) ∙ on.sectors k lt;
       each = λ k d lt i low.
           ap (λ (x : List Seen). spot_at x i) (sym (same_item [] ys k)) ∙ same_lies (copy_at xs k) (copy_at ys k) (same_at xs ys k same) i ∙ ap (λ (x : List Seen). spot_at x i) (same_item [] xs k) ∙ on.each k d lt i low;
     }
@@ -146,8 +149,8 @@ opened_volume_lies numbers form regions long taken_regions taken copies taken_co
             snaps = ap (λ (x : CellSeen). x.stage.snaps) cell;
             logged_is = ap (λ (x : CellSeen). x.stage.logged) cell ∙ sym there;
           };
-      logs = logs_kept numbers form.logs.items _ cut.cut copies (copies_weaker KeepsPiece IsSamePlace (λ p q h. place_kept p q h.kept) cut.cut copies cut.goes)
-          (logs_same numbers form.logs.items _ taken cut.cut cut.same
-          (record { long = taken_copies.long; each = λ k d lt. cut_lies numbers (slice_index_or form.logs.items k d).unit (slice_index_or form.logs.items k d).columns 0 _ (slice_index_or taken k []) (taken_copies.cut k d lt) }));
+      logs = logs_kept numbers form.logs.items (log_sectors form.shape.geometry) cut.cut copies (copies_weaker KeepsPiece IsSamePlace (λ p q h. place_kept p q h.kept) cut.cut copies cut.goes)
+          (logs_same numbers form.logs.items (log_sectors form.shape.geometry) taken cut.cut cut.same
+          (record { long = taken_copies.long; sectors = λ k lt. let d = some_of form.logs.items k lt in let long = cut_long numbers (slice_index_or form.logs.items k d).unit (slice_index_or form.logs.items k d).columns 0 (log_sectors form.shape.geometry) (slice_index_or taken k []) (taken_copies.cut k d lt) in omega (arith, long); each = λ k d lt. cut_lies numbers (slice_index_or form.logs.items k d).unit (slice_index_or form.logs.items k d).columns 0 _ (slice_index_or taken k []) (taken_copies.cut k d lt) }));
       log = subst (λ (l : LogSeen). IsLogOver l (count_of form.shape) copies) (sym opened.log_is) over;
     }

@@ -8,7 +8,7 @@ use Rattle.vx_base.specs.Blocks.{Contents}
 use Rattle.vx_mask.specs.Mask.{has}
 use Rattle.vx_piece.specs.Seen.{Seen}
 use Rattle.vx_runs.specs.Part.{told_or}
-use Rattle.vx_runs.specs.Run.{run_contents}
+use Rattle.vx_runs.specs.Run.{run_contents, run_sectors}
 use Rattle.vx_cut.specs.Same.{run_at, sector_in}
 use Rattle.vx_cut.specs.Same.{SectorSeen as CutSector}
 use Rattle.vx_layout.specs.declared.run.Run.{Run}
@@ -16,7 +16,7 @@ use Rattle.vx_layout.specs.declared.strip.Strip.{Strip}
 use Rattle.vx_layout.specs.declared.place.Place.{Place}
 use Rattle.vx_layout.specs.Columns.{place_of}
 use Rattle.vx_layout.specs.Runs.{AreRuns}
-use Rattle.vx_carve.specs.Carved.{ArePieces}
+use Rattle.vx_carve.specs.Carved.{AreCut, ArePieces}
 use Rattle.vx_carve.specs.Strips.{all_lie_in}
 use Rattle.vx_carve.specs.Together.{Holds, HoldsTold, IsRunOf}
 use Rattle.vx_config_parts.specs.declared.disk.Disk.{Disk}
@@ -57,6 +57,19 @@ module _ (numbers : List ℕ) (unit : ℕ) (columns : List (List Strip)) where
           let count = is.count_is in
           let same : start + run.count + (k - p.sectors) ≡ start + k = omega (arith, high, count) in
           rest (k - p.sectors) (omega (arith, same, lt)) ∙ ap (λ (n : ℕ). spot_of numbers (place_of unit columns n)) same
+
+  -- they have as many sectors as there are blocks
+  runs_long : (runs : List Run) (ps : List Seen) (start end : ℕ) → AreRuns unit columns start end runs → ArePieces numbers runs ps → start + run_sectors ps ≡ end
+  runs_long [] [] start end are pieces = let same : start ≡ end = are in omega (arith, same)
+  runs_long [] (p ∷ ps) start end are pieces = absurd pieces
+  runs_long (run ∷ runs) [] start end are pieces = absurd pieces
+  runs_long (run ∷ runs) (p ∷ ps) start end are pieces =
+      let rest = runs_long runs ps (start + run.count) end are.3 pieces.1 in
+      let here = pieces.0.count_is in
+      omega (arith, rest, here)
+
+pub cut_long : (numbers : List ℕ) (unit : ℕ) (columns : List (List Strip)) (start end : ℕ) (ps : List Seen) → AreCut numbers unit columns start end ps → start + run_sectors ps ≡ end
+cut_long numbers unit columns start end ps cut = runs_long numbers unit columns cut.runs ps start end cut.are_runs cut.pieces
 
 pub cut_lies : EachCutLies
 cut_lies numbers unit columns start end ps cut k lt = runs_lie numbers unit columns cut.runs ps start end k cut.are_runs cut.pieces lt

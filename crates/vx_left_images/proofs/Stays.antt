@@ -60,7 +60,7 @@ run_then (p ∷ ps) [] rs a b = absurd a
 run_then (p ∷ ps) (q ∷ qs) [] a b = absurd b
 run_then (p ∷ ps) (q ∷ qs) (r ∷ rs) a b = (place_then p q r a.0 b.0, run_then ps qs rs a.1 b.1)
 
-run_long : (ps qs : List Seen) → EachPiece IsSamePlace ps qs → run_sectors qs ≡ run_sectors ps
+pub run_long : (ps qs : List Seen) → EachPiece IsSamePlace ps qs → run_sectors qs ≡ run_sectors ps
 run_long [] [] h = refl
 run_long [] (q ∷ qs) h = absurd h
 run_long (p ∷ ps) [] h = absurd h

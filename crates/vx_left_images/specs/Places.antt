@@ -1,7 +1,7 @@
 -- The sectors that pieces have, one behind the other, whatever pieces they are cut into.
 use Rattle.std.specs.Prelude.{◌≡◌, ℕ, ◌+◌, ◌-◌, ◌<◌, nat_lt, if◌then◌else◌, List, [], ◌∷◌, length, slice_index, slice_index_or, Option, Some, None}
 use Rattle.vx_piece.specs.Seen.{Seen}
-use Rattle.vx_runs.specs.Run.{EachPiece}
+use Rattle.vx_runs.specs.Run.{EachPiece, run_sectors}
 use Rattle.vx_cut.specs.Same.{SameRun}
 use Rattle.vx_layout.specs.declared.layout.Layout.{Layout}
 use Rattle.vx_layout.specs.declared.place.Place.{Place}
@@ -37,9 +37,10 @@ spot_of numbers (Some place) = Some (spot (slice_index numbers place.disk) (2048
 abbrev pub LieOn : List ℕ → ℕ → List (List Strip) → ℕ → ℕ → List Seen → Type 0
 LieOn numbers unit columns start end ps = (k : ℕ) → start + k < end → spot_at ps k ≡ spot_of numbers (place_of unit columns (start + k))
 
--- each copy lies where the first so many blocks of its layout do
+-- each copy has so many sectors, and lies where the first blocks of its layout do
 pub record LieOnLogs (numbers : List ℕ) (layouts : List Layout) (count : ℕ) (copies : List (List Seen)) : Type 0 where
   pub long : length copies ≡ length layouts
+  pub sectors : (k : ℕ) → k < length layouts → run_sectors (slice_index_or copies k []) ≡ count
   pub each : (k : ℕ) (d : Layout) → k < length layouts → LieOn numbers (slice_index_or layouts k d).unit (slice_index_or layouts k d).columns 0 count (slice_index_or copies k [])
 
 -- ---- laws

@@ -34,7 +34,7 @@ module _ (vol : Word) (o : Option Volume) (old new : World) (is : new.volumes �
 pub start_leaves : EachStartLeavesSound
 start_leaves g v plexes old new own begins sound =
     let run : Volume = volume_by v.state plexes (image_on old.devices g v) in
-    volumes_sound g v.name old new own begins.lent.changes (idle_before v.name (Some run) old new begins.volumes)
+    volumes_sound g v.name old new own begins.changes (idle_before v.name (Some run) old new begins.volumes)
     (λ w there same none. absurd (let here : new.volumes v.name ≡ Some run = here_now v.name (Some run) old new begins.volumes in cc)) sound
 
 -- ---- two volumes of one name are one

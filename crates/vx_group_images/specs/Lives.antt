@@ -1,5 +1,5 @@
 -- How a volume of a group begins to run over its bytes, and how it is left.
-use Rattle.std.specs.Prelude.{◌≡◌, ℕ, true, false, if◌then◌else◌, Option, Some, None, List, [], Contains}
+use Rattle.std.specs.Prelude.{◌≡◌, ℕ, true, false, if◌then◌else◌, Option, Some, None, MatchOption, List, [], Contains}
 use Rattle.std.specs.List.{list_any}
 use Rattle.vx_base.specs.Named.{Word, put}
 use Rattle.vx_config_parts.specs.declared.vol.Vol.{Vol}
@@ -7,8 +7,9 @@ use Rattle.vx_config_parts.specs.declared.state.VolState.{VolState}
 use Rattle.vx_config_parts.specs.declared.state.VolState.TheVariants as vol
 use Rattle.vx_image.specs.Image.{Image}
 use Rattle.vx_image.specs.Meaning.{lowest_of}
-use Rattle.vx_moments.specs.World.{Device, Track, Volume, Group, World}
-use Rattle.vx_group_images.specs.Group.{ChangesOnly, HaveOwnDevices, IsSectorOf, AreVolumesSound, image_on}
+use Rattle.vx_moments.specs.World.{Track, Volume, Group, World}
+use Rattle.vx_moments.specs.Leaving.{grouped}
+use Rattle.vx_group_images.specs.Group.{ChangesOnly, HaveOwnDevices, AreVolumesSound, image_on}
 use Rattle.vx_group_images.specs.Volumes.{StandsForVolume, is_named, volume_read}
 
 -- ---- a life begins
@@ -36,14 +37,10 @@ volume_by vol.Active plexes v = volume_read plexes v
 volume_by vol.NeedSync plexes v = volume_read plexes v
 volume_by vol.Sync plexes v = volume_read plexes v
 
--- the sectors of the volume have no meaning while it runs, so its devices have them empty; all others are as they were
-pub record AreLent (g : Group) (vol : Word) (old new : Word → Option Device) : Type 0 where
-  pub changes : ChangesOnly g vol old new
-  pub empty : (name : Word) (d : Device) → new name ≡ Some d → (k : ℕ) → IsSectorOf g vol name k → d.contents k ≡ []
-
--- a volume is started on these plexes, of data and of its log: a life begins over what its bytes say
+-- A volume is started on these plexes, of data and of its log: a life begins over what its bytes say. Only sectors of the volume have
+-- changed, such as those of its log.
 pub record BeginsToRun (g : Group) (v : Vol) (plexes : List Word) (old new : World) : Type 0 where
-  pub lent : AreLent g v.name old.devices new.devices
+  pub changes : ChangesOnly g v.name old.devices new.devices
   pub volumes : new.volumes ≡ put v.name (Some (volume_by v.state plexes (image_on old.devices g v))) old.volumes
 
 -- ---- a life ends
@@ -53,6 +50,23 @@ pub record IsLeftInPlace (g : Group) (v : Vol) (run : Volume) (old new : World) 
   pub changes : ChangesOnly g v.name old.devices new.devices
   pub stands : StandsForVolume (image_on new.devices g v) run
   pub volumes : new.volumes ≡ put v.name None old.volumes
+
+-- ---- the group leaves
+
+-- the group records a volume of the name, whose bytes stand for the one that ran
+pub record StandsFor (w : World) (g : Group) (name : Word) (run : Volume) : Type 0 where
+  pub of : Vol
+  pub recorded : Contains g.config.volumes of
+  pub named : of.name ≡ name
+  pub stands : StandsForVolume (image_on w.devices g of) run
+
+-- so it is with each volume that runs on the group's plexes
+abbrev pub StandForEach : World → Group → Type 0
+StandForEach w g = (name : Word) (run : Volume) → grouped (w.volumes name) ≡ Some run → StandsFor w g name run
+
+-- where a group is imported, its bytes stand for the volumes that run
+abbrev pub GroupStands : World → Type 0
+GroupStands w = MatchOption w.group (Unit {0}) (StandForEach w)
 
 -- ---- laws
 

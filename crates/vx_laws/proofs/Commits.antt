@@ -23,6 +23,8 @@ use Rattle.vx_moments.specs.Commit.{Writing, parties, is_written_slot, DeviceGoe
 use Rattle.vx_plans.specs.Finding.{Candidate, IsCandidate, is_recorded}
 use Rattle.vx_laws.specs.Returning.{SlotsRise, HasJustDisks, HasSamePublic, IsKeptOn, IsDeviceOf, nobody, IsOutdated, IsLeftOn, IsLeftBehind}
 use Rattle.vx_laws.proofs.ListFacts.{either, both_ways, all_all, all_pass, all_append, all_front, all_behind}
+use Rattle.vx_moments.proofs.Lone.{lent_was}
+use Rattle.vx_moments.proofs.Lone.{lent_still}
 
 -- ---- names of devices
 
@@ -41,7 +43,7 @@ same_lent a b name same (vol, v, is, has) = (vol, v, ap (λ (f : Word → Option
 
 -- where the group has gone, only started volumes hold devices
 pub just_lent : (w : World) (name : Word) → IsHeld (group_gone w) name → IsLent w name
-just_lent w name (inl lent) = lent
+just_lent w name (inl lent) = lent_was w name lent
 just_lent w name (inr none) = absurd none
 
 -- a free device whose header names a group is one in a world where it is free and as it was
@@ -198,7 +200,7 @@ module _ (x : Writing) (old new : Moment) (ready : CanBeWritten x old.world) (c 
     where
       was : IsNoDeviceOf (parties x) d.name → IsCandidate x.config.group nobody (group_gone old.world) d
       was off =
-          same_candidate x.config.group (group_gone new.world) (group_gone old.world) d (λ held. is.free (inl (same_lent new.world old.world d.name (sym c.committing.volumes) (just_lent old.world d.name held))))
+          same_candidate x.config.group (group_gone new.world) (group_gone old.world) d (λ held. is.free (inl (lent_still new.world d.name (same_lent new.world old.world d.name (sym c.committing.volumes) (just_lent old.world d.name held)))))
           (sym (c.committing.others d.name off)) is
 
   -- once the group is let go it is left behind, if each other device whose header names it is outdated

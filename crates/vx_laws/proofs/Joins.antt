@@ -44,6 +44,7 @@ use Rattle.vx_objects.specs.Edits.{edited, change, added}
 use Rattle.vx_objects.specs.Parts.{in_kinds}
 use Rattle.vx_objects.proofs.InKinds.{are_sorted}
 use Rattle.vx_laws.proofs.SecondReads.{objects_are}
+use Rattle.vx_moments.proofs.Lone.{lent_still}
 
 -- ---- devices that join
 
@@ -58,7 +59,7 @@ some_is o d e = subst IsSome (sym e) refl
 no_candidate : (dg : Word) (taken : List Word) (w : World) (d : Candidate) → IsUnnamed dg taken w → IsCandidate dg nobody (group_gone w) d → (IsMemberDevice w.group d.name → ⊥) → is_among d.name taken ≡ false → ⊥
 no_candidate dg taken w d none is free_of apart =
     none d.name
-    (some_is (w.devices d.name) d.device is.device_is, (λ held. either (λ lent. is.free (inl lent)) (λ member. free_of member) held, apart))
+    (some_is (w.devices d.name) d.device is.device_is, (λ held. either (λ lent. is.free (inl (lent_still w d.name lent))) (λ member. free_of member) held, apart))
     (d.device, is.device_is, ap (names_group dg) is.header ∙ ap (λ (x : Word). bytes_eq x dg) is.group_is ∙ bytes_eq_self dg)
 
 -- the member's name is not among those of the words, if none of the devices is the member's
@@ -341,7 +342,9 @@ enlarged p w x whole free few unnamed is =
       rise = left.rising;
       placed = left.placed;
       kept = all_map (IsKeptOn x.group left.text (group_gone w)) (λ m. HasItsHeader x w m × IsRecorded x w m) x.group.members
-          (λ m k. kept_as x.group left.text (group_gone w) x m own (λ l h. passes_old x.group.config x.config disk records (λ d. d.slot == l.slot && bytes_eq d.name l.disk && d.publen == l.sectors - 2048) h) k) left.kept;
+          (λ m k.
+          let r = kept_as x.group left.text (group_gone w) x m own (λ l h. passes_old x.group.config x.config disk records (λ d. d.slot == l.slot && bytes_eq d.name l.disk && d.publen == l.sectors - 2048) h) k in
+          (r.0, ((λ lent. r.1.0 (lent_still w m.device lent)), r.1.1))) left.kept;
       here = λ name member. subst (λ (o : Option Group). IsMemberDevice o name) whole.here member;
       unnamed = subst (λ (name : Word). IsUnnamed name (p.device ∷ []) w) (sym own) unnamed;
     }

@@ -12,6 +12,8 @@ use Rattle.vx_life.specs.Entry.{Entry, values_after, candidates_of, ReadsAmong}
 use Rattle.vx_life.specs.Life.{Life, IsNext, life_after, GoesOn}
 use Rattle.vx_moments.specs.World.{World, Volume}
 use Rattle.vx_laws.specs.Histories.{CountsDown, HasHistory, IsHistoried, HaveHistories}
+use Rattle.vx_moments.specs.Leaving.{group_gone}
+use Rattle.vx_moments.proofs.Lone.{lone_was}
 
 reads_as : (kind : EntryKind) (c d : Candidates) (e : Entry) → ((k : ℕ) → c k ≡ d k) → ReadsAmong kind c e → ReadsAmong kind d e
 reads_as Read c d e same reads = λ k h. subst (λ v. IsAmong v (e.values k)) (same k) (reads k h)
@@ -64,3 +66,7 @@ module _ (Held : Holding) where
 
   pub from_nothing : (w : World) → ((vol : Word) → w.volumes vol ≡ None) → HaveHistories Held w
   from_nothing w none vol v e = let no : w.volumes vol ≡ None = none vol in cc
+
+  -- where the group leaves, those that stay have theirs
+  pub without_group : (w : World) → HaveHistories Held w → HaveHistories Held (group_gone w)
+  without_group w all = λ vol v is. all vol v (lone_was (w.volumes vol) v is)

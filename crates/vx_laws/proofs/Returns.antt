@@ -44,6 +44,7 @@ use Rattle.vx_config_parts.specs.declared.vol.Vol.{Vol}
 use Rattle.vx_answers.specs.declared.refusal.Refusal.TheVariants.{NoGroup}
 use Rattle.vx_plans.specs.Tests.{fails, unless, is_here, in_use_by, started_of, first_started}
 use Rattle.vx_plans.specs.declared.test.Test.TheVariants as tests
+use Rattle.vx_moments.proofs.Lone.{lent_still}
 
 -- ---- all devices are found
 
@@ -170,7 +171,7 @@ module _ (g : Group) (w : World) (left : IsLeftBehind g w) where
 -- a free device is free once the group is let go, too
 still_candidate : (group : Word) (w : World) (d : Candidate) → w.group ≡ None → IsCandidate group nobody (group_gone w) d → IsCandidate group nobody w d
 still_candidate group w d none is =
-    same_candidate group (group_gone w) w d (λ held. either (λ lent. is.free (inl lent)) (λ member. subst (λ (o : Option Group). IsMemberDevice o d.name) none member) held) refl is
+    same_candidate group (group_gone w) w d (λ held. either (λ lent. is.free (inl (lent_still w d.name lent))) (λ member. subst (λ (o : Option Group). IsMemberDevice o d.name) none member) held) refl is
 
 module _ (g : Group) (x : Writing) (old new : Moment) (left : IsLeftBehind g old.world) (same : IsSameGroup g (in_text g old.world left).os x) (c : IsCommitted x old new) (none : NoneFailed old.counts new.counts) where
   can : CanBeWritten x old.world

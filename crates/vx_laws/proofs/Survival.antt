@@ -8,6 +8,7 @@ use Rattle.vx_plans.specs.Finding.{Candidate, IsCandidate}
 use Rattle.vx_laws.specs.Returning.{IsKeptOn, nobody, good_members, IsLeftBehind, IsFull, EachGroupOutlivesPower}
 use Rattle.vx_laws.proofs.ListFacts.{clash, all_map}
 use Rattle.vx_laws.proofs.Commits.{just_lent, same_candidate}
+use Rattle.vx_moments.proofs.Lone.{lent_still}
 
 module _ (g : Group) (old new : World) (left : IsLeftBehind g (group_gone old)) (gone : PowerGoes old new) (apart : (c : Candidate) → IsCandidate g.config.group nobody new c → IsLent old c.name → ⊥) where
   -- nobody holds anything
@@ -18,7 +19,7 @@ module _ (g : Group) (old new : World) (left : IsLeftBehind g (group_gone old)) 
   kept_still : (m : Member) → IsKeptOn g left.text (group_gone old) m → IsKeptOn g left.text new m
   kept_still m k = record {
     device = k.device;
-    device_is = gone.others m.device (λ lent. k.free (inl lent)) ∙ k.device_is;
+    device_is = gone.others m.device (λ lent. k.free (inl (lent_still old m.device lent))) ∙ k.device_is;
     free = nothing_held m.device;
     header = k.header;
     recorded = k.recorded;

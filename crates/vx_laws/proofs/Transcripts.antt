@@ -16,7 +16,7 @@ use Rattle.vx_plans.specs.declared.stage.Stage.{Stage}
 use Rattle.vx_plans.specs.declared.stage.Stage.TheVariants as stage
 use Rattle.vx_plans.proofs.Complete.{kept_world, keeps_world}
 use Rattle.vx_laws.specs.Histories.{IsHistoried, HaveHistories, WasThere}
-use Rattle.vx_laws.proofs.Lives.{Holding, fresh_history, put_history, goes_on_history, same_volumes, from_nothing}
+use Rattle.vx_laws.proofs.Lives.{Holding, fresh_history, put_history, goes_on_history, same_volumes, without_group, from_nothing}
 use Rattle.vx_base.specs.Blocks.{Contents}
 use Rattle.vx_script_forms.specs.declared.call.Call.TheVariants as said
 use Rattle.vx_script_forms.specs.declared.form.Form.{Form}
@@ -56,7 +56,7 @@ module _ (Held : Holding) (old new : Moment) (all : HaveHistories Held old.world
   stage_kept stage.Join (p ∷ []) there (x, writing, committed) = as_was committed.committing.volumes
   stage_kept (stage.Create dg) disks there (none, (x, writing, committed)) = as_was committed.committing.volumes
   stage_kept (stage.Import dg) disks there (none, mid, between, (x, writing, committed)) = as_was (committed.committing.volumes ∙ volumes_of old.world mid.world between.world)
-  stage_kept stage.LetGo disks there (gone, counts) = as_was (ap (λ (w : World). w.volumes) gone)
+  stage_kept stage.LetGo disks there (gone, counts) = subst (HaveHistories Held) (sym gone) (without_group Held old.world all)
   stage_kept other disks there is = same (kept_world other disks old new refl is)
 
 -- ---- calls
@@ -134,8 +134,8 @@ module _ (Held : Holding) where
 
   left_kept : (end : End) (began over left : World) → HaveHistories Held began → HaveHistories Held over → Leaves end began over left → HaveHistories Held left
   left_kept (ends.Refused refusal) began over left first all is = subst (HaveHistories Held) (sym is) first
-  left_kept ends.GroupLost began over left first all is = same_volumes Held over left (ap (λ (w : World). w.volumes) is) all
-  left_kept (ends.Lost parts) began over left first all gone = from_nothing Held left gone.volumes
+  left_kept ends.GroupLost began over left first all is = subst (HaveHistories Held) (sym is.1) (without_group Held over all)
+  left_kept (ends.Lost parts) began over left first all gone = from_nothing Held left gone.1.volumes
   left_kept other began over left first all is = subst (HaveHistories Held) (sym is) all
 
   step_kept : (place : ℕ) (c : Command) (old : Moment) (answer : Answer) (new : Moment) → AreThere Held old.world → HaveHistories Held old.world → Step place c old answer new → HaveHistories Held new.world

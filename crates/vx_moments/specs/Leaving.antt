@@ -22,6 +22,25 @@ pub record PowerGoes (old new : World) : Type 0 where
   pub stand : (vol : Word) (v : Volume) → old.volumes vol ≡ Some v → IsLeftBy v v.lies new.devices
   pub others : (name : Word) → (IsLent old name → ⊥) → new.devices name ≡ old.devices name
 
--- the group leaves, and its devices have what they had
+-- the volume, where it lies on a whole device
+abbrev pub lone_by : Lies → Volume → Option Volume
+lone_by (OnDevice device) v = Some v
+lone_by (OnPlexes plexes) v = None
+
+-- what is there of a volume where the group is not
+abbrev pub lone : Option Volume → Option Volume
+lone None = None
+lone (Some v) = lone_by v.lies v
+
+-- the volume, where it lies on plexes of the group
+abbrev pub grouped_by : Lies → Volume → Option Volume
+grouped_by (OnDevice device) v = None
+grouped_by (OnPlexes plexes) v = Some v
+
+abbrev pub grouped : Option Volume → Option Volume
+grouped None = None
+grouped (Some v) = grouped_by v.lies v
+
+-- the group leaves with the volumes on its plexes, and its devices have what they had
 abbrev pub group_gone : World → World
-group_gone w = record w { group = None }
+group_gone w = record w { volumes = λ vol. lone (w.volumes vol); group = None }

@@ -19,7 +19,7 @@ pub record Track : Type 0 where
   pub sure : ℕ → Bool
   pub possible : ℕ → Bool
 
--- A started volume. Its sectors have no meaning in its devices' bytes.
+-- A started volume. Where it lies on a whole device, the bytes of that mean nothing.
 pub record Volume : Type 0 where
   pub lies : Lies
   pub length : ℕ

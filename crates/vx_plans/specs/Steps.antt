@@ -18,6 +18,7 @@ use Rattle.vx_answers.specs.declared.refusal.Refusal.TheVariants.{NotBuilt}
 use Rattle.vx_moments.specs.World.{World}
 use Rattle.vx_moments.specs.Moment.{Moment, AreLater}
 use Rattle.vx_moments.specs.Leaving.{PowerGoes, group_gone}
+use Rattle.vx_group_images.specs.Lives.{GroupStands}
 use Rattle.vx_plans.specs.Calls.{CallRuns}
 use Rattle.vx_plans.specs.Plans.{plan_of, disks_of}
 use Rattle.vx_plans.specs.Stages.{IsDone, Stops}
@@ -43,14 +44,15 @@ Runs disks (s ∷ ss) finish old views end new =
     ((mid : Moment) × AreLater old.counts mid.counts × IsDone s disks old mid × Runs disks ss finish mid views end new)
     ⊎ ((views ≡ []) × AreLater old.counts new.counts × Stops s disks old end new)
 
--- A command that is over: where it was refused the world is as it began, and where the group or the power was lost they go.
+-- A command that is over: where it was refused the world is as it began, and where the group or the power was lost they go. The bytes
+-- that then are left of the group's volumes stand for those that ran.
 abbrev pub Leaves : End → World → World → World → Type 0
 Leaves (ends.Done copied parts blocks) began w left = left ≡ w
 Leaves (ends.Refused refusal) began w left = left ≡ began
 Leaves (ends.Fault told device parts) began w left = left ≡ w
 Leaves ends.ShelfFailed began w left = left ≡ w
-Leaves ends.GroupLost began w left = left ≡ group_gone w
-Leaves (ends.Lost parts) began w left = PowerGoes w left
+Leaves ends.GroupLost began w left = GroupStands w × (left ≡ group_gone w)
+Leaves (ends.Lost parts) began w left = GroupStands w × PowerGoes w left
 
 -- from one moment to the next, by what the command does and what is left then
 pub record Serves (Does : Moment → List View → End → Moment → Type 0) (old : Moment) (answer : Answer) (new : Moment) : Type 0 where

@@ -13,6 +13,7 @@ use Rattle.vx_sound.specs.Standing.{HoldsNoHeader, IsOwn, Carries, IsLeading, Is
 use Rattle.vx_sound.proofs.Headers.{size_above, never_some, some_same}
 use Rattle.vx_sound.proofs.Fewer.{HadEach, HasOrNone, offered, chained_fewer}
 use Rattle.vx_sound.proofs.Lists.{all_two}
+use Rattle.vx_moments.proofs.Lone.{lone_was, lent_was, lent_still}
 
 -- the world is sound once its group leaves
 pub record IsSettled (w : World) : Type 0 where
@@ -79,16 +80,16 @@ module _ (old new : World) (change : IsLittle old new) where
 
 module _ (w : World) where
   gone_back : (dg : Word) → HadEach dg w (group_gone w)
-  gone_back dg name slot d h = record { device = h.device; apart = h.apart; label = h.label; header = h.header; group = h.group; slot_is = h.slot_is; size = h.size }
+  gone_back dg name slot d h = record { device = h.device; apart = λ lent. h.apart (lent_still w name lent); label = h.label; header = h.header; group = h.group; slot_is = h.slot_is; size = h.size }
 
   gone_fore : (dg : Word) → HasOrNone dg w (group_gone w)
-  gone_fore dg name slot d h = inl (record { device = h.device; apart = h.apart; label = h.label; header = h.header; group = h.group; slot_is = h.slot_is; size = h.size })
+  gone_fore dg name slot d h = inl (record { device = h.device; apart = λ lent. h.apart (lent_was w name lent); label = h.label; header = h.header; group = h.group; slot_is = h.slot_is; size = h.size })
 
   pub standing_gone : IsSettled w → IsStanding (group_gone w)
   standing_gone s = record {
     copies = λ dg. chained_fewer dg w (group_gone w) (gone_back dg) (gone_fore dg) (s.copies dg);
     group = tt;
-    volumes = s.volumes;
+    volumes = λ vol v is. s.volumes vol v (lone_was (w.volumes vol) v is);
   }
 
 -- ---- the power goes

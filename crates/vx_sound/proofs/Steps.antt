@@ -287,10 +287,10 @@ leaves (ends.Fault told device parts) began w left s (inr (t, inr never)) is = c
 leaves ends.ShelfFailed began w left s (inl t) is = subst IsStanding (sym is) t
 leaves ends.ShelfFailed began w left s (inr (t, inl never)) is = cc
 leaves ends.ShelfFailed began w left s (inr (t, inr never)) is = cc
-leaves ends.GroupLost began w left s (inl t) is = subst IsStanding (sym is) (standing_gone w (settled w t))
-leaves ends.GroupLost began w left s (inr (t, must)) is = subst IsStanding (sym is) (standing_gone w t)
-leaves (ends.Lost parts) began w left s (inl t) goes = standing_left w left goes (settled w t)
-leaves (ends.Lost parts) began w left s (inr (t, must)) goes = standing_left w left goes t
+leaves ends.GroupLost began w left s (inl t) is = subst IsStanding (sym is.1) (standing_gone w (settled w t))
+leaves ends.GroupLost began w left s (inr (t, must)) is = subst IsStanding (sym is.1) (standing_gone w t)
+leaves (ends.Lost parts) began w left s (inl t) goes = standing_left w left goes.1 (settled w t)
+leaves (ends.Lost parts) began w left s (inr (t, must)) goes = standing_left w left goes.1 t
 
 pub each_step_keeps_the_world_sound : (place : ℕ) (c : Command) (old : Moment) (answer : Answer) (new : Moment)
     → FormWritesNoHeader c.form → IsStanding old.world → Step place c old answer new → IsStanding new.world

@@ -88,7 +88,7 @@ module _ {P : Type 0} {ghosts : Ghosts P} {see : P → Seen} {shelf : Shelved} {
   bs = whole_disks rests (members see g'.base)
 
   same_rests : group_rests see g' ≡ rests
-  same_rests = ap (λ p. rests_of (still_pieces see p) (lent_pieces see p)) w.public
+  same_rests = ap (λ p. rests_of (still_pieces see p ++ lent_pieces see p) []) w.public
 
   pub wholes_now : whole_members see g' ≡ bs
   wholes_now = ap (λ r. whole_disks r (members see g'.base)) same_rests

@@ -24,8 +24,10 @@ use Rattle.vx_moments.specs.Copies.{IsTextOf}
 use Rattle.vx_moments.specs.Commit.{Writing, IsHeaded, parties, is_written_slot, WritesOnce, CarriersFailed, IsCommitting, IsCommitted, IsStopped}
 use Rattle.vx_house.specs.Holders.{Holder, holder_in, holders, volume_holder, volume_at, AreHeld, AreApart}
 use Rattle.vx_house.specs.Scene.{Shelved, seen_at, AreCountsOf, FaultsGoOn}
+use Rattle.vx_house.specs.Runs.{AreRuns}
 use Rattle.vx_house.specs.View.{at, scene, is_lent, member_in, IsDeviceOf, IsAtVolume, IsMomentButGroup}
 use Rattle.vx_house.specs.declared.house.House.{House}
+use Rattle.vx_moments.specs.Leaving.{lone}
 use Rattle.vx_house.proofs.Hands.{volumes_apart}
 use Rattle.vx_house.proofs.Holders.{later_held}
 use Rattle.vx_house.proofs.AllLaws.{all_front, all_back, all_unmapped}
@@ -140,12 +142,13 @@ module _ {P : Type 0} {ghosts : Ghosts P} {see : P → Seen} {shelf : Shelved} {
     pub later_on : AreLater m.counts n.counts
     later_on = later shelf vs os (hs ++ js) (bs ++ ks) s.called apart (is_lent old) m devices_then counts_then own world
 
-    pub but_group_on : IsMomentButGroup see (at shelf new) n
-    but_group_on = record {
+    pub but_group_on : AreRuns see new.group world m.world.volumes → IsMomentButGroup see (at shelf new) n
+    but_group_on runs = record {
       told = is.told;
       devices_are = λ name. subst (λ b. IsDeviceOf b (seen_at (scene see (at shelf new)) name) (n.world.devices name)) (ap (λ v. is_lent (let h : House P ghosts = record { volumes = v; group = old.group; hand = old.hand } in h) name) (sym s.volumes))
           (subst (λ l. IsDeviceOf (is_lent old name) (seen_at (record { shelf = shelf; taken = l }) name) (n.world.devices name)) (sym s.is) (devices_are_now shelf vs os (hs ++ js) (bs ++ ks) s.called apart (is_lent old) m devices_then counts_then own world name));
-      volumes_are = λ vol. subst (λ o. IsAtVolume see o (m.world.volumes vol)) (ap (λ v. volume_at (let h : House P ghosts = record { volumes = v; group = old.group; hand = old.hand } in h) vol) (sym s.volumes)) (is.volumes_are vol);
+      volumes_are = λ vol. subst (λ o. IsAtVolume see o (lone (m.world.volumes vol))) (ap (λ v. volume_at (let h : House P ghosts = record { volumes = v; group = old.group; hand = old.hand } in h) vol) (sym s.volumes)) (is.volumes_are vol);
+      runs_are = runs;
       counts = subst (λ l. AreCountsOf (record { shelf = shelf; taken = l }) n.counts) (sym s.is) (counts_own (scene_now shelf vs os (hs ++ js) (bs ++ ks)));
     }
 

@@ -13,6 +13,7 @@ use Rattle.vx_house.specs.View.{AreSized, HaveSlots, AreRecorded, IsGroupWhole}
 use Rattle.vx_house.specs.declared.house.Imported.{Imported}
 use Rattle.vx_confdb.specs.Groups.{members}
 use Rattle.vx_pages.specs.declared.local_piece.LocalPiece.{Ghosts}
+use Rattle.vx_group_start.specs.Laying.{AreRunningVolumes, AreStuckVolumes}
 
 -- disks with their devices after a commit
 pub sized_now : (first last : ℕ) (text : List ℕ) (hs bs : List DiskSeen) → Each (CommitGoes first last text) hs bs → AreSized hs → AreSized bs
@@ -51,5 +52,6 @@ module _ (first last : ℕ) (text : List ℕ) {P : Type 0} (see : P → Seen) wh
 pub whole_now : {P : Type 0} {ghosts : Ghosts P} (see : P → Seen) (g g' : Imported P ghosts) (first last : ℕ) (text : List ℕ) → Each (CommitGoes first last text) (members see g.base) (members see g'.base) → g'.public ≡ g.public → IsGroupWhole see g → IsGroupWhole see g'
 whole_now see g g' first last text goes same whole = record {
   parted = subst (λ p. AreParted (members see g'.base) (still_pieces see p ++ lent_pieces see p)) (sym same) (parted_committed first last text (members see g.base) (members see g'.base) (still_pieces see g.public ++ lent_pieces see g.public) goes whole.parted);
-  idle = record { running = ap (λ p. p.running.entries) same ∙ whole.idle.running; left = ap (λ p. p.left.items) same ∙ whole.idle.left };
+  volumes = subst (λ p. AreRunningVolumes see p.running.entries) (sym same) whole.volumes;
+  stuck = subst (λ p. AreStuckVolumes see p.stuck.items) (sym same) whole.stuck;
 }

@@ -40,6 +40,9 @@ use Rattle.vx_engine.specs.Calling.{IsCall, IsServedAmong, ServesAmong}
 use Rattle.vx_engine.specs.Serving.{CommandGoes, IsRefused}
 use Rattle.vx_engine.proofs.Lives.{lived_keeps, lived_faults, lived_blamed, lived_moment, lived_later, lived_runs, n, new}
 use Rattle.vx_engine.proofs.CommandEnds.{HasDone, moment_end, over_goes}
+use Rattle.vx_moments.specs.Leaving.{lone}
+use Rattle.vx_house.proofs.Runs.{kept_alone}
+use Rattle.vx_house.proofs.Free.{at_lone}
 
 -- a call that is built does just what it runs
 does_call : (place : ℕ) (call : Call) (m : Moment) (end : End) (o : Moment) → IsCall call → AreLater m.counts o.counts → CallRuns place call m end o → DoesCall place call m [] end o
@@ -76,7 +79,8 @@ module _ {P : Type 0} {ghosts : Ghosts P} (see : P → Seen) (shelf : Shelved) (
       told = is.told;
       devices_are = λ name. subst (λ t. IsDeviceOf t (seen_at (scene see (at shelf mid)) name) (m.world.devices name)) (ap (λ (es : List (Word × Started P)). list_any (λ x. bytes_eq x.1.device name) es) (sym e))
           (subst (λ hs. IsDeviceOf (is_lent h name) (seen_at (scene_of shelf hs) name) (m.world.devices name)) (sym same_holders) (is.devices_are name));
-      volumes_are = λ vol. subst (λ o. IsAtVolume see o (m.world.volumes vol)) (ap (λ (es : List (Word × Started P)). found_in es vol) (sym e)) (is.volumes_are vol);
+      volumes_are = λ vol. subst (λ o. IsAtVolume see o (lone (m.world.volumes vol))) (ap (λ (es : List (Word × Started P)). found_in es vol) (sym e)) (is.volumes_are vol);
+      runs_are = is.runs_are;
       group_is = is.group_is;
       counts = subst (λ hs. AreCountsOf (scene_of shelf hs) m.counts) (sym same_holders) is.counts;
     }
@@ -119,12 +123,12 @@ module _ {P : Type 0} {ghosts : Ghosts P} (see : P → Seen) (shelf : Shelved) (
 
   not_started : (place : ℕ) → volume_at h (volume_of call) ≡ None → (m : Moment) → IsMoment see (at shelf h) m → CallRuns place call m (ends.Refused (NotStarted (volume_of call))) m
   not_started place none m is =
-      let gone : m.world.volumes (volume_of call) ≡ None = no_world see (m.world.volumes (volume_of call)) (subst (λ o. IsAtVolume see o (m.world.volumes (volume_of call))) none (is.volumes_are (volume_of call))) in
+      let gone : m.world.volumes (volume_of call) ≡ None = no_world see (m.world.volumes (volume_of call)) (subst (λ o. IsAtVolume see o (m.world.volumes (volume_of call))) none (kept_alone see h m.world keeps.house is.volumes_are is.runs_are (volume_of call))) in
       subst (λ o. MatchOption o ((ends.Refused (NotStarted (volume_of call)) ≡ ends.Refused (NotStarted (volume_of call))) × Rests m m) (λ u. MatchBool (nat_lt u.length (start_of call + count_of call)) ((ends.Refused (NotStarted (volume_of call)) ≡ ends.Refused Range) × Rests m m) (IsServed place call u m (ends.Refused (NotStarted (volume_of call))) m))) (sym gone) (refl, rests_self m)
 
   past_end : (place : ℕ) (b : Started P) → volume_at h (volume_of call) ≡ Some b → b.geometry.length < start_of call + count_of call → (m : Moment) → IsMoment see (at shelf h) m → CallRuns place call m (ends.Refused Range) m
   past_end place b found past m is =
-      let there = at_house see b (m.world.volumes (volume_of call)) (subst (λ o. IsAtVolume see o (m.world.volumes (volume_of call))) found (is.volumes_are (volume_of call))) in
+      let there = at_lone see b (m.world.volumes (volume_of call)) (subst (λ o. IsAtVolume see o (lone (m.world.volumes (volume_of call)))) found (is.volumes_are (volume_of call))) in
       let beyond : there.0.length < start_of call + count_of call = subst (λ x. x < start_of call + count_of call) (sym there.2.length_is) past in
       subst (λ o. MatchOption o ((ends.Refused Range ≡ ends.Refused (NotStarted (volume_of call))) × Rests m m) (λ u. MatchBool (nat_lt u.length (start_of call + count_of call)) ((ends.Refused Range ≡ ends.Refused Range) × Rests m m) (IsServed place call u m (ends.Refused Range) m))) (sym there.1)
       (subst (λ t. MatchBool t ((ends.Refused Range ≡ ends.Refused Range) × Rests m m) (IsServed place call there.0 m (ends.Refused Range) m)) (sym (lt-ltb there.0.length (start_of call + count_of call) beyond)) (refl, rests_self m))

@@ -32,7 +32,7 @@ use Rattle.vx_plans.specs.declared.stages.Finish.{Finish}
 use Rattle.vx_plans.specs.declared.stages.Finish.TheVariants.{Nothing, Records}
 use Rattle.vx_house.specs.Goes.{KeepsBy}
 use Rattle.vx_house.specs.Holders.{volume_at}
-use Rattle.vx_house.specs.Leaves.{IsLeft, IsLater, LeavesBoth, LeavesVolumes, LeavesNone, StaysBy}
+use Rattle.vx_house.specs.Leaves.{StandsAt, IsLeft, IsLater, LeavesBoth, LeavesVolumes, LeavesNone, StaysBy}
 use Rattle.vx_house.specs.Plain.{plain}
 use Rattle.vx_house.specs.Scene.{Scene, faults_at, FaultsGoOn, IsBlamed}
 use Rattle.vx_house.specs.View.{View, scene, Keeps, KeepsButGroup, IsGroupKept, IsGroupWhole, IsMoment, group_of}
@@ -136,14 +136,14 @@ module _ {P : Type 0} {ghosts : Ghosts P} (see : P → Seen) (mid new : View P g
   left_kept (ends.Lost parts) stays keeps = none_kept stays
 
   -- the moment that is left
-  left_moment : (end : End) → StaysBy end mid new → KeepsBy {T = Unit {0}} see (Err (stops.Ended end)) mid → (began : World) (n : Moment) → IsMomentBy end see mid n → ((r : Refusal) → end ≡ ends.Refused r → n.world ≡ began)
+  left_moment : StandsAt see mid → (end : End) → StaysBy end mid new → KeepsBy {T = Unit {0}} see (Err (stops.Ended end)) mid → (began : World) (n : Moment) → IsMomentBy end see mid n → ((r : Refusal) → end ≡ ends.Refused r → n.world ≡ began)
       → (w : World) × IsMoment see new (record { world = w; counts = n.counts }) × Leaves end began n.world w
-  left_moment (ends.Done copied parts blocks) stays keeps began n is refused = (n.world, moment_moved see (scene see mid) (scene see new) mid.house new.house n later.moved stays.volumes stays.group is, refl)
-  left_moment (ends.Refused r) stays keeps began n is refused = (n.world, moment_moved see (scene see mid) (scene see new) mid.house new.house n later.moved stays.volumes stays.group is, refused r refl)
-  left_moment (ends.Fault told device parts) stays keeps began n is refused = (n.world, moment_moved see (scene see mid) (scene see new) mid.house new.house n later.moved stays.volumes stays.group is, refl)
-  left_moment ends.ShelfFailed stays keeps began n is refused = (n.world, moment_moved see (scene see mid) (scene see new) mid.house new.house n later.moved stays.volumes stays.group is, refl)
-  left_moment ends.GroupLost stays keeps began n is refused = (group_gone n.world, without_group see mid n is keeps new (record { later = later; stays = stays }), refl)
-  left_moment (ends.Lost parts) stays keeps began n is refused = (left_world see mid n is keeps, all_gone see mid n is keeps new (record { later = later; stays = stays }), power_goes see mid n is keeps)
+  left_moment stands (ends.Done copied parts blocks) stays keeps began n is refused = (n.world, moment_moved see (scene see mid) (scene see new) mid.house new.house n later.moved stays.volumes stays.group is, refl)
+  left_moment stands (ends.Refused r) stays keeps began n is refused = (n.world, moment_moved see (scene see mid) (scene see new) mid.house new.house n later.moved stays.volumes stays.group is, refused r refl)
+  left_moment stands (ends.Fault told device parts) stays keeps began n is refused = (n.world, moment_moved see (scene see mid) (scene see new) mid.house new.house n later.moved stays.volumes stays.group is, refl)
+  left_moment stands ends.ShelfFailed stays keeps began n is refused = (n.world, moment_moved see (scene see mid) (scene see new) mid.house new.house n later.moved stays.volumes stays.group is, refl)
+  left_moment stands ends.GroupLost stays keeps began n is refused = (group_gone n.world, without_group see mid n is keeps new (record { later = later; stays = stays; stands = stands }), (stands n keeps is, refl))
+  left_moment stands (ends.Lost parts) stays keeps began n is refused = (left_world see mid n is keeps, all_gone see mid n is keeps new (record { later = later; stays = stays; stands = stands }), (stands n keeps is, power_goes see mid n is keeps))
 
 -- a moment of the house, however the command ended
 pub moment_end : {P : Type 0} {ghosts : Ghosts P} (see : P → Seen) (end : End) (v : View P ghosts) (m : Moment) → IsMoment see v m → IsMomentBy end see v m
@@ -168,7 +168,7 @@ over_goes see Does end old mid new keeps goes faults blamed gone = record {
   empty = gone.later.hand;
   goes = λ m is.
       let n = goes m is in
-      let w = left_moment see mid new gone.later end gone.stays keeps m.world n.0 n.1.is n.1.refused in
+      let w = left_moment see mid new gone.later gone.stands end gone.stays keeps m.world n.0 n.1.is n.1.refused in
       (record { world = w.0; counts = n.0.counts }, w.1, n.1.later, record { views = []; end = end; told = refl; over = n.0; does = n.1.does; leaves = w.2; counts = refl });
   faults = faults_trans (scene see old) (scene see mid) (scene see new) faults (faults_moved (scene see mid) (scene see new) gone.later.moved);
   blamed = blamed_on end (scene see old) (scene see mid) (scene see new) blamed (faults_moved (scene see mid) (scene see new) gone.later.moved);

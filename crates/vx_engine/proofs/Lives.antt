@@ -37,6 +37,10 @@ use Rattle.vx_house.proofs.Moments.{counts_own, counts_later, moment_at, PlaceGo
 use Rattle.vx_house.proofs.Scenes.{scene_of}
 use Rattle.vx_engine.specs.Calling.{IsServedAmong}
 use Rattle.vx_engine.proofs.Among.{IsSetAt, set_at}
+use Rattle.vx_moments.specs.Leaving.{lone, grouped}
+use Rattle.vx_moments.proofs.Lone.{lone_on, grouped_on}
+use Rattle.vx_house.specs.Runs.{IsAtRun, fronts_in, run_in}
+use Rattle.vx_house.proofs.Free.{at_lone}
 
 -- a device is lent as before where the volume has the same one
 lent_same : {P : Type 0} (before behind : List (Word × Started P)) (key : Word) (b later : Started P) (name : Word) → later.device ≡ b.device → list_any (λ e. bytes_eq e.1.device name) (before ++ (key, later) ∷ behind) ≡ list_any (λ e. bytes_eq e.1.device name) (before ++ (key, b) ∷ behind)
@@ -158,7 +162,7 @@ module _ {P : Type 0} {ghosts : Ghosts P} (see : P → Seen) (shelf : Shelved) (
 
   module _ (m : Moment) (is : IsMoment see (at shelf h) m) where
     pub there : (v : Volume) × (m.world.volumes (volume_of call) ≡ Some v) × IsVolumeOf see b v
-    there = at_house see b (m.world.volumes (volume_of call)) (subst (λ o. IsAtVolume see o (m.world.volumes (volume_of call))) found (is.volumes_are (volume_of call)))
+    there = at_lone see b (m.world.volumes (volume_of call)) (subst (λ o. IsAtVolume see o (lone (m.world.volumes (volume_of call)))) found (is.volumes_are (volume_of call)))
 
     abbrev pub v : Volume
     v = there.0
@@ -184,21 +188,30 @@ module _ {P : Type 0} {ghosts : Ghosts P} (see : P → Seen) (shelf : Shelved) (
           sized None lent is of = absurd of
           sized (Some d) lent held of = (of.0 ∙ sym among.served.kept.sectors, λ free. absurd (not_both lent held free))
 
-      volume_now : (vol : Word) (t : Bool) → IsAtVolume see (cond t (Some later) (volume_at h vol)) (cond t (Some (let x : Volume = record v { life = (lived place).0 } in x)) (m.world.volumes vol))
-      volume_now vol true = record {
+      volume_now : (vol : Word) (t : Bool) → IsAtVolume see (cond t (Some later) (volume_at h vol)) (lone (cond t (Some (let x : Volume = record v { life = (lived place).0 } in x)) (m.world.volumes vol)))
+      volume_now vol true = subst (IsAtVolume see (Some later)) (sym (lone_on (let x : Volume = record v { life = (lived place).0 } in x) b.device there.2.lies)) (record {
         lies = there.2.lies ∙ ap OnDevice (sym among.served.same.0);
         length_is = there.2.length_is ∙ ap (λ g. g.length) (sym among.served.same.1);
         region_is = there.2.region_is ∙ ap (λ g. g.region) (sym among.served.same.1);
         stands = (lived place).2;
-      }
+      })
       volume_now vol false = is.volumes_are vol
+
+      -- the volumes of the group run as before
+      run_now : (name : Word) (t : Bool) → bytes_eq (volume_of call) name ≡ t → IsAtRun see (fronts_in see h.group) m.world.group name (run_in h.group name) (grouped (cond t (Some (let x : Volume = record v { life = (lived place).0 } in x)) (m.world.volumes name)))
+      run_now name false e = is.runs_are name
+      run_now name true e =
+          let same : volume_of call ≡ name = bytes_eq_same (volume_of call) name e in
+          let was : grouped (m.world.volumes name) ≡ None = ap (λ (n : Word). grouped (m.world.volumes n)) (sym same) ∙ ap grouped there.1 ∙ grouped_on v b.device there.2.lies in
+          subst (IsAtRun see (fronts_in see h.group) m.world.group name (run_in h.group name)) (was ∙ sym (grouped_on (let x : Volume = record v { life = (lived place).0 } in x) b.device there.2.lies)) (is.runs_are name)
 
       pub lived_moment : IsMoment see (at shelf k) n
       lived_moment = record {
         told = is.told;
         devices_are = λ name. subst (λ t. IsDeviceOf t (seen_at new name) (m.world.devices name)) (sym (ap (λ es. list_any (λ e. bytes_eq e.1.device name) es) spot.is ∙ lent_same spot.before spot.behind spot.key b later name among.served.same.0 ∙ sym (ap (λ es. list_any (λ e. bytes_eq e.1.device name) es) spot.was)))
             (subst (λ o. IsDeviceOf (is_lent h name) o (m.world.devices name)) (sym (seen_now name)) (device_now name (bytes_eq b.device name) refl));
-        volumes_are = λ vol. subst (λ o. IsAtVolume see o (after.volumes vol)) (sym (among.puts vol)) (volume_now vol (bytes_eq (volume_of call) vol));
+        volumes_are = λ vol. subst (λ o. IsAtVolume see o (lone (after.volumes vol))) (sym (among.puts vol)) (volume_now vol (bytes_eq (volume_of call) vol));
+        runs_are = λ name. run_now name (bytes_eq (volume_of call) name) refl;
         group_is = is.group_is;
         counts = counts_own new;
       }

@@ -25,7 +25,9 @@ use Rattle.vx_plans.specs.declared.test.Test.TheVariants as tests
 use Rattle.vx_house.specs.Goes.{Gives, IsReady, IsStill, Still, IsBlankSeen}
 use Rattle.vx_house.specs.Holders.{Holder, hand_holder, hand_names, held_as, holders, AreHeld, volume_at, volume_holder, group_holders}
 use Rattle.vx_house.specs.Plain.{plain, sized_device, some_volume}
+use Rattle.vx_house.specs.Runs.{run_in}
 use Rattle.vx_house.specs.Scene.{seen_in}
+use Rattle.vx_house.proofs.Runs.{all_alone}
 use Rattle.vx_house.specs.View.{View, is_lent, IsDeviceOf, IsAtVolume, IsMoment, group_of}
 use Rattle.vx_house.specs.declared.house.House.{House}
 use Rattle.vx_house.specs.declared.house.Taken.{Taken}
@@ -52,7 +54,7 @@ some_alike see f None (Some v) is = absurd is
 some_alike see f (Some b) None is = absurd is
 some_alike see f (Some b) (Some v) is = refl
 
-module _ {P : Type 0} {ghosts : Ghosts P} (see : P → Seen) (v : View P ghosts) (held : AreHeld v.shelf.held (holders see v.house)) (m : Moment) (is : IsMoment see v m) where
+module _ {P : Type 0} {ghosts : Ghosts P} (see : P → Seen) (v : View P ghosts) (held : AreHeld v.shelf.held (holders see v.house)) (none : (name : Word) → run_in v.house.group name ≡ None) (m : Moment) (is : IsMoment see v m) where
   -- the size of a device in hand
   hand_size : (name : Word) → AnyOf (λ n. n ≡ name) (hand_names v.house) → sectors_at m.world name ≡ sectors_at (plain see v.house) name
   hand_size name any =
@@ -82,7 +84,7 @@ module _ {P : Type 0} {ghosts : Ghosts P} (see : P → Seen) (v : View P ghosts)
   named (tests.HasPlex vol plex) disks ready = λ name any. absurd any
 
   pub fails_there : (test : Test) (disks : List DiskAt) → IsReady see (stage.Gate test) disks v.house → fails test disks m.world ≡ fails test disks (plain see v.house)
-  fails_there test disks ready = same_fails (plain see v.house) m.world is.group_is (λ vol. some_alike see some_volume (volume_at v.house vol) (m.world.volumes vol) (is.volumes_are vol)) test disks (λ name any. hand_size name (named test disks ready name any))
+  fails_there test disks ready = same_fails (plain see v.house) m.world is.group_is (λ vol. some_alike see some_volume (volume_at v.house vol) (m.world.volumes vol) (all_alone see v.house m.world none is.volumes_are is.runs_are vol)) test disks (λ name any. hand_size name (named test disks ready name any))
 
 -- devices that were read at most
 still_names : {P : Type 0} (see : P → Seen) (xs ys : List (Taken P)) → Each (IsStill see) xs ys → map (λ t. t.device) ys ≡ map (λ t. t.device) xs

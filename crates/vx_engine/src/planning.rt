@@ -15,7 +15,7 @@ use crate::showing::show;
 use crate::unserved::Unserved;
 use std::alloc::Global;
 use vx_answers::{Answer, Bytes, End, Parts, Views};
-use vx_house::{House, Stop, give_hand, leave};
+use vx_house::{House, Stop, each_house_stands, give_hand, leave};
 use vx_plans::Plan;
 use vx_script_words::DiskAt;
 use vx_shelf::Shelf;
@@ -81,6 +81,7 @@ fn rest<S: Shelf>(alloc: Global, house: &mut House<S::P>, shelf: &mut S) -> Resu
     ensures refused { result ≡ Err Unserved.OutOfMemory }
     ensures left { IsLeft S.P.seen (ends.Done None [] []) (at (shelved S.free S.held S.counted S.faults shelf.old) house.old) (at (shelved S.free S.held S.counted S.faults shelf.new) house.new) }
 {
+    each_house_stands(house);
     give_hand(house, shelf);
     Err(Unserved::OutOfMemory)
 }

@@ -17,16 +17,18 @@ use Rattle.vx_started.specs.Stands.{IsAmongTold}
 use Rattle.vx_started.specs.declared.started.Started.{Started}
 use Rattle.vx_answers.specs.declared.answer.End.TheVariants as ends
 use Rattle.vx_moments.specs.Holding.{IsLent, HasDevice}
-use Rattle.vx_moments.specs.Leaving.{PowerGoes, IsLeftBy, group_gone}
+use Rattle.vx_moments.specs.Leaving.{PowerGoes, IsLeftBy, group_gone, lone}
+use Rattle.vx_moments.proofs.Lone.{lone_stays, lone_twice, lone_grouped}
 use Rattle.vx_moments.specs.Moment.{Moment}
-use Rattle.vx_moments.specs.World.{World, Device, Volume}
+use Rattle.vx_moments.specs.World.{World, Device, Volume, Lies, OnDevice, OnPlexes}
 use Rattle.vx_house.specs.Holders.{holders, held_as, volume_at, volume_holder}
 use Rattle.vx_house.specs.Leaves.{IsLeft}
+use Rattle.vx_house.specs.Runs.{AreRuns, IsAtRun}
 use Rattle.vx_house.specs.Scene.{seen_in, seen_at}
 use Rattle.vx_house.specs.Unmoved.{Unmoved}
 use Rattle.vx_house.specs.View.{View, scene, is_lent, IsDeviceOf, IsVolumeOf, IsAtVolume, group_of, IsMoment, IsMomentButGroup, KeepsButGroup}
 use Rattle.vx_house.specs.declared.house.House.{House}
-use Rattle.vx_house.proofs.Free.{at_world, at_house}
+use Rattle.vx_house.proofs.Free.{at_world, at_lone}
 use Rattle.vx_house.proofs.AllLaws.{found_in, found_by_one, found_each, held_each, all_front}
 use Rattle.vx_house.proofs.Moments.{counts_moved}
 
@@ -84,7 +86,7 @@ module _ {P : Type 0} {ghosts : Ghosts P} (see : P → Seen) (old : View P ghost
     where
       all_entries : (es : List (Word × Started P)) → AllOf (λ e. volume_at h e.0 ≡ Some e.1) es → AllOf (λ e. (v : Volume) × (m.world.volumes e.0 ≡ Some v) × IsVolumeOf see e.1 v) es
       all_entries [] all = tt
-      all_entries (e ∷ es) all = (at_house see e.1 (m.world.volumes e.0) (subst (λ o. IsAtVolume see o (m.world.volumes e.0)) all.0 (is.volumes_are e.0)), all_entries es all.1)
+      all_entries (e ∷ es) all = (at_lone see e.1 (m.world.volumes e.0) (subst (λ o. IsAtVolume see o (lone (m.world.volumes e.0))) all.0 (is.volumes_are e.0)), all_entries es all.1)
 
   -- a device that a volume has is lent in the world
   lent_there : (name : Word) → is_lent h name ≡ true → IsLent m.world name
@@ -124,12 +126,22 @@ module _ {P : Type 0} {ghosts : Ghosts P} (see : P → Seen) (old : View P ghost
 
   stands : (vol : Word) (v : Volume) → m.world.volumes vol ≡ Some v → IsLeftBy v v.lies left.devices
   stands vol v here =
-      let b = at_world see (volume_at h vol) v (subst (IsAtVolume see (volume_at h vol)) here (is.volumes_are vol)) in
-      subst (λ l. IsLeftBy v l left.devices) (sym b.2.lies) (
-        record { sectors = (see b.0.piece).sectors; contents = contents_in (see b.0.piece).told },
-        ap (λ x. left_device x (seen_at (scene see old) b.0.device) (m.world.devices b.0.device)) (lent_device vol b.0 b.1) ∙ ap device_in (seen_device vol b.0 b.1),
-        record { sectors = keeps.volumes vol b.0 b.1 ∙ sym b.2.length_is; contents = chosen_told v.length (see b.0.piece).told v.life.candidates b.2.stands.told },
-      )
+      by v.lies refl
+    where
+      lone_here : (device : Word) → v.lies ≡ OnDevice device → lone (m.world.volumes vol) ≡ Some v
+      lone_here device lies = lone_stays (m.world.volumes vol) v device here (subst (λ l. HasDevice l device) (sym lies) refl)
+
+      by_device : (device : Word) → v.lies ≡ OnDevice device → IsLeftBy v v.lies left.devices
+      by_device device lies = let b = at_world see (volume_at h vol) v (subst (IsAtVolume see (volume_at h vol)) (lone_here device lies) (is.volumes_are vol)) in
+          subst (λ l. IsLeftBy v l left.devices) (sym b.2.lies) (
+            record { sectors = (see b.0.piece).sectors; contents = contents_in (see b.0.piece).told },
+            ap (λ x. left_device x (seen_at (scene see old) b.0.device) (m.world.devices b.0.device)) (lent_device vol b.0 b.1) ∙ ap device_in (seen_device vol b.0 b.1),
+            record { sectors = keeps.volumes vol b.0 b.1 ∙ sym b.2.length_is; contents = chosen_told v.length (see b.0.piece).told v.life.candidates b.2.stands.told },
+          )
+
+      by : (l : Lies) → v.lies ≡ l → IsLeftBy v v.lies left.devices
+      by (OnDevice device) lies = by_device device lies
+      by (OnPlexes plexes) lies = subst (λ l. IsLeftBy v l left.devices) (sym lies) tt
 
   pub power_goes : PowerGoes m.world left
   power_goes = record {
@@ -168,6 +180,7 @@ module _ {P : Type 0} {ghosts : Ghosts P} (see : P → Seen) (old : View P ghost
       devices_are = λ name. subst (λ b. IsDeviceOf b (seen_at (scene see new) name) (left.devices name)) (sym (no_lent name))
           (subst (λ o. IsDeviceOf false o (left.devices name)) (sym (gone.later.moved.seen is.told name)) (of_device name (is_lent h name) refl));
       volumes_are = λ vol. subst (λ (o : Option (Started P)). IsAtVolume see o None) (sym (ap (λ es. found_in es vol) gone.stays.volumes)) tt;
+      runs_are = subst (λ o. AreRuns see o None (λ vol. None)) (sym gone.stays.group) (λ name. tt);
       group_is = ap (group_of see) (sym gone.stays.group);
       counts = counts_moved (scene see old) (scene see new) m.counts gone.later.moved is.told is.counts;
     }
@@ -178,7 +191,9 @@ module _ {P : Type 0} {ghosts : Ghosts P} (see : P → Seen) (old : View P ghost
     told = moved.told is.told;
     devices_are = λ name. subst (λ b. IsDeviceOf b (seen_at (scene see new) name) (m.world.devices name)) (ap (λ (v : BTreeMap Word (Started P)). list_any (λ e. bytes_eq e.1.device name) v.entries) (sym volumes))
         (subst (λ o. IsDeviceOf (is_lent h name) o (m.world.devices name)) (sym (moved.seen is.told name)) (is.devices_are name));
-    volumes_are = λ vol. subst (λ o. IsAtVolume see o (m.world.volumes vol)) (ap (λ (v : BTreeMap Word (Started P)). get (slice_cmp nat_cmp) v vol) (sym volumes)) (is.volumes_are vol);
+    volumes_are = λ vol. subst (λ o. IsAtVolume see o (lone (lone (m.world.volumes vol)))) (ap (λ (v : BTreeMap Word (Started P)). get (slice_cmp nat_cmp) v vol) (sym volumes))
+        (subst (IsAtVolume see (volume_at h vol)) (sym (lone_twice (m.world.volumes vol))) (is.volumes_are vol));
+    runs_are = subst (λ o. AreRuns see o None (group_gone m.world).volumes) (sym none) (λ name. subst (IsAtRun {ghosts = ghosts} see [] None name None) (sym (lone_grouped (m.world.volumes name))) tt);
     group_is = ap (group_of see) (sym none);
     counts = counts_moved (scene see old) (scene see new) m.counts moved is.told is.counts;
   }

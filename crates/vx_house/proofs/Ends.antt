@@ -17,7 +17,7 @@ module _ {P : Type 0} {ghosts : Ghosts P} (see : P → Seen) where
   whole_kept (Some g) kept = kept.whole
 
   pub moment_but_group : (v : View P ghosts) (m : Moment) → IsMoment see v m → IsMomentButGroup see v m
-  moment_but_group v m is = record { told = is.told; devices_are = is.devices_are; volumes_are = is.volumes_are; counts = is.counts }
+  moment_but_group v m is = record { told = is.told; devices_are = is.devices_are; volumes_are = is.volumes_are; runs_are = is.runs_are; counts = is.counts }
 
   pub keeps_but_group : (v : View P ghosts) → Keeps see v → KeepsButGroup see v
   keeps_but_group v keeps = record { devices = keeps.devices; ordered = keeps.house.ordered; hand = keeps.house.hand; volumes = keeps.house.volumes; whole = whole_kept v.house.group keeps.house.group }

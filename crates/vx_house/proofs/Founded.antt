@@ -22,6 +22,7 @@ use Rattle.vx_shelf.specs.Shelf.{Held, AreNumbered, held_as}
 use Rattle.vx_house.specs.Holders.{Holder, AreApart, IsTakenFrom, holder_in}
 use Rattle.vx_house.specs.View.{AreSized, IsGroupIdle, IsGroupParted, IsGroupWhole}
 use Rattle.vx_house.specs.declared.house.Imported.{Imported}
+use Rattle.vx_group_start.specs.Laying.{AreRunningVolumes, AreStuckVolumes}
 
 same_number : (a b n : ℕ) → (a == n) ≡ true → (b == n) ≡ true → a ≡ b
 same_number a b n e f = grind (arith, e, f)
@@ -88,5 +89,6 @@ module _ (held : Word → Option Held) (numbered : AreNumbered held) where
     founded fronts sized each apart = record {
       parted = subst (AreParted (members see g.base)) (sym (ap (λ x. x ++ lent_pieces see g.public) still ∙ lent))
           (whole_apart (members see g.base) fronts sized each apart);
-      idle = idle;
+      volumes = subst (AreRunningVolumes see) (sym idle.running) tt;
+      stuck = subst (AreStuckVolumes see) (sym idle.stuck) tt;
     }

@@ -12,6 +12,8 @@ use Rattle.vx_copies.specs.Lists.{AllOf, AnyOf}
 use Rattle.vx_copies.specs.Disks.{DiskSeen}
 use Rattle.vx_started.specs.declared.started.Started.{Started}
 use Rattle.vx_moments.specs.World.{World, Device, Volume, Member, Lies, OnDevice}
+use Rattle.vx_moments.specs.Leaving.{lone}
+use Rattle.vx_moments.proofs.Lone.{lone_was, lone_stays}
 use Rattle.vx_moments.specs.Holding.{IsHeld, IsLent, IsMemberDevice, HasDevice, is_among}
 use Rattle.vx_plans.specs.Stages.{IsFree}
 use Rattle.vx_house.specs.Holders.{Holder, holders, volume_holder, holder_in, hand_holder, group_holders, whole_members, hand_names, volume_at, held_as, AreHeld, IsTakenFrom}
@@ -64,6 +66,9 @@ pub at_house : {P : Type 0} (see : P → Seen) (b : Started P) (o : Option Volum
 at_house see b None is = absurd is
 at_house see b (Some v) is = (v, refl, is)
 
+pub at_lone : {P : Type 0} (see : P → Seen) (b : Started P) (o : Option Volume) → IsAtVolume see (Some b) (lone o) → (v : Volume) × (o ≡ Some v) × IsVolumeOf see b v
+at_lone see b o is = let v = at_house see b (lone o) is in (v.0, lone_was o v.0 v.1, v.2)
+
 -- held under a name by one of two lists
 held_either : (xs ys : List Holder) (name : Word) (seen : Seen) → held_as (xs ++ ys) name ≡ Some seen → (held_as xs name ≡ Some seen) ⊎ (held_as ys name ≡ Some seen)
 held_either [] ys name seen is = inr is
@@ -102,10 +107,10 @@ volumes_in see (e ∷ es) w name seen all is = by_test (bytes_eq e.1.device name
     by_test true same rest is = (e.0, all.0.0, all.0.1, subst (λ l. HasDevice l name) (sym all.0.2.lies) (bytes_eq_same e.1.device name same))
     by_test false same rest is = rest is
 
-module _ {P : Type 0} {ghosts : Ghosts P} (see : P → Seen) (h : House P ghosts) (w : World) (volumes : (vol : Word) → IsAtVolume see (volume_at h vol) (w.volumes vol)) (group : w.group ≡ group_of see h.group) where
+module _ {P : Type 0} {ghosts : Ghosts P} (see : P → Seen) (h : House P ghosts) (w : World) (volumes : (vol : Word) → IsAtVolume see (volume_at h vol) (lone (w.volumes vol))) (group : w.group ≡ group_of see h.group) where
   volume_out : (held : Word → Option Held) → AllOf (IsTakenFrom held) (map (volume_holder see) h.volumes.entries) → (name vol : Word) (v : Volume) → w.volumes vol ≡ Some v → HasDevice v.lies name → IsSome (held name)
   volume_out held each name vol v is lies =
-      let b = at_world see (volume_at h vol) v (subst (IsAtVolume see (volume_at h vol)) is (volumes vol)) in
+      let b = at_world see (volume_at h vol) v (subst (IsAtVolume see (volume_at h vol)) (lone_stays (w.volumes vol) v name is lies) (volumes vol)) in
       found_by_one (λ e. IsTakenFrom held (volume_holder see e)) h.volumes.entries vol b.0 b.1
       (all_unmapped (IsTakenFrom held) (volume_holder see) h.volumes.entries each)
       (λ e named one taken. subst IsSome (sym (ap held (sym (on_device v.lies b.0.device name b.2.lies lies) ∙ ap (λ (x : Started P). x.device) (sym one)) ∙ taken.1)) refl)
@@ -127,7 +132,7 @@ module _ {P : Type 0} {ghosts : Ghosts P} (see : P → Seen) (h : House P ghosts
     where
       all_entries : (es : List (Word × Started P)) → AllOf (λ e. volume_at h e.0 ≡ Some e.1) es → AllOf (λ e. (v : Volume) × (w.volumes e.0 ≡ Some v) × IsVolumeOf see e.1 v) es
       all_entries [] all = tt
-      all_entries (e ∷ es) all = (at_house see e.1 (w.volumes e.0) (subst (λ o. IsAtVolume see o (w.volumes e.0)) all.0 (volumes e.0)), all_entries es all.1)
+      all_entries (e ∷ es) all = (at_lone see e.1 (w.volumes e.0) (subst (λ o. IsAtVolume see o (lone (w.volumes e.0))) all.0 (volumes e.0)), all_entries es all.1)
 
   -- what the house holds is in hand, or held in the world
   pub held_in : KeepsHouse see h → (name : Word) (seen : Seen) → held_as (holders see h) name ≡ Some seen → (is_among name (hand_names h) ≡ true) ⊎ IsHeld w name
@@ -160,7 +165,7 @@ not_some o some none = cc
 
 -- what the world says of devices, where the house holds all that was taken
 module _ {P : Type 0} {ghosts : Ghosts P} (see : P → Seen) (s : Scene) (h : House P ghosts) (are : AreHeld s.shelf.held (holders see h)) (taken : s.taken ≡ holders see h) (keeps : KeepsHouse see h) (w : World)
-    (volumes : (vol : Word) → IsAtVolume see (volume_at h vol) (w.volumes vol)) (group : w.group ≡ group_of see h.group) (devices : Word → Option Seen) (told : s.shelf.free ≡ Some devices)
+    (volumes : (vol : Word) → IsAtVolume see (volume_at h vol) (lone (w.volumes vol))) (group : w.group ≡ group_of see h.group) (devices : Word → Option Seen) (told : s.shelf.free ≡ Some devices)
     (devices_are : (name : Word) → IsDeviceOf (is_lent h name) (seen_at s name) (w.devices name)) where
   seen_none : (name : Word) → s.shelf.held name ≡ None → seen_at s name ≡ devices name
   seen_none name none =

@@ -193,6 +193,7 @@ module _ {P : Type 0} {ghosts : Ghosts P} (see : P → Seen) (h k : House P ghos
         (λ none o of. of) (λ s t q of. same_device (is_lent h name) s t (m.world.devices name) (on name s t q).sectors (told name s t q) of)
         (is.devices_are name);
     volumes_are = is.volumes_are;
+    runs_are = is.runs_are;
     group_is = is.group_is;
     counts = counts_own (scene see (at shelf (after h k)));
   }

@@ -24,7 +24,8 @@ use Rattle.vx_house.specs.Holders.{disk_holder, group_holders, holder_in, whole_
 use Rattle.vx_moments.specs.World.{Member}
 use Rattle.vx_house.specs.View.{IsGroupIdle, IsGroupWhole, group_of, member_in, member_of}
 use Rattle.vx_house.specs.declared.house.Imported.{Imported}
-use Rattle.vx_house.proofs.Wholes.{mapped_holders, mapped_members, still_idle, lent_idle}
+use Rattle.vx_house.proofs.Wholes.{mapped_holders, mapped_members, still_idle, lent_idle, rests_idle}
+use Rattle.vx_group_start.specs.Laying.{AreRunningVolumes, AreStuckVolumes}
 
 -- ---- disks that tell nothing
 
@@ -111,20 +112,18 @@ still_some see (d ∷ ds) (e ∷ es) each some = λ none. cc
 -- ---- the group
 
 module _ {P : Type 0} {ghosts : Ghosts P} (see : P → Seen) (alike : (p q : P) → is_some (see p).told ≡ is_some (see q).told) (old new : Imported P ghosts)
-    (whole : IsGroupWhole see old) (running : new.public.running ≡ old.public.running) (left : new.public.left ≡ old.public.left)
+    (whole : IsGroupWhole see old) (idle : IsGroupIdle old) (running : new.public.running ≡ old.public.running) (left : new.public.left ≡ old.public.left) (stuck : new.public.stuck ≡ old.public.stuck)
     (same : AreSameWhole [] (members see old.base) (members see new.base) (map see old.public.pool.items.items) (map see new.public.pool.items.items)) where
   pub idle_new : IsGroupIdle new
-  idle_new = record { running = ap (λ (rs : BTreeMap Word _). rs.entries) running ∙ whole.idle.running; left = ap (λ (ls : Vec _). ls.items) left ∙ whole.idle.left }
+  idle_new = record { running = ap (λ (rs : BTreeMap Word _). rs.entries) running ∙ idle.running; left = ap (λ (ls : Vec _). ls.items) left ∙ idle.left; stuck = ap (λ (ls : Vec _). ls.items) stuck ∙ idle.stuck }
 
   -- where some were joined
   pub holders_same : group_holders see (Some new) ≡ group_holders see (Some old)
   holders_same = ap (map holder_in) (
-      ap (λ x. whole_disks (rests_of x (lent_pieces see new.public)) (members see new.base)) (still_idle see new idle_new)
-      ∙ ap (λ x. whole_disks (rests_of (map see new.public.pool.items.items) x) (members see new.base)) (lent_idle see new idle_new)
+      ap (λ x. whole_disks x (members see new.base)) (rests_idle see new idle_new)
       ∙ same_whole see alike (rests_of (map see old.public.pool.items.items) []) (rests_of (map see new.public.pool.items.items) []) old.base.disks.items new.base.disks.items same.counts same.whole
       ∙ sym (
-      ap (λ x. whole_disks (rests_of x (lent_pieces see old.public)) (members see old.base)) (still_idle see old whole.idle)
-      ∙ ap (λ x. whole_disks (rests_of (map see old.public.pool.items.items) x) (members see old.base)) (lent_idle see old whole.idle)
+      ap (λ x. whole_disks x (members see old.base)) (rests_idle see old idle)
       )
       )
 
@@ -133,7 +132,8 @@ module _ {P : Type 0} {ghosts : Ghosts P} (see : P → Seen) (alike : (p q : P) 
     parted =
         subst (λ x. AreParted (members see new.base) (x ++ lent_pieces see new.public)) (sym (still_idle see new idle_new))
         (subst (λ x. AreParted (members see new.base) (map see new.public.pool.items.items ++ x)) (sym (lent_idle see new idle_new)) same.parted);
-    idle = idle_new;
+    volumes = subst (AreRunningVolumes see) (sym idle_new.running) tt;
+    stuck = subst (AreStuckVolumes see) (sym idle_new.stuck) tt;
   }
 
 -- the world has the group as before, whatever of its devices was joined
@@ -148,12 +148,12 @@ module _ {P : Type 0} {ghosts : Ghosts P} (see : P → Seen) (old new : Imported
       cc
 
 -- the disks of a group whose devices are all joined
-module _ {P : Type 0} {ghosts : Ghosts P} (see : P → Seen) (alike : (p q : P) → is_some (see p).told ≡ is_some (see q).told) (old : Imported P ghosts) (whole : IsGroupWhole see old) where
+module _ {P : Type 0} {ghosts : Ghosts P} (see : P → Seen) (alike : (p q : P) → is_some (see p).told ≡ is_some (see q).told) (old : Imported P ghosts) (whole : IsGroupWhole see old) (idle : IsGroupIdle old) where
   -- what its devices are behind their fronts
   pub parted_alone : AreParted (members see old.base) (map see old.public.pool.items.items)
   parted_alone = subst (AreParted (members see old.base)) (append-nil (map see old.public.pool.items.items))
-      (subst (λ x. AreParted (members see old.base) (map see old.public.pool.items.items ++ x)) (lent_idle see old whole.idle)
-      (subst (λ x. AreParted (members see old.base) (x ++ lent_pieces see old.public)) (still_idle see old whole.idle) whole.parted))
+      (subst (λ x. AreParted (members see old.base) (map see old.public.pool.items.items ++ x)) (lent_idle see old idle)
+      (subst (λ x. AreParted (members see old.base) (x ++ lent_pieces see old.public)) (still_idle see old idle) whole.parted))
 
   pub holders_joined : (es : List (Disk P)) →
       map untold (map (disk_seen see) es) ≡ map untold (whole_disks (rests_of (map see old.public.pool.items.items) []) (members see old.base)) →
@@ -165,8 +165,7 @@ module _ {P : Type 0} {ghosts : Ghosts P} (see : P → Seen) (alike : (p q : P) 
       sym (none_rest (map (disk_seen see) es))
       ∙ same_whole see alike (rests_of (map see old.public.pool.items.items) []) no_rests old.base.disks.items es (ap (map untold) (none_rest (map (disk_seen see) es)) ∙ counts) (λ all. none_rest (map (disk_seen see) es) ∙ told all)
       ∙ sym (
-      ap (λ x. whole_disks (rests_of x (lent_pieces see old.public)) (members see old.base)) (still_idle see old whole.idle)
-      ∙ ap (λ x. whole_disks (rests_of (map see old.public.pool.items.items) x) (members see old.base)) (lent_idle see old whole.idle)
+      ap (λ x. whole_disks x (members see old.base)) (rests_idle see old idle)
       )
       )
     where

@@ -12,7 +12,7 @@ use Rattle.vx_house.specs.Holders.{Holder, AreHeld, holders, volume_holder, grou
 use Rattle.vx_life.specs.declared.Part.{Part}
 use Rattle.vx_answers.specs.declared.answer.End.{End}
 use Rattle.vx_answers.specs.declared.answer.End.TheVariants as ends
-use Rattle.vx_house.specs.Leaves.{IsLater, IsLeft, IsStuck, StaysBy, LeavesBoth}
+use Rattle.vx_house.specs.Leaves.{IsLater, IsLeft, IsStuck, StandsAt, StaysBy, LeavesBoth}
 use Rattle.vx_house.specs.Scene.{Shelved}
 use Rattle.vx_house.specs.Unmoved.{Unmoved}
 use Rattle.vx_house.specs.View.{View, at, scene}
@@ -104,15 +104,16 @@ module _ {P : Type 0} {ghosts : Ghosts P} (see : P → Seen) (s t u : Shelved) (
   pub both_given : IsLater see (at s h) (at u m)
   both_given = later_then see (at s h) (at t k) (at u m) mid (group_given see t u k m mid.devices group mid.hand)
 
-  pub left_group : IsLeft see ends.GroupLost (at s h) (at u m)
-  left_group = record { later = both_given; stays = record { volumes = group.volumes ∙ hand.volumes; group = group.none } }
+  pub left_group : StandsAt see (at s h) → IsLeft see ends.GroupLost (at s h) (at u m)
+  left_group stands = record { later = both_given; stays = record { volumes = group.volumes ∙ hand.volumes; group = group.none }; stands = stands }
 
   -- and then the volumes
   module _ (v : Shelved) (n : House P ghosts) (volumes : GivesVolumes see u m v n) where
-    pub left_all : (parts : List Part) → IsLeft see (ends.Lost parts) (at s h) (at v n)
-    left_all parts = record {
+    pub left_all : (parts : List Part) → StandsAt see (at s h) → IsLeft see (ends.Lost parts) (at s h) (at v n)
+    left_all parts stands = record {
       later = later_then see (at s h) (at u m) (at v n) both_given (volumes_given see u v m n both_given.devices volumes both_given.hand);
       stays = record { volumes = volumes.empty; group = volumes.group ∙ group.none };
+      stands = stands;
     }
 
 -- where memory was wanting for the group, all that was held is

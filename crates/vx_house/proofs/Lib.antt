@@ -12,6 +12,9 @@ pub mod LaterFaults
 pub mod Takes
 pub mod Returns
 pub mod Leaves
+pub mod Runs
+pub mod Stands
+pub mod Laid
 pub mod AfterLoss
 pub mod Lists
 pub mod Steps

@@ -10,6 +10,8 @@ use Rattle.vx_house.specs.Holders.{volume_at}
 use Rattle.vx_house.specs.Scene.{Scene, seen_at, count_in, AreCountsOf, counts_of, FaultsGoOn}
 use Rattle.vx_house.specs.Unmoved.{Unmoved}
 use Rattle.vx_house.specs.View.{is_lent, IsDeviceOf, IsAtVolume, group_of, IsMomentIn}
+use Rattle.vx_house.specs.Runs.{AreRuns}
+use Rattle.vx_moments.specs.Leaving.{lone}
 use Rattle.vx_house.specs.declared.house.House.{House}
 
 pub later_refl : (c : Counts) → AreLater c c
@@ -52,7 +54,8 @@ moment_moved {P = P} see s t h k m moved volumes group is = record {
   told = moved.told is.told;
   devices_are = λ name. subst (λ b. IsDeviceOf b (seen_at t name) (m.world.devices name)) (ap (λ v. is_lent (record { volumes = v; group = h.group; hand = h.hand }) name) (sym volumes))
       (subst (λ o. IsDeviceOf (is_lent h name) o (m.world.devices name)) (sym (moved.seen is.told name)) (is.devices_are name));
-  volumes_are = λ vol. subst (λ o. IsAtVolume see o (m.world.volumes vol)) (ap (λ v. volume_at (record { volumes = v; group = h.group; hand = h.hand }) vol) (sym volumes)) (is.volumes_are vol);
+  volumes_are = λ vol. subst (λ o. IsAtVolume see o (lone (m.world.volumes vol))) (ap (λ v. volume_at (record { volumes = v; group = h.group; hand = h.hand }) vol) (sym volumes)) (is.volumes_are vol);
+  runs_are = subst (λ o. AreRuns see o m.world.group m.world.volumes) (sym group) is.runs_are;
   group_is = is.group_is ∙ ap (group_of see) (sym group);
   counts = counts_moved s t m.counts moved is.told is.counts;
 }

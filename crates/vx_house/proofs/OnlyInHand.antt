@@ -129,6 +129,7 @@ module _ {P : Type 0} {ghosts : Ghosts P} {see : P → Seen} {h k : House P ghos
           (λ name e. subst (λ o. IsDeviceOf (is_lent h name) o (put t.device (Some d) m.world.devices name)) (sym (seen_other name e))
           (subst (λ o. IsDeviceOf (is_lent h name) (seen_at (scene see (at shelf h)) name) o) (sym (put_away name e)) (moment.devices_are name)));
       volumes_are = moment.volumes_are;
+      runs_are = moment.runs_are;
       group_is = moment.group_is;
       counts = counts_own (scene see (at shelf (after h k)));
     }

@@ -42,6 +42,8 @@ use Rattle.vx_house.proofs.Holders.{take_one, same_held}
 use Rattle.vx_house.proofs.AllLaws.{all_append}
 use Rattle.vx_house.proofs.Moments.{later_refl, faults_moved, faults_trans, moment_moved, counts_own, counts_later, place_refl, PlaceGoesOn, moment_at}
 use Rattle.vx_house.proofs.Scenes.{scene_of, unmoved_refl, unmoved_trans, IsHanded, take_scene}
+use Rattle.vx_moments.specs.Leaving.{lone}
+use Rattle.vx_house.specs.Runs.{AreRuns}
 
 -- nothing has happened
 pub rests_self : (m : Moment) → Rests m m
@@ -173,7 +175,8 @@ module _ {P : Type 0} {ghosts : Ghosts P} (see : P → Seen) (v : View P ghosts)
         told = subst IsSome (sym free) is.told;
         devices_are = λ name. subst (λ b. IsDeviceOf b (seen_at (scene see (at shelf k)) name) (m.world.devices name)) (ap (λ (w : BTreeMap Word (Started P)). list_any (λ e. bytes_eq e.1.device name) w.entries) (sym volumes))
             (subst (λ o. IsDeviceOf (is_lent v.house name) o (m.world.devices name)) (sym (still_seen name)) (is.devices_are name));
-        volumes_are = λ vol. subst (λ o. IsAtVolume see o (m.world.volumes vol)) (ap (λ (w : BTreeMap Word (Started P)). get (slice_cmp nat_cmp) w vol) (sym volumes)) (is.volumes_are vol);
+        volumes_are = λ vol. subst (λ o. IsAtVolume see o (lone (m.world.volumes vol))) (ap (λ (w : BTreeMap Word (Started P)). get (slice_cmp nat_cmp) w vol) (sym volumes)) (is.volumes_are vol);
+        runs_are = subst (λ o. AreRuns see o m.world.group m.world.volumes) (sym group) is.runs_are;
         group_is = is.group_is ∙ ap (group_of see) (sym group);
         counts = counts_own (scene see (at shelf k));
       }

@@ -11,7 +11,7 @@ use Rattle.vx_confdb.specs.Groups.{members}
 use Rattle.vx_fronts.specs.Fronts.{Rest, Rests, with_device, whole_disk}
 use Rattle.vx_fronts.specs.Laws.{whole_disks}
 use Rattle.vx_fronts.specs.Rests.{rests_of}
-use Rattle.vx_running.specs.Public.{lent_pieces, remaining_pieces, running_pieces, still_pieces}
+use Rattle.vx_running.specs.Public.{lent_pieces, remaining_pieces, running_pieces, still_pieces, stuck_pieces}
 use Rattle.vx_moments.specs.World.{Member}
 use Rattle.vx_house.specs.Holders.{disk_holder, group_holders, group_rests, holder_in, whole_members}
 use Rattle.vx_house.specs.View.{IsGroupIdle, member_in, member_of}
@@ -54,7 +54,7 @@ module _ {P : Type 0} {ghosts : Ghosts P} (see : P → Seen) (g : Imported P gho
 
   -- no disk of it is parted
   pub unparted : still_pieces see g.public ≡ [] → lent_pieces see g.public ≡ [] → whole_members see g ≡ members see g.base
-  unparted still lent = ap (λ x. whole_disks (rests_of x (lent_pieces see g.public)) (members see g.base)) still ∙ ap (λ x. whole_disks (rests_of [] x) (members see g.base)) lent ∙ whole_none (members see g.base)
+  unparted still lent = ap (λ x. whole_disks (rests_of (x ++ lent_pieces see g.public) []) (members see g.base)) still ∙ ap (λ x. whole_disks (rests_of x []) (members see g.base)) lent ∙ whole_none (members see g.base)
 
   pub unparted_holders : still_pieces see g.public ≡ [] → lent_pieces see g.public ≡ [] → group_holders see (Some g) ≡ map (disk_holder see) g.base.disks.items
   unparted_holders still lent = ap (map holder_in) (unparted still lent) ∙ sym (mapped_holders see g.base.disks.items)
@@ -65,4 +65,8 @@ module _ {P : Type 0} {ghosts : Ghosts P} (see : P → Seen) (g : Imported P gho
     still_idle = ap (λ xs. map see g.public.pool.items.items ++ flat_map (remaining_pieces see) xs) idle.left ∙ append-nil (map see g.public.pool.items.items)
 
     pub lent_idle : lent_pieces see g.public ≡ []
-    lent_idle = ap (λ xs. flat_map (running_pieces see) xs) idle.running
+    lent_idle = ap (λ xs. flat_map (running_pieces see) xs ++ flat_map (stuck_pieces see) g.public.stuck.items) idle.running ∙ ap (flat_map (stuck_pieces see)) idle.stuck
+
+    -- so its rests are in the pool
+    pub rests_idle : group_rests see g ≡ rests_of (map see g.public.pool.items.items) []
+    rests_idle = ap (λ x. rests_of (still_pieces see g.public ++ x) []) lent_idle ∙ ap (λ x. rests_of x []) (append-nil (still_pieces see g.public) ∙ still_idle)

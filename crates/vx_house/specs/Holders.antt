@@ -50,9 +50,10 @@ hand_names h = map (λ t. t.device) h.hand.items
 abbrev pub volume_at : {P : Type 0} {ghosts : Ghosts P} → House P ghosts → Word → Option (Started P)
 volume_at h name = get (slice_cmp nat_cmp) h.volumes name
 
--- the rests of the group's devices behind the fronts that its disks have
+-- the rests of the group's devices behind the fronts that its disks have, of the pieces that lie still and of those that running volumes
+-- have
 abbrev pub group_rests : {P : Type 0} {ghosts : Ghosts P} → (P → Seen) → Imported P ghosts → Rests
-group_rests see g = rests_of (still_pieces see g.public) (lent_pieces see g.public)
+group_rests see g = rests_of (still_pieces see g.public ++ lent_pieces see g.public) []
 
 -- the disks of the group with their whole devices
 abbrev pub whole_members : {P : Type 0} {ghosts : Ghosts P} → (P → Seen) → Imported P ghosts → List DiskSeen

@@ -4,9 +4,11 @@ use Rattle.vx_pages.specs.declared.local_piece.LocalPiece.{Ghosts}
 use Rattle.vx_piece.specs.Seen.{Seen}
 use Rattle.vx_answers.specs.declared.answer.End.{End}
 use Rattle.vx_answers.specs.declared.answer.End.TheVariants as ends
+use Rattle.vx_group_images.specs.Lives.{GroupStands}
+use Rattle.vx_moments.specs.Moment.{Moment}
 use Rattle.vx_house.specs.Holders.{AreHeld, holders}
 use Rattle.vx_house.specs.Unmoved.{Unmoved}
-use Rattle.vx_house.specs.View.{View, HasDisk, IsGroupWhole, scene}
+use Rattle.vx_house.specs.View.{View, HasDisk, IsGroupWhole, IsMomentButGroup, KeepsButGroup, scene}
 
 -- the house holds all that was taken, nothing is seen otherwise, and the hand is empty
 pub record IsLater {P : Type 0} {ghosts : Ghosts P} (see : P → Seen) (old new : View P ghosts) : Type 0 where
@@ -41,6 +43,11 @@ pub record IsStuck {P : Type 0} {ghosts : Ghosts P} (see : P → Seen) (old new 
   pub whole : IfSome new.house.group (IsGroupWhole see)
   pub disks : IfSome new.house.group HasDisk
 
+-- While no call is under way the bytes of the group's devices stand for the volumes that run.
+abbrev pub StandsAt : {P : Type 0} {ghosts : Ghosts P} → (P → Seen) → View P ghosts → Type 0
+StandsAt see v = (m : Moment) → KeepsButGroup see v → IsMomentButGroup see v m → GroupStands m.world
+
 pub record IsLeft {P : Type 0} {ghosts : Ghosts P} (see : P → Seen) (end : End) (old new : View P ghosts) : Type 0 where
   pub later : IsLater see old new
   pub stays : StaysBy end old new
+  pub stands : StandsAt see old

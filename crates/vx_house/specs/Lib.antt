@@ -8,3 +8,4 @@ pub mod Unmoved
 pub mod Takes
 pub mod Leaves
 pub mod Reading
+pub mod Runs

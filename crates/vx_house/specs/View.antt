@@ -16,12 +16,15 @@ use Rattle.vx_confdb.specs.Texts.{text_of}
 use Rattle.vx_objects.specs.declared.config.Config.{Config}
 use Rattle.vx_fronts.specs.Parted.{AreParted}
 use Rattle.vx_running.specs.Public.{lent_pieces, still_pieces}
+use Rattle.vx_group_start.specs.Laying.{AreRunningVolumes, AreStuckVolumes}
 use Rattle.vx_started.specs.Stands.{IsSized, StandsFor}
 use Rattle.vx_started.specs.declared.started.Started.{Started}
 use Rattle.vx_moments.specs.World.{Device, Volume, Member, Group, OnDevice}
 use Rattle.vx_moments.specs.Moment.{Moment}
 use Rattle.vx_moments.specs.Copies.{IsTextOf}
+use Rattle.vx_moments.specs.Leaving.{lone}
 use Rattle.vx_house.specs.Holders.{holders, volume_at, whole_members, AreHeld}
+use Rattle.vx_house.specs.Runs.{AreRuns}
 use Rattle.vx_house.specs.Scene.{Shelved, Scene, seen_at, AreCountsOf}
 use Rattle.vx_house.specs.declared.house.House.{House}
 use Rattle.vx_house.specs.declared.house.Imported.{Imported}
@@ -83,7 +86,8 @@ group_of see (Some g) = Some (record {
 pub record IsMomentIn {P : Type 0} {ghosts : Ghosts P} (see : P → Seen) (s : Scene) (h : House P ghosts) (m : Moment) : Type 0 where
   pub told : IsSome s.shelf.free
   pub devices_are : (name : Word) → IsDeviceOf (is_lent h name) (seen_at s name) (m.world.devices name)
-  pub volumes_are : (vol : Word) → IsAtVolume see (volume_at h vol) (m.world.volumes vol)
+  pub volumes_are : (vol : Word) → IsAtVolume see (volume_at h vol) (lone (m.world.volumes vol))
+  pub runs_are : AreRuns see h.group m.world.group m.world.volumes
   pub group_is : m.world.group ≡ group_of see h.group
   pub counts : AreCountsOf s m.counts
 
@@ -103,11 +107,13 @@ IsGroupParted see g = AreParted (members see g.base) (still_pieces see g.public 
 pub record IsGroupIdle {P : Type 0} {ghosts : Ghosts P} (g : Imported P ghosts) : Type 0 where
   pub running : g.public.running.entries ≡ []
   pub left : g.public.left.items ≡ []
+  pub stuck : g.public.stuck.items ≡ []
 
--- the group whose devices can be joined again
+-- the group whose devices can be joined again, once its volumes are laid down
 pub record IsGroupWhole {P : Type 0} {ghosts : Ghosts P} (see : P → Seen) (g : Imported P ghosts) : Type 0 where
   pub parted : IsGroupParted see g
-  pub idle : IsGroupIdle g
+  pub volumes : AreRunningVolumes see g.public.running.entries
+  pub stuck : AreStuckVolumes see g.public.stuck.items
 
 -- the group has a disk
 abbrev pub HasDisk : {P : Type 0} {ghosts : Ghosts P} → Imported P ghosts → Type 0
@@ -132,6 +138,8 @@ pub record IsGroupKept {P : Type 0} {ghosts : Ghosts P} (see : P → Seen) (g : 
   pub slots : HaveSlots g.base.disks.items
   pub recorded : AreRecorded g.config g.base.disks.items
   pub whole : IsGroupWhole see g
+  -- no command starts a volume yet
+  pub idle : IsGroupIdle g
 
 -- What a house keeps: its volumes stand in the order of their names, its devices have their sizes, and its group carries its text.
 pub record KeepsHouse {P : Type 0} {ghosts : Ghosts P} (see : P → Seen) (h : House P ghosts) : Type 0 where
@@ -149,7 +157,8 @@ pub record Keeps {P : Type 0} {ghosts : Ghosts P} (see : P → Seen) (v : View P
 pub record IsMomentButGroup {P : Type 0} {ghosts : Ghosts P} (see : P → Seen) (v : View P ghosts) (m : Moment) : Type 0 where
   pub told : IsSome v.shelf.free
   pub devices_are : (name : Word) → IsDeviceOf (is_lent v.house name) (seen_at (scene see v) name) (m.world.devices name)
-  pub volumes_are : (vol : Word) → IsAtVolume see (volume_at v.house vol) (m.world.volumes vol)
+  pub volumes_are : (vol : Word) → IsAtVolume see (volume_at v.house vol) (lone (m.world.volumes vol))
+  pub runs_are : AreRuns see v.house.group m.world.group m.world.volumes
   pub counts : AreCountsOf (scene see v) m.counts
 
 -- what is kept where the group or the power was lost: all but what the group carries

@@ -1,19 +1,21 @@
 //! Devices that go back to the shelf, without a device call.
-ghost use Rattle.std.specs.Prelude.{◌≡◌, ◌∷◌, [], Some, is_some, map, IfSome, OnOk, OnErr};
+ghost use Rattle.std.specs.Prelude.{◌≡◌, ◌∷◌, ◌==◌, ◌&&◌, [], Some, is_some, length, map, IfSome, OnOk, OnErr};
 ghost use Rattle.vx_base.specs.Named.{Word};
 ghost use Rattle.vx_copies.specs.Lists.{AllOf};
 ghost use Rattle.vx_shelf.specs.Shelf.{IsWhole, IsOut, IsGiven};
 ghost use Rattle.vx_house.specs.Closing.{GivesBack, GivesHand, GivesGroup, GivesVolumes, KeepsGroup};
 ghost use Rattle.vx_house.specs.Holders.{AreHeld, AreApart, IsTakenFrom, holders, disk_holder, group_holders, hand_holder, volume_holder};
 ghost use Rattle.vx_house.specs.Scene.{shelved};
-ghost use Rattle.vx_house.specs.View.{HasDisk, IsGroupWhole, group_of};
+ghost use Rattle.vx_house.specs.View.{HasDisk, IsGroupIdle, IsGroupWhole, group_of};
 
 use crate::{House, Imported, Taken};
 use std::alloc::Global;
 use vx_base::OutOfMemory;
 use vx_copies::Disk;
 use vx_fronts::close_group;
+use vx_group_start::lay_down;
 use vx_piece::Piece;
+use vx_running::Public;
 use vx_shelf::Shelf;
 use vx_started::Started;
 
@@ -65,7 +67,7 @@ pub fn give_group<S: Shelf>(
     }
 }
 
-/// Joins the devices of a group.
+/// Lays the volumes of a group down, and joins its devices.
 fn close<P: Piece + Drop>(alloc: Global, group: &mut Imported<P>) -> Result<(), OutOfMemory>
     requires whole { IsGroupWhole P.seen group.old }
     requires alike { (p q : P) → is_some (P.seen p).told ≡ is_some (P.seen q).told }
@@ -74,10 +76,51 @@ fn close<P: Piece + Drop>(alloc: Global, group: &mut Imported<P>) -> Result<(), 
     ensures group { OnErr result (group_of P.seen (Some group.new) ≡ group_of P.seen (Some group.old)) }
     ensures whole { OnErr result (IsGroupWhole P.seen group.new) }
     ensures disks { OnErr result (HasDisk group.new) }
+    ensures idle { OnErr result (IsGroupIdle group.old → IsGroupIdle group.new) }
 {
     if group.base.disks().is_empty() {
         return Ok(());
     }
+    lay(alloc, group)?;
+    join(alloc, group)
+}
+
+/// Puts what running volumes have, and what is left of others, back into the pool.
+fn lay<P: Piece + Drop>(alloc: Global, group: &mut Imported<P>) -> Result<(), OutOfMemory>
+    requires whole { IsGroupWhole P.seen group.old }
+    requires alike { (p q : P) → is_some (P.seen p).told ≡ is_some (P.seen q).told }
+    ensures group { group.new ≡ record group.old { public = group.new.public } }
+    ensures same { group_holders P.seen (Some group.new) ≡ group_holders P.seen (Some group.old) }
+    ensures whole { IsGroupWhole P.seen group.new }
+    ensures idle { OnOk result (IsGroupIdle group.new) }
+    ensures stays { IsGroupIdle group.old → IsGroupIdle group.new }
+{
+    if is_idle(&group.public) {
+        return Ok(());
+    }
+    lay_down(alloc, &mut group.public)
+}
+
+/// No volume runs, and nothing is left of any.
+fn is_idle<P: Piece>(public: &Public<P>) -> bool
+    ensures { result ≡ (length public.now.running.entries == 0 && (length public.now.stuck.items == 0 && length public.now.left.items == 0)) }
+{
+    public.running.is_empty() && public.stuck.is_empty() && public.left.is_empty()
+}
+
+/// Joins the devices of a group of which no volume runs.
+fn join<P: Piece + Drop>(alloc: Global, group: &mut Imported<P>) -> Result<(), OutOfMemory>
+    requires whole { IsGroupWhole P.seen group.old }
+    requires idle { IsGroupIdle group.old }
+    requires some { HasDisk group.old }
+    requires alike { (p q : P) → is_some (P.seen p).told ≡ is_some (P.seen q).told }
+    ensures closed { OnOk result (map (disk_holder P.seen) group.new.base.disks.items ≡ group_holders P.seen (Some group.old)) }
+    ensures same { OnErr result (group_holders P.seen (Some group.new) ≡ group_holders P.seen (Some group.old)) }
+    ensures group { OnErr result (group_of P.seen (Some group.new) ≡ group_of P.seen (Some group.old)) }
+    ensures whole { OnErr result (IsGroupWhole P.seen group.new) }
+    ensures disks { OnErr result (HasDisk group.new) }
+    ensures idle { OnErr result (IsGroupIdle group.new) }
+{
     close_group(alloc, &mut group.base, &mut group.public.pool)
 }
 

@@ -8,6 +8,7 @@ ghost use Rattle.vx_house.specs.View.{IsGroupWhole, at};
 
 use crate::House;
 use crate::giving::{give_group, give_hand, give_volumes};
+use crate::standing::each_house_stands;
 use std::alloc::Global;
 use vx_answers::End;
 use vx_base::OutOfMemory;
@@ -26,6 +27,7 @@ pub fn leave<S: Shelf>(
     ensures stuck { OnErr result (IsStuck S.P.seen (at (shelved S.free S.held S.counted S.faults shelf.old) house.old) (at (shelved S.free S.held S.counted S.faults shelf.new) house.new)) }
     ensures left { OnOk result (IsLeft S.P.seen end.now (at (shelved S.free S.held S.counted S.faults shelf.old) house.old) (at (shelved S.free S.held S.counted S.faults shelf.new) house.new)) }
 {
+    each_house_stands(house);
     give_hand(house, shelf);
     match end {
         End::GroupLost => give_group(alloc, house, shelf),

@@ -4,11 +4,13 @@
 mod giving;
 mod house;
 mod leaving;
+mod standing;
 mod stop;
 mod taking;
 
 pub use giving::{give_disks, give_group, give_hand, give_volumes};
 pub use house::{House, Imported, Taken};
 pub use leaving::leave;
+pub use standing::each_house_stands;
 pub use stop::{Stop, fault, lost, refused};
 pub use taking::{take, take_disks};

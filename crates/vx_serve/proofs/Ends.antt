@@ -38,6 +38,9 @@ use Rattle.vx_serve.specs.Ends.{CarriesOut, IsShelfOf, ShelfGoes, StopsShort, ba
 use Rattle.vx_serve.specs.Run.{AreBlamed, HasRun, HasRunPartly, IsTranscriptThen}
 use Rattle.vx_serve.specs.Stops.{HoldsSome}
 use Rattle.vx_serve.proofs.Runs.{all_on}
+use Rattle.vx_moments.specs.Leaving.{lone, grouped}
+use Rattle.vx_moments.proofs.Lone.{none_lone}
+use Rattle.vx_house.specs.Runs.{AreRuns, IsAtRun}
 
 no_order : {X : Type 0} (es : List (Word × X)) → es ≡ [] → IsStrictlySortedBy (slice_cmp nat_cmp) (keys_of es)
 unfolding IsStrictlySortedBy
@@ -81,7 +84,8 @@ module _ {P : Type 0} {ghosts : Ghosts P} (see : P → Seen) (h : House P ghosts
   moment_there s m is = record {
     told = is.told;
     devices_are = λ name. subst (λ b. IsDeviceOf b (seen_at (scene see (at s h)) name) (m.world.devices name)) (sym (none_lent name)) (subst (λ x. IsDeviceOf false (seen_at x name) (m.world.devices name)) (sym (bare_scene s)) (is.devices_are name));
-    volumes_are = λ vol. subst (λ o. IsAtVolume see o (m.world.volumes vol)) (sym (no_volume vol)) (subst (λ o. IsAtVolume see None o) (sym (is.no_volumes vol)) tt);
+    volumes_are = λ vol. subst (λ o. IsAtVolume see o (lone (m.world.volumes vol))) (sym (no_volume vol)) (subst (λ o. IsAtVolume see None o) (sym (none_lone (m.world.volumes vol) (is.no_volumes vol))) tt);
+    runs_are = subst (λ o. AreRuns see o m.world.group m.world.volumes) (sym no_group) (λ name. subst (IsAtRun {ghosts = ghosts} see [] m.world.group name None) (sym (ap grouped (is.no_volumes name))) tt);
     group_is = is.no_group ∙ ap (group_of see) (sym no_group);
     counts = subst (λ x. AreCountsOf x m.counts) (sym (bare_scene s)) is.counts;
   }
@@ -115,7 +119,7 @@ module _ {P : Type 0} {ghosts : Ghosts P} (see : P → Seen) (commands : List Co
         left_world see mid n.0 but keeps,
         n.3,
         n.2,
-        power_goes see mid n.0 but keeps,
+        (gone.stands n.0 keeps but, power_goes see mid n.0 but keeps),
         shelf_there see k gone.stays.volumes gone.stays.group gone.later.hand t _ (all_gone see mid n.0 but keeps (at t k) gone) (λ vol. refl),
       )
 

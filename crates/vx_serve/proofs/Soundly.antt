@@ -20,7 +20,7 @@ carried_sound commands old taken new taken' fine run none (m, is, sound) =
     let goes = run.goes m is in (
       record { world = goes.1; counts = goes.0.counts },
       goes.5,
-      each_run_keeps_devices_sound 0 m commands run.answers goes.0 goes.1 none (record { group = is.no_group; volumes = is.no_volumes }) sound goes.2 goes.4,
+      each_run_keeps_devices_sound 0 m commands run.answers goes.0 goes.1 none (record { group = is.no_group; volumes = is.no_volumes }) sound goes.2 goes.4.1,
     )
 
 pub short_sound : (commands : List Command) (old : Shelved) (taken : Option (List ℕ)) (new : Shelved) (taken' : Option (List ℕ)) → StopsShort commands old taken new taken' → StaysSound commands old new
@@ -29,5 +29,5 @@ short_sound commands old taken new taken' run none (m, is, sound) =
       record { world = goes.1; counts = goes.0.counts },
       goes.5,
       each_run_keeps_devices_sound 0 m run.begun run.answers goes.2.0 goes.1 (front_writes run.begun run.left (subst WriteNoHeader run.split none)) (record { group = is.no_group; volumes = is.no_volumes }) sound goes.2.1
-          (subst (λ (w : World). PowerGoes w goes.1) goes.2.3 goes.4),
+          (subst (λ (w : World). PowerGoes w goes.1) goes.2.3 goes.4.1),
     )

@@ -4,6 +4,7 @@ use Rattle.vx_base.specs.Named.{Word}
 use Rattle.vx_script.specs.declared.command.Command.{Command}
 use Rattle.vx_answers.specs.declared.answer.Answer.{Answer}
 use Rattle.vx_moments.specs.Leaving.{PowerGoes}
+use Rattle.vx_group_images.specs.Lives.{GroupStands}
 use Rattle.vx_moments.specs.Moment.{Moment, AreLater}
 use Rattle.vx_moments.specs.World.{World}
 use Rattle.vx_plans.specs.Steps.{IsTranscript}
@@ -24,9 +25,10 @@ pub record IsShelfOf (s : Shelved) (m : Moment) : Type 0 where
   pub no_group : m.world.group ≡ None
   pub counts : AreCountsOf (bare s) m.counts
 
--- from each moment that the shelf was to one that it is, where the power went at the end
+-- From each moment that the shelf was to one that it is, where the power went at the end: the bytes that then are left of a group's
+-- volumes stand for those that ran.
 abbrev pub ShelfGoes : (Moment → Moment → Type 0) → Shelved → Shelved → Type 0
-ShelfGoes R old new = (m : Moment) → IsShelfOf old m → (last : Moment) × (left : World) × R m last × AreLater m.counts last.counts × PowerGoes last.world left × IsShelfOf new (record { world = left; counts = last.counts })
+ShelfGoes R old new = (m : Moment) → IsShelfOf old m → (last : Moment) × (left : World) × R m last × AreLater m.counts last.counts × (GroupStands last.world × PowerGoes last.world left) × IsShelfOf new (record { world = left; counts = last.counts })
 
 -- There is a transcript of the commands from each moment that the shelf was, its text was written, the power went, and
 -- the shelf is what was left. Each fault that is told has its cause.

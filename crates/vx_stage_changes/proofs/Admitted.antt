@@ -1,9 +1,10 @@
 -- A device that was to join the imported group: the disks before and now, with their whole devices.
 use Rattle.std.proofs.Common.{◌≡◌, ◌∙◌, ℕ, suc, ◌+◌, ◌≤◌, ◌≢◌, List, [], ◌∷◌, ◌++◌, map, length, take, drop, Option, Some, None, refl, sym, ap, subst}
 use Rattle.std.specs.Prelude.{IfSome, MatchOption}
-use Rattle.std.proofs.lemmas.List.{take-append-drop}
+use Rattle.std.proofs.lemmas.List.{append-nil, take-append-drop}
 use Rattle.vx_pages.specs.declared.local_piece.LocalPiece.{Ghosts}
 use Rattle.vx_base.specs.Blocks.{Contents}
+use Rattle.vx_base.specs.Named.{Word}
 use Rattle.vx_piece.specs.Seen.{Seen}
 use Rattle.vx_copies.specs.Disks.{DiskSeen, disk_seen, CommitGoes, IsReady}
 use Rattle.vx_copies.specs.Lists.{AllOf, Each}
@@ -38,6 +39,10 @@ use Rattle.vx_house.proofs.Returns.{apart_back, apart_front}
 use Rattle.vx_copies.proofs.ToggleOrder.{each_all}
 use Rattle.vx_stage_changes.specs.Joining.{disk_for, IsJoin, IsInHand}
 use Rattle.vx_stage_changes.proofs.Entry.{held_long, holders_before}
+use Rattle.vx_house.specs.Runs.{run_in}
+use Rattle.vx_house.proofs.Runs.{idle_runs, idle_same}
+use Rattle.vx_house.specs.View.{IsGroupIdle}
+use Rattle.vx_group_start.specs.Laying.{AreRunningVolumes, AreStuckVolumes}
 
 -- ---- disks with their whole devices
 
@@ -125,7 +130,7 @@ module _ {P : Type 0} {ghosts : Ghosts P} {see : P → Seen} {shelf : Shelved} {
   whole = take-append-drop n ws
 
   pub wholes_now : whole_members see g' ≡ ws
-  wholes_now = ap (λ p. whole_disks (rests_of (still_pieces see p) (lent_pieces see p)) ns) a.public
+  wholes_now = ap (λ p. whole_disks (rests_of (still_pieces see p ++ lent_pieces see p) []) ns) a.public
 
   pub kept : IsGroupKept see g
   kept = subst (λ o. IfSome o (IsGroupKept see)) a.has a.keeps.group
@@ -175,7 +180,7 @@ module _ {P : Type 0} {ghosts : Ghosts P} {see : P → Seen} {shelf : Shelved} {
   pub gains : Gains rests g.base.name first number text fs js ns
   gains = record {
     private = all_append HasPrivate fs js private private_joiner;
-    alone = (joined_unparted fs (still_pieces see g.public) (lent_pieces see g.public) (disk_seen see disk) apart parted, tt);
+    alone = (joined_unparted fs (still_pieces see g.public ++ lent_pieces see g.public) [] (disk_seen see disk) apart (subst (AreParted fs) (sym (append-nil (still_pieces see g.public ++ lent_pieces see g.public))) parted), tt);
     goes = goes_fronts;
     joins = joins_fronts;
   }
@@ -215,8 +220,15 @@ module _ {P : Type 0} {ghosts : Ghosts P} {see : P → Seen} {shelf : Shelved} {
   pub whole_entered : IsGroupWhole see g'
   whole_entered = record {
     parted = subst (λ p. AreParted ns (still_pieces see p ++ lent_pieces see p)) (sym a.public) parted_now;
-    idle = record { running = ap (λ p. p.running.entries) a.public ∙ kept.whole.idle.running; left = ap (λ p. p.left.items) a.public ∙ kept.whole.idle.left };
+    volumes = subst (λ p. AreRunningVolumes see p.running.entries) (sym a.public) kept.whole.volumes;
+    stuck = subst (λ p. AreStuckVolumes see p.stuck.items) (sym a.public) kept.whole.stuck;
   }
+
+  pub idle_entered : IsGroupIdle g'
+  idle_entered = idle_same see g g' a.public kept.idle
+
+  pub none_entered : (name : Word) → run_in now.group name ≡ None
+  none_entered name = ap (λ o. run_in o name) a.is_now ∙ idle_runs see g' idle_entered name
 
   pub whole_here : IfSome now.group (IsGroupWhole see)
   whole_here = subst (λ o. IfSome o (IsGroupWhole see)) (sym a.is_now) whole_entered

@@ -58,6 +58,9 @@ use Rattle.vx_commits.proofs.GoodDisks.{any_good}
 use Rattle.vx_commits.proofs.Joins.{AreDone, held_on, joiners_lost_on, power_lost_on, joiners_committed_on}
 use Rattle.vx_commits.proofs.CommitStage.{volumes_kept, group_lost_stage, power_lost_stage, done_stage}
 use Rattle.vx_copies.proofs.ToggleOrder.{each_all}
+use Rattle.vx_moments.specs.Leaving.{lone}
+use Rattle.vx_house.specs.Runs.{AreRuns}
+use Rattle.vx_house.specs.Runs.{run_in}
 
 -- where none of a kind is there, there is none
 pub none_of : {X : Type 0} (o : Option X) → ((y : X) → o ≡ Some y → ⊥) → o ≡ None
@@ -143,6 +146,7 @@ module _ {P : Type 0} {ghosts : Ghosts P} (see : P → Seen) (dg : Word) (pairs 
         slots = joins_slots see dg text disks g'.base.disks.items by.founded.begun.joins (have_slots see 0 old.hand.items pairs);
         recorded = joins_recorded see dg text g'.config disks g'.base.disks.items by.founded.begun.joins (recorded_so dg disks g'.config by.drawn.records);
         whole = founded shelf.held held_now.numbers see g' by.still by.lent by.idle (fronts_by bs each_now by.founded.carries.alive.ready) sized each_now apart_now;
+        idle = by.idle;
       }
 
       done : AreDone (before begun) g'.config text g'.base.sequence [] [] hs bs
@@ -198,7 +202,8 @@ module _ {P : Type 0} {ghosts : Ghosts P} (see : P → Seen) (dg : Word) (pairs 
           told = is.told;
           devices_are = λ name. subst (λ b. IsDeviceOf b (seen_at (scene see (at shelf now)) name) (m.world.devices name)) (ap (λ v. is_lent (let h : House P ghosts = record { volumes = v; group = old.group; hand = old.hand } in h) name) (sym volumes))
               (subst (λ l. IsDeviceOf (is_lent old name) (seen_at (record { shelf = shelf; taken = l }) name) (m.world.devices name)) (sym same_holders) (is.devices_are name));
-          volumes_are = λ vol. subst (λ o. IsAtVolume see o (m.world.volumes vol)) (sym (volume_now vol)) (is.volumes_are vol);
+          volumes_are = λ vol. subst (λ o. IsAtVolume see o (lone (m.world.volumes vol))) (sym (volume_now vol)) (is.volumes_are vol);
+          runs_are = subst (λ o. AreRuns see o m.world.group m.world.volumes) (sym same_group) is.runs_are;
           group_is = is.group_is ∙ ap (group_of see) (sym same_group);
           counts = subst (λ l. AreCountsOf (record { shelf = shelf; taken = l }) m.counts) (sym same_holders) is.counts;
         }
@@ -249,14 +254,14 @@ module _ {P : Type 0} {ghosts : Ghosts P} (see : P → Seen) (dg : Word) (pairs 
           whole_none = subst (λ o. IfSome o (IsGroupWhole see)) (sym no_group) tt
 
           group_lost : Each HasRisen hs ks → StageGoes {T = Unit {0}} see (stage.Create dg) pairs (Err (stops.Ended ends.GroupLost)) (at shelf old) (at shelf now)
-          group_lost risen = group_lost_stage (calls begun_of) (stage.Create dg) pairs keeps hand_kept whole_none (λ m is. inr (
+          group_lost risen = group_lost_stage (calls begun_of) (stage.Create dg) pairs keeps hand_kept whole_none (λ name. ap (λ o. run_in o name) no_group) (λ m is. inr (
             x begun_of,
             creating begun_of m is,
             joiners_lost_on (calls begun_of) m (moment_but_group see (at shelf old) m is) m.world.group (before begun_of) config text (map member_in hs) writes.last (written begun_of) refl refl risen,
           ))
 
           power_lost : AnyOf IsCut ks → StageGoes {T = Unit {0}} see (stage.Create dg) pairs (Err (stops.Ended (ends.Lost []))) (at shelf old) (at shelf now)
-          power_lost cut = power_lost_stage (calls begun_of) (stage.Create dg) pairs keeps hand_kept whole_none (λ m is. inr (
+          power_lost cut = power_lost_stage (calls begun_of) (stage.Create dg) pairs keeps hand_kept whole_none (λ name. ap (λ o. run_in o name) no_group) (λ m is. inr (
             x begun_of,
             creating begun_of m is,
             power_lost_on (calls begun_of) m (moment_but_group see (at shelf old) m is) m.world.group (before begun_of) config text (map member_in hs) writes.last (written begun_of) refl cut,

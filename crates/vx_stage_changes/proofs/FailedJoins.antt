@@ -44,6 +44,13 @@ use Rattle.vx_house.proofs.Takes.{rests_self}
 use Rattle.vx_stage_changes.specs.Joining.{join_edits, IsUnjoined, IsKeptBack}
 use Rattle.vx_stage_changes.specs.Planning.{IsUnplanned}
 use Rattle.vx_stage_changes.proofs.EditStage.{refused_so}
+use Rattle.vx_moments.specs.Leaving.{lone}
+use Rattle.vx_house.specs.Runs.{AreRuns}
+use Rattle.vx_house.proofs.Runs.{idle_runs, none_run, none_still}
+use Rattle.vx_house.proofs.Ends.{whole_kept}
+use Rattle.vx_house.specs.View.{IsGroupIdle}
+use Rattle.vx_house.proofs.Runs.{idle_same}
+use Rattle.vx_group_start.specs.Laying.{AreRunningVolumes, AreStuckVolumes}
 
 -- the device of a name has the sectors that are seen
 sectors_seen : (lent : Bool) (seen : Seen) (o : Option Device) → IsDeviceOf lent (Some seen) o → sectors_in o ≡ seen.sectors
@@ -78,7 +85,7 @@ module _ {P : Type 0} {ghosts : Ghosts P} (see : P → Seen) (pair : DiskAt) (sh
   same_members = ap (map (disk_seen see)) same_disks
 
   same_wholes : whole_members see g' ≡ whole_members see g
-  same_wholes = ap (λ p. whole_disks (rests_of (still_pieces see p) (lent_pieces see p)) (members see g'.base)) public ∙ ap (whole_disks (group_rests see g)) same_members
+  same_wholes = ap (λ p. whole_disks (rests_of (still_pieces see p ++ lent_pieces see p) []) (members see g'.base)) public ∙ ap (whole_disks (group_rests see g)) same_members
 
   same_holders : holders see now ≡ holders see old
   same_holders =
@@ -96,12 +103,16 @@ module _ {P : Type 0} {ghosts : Ghosts P} (see : P → Seen) (pair : DiskAt) (sh
       ∙ ap (λ n. Some (let w : Group = record { config = g.config; good = good_mask (members see g.base); members = map member_of g.base.disks.items; sequence = n } in w)) unjoined.base.sequence
       ∙ sym (ap (group_of see) has)
 
+  idle_now : IsGroupIdle g'
+  idle_now = idle_same see g g' public kept.idle
+
   same_moment : (m : Moment) → IsMoment see (at shelf old) m → IsMoment see (at shelf now) m
   same_moment m is = record {
     told = is.told;
     devices_are = λ name. subst (λ b. IsDeviceOf b (seen_at (scene see (at shelf now)) name) (m.world.devices name)) (ap (λ v. is_lent (let h : House P ghosts = record { volumes = v; group = old.group; hand = old.hand } in h) name) (sym volumes))
         (subst (λ l. IsDeviceOf (is_lent old name) (seen_at (record { shelf = shelf; taken = l }) name) (m.world.devices name)) (sym same_holders) (is.devices_are name));
-    volumes_are = λ vol. subst (λ o. IsAtVolume see o (m.world.volumes vol)) (ap (λ v. volume_at (let h : House P ghosts = record { volumes = v; group = old.group; hand = old.hand } in h) vol) (sym volumes)) (is.volumes_are vol);
+    volumes_are = λ vol. subst (λ o. IsAtVolume see o (lone (m.world.volumes vol))) (ap (λ v. volume_at (let h : House P ghosts = record { volumes = v; group = old.group; hand = old.hand } in h) vol) (sym volumes)) (is.volumes_are vol);
+    runs_are = subst (λ o. AreRuns see o m.world.group m.world.volumes) (sym is_now) (none_still see old.group (Some g') m.world.group m.world.group m.world.volumes (none_run see old.group keeps.group) (idle_runs see g' idle_now) is.runs_are);
     group_is = is.group_is ∙ sym same_group;
     counts = subst (λ l. AreCountsOf (record { shelf = shelf; taken = l }) m.counts) (sym same_holders) is.counts;
   }
@@ -141,8 +152,10 @@ module _ {P : Type 0} {ghosts : Ghosts P} (see : P → Seen) (pair : DiskAt) (sh
     recorded = subst (λ c. AreRecorded c g'.base.disks.items) (sym unjoined.config) (subst (AreRecorded g.config) (sym same_disks) kept.recorded);
     whole = record {
       parted = subst (λ p. AreParted (members see g'.base) (still_pieces see p ++ lent_pieces see p)) (sym public) (subst (λ l. AreParted l (still_pieces see g.public ++ lent_pieces see g.public)) (sym same_members) kept.whole.parted);
-      idle = record { running = ap (λ p. p.running.entries) public ∙ kept.whole.idle.running; left = ap (λ p. p.left.items) public ∙ kept.whole.idle.left };
+      volumes = subst (λ p. AreRunningVolumes see p.running.entries) (sym public) kept.whole.volumes;
+      stuck = subst (λ p. AreStuckVolumes see p.stuck.items) (sym public) kept.whole.stuck;
     };
+    idle = idle_now;
   }
 
   keeps_now : Keeps see (at shelf now)

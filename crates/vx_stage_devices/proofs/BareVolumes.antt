@@ -24,6 +24,7 @@ use Rattle.vx_answers.specs.declared.refusal.Refusal.TheVariants.{Exists}
 use Rattle.vx_started.specs.Stands.{IsAmongTold, IsSized}
 use Rattle.vx_started.specs.declared.started.Started.{Started}
 use Rattle.vx_moments.specs.World.{World, Device, Volume, OnDevice}
+use Rattle.vx_moments.specs.Leaving.{grouped as on_plexes}
 use Rattle.vx_moments.specs.Moment.{Moment}
 use Rattle.vx_moments.specs.Holding.{has_volume}
 use Rattle.vx_plans.specs.Stages.{bare_volume, refused}
@@ -49,6 +50,10 @@ use Rattle.vx_house.proofs.Takes.{rests_self}
 use Rattle.vx_stage_devices.specs.Starts.{is_recorded, is_named, CanStart, IsStarted, IsSameHouse, Starts}
 use Rattle.vx_stage_devices.proofs.Entries.{IsPutAt, put_at, any_less}
 use Rattle.vx_house.proofs.Hands.{IsInWorld, hand_in_world}
+use Rattle.vx_moments.specs.Leaving.{lone}
+use Rattle.vx_house.specs.Runs.{AreRuns, run_in}
+use Rattle.vx_house.proofs.Runs.{none_run, none_grouped, none_are, all_alone}
+use Rattle.vx_house.proofs.Ends.{whole_kept}
 
 -- the names of volumes
 recorded_same : {P : Type 0} {ghosts : Ghosts P} (see : P → Seen) (o : Option (Imported P ghosts)) (vol : Word) → has_volume (group_of see o) vol ≡ is_recorded o vol
@@ -61,9 +66,9 @@ volume_same see None (Some v) is = absurd is
 volume_same see (Some b) None is = absurd is
 volume_same see (Some b) (Some v) is = refl
 
-named_same : {P : Type 0} {ghosts : Ghosts P} (see : P → Seen) (v : View P ghosts) (m : Moment) (vol : Word) → IsMoment see v m → is_volume vol m.world ≡ is_named v.house vol
-named_same see v m vol is =
-    ap (λ b. b || has_volume m.world.group vol) (volume_same see (volume_at v.house vol) (m.world.volumes vol) (is.volumes_are vol))
+named_same : {P : Type 0} {ghosts : Ghosts P} (see : P → Seen) (v : View P ghosts) (m : Moment) (vol : Word) → ((name : Word) → run_in v.house.group name ≡ None) → IsMoment see v m → is_volume vol m.world ≡ is_named v.house vol
+named_same see v m vol none is =
+    ap (λ b. b || has_volume m.world.group vol) (volume_same see (volume_at v.house vol) (m.world.volumes vol) (all_alone see v.house m.world none is.volumes_are is.runs_are vol))
     ∙ ap (λ b. is_some (volume_at v.house vol) || b) (ap (λ g. has_volume g vol) is.group_is ∙ recorded_same see v.house.group vol)
 
 none_named : {X : Type 0} (o : Option X) (r : Bool) → (is_some o || r) ≡ false → o ≡ None
@@ -173,6 +178,10 @@ module _ {P : Type 0} {ghosts : Ghosts P} (see : P → Seen) (vol : Word) (h k :
     };
   }
 
+  -- no volume of the group runs
+  none : (n : Word) → run_in h.group n ≡ None
+  none = none_run see h.group keeps.group
+
   module _ (m : Moment) (is : IsMoment see (at shelf h) m) where
     there : IsInWorld m.world t.device (see t.piece)
     there = (subst (AllOf (λ x. IsInWorld m.world x.device (see x.piece))) started.hand (hand_in_world see h shelf m are.apart is)).0
@@ -180,7 +189,7 @@ module _ {P : Type 0} {ghosts : Ghosts P} (see : P → Seen) (vol : Word) (h k :
     abbrev next : World
     next = record m.world { volumes = put vol (Some (bare_volume t.device there.device)) m.world.volumes }
 
-    started_at : (n : Word) (x : Bool) → IsAtVolume see (cond x (Some b) (volume_at h n)) (m.world.volumes n) ⊎ (x ≡ true) → IsAtVolume see (cond x (Some b) (volume_at h n)) (cond x (Some (bare_volume t.device there.device)) (m.world.volumes n))
+    started_at : (n : Word) (x : Bool) → IsAtVolume see (cond x (Some b) (volume_at h n)) (lone (m.world.volumes n)) ⊎ (x ≡ true) → IsAtVolume see (cond x (Some b) (volume_at h n)) (lone (cond x (Some (bare_volume t.device there.device)) (m.world.volumes n)))
     started_at n true at = record {
       lies = ap OnDevice (sym started.put_in.device);
       length_is = there.sectors ∙ sym started.put_in.length_is;
@@ -194,7 +203,7 @@ module _ {P : Type 0} {ghosts : Ghosts P} (see : P → Seen) (vol : Word) (h k :
     started_at n false (inl at) = at
     started_at n false (inr e) = cc
 
-    at_name : (n : Word) (x : Bool) → IsAtVolume see (volume_at h n) (m.world.volumes n) → IsAtVolume see (cond x (Some b) (volume_at h n)) (m.world.volumes n) ⊎ (x ≡ true)
+    at_name : (n : Word) (x : Bool) → IsAtVolume see (volume_at h n) (lone (m.world.volumes n)) → IsAtVolume see (cond x (Some b) (volume_at h n)) (lone (m.world.volumes n)) ⊎ (x ≡ true)
     at_name n true at = inr refl
     at_name n false at = inl at
 
@@ -203,13 +212,18 @@ module _ {P : Type 0} {ghosts : Ghosts P} (see : P → Seen) (vol : Word) (h k :
         ap (list_any (λ x. bytes_eq x.1.device name)) spot.was
         ∙ any_less (λ x. bytes_eq x.1.device name) spot.before (vol, b) spot.behind (ap (list_any (λ x. bytes_eq x.1.device name)) (sym spot.is) ∙ e)
 
+    grouped_now : (n : Word) (x : Bool) → on_plexes (cond x (Some (bare_volume t.device there.device)) (m.world.volumes n)) ≡ None
+    grouped_now n true = refl
+    grouped_now n false = none_grouped see h.group m.world.group m.world.volumes none is.runs_are n
+
     started_moment : IsMoment see (at shelf k) (record { world = next; counts = m.counts })
     started_moment = record {
       told = is.told;
       devices_are = λ name. subst (λ o. IsDeviceOf (is_lent k name) o (m.world.devices name)) (sym (unmoved.seen is.told name))
           (weaker_lent (is_lent h name) (is_lent k name) (seen_at (scene see (at shelf h)) name) (m.world.devices name) (lent_less name) (is.devices_are name));
-      volumes_are = λ n. subst (λ o. IsAtVolume see o (put vol (Some (bare_volume t.device there.device)) m.world.volumes n)) (sym (started.put_in.puts n))
+      volumes_are = λ n. subst (λ o. IsAtVolume see o (lone (put vol (Some (bare_volume t.device there.device)) m.world.volumes n))) (sym (started.put_in.puts n))
           (started_at n (bytes_eq vol n) (at_name n (bytes_eq vol n) (is.volumes_are n)));
+      runs_are = none_are see k.group m.world.group next.volumes (λ n. ap (λ o. run_in o n) started.group ∙ none n) (λ n. grouped_now n (bytes_eq vol n));
       group_is = is.group_is ∙ ap (group_of see) (sym started.group);
       counts = counts_moved (scene see (at shelf h)) (scene see (at shelf k)) m.counts unmoved is.told is.counts;
     }
@@ -221,7 +235,7 @@ module _ {P : Type 0} {ghosts : Ghosts P} (see : P → Seen) (vol : Word) (h k :
       record { world = next m is; counts = m.counts },
       started_moment m is,
       later_refl m.counts,
-      (named_same see (at shelf h) m vol is ∙ new_name, record { device = (there m is).device; was = (there m is).was; is = refl }, refl),
+      (named_same see (at shelf h) m vol none is ∙ new_name, record { device = (there m is).device; was = (there m is).was; is = refl }, refl),
     );
     gives = tt;
     still = λ e. cc;
@@ -234,7 +248,7 @@ module _ {P : Type 0} {ghosts : Ghosts P} (see : P → Seen) (vol name : Word) (
   pub exists_stage : is_named h vol ≡ true → StageGoes {T = Unit {0}} see (stage.StartBare vol name) disks (Err (Ended (refused (Exists vol)))) (at shelf h) (at shelf h)
   exists_stage named = record {
     keeps = record { devices = are; house = keeps };
-    goes = λ m is. (m, is, later_refl m.counts, (named_same see (at shelf h) m vol is ∙ named, (refl, rests_self m)));
+    goes = λ m is. (m, is, later_refl m.counts, (named_same see (at shelf h) m vol (none_run see h.group keeps.group) is ∙ named, (refl, rests_self m)));
     gives = tt;
     still = λ e. tt;
     faults = faults_refl (scene see (at shelf h));
@@ -260,7 +274,8 @@ module _ {P : Type 0} {ghosts : Ghosts P} (see : P → Seen) (vol name : Word) (
       told = is.told;
       devices_are = λ n. subst (λ o. IsDeviceOf (is_lent k n) o (m.world.devices n)) (sym (unmoved_same.seen is.told n))
           (weaker_lent (is_lent h n) (is_lent k n) (seen_at (scene see (at shelf h)) n) (m.world.devices n) (λ e. ap (list_any (λ x. bytes_eq x.1.device n)) (sym same.entries) ∙ e) (is.devices_are n));
-      volumes_are = λ n. subst (λ o. IsAtVolume see o (m.world.volumes n)) (sym (same_volume n)) (is.volumes_are n);
+      volumes_are = λ n. subst (λ o. IsAtVolume see o (lone (m.world.volumes n))) (sym (same_volume n)) (is.volumes_are n);
+      runs_are = subst (λ o. AreRuns see o m.world.group m.world.volumes) (sym same.group) is.runs_are;
       group_is = is.group_is ∙ ap (group_of see) (sym same.group);
       counts = counts_moved (scene see (at shelf h)) (scene see (at shelf k)) m.counts unmoved_same is.told is.counts;
     }

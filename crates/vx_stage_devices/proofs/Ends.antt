@@ -117,6 +117,7 @@ module _ {P : Type 0} {ghosts : Ghosts P} (see : P → Seen) (v : View P ghosts)
       told = told_on names v.shelf.free shelf.free only.told is.told;
       devices_are = λ name. stays_device (is_lent v.house name) (seen_at (scene see v) name) (seen_at (scene see new) name) (m.world.devices name) (stays name) (is.devices_are name);
       volumes_are = is.volumes_are;
+      runs_are = is.runs_are;
       group_is = is.group_is;
       counts = counts_own (scene see new);
     }

@@ -107,6 +107,7 @@ module _ {P : Type 0} {ghosts : Ghosts P} (see : P → Seen) (v : View P ghosts)
           (λ other e. subst (λ o. IsDeviceOf (is_lent v.house other) o (put name (Some blank) m.world.devices other)) (sym (seen_other other e))
           (subst (λ d. IsDeviceOf (is_lent v.house other) (seen_at (scene see v) other) d) (sym (put_other name other (Some blank) m.world.devices e)) (is.devices_are other)));
       volumes_are = is.volumes_are;
+      runs_are = is.runs_are;
       group_is = is.group_is;
       counts = counts_own (scene see new);
     }

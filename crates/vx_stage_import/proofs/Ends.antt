@@ -46,6 +46,7 @@ module _ {P : Type 0} {ghosts : Ghosts P} (see : P → Seen) (group : Word) (dis
         told = read.reads.told is.told;
         devices_are = λ name. stays_device (is_lent h name) (seen_at before name) (seen_at after name) (m.world.devices name) (read.reads.seen is.told name) (is.devices_are name);
         volumes_are = is.volumes_are;
+        runs_are = is.runs_are;
         group_is = is.group_is;
         counts = counts_own after;
       }

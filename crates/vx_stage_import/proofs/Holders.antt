@@ -75,6 +75,10 @@ use Rattle.vx_stage_import.proofs.Texts.{labels_in}
 use Rattle.vx_house.specs.Reading.{OnlyRead}
 use Rattle.vx_house.specs.Unmoved.{Unmoved}
 use Rattle.vx_house.proofs.Readings.{stays_device, stays_place, only_trans, only_unmoved}
+use Rattle.vx_house.specs.Runs.{AreRuns}
+use Rattle.vx_house.proofs.Runs.{idle_runs, none_run, none_still, kept_alone}
+use Rattle.vx_house.proofs.Ends.{whole_kept}
+use Rattle.vx_group_start.specs.Laying.{AreRunningVolumes, AreStuckVolumes}
 
 -- the disks beside a house without a group and with an empty hand are held as those of its group
 pub holders_taken : {P : Type 0} {ghosts : Ghosts P} (see : P → Seen) (h : House P ghosts) (g : Imported P ghosts) → still_pieces see g.public ≡ [] → lent_pieces see g.public ≡ [] → h.hand.items ≡ [] → h.group ≡ None → holders see h ++ disk_holders see g.base.disks.items ≡ holders see (record { volumes = h.volumes; group = Some g; hand = h.hand })
@@ -118,7 +122,7 @@ module _ {P : Type 0} {ghosts : Ghosts P} (see : P → Seen) (dg : Word) (names 
     (since : IsSince see all_read dg names first now h (map (looked see) ds)) (looks : AreLooked see dg ds) (given_is : IsGiven dg given (map (looked see) ds))
     (judged : TextJudged dg (text_of given.text) given.good (labels_in (candidates_of (map (looked see) ds))) (is_started h.volumes) (Ready after v))
     (back : IsBack (beside now (holders see h) (map (looked see) ds)) (scene_of mid (holders see h ++ disk_holders see es.items))) (made : seen_disks see es.items ≡ disks_in (good_looks given.good (map (looked see) ds)))
-    (public : Public P ghosts) (still : still_pieces see public ≡ []) (lent : lent_pieces see public ≡ []) (running : public.running.entries ≡ []) (left : public.left.items ≡ []) where
+    (public : Public P ghosts) (still : still_pieces see public ≡ []) (lent : lent_pieces see public ≡ []) (running : public.running.entries ≡ []) (left : public.left.items ≡ []) (stuck : public.stuck.items ≡ []) where
   abbrev fs : List Looked
   fs = map (looked see) ds
 
@@ -160,7 +164,7 @@ module _ {P : Type 0} {ghosts : Ghosts P} (see : P → Seen) (dg : Word) (names 
   wholes = unparted see found_group still lent
 
   idle : (g : Imported P ghosts) → g.public ≡ public → IsGroupIdle g
-  idle g same = record { running = ap (λ p. p.running.entries) same ∙ running; left = ap (λ p. p.left.items) same ∙ left }
+  idle g same = record { running = ap (λ p. p.running.entries) same ∙ running; left = ap (λ p. p.left.items) same ∙ left; stuck = ap (λ p. p.stuck.items) same ∙ stuck }
 
   each_disk : AllOf (IsTakenFrom mid.held) (map holder_in (seen_disks see es.items))
   each_disk = subst (AllOf (IsTakenFrom mid.held)) (mapped_holders see es.items) (all_back (IsTakenFrom mid.held) (holders see h) (disk_holders see es.items) back.held.each)
@@ -197,6 +201,7 @@ module _ {P : Type 0} {ghosts : Ghosts P} (see : P → Seen) (dg : Word) (names 
       told = read.told is.told;
       devices_are = λ name. stays_device (is_lent h name) (seen_at start name) (seen_at taken name) (m.world.devices name) (read.seen is.told name) (is.devices_are name);
       volumes_are = is.volumes_are;
+      runs_are = none_still see h.group (Some found_group) m.world.group None m.world.volumes (none_run see h.group since.keeps.house.group) (idle_runs see found_group (idle found_group refl)) is.runs_are;
       counts = counts_own taken;
     }
 
@@ -243,7 +248,7 @@ module _ {P : Type 0} {ghosts : Ghosts P} (see : P → Seen) (dg : Word) (names 
     importing x group config carriers joiners = record {
       found = found;
       finds = given_finds dg m.world (unread_by fs) fs linked (all_each (IsOfGroup dg) (IsOf dg) (λ f of. record { group_is = of.group_is; headed = of.headed }) fs since.each) (λ o config. (x.group ≡ group_found o (candidates_of fs) config) × (objects_of x.config ≡ import_records config)) (λ r. ⊥) given given_is
-          (ready_finds after v dg offer (candidates_of fs) m.world (is_started h.volumes) (λ name. started_same see (volume_at h name) (m.world.volumes name) (is.volumes_are name)) judged (λ config. (x.group ≡ group_found offer (candidates_of fs) config) × (objects_of x.config ≡ import_records config)) (group ∙ group_is_found, ap objects_of config ∙ ready.made));
+          (ready_finds after v dg offer (candidates_of fs) m.world (is_started h.volumes) (λ name. started_same see (volume_at h name) (m.world.volumes name) (kept_alone see h m.world since.keeps.house is.volumes_are is.runs_are name)) judged (λ config. (x.group ≡ group_found offer (candidates_of fs) config) × (objects_of x.config ≡ import_records config)) (group ∙ group_is_found, ap objects_of config ∙ ready.made));
       carriers = carriers;
       joiners = joiners;
     }
@@ -271,7 +276,8 @@ module _ {P : Type 0} {ghosts : Ghosts P} (see : P → Seen) (dg : Word) (names 
     whole_now : IsTried see text found_group.base base → IsGroupWhole see g'
     whole_now tried = record {
       parted = parted_committed (given.sequence + 1) base.sequence text (seen_disks see es.items) (members see base) (still_pieces see public ++ lent_pieces see public) tried.committed.goes parted_found;
-      idle = idle g' refl;
+      volumes = subst (AreRunningVolumes see) (sym running) tt;
+      stuck = subst (AreStuckVolumes see) (sym stuck) tt;
     }
 
     but_group : IsTried see text found_group.base base → KeepsButGroup see (at mid taken_house)
@@ -296,7 +302,12 @@ module _ {P : Type 0} {ghosts : Ghosts P} (see : P → Seen) (dg : Word) (names 
       slots = slots_now (given.sequence + 1) base.sequence text see es.items base.disks.items finished.tried.committed.goes can.slots;
       recorded = recorded_now (given.sequence + 1) base.sequence text see after after refl es.items base.disks.items finished.tried.committed.goes (recorded_disks see dg ds looks given given_is after v.items ready_labels es.items made);
       whole = whole_now finished.tried;
+      idle = idle g' refl;
     }
+
+    -- no volume of it runs
+    runs_now : (k : Moment) → IsMomentButGroup see (at mid found_house) k → (f : Option Group) → AreRuns see (Some g') f k.world.volumes
+    runs_now k at_k f = none_still see (Some found_group) (Some g') k.world.group f k.world.volumes (idle_runs see found_group (idle found_group refl)) (idle_runs see g' (idle g' refl)) at_k.runs_are
 
     taken_done : IsFinished see text found_group.base base → StageGoes {T = Unit {0}} see (stage.Import dg) disks (Ok tt) (at first h) (at mid taken_house)
     taken_done finished = record {
@@ -309,10 +320,10 @@ module _ {P : Type 0} {ghosts : Ghosts P} (see : P → Seen) (dg : Word) (names 
           let k = middle m is in
           let at_k = is_found m is in
           let n = moment_on (alone w) k (group_of see (Some g')) in
-          let there = but_group_on (alone w) k at_k (group_of see (Some g')) in
+          let there = but_group_on (alone w) k at_k (group_of see (Some g')) (runs_now k at_k (group_of see (Some g'))) in
           let later = later_on (alone w) k at_k (group_of see (Some g')) in (
             n,
-            record { told = there.told; devices_are = there.devices_are; volumes_are = there.volumes_are; group_is = refl; counts = there.counts },
+            record { told = there.told; devices_are = there.devices_are; volumes_are = there.volumes_are; runs_are = there.runs_are; group_is = refl; counts = there.counts },
             later_trans m.counts (counts_of taken) n.counts (later_found m is) later,
             (none_then m is, k, is_between m is n later, (x_alone w after, importing m is (x_alone w after) (same_world m is) refl refl refl, committed_alone w k at_k finished printed short in_name)),
           );
@@ -334,7 +345,7 @@ module _ {P : Type 0} {ghosts : Ghosts P} (see : P → Seen) (dg : Word) (names 
       stops_at end stopped =
           let later = later_on (alone w) (middle m is) (is_found m is) None in (
             stopped_at,
-            but_group_on (alone w) (middle m is) (is_found m is) None,
+            but_group_on (alone w) (middle m is) (is_found m is) None (runs_now (middle m is) (is_found m is) None),
             later_trans m.counts (counts_of taken) stopped_at.counts (later_found m is) later,
             inr (inr (middle m is, is_between m is stopped_at later, (x_alone w after, importing m is (x_alone w after) (same_world m is) refl refl refl, stopped))),
           )
@@ -408,7 +419,7 @@ module _ {P : Type 0} {ghosts : Ghosts P} (see : P → Seen) (dg : Word) (names 
   taken_in result last k in_house on =
       subst (λ (x : House P ghosts). StageGoes {T = Unit {0}} see (stage.Import dg) disks result (at first h) (at last x)) (sym in_house.house_is)
       (subst (λ (s : Shelved). StageGoes {T = Unit {0}} see (stage.Import dg) disks result (at first h) (at s (let k : House P ghosts = record { volumes = h.volumes; group = Some (record { config = after; base = in_house.base; public = in_house.public }); hand = h.hand } in k))) (sym in_house.shelf_is)
-      (taken_by see dg names disks first now mid h ds es given after v text text_is since looks given_is judged back made in_house.public in_house.still in_house.lent in_house.idle.running in_house.idle.left in_house.base result in_house.ends on))
+      (taken_by see dg names disks first now mid h ds es given after v text text_is since looks given_is judged back made in_house.public in_house.still in_house.lent in_house.idle.running in_house.idle.left in_house.idle.stuck in_house.base result in_house.ends on))
 
   pub takes_in : (result : Result (Unit {0}) Stop) (last : Shelved) (k : House P ghosts) → TakesIn see dg given after text es result mid h last k → StageGoes {T = Unit {0}} see (stage.Import dg) disks result (at first h) (at last k)
   takes_in (Ok u) last k is = taken_in (Ok u) last k is (λ e. cc)

@@ -33,6 +33,7 @@ use Rattle.vx_stage_changes.proofs.EditStage.{IsStage, unchanged, refused_here, 
 use Rattle.vx_added_records.specs.Started.{is_running}
 use Rattle.vx_added_records.proofs.SameDisks.{group_kept, disks_beside}
 use Rattle.vx_stage_records.specs.Judging.{IsReady, IsBad, IsUnready, StopsAs, MakeEnds}
+use Rattle.vx_house.proofs.Runs.{kept_alone}
 
 no_disk_made : (os : List Object) → filter_map as_disk (filter_map made os) ≡ []
 no_disk_made [] = refl
@@ -56,7 +57,7 @@ making_refused text w g r (inr (added, adds, is)) = inr (added, adds, inl (r, is
 module _ {P : Type 0} {ghosts : Ghosts P} (see : P → Seen) (text : List ℕ) (disks : List DiskAt) (shelf : Shelved) (old : House P ghosts) (keeps : KeepsHouse see old) (are_held : AreHeld shelf.held (holders see old)) (g : Imported P ghosts) (has : old.group ≡ Some g) where
   -- what the house's started names and configuration have, those of each of its moments have
   there : (Has : (Word → Bool) → List Object → Type 0) → Has (is_running old.volumes) (objects_of g.config) → (m : Moment) → IsMoment see (at shelf old) m → (w : Group) → w.config ≡ g.config → Has (is_started m.world) (objects_of w.config)
-  there Has here m is w same = subst₂ Has (λ i vol. same_some see (volume_at old vol) (m.world.volumes vol) (is.volumes_are vol) i) (ap objects_of (sym same)) here
+  there Has here m is w same = subst₂ Has (λ i vol. same_some see (volume_at old vol) (m.world.volumes vol) (kept_alone see old m.world keeps is.volumes_are is.runs_are vol) i) (ap objects_of (sym same)) here
 
   making : (added : List Object) → IsReady (is_running old.volumes) text (objects_of g.config) added → (m : Moment) (x : Writing) → IsMoment see (at shelf old) m → IsChange (Make added ∷ []) m.world x → IsMaking text m.world x
   making added ready m x is change =

@@ -13,7 +13,7 @@ pub give_group-requires-in-Lost-clause-held : goal.give_group-requires-in-Lost-c
 give_group-requires-in-Lost-clause-held g c κs within = (hand_given g.S.P.Piece.seen _ _ _ _ c.requires.held c.give_hand.ensures.gives).devices
 
 pub returns-in-GroupLost-clause-left : goal.returns-in-GroupLost-clause-left
-returns-in-GroupLost-clause-left g c = rw c.in-GroupLost.is (on_ok c.give_group.result (λ gives. left_group g.S.P.Piece.seen _ _ _ _ _ _ c.requires.held c.give_hand.ensures.gives gives) c.give_group.ensures.gives)
+returns-in-GroupLost-clause-left g c = rw c.in-GroupLost.is (on_ok c.give_group.result (λ gives. left_group g.S.P.Piece.seen _ _ _ _ _ _ c.requires.held c.give_hand.ensures.gives gives (c.each_house_stands.ensures _)) c.give_group.ensures.gives)
 
 pub returns-in-GroupLost-clause-stuck : goal.returns-in-GroupLost-clause-stuck
 returns-in-GroupLost-clause-stuck g c =
@@ -32,7 +32,7 @@ returns-in_err-give_group-in-Lost-clause-stuck g c =
     (stuck_so g.S.P.Piece.seen _ _ _ _ _ c.requires.held c.give_hand.ensures.gives c.in_err-give_group-in-Lost.ensures.kept))
 
 pub returns-in_ok-give_group-in-Lost-clause-left : goal.returns-in_ok-give_group-in-Lost-clause-left
-returns-in_ok-give_group-in-Lost-clause-left g c = rw c.in-Lost.is (left_all g.S.P.Piece.seen _ _ _ _ _ _ c.requires.held c.give_hand.ensures.gives c.in_ok-give_group-in-Lost.ensures.gives _ _ c.give_volumes.ensures.gives c.in-Lost.parts)
+returns-in_ok-give_group-in-Lost-clause-left g c = rw c.in-Lost.is (left_all g.S.P.Piece.seen _ _ _ _ _ _ c.requires.held c.give_hand.ensures.gives c.in_ok-give_group-in-Lost.ensures.gives _ _ c.give_volumes.ensures.gives c.in-Lost.parts (c.each_house_stands.ensures _))
 
 pub returns-in_default : goal.returns-in_default
 returns-in_default g c = record {
@@ -40,5 +40,6 @@ returns-in_default g c = record {
   left = record {
     later = hand_given g.S.P.Piece.seen _ _ _ _ c.requires.held c.give_hand.ensures.gives;
     stays = stays_both c.args.end.now _ _ c.in_default.not-GroupLost c.in_default.not-Lost (record { volumes = c.give_hand.ensures.gives.volumes; group = c.give_hand.ensures.gives.group });
+    stands = c.each_house_stands.ensures _;
   };
 }

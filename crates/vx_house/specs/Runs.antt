@@ -1,0 +1,78 @@
+-- The running volumes of the imported group, as the world has them.
+use Rattle.std.specs.Prelude.{◌≡◌, ℕ, ◌==◌, true, if◌then◌else◌, List, [], ◌∷◌, ◌++◌, map, slice_index, Option, Some, None}
+use Rattle.vx_pages.specs.declared.local_piece.LocalPiece.{Ghosts}
+use Rattle.vx_base.specs.Named.{Word}
+use Rattle.vx_piece.specs.Seen.{Seen}
+use Rattle.vx_config_parts.specs.declared.vol.Vol.{Vol}
+use Rattle.vx_copies.specs.Disks.{DiskSeen}
+use Rattle.vx_copies.specs.Lists.{AnyOf}
+use Rattle.vx_mask.specs.Mask.{has}
+use Rattle.vx_layout.specs.declared.place.Place.{Place}
+use Rattle.vx_image.specs.Own.{IsOfVolume}
+use Rattle.vx_confdb.specs.Groups.{members}
+use Rattle.vx_image.specs.Bytes.{Sectors, image_of}
+use Rattle.vx_image.specs.Image.{PlexImage, WasStarted}
+use Rattle.vx_moments.specs.Leaving.{grouped}
+use Rattle.vx_moments.specs.World.{Member, Volume, Group, OnPlexes}
+use Rattle.vx_volume.specs.Volume.{volume_seen}
+use Rattle.vx_volume_form.specs.Plexes.{held_plexes, used_logs}
+use Rattle.vx_volume_lives.specs.Leaving.{AreNamedIn}
+use Rattle.vx_volume_lives.specs.Running.{IsSureOfOthers, RunsAsVolume}
+use Rattle.vx_running.specs.declared.public.Running.{Running}
+use Rattle.vx_running.specs.Public.{running_at}
+use Rattle.vx_group_volumes.specs.Runs.{Opening, RunsIn}
+use Rattle.vx_house.specs.declared.house.Imported.{Imported}
+
+-- the device of the first member with the slot
+abbrev pub device_at : List Member → ℕ → Option Word
+device_at [] slot = None
+device_at (m ∷ ms) slot = if m.slot == slot then Some m.device else device_at ms slot
+
+-- the member of a slot is one of these disks, and the number that is given of the slot is that of its device
+pub record IsNumbered (numbers : List ℕ) (hs : List DiskSeen) (members : List Member) (slot : ℕ) : Type 0 where
+  pub disk : DiskSeen
+  pub there : AnyOf (λ h. h ≡ disk) hs
+  pub device : device_at members slot ≡ Some disk.device
+  pub number : slice_index numbers slot ≡ disk.seen.device
+
+-- the plexes whose pieces a volume was opened with: data plexes, and then those of its log
+abbrev pub opened_plexes : Opening → List Word
+opened_plexes o = map (λ p. p.name) (held_plexes o.config o.good o.vol.name) ++ map (λ p. p.name) (used_logs o.vol.dco o.config o.good o.fresh o.vol.name)
+
+-- The volume of the name runs: the group records it as started, it lies on the plexes that it was opened with, and runs as the one of the
+-- world. The good disks that its plexes lie on are the group's, by the numbers of their devices. Nothing is sure of plexes that are
+-- written to.
+pub record IsRunOf {P : Type 0} {ghosts : Ghosts P} (see : P → Seen) (hs : List DiskSeen) (g : Group) (name : Word) (r : Running P ghosts) (w : Volume) : Type 0 where
+  pub of : Vol
+  pub named : of.name ≡ name
+  pub started : WasStarted of.state
+  pub numbers : List ℕ
+  pub runs : RunsIn see g.config g.good numbers of r
+  pub numbered : (place : Place) → IsOfVolume g.config of.name place → has g.good place.disk ≡ true → IsNumbered numbers hs g.members place.disk
+  pub lies : w.lies ≡ OnPlexes (opened_plexes runs.opening)
+  pub plexes : List PlexImage
+  pub plexes_of : (bytes : Sectors) → AreNamedIn (image_of g.config g.good bytes of).plexes plexes
+  pub runs_as : RunsAsVolume plexes (volume_seen see r.volume) w
+  pub sure : IsSureOfOthers plexes (volume_seen see r.volume) w
+
+-- no volume of the name runs, neither here nor there; or this one of an imported group does
+abbrev pub IsAtRun : {P : Type 0} {ghosts : Ghosts P} → (P → Seen) → List DiskSeen → Option Group → Word → Option (Running P ghosts) → Option Volume → Type 0
+IsAtRun see hs g name None None = Unit {0}
+IsAtRun see hs g name None (Some w) = ⊥
+IsAtRun see hs g name (Some r) None = ⊥
+IsAtRun see hs None name (Some r) (Some w) = ⊥
+IsAtRun see hs (Some g) name (Some r) (Some w) = IsRunOf see hs g name r w
+
+-- the running volume of a name, of the group
+abbrev pub run_in : {P : Type 0} {ghosts : Ghosts P} → Option (Imported P ghosts) → Word → Option (Running P ghosts)
+run_in None name = None
+run_in (Some g) name = running_at g.public name
+
+-- the fronts of the group's disks
+abbrev pub fronts_in : {P : Type 0} {ghosts : Ghosts P} → (P → Seen) → Option (Imported P ghosts) → List DiskSeen
+fronts_in see None = []
+fronts_in see (Some g) = members see g.base
+
+-- the running volumes of the group are those of the world that lie on its plexes
+abbrev pub AreRuns : {P : Type 0} {ghosts : Ghosts P} → (P → Seen) → Option (Imported P ghosts) → Option Group → (Word → Option Volume) → Type 0
+AreRuns see o g volumes = (name : Word) → IsAtRun see (fronts_in see o) g name (run_in o name) (grouped (volumes name))

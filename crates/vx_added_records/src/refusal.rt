@@ -1,6 +1,6 @@
 //! The tests of records that are added to a group, in their order.
 ghost use Rattle.std.specs.Prelude.{◌≡◌, ◌++◌, [], None, IfOk};
-ghost use Rattle.vx_added_records.specs.Started.{is_running};
+ghost use Rattle.vx_added_records.specs.Started.{is_either, is_running};
 ghost use Rattle.vx_objects.specs.Config.{objects_of};
 ghost use Rattle.vx_plans.specs.Making.{adding_refusal, broken, refusal_among, started_name};
 ghost use Rattle.vx_plans.specs.Refusals.{refusal_from};
@@ -46,24 +46,26 @@ const SPACE: [Rule; 7] = [
 ];
 
 /// With which refusal these records cannot be added to the configuration, if they cannot. The volumes are those that are
-/// started.
-pub fn refusal_of<T>(
+/// started: on whole devices, and of the group.
+pub fn refusal_of<T, U>(
     alloc: Global,
     volumes: &BTreeMap<Name, T>,
+    running: &BTreeMap<Name, U>,
     config: &Config,
     added: &[Object],
 ) -> Result<Option<Refusal>, OutOfMemory>
-    ensures { IfOk result (λ refusal. refusal ≡ adding_refusal (is_running volumes.now) (objects_of config.now) added.now) }
+    ensures { IfOk result (λ refusal. refusal ≡ adding_refusal (is_either volumes.now running.now) (objects_of config.now) added.now) }
 {
     let group = config.objects(alloc)?;
     let all = behind(alloc, &group, added)?;
     let known = firsts(alloc, &all)?;
-    refusal_among(alloc, volumes, &group, added, &known, &all)
+    refusal_among(alloc, volumes, running, &group, added, &known, &all)
 }
 
-fn refusal_among<T>(
+fn refusal_among<T, U>(
     alloc: Global,
     volumes: &BTreeMap<Name, T>,
+    running: &BTreeMap<Name, U>,
     group: &[Object],
     added: &[Object],
     known: &[Object],
@@ -71,7 +73,7 @@ fn refusal_among<T>(
 ) -> Result<Option<Refusal>, OutOfMemory>
     requires group { repeated_after [] group.now ≡ None }
     requires differ { repeated_after [] known.now ≡ None }
-    ensures { IfOk result (λ refusal. refusal ≡ refusal_among (is_running volumes.now) group.now added.now known.now all.now) }
+    ensures { IfOk result (λ refusal. refusal ≡ refusal_among (is_either volumes.now running.now) group.now added.now known.now all.now) }
 {
     if let Some(refusal) = broken(alloc, &REFERENCES, known, all)? {
         return Ok(Some(refusal));
@@ -82,7 +84,7 @@ fn refusal_among<T>(
     if let Some(refusal) = broken(alloc, &LIMITS, known, all)? {
         return Ok(Some(refusal));
     }
-    if let Some(refusal) = started_name(volumes, added) {
+    if let Some(refusal) = started_name(volumes, running, added) {
         return Ok(Some(refusal));
     }
     broken(alloc, &SPACE, known, all)
@@ -121,19 +123,23 @@ fn broken(
 }
 
 /// The refusal of the first volume that has the name of a started one.
-fn started_name<T>(volumes: &BTreeMap<Name, T>, added: &[Object]) -> Option<Refusal>
-    ensures { result ≡ started_name (is_running volumes.now) added.now }
+fn started_name<T, U>(
+    volumes: &BTreeMap<Name, T>,
+    running: &BTreeMap<Name, U>,
+    added: &[Object],
+) -> Option<Refusal>
+    ensures { result ≡ started_name (is_either volumes.now running.now) added.now }
 {
     match added {
         [] => None,
         [Object::VolRecord(vol), rest @ ..] => {
-            if is_running(volumes, &vol.name) {
+            if is_running(volumes, &vol.name) || is_running(running, &vol.name) {
                 Some(Refusal::Exists(vol.name))
             } else {
-                started_name(volumes, rest)
+                started_name(volumes, running, rest)
             }
         }
-        [_, rest @ ..] => started_name(volumes, rest),
+        [_, rest @ ..] => started_name(volumes, running, rest),
     }
 }
 

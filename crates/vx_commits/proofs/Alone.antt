@@ -33,10 +33,10 @@ use Rattle.vx_running.specs.Public.{lent_pieces, still_pieces}
 use Rattle.vx_commits.proofs.DeviceLaws.{IsCalled}
 use Rattle.vx_commits.proofs.GoodDisks.{any_good}
 use Rattle.vx_commits.proofs.Holders.{same_members, world_group, group_is, both_tell}
-use Rattle.vx_commits.proofs.Joins.{IsWent, IsTouched, AreCalled, AreWritten, AreDone, held_on, faults_on, moment_on, group_lost_on, power_lost_on, group_committed_on}
+use Rattle.vx_commits.proofs.Joins.{IsTouched, AreCalled, AreWritten, AreDone, held_on, faults_on, moment_on, group_lost_on, power_lost_on, group_committed_on}
 use Rattle.vx_commits.proofs.Members.{writing}
 use Rattle.vx_commits.proofs.Stillness.{sized_now}
-use Rattle.vx_commits.proofs.Slots.{AreSlotted, slotted, slotted_wholes}
+use Rattle.vx_commits.proofs.Slots.{AreSlotted, IsWent, slotted, slotted_wholes}
 use Rattle.vx_copies.proofs.StepLaws.{each_map}
 use Rattle.vx_house.proofs.Lists.{each_two, each_first, each_append, each_front, each_long}
 

@@ -18,13 +18,12 @@ use Rattle.vx_plans.specs.Stages.{IsDone, Stops}
 use Rattle.vx_plans.specs.declared.stage.Stage.{Stage}
 use Rattle.vx_house.specs.Goes.{StageGoes, Gives, only_reads}
 use Rattle.vx_house.specs.Holders.{Holder, volume_at}
-use Rattle.vx_house.specs.Runs.{AreRuns, run_in}
+use Rattle.vx_house.specs.Runs.{AreRuns}
 use Rattle.vx_house.specs.Scene.{Shelved}
 use Rattle.vx_house.specs.View.{at, group_of, IsGroupWhole, IsMoment, KeepsHouse, KeepsButGroup}
 use Rattle.vx_house.specs.declared.house.House.{House}
 use Rattle.vx_house.specs.declared.stop.Stop.TheVariants as stops
 use Rattle.vx_house.proofs.Ends.{moment_but_group}
-use Rattle.vx_house.proofs.Runs.{none_run, none_still}
 use Rattle.vx_commits.proofs.Joins.{AreCalled, held_on, faults_on, moment_on, later_on, but_group_on}
 
 -- volumes that stay are kept
@@ -32,18 +31,14 @@ pub volumes_kept : {P : Type 0} {ghosts : Ghosts P} (see : P → Seen) (old new 
 volumes_kept see old new same keeps vol b e = keeps.volumes vol b (ap (λ v. volume_at (record { volumes = v; group = old.group; hand = old.hand }) vol) (sym same) ∙ e)
 
 module _ {P : Type 0} {ghosts : Ghosts P} {see : P → Seen} {shelf : Shelved} {old new : House P ghosts} {os : List Holder} {hs bs js ks : List DiskSeen} (s : AreCalled see shelf old new os hs bs js ks) (stage : Stage) (disks : List DiskAt) (keeps : KeepsHouse see old) where
-  module _ (hand : AllOf (λ t. 0 < (see t.piece).sectors) new.hand.items) (whole : IfSome new.group (IsGroupWhole see)) (none : (name : Word) → run_in new.group name ≡ None) where
-    -- no volume of the group runs
-    runs_lost : (m : Moment) → IsMoment see (at shelf old) m → AreRuns see new.group m.world.group m.world.volumes
-    runs_lost m is = none_still see old.group new.group m.world.group m.world.group m.world.volumes (none_run see old.group keeps.group) none is.runs_are
-
+  module _ (hand : AllOf (λ t. 0 < (see t.piece).sectors) new.hand.items) (whole : IfSome new.group (IsGroupWhole see)) (runs : (m : Moment) → IsMoment see (at shelf old) m → AreRuns see new.group m.world.group m.world.volumes) where
     but_group : KeepsButGroup see (at shelf new)
     but_group = record { devices = held_on s; ordered = subst (IsOrdered (slice_cmp nat_cmp)) (sym s.volumes) keeps.ordered; hand = hand; volumes = volumes_kept see old new s.volumes keeps; whole = whole }
 
     pub group_lost_stage : ((m : Moment) → IsMoment see (at shelf old) m → Stops stage disks m ends.GroupLost (moment_on s m m.world.group)) → StageGoes {T = Unit {0}} see stage disks (Err (stops.Ended ends.GroupLost)) (at shelf old) (at shelf new)
     group_lost_stage stops = record {
       keeps = but_group;
-      goes = λ m is. let on = moment_but_group see (at shelf old) m is in (moment_on s m m.world.group, but_group_on s m on m.world.group (runs_lost m is), later_on s m on m.world.group, stops m is);
+      goes = λ m is. let on = moment_but_group see (at shelf old) m is in (moment_on s m m.world.group, but_group_on s m on m.world.group (runs m is), later_on s m on m.world.group, stops m is);
       gives = tt;
       still = λ e. tt;
       faults = faults_on s;
@@ -53,20 +48,19 @@ module _ {P : Type 0} {ghosts : Ghosts P} {see : P → Seen} {shelf : Shelved} {
     pub power_lost_stage : ((m : Moment) → IsMoment see (at shelf old) m → Stops stage disks m (ends.Lost []) (moment_on s m m.world.group)) → StageGoes {T = Unit {0}} see stage disks (Err (stops.Ended (ends.Lost []))) (at shelf old) (at shelf new)
     power_lost_stage stops = record {
       keeps = but_group;
-      goes = λ m is. let on = moment_but_group see (at shelf old) m is in (moment_on s m m.world.group, but_group_on s m on m.world.group (runs_lost m is), later_on s m on m.world.group, stops m is);
+      goes = λ m is. let on = moment_but_group see (at shelf old) m is in (moment_on s m m.world.group, but_group_on s m on m.world.group (runs m is), later_on s m on m.world.group, stops m is);
       gives = tt;
       still = λ e. tt;
       faults = faults_on s;
       blamed = tt;
     }
 
-  pub done_stage : KeepsHouse see new → Gives see stage disks new → only_reads stage ≡ false → ((m : Moment) → IsMoment see (at shelf old) m → IsDone stage disks m (moment_on s m (group_of see new.group))) → StageGoes {T = Unit {0}} see stage disks (Ok tt) (at shelf old) (at shelf new)
-  done_stage kept gives writes done = record {
+  pub done_stage : KeepsHouse see new → ((m : Moment) → IsMoment see (at shelf old) m → AreRuns see new.group (group_of see new.group) m.world.volumes) → Gives see stage disks new → only_reads stage ≡ false → ((m : Moment) → IsMoment see (at shelf old) m → IsDone stage disks m (moment_on s m (group_of see new.group))) → StageGoes {T = Unit {0}} see stage disks (Ok tt) (at shelf old) (at shelf new)
+  done_stage kept runs gives writes done = record {
     keeps = record { devices = held_on s; house = kept };
     goes = λ m is.
         let on = moment_but_group see (at shelf old) m is in
-        let runs = none_still see old.group new.group m.world.group (group_of see new.group) m.world.volumes (none_run see old.group keeps.group) (none_run see new.group kept.group) is.runs_are in
-        let there = but_group_on s m on (group_of see new.group) runs in (
+        let there = but_group_on s m on (group_of see new.group) (runs m is) in (
           moment_on s m (group_of see new.group),
           record { told = there.told; devices_are = there.devices_are; volumes_are = there.volumes_are; runs_are = there.runs_are; group_is = refl; counts = there.counts },
           later_on s m on (group_of see new.group),

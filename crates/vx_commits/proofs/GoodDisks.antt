@@ -22,31 +22,11 @@ use Rattle.vx_moments.specs.World.{Member, Group}
 use Rattle.vx_moments.specs.Moment.{Moment, HasFailed}
 use Rattle.vx_moments.specs.Copies.{IsCurrent, label_of}
 use Rattle.vx_moments.specs.Commit.{Writing, parties, is_written_slot, IsMaskOf, NoneFailed, IsCarrying, IsHeaded, WritesOnce}
-use Rattle.vx_commits.proofs.Slots.{AreSlotted, mask_names, mask_tells, slots_kept}
+use Rattle.vx_commits.proofs.Slots.{AreSlotted, IsWent, mask_names, mask_tells, old_slot, slots_kept}
 use Rattle.vx_house.specs.View.{member_in}
 use Rattle.vx_commits.proofs.Members.{IsGone, writing, same_mask, rose_one}
 use Rattle.vx_copies.proofs.StepLaws.{each_map}
 use Rattle.vx_house.proofs.Lists.{each_two, each_first, each_second, all_of_each, any_of_each}
-
-was_good : (old new : Bool) (a b : Seen) → Drops old new a b → new ≡ true → old ≡ true
-was_good old true a b drops e = drops
-was_good old false a b drops e = cc
-
--- a slot that is good was good
-old_slot : (m n : Moment) (slot : ℕ) (hs bs : List DiskSeen) → Each (IsGone m n) hs bs → is_good_slot slot bs ≡ true → is_good_slot slot hs ≡ true
-old_slot m n slot [] [] gone is = is
-old_slot m n slot [] (b ∷ bs) gone is = absurd gone
-old_slot m n slot (a ∷ hs) [] gone is = absurd gone
-old_slot m n slot (a ∷ hs) (b ∷ bs) gone is = by b.good (b.slot == slot) refl (ap (λ s. s == slot) (sym gone.0.slot)) (old_slot m n slot hs bs gone.1) is
-  where
-    or_right : (x y : Bool) → y ≡ true → (x || y) ≡ true
-    or_right true y e = refl
-    or_right false y e = e
-
-    by : (g t : Bool) → b.good ≡ g → (a.slot == slot) ≡ t → (is_good_slot slot bs ≡ true → is_good_slot slot hs ≡ true) → ((g && t) || is_good_slot slot bs) ≡ true → ((a.good && a.slot == slot) || is_good_slot slot hs) ≡ true
-    by true true p q rest e = ap (λ x. (x && a.slot == slot) || is_good_slot slot hs) (was_good a.good b.good a.seen b.seen gone.0.good p) ∙ ap (λ x. x || is_good_slot slot hs) q
-    by true false p q rest e = or_right (a.good && a.slot == slot) (is_good_slot slot hs) (rest e)
-    by false t p q rest e = or_right (a.good && a.slot == slot) (is_good_slot slot hs) (rest e)
 
 -- one of them is good
 pub any_good : (bs : List DiskSeen) → 0 < good_count bs → AnyOf (λ b. b.good ≡ true) bs
@@ -113,7 +93,7 @@ module _ (group : Group) (config : Config) (text : List ℕ) (carriers : List Me
 
     pub new_mask : IsMaskOf here m.counts n.counts good
     new_mask = same_mask group config text carriers hs bs js ks low sound slots m n good gone (record {
-      good = λ slot e. old_slot m n slot (hs ++ js) (bs ++ ks) gone (sym (mask_names (bs ++ ks) low' slot) ∙ e);
+      good = λ slot e. old_slot slot (hs ++ js) (bs ++ ks) (each_map (IsGone m n) IsWent (λ a b is. record { slot = is.slot; good = is.good }) (hs ++ js) (bs ++ ks) gone) (sym (mask_names (bs ++ ks) low' slot) ∙ e);
       lacks = each_map IsKnown (λ a b. IsTrue a.good → has good a.slot ≡ false → Rose a.seen.faults b.seen.faults) (λ a b is was lacks. rose_one a.good b.good a.seen b.seen is.0.good was (sym is.1 ∙ lacks)) (hs ++ js) (bs ++ ks) known;
     })
 

@@ -35,13 +35,8 @@ use Rattle.vx_house.proofs.Moments.{counts_own}
 use Rattle.vx_commits.proofs.DeviceLaws.{IsCalled, IsPair, holders_then, holders_now, scene_then, scene_now, goes_later, faults_go_on, next, pairs, devices_are_now, reads_same, shelf_same, left, later}
 use Rattle.vx_commits.proofs.GoodDisks.{all_quiet, risen_failed, cut_one, known, new_mask, all_carry, one_good, writes_once, headed_one, number_rose}
 use Rattle.vx_commits.proofs.Members.{AreLed, IsGone, IsMemberWritten, IsJoinerWritten, writing, same_mask, written_good, is_committing}
-use Rattle.vx_commits.proofs.Slots.{AreSlotted}
+use Rattle.vx_commits.proofs.Slots.{AreSlotted, IsWent}
 use Rattle.vx_house.proofs.Lists.{each_two, each_second, each_front, each_back, all_of_each, any_front, any_back}
-
--- a disk keeps its slot, and is good unless it has failed
-pub record IsWent (a b : DiskSeen) : Type 0 where
-  pub slot : b.slot ≡ a.slot
-  pub good : Drops a.good b.good a.seen b.seen
 
 -- what the attempts did to a disk of the group
 pub record IsTouched (first last : ℕ) (text : List ℕ) (Masks : ℕ → Type 0) (a b : DiskSeen) : Type 0 where

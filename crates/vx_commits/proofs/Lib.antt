@@ -7,4 +7,6 @@ pub mod Holders
 pub mod Joins
 pub mod Alone
 pub mod CommitStage
+pub mod Owns
+pub mod Runners
 pub mod Stillness

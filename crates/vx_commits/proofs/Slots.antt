@@ -1,5 +1,5 @@
 -- Disks whose slots differ: each good one is known by its slot.
-use Rattle.std.proofs.Common.{◌≡◌, ◌≢◌, ◌∙◌, ℕ, ◌<◌, Bool, true, false, cond, List, [], ◌∷◌, map, Option, Some, None, refl, sym, ap, arith, inl, inr}
+use Rattle.std.proofs.Common.{◌≡◌, ◌≢◌, ◌∙◌, ℕ, ◌<◌, Bool, true, false, cond, List, [], ◌∷◌, map, Option, Some, None, refl, sym, ap, subst, arith, inl, inr}
 use Rattle.std.specs.Prelude.{◌&&◌, ◌||◌, ◌==◌}
 use Rattle.std.proofs.lemmas.Bool.{cases_eq, eq-eqb, ne_eqb, eqb-true}
 use Rattle.std.proofs.Math.Bool.{or_comm}
@@ -7,8 +7,9 @@ use Rattle.vx_piece.specs.Seen.{Seen}
 use Rattle.vx_mask.specs.Mask.{has, only, union}
 use Rattle.vx_mask.proofs.MaskLemmas.{has-union, has-only_same, has-only_other, has-zero}
 use Rattle.vx_copies.specs.Lists.{AllOf, Each}
-use Rattle.vx_copies.specs.Disks.{DiskSeen, disk_seen, HasSlot, is_good_slot, good_mask}
+use Rattle.vx_copies.specs.Disks.{DiskSeen, disk_seen, Drops, HasSlot, is_good_slot, good_mask}
 use Rattle.vx_copies.specs.declared.disk.Disk.{Disk}
+use Rattle.vx_copies.proofs.Chains.{was_good}
 use Rattle.vx_fronts.specs.Fronts.{Rest, Rests, whole_disk, with_device}
 use Rattle.vx_fronts.specs.Laws.{whole_disks}
 use Rattle.vx_house.specs.View.{HaveSlots}
@@ -102,3 +103,34 @@ slots_kept (a ∷ hs) (b ∷ bs) same slots = (all hs bs same.1 slots.0, slots_k
     all [] (y ∷ ys) same other = absurd same
     all (x ∷ xs) [] same other = absurd same
     all (x ∷ xs) (y ∷ ys) rest other = ((λ e. other.0 (sym rest.0 ∙ e ∙ same.0)), all xs ys rest.1 other.1)
+
+-- a disk keeps its slot, and is good unless it has failed
+pub record IsWent (a b : DiskSeen) : Type 0 where
+  pub slot : b.slot ≡ a.slot
+  pub good : Drops a.good b.good a.seen b.seen
+
+-- a slot that is good was good
+pub old_slot : (slot : ℕ) (hs bs : List DiskSeen) → Each IsWent hs bs → is_good_slot slot bs ≡ true → is_good_slot slot hs ≡ true
+old_slot slot [] [] went is = is
+old_slot slot [] (b ∷ bs) went is = absurd went
+old_slot slot (a ∷ hs) [] went is = absurd went
+old_slot slot (a ∷ hs) (b ∷ bs) went is = by b.good (b.slot == slot) refl (ap (λ s. s == slot) (sym went.0.slot)) (old_slot slot hs bs went.1) is
+  where
+    or_right : (x y : Bool) → y ≡ true → (x || y) ≡ true
+    or_right true y e = refl
+    or_right false y e = e
+
+    by : (g t : Bool) → b.good ≡ g → (a.slot == slot) ≡ t → (is_good_slot slot bs ≡ true → is_good_slot slot hs ≡ true) → ((g && t) || is_good_slot slot bs) ≡ true → ((a.good && a.slot == slot) || is_good_slot slot hs) ≡ true
+    by true true p q rest e = ap (λ x. (x && a.slot == slot) || is_good_slot slot hs) (was_good a.good b.good a.seen b.seen went.0.good p) ∙ ap (λ x. x || is_good_slot slot hs) q
+    by true false p q rest e = or_right (a.good && a.slot == slot) (is_good_slot slot hs) (rest e)
+    by false t p q rest e = or_right (a.good && a.slot == slot) (is_good_slot slot hs) (rest e)
+
+low_on : (hs bs : List DiskSeen) → Each IsWent hs bs → AllOf HasSlot hs → AllOf HasSlot bs
+low_on [] [] went low = tt
+low_on [] (b ∷ bs) went low = absurd went
+low_on (a ∷ hs) [] went low = absurd went
+low_on (a ∷ hs) (b ∷ bs) went low = (subst (λ n. n < 32) (sym went.0.slot) low.0, low_on hs bs went.1 low.1)
+
+-- a slot of the mask was one of it
+pub mask_was : (hs bs : List DiskSeen) → Each IsWent hs bs → AllOf HasSlot hs → (slot : ℕ) → has (good_mask bs) slot ≡ true → has (good_mask hs) slot ≡ true
+mask_was hs bs went low slot is = mask_names hs low slot ∙ old_slot slot hs bs went (sym (mask_names bs (low_on hs bs went low) slot) ∙ is)

@@ -40,20 +40,3 @@ one_ok (Err e) P R f p = tt
 -- what stands under each name once one is put
 pub puts_as : {X : Type 0} (old new : BTreeMap Word X) (key : Word) (x : X) → ((q : Word) → get (slice_cmp nat_cmp) new q ≡ cond (is_eq (slice_cmp nat_cmp key q)) (Some x) (get (slice_cmp nat_cmp) old q)) → SameUnder (put key (Some x) (get (slice_cmp nat_cmp) old)) (get (slice_cmp nat_cmp) new)
 puts_as old new key x puts q = puts q ∙ ap (λ b. cond b (Some x) (get (slice_cmp nat_cmp) old q)) (is_eq-slice_cmp key q)
-
--- the entry of a key that was found, once it has another value
-pub record IsSetAt {X : Type 0} (es es' : List (Word × X)) (old new : X) : Type 0 where
-  pub key : Word
-  pub before : List (Word × X)
-  pub behind : List (Word × X)
-  pub was : es ≡ before ++ (key, old) ∷ behind
-  pub is : es' ≡ before ++ (key, new) ∷ behind
-
-module _ {X : Type 0} (test : Word → Bool) (old new : X) where
-  set_by : (b : Bool) (e : Word × X) (es : List (Word × X)) → (lookup test es ≡ Some old → IsSetAt es (set_value test es new) old new) → cond b (Some e.1) (lookup test es) ≡ Some old → IsSetAt (e ∷ es) (cond b ((e.0, new) ∷ es) (e ∷ set_value test es new)) old new
-  set_by true e es more found = let same : e.1 ≡ old = cc in record { key = e.0; before = []; behind = es; was = ap (λ (x : X). (e.0, x) ∷ es) same; is = refl }
-  set_by false e es more found = let m = more found in record { key = m.key; before = e ∷ m.before; behind = m.behind; was = ap (λ xs. e ∷ xs) m.was; is = ap (λ xs. e ∷ xs) m.is }
-
-  pub set_at : (es : List (Word × X)) → lookup test es ≡ Some old → IsSetAt es (set_value test es new) old new
-  set_at [] found = cc
-  set_at (e ∷ es) found = set_by (test e.0) e es (set_at es) found

@@ -29,7 +29,8 @@ use Rattle.vx_house.specs.declared.house.House.{House}
 use Rattle.vx_house.specs.declared.house.Taken.{Taken}
 use Rattle.vx_house.specs.declared.stop.Stop.TheVariants.{Ended, OutOfMemory}
 use Rattle.vx_house.proofs.Ends.{keeps_but_group, moment_but_group, whole_kept}
-use Rattle.vx_house.proofs.Runs.{none_run, none_still}
+use Rattle.vx_house.proofs.Runs.{none_found, none_runs_in, none_still}
+use Rattle.vx_engine.proofs.NoneRun.{none_runs}
 use Rattle.vx_moments.specs.Leaving.{group_gone, lone}
 use Rattle.vx_house.proofs.AfterLoss.{group_away}
 use Rattle.vx_house.proofs.Leaves.{group_held, group_moved, holders_kept}
@@ -38,7 +39,6 @@ use Rattle.vx_house.proofs.Moments.{faults_moved, faults_refl, later_refl}
 use Rattle.vx_house.proofs.Scenes.{scene_of}
 use Rattle.vx_engine.specs.Runs.{HasRested}
 use Rattle.vx_engine.proofs.Tests.{fails_there}
-use Rattle.vx_house.proofs.Runs.{idle_none, idle_kept}
 
 still_all : {P : Type 0} (see : P → Seen) (ts : List (Taken P)) → Each (IsStill see) ts ts
 still_all see [] = tt
@@ -48,7 +48,7 @@ module _ {P : Type 0} {ghosts : Ghosts P} (see : P → Seen) (test : Test) (disk
   pub test_passed : fails test disks (plain see v.house) ≡ None → StageGoes {T = Unit {0}} see (stage.Gate test) disks (Ok tt) v v
   test_passed none = record {
     keeps = keeps;
-    goes = λ m is. (m, is, later_refl m.counts, (fails_there see v keeps.devices (none_run see v.house.group keeps.house.group) m is test disks ready ∙ none, refl));
+    goes = λ m is. (m, is, later_refl m.counts, (fails_there see v keeps.devices m is test disks ready ∙ none, refl));
     gives = none;
     still = λ e. record { hand = still_all see v.house.hand.items; volumes = refl; group = refl };
     faults = faults_refl (scene see v);
@@ -58,7 +58,7 @@ module _ {P : Type 0} {ghosts : Ghosts P} (see : P → Seen) (test : Test) (disk
   pub test_failed : (r : Refusal) → fails test disks (plain see v.house) ≡ Some r → StageGoes {T = Unit {0}} see (stage.Gate test) disks (Err (Ended (ends.Refused r))) v v
   test_failed r some = record {
     keeps = keeps;
-    goes = λ m is. (m, is, later_refl m.counts, (r, fails_there see v keeps.devices (none_run see v.house.group keeps.house.group) m is test disks ready ∙ some, refl, refl));
+    goes = λ m is. (m, is, later_refl m.counts, (r, fails_there see v keeps.devices m is test disks ready ∙ some, refl, refl));
     gives = tt;
     still = λ e. tt;
     faults = faults_refl (scene see v);
@@ -101,7 +101,7 @@ group_let_go {P = P} see disks old new h k keeps gives = record {
     moved = group_moved see old new h k keeps.devices gives
 
 -- there was no memory to join the group's devices, and all else stays
-module _ {P : Type 0} {ghosts : Ghosts P} (see : P → Seen) (s : Shelved) (h k : House P ghosts) (keeps : Keeps see (at s h)) (stays : KeepsGroup see h k) where
+module _ {P : Type 0} {ghosts : Ghosts P} (see : P → Seen) (s : Shelved) (h k : House P ghosts) (disks : List DiskAt) (ready : IsReady see stage.LetGo disks h) (keeps : Keeps see (at s h)) (stays : KeepsGroup see h k) where
   same : holders see k ≡ holders see h
   same = holders_kept see h k stays
 
@@ -111,7 +111,9 @@ module _ {P : Type 0} {ghosts : Ghosts P} (see : P → Seen) (s : Shelved) (h k 
     devices_are = λ name. subst (λ (v : BTreeMap Word (Started P)). IsDeviceOf (list_any (λ e. bytes_eq e.1.device name) v.entries) (seen_at (scene see (at s k)) name) (m.world.devices name)) (sym stays.volumes)
         (subst (λ hs. IsDeviceOf (is_lent h name) (seen_at (scene_of s hs) name) (m.world.devices name)) (sym same) (is.devices_are name));
     volumes_are = λ vol. subst (λ o. IsAtVolume see o (lone (m.world.volumes vol))) (ap (λ (v : BTreeMap Word (Started P)). found_in v.entries vol) (sym stays.volumes)) (is.volumes_are vol);
-    runs_are = none_still see h.group k.group m.world.group m.world.group m.world.volumes (none_run see h.group keeps.house.group) (idle_none see k.group (stays.idle (idle_kept see h.group keeps.house.group))) is.runs_are;
+    runs_are =
+        let none = none_runs see (at s h) disks ready.wants.0 m is in
+        none_still see h.group k.group m.world.group m.world.group m.world.volumes none (none_found see k.group (stays.none (none_runs_in see h.group none))) is.runs_are;
     group_is = is.group_is ∙ sym stays.group;
     counts = subst (λ hs. AreCountsOf (scene_of s hs) m.counts) (sym same) is.counts;
   }

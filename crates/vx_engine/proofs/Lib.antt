@@ -4,8 +4,14 @@ pub mod Sound
 pub mod WorldLaws
 pub mod StageChains
 pub mod CommandEnds
-pub mod Among
+mod Among
+mod Told
+mod Served
 pub mod Lives
+pub mod SameHouse
+pub mod Given
+pub mod RunningCalls
 pub mod CallLaws
+pub mod NoneRun
 pub mod GateStage
 pub mod CommandRanges

@@ -25,7 +25,8 @@ use Rattle.vx_answers.specs.declared.answer.End.TheVariants as ends
 use Rattle.vx_answers.specs.declared.refusal.Refusal.TheVariants.{NotStarted, Range}
 use Rattle.vx_moments.specs.Moment.{Moment, AreLater, Rests}
 use Rattle.vx_moments.specs.World.{World, Device, Volume, OnDevice}
-use Rattle.vx_plans.specs.Calls.{volume_of, start_of, count_of, reads_of, writes_of, Lives, LiesOn, HasCause, CallsOnce, IsServed, CallRuns}
+use Rattle.vx_plans.specs.Calls.{volume_of, start_of, count_of, reads_of, writes_of, Lives, LiesOn, HasCause, CallsOnce, IsServed}
+use Rattle.vx_plans.specs.Serving.{CallRuns, ServesOn}
 use Rattle.vx_house.specs.Holders.{Holder, holders, volume_holder, group_holders, hand_holder, volume_at, AreHeld, AreApart}
 use Rattle.vx_house.specs.Scene.{Shelved, Scene, seen_at, faults_at, faults_in, count_in, FaultsGoOn, IsBlamed}
 use Rattle.vx_house.specs.View.{at, scene, is_lent, IsDeviceOf, IsVolumeOf, IsAtVolume, IsMoment, Keeps}
@@ -36,7 +37,7 @@ use Rattle.vx_house.proofs.Holders.{IsLater, held_at, later_apart, not_both}
 use Rattle.vx_house.proofs.Moments.{counts_own, counts_later, moment_at, PlaceGoesOn}
 use Rattle.vx_house.proofs.Scenes.{scene_of}
 use Rattle.vx_engine.specs.Calling.{IsServedAmong}
-use Rattle.vx_engine.proofs.Among.{IsSetAt, set_at}
+use Rattle.vx_house_calls.proofs.Entries.{IsSetAt, set_at}
 use Rattle.vx_moments.specs.Leaving.{lone, grouped}
 use Rattle.vx_moments.proofs.Lone.{lone_on, grouped_on}
 use Rattle.vx_house.specs.Runs.{IsAtRun, fronts_in, run_in}
@@ -271,6 +272,9 @@ module _ {P : Type 0} {ghosts : Ghosts P} (see : P → Seen) (shelf : Shelved) (
       pub lived_runs : start_of call + count_of call ≤ b.geometry.length → CallRuns place call m end n
       lived_runs within =
           let inside : start_of call + count_of call ≤ v.length = subst (λ x. start_of call + count_of call ≤ x) (sym there.2.length_is) within in
-          subst (λ o. MatchOption o ((end ≡ ends.Refused (NotStarted (volume_of call))) × Rests m n) (λ u. MatchBool (nat_lt u.length (start_of call + count_of call)) ((end ≡ ends.Refused Range) × Rests m n) (IsServed place call u m end n))) (sym there.1)
-          (subst (λ t. MatchBool t ((end ≡ ends.Refused Range) × Rests m n) (IsServed place call v m end n)) (sym (le-ltb v.length (start_of call + count_of call) inside))
-          (record { life = (lived place).0; lives = (lived place).1; world = refl; cause = cause_of end among.served.cause; calls = calls_once }))
+          subst (λ o. MatchOption o ((end ≡ ends.Refused (NotStarted (volume_of call))) × Rests m n) (λ u. MatchBool (nat_lt u.length (start_of call + count_of call)) ((end ≡ ends.Refused Range) × Rests m n) (ServesOn u.lies place call u m end n))) (sym there.1)
+          (subst (λ t. MatchBool t ((end ≡ ends.Refused Range) × Rests m n) (ServesOn v.lies place call v m end n)) (sym (le-ltb v.length (start_of call + count_of call) inside))
+          (subst (λ l. ServesOn l place call v m end n) (sym there.2.lies) served))
+        where
+          served : IsServed place call v m end n
+          served = record { life = (lived place).0; lives = (lived place).1; world = refl; cause = cause_of end among.served.cause; calls = calls_once }

@@ -59,11 +59,11 @@ plan_sound dg (form.Bare vol device) size = bare dg vol device
 plan_sound dg (form.DgInit name disks) size = init dg name disks
 plan_sound dg (form.DgAddDisk name disk) size = add dg name disk
 plan_sound dg (form.DgImport name) size = record { fed = ((λ is. refl, tt), tt); ordered = tt; sized = (tt, tt); shows = tt }
-plan_sound dg (form.DgDeport name) size = record { fed = ((λ is. cc, tt), ((λ is. cc, tt), ((λ is. cc, tt), tt))); ordered = (refl, (refl, tt)); sized = (tt, (tt, (tt, tt))); shows = tt }
+plan_sound dg (form.DgDeport name) size = record { fed = ((λ is. cc, tt), ((λ is. cc, tt), ((λ is. cc, (inr (inl refl), tt)), tt))); ordered = (refl, (refl, tt)); sized = (tt, (tt, (tt, tt))); shows = tt }
 plan_sound dg (form.DiskUnsetup device) size = record { fed = ((λ is. refl, tt), ((λ is. cc, (inl refl, tt)), ((λ is. cc, (inl refl, tt)), tt))); ordered = (refl, (refl, tt)); sized = (tt, (tt, (tt, tt))); shows = tt }
 plan_sound dg (form.PrintM vol) size = print dg vol
 plan_sound dg (form.Rdpol vol how) size = rdpol dg vol how
-plan_sound dg (form.RemoveVolume vol) size = record { fed = ((λ is. cc, tt), ((λ is. cc, tt), ((λ is. cc, tt), ((λ is. cc, tt), ((λ is. cc, tt), tt))))); ordered = (refl, (refl, (refl, (refl, tt)))); sized = (tt, (tt, (tt, (tt, (tt, tt))))); shows = tt }
+plan_sound dg (form.RemoveVolume vol) size = record { fed = ((λ is. cc, tt), ((λ is. cc, tt), ((λ is. cc, tt), ((λ is. cc, tt), ((λ is. cc, (inr (inl refl), (inr (inr (inl refl)), tt))), tt))))); ordered = (refl, (refl, (refl, (refl, tt)))); sized = (tt, (tt, (tt, (tt, (tt, tt))))); shows = tt }
 plan_sound dg (form.VxMake text) size = record { fed = ((λ is. cc, tt), ((λ is. cc, tt), tt)); ordered = (refl, tt); sized = (tt, (tt, tt)); shows = tt }
 plan_sound dg (form.PrintHt vol) size = tt
 plan_sound dg (form.AssistMake vol length attrs disks) size = tt

@@ -24,10 +24,10 @@ use Rattle.vx_plans.specs.declared.test.Test.{Test}
 use Rattle.vx_plans.specs.declared.test.Test.TheVariants as tests
 use Rattle.vx_house.specs.Goes.{Gives, IsReady, IsStill, Still, IsBlankSeen}
 use Rattle.vx_house.specs.Holders.{Holder, hand_holder, hand_names, held_as, holders, AreHeld, volume_at, volume_holder, group_holders}
-use Rattle.vx_house.specs.Plain.{plain, sized_device, some_volume}
+use Rattle.vx_house.specs.Plain.{plain, sized_device, told_volume}
 use Rattle.vx_house.specs.Runs.{run_in}
 use Rattle.vx_house.specs.Scene.{seen_in}
-use Rattle.vx_house.proofs.Runs.{all_alone}
+use Rattle.vx_house.proofs.Runs.{started_same}
 use Rattle.vx_house.specs.View.{View, is_lent, IsDeviceOf, IsAtVolume, IsMoment, group_of}
 use Rattle.vx_house.specs.declared.house.House.{House}
 use Rattle.vx_house.specs.declared.house.Taken.{Taken}
@@ -48,13 +48,7 @@ size_of : (lent : Bool) (seen : Seen) (o : Option Device) → IsDeviceOf lent (S
 size_of lent seen None of = absurd of
 size_of lent seen (Some d) of = of.0
 
-some_alike : {P : Type 0} (see : P → Seen) (f : Started P → Volume) (o : Option (Started P)) (v : Option Volume) → IsAtVolume see o v → is_some v ≡ is_some (option_map f o)
-some_alike see f None None is = refl
-some_alike see f None (Some v) is = absurd is
-some_alike see f (Some b) None is = absurd is
-some_alike see f (Some b) (Some v) is = refl
-
-module _ {P : Type 0} {ghosts : Ghosts P} (see : P → Seen) (v : View P ghosts) (held : AreHeld v.shelf.held (holders see v.house)) (none : (name : Word) → run_in v.house.group name ≡ None) (m : Moment) (is : IsMoment see v m) where
+module _ {P : Type 0} {ghosts : Ghosts P} (see : P → Seen) (v : View P ghosts) (held : AreHeld v.shelf.held (holders see v.house)) (m : Moment) (is : IsMoment see v m) where
   -- the size of a device in hand
   hand_size : (name : Word) → AnyOf (λ n. n ≡ name) (hand_names v.house) → sectors_at m.world name ≡ sectors_at (plain see v.house) name
   hand_size name any =
@@ -84,7 +78,7 @@ module _ {P : Type 0} {ghosts : Ghosts P} (see : P → Seen) (v : View P ghosts)
   named (tests.HasPlex vol plex) disks ready = λ name any. absurd any
 
   pub fails_there : (test : Test) (disks : List DiskAt) → IsReady see (stage.Gate test) disks v.house → fails test disks m.world ≡ fails test disks (plain see v.house)
-  fails_there test disks ready = same_fails (plain see v.house) m.world is.group_is (λ vol. some_alike see some_volume (volume_at v.house vol) (m.world.volumes vol) (all_alone see v.house m.world none is.volumes_are is.runs_are vol)) test disks (λ name any. hand_size name (named test disks ready name any))
+  fails_there test disks ready = same_fails (plain see v.house) m.world is.group_is (started_same see v.house m.world is.volumes_are is.runs_are) test disks (λ name any. hand_size name (named test disks ready name any))
 
 -- devices that were read at most
 still_names : {P : Type 0} (see : P → Seen) (xs ys : List (Taken P)) → Each (IsStill see) xs ys → map (λ t. t.device) ys ≡ map (λ t. t.device) xs
@@ -114,7 +108,9 @@ still_size see (x ∷ xs) (y ∷ ys) name still =
 
 module _ {P : Type 0} {ghosts : Ghosts P} (see : P → Seen) (h k : House P ghosts) (still : Still see h k) where
   still_fails : (test : Test) (disks : List DiskAt) → fails test disks (plain see k) ≡ fails test disks (plain see h)
-  still_fails test disks = same_fails (plain see h) (plain see k) (ap (group_of see) still.group) (λ vol. ap (λ (w : BTreeMap Word (Started P)). is_some (option_map some_volume (get (slice_cmp nat_cmp) w vol))) still.volumes) test disks (λ name any. still_size see h.hand.items k.hand.items name still.hand)
+  still_fails test disks = same_fails (plain see h) (plain see k) (ap (group_of see) still.group) (λ vol.
+      ap (λ (w : BTreeMap Word (Started P)). is_some (told_volume (get (slice_cmp nat_cmp) w vol) (run_in k.group vol))) still.volumes
+      ∙ ap (λ o. is_some (told_volume (volume_at h vol) (run_in o vol))) still.group) test disks (λ name any. still_size see h.hand.items k.hand.items name still.hand)
 
   -- what was given stays
   pub gives_still : (s : Stage) (disks : List DiskAt) → Gives see s disks h → Gives see s disks k

@@ -4,3 +4,4 @@ pub mod Runs
 pub mod Shows
 pub mod Serving
 pub mod Calling
+pub mod Grouped

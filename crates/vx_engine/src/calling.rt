@@ -8,12 +8,15 @@ ghost use Rattle.vx_started.specs.declared.started.Started.{Started as StartedVa
 ghost use Rattle.vx_plans.specs.Calls.{volume_of, start_of, count_of};
 ghost use Rattle.vx_plans.specs.Steps.{DoesCall};
 ghost use Rattle.vx_engine.specs.Calling.{IsCall, IsServedBy, ServesAmong};
+ghost use Rattle.vx_engine.specs.Grouped.{IsSameHouse, ServesAny};
 ghost use Rattle.vx_engine.specs.Serving.{CommandEnds};
 ghost use Rattle.vx_house.specs.Scene.{shelved};
-ghost use Rattle.vx_house.specs.View.{Keeps, at};
+ghost use Rattle.vx_house.specs.View.{Keeps, KeepsHouse, at};
 
+use crate::grouped::serve_in_group;
 use crate::planning::over;
 use crate::unserved::Unserved;
+use crate::words::{end_of, volume_of};
 use std::alloc::Global;
 use std::collections::BTreeMap;
 use vx_answers::{Answer, End, Refusal, Views};
@@ -41,9 +44,29 @@ pub fn serve_call<S: Shelf>(
     ensures goes { (place : ℕ) → CommandEnds S.P.seen (DoesCall place call.now) result
         (at (shelved S.free S.held S.counted S.faults shelf.old) house.old) (at (shelved S.free S.held S.counted S.faults shelf.new) house.new) }
 {
-    match serve_among(alloc, &mut house.volumes, call) {
+    match serve_any(alloc, house, call) {
         Ok(end) => over(alloc, house, shelf, Views::from_vec(Vec::new(alloc)), end),
         Err(_) => Err(Unserved::OutOfMemory),
+    }
+}
+
+/// Serves a call of a volume on a whole device, and else of one of the group. After a refusal of memory nothing has changed.
+fn serve_any<P: Piece + Drop>(
+    alloc: Global,
+    house: &mut House<P>,
+    call: &Call,
+) -> Result<End, OutOfMemory>
+    requires valid { IsCall call.now }
+    requires keeps { KeepsHouse P.seen house.old }
+    ensures serves { IfOk result (ServesAny P.seen call.now house.old house.new) }
+    ensures refused { OnErr result (IsSameHouse house.old house.new) }
+{
+    if house.volumes.contains_key(&volume_of(call)) {
+        return serve_among(alloc, &mut house.volumes, call);
+    }
+    match &mut house.group {
+        Some(group) => serve_in_group(alloc, group, call),
+        None => Ok(End::Refused(Refusal::NotStarted(volume_of(call)))),
     }
 }
 
@@ -87,24 +110,6 @@ fn serve<P: Piece>(alloc: Global, started: &mut Started<P>, call: &Call) -> Resu
             byte,
             ..
         } => started.fill(alloc, *start, *count, *byte),
-        Call::Data { .. } => unreachable!(),
-    }
-}
-
-fn volume_of(call: &Call) -> Name
-    ensures { result ≡ volume_of call.now }
-{
-    match call {
-        Call::Read { vol, .. } | Call::Fill { vol, .. } | Call::Data { vol, .. } => *vol,
-    }
-}
-
-fn end_of(call: &Call) -> u64
-    requires { IsCall call.now }
-    ensures { result ≡ start_of call.now + count_of call.now }
-{
-    match call {
-        Call::Read { start, count, .. } | Call::Fill { start, count, .. } => *start + *count,
         Call::Data { .. } => unreachable!(),
     }
 }

@@ -3,11 +3,13 @@
 
 mod calling;
 mod executing;
+mod grouped;
 mod planning;
 mod running;
 mod showing;
 mod stages;
 mod unserved;
+mod words;
 
 pub use executing::execute;
 pub use unserved::Unserved;

@@ -4,9 +4,7 @@ ghost use Rattle.vx_engine.specs.Runs.{StageEnds};
 ghost use Rattle.vx_house.specs.Goes.{IsReady, StageGoes};
 ghost use Rattle.vx_house.specs.Scene.{Shelved, shelved};
 ghost use Rattle.vx_house.specs.View.{Keeps, at};
-ghost use Rattle.std.specs.Prelude.{List};
 ghost use Rattle.vx_plans.specs.declared.stage.Stage.TheVariants as stages;
-ghost use Rattle.vx_script_words.specs.declared.value.DiskAt.{DiskAt};
 
 use std::alloc::Global;
 use vx_house::{House, Stop, give_group, refused, take, take_disks};
@@ -47,7 +45,7 @@ pub(crate) fn run_stage<S: Shelf>(
         Stage::Change(edit) => change(alloc, house, *edit),
         Stage::Make(text) => make(alloc, house, text.as_slice()),
         Stage::Import(dg) => import(alloc, house, shelf, dg, disks),
-        Stage::LetGo => let_go(alloc, house, shelf),
+        Stage::LetGo => let_go(alloc, house, shelf, disks),
         Stage::Join => join(alloc, house, disks),
         Stage::Create(dg) => create(alloc, house, dg, disks),
     }
@@ -66,10 +64,17 @@ fn pass<P: Piece>(alloc: Global, house: &House<P>, test: Test, disks: &[DiskAt])
 }
 
 /// Lets the imported group go. Where there is no memory to join its devices it stays, and some may be joined.
-fn let_go<S: Shelf>(alloc: Global, house: &mut House<S::P>, shelf: &mut S) -> Result<(), Stop>
+fn let_go<S: Shelf>(
+    alloc: Global,
+    house: &mut House<S::P>,
+    shelf: &mut S,
+    disks: &[DiskAt],
+) -> Result<(), Stop>
     requires keeps { Keeps S.P.seen (at (shelved S.free S.held S.counted S.faults shelf.old) house.old) }
-    ensures goes { (disks : List DiskAt) → StageEnds S.P.seen stages.LetGo disks result (at (shelved S.free S.held S.counted S.faults shelf.old) house.old) (at (shelved S.free S.held S.counted S.faults shelf.new) house.new) }
+    requires ready { IsReady S.P.seen stages.LetGo disks.now house.old }
+    ensures goes { StageEnds S.P.seen stages.LetGo disks.now result (at (shelved S.free S.held S.counted S.faults shelf.old) house.old) (at (shelved S.free S.held S.counted S.faults shelf.new) house.new) }
 {
+    let _ = disks;
     match give_group(alloc, house, shelf) {
         Ok(()) => Ok(()),
         Err(_) => Err(Stop::OutOfMemory),

@@ -5,13 +5,17 @@ use Rattle.vx_mask.specs.Mask.{has}
 use Rattle.vx_cell.specs.Changes.{CellSeen}
 use Rattle.vx_core.specs.declared.stage.Job.{Job}
 use Rattle.vx_core.specs.declared.stage.Job.TheVariants.{Clear, Copy as CopyJob, Read as ReadJob, Settle, Write as WriteJob}
-use Rattle.vx_core.specs.declared.stage.Phase.TheVariants.{Dead, Settled, Unsettled}
+use Rattle.vx_core.specs.declared.stage.Phase.{Phase}
+use Rattle.vx_core.specs.declared.stage.Phase.TheVariants.{Busy, Dead, Settled, Unsettled}
+use Rattle.vx_core.specs.Causes.{IsPlain}
+use Rattle.vx_core.specs.Schedule.{IsIdle}
 use Rattle.vx_cell.specs.declared.fault.CellFault.{CellFault}
 use Rattle.vx_cell.specs.declared.fault.CellFault.TheVariants.{Fault, PowerLost, Held, Only}
 use Rattle.vx_cell.specs.declared.fault.Place.{Place}
 use Rattle.vx_cell.specs.Acts.{PlaceRose}
 use Rattle.vx_cell.specs.Calls.{CallHasCause, IsNotBegun, LeavesPhase, Stands, WriteLeaves, numbered}
-use Rattle.vx_cell.specs.Region.{IsCut, RegionSeen}
+use Rattle.vx_cell.specs.Region.{AllFailed, IsCut, RegionSeen}
+use Rattle.vx_cell.specs.Running.{Begins}
 use Rattle.vx_volume.specs.Calls.{IsRead, IsWritten, io_stop}
 use Rattle.vx_volume.specs.Loop.{stop_of}
 use Rattle.vx_volume.proofs.Entries.{dead_or}
@@ -42,6 +46,12 @@ stopped_by (Err other) fault is = cc
 no_fault : {A : Type 0} (result : Result ℕ CellFault) (place : Place) → result ≡ Err PowerLost → result ≡ Err (Fault place) → A
 no_fault result place lost fault = cc
 
+begins : (phase : Phase) → IsIdle phase → Begins phase
+begins Settled idle = tt
+begins Unsettled idle = tt
+begins Dead idle = tt
+begins (Busy w) idle = absurd idle
+
 module _ (job : Job) (old : RegionSeen) (n : ℕ) (new : RegionSeen) (result : Result ℕ CellFault) (dead : old.stage.phase ≡ Dead → IsNotBegun old new result) (cause : (old.stage.phase ≡ Dead → ⊥) → CallHasCause job (record old { number = n }) new result) where
   left_cut : ((old.stage.phase ≡ Dead → ⊥) → new.stage.phase ≡ Dead → IsCut new) → new.stage.phase ≡ Dead → (old.stage.phase ≡ Dead) ⊎ IsCut new
   left_cut cut is = dead_or old.stage.phase (λ was. inl was) (λ alive. inr (cut alive is))
@@ -50,6 +60,12 @@ module _ (job : Job) (old : RegionSeen) (n : ℕ) (new : RegionSeen) (result : R
   place_rose place stopped =
       let is : result ≡ Err (Fault place) = stopped_by result (Fault place) stopped in
       dead_or old.stage.phase (λ was. no_fault result place (dead was).answer is) (λ alive. (subst (λ (x : Result ℕ CellFault). CallHasCause job (record old { number = n }) new x) is (cause alive)).0)
+
+  all_failed : IsPlain job → (place : Place) → Some (Fault place) ≡ stop_of result → IsIdle old.stage.phase → (old.stage.phase ≡ Dead → ⊥) × AllFailed old new
+  all_failed plain place stopped idle =
+      let is : result ≡ Err (Fault place) = stopped_by result (Fault place) stopped in
+      dead_or old.stage.phase (λ was. no_fault result place (dead was).answer is)
+      (λ alive. (alive, (subst (λ (x : Result ℕ CellFault). CallHasCause job (record old { number = n }) new x) is (cause alive)).1 plain (begins old.stage.phase idle)))
 
   power_cut : Some PowerLost ≡ stop_of result → ((old.stage.phase ≡ Dead) × (new ≡ old)) ⊎ IsCut new
   power_cut stopped =
@@ -63,6 +79,7 @@ read_calling =
       dead = λ span bytes stop old new is. left_cut ReadJob old (old.number + 1) new is.result is.ended.dead (λ alive. (is.ended.ended alive).cause)
           (λ alive. ended_cut ReadJob (record old { number = old.number + 1 }) new is.result (is.ended.ended alive).phase (is.ended.ended alive).cause);
       fault = λ span bytes place old new is. place_rose ReadJob old (old.number + 1) new is.result is.ended.dead (λ alive. (is.ended.ended alive).cause) place is.stopped;
+      failed = λ span bytes place old new is idle. all_failed ReadJob old (old.number + 1) new is.result is.ended.dead (λ alive. (is.ended.ended alive).cause) tt place is.stopped idle;
       lost = λ span bytes old new is. power_cut ReadJob old (old.number + 1) new is.result is.ended.dead (λ alive. (is.ended.ended alive).cause) is.stopped;
     }
 
@@ -73,6 +90,7 @@ write_calling =
       dead = λ span bytes stop old new is. left_cut WriteJob old (old.number + 1) new is.result is.ended.dead (λ alive. (is.ended.ended alive).cause)
           (λ alive. written_cut (record old { number = old.number + 1 }) new is.result (is.ended.ended alive).phase (is.ended.ended alive).cause);
       fault = λ span bytes place old new is. place_rose WriteJob old (old.number + 1) new is.result is.ended.dead (λ alive. (is.ended.ended alive).cause) place is.stopped;
+      failed = λ span bytes place old new is idle. all_failed WriteJob old (old.number + 1) new is.result is.ended.dead (λ alive. (is.ended.ended alive).cause) tt place is.stopped idle;
       lost = λ span bytes old new is. power_cut WriteJob old (old.number + 1) new is.result is.ended.dead (λ alive. (is.ended.ended alive).cause) is.stopped;
     }
 

@@ -4,6 +4,7 @@ use Rattle.std.specs.Prelude.{◌⊎◌, length}
 use Rattle.std.proofs.lemmas.Bool.{cases_eq}
 use Rattle.vx_block.specs.declared.geometry.Span.{Span}
 use Rattle.vx_core.specs.declared.stage.Phase.TheVariants.{Dead}
+use Rattle.vx_core.specs.Schedule.{IsIdle}
 use Rattle.vx_marks.specs.Log.{KeepsLog}
 use Rattle.vx_cell.specs.declared.fault.CellFault.{CellFault}
 use Rattle.vx_cell.specs.declared.fault.CellFault.TheVariants as cell
@@ -11,7 +12,7 @@ use Rattle.vx_cell.specs.declared.fault.Place.{Place}
 use Rattle.vx_cell.specs.Acts.{PlaceRose}
 use Rattle.vx_cell.specs.Changes.{CellSeen}
 use Rattle.vx_cell.specs.Plexes.{KeepPlexes, SomePieceCut}
-use Rattle.vx_cell.specs.Region.{IsCut, RegionSeen}
+use Rattle.vx_cell.specs.Region.{AllFailed, IsCut, RegionSeen}
 use Rattle.vx_cell.proofs.Changes.{keep_cut, keep_more, keep_same}
 use Rattle.vx_cell.proofs.LogLaws.{log_more, log_same}
 use Rattle.vx_volume.specs.Calls.{Calling, CallsPart, ChangesRegion}
@@ -47,11 +48,12 @@ gone_then a b c first after =
 
 -- ---- a way to call a region
 
--- what it keeps of the region, when it leaves it dead, and why it is stopped
+-- what it keeps of the region, when it leaves it dead, and why it is stopped; a fault of one that begins here has its cause
 pub record IsCalling (Way : Span → List ℕ → Option CellFault → RegionSeen → RegionSeen → Type 0) : Type 0 where
   pub stays : (span : Span) (bytes : List ℕ) (stop : Option CellFault) (old new : RegionSeen) → Way span bytes stop old new → StaysRegion old new
   pub dead : (span : Span) (bytes : List ℕ) (stop : Option CellFault) (old new : RegionSeen) → Way span bytes stop old new → new.stage.phase ≡ Dead → (old.stage.phase ≡ Dead) ⊎ IsCut new
   pub fault : (span : Span) (bytes : List ℕ) (place : Place) (old new : RegionSeen) → Way span bytes (Some (cell.Fault place)) old new → PlaceRose place old.plexes old.log new.plexes new.log
+  pub failed : (span : Span) (bytes : List ℕ) (place : Place) (old new : RegionSeen) → Way span bytes (Some (cell.Fault place)) old new → IsIdle old.stage.phase → (old.stage.phase ≡ Dead → ⊥) × AllFailed old new
   pub lost : (span : Span) (bytes : List ℕ) (old new : RegionSeen) → Way span bytes (Some cell.PowerLost) old new → ((old.stage.phase ≡ Dead) × (new ≡ old)) ⊎ IsCut new
 
 still_cut : (old new : RegionSeen) → StaysRegion old new → IsCut old → IsCut new
@@ -127,7 +129,7 @@ module _ (Way : Span → List ℕ → Option CellFault → RegionSeen → Region
   call_gone index stop old new call =
       one_gone call.region _ old.volume new.volume call.ends (way.stays _ _ _ _ _ call.ends.goes) (way.dead _ _ _ _ _ call.ends.goes)
 
-  parts_done : (n : ℕ) (old new : Calling) → AreDone (CallsPart Way start count bytes) n old new → HasGone old.volume new.volume
+  pub parts_done : (n : ℕ) (old new : Calling) → AreDone (CallsPart Way start count bytes) n old new → HasGone old.volume new.volume
   parts_done n old new done = done_gone volume_of (CallsPart Way start count bytes) call_gone n old new done
 
   pub parts_gone : (total : ℕ) (stop : Option CellFault) (old new : Calling) → AreMade (CallsPart Way start count bytes) total stop old new → HasGone old.volume new.volume

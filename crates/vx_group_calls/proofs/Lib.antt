@@ -1,4 +1,5 @@
 pub mod Keeping
+pub mod LastParts
 pub mod Failures
 pub mod HeldPieces
 pub mod LogSums
@@ -6,3 +7,4 @@ pub mod LogFaults
 pub mod Tellings
 pub mod Service
 pub mod Lying
+pub mod Sources

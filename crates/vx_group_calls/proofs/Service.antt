@@ -1,5 +1,5 @@
 -- What an ended call does to a running volume.
-use Rattle.std.proofs.Common.{◌≡◌, ℕ, ◌-◌, ◌*◌, ◌/◌, ◌^◌, ◌<◌, ◌≤◌, min, List, [], length, replicate, Result, Ok, Err, Option, ◌∷◌, refl, sym, ◌∙◌, subst, inl, inr, arith}
+use Rattle.std.proofs.Common.{◌≡◌, ℕ, ◌-◌, ◌*◌, ◌/◌, ◌^◌, ◌<◌, ◌≤◌, min, true, List, [], length, replicate, Result, Ok, Err, Option, ◌∷◌, refl, sym, ◌∙◌, subst, inl, inr, arith}
 use Rattle.std.specs.Prelude.{IfOk, OnErr}
 use Rattle.std.specs.List.{sum_by}
 use Rattle.std.proofs.lemmas.Result.{IfOk-weaker}
@@ -16,8 +16,13 @@ use Rattle.vx_pages.specs.declared.local_piece.LocalPiece.{Ghosts}
 use Rattle.vx_cell.specs.declared.fault.CellFault.{CellFault}
 use Rattle.vx_cell.specs.declared.fault.Place.{Place}
 use Rattle.vx_cell.specs.declared.fault.Place.TheVariants.{Data, Log}
-use Rattle.vx_cell.specs.Region.{IsCut, RegionSeen}
+use Rattle.vx_cell.specs.Region.{AllFailed, IsCut, LogRose, RegionSeen}
+use Rattle.vx_cell.specs.Changes.{CellSeen}
+use Rattle.vx_cell.specs.Plexes.{PlexRose}
 use Rattle.vx_cell.proofs.Work.{le_rose}
+use Rattle.vx_core.specs.Table.{current}
+use Rattle.vx_mask.specs.Mask.{has}
+use Rattle.vx_mask.proofs.Sets.{in_without}
 use Rattle.vx_script_forms.specs.declared.call.Call.{Call}
 use Rattle.vx_script_forms.specs.declared.call.Call.TheVariants as calls
 use Rattle.vx_moments.specs.World.{Volume as WorldVolume}
@@ -28,7 +33,8 @@ use Rattle.vx_volume.specs.declared.receipt.Receipt.{Receipt}
 use Rattle.vx_volume.specs.declared.volume.Volume.{Volume}
 use Rattle.vx_volume.specs.Calls.{CallsParts, IsRead, IsWritten, ReadEnds, WriteEndsAll, called, parts_in}
 use Rattle.vx_volume.specs.Log.{LogGoes, log_kept}
-use Rattle.vx_volume.specs.Volume.{IsVolume, VolumeSeen, log_of, region_at, volume_seen}
+use Rattle.vx_volume.specs.Receipts.{part_of}
+use Rattle.vx_volume.specs.Volume.{IsVolume, VolumeSeen, cell_at, log_of, region_at, volume_seen}
 use Rattle.vx_volume_pieces.specs.Pieces.{all_pieces}
 use Rattle.vx_lending.specs.Going.{GoTogether}
 use Rattle.vx_lending.specs.Left.{held_pieces, region_plexes}
@@ -37,13 +43,14 @@ use Rattle.vx_lending.proofs.Goings.{each_goes}
 use Rattle.vx_volume_lives.specs.Laws.{EachReadRunsOn, EachWriteRunsOn, RunsOn}
 use Rattle.vx_volume_lives.specs.Telling.{TellsEntries}
 use Rattle.vx_group_calls.specs.declared.served.Served.{Served}
-use Rattle.vx_group_calls.specs.Causes.{AreCutWhereDead, FailuresAreCounted, ServedHasCause}
+use Rattle.vx_group_calls.specs.Causes.{AreCutWhereDead, CurrentFailed, FailuresAreCounted, LastFailed, LogPiecesRose, ServedHasCause}
 use Rattle.vx_group_calls.specs.Laws.{StaysTogether}
 use Rattle.vx_group_calls.specs.Ending.{EndsAs, IsReadServed, IsWriteServed, device_of}
 use Rattle.vx_group_calls.specs.Serving.{LivesOn, ServesVolume, Tells}
 use Rattle.vx_group_calls.proofs.Failures.{read_calling, write_calling}
 use Rattle.vx_group_calls.proofs.HeldPieces.{SumRose, cell_cut, cell_rose, cells_stay, cut_first, cut_then, each_beside, log_stays, plex_rose, sum_rose, sums_grow}
 use Rattle.vx_group_calls.proofs.Keeping.{gone_same, FailedIn, HasGone, IsCalling, SomeRegionCut, made_fault, made_lost, parts_gone}
+use Rattle.vx_group_calls.proofs.LastParts.{StopsIn, last_same, made_stop}
 use Rattle.vx_group_calls.proofs.LogFaults.{beside_first, beside_then, log_cut, log_rose}
 use Rattle.vx_group_calls.proofs.Tellings.{IsCallOf, call_tells, data_call, fill_call, outside, read_call}
 
@@ -164,6 +171,31 @@ module _ {P : Type 0} {ghosts : Ghosts P} (old new : Volume P ghosts) (follows :
       (beside_then device (cells_of was) (cells_of now) (log_pieces ghosts.seen (log_of old)) (log_pieces ghosts.seen (log_of new)) (kept_cells (called was) now gone)
       (log_rose (log_of old) (log_of new) follows copy device rose))
 
+  log_failed : (mid : VolumeSeen) → HasGone (called was) mid → HasGone (called was) now → LogRose mid.log now.log → LogPiecesRose ghosts.seen old new
+  log_failed mid gone all (copy, device, rose) =
+      let more : Rose (was.log.faults copy device) (now.log.faults copy device) = le_rose (was.log.faults copy device) (mid.log.faults copy device) (now.log.faults copy device) (gone.kept.log.faults copy device) rose in
+      let sum = log_rose (log_of old) (log_of new) follows copy device more in
+      record {
+        device = device;
+        log = clipped _ _ sum;
+        held = rose_on device (beside_then device (cells_of was) (cells_of now) (log_pieces ghosts.seen (log_of old)) (log_pieces ghosts.seen (log_of new)) (kept_cells (called was) now all) sum);
+      }
+
+  current_failed : (parts : List Part) → HasGone (called was) now → (stop : StopsIn (record { volume = called was; parts = [] }) (record { volume = now; parts = parts })) → CurrentFailed ghosts.seen old new stop.region
+  current_failed parts all stop = by stop.failed
+    where
+      by : AllFailed (region_at stop.mid stop.region) (region_at now stop.region) → CurrentFailed ghosts.seen old new stop.region
+      by (inl log) = inl (log_failed stop.mid stop.gone all log)
+      by (inr each) = inr (λ map on off.
+          subst (λ (c : CellSeen). (k : ℕ) → has (current c.stage) k ≡ true → PlexRose k c.plexes (cell_at now stop.region).plexes) stop.cell each map
+          (in_without (cell_at was stop.region).stage.on (cell_at was stop.region).stage.bits map on off))
+
+  -- the last part is that of the region in which the call was stopped
+  last_failed : (parts : List Part) → HasGone (called was) now → StopsIn (record { volume = called was; parts = [] }) (record { volume = now; parts = parts }) → LastFailed ghosts.seen old new parts
+  last_failed parts all stop last is =
+      let same : last ≡ part_of now stop.region = last_same is.0 stop.before last (part_of now stop.region) (sym is.1 ∙ stop.told) in
+      subst (λ (p : Part). (p.region < length was.cells) × CurrentFailed ghosts.seen old new p.region) (sym same) (stop.inside, current_failed parts all stop)
+
   cut_in : SomeRegionCut now → SomeCut (held_pieces ghosts.seen new)
   cut_in some = by some.cut
     where
@@ -171,7 +203,7 @@ module _ {P : Type 0} {ghosts : Ghosts P} (old new : Volume P ghosts) (follows :
       by (inl piece) = cut_first (cells_of now) (log_pieces ghosts.seen (log_of new)) (cell_cut now.cells some.region some.inside piece)
       by (inr log) = cut_then (cells_of now) (log_pieces ghosts.seen (log_of new)) (log_cut (log_of new) log)
 
-  module _ (Way : Span → List ℕ → Option CellFault → RegionSeen → RegionSeen → Type 0) (way : IsCalling Way) (start : ℕ) (before after : Receipt) (parts : List Part) (printed : List ℕ) (served : Served) where
+  module _ (Way : Span → List ℕ → Option CellFault → RegionSeen → RegionSeen → Type 0) (way : IsCalling Way) (start : ℕ) (before after : Receipt) (printed : List ℕ) (served : Served) where
     all_gone : (result : Result (Unit {0}) IoFault) → CallsParts Way start was now result before after → HasGone (called was) now
     all_gone result made = parts_gone Way way start before.count after.blocks.items (parts_in was.region start before.count) _ _ _ made.made
 
@@ -179,29 +211,33 @@ module _ {P : Type 0} {ghosts : Ghosts P} (old new : Volume P ghosts) (follows :
     begun_gone : HasGone (called was) now → HasGone was now
     begun_gone gone = record { kept = record { count = gone.kept.count; plexes = gone.kept.plexes; log = gone.kept.log }; cut = gone.cut }
 
-    caused : (result : Result (Unit {0}) IoFault) → CallsParts Way start was now result before after → EndsAs result parts printed served → ServedHasCause ghosts.seen served old new
-    caused (Ok u) made ends = subst (λ (s : Served). ServedHasCause ghosts.seen s old new) (sym ends) tt
-    caused (Err Range) made ends = absurd ends
-    caused (Err (Fault place)) made ends =
-        subst (λ (s : Served). ServedHasCause ghosts.seen s old new) (sym ends)
-        (failed_on place (all_gone (Err (Fault place)) made) (made_fault Way way start before.count after.blocks.items (parts_in was.region start before.count) place _ _ made.made))
-    caused (Err PowerLost) made ends =
+    caused : IsVolume was → (result : Result (Unit {0}) IoFault) → CallsParts Way start was now result before after → EndsAs result after.parts.items printed served → ServedHasCause ghosts.seen served old new
+    caused whole (Ok u) made ends = subst (λ (s : Served). ServedHasCause ghosts.seen s old new) (sym ends) tt
+    caused whole (Err Range) made ends = absurd ends
+    caused whole (Err (Fault place)) made ends =
+        let all = all_gone (Err (Fault place)) made in
+        subst (λ (s : Served). ServedHasCause ghosts.seen s old new) (sym ends) (
+          failed_on place all (made_fault Way way start before.count after.blocks.items (parts_in was.region start before.count) place _ _ made.made),
+          last_failed after.parts.items all
+              (made_stop Way way start before.count after.blocks.items (parts_in was.region start before.count) place _ _ (λ r lt. (whole.each r lt).idle) made.made),
+        )
+    caused whole (Err PowerLost) made ends =
         subst (λ (s : Served). ServedHasCause ghosts.seen s old new) (sym ends)
         (λ cut. cut_in (made_lost Way way start before.count after.blocks.items (parts_in was.region start before.count) _ _ made.made cut))
 
-    has_served : (result : Result (Unit {0}) IoFault) → CallsParts Way start was now result before after → EndsAs result parts printed served → HasServed served old new
-    has_served result made ends =
+    has_served : IsVolume was → (result : Result (Unit {0}) IoFault) → CallsParts Way start was now result before after → EndsAs result after.parts.items printed served → HasServed served old new
+    has_served whole result made ends =
         let gone = all_gone result made in
         let stays : EachPiece Keeps (held_pieces ghosts.seen old) (held_pieces ghosts.seen new) = each_beside (cells_of was) (cells_of now) (log_pieces ghosts.seen (log_of old)) (log_pieces ghosts.seen (log_of new)) (kept_cells (called was) now gone) kept_log in
-        record { stays = stays; goes = each_goes (held_pieces ghosts.seen old) (held_pieces ghosts.seen new) stays; cause = caused result made ends; counted = counted_on (begun_gone gone); dead = gone.cut }
+        record { stays = stays; goes = each_goes (held_pieces ghosts.seen old) (held_pieces ghosts.seen new) stays; cause = caused whole result made ends; counted = counted_on (begun_gone gone); dead = gone.cut }
 
-  pub read_leaves : (start count : ℕ) (served : Served) → IsReadServed start count served was now → HasServed served old new
-  read_leaves start count served s =
-      has_served IsRead read_calling start s.before s.after s.after.parts.items s.after.blocks.items served s.result (read_made start was now s.before s.after s.after.parts.items s.after.blocks.items served s.result s.ends s.told) s.told
+  pub read_leaves : IsVolume was → (start count : ℕ) (served : Served) → IsReadServed start count served was now → HasServed served old new
+  read_leaves whole start count served s =
+      has_served IsRead read_calling start s.before s.after s.after.blocks.items served whole s.result (read_made start was now s.before s.after s.after.parts.items s.after.blocks.items served s.result s.ends s.told) s.told
 
-  pub write_leaves : (start count : ℕ) (bytes : List ℕ) (served : Served) → IsWriteServed start count bytes served was now → HasServed served old new
-  write_leaves start count bytes served s =
-      has_served IsWritten write_calling start s.before s.after s.after.parts.items [] served s.result (write_made start was now s.before s.after s.after.parts.items [] served bytes s.result s.ends s.told).0 s.told
+  pub write_leaves : IsVolume was → (start count : ℕ) (bytes : List ℕ) (served : Served) → IsWriteServed start count bytes served was now → HasServed served old new
+  write_leaves whole start count bytes served s =
+      has_served IsWritten write_calling start s.before s.after [] served whole s.result (write_made start was now s.before s.after s.after.parts.items [] served bytes s.result s.ends s.told).0 s.told
 
 -- ---- a call that may have been refused
 
@@ -232,8 +268,8 @@ module _ {P : Type 0} {ghosts : Ghosts P} {E : Type 0} (old new : Volume P ghost
   dead_by (Err e) refused served = λ cut. subst (λ v. AreCutWhereDead (volume_seen ghosts.seen v)) (sym refused) cut
 
   -- of reads and writes
-  pub read_all : (result : Result Served E) (start count : ℕ) → LogGoes ghosts.seen (log_of old) (log_of new) → IfOk result (λ s. IsReadServed start count s (volume_seen ghosts.seen old) (volume_seen ghosts.seen new)) → IfOk result (λ s. HasServed s old new)
-  read_all result start count follows served = IfOk-weaker result (λ s. IsReadServed start count s (volume_seen ghosts.seen old) (volume_seen ghosts.seen new)) (λ s. HasServed s old new) (λ s h. read_leaves old new follows start count s h) served
+  pub read_all : (result : Result Served E) (start count : ℕ) → IsVolume (volume_seen ghosts.seen old) → LogGoes ghosts.seen (log_of old) (log_of new) → IfOk result (λ s. IsReadServed start count s (volume_seen ghosts.seen old) (volume_seen ghosts.seen new)) → IfOk result (λ s. HasServed s old new)
+  read_all result start count whole follows served = IfOk-weaker result (λ s. IsReadServed start count s (volume_seen ghosts.seen old) (volume_seen ghosts.seen new)) (λ s. HasServed s old new) (λ s h. read_leaves old new follows whole start count s h) served
 
-  pub write_all : (result : Result Served E) (start count : ℕ) (bytes : List ℕ) → LogGoes ghosts.seen (log_of old) (log_of new) → IfOk result (λ s. IsWriteServed start count bytes s (volume_seen ghosts.seen old) (volume_seen ghosts.seen new)) → IfOk result (λ s. HasServed s old new)
-  write_all result start count bytes follows served = IfOk-weaker result (λ s. IsWriteServed start count bytes s (volume_seen ghosts.seen old) (volume_seen ghosts.seen new)) (λ s. HasServed s old new) (λ s h. write_leaves old new follows start count bytes s h) served
+  pub write_all : (result : Result Served E) (start count : ℕ) (bytes : List ℕ) → IsVolume (volume_seen ghosts.seen old) → LogGoes ghosts.seen (log_of old) (log_of new) → IfOk result (λ s. IsWriteServed start count bytes s (volume_seen ghosts.seen old) (volume_seen ghosts.seen new)) → IfOk result (λ s. HasServed s old new)
+  write_all result start count bytes whole follows served = IfOk-weaker result (λ s. IsWriteServed start count bytes s (volume_seen ghosts.seen old) (volume_seen ghosts.seen new)) (λ s. HasServed s old new) (λ s h. write_leaves old new follows whole start count bytes s h) served

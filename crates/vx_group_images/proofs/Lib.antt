@@ -3,3 +3,4 @@ pub mod OtherVolumes
 pub mod VolumesRead
 pub mod Lives
 pub mod Drops
+pub mod Tracked

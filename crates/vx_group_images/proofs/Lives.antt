@@ -33,7 +33,7 @@ module _ (vol : Word) (o : Option Volume) (old new : World) (is : new.volumes �
 
 pub start_leaves : EachStartLeavesSound
 start_leaves g v plexes old new own begins sound =
-    let run : Volume = volume_by v.state plexes (image_on old.devices g v) in
+    let run : Volume = record (volume_by v.state plexes (image_on old.devices g v)) { sound = begins.sound } in
     volumes_sound g v.name old new own begins.changes (idle_before v.name (Some run) old new begins.volumes)
     (λ w there same none. absurd (let here : new.volumes v.name ≡ Some run = here_now v.name (Some run) old new begins.volumes in cc)) sound
 
@@ -49,8 +49,8 @@ one_vol : (c : Config) (v w : Vol) → IsIn c.volumes v → IsIn c.volumes w →
 one_vol c v w h k same = same_vol v w (one_named [] (objects_of c) (VolRecord v) (VolRecord w) (names_differ (objects_of c) (config_valid c)) (vol_in c v h) (vol_in c w k) same)
 
 pub leaving_leaves : EachLeavingLeavesSound
-leaving_leaves g v run old new own there left sound =
+leaving_leaves g v run old new own there known left sound =
     volumes_sound g v.name old new own left.changes (idle_before v.name None old new left.volumes)
     (λ w there' same none.
     let one : v ≡ w = one_vol g.config v w (is_in g.config.volumes v there) (is_in g.config.volumes w there') (sym same) in
-    subst (λ x. IsSoundImage (image_on new.devices g x)) one left.stands.sound) sound
+    subst (λ x. IsSoundImage (image_on new.devices g x)) one (left.stands known).sound) sound

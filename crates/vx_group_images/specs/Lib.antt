@@ -4,3 +4,4 @@ pub mod Lives
 pub mod Volumes
 pub mod Drops
 pub mod Tracks
+pub mod Owners

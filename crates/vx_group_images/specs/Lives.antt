@@ -1,5 +1,5 @@
 -- How a volume of a group begins to run over its bytes, and how it is left.
-use Rattle.std.specs.Prelude.{◌≡◌, ℕ, true, false, if◌then◌else◌, Option, Some, None, MatchOption, List, [], Contains}
+use Rattle.std.specs.Prelude.{◌≡◌, ℕ, Bool, true, false, if◌then◌else◌, Option, Some, None, MatchOption, List, [], Contains}
 use Rattle.std.specs.List.{list_any}
 use Rattle.vx_base.specs.Named.{Word, put}
 use Rattle.vx_config_parts.specs.declared.vol.Vol.{Vol}
@@ -7,6 +7,7 @@ use Rattle.vx_config_parts.specs.declared.state.VolState.{VolState}
 use Rattle.vx_config_parts.specs.declared.state.VolState.TheVariants as vol
 use Rattle.vx_image.specs.Image.{Image}
 use Rattle.vx_image.specs.Meaning.{lowest_of}
+use Rattle.vx_image.specs.Soundness.{IsSoundImage}
 use Rattle.vx_moments.specs.World.{Track, Volume, Group, World}
 use Rattle.vx_moments.specs.Leaving.{grouped}
 use Rattle.vx_group_images.specs.Group.{ChangesOnly, HaveOwnDevices, AreVolumesSound, image_on}
@@ -37,28 +38,30 @@ volume_by vol.Active plexes v = volume_read plexes v
 volume_by vol.NeedSync plexes v = volume_read plexes v
 volume_by vol.Sync plexes v = volume_read plexes v
 
--- A volume is started on these plexes, of data and of its log: a life begins over what its bytes say. Only sectors of the volume have
--- changed, such as those of its log.
+-- A volume is started on these plexes, of data and of its log: a life begins over what its bytes say, of which nothing more is known
+-- where they are not sound. Only sectors of the volume have changed, such as those of its log.
 pub record BeginsToRun (g : Group) (v : Vol) (plexes : List Word) (old new : World) : Type 0 where
+  pub sound : Bool
+  pub if_sound : IsSoundImage (image_on old.devices g v) → sound ≡ true
   pub changes : ChangesOnly g v.name old.devices new.devices
-  pub volumes : new.volumes ≡ put v.name (Some (volume_by v.state plexes (image_on old.devices g v))) old.volumes
+  pub volumes : new.volumes ≡ put v.name (Some (record (volume_by v.state plexes (image_on old.devices g v)) { sound = sound })) old.volumes
 
 -- ---- a life ends
 
--- a volume that ran is left: its bytes stand for it, and nothing else has changed
+-- a volume that ran is left: its bytes stand for it, where they were sound as it began, and nothing else has changed
 pub record IsLeftInPlace (g : Group) (v : Vol) (run : Volume) (old new : World) : Type 0 where
   pub changes : ChangesOnly g v.name old.devices new.devices
-  pub stands : StandsForVolume (image_on new.devices g v) run
+  pub stands : run.sound ≡ true → StandsForVolume (image_on new.devices g v) run
   pub volumes : new.volumes ≡ put v.name None old.volumes
 
 -- ---- the group leaves
 
--- the group records a volume of the name, whose bytes stand for the one that ran
+-- the group records a volume of the name, whose bytes stand for the one that ran, where they were sound as that began
 pub record StandsFor (w : World) (g : Group) (name : Word) (run : Volume) : Type 0 where
   pub of : Vol
   pub recorded : Contains g.config.volumes of
   pub named : of.name ≡ name
-  pub stands : StandsForVolume (image_on w.devices g of) run
+  pub stands : run.sound ≡ true → StandsForVolume (image_on w.devices g of) run
 
 -- so it is with each volume that runs on the group's plexes
 abbrev pub StandForEach : World → Group → Type 0
@@ -76,8 +79,8 @@ EachStartLeavesSound =
     (g : Group) (v : Vol) (plexes : List Word) (old new : World) → HaveOwnDevices g.members →
     BeginsToRun g v plexes old new → AreVolumesSound old g → AreVolumesSound new g
 
--- .. and where it is left all are. No two volumes of a group have one name.
+-- .. and where one is left whose bytes were sound as it began all are. No two volumes of a group have one name.
 abbrev pub EachLeavingLeavesSound : Type 0
 EachLeavingLeavesSound =
-    (g : Group) (v : Vol) (run : Volume) (old new : World) → HaveOwnDevices g.members → Contains g.config.volumes v →
+    (g : Group) (v : Vol) (run : Volume) (old new : World) → HaveOwnDevices g.members → Contains g.config.volumes v → run.sound ≡ true →
     IsLeftInPlace g v run old new → AreVolumesSound old g → AreVolumesSound new g

@@ -55,6 +55,7 @@ volume_read plexes v = record {
   dirty_began = dirty_read v;
   tracks = track_read v;
   failed = λ device. false;
+  sound = true;
 }
 
 -- Sound bytes stand for the volume that is read from them.

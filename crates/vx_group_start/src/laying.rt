@@ -26,6 +26,7 @@ pub fn lay_down<P: Piece + Drop>(alloc: Global, public: &mut Public<P>) -> Resul
     ensures running { OnOk result (public.new.running.entries ≡ []) }
     ensures stuck_none { OnOk result (public.new.stuck.items ≡ []) }
     ensures left { OnOk result (public.new.left.items ≡ []) }
+    ensures idle { public.old.running.entries ≡ [] → public.new.running.entries ≡ [] }
     ensures lent { OnOk result (lent_pieces P.seen public.new ≡ []) }
 {
     close_stuck(alloc, public)?;
@@ -58,6 +59,7 @@ fn close_running<P: Piece + Drop>(alloc: Global, public: &mut Public<P>) -> Resu
     ensures stuck { AreStuckVolumes P.seen public.new.stuck.items }
     ensures none { OnOk result (public.new.running.entries ≡ []) }
     ensures same { OnOk result (public.new.stuck.items ≡ public.old.stuck.items) }
+    ensures idle { public.old.running.entries ≡ [] → public.new.running.entries ≡ [] }
 {
     if public.running.is_empty() {
         return Ok(());

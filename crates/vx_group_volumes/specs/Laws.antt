@@ -1,5 +1,5 @@
 -- Laws of volumes of an imported group, from their start to their leaving.
-use Rattle.std.specs.Prelude.{◌≡◌, ℕ, false, List, Result}
+use Rattle.std.specs.Prelude.{◌≡◌, ℕ, Bool, true, false, List, Contains, Result}
 use Rattle.std.specs.List.{All}
 use Rattle.vx_base.specs.Blocks.{Contents}
 use Rattle.vx_base.specs.Named.{Word}
@@ -12,7 +12,7 @@ use Rattle.vx_objects.specs.Applied.{IsEdited}
 use Rattle.vx_state_edits.specs.Edits.{start_edits, stop_edits}
 use Rattle.vx_objects.specs.declared.config.Config.{Config}
 use Rattle.vx_moments.specs.World.{Volume}
-use Rattle.vx_image.specs.Image.{PlexImage, IsFilled, WasStarted}
+use Rattle.vx_image.specs.Image.{PlexImage, IsFilled, WasStarted, is_available}
 use Rattle.vx_image.specs.Bytes.{Sectors, image_of}
 use Rattle.vx_image.specs.Soundness.{IsSoundImage}
 use Rattle.vx_volume.specs.declared.fault.IoFault.{IoFault}
@@ -24,8 +24,11 @@ use Rattle.vx_volume_form.specs.Plexes.{IsVolOf}
 use Rattle.vx_volume_form.specs.Form.{IsFormOf}
 use Rattle.vx_lending.specs.Left.{held_pieces}
 use Rattle.vx_opened_images.specs.Contents.{AreSectorsOf}
+use Rattle.vx_group_images.specs.Lives.{volume_first}
+use Rattle.vx_group_images.specs.Tracks.{TrackOwner}
 use Rattle.vx_group_images.specs.Volumes.{StandsForVolume, volume_read}
-use Rattle.vx_volume_lives.specs.Leaving.{AreNamedIn}
+use Rattle.vx_volume_lives.specs.Laws.{OwnersFit}
+use Rattle.vx_volume_lives.specs.Leaving.{AreNamedIn, unsure}
 use Rattle.vx_volume_lives.specs.Running.{IsSureOfOthers, RunsAsVolume}
 use Rattle.vx_left_images.specs.Keeping.{ChangesStates}
 use Rattle.vx_left_images.specs.Lying.{LiesIn}
@@ -55,6 +58,31 @@ LoadedStartRuns see old new running =
     (contents : ℕ → Contents) → All (Holds contents) (still_pieces see old) →
     (bytes : Sectors) → AreSectorsOf good numbers contents bytes → IsSoundImage (image_of c good bytes v) →
     (plexes : List Word) → RunsAsVolume (image_of c good bytes v).plexes (volume_seen see running.volume) (volume_read plexes (image_of c good bytes v))
+
+-- Where it was never started: it runs as the volume of the first life over its bytes, ..
+abbrev pub FreshStartRuns : {P : Type 0} {ghosts : Ghosts P} → (P → Seen) → Public P ghosts → Public P ghosts → Running P ghosts → Type 0
+FreshStartRuns see old new running =
+    (c : Config) (good : ℕ) (v : Vol) (numbers : List ℕ) → IsVolOf c v → v.state ≡ vol.Empty → IsFormOf c good v true running.form → IsStarted see v numbers old new running →
+    (contents : ℕ → Contents) → All (Holds contents) (still_pieces see old) →
+    (bytes : Sectors) → AreSectorsOf good numbers contents bytes →
+    (plexes : List Word) → RunsAsVolume (image_of c good bytes v).plexes (volume_seen see running.volume) (volume_first plexes (image_of c good bytes v))
+
+-- .. and as that volume with nothing sure of plexes that are written to: before they are copied each but the lowest differs everywhere.
+abbrev pub FreshStartForgets : {P : Type 0} {ghosts : Ghosts P} → (P → Seen) → Public P ghosts → Public P ghosts → Running P ghosts → Type 0
+FreshStartForgets see old new running =
+    (c : Config) (good : ℕ) (v : Vol) (numbers : List ℕ) → IsVolOf c v → v.state ≡ vol.Empty → IsFormOf c good v true running.form → IsStarted see v numbers old new running →
+    (contents : ℕ → Contents) → All (Holds contents) (still_pieces see old) →
+    (bytes : Sectors) → AreSectorsOf good numbers contents bytes →
+    (plexes : List Word) (owners : Word → TrackOwner) → OwnersFit (image_of c good bytes v).plexes (volume_seen see running.volume) owners →
+    RunsAsVolume (image_of c good bytes v).plexes (volume_seen see running.volume) (unsure owners (volume_first plexes (image_of c good bytes v)))
+    × IsSureOfOthers (image_of c good bytes v).plexes (volume_seen see running.volume) (unsure owners (volume_first plexes (image_of c good bytes v)))
+
+-- As a volume starts, by whichever form, its plexes are written to just where they are available: so owners by their names fit that say so.
+abbrev pub StartFits : {P : Type 0} {ghosts : Ghosts P} → (P → Seen) → Public P ghosts → Public P ghosts → Running P ghosts → Type 0
+StartFits see old new running =
+    (c : Config) (good : ℕ) (v : Vol) (fresh : Bool) (numbers : List ℕ) → IsVolOf c v → IsFormOf c good v fresh running.form → IsStarted see v numbers old new running →
+    (bytes : Sectors) (owners : Word → TrackOwner) → ((p : PlexImage) → Contains (image_of c good bytes v).plexes p → (owners p.name).available ≡ is_available p) →
+    OwnersFit (image_of c good bytes v).plexes (volume_seen see running.volume) owners
 
 -- A volume that runs does so by each configuration of which states have changed, and of which disks have failed.
 abbrev pub EachRecordedVolumeRuns : {P : Type 0} {ghosts : Ghosts P} → (P → Seen) → Running P ghosts → Type 0

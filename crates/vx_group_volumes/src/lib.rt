@@ -1,13 +1,14 @@
 //! A volume of an imported group from its start to its leaving: laws, as functions that do nothing and promise them.
 #![tactic(auto)]
 
-ghost use Rattle.vx_group_volumes.specs.Laws.{CopiesGoOn, EachLeavingStandsFor, EachRecordedVolumeRuns, EachStartChangesStates, EachStopChangesStates, LoadedStartRuns, RestGoesOn, StartRuns};
+ghost use Rattle.vx_group_volumes.specs.Laws.{CopiesGoOn, EachLeavingStandsFor, EachRecordedVolumeRuns, EachStartChangesStates, EachStopChangesStates, FreshStartForgets, FreshStartRuns, LoadedStartRuns, RestGoesOn, StartFits, StartRuns};
 
 use vx_piece::Piece;
 use vx_running::{Public, Running};
 use vx_state_edits::laws::each_change_restates;
 use vx_volume::Volume;
-use vx_volume_lives::laws::{each_left_volume_stands, each_opening_runs};
+use vx_volume_laws::each_empty_begins;
+use vx_volume_lives::laws::{each_left_volume_stands, each_opening_runs, each_running_forgets};
 
 /// A volume that was started is one of its group that runs, by each configuration that records it as started.
 pub fn each_started_volume_runs<P: Piece + Drop>(
@@ -16,6 +17,19 @@ pub fn each_started_volume_runs<P: Piece + Drop>(
     running: &Running<P>,
 )
     ensures { StartRuns P.seen old.now new.now running.now }
+{
+    let _ = old;
+    let _ = new;
+    let _ = running;
+}
+
+/// As it starts its data plexes are written to just where they are available.
+pub fn each_started_volume_fits<P: Piece + Drop>(
+    old: &Public<P>,
+    new: &Public<P>,
+    running: &Running<P>,
+)
+    ensures { StartFits P.seen old.now new.now running.now }
 {
     let _ = old;
     let _ = new;
@@ -31,6 +45,24 @@ pub fn each_loaded_start_runs<P: Piece + Drop>(
     ensures { LoadedStartRuns P.seen old.now new.now running.now }
 {
     each_opening_runs();
+    let _ = old;
+    let _ = new;
+    let _ = running;
+}
+
+/// Where it was never started it runs as the volume of the world whose first life begins over its bytes, of which nothing need be sure
+/// of a plex that is written to.
+pub fn each_fresh_start_runs<P: Piece + Drop>(
+    old: &Public<P>,
+    new: &Public<P>,
+    running: &Running<P>,
+)
+    ensures runs { FreshStartRuns P.seen old.now new.now running.now }
+    ensures forgets { FreshStartForgets P.seen old.now new.now running.now }
+{
+    each_empty_begins();
+    each_opening_runs();
+    each_running_forgets();
     let _ = old;
     let _ = new;
     let _ = running;

@@ -74,6 +74,10 @@ not_equal : (key other : Word) → slice_cmp nat_cmp key other ≡ Less → byte
 not_equal key other less = sym (is_eq-slice_cmp key other) ∙ ap is_eq less
 
 -- each entry is found under its key
+-- the first is found by its own name
+pub found_first : {X : Type 0} (e : Word × X) (es : List (Word × X)) → found_in (e ∷ es) e.0 ≡ Some e.1
+found_first e es = cond-true _ _ _ (is_eq-slice_cmp e.0 e.0 ∙ bytes_eq_self e.0)
+
 pub found_each : {X : Type 0} (es : List (Word × X)) → IsStrictlySortedBy (slice_cmp nat_cmp) (keys_of es) → AllOf (λ e. found_in es e.0 ≡ Some e.1) es
 unfolding IsStrictlySortedBy
 found_each [] ordered = tt

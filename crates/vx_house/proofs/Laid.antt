@@ -1,7 +1,6 @@
 -- The volumes of a group are laid down: its devices are what they were.
-use Rattle.std.proofs.Common.{◌≡◌, ◌∙◌, ℕ, Bool, true, false, ◌&&◌, List, [], ◌∷◌, ◌++◌, map, length, Option, Some, None, refl, sym, ap, subst}
-use Rattle.std.specs.Prelude.{is_some, ◌==◌}
-use Rattle.std.proofs.lemmas.Bool.{eqb-true}
+use Rattle.std.proofs.Common.{◌≡◌, ◌∙◌, ℕ, List, [], ◌∷◌, ◌++◌, map, Option, Some, None, refl, sym, ap, subst}
+use Rattle.std.specs.Prelude.{is_some}
 use Rattle.std.proofs.lemmas.List.{append-nil}
 use Rattle.vx_pages.specs.declared.local_piece.LocalPiece.{Ghosts}
 use Rattle.vx_piece.specs.Seen.{Seen}
@@ -18,7 +17,7 @@ use Rattle.vx_fronts.proofs.Joined.{parts_once}
 use Rattle.vx_fronts.proofs.Parted.{parted_once, parted_stay}
 use Rattle.vx_running.specs.Public.{lent_pieces, still_pieces}
 use Rattle.vx_house.specs.Holders.{group_holders, holder_in}
-use Rattle.vx_house.specs.View.{IsGroupIdle, IsGroupParted}
+use Rattle.vx_house.specs.View.{IsGroupParted}
 use Rattle.vx_house.specs.declared.house.Imported.{Imported}
 use Rattle.vx_house.proofs.Joined.{same_whole}
 
@@ -54,27 +53,3 @@ module _ {P : Type 0} {ghosts : Ghosts P} (see : P → Seen) (alike : (p q : P) 
       ∙ ap (map holder_in) (same_whole see alike (rests_of behind []) (rests_of behind' []) old.base.disks.items old.base.disks.items
       (untold_each (rests_of behind []) (rests_of behind' []) (rests_counted behind behind' [] (subst (All HasSome) (sym (append-nil behind)) parted.some) together) hs)
       (λ tells. ap (λ r. whole_disks r hs) (rests_stay behind behind' [] (subst (All HasSome) (sym (append-nil behind)) parted.some) (parts_once (fronts_of hs) behind (parted_once hs behind parted)).1 (parted.tell tells) together)))
-
--- ---- what is asked first
-
-both : (a b : Bool) → (a && b) ≡ true → (a ≡ true) × (b ≡ true)
-both true true e = (refl, refl)
-both true false e = cc
-both false b e = cc
-
-empty : {X : Type 0} (xs : List X) → (length xs == 0) ≡ true → xs ≡ []
-empty [] e = refl
-empty (x ∷ xs) e = let no : length (x ∷ xs) ≡ 0 = eqb-true (length (x ∷ xs)) 0 e in cc
-
-module _ {P : Type 0} {ghosts : Ghosts P} (g : Imported P ghosts) (b : Bool) (is : b ≡ (length g.public.running.entries == 0 && (length g.public.stuck.items == 0 && length g.public.left.items == 0))) where
-  pub idle_there : b ≡ true → IsGroupIdle g
-  idle_there e =
-      let one = both _ _ (sym is ∙ e) in
-      let two = both _ _ one.1 in
-      record { running = empty g.public.running.entries one.0; left = empty g.public.left.items two.1; stuck = empty g.public.stuck.items two.0 }
-
-  pub busy_there : {R : Type 0} → b ≡ false → IsGroupIdle g → R
-  busy_there e idle =
-      let all : b ≡ true = is ∙ ap (λ xs. length xs == 0 && (length g.public.stuck.items == 0 && length g.public.left.items == 0)) idle.running
-      ∙ ap (λ xs. length xs == 0 && length g.public.left.items == 0) idle.stuck ∙ ap (λ xs. length xs == 0) idle.left in
-      let no : ⊥ = cc in absurd no

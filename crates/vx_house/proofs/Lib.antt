@@ -13,6 +13,7 @@ pub mod Takes
 pub mod Returns
 pub mod Leaves
 pub mod Runs
+pub mod Recorded
 pub mod Stands
 pub mod Laid
 pub mod AfterLoss

@@ -1,41 +1,43 @@
 -- Running volumes of a group: none run, or those that did.
-use Rattle.std.proofs.Common.{◌≡◌, ◌∙◌, Option, Some, None, MatchOption, [], refl, sym, ap, subst}
-use Rattle.std.specs.Prelude.{List, IfSome}
+use Rattle.std.proofs.Common.{◌≡◌, ◌∙◌, true, false, Option, Some, None, MatchOption, [], ◌∷◌, refl, sym, ap, subst}
+use Rattle.std.specs.Prelude.{List, IfSome, is_some}
 use Rattle.vx_pages.specs.declared.local_piece.LocalPiece.{Ghosts}
 use Rattle.vx_base.specs.Named.{Word}
 use Rattle.vx_piece.specs.Seen.{Seen}
 use Rattle.vx_copies.specs.Disks.{DiskSeen}
-use Rattle.vx_moments.specs.Leaving.{grouped, lone}
+use Rattle.vx_moments.specs.Leaving.{grouped, grouped_by, lone, lone_by}
 use Rattle.vx_moments.proofs.Lone.{lone_all}
-use Rattle.vx_moments.specs.World.{Volume, Group, World}
+use Rattle.vx_moments.specs.World.{Volume, Group, World, Lies, OnDevice, OnPlexes}
 use Rattle.vx_running.specs.declared.public.Running.{Running}
 use Rattle.vx_house.specs.Runs.{AreRuns, IsAtRun, fronts_in, run_in}
+use Rattle.vx_started.specs.declared.started.Started.{Started}
 use Rattle.vx_house.specs.Holders.{volume_at}
-use Rattle.vx_house.specs.View.{IsAtVolume, IsGroupIdle, IsGroupKept, KeepsHouse}
+use Rattle.vx_house.specs.Plain.{plain, told_volume}
+use Rattle.vx_house.specs.View.{IsAtVolume, IsGroupIdle, RunsNone}
 use Rattle.vx_house.specs.declared.house.House.{House}
 use Rattle.vx_house.specs.declared.house.Imported.{Imported}
-use Rattle.vx_house.proofs.AllLaws.{found_in}
+use Rattle.vx_house.proofs.AllLaws.{found_first, found_in}
 
 module _ {P : Type 0} {ghosts : Ghosts P} (see : P → Seen) where
   -- an idle group has no running volume
   pub idle_runs : (g : Imported P ghosts) → IsGroupIdle g → (name : Word) → run_in (Some g) name ≡ None
   idle_runs g idle name = ap (λ es. found_in es name) idle.running
 
-  pub none_run : (o : Option (Imported P ghosts)) → IfSome o (IsGroupKept see) → (name : Word) → run_in o name ≡ None
-  none_run None kept name = refl
-  none_run (Some g) kept name = idle_runs g kept.idle name
+  -- where none is found by its name, there is none
+  pub none_entries : (es : List (Word × Running P ghosts)) → ((name : Word) → found_in es name ≡ None) → es ≡ []
+  none_entries [] none = refl
+  none_entries (e ∷ es) none = absurd (no (found_first e es) (none e.0))
+    where
+      no : {X : Type 0} {o : Option X} {x : X} → o ≡ Some x → o ≡ None → ⊥
+      no is gone = cc
 
-  pub idle_none : (o : Option (Imported P ghosts)) → IfSome o IsGroupIdle → (name : Word) → run_in o name ≡ None
-  idle_none None idle name = refl
-  idle_none (Some g) idle name = idle_runs g idle name
+  pub none_runs_in : (o : Option (Imported P ghosts)) → ((name : Word) → run_in o name ≡ None) → IfSome o RunsNone
+  none_runs_in None none = tt
+  none_runs_in (Some g) none = none_entries g.public.running.entries none
 
-  pub idle_kept : (o : Option (Imported P ghosts)) → IfSome o (IsGroupKept see) → IfSome o IsGroupIdle
-  idle_kept None kept = tt
-  idle_kept (Some g) kept = kept.idle
-
-  -- a group is as idle as one with the same pieces behind its fronts
-  pub idle_same : (g g' : Imported P ghosts) → g'.public ≡ g.public → IsGroupIdle g → IsGroupIdle g'
-  idle_same g g' same idle = record { running = ap (λ p. p.running.entries) same ∙ idle.running; left = ap (λ p. p.left.items) same ∙ idle.left; stuck = ap (λ p. p.stuck.items) same ∙ idle.stuck }
+  pub none_found : (o : Option (Imported P ghosts)) → IfSome o RunsNone → (name : Word) → run_in o name ≡ None
+  none_found None none name = refl
+  none_found (Some g) none name = ap (λ es. found_in es name) none
 
   -- where none runs here, none does there
   pub none_there : (hs : List DiskSeen) (g : Option Group) (name : Word) (r : Option (Running P ghosts)) (w : Option Volume) → r ≡ None → IsAtRun see hs g name r w → w ≡ None
@@ -59,5 +61,22 @@ module _ {P : Type 0} {ghosts : Ghosts P} (see : P → Seen) where
   pub all_alone : (h : House P ghosts) (w : World) → ((name : Word) → run_in h.group name ≡ None) → ((vol : Word) → IsAtVolume see (volume_at h vol) (lone (w.volumes vol))) → AreRuns see h.group w.group w.volumes → (vol : Word) → IsAtVolume see (volume_at h vol) (w.volumes vol)
   all_alone h w none volumes runs vol = subst (IsAtVolume see (volume_at h vol)) (lone_all (w.volumes vol) (none_grouped h.group w.group w.volumes none runs vol)) (volumes vol)
 
-  pub kept_alone : (h : House P ghosts) (w : World) → KeepsHouse see h → ((vol : Word) → IsAtVolume see (volume_at h vol) (lone (w.volumes vol))) → AreRuns see h.group w.group w.volumes → (vol : Word) → IsAtVolume see (volume_at h vol) (w.volumes vol)
-  kept_alone h w keeps volumes runs vol = all_alone h w (none_run h.group keeps.group) volumes runs vol
+  -- a volume is started just where the house tells so
+  pub told_same : (hs : List DiskSeen) (g : Option Group) (name : Word) (b : Option (Started P)) (r : Option (Running P ghosts)) (v : Option Volume) → IsAtVolume see b (lone v) → IsAtRun see hs g name r (grouped v) → is_some v ≡ is_some (told_volume b r)
+  told_same hs g name b r None at run = by b r at run
+    where
+      by : (b : Option (Started P)) (r : Option (Running P ghosts)) → IsAtVolume see b None → IsAtRun see hs g name r None → false ≡ is_some (told_volume b r)
+      by None None at run = refl
+      by None (Some r) at run = absurd run
+      by (Some b) r at run = absurd at
+  told_same hs g name b r (Some w) at run = by w.lies b r at run
+    where
+      by : (lies : Lies) (b : Option (Started P)) (r : Option (Running P ghosts)) → IsAtVolume see b (lone_by lies w) → IsAtRun see hs g name r (grouped_by lies w) → true ≡ is_some (told_volume b r)
+      by (OnDevice device) None r at run = absurd at
+      by (OnDevice device) (Some b) r at run = refl
+      by (OnPlexes plexes) None None at run = absurd run
+      by (OnPlexes plexes) None (Some r) at run = refl
+      by (OnPlexes plexes) (Some b) r at run = absurd at
+
+  pub started_same : (h : House P ghosts) (w : World) → ((vol : Word) → IsAtVolume see (volume_at h vol) (lone (w.volumes vol))) → AreRuns see h.group w.group w.volumes → (vol : Word) → is_some (w.volumes vol) ≡ is_some ((plain see h).volumes vol)
+  started_same h w volumes runs vol = told_same (fronts_in see h.group) w.group vol (volume_at h vol) (run_in h.group vol) (w.volumes vol) (volumes vol) (runs vol)

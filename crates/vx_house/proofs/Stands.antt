@@ -47,7 +47,8 @@ use Rattle.vx_moments.specs.Moment.{Moment}
 use Rattle.vx_moments.specs.World.{Device, Group, Member, Volume, World}
 use Rattle.vx_house.specs.Holders.{Holder, group_holders, group_rests, hand_holder, held_as, holder_in, holders, volume_holder, whole_members}
 use Rattle.vx_house.specs.Leaves.{StandsAt}
-use Rattle.vx_house.specs.Runs.{IsAtRun, IsRunOf, device_at, fronts_in, run_in}
+use Rattle.vx_group_images.specs.Owners.{device_at}
+use Rattle.vx_house.specs.Runs.{IsAtRun, IsRunOf, fronts_in, run_in}
 use Rattle.vx_house.specs.Scene.{seen_in, seen_at}
 use Rattle.vx_house.specs.View.{View, scene, is_lent, IsDeviceOf, IsGroupWhole, IsMomentButGroup, KeepsButGroup}
 use Rattle.vx_house.specs.declared.house.House.{House}
@@ -170,11 +171,12 @@ module _ {P : Type 0} {ghosts : Ghosts P} (see : P → Seen) (law : EachLeavingS
               ∙ at_disk (λ h. (k : ℕ) → public_of (devices h.device) k ≡ held h.seen.device (2048 + k)) hs n.disk public n.there place.sector
               ∙ ap (λ number. held number (2048 + place.sector)) (sym n.number)
 
-      stands_by : StandsForVolume (image_of w.config w.good meant is.of) run
-      stands_by = leaving_stands see r w.config w.good is.numbers is.of is.runs law is.started is.plexes run is.runs_as is.sure held (hold_run name r here) meant meant_good (is.plexes_of meant)
+      module _ (known : run.sound ≡ true) where
+        stands_by : StandsForVolume (image_of w.config w.good meant is.of) run
+        stands_by = leaving_stands see r w.config w.good is.numbers is.of is.placed.runs law is.started is.plexes run (is.runs_as known) (is.sure known) held (hold_run name r here) meant meant_good (is.plexes_of meant)
 
-      pub stands_now : StandsForVolume (image_on devices w is.of) run
-      stands_now = subst (λ i. StandsForVolume i run) (sym (image_own w.config w.good is.of meant (sectors_of devices w.members) same_inside)) stands_by
+        pub stands_now : StandsForVolume (image_on devices w is.of) run
+        stands_now = subst (λ i. StandsForVolume i run) (sym (image_own w.config w.good is.of meant (sectors_of devices w.members) same_inside)) stands_by
 
 -- ---- a moment
 
@@ -244,7 +246,7 @@ module _ {P : Type 0} {ghosts : Ghosts P} (see : P → Seen) (law : EachLeavingS
       by_house w in_world name run o e None here at = absurd at
       by_house w in_world name run (Some g) e (Some r) here at = record {
         of = at.of;
-        recorded = recorded_vol w.config at.of at.runs.recorded;
+        recorded = recorded_vol w.config at.of at.placed.runs.recorded;
         named = at.named;
         stands = stands_now see law ends counts g (parted_there g e) (tells_there g e) m.world.devices (public_there g e) w name r run at here;
       }

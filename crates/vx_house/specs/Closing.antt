@@ -7,7 +7,7 @@ use Rattle.vx_shelf.specs.Shelf.{Held}
 use Rattle.vx_house.specs.Holders.{Holder, AreHeld, volume_holder, group_holders, hand_holder}
 use Rattle.vx_house.specs.Scene.{Shelved}
 use Rattle.vx_house.specs.Unmoved.{Unmoved}
-use Rattle.vx_house.specs.View.{HasDisk, IsGroupIdle, IsGroupWhole, group_of}
+use Rattle.vx_house.specs.View.{HasDisk, IsGroupWhole, RunsNone, group_of}
 use Rattle.vx_house.specs.declared.house.House.{House}
 
 -- nobody holds a device of the shelf
@@ -40,7 +40,7 @@ pub record KeepsGroup {P : Type 0} {ghosts : Ghosts P} (see : P → Seen) (house
   pub group : group_of see left.group ≡ group_of see house.group
   pub whole : IfSome left.group (IsGroupWhole see)
   pub disks : IfSome left.group HasDisk
-  pub idle : IfSome house.group IsGroupIdle → IfSome left.group IsGroupIdle
+  pub none : IfSome house.group RunsNone → IfSome left.group RunsNone
   pub volumes : left.volumes ≡ house.volumes
   pub hand : left.hand ≡ house.hand
 

@@ -11,6 +11,7 @@ use Rattle.vx_moments.specs.Moment.{Moment, AreLater}
 use Rattle.vx_plans.specs.Records.{devices_of}
 use Rattle.vx_plans.specs.Stages.{IsDone, Stops}
 use Rattle.vx_plans.specs.Tests.{fails}
+use Rattle.vx_plans.specs.declared.stage.Change.TheVariants as changes
 use Rattle.vx_plans.specs.declared.stage.Stage.{Stage}
 use Rattle.vx_plans.specs.declared.stage.Stage.TheVariants as stage
 use Rattle.vx_plans.specs.declared.test.Test.TheVariants as tests
@@ -93,12 +94,13 @@ wanted (stage.Search dg) = stage.TakeDisks ∷ []
 wanted (stage.MakeImage name sectors) = []
 wanted (stage.Wipe name) = stage.Take name ∷ []
 wanted (stage.StartBare vol name) = stage.Take name ∷ stage.Gate (tests.Sized name) ∷ []
-wanted (stage.Change change) = []
+wanted (stage.Change (changes.Policy vol policy)) = []
+wanted (stage.Change (changes.Remove vol)) = stage.Gate (tests.HasVolume vol) ∷ stage.Gate (tests.Stopped vol) ∷ []
 wanted (stage.Make text) = []
 wanted stage.Join = stage.TakeDisks ∷ stage.LookDisks ∷ stage.Gate tests.JoinLimits ∷ []
 wanted (stage.Create dg) = stage.TakeDisks ∷ stage.LookDisks ∷ stage.Gate (tests.GroupLimits dg) ∷ stage.Gate (tests.GroupRecords dg) ∷ []
 wanted (stage.Import dg) = []
-wanted stage.LetGo = []
+wanted stage.LetGo = stage.Gate tests.NoneStarted ∷ []
 
 -- the stage takes devices into an empty hand
 abbrev pub is_first : Stage → Bool

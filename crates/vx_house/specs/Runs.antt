@@ -1,5 +1,5 @@
 -- The running volumes of the imported group, as the world has them.
-use Rattle.std.specs.Prelude.{◌≡◌, ℕ, ◌==◌, true, if◌then◌else◌, List, [], ◌∷◌, ◌++◌, map, slice_index, Option, Some, None}
+use Rattle.std.specs.Prelude.{◌≡◌, ℕ, true, List, [], slice_index, Option, Some, None}
 use Rattle.vx_pages.specs.declared.local_piece.LocalPiece.{Ghosts}
 use Rattle.vx_base.specs.Named.{Word}
 use Rattle.vx_piece.specs.Seen.{Seen}
@@ -12,21 +12,18 @@ use Rattle.vx_image.specs.Own.{IsOfVolume}
 use Rattle.vx_confdb.specs.Groups.{members}
 use Rattle.vx_image.specs.Bytes.{Sectors, image_of}
 use Rattle.vx_image.specs.Image.{PlexImage, WasStarted}
+use Rattle.vx_group_images.specs.Owners.{device_at}
 use Rattle.vx_moments.specs.Leaving.{grouped}
 use Rattle.vx_moments.specs.World.{Member, Volume, Group, OnPlexes}
 use Rattle.vx_volume.specs.Volume.{volume_seen}
-use Rattle.vx_volume_form.specs.Plexes.{held_plexes, used_logs}
 use Rattle.vx_volume_lives.specs.Leaving.{AreNamedIn}
 use Rattle.vx_volume_lives.specs.Running.{IsSureOfOthers, RunsAsVolume}
 use Rattle.vx_running.specs.declared.public.Running.{Running}
 use Rattle.vx_running.specs.Public.{running_at}
-use Rattle.vx_group_volumes.specs.Runs.{Opening, RunsIn}
+use Rattle.vx_carve.specs.Carved.{HaveNumbers}
+use Rattle.vx_own_sectors.specs.Places.{IsSlotOf, RunsInPlace, disks_at}
+use Rattle.vx_called_plexes.specs.Opened.{opened_plexes}
 use Rattle.vx_house.specs.declared.house.Imported.{Imported}
-
--- the device of the first member with the slot
-abbrev pub device_at : List Member → ℕ → Option Word
-device_at [] slot = None
-device_at (m ∷ ms) slot = if m.slot == slot then Some m.device else device_at ms slot
 
 -- the member of a slot is one of these disks, and the number that is given of the slot is that of its device
 pub record IsNumbered (numbers : List ℕ) (hs : List DiskSeen) (members : List Member) (slot : ℕ) : Type 0 where
@@ -35,25 +32,26 @@ pub record IsNumbered (numbers : List ℕ) (hs : List DiskSeen) (members : List 
   pub device : device_at members slot ≡ Some disk.device
   pub number : slice_index numbers slot ≡ disk.seen.device
 
--- the plexes whose pieces a volume was opened with: data plexes, and then those of its log
-abbrev pub opened_plexes : Opening → List Word
-opened_plexes o = map (λ p. p.name) (held_plexes o.config o.good o.vol.name) ++ map (λ p. p.name) (used_logs o.vol.dco o.config o.good o.fresh o.vol.name)
-
--- The volume of the name runs: the group records it as started, it lies on the plexes that it was opened with, and runs as the one of the
--- world. The good disks that its plexes lie on are the group's, by the numbers of their devices. Nothing is sure of plexes that are
--- written to.
+-- The volume of the name runs: the group records it as started, its plexes lie where they lay as it was opened, and it lies on those that it
+-- was opened with. The disks that were good then are the group's, by the numbers of their devices, and so are the good ones that its plexes
+-- lie on. Where its bytes were sound as it began, it runs as the one of the world, and nothing is sure of plexes that are written to.
 pub record IsRunOf {P : Type 0} {ghosts : Ghosts P} (see : P → Seen) (hs : List DiskSeen) (g : Group) (name : Word) (r : Running P ghosts) (w : Volume) : Type 0 where
   pub of : Vol
   pub named : of.name ≡ name
   pub started : WasStarted of.state
   pub numbers : List ℕ
-  pub runs : RunsIn see g.config g.good numbers of r
+  pub own : HaveNumbers numbers
+  pub placed : RunsInPlace see g.config g.good numbers of r
+  pub opened : (slot : ℕ) → IsSlotOf (disks_at placed.runs.opening) slot → IsNumbered numbers hs g.members slot
   pub numbered : (place : Place) → IsOfVolume g.config of.name place → has g.good place.disk ≡ true → IsNumbered numbers hs g.members place.disk
-  pub lies : w.lies ≡ OnPlexes (opened_plexes runs.opening)
+  pub lies : w.lies ≡ OnPlexes (opened_plexes placed.runs.opening)
+  pub length_is : w.length ≡ of.len
+  pub region_is : w.region ≡ of.region
   pub plexes : List PlexImage
   pub plexes_of : (bytes : Sectors) → AreNamedIn (image_of g.config g.good bytes of).plexes plexes
-  pub runs_as : RunsAsVolume plexes (volume_seen see r.volume) w
-  pub sure : IsSureOfOthers plexes (volume_seen see r.volume) w
+  pub plexes_then : (bytes : Sectors) → AreNamedIn plexes (image_of placed.runs.opening.config placed.runs.opening.good bytes placed.runs.opening.vol).plexes
+  pub runs_as : w.sound ≡ true → RunsAsVolume plexes (volume_seen see r.volume) w
+  pub sure : w.sound ≡ true → IsSureOfOthers plexes (volume_seen see r.volume) w
 
 -- no volume of the name runs, neither here nor there; or this one of an imported group does
 abbrev pub IsAtRun : {P : Type 0} {ghosts : Ghosts P} → (P → Seen) → List DiskSeen → Option Group → Word → Option (Running P ghosts) → Option Volume → Type 0

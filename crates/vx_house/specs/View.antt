@@ -103,6 +103,10 @@ AreSized hs = AllOf (λ h. h.seen.sectors ≡ h.sectors) hs
 abbrev pub IsGroupParted : {P : Type 0} {ghosts : Ghosts P} → (P → Seen) → Imported P ghosts → Type 0
 IsGroupParted see g = AreParted (members see g.base) (still_pieces see g.public ++ lent_pieces see g.public)
 
+-- no volume of the group runs
+abbrev pub RunsNone : {P : Type 0} {ghosts : Ghosts P} → Imported P ghosts → Type 0
+RunsNone g = g.public.running.entries ≡ []
+
 -- no volume of the group runs, and no pieces of one are left over
 pub record IsGroupIdle {P : Type 0} {ghosts : Ghosts P} (g : Imported P ghosts) : Type 0 where
   pub running : g.public.running.entries ≡ []
@@ -138,8 +142,6 @@ pub record IsGroupKept {P : Type 0} {ghosts : Ghosts P} (see : P → Seen) (g : 
   pub slots : HaveSlots g.base.disks.items
   pub recorded : AreRecorded g.config g.base.disks.items
   pub whole : IsGroupWhole see g
-  -- no command starts a volume yet
-  pub idle : IsGroupIdle g
 
 -- What a house keeps: its volumes stand in the order of their names, its devices have their sizes, and its group carries its text.
 pub record KeepsHouse {P : Type 0} {ghosts : Ghosts P} (see : P → Seen) (h : House P ghosts) : Type 0 where

@@ -1,5 +1,5 @@
 //! Devices that go back to the shelf, without a device call.
-ghost use Rattle.std.specs.Prelude.{◌≡◌, ◌∷◌, ◌==◌, ◌&&◌, [], Some, is_some, length, map, IfSome, OnOk, OnErr};
+ghost use Rattle.std.specs.Prelude.{◌≡◌, ◌∷◌, [], Some, is_some, map, IfSome, OnOk, OnErr};
 ghost use Rattle.vx_base.specs.Named.{Word};
 ghost use Rattle.vx_copies.specs.Lists.{AllOf};
 ghost use Rattle.vx_shelf.specs.Shelf.{IsWhole, IsOut, IsGiven};
@@ -15,7 +15,6 @@ use vx_copies::Disk;
 use vx_fronts::close_group;
 use vx_group_start::lay_down;
 use vx_piece::Piece;
-use vx_running::Public;
 use vx_shelf::Shelf;
 use vx_started::Started;
 
@@ -76,7 +75,7 @@ fn close<P: Piece + Drop>(alloc: Global, group: &mut Imported<P>) -> Result<(), 
     ensures group { OnErr result (group_of P.seen (Some group.new) ≡ group_of P.seen (Some group.old)) }
     ensures whole { OnErr result (IsGroupWhole P.seen group.new) }
     ensures disks { OnErr result (HasDisk group.new) }
-    ensures idle { OnErr result (IsGroupIdle group.old → IsGroupIdle group.new) }
+    ensures none { OnErr result (group.old.public.running.entries ≡ [] → group.new.public.running.entries ≡ []) }
 {
     if group.base.disks().is_empty() {
         return Ok(());
@@ -93,19 +92,9 @@ fn lay<P: Piece + Drop>(alloc: Global, group: &mut Imported<P>) -> Result<(), Ou
     ensures same { group_holders P.seen (Some group.new) ≡ group_holders P.seen (Some group.old) }
     ensures whole { IsGroupWhole P.seen group.new }
     ensures idle { OnOk result (IsGroupIdle group.new) }
-    ensures stays { IsGroupIdle group.old → IsGroupIdle group.new }
+    ensures none { group.old.public.running.entries ≡ [] → group.new.public.running.entries ≡ [] }
 {
-    if is_idle(&group.public) {
-        return Ok(());
-    }
     lay_down(alloc, &mut group.public)
-}
-
-/// No volume runs, and nothing is left of any.
-fn is_idle<P: Piece>(public: &Public<P>) -> bool
-    ensures { result ≡ (length public.now.running.entries == 0 && (length public.now.stuck.items == 0 && length public.now.left.items == 0)) }
-{
-    public.running.is_empty() && public.stuck.is_empty() && public.left.is_empty()
 }
 
 /// Joins the devices of a group of which no volume runs.

@@ -1,4 +1,7 @@
+pub mod Choices
 mod Counts
+pub mod Decided
+mod Deciding
 pub mod Imports
 pub mod Members
 pub mod Own

@@ -1,5 +1,6 @@
 pub mod Bytes
 pub mod Counts
+pub mod Deciding
 pub mod Image
 pub mod Import
 pub mod Meaning

@@ -3,6 +3,7 @@
 #![tactic(auto)]
 
 ghost use Rattle.vx_image.specs.Counts.{EachCountFits};
+ghost use Rattle.vx_image.specs.Deciding.{EachImageIsSoundOrNot};
 ghost use Rattle.vx_image.specs.Import.{EachImportIsSound, EachImportStands};
 ghost use Rattle.vx_image.specs.Meaning.{EachImageStandsForItself, EachReadingIsWithin};
 ghost use Rattle.vx_image.specs.Own.{EachImageIsItsOwn};
@@ -27,4 +28,9 @@ pub fn each_import_stands()
 /// What a recovery counts by the marks of one copy is what may be told.
 pub fn each_count_fits()
     ensures { EachCountFits }
+{}
+
+/// An image is sound, or it is not.
+pub fn each_image_is_sound_or_not()
+    ensures { EachImageIsSoundOrNot }
 {}

@@ -28,9 +28,9 @@ counted true e last region es is counts =
 counted false e last region es is counts = counts
 
 -- the life goes on by one entry
-pub next_history : (first : Contents) (life : Life) (e : Entry) → HasHistory first life → IsNext life e → HasHistory first (life_after e life)
+pub next_history : (first : Candidates) (life : Life) (e : Entry) → HasHistory first life → IsNext life e → HasHistory first (life_after e life)
 next_history first life e h next = record {
-  legal = (reads_as e.kind life.candidates (candidates_of (known first) life.entries) e h.now next.reads, h.legal);
+  legal = (reads_as e.kind life.candidates (candidates_of first life.entries) e h.now next.reads, h.legal);
   now = λ k. ap (λ o. cond (is_in e.start e.count k) (values_after e.kind (e.values k) o) o) (h.now k);
   numbers = λ region. by_region region (eqb region e.part.region) refl;
 }
@@ -41,11 +41,11 @@ next_history first life e h next = record {
         counted true e (life.last region) region life.entries (next.number ∙ ap (λ r. life.last r + 1) (sym same)) (h.numbers region)
     by_region region false is = h.numbers region
 
-pub goes_on_history : (first : Contents) (old new : Life) (es : List Entry) → HasHistory first old → GoesOn old es new → HasHistory first new
+pub goes_on_history : (first : Candidates) (old new : Life) (es : List Entry) → HasHistory first old → GoesOn old es new → HasHistory first new
 goes_on_history first old new [] h is = subst (λ l. HasHistory first l) (sym is) h
 goes_on_history first old new (e ∷ es) h goes = goes_on_history first (life_after e old) new es (next_history first old e h goes.0) goes.1
 
-pub fresh_history : (contents : Contents) → HasHistory contents (record { candidates = known contents; epoch = 0; last = λ _. 0; entries = [] })
+pub fresh_history : (contents : Contents) → HasHistory (known contents) (record { candidates = known contents; epoch = 0; last = λ _. 0; entries = [] })
 fresh_history contents = record { legal = tt; now = λ k. refl; numbers = λ region. refl }
 
 -- what a device held, by its name and its size

@@ -2,20 +2,26 @@
 use Rattle.std.proofs.Common.{◌≡◌, ◌&&◌, ℕ, ◌+◌, Bool, true, false, List, [], ◌∷◌, Option, Some, None, MatchOption, MatchBool, nat_lt, refl, sym, ◌∙◌, ap, subst, inl, inr}
 use Rattle.std.proofs.lemmas.Bool.{and_parts}
 use Rattle.vx_laws.proofs.Runs.{has_stopped, volumes_of}
-use Rattle.vx_base.specs.Named.{Word}
+use Rattle.vx_base.specs.Named.{Word, put}
 use Rattle.vx_script_words.specs.declared.value.DiskAt.{DiskAt}
 use Rattle.vx_script_forms.specs.declared.call.Call.{Call}
 use Rattle.vx_answers.specs.declared.answer.End.{End}
 use Rattle.vx_answers.specs.declared.answer.End.TheVariants as ends
 use Rattle.vx_answers.specs.declared.refusal.Refusal.TheVariants.{NotStarted, Range}
-use Rattle.vx_moments.specs.World.{World, Device, Volume}
+use Rattle.vx_moments.specs.World.{World, Device, Volume, Lies, OnDevice, OnPlexes}
+use Rattle.vx_group_images.specs.Owners.{owners_of}
+use Rattle.vx_group_images.specs.Tracks.{volume_failed}
+use Rattle.vx_group_images.proofs.Tracked.{goes_lies}
 use Rattle.vx_moments.specs.Moment.{Moment, Rests}
-use Rattle.vx_plans.specs.Calls.{CallRuns, IsServed, volume_of, start_of, count_of}
+use Rattle.vx_plans.specs.Calls.{volume_of, start_of, count_of}
+use Rattle.vx_plans.specs.GroupCalls.{BecomesBy, IsServedOnPlexes, comes_next, is_known}
+use Rattle.vx_plans.specs.Serving.{CallRuns, ServesOn}
 use Rattle.vx_plans.specs.Stages.{IsDone, bare_volume}
 use Rattle.vx_plans.specs.declared.stage.Stage.{Stage}
 use Rattle.vx_plans.specs.declared.stage.Stage.TheVariants as stage
 use Rattle.vx_plans.proofs.Complete.{kept_world, keeps_world}
-use Rattle.vx_laws.specs.Histories.{IsHistoried, HaveHistories, WasThere}
+use Rattle.vx_life.specs.Candidates.{Candidates, known}
+use Rattle.vx_laws.specs.Histories.{HasHistory, IsHistoried, IsHistoriedOn, HaveHistories, WasThere}
 use Rattle.vx_laws.proofs.Lives.{Holding, fresh_history, put_history, goes_on_history, same_volumes, without_group, from_nothing}
 use Rattle.vx_base.specs.Blocks.{Contents}
 use Rattle.vx_script_forms.specs.declared.call.Call.TheVariants as said
@@ -48,7 +54,7 @@ module _ (Held : Holding) (old new : Moment) (all : HaveHistories Held old.world
   stage_kept (stage.Wipe name) disks there (has, calls) = as_was (ap (λ (w : World). w.volumes) has.is)
   stage_kept (stage.StartBare vol name) disks there (free, bare, counts) =
       let d = bare.device in
-      subst (HaveHistories Held) (sym bare.is) (put_history Held old.world vol (bare_volume name d) (name, refl, d.contents, there name d bare.was, fresh_history d.contents) all)
+      subst (HaveHistories Held) (sym bare.is) (put_history Held old.world vol (bare_volume name d) (d.contents, there name d bare.was, fresh_history d.contents) all)
   stage_kept (stage.Change change) disks there (x, writing, committed) = as_was committed.committing.volumes
   stage_kept (stage.Make text) disks there (x, writing, committed) = as_was committed.committing.volumes
   stage_kept stage.Join [] there is = absurd is
@@ -62,17 +68,37 @@ module _ (Held : Holding) (old new : Moment) (all : HaveHistories Held old.world
 -- ---- calls
 
 module _ (Held : Holding) (place : ℕ) (call : Call) (old new : Moment) (end : End) (all : HaveHistories Held old.world) where
-  call_served : (v : Volume) → old.world.volumes (volume_of call) ≡ Some v → IsServed place call v old end new → HaveHistories Held new.world
-  call_served v found served =
-      let own : IsHistoried Held v = all (volume_of call) v found in
-      let more = goes_on_history own.2 v.life served.life served.lives.entries own.4 served.lives.goes_on in
-      subst (HaveHistories Held) (sym served.world) (put_history Held old.world (volume_of call) (record v { life = served.life }) (own.0, own.1, own.2, own.3, more) all)
+  -- a volume on plexes has lived on, or nothing is known of it any more
+  plexes_served : (plexes : List Word) (v : Volume) → old.world.volumes (volume_of call) ≡ Some v → v.lies ≡ OnPlexes plexes → IsServedOnPlexes place call plexes v old end new → HaveHistories Held new.world
+  plexes_served plexes v found on served =
+      same_volumes Held (record old.world { volumes = put (volume_of call) (Some served.later) old.world.volumes }) new.world (ap (λ (w : World). w.volumes) served.world)
+      (put_history Held old.world (volume_of call) served.later (by (is_known place v) refl served.becomes) all)
+    where
+      own : v.sound ≡ true → (first : Candidates) × HasHistory first v.life
+      own = subst (λ l. IsHistoriedOn Held l v) on (all (volume_of call) v found)
 
-  at_range : (v : Volume) (b : Bool) → old.world.volumes (volume_of call) ≡ Some v → MatchBool b ((end ≡ ends.Refused Range) × Rests old new) (IsServed place call v old end new) → HaveHistories Held new.world
+      by : (known : Bool) → is_known place v ≡ known → BecomesBy known place call served.group plexes v old.counts new.counts end served.later → IsHistoried Held served.later
+      by true e lives =
+          let owners = owners_of served.group (volume_of call) plexes in
+          let lies : served.later.lies ≡ OnPlexes plexes = ap (λ (x : Volume). x.lies) lives.is ∙ goes_lies owners lives.entries (volume_failed owners lives.failed v) ∙ on in
+          let was = own (and_parts v.sound (comes_next place v.life) e).0 in
+          subst (λ l. IsHistoriedOn Held l served.later) (sym lies) (λ sound. (was.0, subst (HasHistory was.0) (sym (ap (λ (x : Volume). x.life) lives.is)) (goes_on_history was.0 v.life lives.life lives.entries was.1 lives.goes_on)))
+      by false e is =
+          let lies : served.later.lies ≡ OnPlexes plexes = ap (λ (x : Volume). x.lies) is ∙ on in
+          subst (λ l. IsHistoriedOn Held l served.later) (sym lies) (λ sound. absurd (let no : false ≡ true = sym (ap (λ (x : Volume). x.sound) is) ∙ sound in cc))
+
+  call_served : (v : Volume) → old.world.volumes (volume_of call) ≡ Some v → (lies : Lies) → v.lies ≡ lies → ServesOn lies place call v old end new → HaveHistories Held new.world
+  call_served v found (OnDevice device) on served =
+      let own : IsHistoriedOn Held (OnDevice device) v = subst (λ l. IsHistoriedOn Held l v) on (all (volume_of call) v found) in
+      let more = goes_on_history (known own.0) v.life served.life served.lives.entries own.2 served.lives.goes_on in
+      subst (HaveHistories Held) (sym served.world) (put_history Held old.world (volume_of call) (record v { life = served.life }) (subst (λ l. IsHistoriedOn Held l (let x : Volume = record v { life = served.life } in x)) (sym on) (own.0, own.1, more)) all)
+  call_served v found (OnPlexes plexes) on served = plexes_served plexes v found on served
+
+  at_range : (v : Volume) (b : Bool) → old.world.volumes (volume_of call) ≡ Some v → MatchBool b ((end ≡ ends.Refused Range) × Rests old new) (ServesOn v.lies place call v old end new) → HaveHistories Held new.world
   at_range v true found h = same Held old new all h.1.stays.world
-  at_range v false found h = call_served v found h
+  at_range v false found h = call_served v found v.lies refl h
 
-  at_volume : (o : Option Volume) → old.world.volumes (volume_of call) ≡ o → MatchOption o ((end ≡ ends.Refused (NotStarted (volume_of call))) × Rests old new) (λ v. MatchBool (nat_lt v.length (start_of call + count_of call)) ((end ≡ ends.Refused Range) × Rests old new) (IsServed place call v old end new)) → HaveHistories Held new.world
+  at_volume : (o : Option Volume) → old.world.volumes (volume_of call) ≡ o → MatchOption o ((end ≡ ends.Refused (NotStarted (volume_of call))) × Rests old new) (λ v. MatchBool (nat_lt v.length (start_of call + count_of call)) ((end ≡ ends.Refused Range) × Rests old new) (ServesOn v.lies place call v old end new)) → HaveHistories Held new.world
   at_volume None found h = same Held old new all h.1.stays.world
   at_volume (Some v) found h = at_range v (nat_lt v.length (start_of call + count_of call)) found h
 

@@ -1,15 +1,14 @@
 -- The history of each volume of a transcript.
-use Rattle.std.specs.Prelude.{◌≡◌, ℕ, ◌-◌, ◌<◌, ◌==◌, MatchBool, List, [], ◌∷◌, ◌++◌, Some, None}
+use Rattle.std.specs.Prelude.{◌≡◌, ℕ, ◌-◌, ◌<◌, ◌==◌, true, MatchBool, List, [], ◌∷◌, ◌++◌, Some, None}
 use Rattle.vx_base.specs.Blocks.{Contents}
 use Rattle.vx_base.specs.Named.{Word}
-use Rattle.vx_life.specs.Candidates.{known}
+use Rattle.vx_life.specs.Candidates.{Candidates, known}
 use Rattle.vx_life.specs.Entry.{Entry, candidates_of, IsHistory}
 use Rattle.vx_life.specs.Life.{Life}
 use Rattle.vx_script.specs.declared.command.Command.{Command}
 use Rattle.vx_answers.specs.declared.answer.Answer.{Answer}
-use Rattle.vx_moments.specs.World.{World, Volume}
+use Rattle.vx_moments.specs.World.{World, Volume, Lies, OnDevice, OnPlexes}
 use Rattle.vx_moments.specs.Moment.{Moment}
-use Rattle.vx_moments.specs.Holding.{HasDevice}
 use Rattle.vx_plans.specs.Steps.{IsTranscript}
 
 -- the numbers of the region's entries, the newest first, are n down to 1
@@ -17,10 +16,10 @@ abbrev pub CountsDown : ℕ → ℕ → List Entry → Type 0
 CountsDown region n [] = n ≡ 0
 CountsDown region n (e ∷ es) = MatchBool (region == e.part.region) ((e.part.number ≡ n) × (0 < n) × CountsDown region (n - 1) es) (CountsDown region n es)
 
--- the life's entries are a legal history from these blocks, its candidates are what they leave, and its numbers count
-pub record HasHistory (first : Contents) (life : Life) : Type 0 where
-  pub legal : IsHistory (known first) life.entries
-  pub now : (k : ℕ) → life.candidates k ≡ candidates_of (known first) life.entries k
+-- the life's entries are a legal history from these candidates, its candidates are what they leave, and its numbers count
+pub record HasHistory (first : Candidates) (life : Life) : Type 0 where
+  pub legal : IsHistory first life.entries
+  pub now : (k : ℕ) → life.candidates k ≡ candidates_of first life.entries k
   pub numbers : (region : ℕ) → CountsDown region (life.last region) life.entries
 
 -- before some command of the transcript a device of this name and size was there, and held these blocks
@@ -35,9 +34,15 @@ pub record WasThere (place : ℕ) (old : Moment) (commands : List Command) (answ
   pub transcript : IsTranscript place old before told moment
   pub here : moment.world.devices name ≡ Some (record { sectors = sectors; contents = blocks })
 
--- the volume lies on a device, and has a history from blocks that the device held
+-- A volume on a device has a history from blocks that the device held. One on plexes of the group has one where its bytes were sound as
+-- it began.
+abbrev pub IsHistoriedOn : (Word → ℕ → Contents → Type 0) → Lies → Volume → Type 0
+IsHistoriedOn Held (OnDevice name) v = (first : Contents) × Held name v.length first × HasHistory (known first) v.life
+IsHistoriedOn Held (OnPlexes plexes) v = v.sound ≡ true → (first : Candidates) × HasHistory first v.life
+
+-- by where it lies
 abbrev pub IsHistoried : (Word → ℕ → Contents → Type 0) → Volume → Type 0
-IsHistoried Held v = (name : Word) × HasDevice v.lies name × (first : Contents) × Held name v.length first × HasHistory first v.life
+IsHistoried Held v = IsHistoriedOn Held v.lies v
 
 -- each started volume has a history
 abbrev pub HaveHistories : (Word → ℕ → Contents → Type 0) → World → Type 0

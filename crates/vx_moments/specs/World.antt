@@ -33,6 +33,8 @@ pub record Volume : Type 0 where
   pub tracks : Word → Track
   -- the devices whose count of faults rose in this life
   pub failed : Word → Bool
+  -- its bytes were sound as its life began; else nothing is known of what it reads
+  pub sound : Bool
 
 -- a disk of the imported group
 pub record Member : Type 0 where

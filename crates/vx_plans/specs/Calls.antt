@@ -1,5 +1,5 @@
--- `read` and `write` of a bare volume: a call is one device call for each of its parts, as its blocks lie one behind the
--- other on one device.
+-- `read` and `write` of a volume. On a bare one a call is one device call for each of its parts, as its blocks lie one behind
+-- the other on one device.
 use Rattle.std.specs.Prelude.{◌≡◌, ◌≢◌, ℕ, ◌+◌, ◌-◌, ◌*◌, ◌/◌, ◌≤◌, nat_lt, true, Some, None, MatchOption, MatchBool, List, [], ◌∷◌, length, map, replicate}
 use Rattle.vx_base.specs.Blocks.{Contents, block_at, is_in}
 use Rattle.vx_base.specs.Named.{Word, put}
@@ -136,12 +136,3 @@ pub record IsServed (place : ℕ) (call : Call) (v : Volume) (old : Moment) (end
   pub world : new.world ≡ record old.world { volumes = put (volume_of call) (Some (record v { life = life })) old.world.volumes }
   pub cause : HasCause v old.counts new.counts end
   pub calls : CallsOnce call v old.counts new.counts
-
--- each test in its order: the volume is started, and the range lies in it
-abbrev pub CallRuns : ℕ → Call → Moment → End → Moment → Type 0
-CallRuns place call old end new =
-    MatchOption (old.world.volumes (volume_of call))
-    ((end ≡ ends.Refused (NotStarted (volume_of call))) × Rests old new)
-    (λ v. MatchBool (nat_lt v.length (start_of call + count_of call))
-    ((end ≡ ends.Refused Range) × Rests old new)
-    (IsServed place call v old end new))

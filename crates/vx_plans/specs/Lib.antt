@@ -6,5 +6,7 @@ pub mod Finding
 pub mod Stages
 pub mod Plans
 pub mod Calls
+pub mod GroupCalls
+pub mod Serving
 pub mod Steps
 pub mod Laws

@@ -123,6 +123,7 @@ bare_volume name device = record {
   dirty_began = λ r. false;
   tracks = λ plex. record { sure = λ r. false; possible = λ r. false };
   failed = λ device. false;
+  sound = true;
 }
 
 pub record IsBare (vol name : Word) (old new : World) : Type 0 where

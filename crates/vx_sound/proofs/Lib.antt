@@ -11,6 +11,7 @@ mod ReadyToWrite
 mod Imports
 mod Settlement
 mod Devices
+mod Private
 mod Volumes
 mod Joiners
 mod Commits

@@ -9,7 +9,7 @@ use Rattle.vx_moments.specs.Holding.{IsLent, HasDevice}
 use Rattle.vx_moments.specs.Leaving.{PowerGoes, IsLeftBy, group_gone}
 use Rattle.vx_sound.specs.Offers.{IsHeaded}
 use Rattle.vx_sound.specs.Sound.{AreSound}
-use Rattle.vx_sound.specs.Standing.{HoldsNoHeader, IsOwn, Carries, IsLeading, IsStanding}
+use Rattle.vx_sound.specs.Standing.{HoldsNoHeader, HoldsNoneOn, IsOwn, Carries, IsLeading, IsStanding}
 use Rattle.vx_sound.proofs.Headers.{size_above, never_some, some_same}
 use Rattle.vx_sound.proofs.Fewer.{HadEach, HasOrNone, offered, chained_fewer}
 use Rattle.vx_sound.proofs.Lists.{all_two}
@@ -100,9 +100,9 @@ module _ (old new : World) (goes : PowerGoes old new) (s : IsSettled old) where
   none_lent name (vol, v, is, lies) = never_some (new.volumes vol) v (goes.volumes vol) is
 
   -- what stands for a volume has no header
-  stands : (dg name : Word) (slot : ℕ) (d : Device) (v : Volume) → HoldsNoHeader v → (lies : Lies) → HasDevice lies name → IsLeftBy v lies new.devices → IsHeaded dg new name slot d → ⊥
-  stands dg name slot d v holds (OnPlexes plexes) has left h = has
-  stands dg name slot d v holds (OnDevice device) has (e, is, stand) h =
+  stands : (dg name : Word) (slot : ℕ) (d : Device) (v : Volume) (lies : Lies) → HoldsNoneOn lies v → HasDevice lies name → IsLeftBy v lies new.devices → IsHeaded dg new name slot d → ⊥
+  stands dg name slot d v (OnPlexes plexes) holds has left h = has
+  stands dg name slot d v (OnDevice device) holds has (e, is, stand) h =
       let same : e ≡ d = some_same e d (sym is ∙ ap (λ (n : Word). new.devices n) has ∙ h.device) in
       let large = size_above dg new name slot d h in
       let size : d.sectors ≡ v.length = ap (λ (x : Device). x.sectors) (sym same) ∙ stand.sectors in
@@ -110,7 +110,7 @@ module _ (old new : World) (goes : PowerGoes old new) (s : IsSettled old) where
       never_some (header_of (d.contents 0)) h.label (ap (λ (x : Device). header_of (x.contents 0)) (sym same) ∙ holds (e.contents 0) first) h.header
 
   was_apart : (dg name : Word) (slot : ℕ) (d : Device) → IsHeaded dg new name slot d → IsLent old name → ⊥
-  was_apart dg name slot d h (vol, v, is, lies) = stands dg name slot d v (s.volumes vol v is) v.lies lies (goes.stand vol v is) h
+  was_apart dg name slot d h (vol, v, is, lies) = stands dg name slot d v v.lies (s.volumes vol v is) lies (goes.stand vol v is) h
 
   power_back : (dg : Word) → HadEach dg old new
   power_back dg name slot d h =

@@ -15,15 +15,21 @@ use Rattle.vx_script_forms.specs.declared.call.Call.TheVariants as calls
 use Rattle.vx_answers.specs.declared.answer.End.{End}
 use Rattle.vx_answers.specs.declared.answer.End.TheVariants as ends
 use Rattle.vx_answers.specs.declared.refusal.Refusal.TheVariants.{NotStarted, Range}
-use Rattle.vx_moments.specs.World.{World, Device, Volume, Member, Group}
+use Rattle.vx_moments.specs.World.{World, Device, Volume, Member, Group, Lies, OnDevice, OnPlexes}
+use Rattle.vx_group_images.specs.Owners.{owners_of}
+use Rattle.vx_group_images.specs.Tracks.{volume_failed}
+use Rattle.vx_group_images.proofs.Tracked.{goes_lies}
 use Rattle.vx_moments.specs.Moment.{Moment, Rests}
 use Rattle.vx_moments.specs.Holding.{IsLent, IsMemberDevice, HasDevice}
-use Rattle.vx_plans.specs.Calls.{volume_of, start_of, count_of, values_of, done_kind, failed_kind, IsOf, AreOf, Tells, IsServed, CallRuns}
+use Rattle.vx_plans.specs.Calls.{volume_of, start_of, count_of, values_of, done_kind, failed_kind, IsOf, AreOf, Tells}
+use Rattle.vx_plans.specs.GroupCalls.{BecomesBy, IsServedOnPlexes, is_known}
+use Rattle.vx_plans.specs.Serving.{CallRuns, ServesOn}
 use Rattle.vx_plans.specs.Stages.{IsBare, bare_volume, HasNoHeader}
-use Rattle.vx_sound.specs.Standing.{HoldsNoHeader, IsStanding}
+use Rattle.vx_sound.specs.Standing.{HoldsNoHeader, HoldsNoneOn, IsStanding}
 use Rattle.vx_sound.proofs.Headers.{none_filled, never_some, some_same}
 use Rattle.vx_sound.proofs.Fewer.{HadEach, HasOrNone}
 use Rattle.vx_sound.proofs.Lists.{all_from, all_imp, all_without}
+use Rattle.vx_sound.proofs.Private.{behind_private, standing_behind}
 use Rattle.vx_sound.proofs.Settlement.{MemberStays, standing_still}
 
 -- ---- a volume is started
@@ -165,7 +171,7 @@ told_headerless place call v (ends.Refused refusal) es built tells = absurd tell
 told_headerless place call v ends.ShelfFailed es built tells = absurd tells
 told_headerless place call v ends.GroupLost es built tells = absurd tells
 
-module _ (w : World) (vol : Word) (v : Volume) (life : Life) (was : w.volumes vol ≡ Some v) (holds : AreNoHeaders (life.candidates 0)) where
+module _ (w : World) (vol : Word) (v : Volume) (life : Life) (was : w.volumes vol ≡ Some v) (holds : HoldsNoHeader (let x : Volume = record v { life = life } in x)) where
   abbrev on : World
   on = record w { volumes = put vol (Some (record v { life = life })) w.volumes }
 
@@ -201,22 +207,72 @@ module _ (w : World) (vol : Word) (v : Volume) (life : Life) (was : w.volumes vo
     | inr differ ↦ s.volumes u volume (sym (put_other vol u (Some (record v { life = life })) w.volumes differ) ∙ is)
   ])
 
+-- ---- a volume on plexes of the group
+
+module _ (place : ℕ) (call : Call) (plexes : List Word) (v : Volume) (old : Moment) (end : End) (new : Moment) (was : old.world.volumes (volume_of call) ≡ Some v) (lies : v.lies ≡ OnPlexes plexes) (done : IsServedOnPlexes place call plexes v old end new) where
+  abbrev vol : Word
+  vol = volume_of call
+
+  abbrev now : World
+  now = record old.world { devices = new.world.devices; volumes = put vol (Some done.later) old.world.volumes }
+
+  -- it lies where it did
+  later_lies : done.later.lies ≡ OnPlexes plexes
+  later_lies = by (is_known place v) done.becomes
+    where
+      by : (known : Bool) → BecomesBy known place call done.group plexes v old.counts new.counts end done.later → done.later.lies ≡ OnPlexes plexes
+      by true lives = ap (λ (x : Volume). x.lies) lives.is ∙ goes_lies (owners_of done.group vol plexes) lives.entries (volume_failed (owners_of done.group vol plexes) lives.failed v) ∙ lies
+      by false is = ap (λ (x : Volume). x.lies) is ∙ lies
+
+  never : (other : Word) (volume : Volume) → volume.lies ≡ OnPlexes plexes → HasDevice volume.lies other → ⊥
+  never other volume on has = subst (λ l. HasDevice l other) on has
+
+  lent_before_it : (other : Word) → IsLent now other → IsLent old.world other
+  lent_before_it other (u, volume, is, has) = elim (name_cases vol u) [
+    | inl same ↦
+        let here : done.later ≡ volume = some_same done.later volume (sym (put_same vol (Some done.later) old.world.volumes) ∙ ap (λ (n : Word). put vol (Some done.later) old.world.volumes n) same ∙ is) in
+        absurd (never other volume (ap (λ (x : Volume). x.lies) (sym here) ∙ later_lies) has)
+    | inr differ ↦ (u, volume, sym (put_other vol u (Some done.later) old.world.volumes differ) ∙ is, has)
+  ]
+
+  lent_after_it : (other : Word) → IsLent old.world other → IsLent now other
+  lent_after_it other (u, volume, is, has) = elim (name_cases vol u) [
+    | inl same ↦
+        let here : v ≡ volume = some_same v volume (sym was ∙ ap (λ (n : Word). old.world.volumes n) same ∙ is) in
+        absurd (never other volume (ap (λ (x : Volume). x.lies) (sym here) ∙ lies) has)
+    | inr differ ↦ (u, volume, put_other vol u (Some done.later) old.world.volumes differ ∙ is, has)
+  ]
+
+  pub standing_plexes : IsStanding old.world → IsStanding new.world
+  standing_plexes s = subst IsStanding (sym done.world) (standing_behind old.world now
+      (record { devices = λ name. behind_private done.group vol name (old.world.devices name) (new.world.devices name) (done.changes name); lent = lent_before_it })
+      lent_after_it refl s
+      (λ u volume is. elim (name_cases vol u) [
+        | inl same ↦
+            let here : done.later ≡ volume = some_same done.later volume (sym (put_same vol (Some done.later) old.world.volumes) ∙ ap (λ (n : Word). put vol (Some done.later) old.world.volumes n) same ∙ is) in
+            subst (λ l. HoldsNoneOn l volume) (sym (ap (λ (x : Volume). x.lies) (sym here) ∙ later_lies)) tt
+        | inr differ ↦ s.volumes u volume (sym (put_other vol u (Some done.later) old.world.volumes differ) ∙ is)
+      ]))
+
 -- a call leaves the world sound
 pub standing_served : (place : ℕ) (call : Call) (old : Moment) (end : End) (new : Moment) → IsBuilt call → IsStanding old.world → CallRuns place call old end new → IsStanding new.world
 standing_served place call old end new built s runs = by (old.world.volumes (volume_of call)) refl runs
   where
-    served : (v : Volume) → old.world.volumes (volume_of call) ≡ Some v → IsServed place call v old end new → IsStanding new.world
-    served v is done =
+    served : (v : Volume) → old.world.volumes (volume_of call) ≡ Some v → (lies : Lies) → v.lies ≡ lies → ServesOn lies place call v old end new → IsStanding new.world
+    served v is (OnDevice device) on done =
         let less = told_headerless place call v end done.lives.entries built done.lives.told in
+        let before : AreNoHeaders (v.life.candidates 0) = subst (λ l. HoldsNoneOn l v) on (s.volumes (volume_of call) v is) in
+        let after : AreNoHeaders (done.life.candidates 0) = life_keeps done.lives.entries v.life done.life less done.lives.goes_on before in
         subst IsStanding (sym done.world)
-        (standing_on old.world (volume_of call) v done.life is (life_keeps done.lives.entries v.life done.life less done.lives.goes_on (s.volumes (volume_of call) v is)) s)
+        (standing_on old.world (volume_of call) v done.life is (subst (λ l. HoldsNoneOn l (let x : Volume = record v { life = done.life } in x)) (sym on) after) s)
+    served v is (OnPlexes plexes) on done = standing_plexes place call plexes v old end new is on done s
 
-    in_range : (v : Volume) → old.world.volumes (volume_of call) ≡ Some v → (b : Bool) → MatchBool b ((end ≡ ends.Refused Range) × Rests old new) (IsServed place call v old end new) → IsStanding new.world
+    in_range : (v : Volume) → old.world.volumes (volume_of call) ≡ Some v → (b : Bool) → MatchBool b ((end ≡ ends.Refused Range) × Rests old new) (ServesOn v.lies place call v old end new) → IsStanding new.world
     in_range v is true refused = subst IsStanding (sym refused.1.stays.world) s
-    in_range v is false done = served v is done
+    in_range v is false done = served v is v.lies refl done
 
     by : (o : Option Volume) → old.world.volumes (volume_of call) ≡ o
-        → MatchOption o ((end ≡ ends.Refused (NotStarted (volume_of call))) × Rests old new) (λ v. MatchBool (nat_lt v.length (start_of call + count_of call)) ((end ≡ ends.Refused Range) × Rests old new) (IsServed place call v old end new))
+        → MatchOption o ((end ≡ ends.Refused (NotStarted (volume_of call))) × Rests old new) (λ v. MatchBool (nat_lt v.length (start_of call + count_of call)) ((end ≡ ends.Refused Range) × Rests old new) (ServesOn v.lies place call v old end new))
         → IsStanding new.world
     by None is refused = subst IsStanding (sym refused.1.stays.world) s
     by (Some v) is h = in_range v is (nat_lt v.length (start_of call + count_of call)) h

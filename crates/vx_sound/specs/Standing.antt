@@ -9,13 +9,21 @@ use Rattle.vx_copies.specs.Lists.{AllOf, AnyOf}
 use Rattle.vx_copies.specs.Image.{Offer}
 use Rattle.vx_moments.specs.Copies.{IsTextOf, label_of}
 use Rattle.vx_moments.specs.Holding.{IsLent}
-use Rattle.vx_moments.specs.World.{World, Device, Volume, Member, Group}
+use Rattle.vx_moments.specs.World.{World, Device, Volume, Member, Group, Lies, OnDevice, OnPlexes}
 use Rattle.vx_sound.specs.Offers.{Offers}
 use Rattle.vx_sound.specs.Sound.{AreSound}
 
 -- no value that the first block may hold is a header
+abbrev pub FrontHoldsNone : Volume → Type 0
+FrontHoldsNone v = (value : List ℕ) → IsAmong (v.life.candidates 0) value → header_of value ≡ None
+
+abbrev pub HoldsNoneOn : Lies → Volume → Type 0
+HoldsNoneOn (OnDevice device) v = FrontHoldsNone v
+HoldsNoneOn (OnPlexes plexes) v = Unit {0}
+
+-- so it is where the volume lies on a whole device
 abbrev pub HoldsNoHeader : Volume → Type 0
-HoldsNoHeader v = (value : List ℕ) → IsAmong (v.life.candidates 0) value → header_of value ≡ None
+HoldsNoHeader v = HoldsNoneOn v.lies v
 
 -- the member's device is there, no started volume lies on it, and a header on it is that of the member
 pub record IsOwn (dg : Word) (w : World) (m : Member) : Type 0 where

@@ -40,7 +40,6 @@ use Rattle.vx_copies.proofs.ToggleOrder.{each_all}
 use Rattle.vx_stage_changes.specs.Joining.{disk_for, IsJoin, IsInHand}
 use Rattle.vx_stage_changes.proofs.Entry.{held_long, holders_before}
 use Rattle.vx_house.specs.Runs.{run_in}
-use Rattle.vx_house.proofs.Runs.{idle_runs, idle_same}
 use Rattle.vx_house.specs.View.{IsGroupIdle}
 use Rattle.vx_group_start.specs.Laying.{AreRunningVolumes, AreStuckVolumes}
 
@@ -223,12 +222,6 @@ module _ {P : Type 0} {ghosts : Ghosts P} {see : P → Seen} {shelf : Shelved} {
     volumes = subst (λ p. AreRunningVolumes see p.running.entries) (sym a.public) kept.whole.volumes;
     stuck = subst (λ p. AreStuckVolumes see p.stuck.items) (sym a.public) kept.whole.stuck;
   }
-
-  pub idle_entered : IsGroupIdle g'
-  idle_entered = idle_same see g g' a.public kept.idle
-
-  pub none_entered : (name : Word) → run_in now.group name ≡ None
-  none_entered name = ap (λ o. run_in o name) a.is_now ∙ idle_runs see g' idle_entered name
 
   pub whole_here : IfSome now.group (IsGroupWhole see)
   whole_here = subst (λ o. IfSome o (IsGroupWhole see)) (sym a.is_now) whole_entered

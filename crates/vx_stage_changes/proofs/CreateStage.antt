@@ -61,6 +61,7 @@ use Rattle.vx_copies.proofs.ToggleOrder.{each_all}
 use Rattle.vx_moments.specs.Leaving.{lone}
 use Rattle.vx_house.specs.Runs.{AreRuns}
 use Rattle.vx_house.specs.Runs.{run_in}
+use Rattle.vx_house.proofs.Runs.{idle_runs, none_still}
 
 -- where none of a kind is there, there is none
 pub none_of : {X : Type 0} (o : Option X) → ((y : X) → o ≡ Some y → ⊥) → o ≡ None
@@ -146,7 +147,6 @@ module _ {P : Type 0} {ghosts : Ghosts P} (see : P → Seen) (dg : Word) (pairs 
         slots = joins_slots see dg text disks g'.base.disks.items by.founded.begun.joins (have_slots see 0 old.hand.items pairs);
         recorded = joins_recorded see dg text g'.config disks g'.base.disks.items by.founded.begun.joins (recorded_so dg disks g'.config by.drawn.records);
         whole = founded shelf.held held_now.numbers see g' by.still by.lent by.idle (fronts_by bs each_now by.founded.carries.alive.ready) sized each_now apart_now;
-        idle = by.idle;
       }
 
       done : AreDone (before begun) g'.config text g'.base.sequence [] [] hs bs
@@ -169,6 +169,10 @@ module _ {P : Type 0} {ghosts : Ghosts P} (see : P → Seen) (dg : Word) (pairs 
       one : AnyOf (λ b. b.good ≡ true) bs
       one = any_good bs (subst (λ l. 0 < good_count l) (take-length bs) by.made.done.some)
 
+      -- no volume of the group that is made runs
+      runs_new : (m : Moment) → IsMoment see (at shelf old) m → AreRuns see now.group (group_of see now.group) m.world.volumes
+      runs_new m is = none_still see old.group now.group m.world.group (group_of see now.group) m.world.volumes (λ name. ap (λ o. run_in o name) none) (λ name. ap (λ o. run_in o name) is_now ∙ idle_runs see g' by.idle name) is.runs_are
+
       pub created : StageGoes {T = Unit {0}} see (stage.Create dg) pairs (Ok tt) (at shelf old) (at shelf now)
       created = done_stage (calls begun) (stage.Create dg) pairs keeps
           (record {
@@ -176,7 +180,7 @@ module _ {P : Type 0} {ghosts : Ghosts P} (see : P → Seen) (dg : Word) (pairs 
             hand = subst (AllOf (λ u. 0 < (see u.piece).sectors)) (sym empty) tt;
             volumes = volumes_kept see old now volumes keeps;
             group = subst (λ o. IfSome o (IsGroupKept see)) (sym is_now) kept;
-          }) tt refl (λ m is. (
+          }) runs_new tt refl (λ m is. (
             is.group_is ∙ ap (group_of see) none,
             (
               x begun,
@@ -253,15 +257,19 @@ module _ {P : Type 0} {ghosts : Ghosts P} (see : P → Seen) (dg : Word) (pairs 
           whole_none : IfSome now.group (IsGroupWhole see)
           whole_none = subst (λ o. IfSome o (IsGroupWhole see)) (sym no_group) tt
 
+          -- no volume of a group runs, as before
+          runs_here : (m : Moment) → IsMoment see (at shelf old) m → AreRuns see now.group m.world.group m.world.volumes
+          runs_here m is = none_still see old.group now.group m.world.group m.world.group m.world.volumes (λ name. ap (λ o. run_in o name) none) (λ name. ap (λ o. run_in o name) no_group) is.runs_are
+
           group_lost : Each HasRisen hs ks → StageGoes {T = Unit {0}} see (stage.Create dg) pairs (Err (stops.Ended ends.GroupLost)) (at shelf old) (at shelf now)
-          group_lost risen = group_lost_stage (calls begun_of) (stage.Create dg) pairs keeps hand_kept whole_none (λ name. ap (λ o. run_in o name) no_group) (λ m is. inr (
+          group_lost risen = group_lost_stage (calls begun_of) (stage.Create dg) pairs keeps hand_kept whole_none runs_here (λ m is. inr (
             x begun_of,
             creating begun_of m is,
             joiners_lost_on (calls begun_of) m (moment_but_group see (at shelf old) m is) m.world.group (before begun_of) config text (map member_in hs) writes.last (written begun_of) refl refl risen,
           ))
 
           power_lost : AnyOf IsCut ks → StageGoes {T = Unit {0}} see (stage.Create dg) pairs (Err (stops.Ended (ends.Lost []))) (at shelf old) (at shelf now)
-          power_lost cut = power_lost_stage (calls begun_of) (stage.Create dg) pairs keeps hand_kept whole_none (λ name. ap (λ o. run_in o name) no_group) (λ m is. inr (
+          power_lost cut = power_lost_stage (calls begun_of) (stage.Create dg) pairs keeps hand_kept whole_none runs_here (λ m is. inr (
             x begun_of,
             creating begun_of m is,
             power_lost_on (calls begun_of) m (moment_but_group see (at shelf old) m is) m.world.group (before begun_of) config text (map member_in hs) writes.last (written begun_of) refl cut,

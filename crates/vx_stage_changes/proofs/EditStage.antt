@@ -37,7 +37,9 @@ use Rattle.vx_commits.proofs.CommitStage.{done_stage, group_lost_stage, power_lo
 use Rattle.vx_stage_changes.specs.Changing.{IsMeant, SamePublic, ChangeEnds}
 use Rattle.vx_commits.specs.Committing.{IsTried, IsFinished, CommitEnds}
 use Rattle.vx_stage_changes.specs.Planning.{IsUnplanned}
-use Rattle.vx_house.proofs.Runs.{idle_runs, idle_same}
+use Rattle.vx_group_edits.specs.Stays.{EachStays}
+use Rattle.vx_commits.proofs.Owns.{Runs}
+use Rattle.vx_commits.proofs.Runners.{runs_done, runs_lost}
 
 -- edits that are refused are refused by a test
 pub refused_so : (edits : List Edit) (w : Group) (end : End) → IsUnplanned edits w.config (stops.Ended end) → (r : Refusal) × (end ≡ ends.Refused r) × EditsRefused edits w end
@@ -70,6 +72,7 @@ pub record IsStage {P : Type 0} {ghosts : Ghosts P} (see : P → Seen) (s : Stag
   pub gives : (h : House P ghosts) → Gives see s disks h
   pub group : (next : Config) → IsEdited edits g.config next → next.group ≡ g.config.group
   pub keeps_disks : (next : Config) → IsEdited edits g.config next → next.disks ≡ g.config.disks
+  pub stays : (next : Config) → IsEdited edits g.config next → EachStays (λ v. Runs g v.name) g.config next
   pub done : (m n : Moment) (x : Writing) → IsMoment see (at shelf old) m → IsChange edits m.world x → IsCommitted x m n → IsDone s disks m n
   pub stops : (m n : Moment) (end : End) (x : Writing) → IsMoment see (at shelf old) m → IsChange edits m.world x → IsStopped x m end n → Stops s disks m end n
   pub refuses : (m : Moment) (w : Group) (r : Refusal) → IsMoment see (at shelf old) m → m.world.group ≡ Some w → w.config ≡ g.config → EditsRefused edits w (ends.Refused r) → Stops s disks m (ends.Refused r) m
@@ -140,7 +143,6 @@ module _ {P : Type 0} {ghosts : Ghosts P} (see : P → Seen) (s : Stage) (disks 
         slots = slots_now (g.base.sequence + 1) g'.base.sequence text see g.base.disks.items g'.base.disks.items finished.tried.committed.goes kept.slots;
         recorded = recorded_now (g.base.sequence + 1) g'.base.sequence text see g.config g'.config (is_stage.keeps_disks g'.config meant.edited) g.base.disks.items g'.base.disks.items finished.tried.committed.goes kept.recorded;
         whole = whole_after g' text public finished.tried;
-        idle = idle_same see g g' public kept.idle;
       }
 
       is_change : (m : Moment) → IsMoment see (at shelf old) m → (g' : Imported P ghosts) (text : List ℕ) (public : SamePublic g g') (tried : IsTried see text g.base g'.base) (next : Config) → IsEdited edits g.config next → IsChange edits m.world (x_alone (written g' text public tried) next)
@@ -149,19 +151,19 @@ module _ {P : Type 0} {ghosts : Ghosts P} (see : P → Seen) (s : Stage) (disks 
       pub edits_go : (result : Result (Unit {0}) Stop) (g' : Imported P ghosts) → ChangeEnds see edits result g g' → StageGoes see s disks result (at shelf old) (at shelf (house g'))
       edits_go (Ok u) g' (public, (text, meant, finished)) =
           let w = written g' text public finished.tried in
-          done_stage (alone w) s disks keeps (record { ordered = keeps.ordered; hand = keeps.hand; volumes = keeps.volumes; group = kept_after g' text public meant finished }) (is_stage.gives (house g')) is_stage.writes (λ m is.
+          done_stage (alone w) s disks keeps (record { ordered = keeps.ordered; hand = keeps.hand; volumes = keeps.volumes; group = kept_after g' text public meant finished }) (runs_done w (is_stage.stays g'.config meant.edited)) (is_stage.gives (house g')) is_stage.writes (λ m is.
           is_stage.done m _ (x_alone w g'.config) is (is_change m is g' text public finished.tried g'.config meant.edited)
           (committed_alone w m (moment_but_group see (at shelf old) m is) finished meant.printed.0 meant.printed.1 (same_name g'.config meant.edited)))
       edits_go (Err stops.OutOfMemory) g' same = subst (λ h. StageGoes {T = Unit {0}} see s disks (Err stops.OutOfMemory) (at shelf old) (at shelf h)) (same_house g' same) unchanged
       edits_go (Err (stops.Ended ends.GroupLost)) g' (public, (next, text, meant, tried, risen)) =
           let w = written g' text public tried in
-          group_lost_stage (alone w) s disks keeps keeps.hand (whole_after g' text public tried) (idle_runs see g' (idle_same see g g' public kept.idle)) (λ m is.
+          group_lost_stage (alone w) s disks keeps keeps.hand (whole_after g' text public tried) (runs_lost w) (λ m is.
           is_stage.stops m _ ends.GroupLost (x_alone w next) is (is_change m is g' text public tried next meant.edited)
           (lost_alone w m (moment_but_group see (at shelf old) m is) next meant.printed.0 meant.printed.1 (same_name next meant.edited) risen))
       edits_go (Err (stops.Ended (ends.Lost parts))) g' (none, public, (next, text, meant, tried, cut)) =
           let w = written g' text public tried in
           subst (λ p. StageGoes {T = Unit {0}} see s disks (Err (stops.Ended (ends.Lost p))) (at shelf old) (at shelf (house g'))) (sym none)
-          (power_lost_stage (alone w) s disks keeps keeps.hand (whole_after g' text public tried) (idle_runs see g' (idle_same see g g' public kept.idle)) (λ m is.
+          (power_lost_stage (alone w) s disks keeps keeps.hand (whole_after g' text public tried) (runs_lost w) (λ m is.
           is_stage.stops m _ (ends.Lost []) (x_alone w next) is (is_change m is g' text public tried next meant.edited)
           (cut_alone w m (moment_but_group see (at shelf old) m is) next meant.printed.0 meant.printed.1 (same_name next meant.edited) cut)))
       edits_go (Err (stops.Ended (ends.Done copied parts blocks))) g' (same, why) = subst (λ h. StageGoes {T = Unit {0}} see s disks (Err (stops.Ended (ends.Done copied parts blocks))) (at shelf old) (at shelf h)) (same_house g' same) (refused_by (ends.Done copied parts blocks) why)

@@ -16,7 +16,8 @@ use Rattle.vx_house.specs.declared.house.Imported.{Imported}
 use Rattle.vx_house.specs.declared.house.Taken.{Taken}
 use Rattle.vx_commits.proofs.DeviceLaws.{IsCalled}
 use Rattle.vx_commits.proofs.Holders.{both_tell}
-use Rattle.vx_commits.proofs.Joins.{IsWent, IsNamedAs, IsEnlisted}
+use Rattle.vx_commits.proofs.Slots.{IsWent}
+use Rattle.vx_commits.proofs.Joins.{IsNamedAs, IsEnlisted}
 use Rattle.vx_house.specs.View.{member_in}
 use Rattle.vx_copies.proofs.StepLaws.{each_map}
 use Rattle.vx_house.proofs.Lists.{each_two, each_first}

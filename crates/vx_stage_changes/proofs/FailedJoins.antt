@@ -46,10 +46,10 @@ use Rattle.vx_stage_changes.specs.Planning.{IsUnplanned}
 use Rattle.vx_stage_changes.proofs.EditStage.{refused_so}
 use Rattle.vx_moments.specs.Leaving.{lone}
 use Rattle.vx_house.specs.Runs.{AreRuns}
-use Rattle.vx_house.proofs.Runs.{idle_runs, none_run, none_still}
+use Rattle.vx_commits.proofs.Owns.{AreDisksOf, runs_moved}
+use Rattle.vx_commits.proofs.Runners.{disks_same}
 use Rattle.vx_house.proofs.Ends.{whole_kept}
 use Rattle.vx_house.specs.View.{IsGroupIdle}
-use Rattle.vx_house.proofs.Runs.{idle_same}
 use Rattle.vx_group_start.specs.Laying.{AreRunningVolumes, AreStuckVolumes}
 
 -- the device of a name has the sectors that are seen
@@ -103,16 +103,13 @@ module _ {P : Type 0} {ghosts : Ghosts P} (see : P → Seen) (pair : DiskAt) (sh
       ∙ ap (λ n. Some (let w : Group = record { config = g.config; good = good_mask (members see g.base); members = map member_of g.base.disks.items; sequence = n } in w)) unjoined.base.sequence
       ∙ sym (ap (group_of see) has)
 
-  idle_now : IsGroupIdle g'
-  idle_now = idle_same see g g' public kept.idle
-
   same_moment : (m : Moment) → IsMoment see (at shelf old) m → IsMoment see (at shelf now) m
   same_moment m is = record {
     told = is.told;
     devices_are = λ name. subst (λ b. IsDeviceOf b (seen_at (scene see (at shelf now)) name) (m.world.devices name)) (ap (λ v. is_lent (let h : House P ghosts = record { volumes = v; group = old.group; hand = old.hand } in h) name) (sym volumes))
         (subst (λ l. IsDeviceOf (is_lent old name) (seen_at (record { shelf = shelf; taken = l }) name) (m.world.devices name)) (sym same_holders) (is.devices_are name));
     volumes_are = λ vol. subst (λ o. IsAtVolume see o (lone (m.world.volumes vol))) (ap (λ v. volume_at (let h : House P ghosts = record { volumes = v; group = old.group; hand = old.hand } in h) vol) (sym volumes)) (is.volumes_are vol);
-    runs_are = subst (λ o. AreRuns see o m.world.group m.world.volumes) (sym is_now) (none_still see old.group (Some g') m.world.group m.world.group m.world.volumes (none_run see old.group keeps.group) (idle_runs see g' idle_now) is.runs_are);
+    runs_are = subst (λ o. AreRuns see o m.world.group m.world.volumes) (sym is_now) (runs_moved see g g' public (subst (AreDisksOf (members see g.base)) (sym same_members) (disks_same (members see g.base))) m.world.group m.world.volumes (subst (λ o. AreRuns see o m.world.group m.world.volumes) has is.runs_are));
     group_is = is.group_is ∙ sym same_group;
     counts = subst (λ l. AreCountsOf (record { shelf = shelf; taken = l }) m.counts) (sym same_holders) is.counts;
   }
@@ -155,7 +152,6 @@ module _ {P : Type 0} {ghosts : Ghosts P} (see : P → Seen) (pair : DiskAt) (sh
       volumes = subst (λ p. AreRunningVolumes see p.running.entries) (sym public) kept.whole.volumes;
       stuck = subst (λ p. AreStuckVolumes see p.stuck.items) (sym public) kept.whole.stuck;
     };
-    idle = idle_now;
   }
 
   keeps_now : Keeps see (at shelf now)

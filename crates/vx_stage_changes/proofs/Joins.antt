@@ -40,10 +40,11 @@ use Rattle.vx_commits.proofs.Holders.{same_members, world_group, group_is}
 use Rattle.vx_commits.proofs.Joins.{AreDone, group_lost_on, power_lost_on, group_committed_on}
 use Rattle.vx_commits.proofs.CommitStage.{volumes_kept, group_lost_stage, power_lost_stage, done_stage}
 use Rattle.vx_stage_changes.specs.Joining.{disk_for, IsJoin, IsInHand, IsPlaced}
-use Rattle.vx_stage_changes.proofs.Admitted.{IsAdmitted, bs, fs, gains, goes, goes_fronts, hs, joins, js, ks, n, ns, private, private_now, rests, whole, whole_here, none_entered, wholes_now, ws, front_is, back_is}
+use Rattle.vx_stage_changes.proofs.Admitted.{IsAdmitted, bs, fs, gains, goes, goes_fronts, hs, joins, js, ks, n, ns, private, private_now, rests, whole, whole_here, wholes_now, ws, front_is, back_is}
 use Rattle.vx_stage_changes.proofs.Admission.{same_name, admitted, written, x, joining}
 use Rattle.vx_stage_changes.proofs.Entry.{held_long, joins_named, joined_members}
 use Rattle.vx_stage_changes.proofs.Gains.{kept_joined}
+use Rattle.vx_stage_changes.proofs.JoinedRuns.{runs_joined, runs_stay}
 
 module _ {P : Type 0} {ghosts : Ghosts P} {see : P → Seen} {shelf : Shelved} {pair : DiskAt} {old now : House P ghosts} {g g' : Imported P ghosts} {t : Taken P} {slot : ℕ} {text : List ℕ} {next : Config} (a : IsAdmitted see shelf pair old now g g' t slot text next) where
   hand_kept : AllOf (λ u. 0 < (see u.piece).sectors) now.hand.items
@@ -55,7 +56,7 @@ module _ {P : Type 0} {ghosts : Ghosts P} {see : P → Seen} {shelf : Shelved} {
 
   -- no disk of the group is good any more
   group_lost : Each HasRisen (fs a) (take (length g.base.disks.items) (ns a)) → StageGoes {T = Unit {0}} see stage.Join (pair ∷ []) (Err (stops.Ended ends.GroupLost)) (at shelf old) (at shelf now)
-  group_lost risen = group_lost_stage (admitted a) stage.Join (pair ∷ []) a.keeps hand_kept (whole_here a) (none_entered a) (λ m is. inr (inr (
+  group_lost risen = group_lost_stage (admitted a) stage.Join (pair ∷ []) a.keeps hand_kept (whole_here a) (runs_stay a) (λ m is. inr (inr (
     x a,
     joining a m is,
     group_lost_on (admitted a) m (moment_but_group see (at shelf old) m is) m.world.group (world_group see g) next text (map member_in (hs a)) g'.base.sequence (written a) refl refl (all_risen risen),
@@ -63,7 +64,7 @@ module _ {P : Type 0} {ghosts : Ghosts P} {see : P → Seen} {shelf : Shelved} {
 
   -- a disk is without power
   power_lost : AnyOf IsCut (members see g'.base) → StageGoes {T = Unit {0}} see stage.Join (pair ∷ []) (Err (stops.Ended (ends.Lost []))) (at shelf old) (at shelf now)
-  power_lost cut = power_lost_stage (admitted a) stage.Join (pair ∷ []) a.keeps hand_kept (whole_here a) (none_entered a) (λ m is. inr (inr (
+  power_lost cut = power_lost_stage (admitted a) stage.Join (pair ∷ []) a.keeps hand_kept (whole_here a) (runs_stay a) (λ m is. inr (inr (
     x a,
     joining a m is,
     power_lost_on (admitted a) m (moment_but_group see (at shelf old) m is) m.world.group (world_group see g) next text (map member_in (hs a)) g'.base.sequence (written a) refl (subst (AnyOf IsCut) (sym (whole a)) (each_cut (rests a) (ns a) cut)),
@@ -127,7 +128,7 @@ module _ {P : Type 0} {ghosts : Ghosts P} {see : P → Seen} {shelf : Shelved} {
   }
 
   joined : StageGoes {T = Unit {0}} see stage.Join (pair ∷ []) (Ok tt) (at shelf old) (at shelf now)
-  joined = done_stage (admitted a) stage.Join (pair ∷ []) a.keeps now_kept tt refl (λ m is. (
+  joined = done_stage (admitted a) stage.Join (pair ∷ []) a.keeps now_kept (runs_joined a) tt refl (λ m is. (
     x a,
     joining a m is,
     group_committed_on (admitted a) m (moment_but_group see (at shelf old) m is) (group_of see now.group) (world_group see g) g'.config text (map member_in (hs a)) number (written a) done refl (any_good (bs a) added_whole.done.some) here,

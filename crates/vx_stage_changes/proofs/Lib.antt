@@ -9,6 +9,7 @@ pub mod Entry
 pub mod Admitted
 pub mod Admission
 pub mod Gains
+mod JoinedRuns
 pub mod Joins
 pub mod FailedJoins
 pub mod OneItem

@@ -12,7 +12,7 @@ use Rattle.std.proofs.lemmas.List.{map-append, append-nil}
 use Rattle.vx_pages.specs.declared.local_piece.LocalPiece.{Ghosts}
 use Rattle.vx_base.specs.Blocks.{Contents}
 use Rattle.vx_base.specs.Named.{Word, put}
-use Rattle.vx_base.proofs.NamedLemmas.{bytes_eq_self}
+use Rattle.vx_base.proofs.NamedLemmas.{bytes_eq_same, bytes_eq_self}
 use Rattle.vx_piece.specs.Seen.{Seen}
 use Rattle.vx_shelf.specs.Shelf.{Held}
 use Rattle.vx_life.specs.Candidates.{known}
@@ -23,8 +23,8 @@ use Rattle.vx_answers.specs.declared.refusal.Refusal.{Refusal}
 use Rattle.vx_answers.specs.declared.refusal.Refusal.TheVariants.{Exists}
 use Rattle.vx_started.specs.Stands.{IsAmongTold, IsSized}
 use Rattle.vx_started.specs.declared.started.Started.{Started}
-use Rattle.vx_moments.specs.World.{World, Device, Volume, OnDevice}
-use Rattle.vx_moments.specs.Leaving.{grouped as on_plexes}
+use Rattle.vx_moments.specs.World.{World, Device, Group, Lies, Volume, OnDevice, OnPlexes}
+use Rattle.vx_moments.specs.Leaving.{grouped_by, lone_by, grouped as on_plexes}
 use Rattle.vx_moments.specs.Moment.{Moment}
 use Rattle.vx_moments.specs.Holding.{has_volume}
 use Rattle.vx_plans.specs.Stages.{bare_volume, refused}
@@ -51,8 +51,11 @@ use Rattle.vx_stage_devices.specs.Starts.{is_recorded, is_named, CanStart, IsSta
 use Rattle.vx_stage_devices.proofs.Entries.{IsPutAt, put_at, any_less}
 use Rattle.vx_house.proofs.Hands.{IsInWorld, hand_in_world}
 use Rattle.vx_moments.specs.Leaving.{lone}
-use Rattle.vx_house.specs.Runs.{AreRuns, run_in}
-use Rattle.vx_house.proofs.Runs.{none_run, none_grouped, none_are, all_alone}
+use Rattle.vx_copies.specs.Disks.{DiskSeen}
+use Rattle.vx_running.specs.declared.public.Running.{Running}
+use Rattle.vx_house.specs.Runs.{AreRuns, IsAtRun, fronts_in, run_in}
+use Rattle.vx_house.proofs.Recorded.{run_recorded, unrecorded_rests}
+use Rattle.vx_house.proofs.Runs.{none_at}
 use Rattle.vx_house.proofs.Ends.{whole_kept}
 
 -- the names of volumes
@@ -60,16 +63,28 @@ recorded_same : {P : Type 0} {ghosts : Ghosts P} (see : P → Seen) (o : Option 
 recorded_same see None vol = refl
 recorded_same see (Some g) vol = refl
 
-volume_same : {P : Type 0} (see : P → Seen) (o : Option (Started P)) (v : Option Volume) → IsAtVolume see o v → is_some v ≡ is_some o
-volume_same see None None is = refl
-volume_same see None (Some v) is = absurd is
-volume_same see (Some b) None is = absurd is
-volume_same see (Some b) (Some v) is = refl
+-- a volume is started or recorded just where the house tells so: one that runs is recorded
+volume_same : {P : Type 0} {ghosts : Ghosts P} (see : P → Seen) (hs : List DiskSeen) (g : Option Group) (name : Word) (recorded : Bool) → has_volume g name ≡ recorded → (b : Option (Started P)) (r : Option (Running P ghosts)) (w : Option Volume) → IsAtVolume see b (lone w) → IsAtRun see hs g name r (on_plexes w) → (is_some w || recorded) ≡ (is_some b || recorded)
+volume_same see hs g name recorded is None r None at run = refl
+volume_same see hs g name recorded is (Some b) r None at run = absurd at
+volume_same {P = P} {ghosts = ghosts} see hs g name recorded is b r (Some w) at run = by w.lies b r at run
+  where
+    by : (lies : Lies) (b : Option (Started P)) (r : Option (Running P ghosts)) → IsAtVolume see b (lone_by lies w) → IsAtRun see hs g name r (grouped_by lies w) → true ≡ (is_some b || recorded)
+    by (OnDevice device) None r at run = absurd at
+    by (OnDevice device) (Some b) r at run = refl
+    by (OnPlexes plexes) None None at run = absurd run
+    by (OnPlexes plexes) None (Some r) at run = sym (run_recorded see hs g name (Some r) (Some w) run refl) ∙ is
+    by (OnPlexes plexes) (Some b) r at run = absurd at
 
-named_same : {P : Type 0} {ghosts : Ghosts P} (see : P → Seen) (v : View P ghosts) (m : Moment) (vol : Word) → ((name : Word) → run_in v.house.group name ≡ None) → IsMoment see v m → is_volume vol m.world ≡ is_named v.house vol
-named_same see v m vol none is =
-    ap (λ b. b || has_volume m.world.group vol) (volume_same see (volume_at v.house vol) (m.world.volumes vol) (all_alone see v.house m.world none is.volumes_are is.runs_are vol))
-    ∙ ap (λ b. is_some (volume_at v.house vol) || b) (ap (λ g. has_volume g vol) is.group_is ∙ recorded_same see v.house.group vol)
+named_same : {P : Type 0} {ghosts : Ghosts P} (see : P → Seen) (v : View P ghosts) (m : Moment) (vol : Word) → IsMoment see v m → is_volume vol m.world ≡ is_named v.house vol
+named_same see v m vol is =
+    let recorded : has_volume m.world.group vol ≡ is_recorded v.house.group vol = ap (λ g. has_volume g vol) is.group_is ∙ recorded_same see v.house.group vol in
+    ap (λ b. is_some (m.world.volumes vol) || b) recorded
+    ∙ volume_same see (fronts_in see v.house.group) m.world.group vol (is_recorded v.house.group vol) recorded (volume_at v.house vol) (run_in v.house.group vol) (m.world.volumes vol) (is.volumes_are vol) (is.runs_are vol)
+
+not_recorded : {X : Type 0} (o : Option X) (r : Bool) → (is_some o || r) ≡ false → r ≡ false
+not_recorded None r e = e
+not_recorded (Some x) r e = cc
 
 none_named : {X : Type 0} (o : Option X) (r : Bool) → (is_some o || r) ≡ false → o ≡ None
 none_named None r e = refl
@@ -178,10 +193,6 @@ module _ {P : Type 0} {ghosts : Ghosts P} (see : P → Seen) (vol : Word) (h k :
     };
   }
 
-  -- no volume of the group runs
-  none : (n : Word) → run_in h.group n ≡ None
-  none = none_run see h.group keeps.group
-
   module _ (m : Moment) (is : IsMoment see (at shelf h) m) where
     there : IsInWorld m.world t.device (see t.piece)
     there = (subst (AllOf (λ x. IsInWorld m.world x.device (see x.piece))) started.hand (hand_in_world see h shelf m are.apart is)).0
@@ -212,9 +223,14 @@ module _ {P : Type 0} {ghosts : Ghosts P} (see : P → Seen) (vol : Word) (h k :
         ap (list_any (λ x. bytes_eq x.1.device name)) spot.was
         ∙ any_less (λ x. bytes_eq x.1.device name) spot.before (vol, b) spot.behind (ap (list_any (λ x. bytes_eq x.1.device name)) (sym spot.is) ∙ e)
 
-    grouped_now : (n : Word) (x : Bool) → on_plexes (cond x (Some (bare_volume t.device there.device)) (m.world.volumes n)) ≡ None
-    grouped_now n true = refl
-    grouped_now n false = none_grouped see h.group m.world.group m.world.volumes none is.runs_are n
+    -- no volume of its name ran
+    none : run_in h.group vol ≡ None
+    none = unrecorded_rests see (fronts_in see h.group) m.world.group vol (run_in h.group vol) (on_plexes (m.world.volumes vol)) (is.runs_are vol) (not_recorded (volume_at h vol) (has_volume m.world.group vol) (ap (λ b. is_some (volume_at h vol) || b) (ap (λ g. has_volume g vol) is.group_is ∙ recorded_same see h.group vol) ∙ new_name))
+
+    -- and the others run as before
+    runs_at : (n : Word) (x : Bool) → bytes_eq vol n ≡ x → IsAtRun see (fronts_in see h.group) m.world.group n (run_in h.group n) (on_plexes (cond x (Some (bare_volume t.device there.device)) (m.world.volumes n)))
+    runs_at n true same = none_at see (fronts_in see h.group) m.world.group n (run_in h.group n) None (ap (run_in h.group) (sym (bytes_eq_same vol n same)) ∙ none) refl
+    runs_at n false same = is.runs_are n
 
     started_moment : IsMoment see (at shelf k) (record { world = next; counts = m.counts })
     started_moment = record {
@@ -223,7 +239,7 @@ module _ {P : Type 0} {ghosts : Ghosts P} (see : P → Seen) (vol : Word) (h k :
           (weaker_lent (is_lent h name) (is_lent k name) (seen_at (scene see (at shelf h)) name) (m.world.devices name) (lent_less name) (is.devices_are name));
       volumes_are = λ n. subst (λ o. IsAtVolume see o (lone (put vol (Some (bare_volume t.device there.device)) m.world.volumes n))) (sym (started.put_in.puts n))
           (started_at n (bytes_eq vol n) (at_name n (bytes_eq vol n) (is.volumes_are n)));
-      runs_are = none_are see k.group m.world.group next.volumes (λ n. ap (λ o. run_in o n) started.group ∙ none n) (λ n. grouped_now n (bytes_eq vol n));
+      runs_are = λ n. subst (λ o. IsAtRun see (fronts_in see o) m.world.group n (run_in o n) (on_plexes (next.volumes n))) (sym started.group) (runs_at n (bytes_eq vol n) refl);
       group_is = is.group_is ∙ ap (group_of see) (sym started.group);
       counts = counts_moved (scene see (at shelf h)) (scene see (at shelf k)) m.counts unmoved is.told is.counts;
     }
@@ -235,7 +251,7 @@ module _ {P : Type 0} {ghosts : Ghosts P} (see : P → Seen) (vol : Word) (h k :
       record { world = next m is; counts = m.counts },
       started_moment m is,
       later_refl m.counts,
-      (named_same see (at shelf h) m vol none is ∙ new_name, record { device = (there m is).device; was = (there m is).was; is = refl }, refl),
+      (named_same see (at shelf h) m vol is ∙ new_name, record { device = (there m is).device; was = (there m is).was; is = refl }, refl),
     );
     gives = tt;
     still = λ e. cc;
@@ -248,7 +264,7 @@ module _ {P : Type 0} {ghosts : Ghosts P} (see : P → Seen) (vol name : Word) (
   pub exists_stage : is_named h vol ≡ true → StageGoes {T = Unit {0}} see (stage.StartBare vol name) disks (Err (Ended (refused (Exists vol)))) (at shelf h) (at shelf h)
   exists_stage named = record {
     keeps = record { devices = are; house = keeps };
-    goes = λ m is. (m, is, later_refl m.counts, (named_same see (at shelf h) m vol (none_run see h.group keeps.group) is ∙ named, (refl, rests_self m)));
+    goes = λ m is. (m, is, later_refl m.counts, (named_same see (at shelf h) m vol is ∙ named, (refl, rests_self m)));
     gives = tt;
     still = λ e. tt;
     faults = faults_refl (scene see (at shelf h));

@@ -2,9 +2,10 @@
 ghost use Rattle.std.specs.Prelude.{◌≡◌, Some, is_some};
 ghost use Rattle.vx_plans.specs.Tests.{earlier, first_started, started_of};
 ghost use Rattle.vx_house.specs.Plain.{plain};
+ghost use Rattle.vx_house.specs.Runs.{run_in};
 
 use vx_config_parts::comes_before;
-use vx_house::House;
+use vx_house::{House, Imported};
 use vx_names::Name;
 use vx_objects::Vol;
 use vx_piece::Piece;
@@ -13,7 +14,17 @@ use vx_piece::Piece;
 pub(crate) fn is_started<P: Piece>(house: &House<P>, vol: &Name) -> bool
     ensures { result ≡ is_some ((plain P.seen house.now).volumes vol.now) }
 {
-    house.volumes.contains_key(vol)
+    house.volumes.contains_key(vol) || runs(&house.group, vol)
+}
+
+/// A volume of the name runs on plexes of the group.
+fn runs<P: Piece>(group: &Option<Imported<P>>, vol: &Name) -> bool
+    ensures { result ≡ is_some (run_in group.now vol.now) }
+{
+    match group {
+        None => false,
+        Some(group) => group.public.running.contains_key(vol),
+    }
 }
 
 /// The group's first volume by name that is started.

@@ -75,8 +75,8 @@ use Rattle.vx_stage_import.proofs.Texts.{labels_in}
 use Rattle.vx_house.specs.Reading.{OnlyRead}
 use Rattle.vx_house.specs.Unmoved.{Unmoved}
 use Rattle.vx_house.proofs.Readings.{stays_device, stays_place, only_trans, only_unmoved}
-use Rattle.vx_house.specs.Runs.{AreRuns}
-use Rattle.vx_house.proofs.Runs.{idle_runs, none_run, none_still, kept_alone}
+use Rattle.vx_house.specs.Runs.{AreRuns, run_in}
+use Rattle.vx_house.proofs.Runs.{idle_runs, none_still, all_alone}
 use Rattle.vx_house.proofs.Ends.{whole_kept}
 use Rattle.vx_group_start.specs.Laying.{AreRunningVolumes, AreStuckVolumes}
 
@@ -201,7 +201,7 @@ module _ {P : Type 0} {ghosts : Ghosts P} (see : P → Seen) (dg : Word) (names 
       told = read.told is.told;
       devices_are = λ name. stays_device (is_lent h name) (seen_at start name) (seen_at taken name) (m.world.devices name) (read.seen is.told name) (is.devices_are name);
       volumes_are = is.volumes_are;
-      runs_are = none_still see h.group (Some found_group) m.world.group None m.world.volumes (none_run see h.group since.keeps.house.group) (idle_runs see found_group (idle found_group refl)) is.runs_are;
+      runs_are = none_still see h.group (Some found_group) m.world.group None m.world.volumes (λ n. ap (λ o. run_in o n) since.none) (idle_runs see found_group (idle found_group refl)) is.runs_are;
       counts = counts_own taken;
     }
 
@@ -248,7 +248,7 @@ module _ {P : Type 0} {ghosts : Ghosts P} (see : P → Seen) (dg : Word) (names 
     importing x group config carriers joiners = record {
       found = found;
       finds = given_finds dg m.world (unread_by fs) fs linked (all_each (IsOfGroup dg) (IsOf dg) (λ f of. record { group_is = of.group_is; headed = of.headed }) fs since.each) (λ o config. (x.group ≡ group_found o (candidates_of fs) config) × (objects_of x.config ≡ import_records config)) (λ r. ⊥) given given_is
-          (ready_finds after v dg offer (candidates_of fs) m.world (is_started h.volumes) (λ name. started_same see (volume_at h name) (m.world.volumes name) (kept_alone see h m.world since.keeps.house is.volumes_are is.runs_are name)) judged (λ config. (x.group ≡ group_found offer (candidates_of fs) config) × (objects_of x.config ≡ import_records config)) (group ∙ group_is_found, ap objects_of config ∙ ready.made));
+          (ready_finds after v dg offer (candidates_of fs) m.world (is_started h.volumes) (λ name. started_same see (volume_at h name) (m.world.volumes name) (all_alone see h m.world (λ n. ap (λ o. run_in o n) since.none) is.volumes_are is.runs_are name)) judged (λ config. (x.group ≡ group_found offer (candidates_of fs) config) × (objects_of x.config ≡ import_records config)) (group ∙ group_is_found, ap objects_of config ∙ ready.made));
       carriers = carriers;
       joiners = joiners;
     }
@@ -302,7 +302,6 @@ module _ {P : Type 0} {ghosts : Ghosts P} (see : P → Seen) (dg : Word) (names 
       slots = slots_now (given.sequence + 1) base.sequence text see es.items base.disks.items finished.tried.committed.goes can.slots;
       recorded = recorded_now (given.sequence + 1) base.sequence text see after after refl es.items base.disks.items finished.tried.committed.goes (recorded_disks see dg ds looks given given_is after v.items ready_labels es.items made);
       whole = whole_now finished.tried;
-      idle = idle g' refl;
     }
 
     -- no volume of it runs

@@ -50,7 +50,8 @@ use Rattle.vx_stage_import.proofs.Holders.{found_labels}
 use Rattle.vx_stage_import.proofs.Texts.{labels_in}
 use Rattle.vx_stage_import.proofs.Tellings.{started_same, refused_finds, fault_finds, given_finds}
 use Rattle.vx_house.specs.Reading.{AreRead}
-use Rattle.vx_house.proofs.Runs.{kept_alone}
+use Rattle.vx_house.specs.Runs.{run_in}
+use Rattle.vx_house.proofs.Runs.{all_alone}
 
 -- as many disks at most as devices were found
 looks_long : {P : Type 0} (see : P → Seen) (ds : List (GroupDevice P)) → length (map (looked see) ds) ≡ length ds
@@ -95,7 +96,7 @@ module _ {P : Type 0} {ghosts : Ghosts P} (see : P → Seen) (dg : Word) (names 
         why = why;
         end_is = refl;
         finds = given_finds dg m.world (unread_by fs) fs (all_linked see dg names first now h fs since m at_m) ofs (λ o config. (refusal_from (first_broken (import_records config)) ≡ Some why) ⊎ ((after : Config) × (objects_of after ≡ import_records config) × RefusedAsLong after (ends.Refused why))) (λ r. r ≡ why) given is
-            (refused_finds dg (record { sequence = given.sequence; good = given.good; text = text_of given.text }) (candidates_of fs) m.world (is_started h.volumes) (λ name. started_same see (volume_at h name) (m.world.volumes name) (kept_alone see h m.world since.keeps.house at_m.volumes_are at_m.runs_are name)) why judges);
+            (refused_finds dg (record { sequence = given.sequence; good = given.good; text = text_of given.text }) (candidates_of fs) m.world (is_started h.volumes) (λ name. started_same see (volume_at h name) (m.world.volumes name) (all_alone see h m.world (λ n. ap (λ o. run_in o n) since.none) at_m.volumes_are at_m.runs_are name)) why judges);
       }) tt
 
   finds_seen : AllOf (λ f. seen_at (beside now (holders see h) fs) f.device ≡ Some f.seen) fs

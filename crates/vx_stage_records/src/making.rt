@@ -1,6 +1,6 @@
 //! The stage that adds the records of a text.
 ghost use Rattle.std.specs.Prelude.{List};
-ghost use Rattle.vx_added_records.specs.Started.{is_running};
+ghost use Rattle.vx_added_records.specs.Started.{is_either};
 ghost use Rattle.vx_house.specs.Goes.{StageGoes};
 ghost use Rattle.vx_house.specs.Holders.{holders, AreHeld};
 ghost use Rattle.vx_house.specs.Scene.{Shelved};
@@ -40,10 +40,10 @@ fn make_in<P: Piece>(
     text: &[u8],
 ) -> Result<(), Stop>
     requires kept { IsGroupKept P.seen group.old }
-    ensures ends { MakeEnds P.seen (is_running volumes.now) text.now result group.old group.new }
+    ensures ends { MakeEnds P.seen (is_either volumes.now group.old.public.running) text.now result group.old group.new }
 {
     let added = added_by(alloc, text)?;
-    match refusal_of(alloc, volumes, &group.config, &added) {
+    match refusal_of(alloc, volumes, &group.public.running, &group.config, &added) {
         Ok(None) => commit_edits(alloc, group, &[Edit::Make(Listed::from_vec(added))]),
         Ok(Some(refusal)) => refused(refusal),
         Err(_) => Err(Stop::OutOfMemory),

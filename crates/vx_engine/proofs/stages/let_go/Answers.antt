@@ -6,10 +6,10 @@ use Rattle.vx_engine.proofs.GateStage.{group_let_go, group_stays}
 use Rattle.vx_engine.proofs.stages.let_go.Goals as goal
 
 pub returns-in-Ok : goal.returns-in-Ok
-returns-in-Ok g c = record { goes = λ disks. group_let_go g.S.P.Piece.seen disks (shelved g.S.Shelf.free g.S.Shelf.held g.S.Shelf.counted g.S.Shelf.faults c.args.shelf.now) (shelved g.S.Shelf.free g.S.Shelf.held g.S.Shelf.counted g.S.Shelf.faults c.give_group.new.shelf) c.args.house.now c.give_group.new.house c.requires.keeps c.in-Ok.ensures.gives }
+returns-in-Ok g c = record { goes = group_let_go g.S.P.Piece.seen c.args.disks.now (shelved g.S.Shelf.free g.S.Shelf.held g.S.Shelf.counted g.S.Shelf.faults c.args.shelf.now) (shelved g.S.Shelf.free g.S.Shelf.held g.S.Shelf.counted g.S.Shelf.faults c.give_group.new.shelf) c.args.house.now c.give_group.new.house c.requires.keeps c.in-Ok.ensures.gives }
 
 pub returns-in-Err : goal.returns-in-Err
 returns-in-Err g c = record {
-  goes = λ disks. subst (λ s. HasRested g.S.P.Piece.seen (at (shelved g.S.Shelf.free g.S.Shelf.held g.S.Shelf.counted g.S.Shelf.faults c.args.shelf.now) c.args.house.now) (at (shelved g.S.Shelf.free g.S.Shelf.held g.S.Shelf.counted g.S.Shelf.faults s) c.give_group.new.house)) (sym c.in-Err.ensures.shelf)
-      (group_stays g.S.P.Piece.seen (shelved g.S.Shelf.free g.S.Shelf.held g.S.Shelf.counted g.S.Shelf.faults c.args.shelf.now) c.args.house.now c.give_group.new.house c.requires.keeps c.in-Err.ensures.kept);
+  goes = subst (λ s. HasRested g.S.P.Piece.seen (at (shelved g.S.Shelf.free g.S.Shelf.held g.S.Shelf.counted g.S.Shelf.faults c.args.shelf.now) c.args.house.now) (at (shelved g.S.Shelf.free g.S.Shelf.held g.S.Shelf.counted g.S.Shelf.faults s) c.give_group.new.house)) (sym c.in-Err.ensures.shelf)
+      (group_stays g.S.P.Piece.seen (shelved g.S.Shelf.free g.S.Shelf.held g.S.Shelf.counted g.S.Shelf.faults c.args.shelf.now) c.args.house.now c.give_group.new.house c.args.disks.now c.requires.ready c.requires.keeps c.in-Err.ensures.kept);
 }

@@ -30,7 +30,7 @@ pub returns-in-Gate : goal.returns-in-Gate
 returns-in-Gate g c = record { goes = rw c.in-Gate.is (stage_ends g.S.P.Piece.seen c.args.disks.now _ _ _ _ (c.pass.ensures.goes (shelved g.S.Shelf.free g.S.Shelf.held g.S.Shelf.counted g.S.Shelf.faults c.args.shelf.now) c.requires.keeps)) }
 
 pub returns-in-LetGo : goal.returns-in-LetGo
-returns-in-LetGo g c = record { goes = rw c.in-LetGo.is (c.let_go.ensures.goes c.args.disks.now) }
+returns-in-LetGo g c = record { goes = rw c.in-LetGo.is c.let_go.ensures.goes }
 
 pub returns-in-Take : goal.returns-in-Take
 returns-in-Take g c = record { goes = rw c.in-Take.is (stage_ends g.S.P.Piece.seen c.args.disks.now _ _ _ _ (c.take.ensures.goes c.args.disks.now (rw c.in-Take.is at c.requires.ready))) }

@@ -22,19 +22,19 @@ returns-in-Read-clause-served g c =
     (IfOk-weaker c.read_blocks.result _ _ (λ served h. read_serves c.each_call_runs_on.ensures.read c.in-Read.vol c.in-Read.start c.in-Read.count served (volume_seen g.P.Piece.seen c.args.running.now.volume) (volume_seen g.P.Piece.seen c.read_blocks.new.volume) valid.1 c.requires.volume c.read_blocks.ensures.continues.whole h) c.read_blocks.ensures.served)
 
 pub returns-in-Read-clause-stays : goal.returns-in-Read-clause-stays
-returns-in-Read-clause-stays g c = stays_by c.args.running.now.volume c.read_blocks.new.volume c.read_blocks.result c.read_blocks.ensures.refused (read_all c.args.running.now.volume c.read_blocks.new.volume c.read_blocks.result c.in-Read.start c.in-Read.count c.read_blocks.ensures.continues.follows c.read_blocks.ensures.served)
+returns-in-Read-clause-stays g c = stays_by c.args.running.now.volume c.read_blocks.new.volume c.read_blocks.result c.read_blocks.ensures.refused (read_all c.args.running.now.volume c.read_blocks.new.volume c.read_blocks.result c.in-Read.start c.in-Read.count c.requires.volume c.read_blocks.ensures.continues.follows c.read_blocks.ensures.served)
 
 pub returns-in-Read-clause-goes : goal.returns-in-Read-clause-goes
-returns-in-Read-clause-goes g c = goes_by c.args.running.now.volume c.read_blocks.new.volume c.read_blocks.result c.read_blocks.ensures.refused (read_all c.args.running.now.volume c.read_blocks.new.volume c.read_blocks.result c.in-Read.start c.in-Read.count c.read_blocks.ensures.continues.follows c.read_blocks.ensures.served)
+returns-in-Read-clause-goes g c = goes_by c.args.running.now.volume c.read_blocks.new.volume c.read_blocks.result c.read_blocks.ensures.refused (read_all c.args.running.now.volume c.read_blocks.new.volume c.read_blocks.result c.in-Read.start c.in-Read.count c.requires.volume c.read_blocks.ensures.continues.follows c.read_blocks.ensures.served)
 
 pub returns-in-Read-clause-counted : goal.returns-in-Read-clause-counted
-returns-in-Read-clause-counted g c = counted_by c.args.running.now.volume c.read_blocks.new.volume c.read_blocks.result c.read_blocks.ensures.refused (read_all c.args.running.now.volume c.read_blocks.new.volume c.read_blocks.result c.in-Read.start c.in-Read.count c.read_blocks.ensures.continues.follows c.read_blocks.ensures.served)
+returns-in-Read-clause-counted g c = counted_by c.args.running.now.volume c.read_blocks.new.volume c.read_blocks.result c.read_blocks.ensures.refused (read_all c.args.running.now.volume c.read_blocks.new.volume c.read_blocks.result c.in-Read.start c.in-Read.count c.requires.volume c.read_blocks.ensures.continues.follows c.read_blocks.ensures.served)
 
 pub returns-in-Read-clause-cause : goal.returns-in-Read-clause-cause
-returns-in-Read-clause-cause g c = cause_by c.args.running.now.volume c.read_blocks.new.volume c.read_blocks.result (read_all c.args.running.now.volume c.read_blocks.new.volume c.read_blocks.result c.in-Read.start c.in-Read.count c.read_blocks.ensures.continues.follows c.read_blocks.ensures.served)
+returns-in-Read-clause-cause g c = cause_by c.args.running.now.volume c.read_blocks.new.volume c.read_blocks.result (read_all c.args.running.now.volume c.read_blocks.new.volume c.read_blocks.result c.in-Read.start c.in-Read.count c.requires.volume c.read_blocks.ensures.continues.follows c.read_blocks.ensures.served)
 
 pub returns-in-Read-clause-dead : goal.returns-in-Read-clause-dead
-returns-in-Read-clause-dead g c = dead_by c.args.running.now.volume c.read_blocks.new.volume c.read_blocks.result c.read_blocks.ensures.refused (read_all c.args.running.now.volume c.read_blocks.new.volume c.read_blocks.result c.in-Read.start c.in-Read.count c.read_blocks.ensures.continues.follows c.read_blocks.ensures.served)
+returns-in-Read-clause-dead g c = dead_by c.args.running.now.volume c.read_blocks.new.volume c.read_blocks.result c.read_blocks.ensures.refused (read_all c.args.running.now.volume c.read_blocks.new.volume c.read_blocks.result c.in-Read.start c.in-Read.count c.requires.volume c.read_blocks.ensures.continues.follows c.read_blocks.ensures.served)
 
 pub returns-in-Fill-clause-served : goal.returns-in-Fill-clause-served
 returns-in-Fill-clause-served g c =
@@ -43,19 +43,19 @@ returns-in-Fill-clause-served g c =
     (IfOk-weaker c.fill_blocks.result _ _ (λ served h. fill_serves c.each_call_runs_on.ensures.written c.in-Fill.vol c.in-Fill.start c.in-Fill.count c.in-Fill.byte served (volume_seen g.P.Piece.seen c.args.running.now.volume) (volume_seen g.P.Piece.seen c.fill_blocks.new.volume) valid.1 c.requires.volume c.fill_blocks.ensures.continues.whole h) c.fill_blocks.ensures.served)
 
 pub returns-in-Fill-clause-stays : goal.returns-in-Fill-clause-stays
-returns-in-Fill-clause-stays g c = stays_by c.args.running.now.volume c.fill_blocks.new.volume c.fill_blocks.result c.fill_blocks.ensures.refused (write_all c.args.running.now.volume c.fill_blocks.new.volume c.fill_blocks.result c.in-Fill.start c.in-Fill.count (replicate (512 * c.in-Fill.count) c.in-Fill.byte) c.fill_blocks.ensures.continues.follows c.fill_blocks.ensures.served)
+returns-in-Fill-clause-stays g c = stays_by c.args.running.now.volume c.fill_blocks.new.volume c.fill_blocks.result c.fill_blocks.ensures.refused (write_all c.args.running.now.volume c.fill_blocks.new.volume c.fill_blocks.result c.in-Fill.start c.in-Fill.count (replicate (512 * c.in-Fill.count) c.in-Fill.byte) c.requires.volume c.fill_blocks.ensures.continues.follows c.fill_blocks.ensures.served)
 
 pub returns-in-Fill-clause-goes : goal.returns-in-Fill-clause-goes
-returns-in-Fill-clause-goes g c = goes_by c.args.running.now.volume c.fill_blocks.new.volume c.fill_blocks.result c.fill_blocks.ensures.refused (write_all c.args.running.now.volume c.fill_blocks.new.volume c.fill_blocks.result c.in-Fill.start c.in-Fill.count (replicate (512 * c.in-Fill.count) c.in-Fill.byte) c.fill_blocks.ensures.continues.follows c.fill_blocks.ensures.served)
+returns-in-Fill-clause-goes g c = goes_by c.args.running.now.volume c.fill_blocks.new.volume c.fill_blocks.result c.fill_blocks.ensures.refused (write_all c.args.running.now.volume c.fill_blocks.new.volume c.fill_blocks.result c.in-Fill.start c.in-Fill.count (replicate (512 * c.in-Fill.count) c.in-Fill.byte) c.requires.volume c.fill_blocks.ensures.continues.follows c.fill_blocks.ensures.served)
 
 pub returns-in-Fill-clause-counted : goal.returns-in-Fill-clause-counted
-returns-in-Fill-clause-counted g c = counted_by c.args.running.now.volume c.fill_blocks.new.volume c.fill_blocks.result c.fill_blocks.ensures.refused (write_all c.args.running.now.volume c.fill_blocks.new.volume c.fill_blocks.result c.in-Fill.start c.in-Fill.count (replicate (512 * c.in-Fill.count) c.in-Fill.byte) c.fill_blocks.ensures.continues.follows c.fill_blocks.ensures.served)
+returns-in-Fill-clause-counted g c = counted_by c.args.running.now.volume c.fill_blocks.new.volume c.fill_blocks.result c.fill_blocks.ensures.refused (write_all c.args.running.now.volume c.fill_blocks.new.volume c.fill_blocks.result c.in-Fill.start c.in-Fill.count (replicate (512 * c.in-Fill.count) c.in-Fill.byte) c.requires.volume c.fill_blocks.ensures.continues.follows c.fill_blocks.ensures.served)
 
 pub returns-in-Fill-clause-cause : goal.returns-in-Fill-clause-cause
-returns-in-Fill-clause-cause g c = cause_by c.args.running.now.volume c.fill_blocks.new.volume c.fill_blocks.result (write_all c.args.running.now.volume c.fill_blocks.new.volume c.fill_blocks.result c.in-Fill.start c.in-Fill.count (replicate (512 * c.in-Fill.count) c.in-Fill.byte) c.fill_blocks.ensures.continues.follows c.fill_blocks.ensures.served)
+returns-in-Fill-clause-cause g c = cause_by c.args.running.now.volume c.fill_blocks.new.volume c.fill_blocks.result (write_all c.args.running.now.volume c.fill_blocks.new.volume c.fill_blocks.result c.in-Fill.start c.in-Fill.count (replicate (512 * c.in-Fill.count) c.in-Fill.byte) c.requires.volume c.fill_blocks.ensures.continues.follows c.fill_blocks.ensures.served)
 
 pub returns-in-Fill-clause-dead : goal.returns-in-Fill-clause-dead
-returns-in-Fill-clause-dead g c = dead_by c.args.running.now.volume c.fill_blocks.new.volume c.fill_blocks.result c.fill_blocks.ensures.refused (write_all c.args.running.now.volume c.fill_blocks.new.volume c.fill_blocks.result c.in-Fill.start c.in-Fill.count (replicate (512 * c.in-Fill.count) c.in-Fill.byte) c.fill_blocks.ensures.continues.follows c.fill_blocks.ensures.served)
+returns-in-Fill-clause-dead g c = dead_by c.args.running.now.volume c.fill_blocks.new.volume c.fill_blocks.result c.fill_blocks.ensures.refused (write_all c.args.running.now.volume c.fill_blocks.new.volume c.fill_blocks.result c.in-Fill.start c.in-Fill.count (replicate (512 * c.in-Fill.count) c.in-Fill.byte) c.requires.volume c.fill_blocks.ensures.continues.follows c.fill_blocks.ensures.served)
 
 pub returns-in-Data-clause-served : goal.returns-in-Data-clause-served
 returns-in-Data-clause-served g c =
@@ -64,19 +64,19 @@ returns-in-Data-clause-served g c =
     (IfOk-weaker c.write_blocks.result _ _ (λ served h. data_serves c.each_call_runs_on.ensures.written c.in-Data.vol c.in-Data.start c.in-Data.blocks served (volume_seen g.P.Piece.seen c.args.running.now.volume) (volume_seen g.P.Piece.seen c.write_blocks.new.volume) valid.2 c.requires.volume c.write_blocks.ensures.continues.whole h) c.write_blocks.ensures.served)
 
 pub returns-in-Data-clause-stays : goal.returns-in-Data-clause-stays
-returns-in-Data-clause-stays g c = stays_by c.args.running.now.volume c.write_blocks.new.volume c.write_blocks.result c.write_blocks.ensures.refused (write_all c.args.running.now.volume c.write_blocks.new.volume c.write_blocks.result c.in-Data.start (length c.in-Data.blocks / 512) c.in-Data.blocks c.write_blocks.ensures.continues.follows c.write_blocks.ensures.served)
+returns-in-Data-clause-stays g c = stays_by c.args.running.now.volume c.write_blocks.new.volume c.write_blocks.result c.write_blocks.ensures.refused (write_all c.args.running.now.volume c.write_blocks.new.volume c.write_blocks.result c.in-Data.start (length c.in-Data.blocks / 512) c.in-Data.blocks c.requires.volume c.write_blocks.ensures.continues.follows c.write_blocks.ensures.served)
 
 pub returns-in-Data-clause-goes : goal.returns-in-Data-clause-goes
-returns-in-Data-clause-goes g c = goes_by c.args.running.now.volume c.write_blocks.new.volume c.write_blocks.result c.write_blocks.ensures.refused (write_all c.args.running.now.volume c.write_blocks.new.volume c.write_blocks.result c.in-Data.start (length c.in-Data.blocks / 512) c.in-Data.blocks c.write_blocks.ensures.continues.follows c.write_blocks.ensures.served)
+returns-in-Data-clause-goes g c = goes_by c.args.running.now.volume c.write_blocks.new.volume c.write_blocks.result c.write_blocks.ensures.refused (write_all c.args.running.now.volume c.write_blocks.new.volume c.write_blocks.result c.in-Data.start (length c.in-Data.blocks / 512) c.in-Data.blocks c.requires.volume c.write_blocks.ensures.continues.follows c.write_blocks.ensures.served)
 
 pub returns-in-Data-clause-counted : goal.returns-in-Data-clause-counted
-returns-in-Data-clause-counted g c = counted_by c.args.running.now.volume c.write_blocks.new.volume c.write_blocks.result c.write_blocks.ensures.refused (write_all c.args.running.now.volume c.write_blocks.new.volume c.write_blocks.result c.in-Data.start (length c.in-Data.blocks / 512) c.in-Data.blocks c.write_blocks.ensures.continues.follows c.write_blocks.ensures.served)
+returns-in-Data-clause-counted g c = counted_by c.args.running.now.volume c.write_blocks.new.volume c.write_blocks.result c.write_blocks.ensures.refused (write_all c.args.running.now.volume c.write_blocks.new.volume c.write_blocks.result c.in-Data.start (length c.in-Data.blocks / 512) c.in-Data.blocks c.requires.volume c.write_blocks.ensures.continues.follows c.write_blocks.ensures.served)
 
 pub returns-in-Data-clause-cause : goal.returns-in-Data-clause-cause
-returns-in-Data-clause-cause g c = cause_by c.args.running.now.volume c.write_blocks.new.volume c.write_blocks.result (write_all c.args.running.now.volume c.write_blocks.new.volume c.write_blocks.result c.in-Data.start (length c.in-Data.blocks / 512) c.in-Data.blocks c.write_blocks.ensures.continues.follows c.write_blocks.ensures.served)
+returns-in-Data-clause-cause g c = cause_by c.args.running.now.volume c.write_blocks.new.volume c.write_blocks.result (write_all c.args.running.now.volume c.write_blocks.new.volume c.write_blocks.result c.in-Data.start (length c.in-Data.blocks / 512) c.in-Data.blocks c.requires.volume c.write_blocks.ensures.continues.follows c.write_blocks.ensures.served)
 
 pub returns-in-Data-clause-dead : goal.returns-in-Data-clause-dead
-returns-in-Data-clause-dead g c = dead_by c.args.running.now.volume c.write_blocks.new.volume c.write_blocks.result c.write_blocks.ensures.refused (write_all c.args.running.now.volume c.write_blocks.new.volume c.write_blocks.result c.in-Data.start (length c.in-Data.blocks / 512) c.in-Data.blocks c.write_blocks.ensures.continues.follows c.write_blocks.ensures.served)
+returns-in-Data-clause-dead g c = dead_by c.args.running.now.volume c.write_blocks.new.volume c.write_blocks.result c.write_blocks.ensures.refused (write_all c.args.running.now.volume c.write_blocks.new.volume c.write_blocks.result c.in-Data.start (length c.in-Data.blocks / 512) c.in-Data.blocks c.requires.volume c.write_blocks.ensures.continues.follows c.write_blocks.ensures.served)
 
 pub returns-in-Read-clause-lies : goal.returns-in-Read-clause-lies
 returns-in-Read-clause-lies g c numbers was = lies_read numbers c.args.running.now.form c.args.running.now.volume c.read_blocks.new.volume was c.in-Read.start c.in-Read.count c.read_blocks.result c.read_blocks.ensures.refused c.read_blocks.ensures.continues.follows c.read_blocks.ensures.served

@@ -1,0 +1,159 @@
+-- Running volumes of a group through a commit: they run by the configuration that was written, on the same disks.
+use Rattle.std.proofs.Common.{◌≡◌, ◌∙◌, ℕ, true, false, List, [], ◌∷◌, ◌++◌, Option, Some, None, refl, sym, ap, subst, inl, inr}
+use Rattle.std.specs.Prelude.{Contains, IsSome}
+use Rattle.vx_pages.specs.declared.local_piece.LocalPiece.{Ghosts}
+use Rattle.vx_base.specs.Named.{Word}
+use Rattle.vx_mask.specs.Mask.{has}
+use Rattle.vx_piece.specs.Seen.{Seen}
+use Rattle.vx_copies.specs.Disks.{DiskSeen}
+use Rattle.vx_copies.specs.Lists.{AnyOf}
+use Rattle.vx_config_parts.specs.declared.vol.Vol.{Vol}
+use Rattle.vx_image.specs.Bytes.{Sectors, image_of}
+use Rattle.vx_image.specs.Image.{PlexImage, IsFilled, WasStarted}
+use Rattle.vx_image.specs.Own.{IsOfVolume}
+use Rattle.vx_image.proofs.Imports.{filled}
+use Rattle.vx_layout.specs.declared.place.Place.{Place}
+use Rattle.vx_moments.specs.World.{Group, Member, Volume}
+use Rattle.vx_running.specs.declared.public.Running.{Running}
+use Rattle.vx_volume_lives.specs.Leaving.{AreNamedIn}
+use Rattle.vx_left_images.proofs.Configurations.{keeping_goes_on, kept_named}
+use Rattle.vx_group_volumes.specs.Runs.{RunsIn}
+use Rattle.vx_group_edits.specs.Stays.{AreFewer, EachStays, StaysRecorded}
+use Rattle.vx_confdb.specs.Groups.{members}
+use Rattle.vx_moments.specs.Leaving.{grouped}
+use Rattle.vx_running.specs.Public.{running_at}
+use Rattle.vx_group_images.specs.Owners.{device_at}
+use Rattle.vx_own_sectors.specs.Places.{KeepsPlaces, RunsInPlace}
+use Rattle.vx_own_sectors.proofs.Places.{places_go_on}
+use Rattle.vx_house.specs.Runs.{AreRuns, IsAtRun, IsRunOf, IsNumbered}
+use Rattle.vx_house.specs.declared.house.Imported.{Imported}
+
+-- each of these disks is one of those, by the name and the number of its device
+abbrev pub AreDisksOf : List DiskSeen → List DiskSeen → Type 0
+AreDisksOf hs ks = (h : DiskSeen) → AnyOf (λ x. x ≡ h) hs → (k : DiskSeen) × AnyOf (λ x. x ≡ k) ks × (k.device ≡ h.device) × (k.seen.device ≡ h.seen.device)
+
+-- names that are in a list of plexes that is in another
+named_through : (ps qs rs : List PlexImage) → AreNamedIn ps qs → AreNamedIn qs rs → AreNamedIn ps rs
+named_through ps qs rs one two p there =
+    let q = one p there in
+    let r = two q.0 q.1 in
+    (r.0, r.1, r.2 ∙ q.2, r.3 ∙ q.3)
+
+module _ {P : Type 0} {ghosts : Ghosts P} (see : P → Seen) (hs ks : List DiskSeen) (same : AreDisksOf hs ks) (w : Group) (name : Word) (r : Running P ghosts) (run : Volume) (is : IsRunOf see hs w name r run) where
+  on_disks : (numbers : List ℕ) (members members' : List Member) (slot : ℕ) → ((d : Word) → device_at members slot ≡ Some d → device_at members' slot ≡ Some d) → IsNumbered numbers hs members slot → IsNumbered numbers ks members' slot
+  on_disks numbers members members' slot devices n =
+      let k = same n.disk n.there in
+      record { disk = k.0; there = k.1; device = devices n.disk.device n.device ∙ ap (λ (d : Word). Some d) (sym k.2); number = n.number ∙ sym k.3 }
+
+  -- whatever was written to the disks, it runs by the same group
+  pub run_moved : IsRunOf see ks w name r run
+  run_moved = record {
+    of = is.of;
+    named = is.named;
+    started = is.started;
+    numbers = is.numbers;
+    own = is.own;
+    placed = is.placed;
+    opened = λ slot there. on_disks is.numbers w.members w.members slot (λ d e. e) (is.opened slot there);
+    numbered = λ place of good. on_disks is.numbers w.members w.members place.disk (λ d e. e) (is.numbered place of good);
+    lies = is.lies;
+    length_is = is.length_is;
+    region_is = is.region_is;
+    plexes = is.plexes;
+    plexes_of = is.plexes_of;
+    plexes_then = is.plexes_then;
+    runs_as = is.runs_as;
+    sure = is.sure;
+  }
+
+  -- and by one that keeps it
+  module _ (w' : Group) (stays : StaysRecorded w.config w.good is.of w'.config w'.good)
+      (devices : (slot : ℕ) (d : Word) → device_at w.members slot ≡ Some d → device_at w'.members slot ≡ Some d) where
+    started_now : WasStarted stays.now.state
+    started_now = subst WasStarted (sym stays.state) is.started
+
+    runs_now : RunsIn see w'.config w'.good is.numbers stays.now r
+    runs_now = record {
+      recorded = stays.recorded;
+      filled = filled stays.now.state started_now;
+      opening = is.placed.runs.opening;
+      of = is.placed.runs.of;
+      form = is.placed.runs.form;
+      keeps = keeping_goes_on is.placed.runs.opening.config is.placed.runs.opening.good is.placed.runs.opening.vol is.placed.runs.opening.fresh w.config w.good is.of w'.config w'.good stays.now is.placed.runs.keeps stays.keeps;
+      whole = is.placed.runs.whole;
+      shape = is.placed.runs.shape;
+      lies = is.placed.runs.lies;
+      cut = is.placed.runs.cut;
+    }
+
+    plexes_kept : KeepsPlaces w.config is.of.name w'.config stays.now.name
+    plexes_kept p there own =
+        let q = stays.plexes p there own in
+        record { plex = p; there = q.there; own = q.own; name = refl; lies = q.lies }
+
+    placed_now : RunsInPlace see w'.config w'.good is.numbers stays.now r
+    unfolding runs_now
+    placed_now = record {
+      runs = runs_now;
+      places = places_go_on is.placed.runs.opening.config is.placed.runs.opening.vol.name w.config is.of.name w'.config stays.now.name is.placed.places plexes_kept;
+      numbered = is.placed.numbered;
+    }
+
+    pub run_kept : IsRunOf see ks w' name r run
+    unfolding runs_now placed_now
+    run_kept = record {
+      of = stays.now;
+      named = stays.name ∙ is.named;
+      started = started_now;
+      numbers = is.numbers;
+      own = is.own;
+      placed = placed_now;
+      opened = λ slot there. on_disks is.numbers w.members w'.members slot (devices slot) (is.opened slot there);
+      numbered = λ place of e.
+          let was = stays.places place of in
+          on_disks is.numbers w.members w'.members place.disk (devices place.disk) (is.numbered place was (stays.were_good place was e));
+      lies = is.lies;
+      length_is = is.length_is ∙ sym stays.keeps.length_is;
+      region_is = is.region_is ∙ sym stays.keeps.region_is;
+      plexes = is.plexes;
+      plexes_of = λ bytes. named_through (image_of w'.config w'.good bytes stays.now).plexes (image_of w.config w.good bytes is.of).plexes is.plexes
+          (kept_named w.config w.good is.of false w'.config w'.good stays.now stays.keeps bytes bytes) (is.plexes_of bytes);
+      plexes_then = is.plexes_then;
+      runs_as = is.runs_as;
+      sure = is.sure;
+    }
+
+-- whatever was written to the disks of the group, its volumes run as they did
+moved_at : {P : Type 0} {ghosts : Ghosts P} (see : P → Seen) (hs ks : List DiskSeen) → AreDisksOf hs ks → (g : Option Group) (name : Word) (r : Option (Running P ghosts)) (v : Option Volume) → IsAtRun see hs g name r v → IsAtRun see ks g name r v
+moved_at see hs ks same g name None None is = tt
+moved_at see hs ks same g name None (Some v) is = absurd is
+moved_at see hs ks same g name (Some r) None is = absurd is
+moved_at see hs ks same None name (Some r) (Some v) is = absurd is
+moved_at see hs ks same (Some w) name (Some r) (Some v) is = run_moved see hs ks same w name r v is
+
+pub runs_moved : {P : Type 0} {ghosts : Ghosts P} (see : P → Seen) (o n : Imported P ghosts) → n.public ≡ o.public → AreDisksOf (members see o.base) (members see n.base) → (g : Option Group) (volumes : Word → Option Volume) → AreRuns see (Some o) g volumes → AreRuns see (Some n) g volumes
+runs_moved see o n public disks g volumes are name =
+    subst (λ p. IsAtRun see (members see n.base) g name (running_at p name) (grouped (volumes name))) (sym public)
+    (moved_at see (members see o.base) (members see n.base) disks g name (running_at o.public name) (grouped (volumes name)) (are name))
+
+-- The group keeps each volume of these names, on no more disks, and its members in their slots.
+pub record KeepsThese (These : Word → Type 0) (w w' : Group) : Type 0 where
+  pub stays : EachStays (λ v. These v.name) w.config w'.config
+  pub fewer : AreFewer w.config w.good w'.good
+  pub devices : (slot : ℕ) (d : Word) → device_at w.members slot ≡ Some d → device_at w'.members slot ≡ Some d
+
+kept_at : {P : Type 0} {ghosts : Ghosts P} (see : P → Seen) (hs ks : List DiskSeen) → AreDisksOf hs ks → (These : Word → Type 0) (w w' : Group) → KeepsThese These w w' → (name : Word) (r : Option (Running P ghosts)) (v : Option Volume) → (IsSome r → These name) → IsAtRun see hs (Some w) name r v → IsAtRun see ks (Some w') name r v
+kept_at see hs ks same These w w' keeps name None None these is = tt
+kept_at see hs ks same These w w' keeps name None (Some v) these is = absurd is
+kept_at see hs ks same These w w' keeps name (Some r) None these is = absurd is
+kept_at see hs ks same These w w' keeps name (Some r) (Some v) these is =
+    run_kept see hs ks same w name r v is w' (keeps.stays is.of is.placed.runs.recorded (subst These (sym is.named) (these refl)) w.good w'.good keeps.fewer) keeps.devices
+
+-- a volume of the name runs
+abbrev pub Runs : {P : Type 0} {ghosts : Ghosts P} → Imported P ghosts → Word → Type 0
+Runs g name = IsSome (running_at g.public name)
+
+pub runs_kept : {P : Type 0} {ghosts : Ghosts P} (see : P → Seen) (o n : Imported P ghosts) → n.public ≡ o.public → AreDisksOf (members see o.base) (members see n.base) → (w w' : Group) → KeepsThese (Runs o) w w' → (volumes : Word → Option Volume) → AreRuns see (Some o) (Some w) volumes → AreRuns see (Some n) (Some w') volumes
+runs_kept see o n public disks w w' keeps volumes are name =
+    subst (λ p. IsAtRun see (members see n.base) (Some w') name (running_at p name) (grouped (volumes name))) (sym public)
+    (kept_at see (members see o.base) (members see n.base) disks (Runs o) w w' keeps name (running_at o.public name) (grouped (volumes name)) (λ there. there) (are name))

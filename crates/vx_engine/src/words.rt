@@ -1,0 +1,25 @@
+//! What a call says of its range.
+ghost use Rattle.std.specs.Prelude.{◌≡◌, ◌+◌};
+ghost use Rattle.vx_plans.specs.Calls.{count_of, start_of, volume_of};
+ghost use Rattle.vx_engine.specs.Calling.{IsCall};
+
+use vx_names::Name;
+use vx_script_forms::Call;
+
+pub(crate) fn volume_of(call: &Call) -> Name
+    ensures { result ≡ volume_of call.now }
+{
+    match call {
+        Call::Read { vol, .. } | Call::Fill { vol, .. } | Call::Data { vol, .. } => *vol,
+    }
+}
+
+pub(crate) fn end_of(call: &Call) -> u64
+    requires { IsCall call.now }
+    ensures { result ≡ start_of call.now + count_of call.now }
+{
+    match call {
+        Call::Read { start, count, .. } | Call::Fill { start, count, .. } => *start + *count,
+        Call::Data { .. } => unreachable!(),
+    }
+}

@@ -1,0 +1,17 @@
+//! A call or a pass on one running volume of the imported group, as a step of the house that holds it: a law, as a function that does
+//! nothing and promises it.
+#![tactic(auto)]
+
+ghost use Rattle.vx_house_calls.specs.Passes.{EachCallGoesOn};
+
+use vx_house::{House, Imported};
+use vx_piece::Piece;
+
+/// A call on one running volume of the group of a house goes on with the house, and with each moment that it is.
+pub fn each_call_goes_on<P: Piece + Drop>(house: &House<P>, old: &Imported<P>, new: &Imported<P>)
+    ensures { EachCallGoesOn P.seen house.now old.now new.now }
+{
+    let _ = house;
+    let _ = old;
+    let _ = new;
+}

@@ -1,0 +1,4 @@
+pub mod Rests
+pub mod Reasons
+pub mod Stands
+pub mod Commits

@@ -32,6 +32,7 @@ pub fn open_group<P: Piece + Drop>(
 ) -> Result<(), OutOfMemory>
     ensures group { group.new ≡ record group.old { disks = group.new.disks } }
     ensures alive { IsGroup P.seen group.old → IsGroup P.seen group.new }
+    ensures parts { Reparts (members P.seen group.old) (members P.seen group.new) (map P.seen pool.old.items.items) (map P.seen pool.new.items.items) }
     ensures same { (lent : List Seen) → AreParted (members P.seen group.old) (map P.seen pool.old.items.items ++ lent) →
         AreSameWhole lent (members P.seen group.old) (members P.seen group.new) (map P.seen pool.old.items.items) (map P.seen pool.new.items.items) }
     ensures opened { OnOk result (AllOf IsCutShort (members P.seen group.new)) }

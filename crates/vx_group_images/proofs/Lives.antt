@@ -14,7 +14,7 @@ use Rattle.vx_image.specs.Soundness.{IsSoundImage}
 use Rattle.vx_image.proofs.Members.{is_in}
 use Rattle.vx_moments.specs.World.{Volume, World}
 use Rattle.vx_group_images.specs.Group.{image_on}
-use Rattle.vx_group_images.specs.Lives.{volume_by, EachStartLeavesSound, EachLeavingLeavesSound}
+use Rattle.vx_group_images.specs.Lives.{volume_begun, EachStartLeavesSound, EachLeavingLeavesSound}
 use Rattle.vx_group_images.proofs.OtherVolumes.{volumes_sound}
 
 apart : (vol name : Word) → name ≢ vol → bytes_eq vol name ≡ false
@@ -33,7 +33,7 @@ module _ (vol : Word) (o : Option Volume) (old new : World) (is : new.volumes �
 
 pub start_leaves : EachStartLeavesSound
 start_leaves g v plexes old new own begins sound =
-    let run : Volume = record (volume_by v.state plexes (image_on old.devices g v)) { sound = begins.sound } in
+    let run : Volume = record (volume_begun g v plexes (image_on old.devices g v)) { sound = begins.sound } in
     volumes_sound g v.name old new own begins.changes (idle_before v.name (Some run) old new begins.volumes)
     (λ w there same none. absurd (let here : new.volumes v.name ≡ Some run = here_now v.name (Some run) old new begins.volumes in cc)) sound
 

@@ -1,5 +1,5 @@
 -- How a volume of a group begins to run over its bytes, and how it is left.
-use Rattle.std.specs.Prelude.{◌≡◌, ℕ, Bool, true, false, if◌then◌else◌, Option, Some, None, MatchOption, List, [], Contains}
+use Rattle.std.specs.Prelude.{◌≡◌, Bool, true, false, if◌then◌else◌, Some, None, MatchOption, List, Contains}
 use Rattle.std.specs.List.{list_any}
 use Rattle.vx_base.specs.Named.{Word, put}
 use Rattle.vx_config_parts.specs.declared.vol.Vol.{Vol}
@@ -11,6 +11,8 @@ use Rattle.vx_image.specs.Soundness.{IsSoundImage}
 use Rattle.vx_moments.specs.World.{Track, Volume, Group, World}
 use Rattle.vx_moments.specs.Leaving.{grouped}
 use Rattle.vx_group_images.specs.Group.{ChangesOnly, HaveOwnDevices, AreVolumesSound, image_on}
+use Rattle.vx_group_images.specs.Owners.{owners_of}
+use Rattle.vx_group_images.specs.Tracks.{unsure}
 use Rattle.vx_group_images.specs.Volumes.{StandsForVolume, is_named, volume_read}
 
 -- ---- a life begins
@@ -38,13 +40,18 @@ volume_by vol.Active plexes v = volume_read plexes v
 volume_by vol.NeedSync plexes v = volume_read plexes v
 volume_by vol.Sync plexes v = volume_read plexes v
 
+-- The volume as a life begins, on these plexes: nothing is sure of those that are written to, as of a volume that runs. Such a plex may
+-- have marks all the same, where it failed in an earlier life or is not copied yet.
+abbrev pub volume_begun : Group → Vol → List Word → Image → Volume
+volume_begun g v plexes image = unsure (owners_of g v.name plexes) (volume_by v.state plexes image)
+
 -- A volume is started on these plexes, of data and of its log: a life begins over what its bytes say, of which nothing more is known
 -- where they are not sound. Only sectors of the volume have changed, such as those of its log.
 pub record BeginsToRun (g : Group) (v : Vol) (plexes : List Word) (old new : World) : Type 0 where
   pub sound : Bool
   pub if_sound : IsSoundImage (image_on old.devices g v) → sound ≡ true
   pub changes : ChangesOnly g v.name old.devices new.devices
-  pub volumes : new.volumes ≡ put v.name (Some (record (volume_by v.state plexes (image_on old.devices g v)) { sound = sound })) old.volumes
+  pub volumes : new.volumes ≡ put v.name (Some (record (volume_begun g v plexes (image_on old.devices g v)) { sound = sound })) old.volumes
 
 -- ---- a life ends
 

@@ -1,5 +1,5 @@
 -- What entries and failures do to the tracks and the dirty regions of a started volume.
-use Rattle.std.specs.Prelude.{ℕ, ◌==◌, ◌&&◌, ◌||◌, Bool, List, [], ◌∷◌, if◌then◌else◌}
+use Rattle.std.specs.Prelude.{ℕ, ◌==◌, ◌&&◌, ◌||◌, Bool, false, List, [], ◌∷◌, if◌then◌else◌}
 use Rattle.std.specs.List.{list_any}
 use Rattle.vx_base.specs.Named.{Word}
 use Rattle.vx_life.specs.declared.EntryKind.{EntryKind}
@@ -73,6 +73,12 @@ volume_failed owners f v =
       failed = λ name. f name || v.failed name;
       tracks = λ name. if (owners name).available && has_failed f (owners name) then record (v.tracks name) { possible = λ r. was_unsettled v r || (v.tracks name).possible r } else v.tracks name;
     }
+
+-- ---- what is sure
+
+-- the volume with nothing sure of what is written to
+abbrev pub unsure : (Word → TrackOwner) → Volume → Volume
+unsure owners w = record w { tracks = λ name. if (owners name).available then record (w.tracks name) { sure = λ r. false } else w.tracks name }
 
 -- ---- a call
 

@@ -52,6 +52,7 @@ use Rattle.vx_running.specs.declared.public.Running.{Running}
 use Rattle.vx_group_start.specs.Fresh.{is_fresh, maps_to_copy}
 use Rattle.vx_group_start.specs.Logs.{IsLogOf}
 use Rattle.vx_group_start.specs.Started.{IsStarted}
+use Rattle.vx_group_volumes.specs.Copies.{AreTight}
 use Rattle.vx_group_volumes.proofs.Begun.{IsFirst, begun_as, begun_opened, begun_over, begun_stands, begun_well, is_low, marks_of}
 use Rattle.vx_group_volumes.proofs.Lowest.{copied_clean, logged_others, own_names, plain_others}
 use Rattle.vx_group_volumes.proofs.Starts.{some_count}
@@ -178,6 +179,10 @@ module _ {P : Type 0} {ghosts : Ghosts P} (c : Config) (good : ℕ) (v : Vol) (n
 
   shown : Shown
   shown = shown_by (log_of running.volume) log_is_fresh refl
+
+  -- no mark is loose
+  pub fresh_tight : AreTight (volume_seen ghosts.seen running.volume)
+  fresh_tight r k lt = let count = started.opened.cells.count in let long = started.long in shown.shows.tight r k (omega (arith, lt, count, long))
 
   opened_by : IsOpenedBy c good bytes v running.form (marks_of shown.others) (volume_seen ghosts.seen running.volume)
   opened_by = record {

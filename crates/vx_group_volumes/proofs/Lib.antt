@@ -1,6 +1,8 @@
 mod Begun
+mod Copied
 mod Firsts
 pub mod Starts
+mod Tight
 pub mod Leavings
 mod Lowest
 mod Owners

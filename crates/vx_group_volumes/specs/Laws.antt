@@ -25,10 +25,10 @@ use Rattle.vx_volume_form.specs.Form.{IsFormOf}
 use Rattle.vx_lending.specs.Left.{held_pieces}
 use Rattle.vx_opened_images.specs.Contents.{AreSectorsOf}
 use Rattle.vx_group_images.specs.Lives.{volume_first}
-use Rattle.vx_group_images.specs.Tracks.{TrackOwner}
+use Rattle.vx_group_images.specs.Tracks.{TrackOwner, unsure}
 use Rattle.vx_group_images.specs.Volumes.{StandsForVolume, volume_read}
 use Rattle.vx_volume_lives.specs.Laws.{OwnersFit}
-use Rattle.vx_volume_lives.specs.Leaving.{AreNamedIn, unsure}
+use Rattle.vx_volume_lives.specs.Leaving.{AreNamedIn}
 use Rattle.vx_volume_lives.specs.Running.{IsSureOfOthers, RunsAsVolume}
 use Rattle.vx_left_images.specs.Keeping.{ChangesStates}
 use Rattle.vx_left_images.specs.Lying.{LiesIn}
@@ -41,6 +41,7 @@ use Rattle.vx_group_start.specs.Fresh.{is_fresh}
 use Rattle.vx_group_start.specs.Started.{IsStarted}
 use Rattle.vx_group_calls.specs.Causes.{AreCutWhereDead}
 use Rattle.vx_group_calls.specs.Laws.{StaysTogether}
+use Rattle.vx_group_volumes.specs.Copies.{AreTight}
 use Rattle.vx_group_volumes.specs.Runs.{RunsIn}
 
 -- A volume of a configuration was started out of the pieces of its group, and another configuration records it, of which states have
@@ -51,13 +52,23 @@ StartRuns see old new running =
     (c' : Config) (good' : ℕ) (v' : Vol) → IsVolOf c' v' → IsFilled v'.state → ChangesStates c good v (is_fresh v.state) c' good' v' →
     RunsIn see c' good' numbers v' running
 
--- Where it was started before, so that its log was loaded, and its bytes are sound: it runs as the volume that is read from them.
+-- Where it was started before, so that its log was loaded, and its bytes are sound: it runs as the volume that is read from them, ..
 abbrev pub LoadedStartRuns : {P : Type 0} {ghosts : Ghosts P} → (P → Seen) → Public P ghosts → Public P ghosts → Running P ghosts → Type 0
 LoadedStartRuns see old new running =
     (c : Config) (good : ℕ) (v : Vol) (numbers : List ℕ) → IsVolOf c v → IsFilled v.state → IsFormOf c good v false running.form → IsStarted see v numbers old new running →
     (contents : ℕ → Contents) → All (Holds contents) (still_pieces see old) →
     (bytes : Sectors) → AreSectorsOf good numbers contents bytes → IsSoundImage (image_of c good bytes v) →
     (plexes : List Word) → RunsAsVolume (image_of c good bytes v).plexes (volume_seen see running.volume) (volume_read plexes (image_of c good bytes v))
+
+-- .. and as that volume with nothing sure of plexes that are written to: such as one that failed, and lacks what its marks say.
+abbrev pub LoadedStartForgets : {P : Type 0} {ghosts : Ghosts P} → (P → Seen) → Public P ghosts → Public P ghosts → Running P ghosts → Type 0
+LoadedStartForgets see old new running =
+    (c : Config) (good : ℕ) (v : Vol) (numbers : List ℕ) → IsVolOf c v → IsFilled v.state → IsFormOf c good v false running.form → IsStarted see v numbers old new running →
+    (contents : ℕ → Contents) → All (Holds contents) (still_pieces see old) →
+    (bytes : Sectors) → AreSectorsOf good numbers contents bytes → IsSoundImage (image_of c good bytes v) →
+    (plexes : List Word) (owners : Word → TrackOwner) → OwnersFit (image_of c good bytes v).plexes (volume_seen see running.volume) owners →
+    RunsAsVolume (image_of c good bytes v).plexes (volume_seen see running.volume) (unsure owners (volume_read plexes (image_of c good bytes v)))
+    × IsSureOfOthers (image_of c good bytes v).plexes (volume_seen see running.volume) (unsure owners (volume_read plexes (image_of c good bytes v)))
 
 -- Where it was never started: it runs as the volume of the first life over its bytes, ..
 abbrev pub FreshStartRuns : {P : Type 0} {ghosts : Ghosts P} → (P → Seen) → Public P ghosts → Public P ghosts → Running P ghosts → Type 0
@@ -76,6 +87,13 @@ FreshStartForgets see old new running =
     (plexes : List Word) (owners : Word → TrackOwner) → OwnersFit (image_of c good bytes v).plexes (volume_seen see running.volume) owners →
     RunsAsVolume (image_of c good bytes v).plexes (volume_seen see running.volume) (unsure owners (volume_first plexes (image_of c good bytes v)))
     × IsSureOfOthers (image_of c good bytes v).plexes (volume_seen see running.volume) (unsure owners (volume_first plexes (image_of c good bytes v)))
+
+-- Its log is new, so no mark is loose.
+abbrev pub FreshStartIsTight : {P : Type 0} {ghosts : Ghosts P} → (P → Seen) → Public P ghosts → Public P ghosts → Running P ghosts → Type 0
+FreshStartIsTight see old new running =
+    (c : Config) (good : ℕ) (v : Vol) (numbers : List ℕ) → IsVolOf c v → v.state ≡ vol.Empty → IsFormOf c good v true running.form → IsStarted see v numbers old new running →
+    (contents : ℕ → Contents) → All (Holds contents) (still_pieces see old) →
+    (bytes : Sectors) → AreSectorsOf good numbers contents bytes → AreTight (volume_seen see running.volume)
 
 -- As a volume starts, by whichever form, its plexes are written to just where they are available: so owners by their names fit that say so.
 abbrev pub StartFits : {P : Type 0} {ghosts : Ghosts P} → (P → Seen) → Public P ghosts → Public P ghosts → Running P ghosts → Type 0

@@ -1,7 +1,8 @@
 //! A volume of an imported group from its start to its leaving: laws, as functions that do nothing and promise them.
 #![tactic(auto)]
 
-ghost use Rattle.vx_group_volumes.specs.Laws.{CopiesGoOn, EachLeavingStandsFor, EachRecordedVolumeRuns, EachStartChangesStates, EachStopChangesStates, FreshStartForgets, FreshStartRuns, LoadedStartRuns, RestGoesOn, StartFits, StartRuns};
+ghost use Rattle.vx_group_volumes.specs.Copies.{EachCopyMissesNothing, EachCopyStaysTight, EachCopyUnmarks, EachUnmarkedMissesNothing};
+ghost use Rattle.vx_group_volumes.specs.Laws.{CopiesGoOn, EachLeavingStandsFor, EachRecordedVolumeRuns, EachStartChangesStates, EachStopChangesStates, FreshStartForgets, FreshStartIsTight, FreshStartRuns, LoadedStartForgets, LoadedStartRuns, RestGoesOn, StartFits, StartRuns};
 
 use vx_piece::Piece;
 use vx_running::{Public, Running};
@@ -36,22 +37,25 @@ pub fn each_started_volume_fits<P: Piece + Drop>(
     let _ = running;
 }
 
-/// Where its log was loaded it runs as the volume of the world that begins over its bytes, if these are sound.
+/// Where its log was loaded it runs as the volume of the world that begins over its bytes, if these are sound, of which nothing need
+/// be sure of a plex that is written to.
 pub fn each_loaded_start_runs<P: Piece + Drop>(
     old: &Public<P>,
     new: &Public<P>,
     running: &Running<P>,
 )
-    ensures { LoadedStartRuns P.seen old.now new.now running.now }
+    ensures runs { LoadedStartRuns P.seen old.now new.now running.now }
+    ensures forgets { LoadedStartForgets P.seen old.now new.now running.now }
 {
     each_opening_runs();
+    each_running_forgets();
     let _ = old;
     let _ = new;
     let _ = running;
 }
 
 /// Where it was never started it runs as the volume of the world whose first life begins over its bytes, of which nothing need be sure
-/// of a plex that is written to.
+/// of a plex that is written to. No mark of its log is loose.
 pub fn each_fresh_start_runs<P: Piece + Drop>(
     old: &Public<P>,
     new: &Public<P>,
@@ -59,6 +63,7 @@ pub fn each_fresh_start_runs<P: Piece + Drop>(
 )
     ensures runs { FreshStartRuns P.seen old.now new.now running.now }
     ensures forgets { FreshStartForgets P.seen old.now new.now running.now }
+    ensures tight { FreshStartIsTight P.seen old.now new.now running.now }
 {
     each_empty_begins();
     each_opening_runs();
@@ -86,6 +91,15 @@ pub fn each_pass_goes_on<P: Piece + Drop>(old: &Volume<P>, new: &Volume<P>)
     let _ = old;
     let _ = new;
 }
+
+/// Copies that are done leave their plexes unmarked; where no call on the log failed meanwhile, and no mark was loose before, nothing is
+/// missing on them.
+pub fn each_copy_misses_nothing()
+    ensures unmarks { EachCopyUnmarks }
+    ensures tight { EachCopyStaysTight }
+    ensures unmarked { EachUnmarkedMissesNothing }
+    ensures nothing { EachCopyMissesNothing }
+{}
 
 /// What a start and a stop record changes states alone, and the volume is recorded still.
 pub fn each_record_changes_states()

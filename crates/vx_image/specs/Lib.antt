@@ -4,5 +4,6 @@ pub mod Deciding
 pub mod Image
 pub mod Import
 pub mod Meaning
+pub mod Narrowing
 pub mod Own
 pub mod Soundness

@@ -6,6 +6,7 @@ ghost use Rattle.vx_image.specs.Counts.{EachCountFits};
 ghost use Rattle.vx_image.specs.Deciding.{EachImageIsSoundOrNot};
 ghost use Rattle.vx_image.specs.Import.{EachImportIsSound, EachImportStands};
 ghost use Rattle.vx_image.specs.Meaning.{EachImageStandsForItself, EachReadingIsWithin};
+ghost use Rattle.vx_image.specs.Narrowing.{EachImageIsNarrowed, EachNarrowedIsRead, EachNarrowedIsSound, EachNarrowedPairIsSound, EachNarrowingGoesOn};
 ghost use Rattle.vx_image.specs.Own.{EachImageIsItsOwn};
 
 /// The image of a volume is what its own sectors hold.
@@ -33,4 +34,14 @@ pub fn each_count_fits()
 /// An image is sound, or it is not.
 pub fn each_image_is_sound_or_not()
     ensures { EachImageIsSoundOrNot }
+{}
+
+/// An image whose copies mark something between what they marked before is as sound as it was, and what is read of it is within what was
+/// read.
+pub fn each_narrowed_image_is_sound()
+    ensures own { EachImageIsNarrowed }
+    ensures on { EachNarrowingGoesOn }
+    ensures sound { EachNarrowedIsSound }
+    ensures pair { EachNarrowedPairIsSound }
+    ensures read { EachNarrowedIsRead }
 {}

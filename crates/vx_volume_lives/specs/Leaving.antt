@@ -1,5 +1,5 @@
 -- A started volume of the code that is left: the bytes of its regions stand for the volume of the world that it ran as.
-use Rattle.std.specs.Prelude.{◌≡◌, ℕ, ◌<◌, false, if◌then◌else◌, List, length, map, nat_lt, Contains, Ok}
+use Rattle.std.specs.Prelude.{◌≡◌, ℕ, ◌<◌, if◌then◌else◌, List, length, map, nat_lt, Contains, Ok}
 use Rattle.vx_base.specs.Blocks.{Contents}
 use Rattle.vx_base.specs.Named.{Word}
 use Rattle.vx_core.specs.declared.stage.Phase.TheVariants.{Settled}
@@ -10,15 +10,11 @@ use Rattle.vx_image.specs.Image.{PlexImage, LogCopy, Image, WasStarted, IsFilled
 use Rattle.vx_group_images.specs.Volumes.{StandsForVolume}
 use Rattle.vx_volume_laws.specs.Loss.{ReadsOneList}
 use Rattle.vx_volume_laws.specs.Regions.{LeaveImage}
-use Rattle.vx_group_images.specs.Tracks.{TrackOwner}
+use Rattle.vx_group_images.specs.Tracks.{TrackOwner, unsure}
 use Rattle.vx_volume_lives.specs.Laws.{OwnersFit}
 use Rattle.vx_volume_lives.specs.Running.{IsSureOfOthers, RunsAsVolume, states_of}
 
 -- ---- what is sure
-
--- the volume with nothing sure of what is written to
-abbrev pub unsure : (Word → TrackOwner) → Volume → Volume
-unsure owners w = record w { tracks = λ name. if (owners name).available then record (w.tracks name) { sure = λ r. false } else w.tracks name }
 
 -- A volume that runs also runs with nothing sure of what is written to.
 abbrev pub EachRunningForgets : Type 0

@@ -6,6 +6,12 @@ use Rattle.vx_fronts.proofs.Alive.{group_same}
 use Rattle.vx_fronts.proofs.Steps.{on_ok, same_devices, seen_parts}
 use Rattle.vx_fronts.proofs.parting.open_group.Goals as goal
 
+pub returns-clause-parts : goal.returns-clause-parts
+returns-clause-parts g c =
+    let old : c.swap_disks-disks.result.items ≡ c.args.group.now.disks.items = search rules in
+    let new : c.swap_disks-none.new.self.disks.items ≡ c.part_disks-disks.result.0.items = search rules in
+    seen_parts g.P.Piece.seen c.swap_disks-disks.result.items c.part_disks-disks.result.0.items c.args.group.now.disks.items c.swap_disks-none.new.self.disks.items _ _ old new c.part_disks-disks.ensures.parts
+
 pub returns-clause-same : goal.returns-clause-same
 returns-clause-same g c = λ lent parted.
     let old : c.swap_disks-disks.result.items ≡ c.args.group.now.disks.items = search rules in

@@ -9,29 +9,29 @@ use Rattle.vx_copies.specs.declared.disk.Disk.{Disk}
 use Rattle.vx_confdb.specs.Groups.{members}
 use Rattle.vx_moments.specs.World.{Group}
 use Rattle.vx_moments.specs.Moment.{Moment}
-use Rattle.vx_group_edits.specs.Stays.{EachStays}
+use Rattle.vx_group_edits.specs.Stays.{AreFewer, EachStays}
 use Rattle.vx_group_images.specs.Owners.{device_at}
-use Rattle.vx_house.specs.Runs.{AreRuns}
+use Rattle.vx_house.specs.Runs.{AreInPlace, AreRuns}
 use Rattle.vx_house.specs.Scene.{Shelved}
 use Rattle.vx_house.specs.View.{at, group_of, member_in, member_of, IsMoment}
 use Rattle.vx_house.specs.declared.house.House.{House}
 use Rattle.vx_house.specs.declared.house.Imported.{Imported}
 use Rattle.vx_commits.proofs.Alone.{IsWrittenIn, low_by, went_by}
 use Rattle.vx_commits.proofs.Holders.{same_members}
-use Rattle.vx_commits.proofs.Owns.{AreDisksOf, KeepsThese, Runs, runs_kept, runs_moved}
+use Rattle.vx_commits.proofs.Owns.{AreDisksOf, KeepsThese, Runs, places_kept, runs_kept, runs_moved}
 use Rattle.vx_commits.proofs.Slots.{mask_was}
 
--- disks that went on have the names and numbers of their devices
+-- disks that went on have their slots, and the names and numbers of their devices
 pub disks_on : (first last : ℕ) (text : List ℕ) (hs bs : List DiskSeen) → Each (CommitGoes first last text) hs bs → AreDisksOf hs bs
 disks_on first last text [] bs goes h there = absurd there
 disks_on first last text (a ∷ hs) [] goes h there = absurd goes
-disks_on first last text (a ∷ hs) (b ∷ bs) goes h (inl here) = (b, inl refl, goes.0.device ∙ ap (λ (x : DiskSeen). x.device) here, goes.0.kept.device ∙ ap (λ (x : DiskSeen). x.seen.device) here)
+disks_on first last text (a ∷ hs) (b ∷ bs) goes h (inl here) = (b, inl refl, goes.0.device ∙ ap (λ (x : DiskSeen). x.device) here, goes.0.kept.device ∙ ap (λ (x : DiskSeen). x.seen.device) here, goes.0.slot ∙ ap (λ (x : DiskSeen). x.slot) here)
 disks_on first last text (a ∷ hs) (b ∷ bs) goes h (inr there) =
     let k = disks_on first last text hs bs goes.1 h there in
-    (k.0, inr k.1, k.2, k.3)
+    (k.0, inr k.1, k.2, k.3, k.4)
 
 pub disks_same : (hs : List DiskSeen) → AreDisksOf hs hs
-disks_same hs h there = (h, there, refl, refl)
+disks_same hs h there = (h, there, refl, refl, refl)
 
 -- disks as members, by what is seen of them
 pub seen_members : {P : Type 0} (see : P → Seen) (ds : List (Disk P)) → map member_in (map (disk_seen see) ds) ≡ map member_of ds
@@ -65,10 +65,17 @@ module _ {P : Type 0} {ghosts : Ghosts P} {see : P → Seen} {shelf : Shelved} {
   same_named : map member_of g'.base.disks.items ≡ map member_of g.base.disks.items
   same_named = sym (seen_members see g'.base.disks.items) ∙ same_members (g.base.sequence + 1) g'.base.sequence text fs ns goes ∙ seen_members see g.base.disks.items
 
+  fewer : AreFewer g.config (good_mask fs) (good_mask ns)
+  fewer slot e = inl (mask_was fs ns (went_by (g.base.sequence + 1) g'.base.sequence text fs ns goes) (low_by fs w.writable.ready) slot e)
+
+  -- in the house they are in their places still
+  pub places_done : EachStays (λ v. Runs g v.name) g.config g'.config → AreInPlace see g → AreInPlace see g'
+  places_done stays all = places_kept see g g' w.public disks stays fewer all
+
   keeps_these : EachStays (λ v. Runs g v.name) g.config g'.config → KeepsThese (Runs g) (seen_group g) (seen_group g')
   keeps_these stays = record {
     stays = stays;
-    fewer = λ slot e. inl (mask_was fs ns (went_by (g.base.sequence + 1) g'.base.sequence text fs ns goes) (low_by fs w.writable.ready) slot e);
+    fewer = fewer;
     devices = λ slot d e. ap (λ ms. device_at ms slot) same_named ∙ e;
   }
 

@@ -11,7 +11,7 @@ use Rattle.std.specs.Str.{bytes_eq}
 use Rattle.vx_pages.specs.declared.local_piece.LocalPiece.{Ghosts}
 use Rattle.vx_base.specs.Named.{Word}
 use Rattle.vx_piece.specs.Seen.{Seen}
-use Rattle.vx_copies.specs.Disks.{DiskSeen}
+use Rattle.vx_copies.specs.Disks.{DiskSeen, good_mask}
 use Rattle.vx_copies.specs.Lists.{AllOf}
 use Rattle.vx_copies.specs.declared.disk.Disk.{Disk}
 use Rattle.vx_confdb.specs.Groups.{members}
@@ -26,7 +26,7 @@ use Rattle.vx_moments.specs.Leaving.{grouped, lone}
 use Rattle.vx_moments.specs.Moment.{Moment}
 use Rattle.vx_moments.specs.World.{Group, Volume}
 use Rattle.vx_house.specs.Holders.{Holder, group_holders, hand_holder, holder_in, holders, volume_holder, whole_members, AreHeld}
-use Rattle.vx_house.specs.Runs.{AreRuns, IsAtRun, fronts_in, run_in}
+use Rattle.vx_house.specs.Runs.{AllInPlace, AreRuns, IsAtRun, fronts_in, run_in}
 use Rattle.vx_house.specs.Scene.{Shelved, AreCountsOf, FaultsGoOn, seen_at}
 use Rattle.vx_house.specs.View.{AreSized, IsAtVolume, IsDeviceOf, IsGroupKept, IsGroupWhole, IsMoment, Keeps, at, group_of, is_lent, scene}
 use Rattle.vx_house.specs.declared.house.House.{House}
@@ -65,6 +65,7 @@ module _ {P : Type 0} {ghosts : Ghosts P} (see : P → Seen) (g : Imported P gho
       volumes = subst (AreRunningVolumes see) (sym e) kept.whole.volumes;
       stuck = kept.whole.stuck;
     };
+    placed = subst (AllInPlace see (members see g.base) g.config (good_mask (members see g.base))) (sym e) kept.placed;
   }
 
   run_now : (name : Word) → running_at now.public name ≡ running_at g.public name

@@ -24,3 +24,4 @@ pub mod OnlyInHand
 pub mod Readings
 pub mod ReadsInHand
 pub mod Refusals
+pub mod Idle

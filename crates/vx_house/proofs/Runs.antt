@@ -1,22 +1,24 @@
 -- Running volumes of a group: none run, or those that did.
-use Rattle.std.proofs.Common.{◌≡◌, ◌∙◌, true, false, Option, Some, None, MatchOption, [], ◌∷◌, refl, sym, ap, subst}
+use Rattle.std.proofs.Common.{◌≡◌, true, false, Option, Some, None, [], ◌∷◌, refl, sym, ap, subst}
 use Rattle.std.specs.Prelude.{List, IfSome, is_some}
 use Rattle.vx_pages.specs.declared.local_piece.LocalPiece.{Ghosts}
 use Rattle.vx_base.specs.Named.{Word}
 use Rattle.vx_piece.specs.Seen.{Seen}
-use Rattle.vx_copies.specs.Disks.{DiskSeen}
+use Rattle.vx_copies.specs.Disks.{DiskSeen, good_mask}
+use Rattle.vx_confdb.specs.Groups.{members}
 use Rattle.vx_moments.specs.Leaving.{grouped, grouped_by, lone, lone_by}
 use Rattle.vx_moments.proofs.Lone.{lone_all}
 use Rattle.vx_moments.specs.World.{Volume, Group, World, Lies, OnDevice, OnPlexes}
 use Rattle.vx_running.specs.declared.public.Running.{Running}
-use Rattle.vx_house.specs.Runs.{AreRuns, IsAtRun, fronts_in, run_in}
+use Rattle.vx_running.specs.Public.{running_at}
+use Rattle.vx_house.specs.Runs.{AllInPlace, AreInPlace, AreRuns, IsAtRun, IsInPlace, fronts_in, run_in}
 use Rattle.vx_started.specs.declared.started.Started.{Started}
 use Rattle.vx_house.specs.Holders.{volume_at}
 use Rattle.vx_house.specs.Plain.{plain, told_volume}
 use Rattle.vx_house.specs.View.{IsAtVolume, IsGroupIdle, RunsNone}
 use Rattle.vx_house.specs.declared.house.House.{House}
 use Rattle.vx_house.specs.declared.house.Imported.{Imported}
-use Rattle.vx_house.proofs.AllLaws.{found_first, found_in}
+use Rattle.vx_house.proofs.AllLaws.{found_by_one, found_first, found_in}
 
 module _ {P : Type 0} {ghosts : Ghosts P} (see : P → Seen) where
   -- an idle group has no running volume
@@ -80,3 +82,16 @@ module _ {P : Type 0} {ghosts : Ghosts P} (see : P → Seen) where
 
   pub started_same : (h : House P ghosts) (w : World) → ((vol : Word) → IsAtVolume see (volume_at h vol) (lone (w.volumes vol))) → AreRuns see h.group w.group w.volumes → (vol : Word) → is_some (w.volumes vol) ≡ is_some ((plain see h).volumes vol)
   started_same h w volumes runs vol = told_same (fronts_in see h.group) w.group vol (volume_at h vol) (run_in h.group vol) (w.volumes vol) (volumes vol) (runs vol)
+
+  -- ---- in their places
+
+  -- where none runs, each is in its place
+  pub none_in_place : (g : Imported P ghosts) → RunsNone g → AreInPlace see g
+  none_in_place g none = subst (AllInPlace see (members see g.base) g.config (good_mask (members see g.base))) (sym none) tt
+
+  -- one that runs is in its place
+  pub place_at : (g : Imported P ghosts) → AreInPlace see g → (name : Word) (r : Running P ghosts) → running_at g.public name ≡ Some r → IsInPlace see (members see g.base) g.config (good_mask (members see g.base)) name r
+  place_at g all name r is =
+      let hs = members see g.base in
+      found_by_one (λ (e : Word × Running P ghosts). IsInPlace see hs g.config (good_mask hs) e.0 e.1) g.public.running.entries name r is all
+      (λ e key value place. subst (λ n. IsInPlace see hs g.config (good_mask hs) n r) key (subst (λ (x : Running P ghosts). IsInPlace see hs g.config (good_mask hs) e.0 x) value place))

@@ -9,3 +9,4 @@ pub mod Takes
 pub mod Leaves
 pub mod Reading
 pub mod Runs
+pub mod Idle

@@ -4,8 +4,9 @@ use Rattle.vx_pages.specs.declared.local_piece.LocalPiece.{Ghosts}
 use Rattle.vx_base.specs.Named.{Word}
 use Rattle.vx_piece.specs.Seen.{Seen}
 use Rattle.vx_config_parts.specs.declared.vol.Vol.{Vol}
-use Rattle.vx_copies.specs.Disks.{DiskSeen}
-use Rattle.vx_copies.specs.Lists.{AnyOf}
+use Rattle.vx_objects.specs.declared.config.Config.{Config}
+use Rattle.vx_copies.specs.Disks.{DiskSeen, good_mask}
+use Rattle.vx_copies.specs.Lists.{AllOf, AnyOf}
 use Rattle.vx_mask.specs.Mask.{has}
 use Rattle.vx_layout.specs.declared.place.Place.{Place}
 use Rattle.vx_image.specs.Own.{IsOfVolume}
@@ -24,6 +25,38 @@ use Rattle.vx_carve.specs.Carved.{HaveNumbers}
 use Rattle.vx_own_sectors.specs.Places.{IsSlotOf, RunsInPlace, disks_at}
 use Rattle.vx_called_plexes.specs.Opened.{opened_plexes}
 use Rattle.vx_house.specs.declared.house.Imported.{Imported}
+
+-- ---- in the house
+
+-- one of these disks has the slot, and the number that is given of the slot is that of its device
+pub record IsOnDisk (numbers : List ℕ) (hs : List DiskSeen) (slot : ℕ) : Type 0 where
+  pub disk : DiskSeen
+  pub there : AnyOf (λ h. h ≡ disk) hs
+  pub slot_is : disk.slot ≡ slot
+  pub number_is : slice_index numbers slot ≡ disk.seen.device
+
+-- The running volume of the name is in its place, whatever the world is: the configuration records it as started, and its plexes lie where
+-- they lay as it was opened. The disks that were good then are among these, by the numbers of their devices, and so are the good ones that
+-- its plexes lie on.
+pub record IsInPlace {P : Type 0} {ghosts : Ghosts P} (see : P → Seen) (hs : List DiskSeen) (config : Config) (good : ℕ) (name : Word) (r : Running P ghosts) : Type 0 where
+  pub of : Vol
+  pub named : of.name ≡ name
+  pub started : WasStarted of.state
+  pub numbers : List ℕ
+  pub own : HaveNumbers numbers
+  pub placed : RunsInPlace see config good numbers of r
+  pub opened : (slot : ℕ) → IsSlotOf (disks_at placed.runs.opening) slot → IsOnDisk numbers hs slot
+  pub numbered : (place : Place) → IsOfVolume config of.name place → has good place.disk ≡ true → IsOnDisk numbers hs place.disk
+
+-- so is each of these, under its name
+abbrev pub AllInPlace : {P : Type 0} {ghosts : Ghosts P} → (P → Seen) → List DiskSeen → Config → ℕ → List (Word × Running P ghosts) → Type 0
+AllInPlace {P = P} {ghosts = ghosts} see hs config good es = AllOf (λ (e : Word × Running P ghosts). IsInPlace see hs config good e.0 e.1) es
+
+-- so is each running volume of the group
+abbrev pub AreInPlace : {P : Type 0} {ghosts : Ghosts P} → (P → Seen) → Imported P ghosts → Type 0
+AreInPlace see g = AllInPlace see (members see g.base) g.config (good_mask (members see g.base)) g.public.running.entries
+
+-- ---- in the world
 
 -- the member of a slot is one of these disks, and the number that is given of the slot is that of its device
 pub record IsNumbered (numbers : List ℕ) (hs : List DiskSeen) (members : List Member) (slot : ℕ) : Type 0 where

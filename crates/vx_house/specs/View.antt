@@ -24,7 +24,7 @@ use Rattle.vx_moments.specs.Moment.{Moment}
 use Rattle.vx_moments.specs.Copies.{IsTextOf}
 use Rattle.vx_moments.specs.Leaving.{lone}
 use Rattle.vx_house.specs.Holders.{holders, volume_at, whole_members, AreHeld}
-use Rattle.vx_house.specs.Runs.{AreRuns}
+use Rattle.vx_house.specs.Runs.{AreInPlace, AreRuns}
 use Rattle.vx_house.specs.Scene.{Shelved, Scene, seen_at, AreCountsOf}
 use Rattle.vx_house.specs.declared.house.House.{House}
 use Rattle.vx_house.specs.declared.house.Imported.{Imported}
@@ -132,7 +132,7 @@ HaveSlots (d ∷ ds) = AllOf (λ e. e.slot ≢ d.slot) ds × HaveSlots ds
 abbrev pub AreRecorded : {P : Type 0} → Config → List (Disk P) → Type 0
 AreRecorded config ds = AllOf (λ d. list_any (λ r. r.slot == d.slot) config.disks ≡ true) ds
 
--- The good disks of the group carry the text of its configuration.
+-- The good disks of the group carry the text of its configuration, and its running volumes are in their places.
 pub record IsGroupKept {P : Type 0} {ghosts : Ghosts P} (see : P → Seen) (g : Imported P ghosts) : Type 0 where
   pub named : g.base.name ≡ g.config.group
   pub text : IsTextOf g.config (text_of g.base.text)
@@ -142,6 +142,7 @@ pub record IsGroupKept {P : Type 0} {ghosts : Ghosts P} (see : P → Seen) (g : 
   pub slots : HaveSlots g.base.disks.items
   pub recorded : AreRecorded g.config g.base.disks.items
   pub whole : IsGroupWhole see g
+  pub placed : AreInPlace see g
 
 -- What a house keeps: its volumes stand in the order of their names, its devices have their sizes, and its group carries its text.
 pub record KeepsHouse {P : Type 0} {ghosts : Ghosts P} (see : P → Seen) (h : House P ghosts) : Type 0 where

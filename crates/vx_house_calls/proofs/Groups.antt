@@ -9,9 +9,12 @@ use Rattle.vx_base.specs.Counts.{Rose}
 use Rattle.vx_base.specs.Named.{Word}
 use Rattle.vx_piece.specs.Seen.{Seen}
 use Rattle.vx_carve.specs.Together.{HasSome, cut_on, faults_on}
-use Rattle.vx_copies.specs.Disks.{DiskSeen}
+use Rattle.vx_copies.specs.Disks.{DiskSeen, good_mask}
 use Rattle.vx_copies.specs.Lists.{Each}
 use Rattle.vx_confdb.specs.Groups.{members}
+use Rattle.vx_config_parts.specs.declared.vol.Vol.{Vol}
+use Rattle.vx_objects.specs.declared.config.Config.{Config}
+use Rattle.vx_volume_form.specs.Form.{IsFormOf}
 use Rattle.vx_fronts.specs.Fronts.{Rest, whole_disk, with_device}
 use Rattle.vx_fronts.specs.Laws.{whole_disks}
 use Rattle.vx_fronts.specs.Parted.{AreParted, IsOfSome}
@@ -23,11 +26,13 @@ use Rattle.vx_running.specs.Public.{lent_pieces, running_pieces, still_pieces, s
 use Rattle.vx_group_start.specs.Laying.{AreRunningVolumes}
 use Rattle.vx_volume.specs.Volume.{IsVolume, volume_seen}
 use Rattle.vx_own_sectors.specs.Disks.{DiskGoesOn}
+use Rattle.vx_own_sectors.specs.Places.{RunsInPlace}
 use Rattle.vx_own_sectors.proofs.Called.{each_disk_on}
 use Rattle.vx_house.specs.Holders.{whole_members}
+use Rattle.vx_house.specs.Runs.{AllInPlace, AreInPlace, IsInPlace}
 use Rattle.vx_house.specs.View.{IsGroupKept, IsGroupWhole}
 use Rattle.vx_house.specs.declared.house.Imported.{Imported}
-use Rattle.vx_house.proofs.Holders.{all_others, all_put}
+use Rattle.vx_house.proofs.Holders.{all_here, all_others, all_put}
 use Rattle.vx_house.proofs.Lists.{each_two}
 use Rattle.vx_house_calls.specs.Passes.{IsCalledIn}
 use Rattle.vx_house_calls.proofs.Counts.{SameCounts, cut, quiet, rose}
@@ -152,6 +157,49 @@ module _ {P : Type 0} {ghosts : Ghosts P} (see : P → Seen) (name : Word) (g : 
     pub whole_now : IsGroupWhole see now
     whole_now = record { parted = subst (AreParted hs) (sym behind_are) (on.0 is.tells); volumes = runs_now; stuck = whole.stuck }
 
+  -- the volume that was called runs in its place still
+  unfoldable pub runs_after : (c : Config) (good : ℕ) (numbers : List ℕ) (of : Vol) → RunsInPlace see c good numbers of is.before → RunsInPlace see c good numbers of is.after
+  runs_after c good numbers of placed =
+      let o = placed.runs.opening in
+      record {
+        runs = record {
+          recorded = placed.runs.recorded;
+          filled = placed.runs.filled;
+          opening = o;
+          of = placed.runs.of;
+          form = subst (IsFormOf o.config o.good o.vol o.fresh) (sym is.form) placed.runs.form;
+          keeps = placed.runs.keeps;
+          whole = is.whole;
+          shape = is.shape ∙ placed.runs.shape ∙ ap (λ f. f.shape) (sym is.form);
+          lies = is.lies numbers placed.runs.lies;
+          cut = is.dead placed.runs.cut;
+        };
+        places = placed.places;
+        numbered = placed.numbered;
+      }
+
+  place_now : (c : Config) (good : ℕ) (x : Word) → IsInPlace see hs c good x is.before → IsInPlace see hs c good x is.after
+  unfolding runs_after
+  place_now c good x run = record {
+    of = run.of;
+    named = run.named;
+    started = run.started;
+    numbers = run.numbers;
+    own = run.own;
+    placed = runs_after c good run.numbers run.of run.placed;
+    opened = run.opened;
+    numbered = run.numbered;
+  }
+
+  pub places_now : AreInPlace see g → AreInPlace see now
+  places_now all =
+      let good = good_mask hs in
+      let ok = λ (e : Word × Running P ghosts). IsInPlace see hs g.config good e.0 e.1 in
+      let were = subst (AllInPlace see hs g.config good) spot.was all in
+      subst (AllInPlace see hs g.config good) (sym spot.is)
+      (all_put ok spot.before (spot.key, is.after) spot.behind (place_now g.config good spot.key (all_here ok spot.before (spot.key, is.before) spot.behind were))
+      (all_others ok spot.before (spot.key, is.before) spot.behind were))
+
   pub kept_now : IsGroupKept see g → IsGroupKept see now
   kept_now kept = record {
     named = kept.named;
@@ -163,4 +211,5 @@ module _ {P : Type 0} {ghosts : Ghosts P} (see : P → Seen) (name : Word) (g : 
     slots = kept.slots;
     recorded = kept.recorded;
     whole = whole_now kept.whole;
+    placed = places_now kept.placed;
   }

@@ -28,7 +28,6 @@ use Rattle.vx_group_images.specs.Group.{ChangesOnly, IsSectorOf}
 use Rattle.vx_group_images.specs.Owners.{IsDeviceOfVolume, device_at}
 use Rattle.vx_plans.specs.GroupCalls.{CallsOnly, PlexHasFailed}
 use Rattle.vx_volume.specs.Volume.{volume_seen}
-use Rattle.vx_volume_form.specs.Form.{IsFormOf}
 use Rattle.vx_volume_lives.specs.Running.{IsSureOfOthers, RunsAsVolume}
 use Rattle.vx_running.specs.declared.public.Running.{Running}
 use Rattle.vx_running.specs.Public.{running_at}
@@ -47,7 +46,7 @@ use Rattle.vx_house.proofs.Steps.{HeldStep, IsStep, faults_by, held_steps, place
 use Rattle.vx_house_calls.specs.Passes.{EachCallGoesOn, GoesOnWith, IsCalledIn, IsCutOf, IsNext, IsOneOf, IsSlotOfDisk, LiesAlike, LiesOnSlot, RunsOn, SlotFails, SlotIsCut, with_group}
 use Rattle.vx_house_calls.proofs.Counts.{SameCounts}
 use Rattle.vx_house_calls.proofs.Entries.{all_at_one}
-use Rattle.vx_house_calls.proofs.Groups.{DiskIsCalled, some, whole_now, with_running}
+use Rattle.vx_house_calls.proofs.Groups.{DiskIsCalled, runs_after, some, whole_now, with_running}
 use Rattle.vx_house_calls.proofs.Houses.{called_faults, called_keeps, disk_cut, disk_failed, disk_rose, disks, held_now, kept, number_disk, numbered, rose_disk, rose_there, same_of, some_cut_on, taken, were}
 use Rattle.vx_house_calls.proofs.Owners.{HasNumber, device_own, sector_own, strip_device}
 use Rattle.vx_house_calls.proofs.Steps.{SeenStep, count_stays, device_now, device_seen, device_stays, place_self, step_self}
@@ -206,41 +205,25 @@ module _ {P : Type 0} {ghosts : Ghosts P} (see : P → Seen) (shelf : Shelved) (
         (runs_as : later.sound ≡ true → RunsAsVolume run.plexes (volume_seen see is.after.volume) later)
         (sure : later.sound ≡ true → IsSureOfOthers run.plexes (volume_seen see is.after.volume) later) where
       run_now : IsRunOf see hs gm name is.after later
-      run_now =
-          let o = run.placed.runs.opening in
-          record {
-            of = run.of;
-            named = run.named;
-            started = run.started;
-            numbers = run.numbers;
-            own = run.own;
-            placed = record {
-              runs = record {
-                recorded = run.placed.runs.recorded;
-                filled = run.placed.runs.filled;
-                opening = o;
-                of = run.placed.runs.of;
-                form = subst (IsFormOf o.config o.good o.vol o.fresh) (sym is.form) run.placed.runs.form;
-                keeps = run.placed.runs.keeps;
-                whole = is.whole;
-                shape = is.shape ∙ run.placed.runs.shape ∙ ap (λ f. f.shape) (sym is.form);
-                lies = is.lies run.numbers run.placed.runs.lies;
-                cut = is.dead run.placed.runs.cut;
-              };
-              places = run.placed.places;
-              numbered = run.placed.numbered;
-            };
-            opened = run.opened;
-            numbered = run.numbered;
-            lies = alike.lies ∙ run.lies;
-            length_is = alike.length_is ∙ run.length_is;
-            region_is = alike.region_is ∙ run.region_is;
-            plexes = run.plexes;
-            plexes_of = run.plexes_of;
-            plexes_then = run.plexes_then;
-            runs_as = runs_as;
-            sure = sure;
-          }
+      unfolding runs_after
+      run_now = record {
+        of = run.of;
+        named = run.named;
+        started = run.started;
+        numbers = run.numbers;
+        own = run.own;
+        placed = runs_after see name g running is gm.config gm.good run.numbers run.of run.placed;
+        opened = run.opened;
+        numbered = run.numbered;
+        lies = alike.lies ∙ run.lies;
+        length_is = alike.length_is ∙ run.length_is;
+        region_is = alike.region_is ∙ run.region_is;
+        plexes = run.plexes;
+        plexes_of = run.plexes_of;
+        plexes_then = run.plexes_then;
+        runs_as = runs_as;
+        sure = sure;
+      }
 
       abbrev pub after : World
       after = record m.world { devices = devices; volumes = put name (Some later) m.world.volumes }

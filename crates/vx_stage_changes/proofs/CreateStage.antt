@@ -61,7 +61,7 @@ use Rattle.vx_copies.proofs.ToggleOrder.{each_all}
 use Rattle.vx_moments.specs.Leaving.{lone}
 use Rattle.vx_house.specs.Runs.{AreRuns}
 use Rattle.vx_house.specs.Runs.{run_in}
-use Rattle.vx_house.proofs.Runs.{idle_runs, none_still}
+use Rattle.vx_house.proofs.Runs.{idle_runs, none_in_place, none_still}
 
 -- where none of a kind is there, there is none
 pub none_of : {X : Type 0} (o : Option X) → ((y : X) → o ≡ Some y → ⊥) → o ≡ None
@@ -147,6 +147,7 @@ module _ {P : Type 0} {ghosts : Ghosts P} (see : P → Seen) (dg : Word) (pairs 
         slots = joins_slots see dg text disks g'.base.disks.items by.founded.begun.joins (have_slots see 0 old.hand.items pairs);
         recorded = joins_recorded see dg text g'.config disks g'.base.disks.items by.founded.begun.joins (recorded_so dg disks g'.config by.drawn.records);
         whole = founded shelf.held held_now.numbers see g' by.still by.lent by.idle (fronts_by bs each_now by.founded.carries.alive.ready) sized each_now apart_now;
+        placed = none_in_place see g' by.idle.running;
       }
 
       done : AreDone (before begun) g'.config text g'.base.sequence [] [] hs bs

@@ -39,7 +39,7 @@ use Rattle.vx_commits.specs.Committing.{IsTried, IsFinished, CommitEnds}
 use Rattle.vx_stage_changes.specs.Planning.{IsUnplanned}
 use Rattle.vx_group_edits.specs.Stays.{EachStays}
 use Rattle.vx_commits.proofs.Owns.{Runs}
-use Rattle.vx_commits.proofs.Runners.{runs_done, runs_lost}
+use Rattle.vx_commits.proofs.Runners.{places_done, runs_done, runs_lost}
 
 -- edits that are refused are refused by a test
 pub refused_so : (edits : List Edit) (w : Group) (end : End) → IsUnplanned edits w.config (stops.Ended end) → (r : Refusal) × (end ≡ ends.Refused r) × EditsRefused edits w end
@@ -143,6 +143,7 @@ module _ {P : Type 0} {ghosts : Ghosts P} (see : P → Seen) (s : Stage) (disks 
         slots = slots_now (g.base.sequence + 1) g'.base.sequence text see g.base.disks.items g'.base.disks.items finished.tried.committed.goes kept.slots;
         recorded = recorded_now (g.base.sequence + 1) g'.base.sequence text see g.config g'.config (is_stage.keeps_disks g'.config meant.edited) g.base.disks.items g'.base.disks.items finished.tried.committed.goes kept.recorded;
         whole = whole_after g' text public finished.tried;
+        placed = places_done (written g' text public finished.tried) (is_stage.stays g'.config meant.edited) kept.placed;
       }
 
       is_change : (m : Moment) → IsMoment see (at shelf old) m → (g' : Imported P ghosts) (text : List ℕ) (public : SamePublic g g') (tried : IsTried see text g.base g'.base) (next : Config) → IsEdited edits g.config next → IsChange edits m.world (x_alone (written g' text public tried) next)

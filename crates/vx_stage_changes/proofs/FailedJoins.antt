@@ -28,6 +28,8 @@ use Rattle.vx_house.specs.Goes.{StageGoes}
 use Rattle.vx_fronts.specs.Laws.{whole_disks}
 use Rattle.vx_fronts.specs.Parted.{AreParted}
 use Rattle.vx_fronts.specs.Rests.{rests_of}
+use Rattle.vx_objects.specs.declared.config.Config.{Config}
+use Rattle.vx_running.specs.declared.public.Public.{Public}
 use Rattle.vx_running.specs.Public.{lent_pieces, still_pieces}
 use Rattle.vx_house.specs.Holders.{Holder, holders, held_as, group_holders, group_rests, hand_holder, holder_in, whole_members, volume_holder, volume_at, AreHeld, AreApart}
 use Rattle.vx_house.specs.Scene.{Shelved, seen_in, seen_at, AreCountsOf, FaultsGoOn}
@@ -45,7 +47,7 @@ use Rattle.vx_stage_changes.specs.Joining.{join_edits, IsUnjoined, IsKeptBack}
 use Rattle.vx_stage_changes.specs.Planning.{IsUnplanned}
 use Rattle.vx_stage_changes.proofs.EditStage.{refused_so}
 use Rattle.vx_moments.specs.Leaving.{lone}
-use Rattle.vx_house.specs.Runs.{AreRuns}
+use Rattle.vx_house.specs.Runs.{AllInPlace, AreRuns}
 use Rattle.vx_commits.proofs.Owns.{AreDisksOf, runs_moved}
 use Rattle.vx_commits.proofs.Runners.{disks_same}
 use Rattle.vx_house.proofs.Ends.{whole_kept}
@@ -152,6 +154,9 @@ module _ {P : Type 0} {ghosts : Ghosts P} (see : P → Seen) (pair : DiskAt) (sh
       volumes = subst (λ p. AreRunningVolumes see p.running.entries) (sym public) kept.whole.volumes;
       stuck = subst (λ p. AreStuckVolumes see p.stuck.items) (sym public) kept.whole.stuck;
     };
+    placed = subst (λ (p : Public P ghosts). AllInPlace see (members see g'.base) g'.config (good_mask (members see g'.base)) p.running.entries) (sym public)
+        (subst (λ (c : Config). AllInPlace see (members see g'.base) c (good_mask (members see g'.base)) g.public.running.entries) (sym unjoined.config)
+        (subst (λ hs. AllInPlace see hs g.config (good_mask hs) g.public.running.entries) (sym same_members) kept.placed));
   }
 
   keeps_now : Keeps see (at shelf now)

@@ -22,6 +22,7 @@ use Rattle.vx_house.specs.declared.house.Taken.{Taken}
 use Rattle.vx_house.proofs.AllLaws.{all_append, all_mapped, all_unmapped}
 use Rattle.vx_stage_changes.proofs.Admitted.{IsAdmitted, bs, fs, goes, goes_fronts, hs, joins, joins_fronts, js, kept, ks, n, ns, whole, whole_entered, wholes_now, ws}
 use Rattle.vx_stage_changes.proofs.Admission.{all_held, same_name, slots_more}
+use Rattle.vx_stage_changes.proofs.JoinedRuns.{places_joined}
 use Rattle.vx_stage_changes.specs.Joining.{disk_for}
 use Rattle.vx_stage_changes.proofs.Room.{unrecorded}
 use Rattle.vx_house.proofs.Lists.{each_append}
@@ -91,6 +92,7 @@ module _ {P : Type 0} {ghosts : Ghosts P} {see : P → Seen} {shelf : Shelved} {
         (all_mapped (λ h. list_any (λ r. r.slot == h.slot) g'.config.disks ≡ true) (disk_seen see) g.base.disks.items (first_recorded g.base.disks.items (kept a).recorded))
         (ap (λ l. list_any (λ r. r.slot == slot) l) disks_are ∙ any_last slot g.config.disks added (eq-eqb slot slot refl), tt));
     whole = whole_entered a;
+    placed = places_joined a;
   }
     where
       first_recorded : (ds : List (Disk P)) → AreRecorded g.config ds → AllOf (λ d. list_any (λ r. r.slot == d.slot) g'.config.disks ≡ true) ds

@@ -14,10 +14,10 @@ use Rattle.vx_script_words.specs.declared.value.DiskAt.{DiskAt}
 use Rattle.vx_moments.specs.World.{Group, Member}
 use Rattle.vx_moments.specs.Moment.{Moment}
 use Rattle.vx_plans.specs.Records.{disk_record}
-use Rattle.vx_group_edits.specs.Stays.{has_disk_in, AreFewer}
+use Rattle.vx_group_edits.specs.Stays.{has_disk_in, AreFewer, EachStays}
 use Rattle.vx_group_edits.proofs.Added.{joining_keeps}
 use Rattle.vx_group_images.specs.Owners.{device_at}
-use Rattle.vx_house.specs.Runs.{AreRuns}
+use Rattle.vx_house.specs.Runs.{AreInPlace, AreRuns}
 use Rattle.vx_house.specs.Scene.{Shelved}
 use Rattle.vx_house.specs.View.{at, group_of, member_in, member_of, IsMoment}
 use Rattle.vx_house.specs.declared.house.House.{House}
@@ -27,7 +27,7 @@ use Rattle.vx_house.proofs.AllLaws.{all_append}
 use Rattle.vx_house.proofs.Lists.{any_front, each_append}
 use Rattle.vx_commits.proofs.Alone.{low_by, went_by}
 use Rattle.vx_commits.proofs.Holders.{same_members}
-use Rattle.vx_commits.proofs.Owns.{AreDisksOf, KeepsThese, Runs, runs_kept, runs_moved}
+use Rattle.vx_commits.proofs.Owns.{AreDisksOf, KeepsThese, Runs, places_kept, runs_kept, runs_moved}
 use Rattle.vx_commits.proofs.Runners.{disks_on, seen_members}
 use Rattle.vx_commits.proofs.Slots.{IsWent, mask_names, mask_was}
 use Rattle.vx_stage_changes.specs.Joining.{disk_for}
@@ -67,7 +67,7 @@ module _ {P : Type 0} {ghosts : Ghosts P} {see : P → Seen} {shelf : Shelved} {
   disks : AreDisksOf (fs a) (ns a)
   disks = subst (AreDisksOf (fs a)) (take-append-drop (n a) (ns a)) (λ h there.
       let k = disks_on first number text (fs a) (take (n a) (ns a)) (goes_fronts a) h there in
-      (k.0, any_front (λ x. x ≡ k.0) (take (n a) (ns a)) (drop (n a) (ns a)) k.1, k.2, k.3))
+      (k.0, any_front (λ x. x ≡ k.0) (take (n a) (ns a)) (drop (n a) (ns a)) k.1, k.2, k.3, k.4))
 
   runs_then : (m : Moment) → IsMoment see (at shelf old) m → AreRuns see (Some g) m.world.group m.world.volumes
   runs_then m is = subst (λ o. AreRuns see o m.world.group m.world.volumes) a.has is.runs_are
@@ -105,9 +105,16 @@ module _ {P : Type 0} {ghosts : Ghosts P} {see : P → Seen} {shelf : Shelved} {
   abbrev seen_group : Imported P ghosts → Group
   seen_group x = record { config = x.config; good = good_mask (members see x.base); members = map member_of x.base.disks.items; sequence = x.base.sequence }
 
+  stays : EachStays (λ v. Runs g v.name) g.config g'.config
+  stays v of runs good good' less = joining_keeps g.config g'.config (disk_record pair slot (see t.piece).sectors) a.join.meant.edited v of tt good good' less
+
+  -- in the house they are in their places still
+  pub places_joined : AreInPlace see g'
+  places_joined = places_kept see g g' a.public (disks a) stays (fewer a) (kept a).placed
+
   keeps_these : KeepsThese (Runs g) (seen_group g) (seen_group g')
   keeps_these = record {
-    stays = λ v of runs good good' less. joining_keeps g.config g'.config (disk_record pair slot (see t.piece).sectors) a.join.meant.edited v of tt good good' less;
+    stays = stays;
     fewer = fewer a;
     devices = λ k d e. ap (λ ms. device_at ms k) (members_are a) ∙ device_front (map member_of g.base.disks.items) (map member_in (drop (n a) (ns a))) k d e;
   }

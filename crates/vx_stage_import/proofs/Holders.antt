@@ -76,7 +76,7 @@ use Rattle.vx_house.specs.Reading.{OnlyRead}
 use Rattle.vx_house.specs.Unmoved.{Unmoved}
 use Rattle.vx_house.proofs.Readings.{stays_device, stays_place, only_trans, only_unmoved}
 use Rattle.vx_house.specs.Runs.{AreRuns, run_in}
-use Rattle.vx_house.proofs.Runs.{idle_runs, none_still, all_alone}
+use Rattle.vx_house.proofs.Runs.{idle_runs, none_in_place, none_still, all_alone}
 use Rattle.vx_house.proofs.Ends.{whole_kept}
 use Rattle.vx_group_start.specs.Laying.{AreRunningVolumes, AreStuckVolumes}
 
@@ -302,6 +302,7 @@ module _ {P : Type 0} {ghosts : Ghosts P} (see : P → Seen) (dg : Word) (names 
       slots = slots_now (given.sequence + 1) base.sequence text see es.items base.disks.items finished.tried.committed.goes can.slots;
       recorded = recorded_now (given.sequence + 1) base.sequence text see after after refl es.items base.disks.items finished.tried.committed.goes (recorded_disks see dg ds looks given given_is after v.items ready_labels es.items made);
       whole = whole_now finished.tried;
+      placed = none_in_place see g' running;
     }
 
     -- no volume of it runs

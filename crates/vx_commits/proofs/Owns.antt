@@ -28,8 +28,8 @@ use Rattle.vx_confdb.specs.Groups.{members}
 use Rattle.vx_moments.specs.Leaving.{grouped}
 use Rattle.vx_running.specs.Public.{running_at}
 use Rattle.vx_group_images.specs.Owners.{device_at}
-use Rattle.vx_own_sectors.specs.Places.{KeepsPlaces, RunsInPlace}
-use Rattle.vx_own_sectors.proofs.Places.{places_go_on}
+use Rattle.vx_group_volumes.specs.Places.{KeepsPlaces, RunsInPlace}
+use Rattle.vx_group_volumes.proofs.Places.{places_go_on}
 use Rattle.vx_house.specs.Runs.{AllInPlace, AreInPlace, AreRuns, IsAtRun, IsInPlace, IsOnDisk, IsRunOf, IsNumbered}
 use Rattle.vx_house.specs.declared.house.Imported.{Imported}
 use Rattle.vx_house.proofs.AllLaws.{all_each, found_first, found_in}

@@ -48,16 +48,16 @@ use Rattle.vx_group_calls.specs.Serving.{Tells}
 use Rattle.vx_group_calls.specs.declared.served.Served.{Served}
 use Rattle.vx_group_calls.specs.declared.served.Served.TheVariants as served
 use Rattle.vx_group_calls.proofs.Sources.{tell_still}
-use Rattle.vx_called_plexes.specs.Devices.{DataHasFailed, HasFailedOn}
-use Rattle.vx_called_plexes.specs.Devices.{LogHasFailed as LogFailedOn}
-use Rattle.vx_called_plexes.specs.Opened.{opened_plexes}
-use Rattle.vx_called_plexes.proofs.Failures.{data_failures, log_failures}
-use Rattle.vx_called_plexes.proofs.Owners.{plexes_fit}
-use Rattle.vx_called_plexes.proofs.Plexes.{owner_is}
+use Rattle.vx_group_volumes.specs.Devices.{DataHasFailed, HasFailedOn}
+use Rattle.vx_group_volumes.specs.Devices.{LogHasFailed as LogFailedOn}
+use Rattle.vx_group_volumes.specs.Opened.{opened_plexes}
+use Rattle.vx_group_volumes.proofs.Failures.{data_failures, log_failures}
+use Rattle.vx_group_volumes.proofs.HeldDevices.{plexes_fit}
+use Rattle.vx_group_volumes.proofs.Plexes.{owner_is}
 use Rattle.vx_plans.specs.Calls.{volume_of, start_of, count_of}
 use Rattle.vx_plans.specs.GroupCalls.{BecomesBy, CurrentHaveFailed, EndHasCause, FaultHasCause, IsLastPart, IsServedOnPlexes, LivesOnPlexes, LogHasFailed, PlexHasFailed, TellsParts, comes_next, is_known}
 use Rattle.vx_plans.specs.Serving.{CallRuns, ServesOn}
-use Rattle.vx_own_sectors.specs.Places.{disks_at}
+use Rattle.vx_group_volumes.specs.Places.{disks_at}
 use Rattle.vx_house.specs.Runs.{IsRunOf}
 use Rattle.vx_house.specs.Scene.{Shelved, IsBlamed, counts_of}
 use Rattle.vx_house.specs.Scene.{HasFailed as SceneFailed}

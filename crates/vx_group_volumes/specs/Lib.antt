@@ -1,3 +1,11 @@
 pub mod Copies
 pub mod Runs
 pub mod Laws
+pub mod Places
+pub mod Disks
+pub mod SectorLaws
+pub mod Opened
+pub mod Devices
+pub mod PlexLaws
+pub mod RestLaws
+pub mod CommitLaws

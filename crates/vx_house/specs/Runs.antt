@@ -22,8 +22,8 @@ use Rattle.vx_volume_lives.specs.Running.{IsSureOfOthers, RunsAsVolume}
 use Rattle.vx_running.specs.declared.public.Running.{Running}
 use Rattle.vx_running.specs.Public.{running_at}
 use Rattle.vx_carve.specs.Carved.{HaveNumbers}
-use Rattle.vx_own_sectors.specs.Places.{IsSlotOf, RunsInPlace, disks_at}
-use Rattle.vx_called_plexes.specs.Opened.{opened_plexes}
+use Rattle.vx_group_volumes.specs.Places.{IsSlotOf, RunsInPlace, disks_at}
+use Rattle.vx_group_volumes.specs.Opened.{opened_plexes}
 use Rattle.vx_house.specs.declared.house.Imported.{Imported}
 
 -- ---- in the house

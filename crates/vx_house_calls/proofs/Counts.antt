@@ -11,7 +11,7 @@ use Rattle.vx_copies.specs.Disks.{DiskSeen}
 use Rattle.vx_fronts.specs.Fronts.{with_device, whole_disk}
 use Rattle.vx_fronts.specs.Rests.{is_of, rest_in, rests_of}
 use Rattle.vx_fronts.proofs.Sectors.{none_counted}
-use Rattle.vx_own_sectors.proofs.Called.{any_kept}
+use Rattle.vx_group_volumes.proofs.Called.{any_kept}
 
 -- the same calls are counted of both
 pub record SameCounts (old new : Seen) : Type 0 where

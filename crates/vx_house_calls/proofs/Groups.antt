@@ -25,9 +25,9 @@ use Rattle.vx_running.specs.declared.public.Running.{Running}
 use Rattle.vx_running.specs.Public.{lent_pieces, running_pieces, still_pieces, stuck_pieces}
 use Rattle.vx_group_start.specs.Laying.{AreRunningVolumes}
 use Rattle.vx_volume.specs.Volume.{IsVolume, volume_seen}
-use Rattle.vx_own_sectors.specs.Disks.{DiskGoesOn}
-use Rattle.vx_own_sectors.specs.Places.{RunsInPlace}
-use Rattle.vx_own_sectors.proofs.Called.{each_disk_on}
+use Rattle.vx_group_volumes.specs.Disks.{DiskGoesOn}
+use Rattle.vx_group_volumes.specs.Places.{RunsInPlace}
+use Rattle.vx_group_volumes.proofs.Called.{each_disk_on}
 use Rattle.vx_house.specs.Holders.{whole_members}
 use Rattle.vx_house.specs.Runs.{AllInPlace, AreInPlace, IsInPlace}
 use Rattle.vx_house.specs.View.{IsGroupKept, IsGroupWhole}

@@ -31,10 +31,10 @@ use Rattle.vx_volume.specs.Volume.{volume_seen}
 use Rattle.vx_volume_lives.specs.Running.{IsSureOfOthers, RunsAsVolume}
 use Rattle.vx_running.specs.declared.public.Running.{Running}
 use Rattle.vx_running.specs.Public.{running_at}
-use Rattle.vx_own_sectors.specs.Places.{IsSlotOf, disks_at}
+use Rattle.vx_group_volumes.specs.Places.{IsSlotOf, disks_at}
 use Rattle.vx_house.specs.Holders.{group_holders, hand_holder, held_as, holder_in, holders, volume_at, volume_holder, whole_members, IsTakenFrom}
 use Rattle.vx_house.specs.Runs.{IsAtRun, IsRunOf, fronts_in, run_in}
-use Rattle.vx_called_plexes.specs.Opened.{opened_plexes}
+use Rattle.vx_group_volumes.specs.Opened.{opened_plexes}
 use Rattle.vx_house.specs.Scene.{Shelved, Scene, seen_at, seen_in, faults_at, count_in, counts_of}
 use Rattle.vx_house.specs.View.{at, scene, group_of, is_lent, member_in, member_of, IsAtVolume, IsDeviceOf, IsMoment, Keeps}
 use Rattle.vx_house.specs.declared.house.House.{House}

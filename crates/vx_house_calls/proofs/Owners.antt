@@ -26,8 +26,8 @@ use Rattle.vx_group_images.specs.Group.{IsSectorOf}
 use Rattle.vx_group_images.specs.Owners.{IsDeviceOfVolume, device_at, devices_on, listed}
 use Rattle.vx_volume.specs.Volume.{log_of, volume_seen}
 use Rattle.vx_running.specs.declared.public.Running.{Running}
-use Rattle.vx_own_sectors.specs.Places.{IsOwnSector, IsSlotOf, disks_at}
-use Rattle.vx_own_sectors.proofs.Held.{kept_sector, of_pieces}
+use Rattle.vx_group_volumes.specs.Places.{IsOwnSector, IsSlotOf, disks_at}
+use Rattle.vx_group_volumes.proofs.Held.{kept_sector, of_pieces}
 use Rattle.vx_house.specs.Runs.{IsRunOf}
 use Rattle.vx_house_calls.proofs.Entries.{all_at_one, in_flat}
 

@@ -30,8 +30,8 @@ use Rattle.vx_left_images.specs.Lying.{LiesIn}
 use Rattle.vx_running.specs.declared.public.Running.{Running}
 use Rattle.vx_running.specs.Public.{running_at}
 use Rattle.vx_group_calls.specs.Causes.{AreCutWhereDead}
-use Rattle.vx_own_sectors.specs.Disks.{AreCalled}
-use Rattle.vx_own_sectors.specs.Places.{IsSlotOf, disks_at}
+use Rattle.vx_group_volumes.specs.Disks.{AreCalled}
+use Rattle.vx_group_volumes.specs.Places.{IsSlotOf, disks_at}
 use Rattle.vx_plans.specs.GroupCalls.{CallsOnly, PlexHasFailed}
 use Rattle.vx_house.specs.Runs.{IsRunOf}
 use Rattle.vx_house.specs.Scene.{Scene, Shelved, HasFailed, FaultsGoOn, counts_of}

@@ -1,8 +1,0 @@
-use Rattle.vx_called_plexes.proofs.Failures.{data_failures, log_failures}
-use Rattle.vx_called_plexes.proofs.each_failure_is_own.Goals as goal
-
-pub returns-clause-data : goal.returns-clause-data
-returns-clause-data g c = data_failures c.args.running.now c.args.new.now
-
-pub returns-clause-log : goal.returns-clause-log
-returns-clause-log g c = log_failures c.args.running.now c.args.new.now

@@ -1,4 +1,0 @@
-pub mod Rests
-pub mod Reasons
-pub mod Stands
-pub mod Commits

@@ -1,5 +1,0 @@
-use Rattle.vx_rested_volumes.proofs.Reasons.{rest_reason}
-use Rattle.vx_rested_volumes.proofs.each_rest_has_reason.Goals as goal
-
-pub returns : goal.returns
-returns g c = rest_reason c.args.old.now c.args.new.now

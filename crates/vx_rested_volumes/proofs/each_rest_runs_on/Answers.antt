@@ -1,5 +1,0 @@
-use Rattle.vx_rested_volumes.proofs.Rests.{rest_runs_on}
-use Rattle.vx_rested_volumes.proofs.each_rest_runs_on.Goals as goal
-
-pub returns : goal.returns
-returns c = rest_runs_on c.each_pass_runs_on.ensures.settled c.each_pass_runs_on.ensures.cleared

@@ -91,7 +91,6 @@ module _ {P : Type 0} {ghosts : Ghosts P} (shelf : Shelved) (h : House P ghosts)
           is = moment_end see end (at shelf mid) _ (lived_moment see shelf h volumes call b end found among keeps m is place);
           later = lived_later see shelf h volumes call b end found among keeps m is place;
           does = does_call place call m end _ valid (lived_later see shelf h volumes call b end found among keeps m is place) (lived_runs see shelf h volumes call b end found among keeps m is place within);
-          refused = λ r is. absurd (no_refusal b.device end (see b.piece) (see among.later.piece) r is among.served.cause);
         },
       );
       faults = lived_faults see shelf h volumes call b end found among keeps;

@@ -1,5 +1,5 @@
 -- A command that is over, and what is left of it.
-use Rattle.std.proofs.Common.{◌≡◌, ◌∙◌, ◌≤◌, ◌<◌, ℕ, List, [], ◌∷◌, Option, Some, None, refl, sym, ap, subst, arith, inl, inr}
+use Rattle.std.proofs.Common.{◌≡◌, ◌∙◌, ◌≤◌, ◌<◌, ◌⊎◌, ℕ, List, [], ◌∷◌, Option, Some, None, refl, sym, ap, subst, arith, inl, inr}
 use Rattle.std.specs.Prelude.{Result, Ok, Err, IfSome, IfOk, IfErr, OnOk, MatchOption}
 use Rattle.std.specs.List.Sorted.{IsStrictlySortedBy}
 use Rattle.std.specs.Map.{keys_of}
@@ -26,7 +26,7 @@ use Rattle.vx_answers.specs.declared.refusal.Refusal.{Refusal}
 use Rattle.vx_moments.specs.Moment.{Moment, AreLater}
 use Rattle.vx_moments.specs.World.{World}
 use Rattle.vx_moments.specs.Leaving.{group_gone}
-use Rattle.vx_plans.specs.Steps.{Runs, Leaves, Shows, done}
+use Rattle.vx_plans.specs.Steps.{Runs, RunsShort, Leaves, Shows, done}
 use Rattle.vx_plans.specs.declared.stage.Stage.{Stage}
 use Rattle.vx_plans.specs.declared.stages.Finish.{Finish}
 use Rattle.vx_plans.specs.declared.stages.Finish.TheVariants.{Nothing, Records}
@@ -136,14 +136,14 @@ module _ {P : Type 0} {ghosts : Ghosts P} (see : P → Seen) (mid new : View P g
   left_kept (ends.Lost parts) stays keeps = none_kept stays
 
   -- the moment that is left
-  left_moment : StandsAt see mid → (end : End) → StaysBy end mid new → KeepsBy {T = Unit {0}} see (Err (stops.Ended end)) mid → (began : World) (n : Moment) → IsMomentBy end see mid n → ((r : Refusal) → end ≡ ends.Refused r → n.world ≡ began)
-      → (w : World) × IsMoment see new (record { world = w; counts = n.counts }) × Leaves end began n.world w
-  left_moment stands (ends.Done copied parts blocks) stays keeps began n is refused = (n.world, moment_moved see (scene see mid) (scene see new) mid.house new.house n later.moved stays.volumes stays.group is, refl)
-  left_moment stands (ends.Refused r) stays keeps began n is refused = (n.world, moment_moved see (scene see mid) (scene see new) mid.house new.house n later.moved stays.volumes stays.group is, refused r refl)
-  left_moment stands (ends.Fault told device parts) stays keeps began n is refused = (n.world, moment_moved see (scene see mid) (scene see new) mid.house new.house n later.moved stays.volumes stays.group is, refl)
-  left_moment stands ends.ShelfFailed stays keeps began n is refused = (n.world, moment_moved see (scene see mid) (scene see new) mid.house new.house n later.moved stays.volumes stays.group is, refl)
-  left_moment stands ends.GroupLost stays keeps began n is refused = (group_gone n.world, without_group see mid n is keeps new (record { later = later; stays = stays; stands = stands }), (stands n keeps is, refl))
-  left_moment stands (ends.Lost parts) stays keeps began n is refused = (left_world see mid n is keeps, all_gone see mid n is keeps new (record { later = later; stays = stays; stands = stands }), (stands n keeps is, power_goes see mid n is keeps))
+  left_moment : StandsAt see mid → (end : End) → StaysBy end mid new → KeepsBy {T = Unit {0}} see (Err (stops.Ended end)) mid → (n : Moment) → IsMomentBy end see mid n
+      → (w : World) × IsMoment see new (record { world = w; counts = n.counts }) × Leaves end n.world w
+  left_moment stands (ends.Done copied parts blocks) stays keeps n is = (n.world, moment_moved see (scene see mid) (scene see new) mid.house new.house n later.moved stays.volumes stays.group is, refl)
+  left_moment stands (ends.Refused r) stays keeps n is = (n.world, moment_moved see (scene see mid) (scene see new) mid.house new.house n later.moved stays.volumes stays.group is, refl)
+  left_moment stands (ends.Fault told device parts) stays keeps n is = (n.world, moment_moved see (scene see mid) (scene see new) mid.house new.house n later.moved stays.volumes stays.group is, refl)
+  left_moment stands ends.ShelfFailed stays keeps n is = (n.world, moment_moved see (scene see mid) (scene see new) mid.house new.house n later.moved stays.volumes stays.group is, refl)
+  left_moment stands ends.GroupLost stays keeps n is = (group_gone n.world, without_group see mid n is keeps new (record { later = later; stays = stays; stands = stands }), (stands n keeps is, refl))
+  left_moment stands (ends.Lost parts) stays keeps n is = (left_world see mid n is keeps, all_gone see mid n is keeps new (record { later = later; stays = stays; stands = stands }), (stands n keeps is, power_goes see mid n is keeps))
 
 -- a moment of the house, however the command ended
 pub moment_end : {P : Type 0} {ghosts : Ghosts P} (see : P → Seen) (end : End) (v : View P ghosts) (m : Moment) → IsMoment see v m → IsMomentBy end see v m
@@ -159,7 +159,6 @@ pub record HasDone {P : Type 0} {ghosts : Ghosts P} (see : P → Seen) (Does : M
   pub is : IsMomentBy end see mid n
   pub later : AreLater m.counts n.counts
   pub does : Does m [] end n
-  pub refused : (r : Refusal) → end ≡ ends.Refused r → n.world ≡ m.world
 
 pub over_goes : {P : Type 0} {ghosts : Ghosts P} (see : P → Seen) (Does : Moment → List Shown → End → Moment → Type 0) (end : End) (old mid new : View P ghosts) → KeepsBy {T = Unit {0}} see (Err (stops.Ended end)) mid
     → ((m : Moment) → IsMoment see old m → (n : Moment) × HasDone see Does end mid m n) → FaultsGoOn (scene see old) (scene see mid) → IsBlamed end (scene see old) (scene see mid) → IsLeft see end mid new → CommandGoes see Does (One [] end) old new
@@ -168,7 +167,7 @@ over_goes see Does end old mid new keeps goes faults blamed gone = record {
   empty = gone.later.hand;
   goes = λ m is.
       let n = goes m is in
-      let w = left_moment see mid new gone.later gone.stands end gone.stays keeps m.world n.0 n.1.is n.1.refused in
+      let w = left_moment see mid new gone.later gone.stands end gone.stays keeps n.0 n.1.is in
       (record { world = w.0; counts = n.0.counts }, w.1, n.1.later, record { views = []; end = end; told = refl; over = n.0; does = n.1.does; leaves = w.2; counts = refl });
   faults = faults_trans (scene see old) (scene see mid) (scene see new) faults (faults_moved (scene see mid) (scene see new) gone.later.moved);
   blamed = blamed_on end (scene see old) (scene see mid) (scene see new) blamed (faults_moved (scene see mid) (scene see new) gone.later.moved);
@@ -179,8 +178,12 @@ module _ {P : Type 0} {ghosts : Ghosts P} (see : P → Seen) (disks : List DiskA
   pub ended_goes : (end : End) (old mid new : View P ghosts) → HasEnded see disks stages end old mid → IsLeft see end mid new → CommandGoes see (λ m views end n. Runs disks stages finish m views end n) (One [] end) old new
   ended_goes end old mid new run gone =
       over_goes see (λ m views end n. Runs disks stages finish m views end n) end old mid new run.keeps
-      (λ m is. let n = run.goes m is in (n.0, record { is = n.1.is; later = n.1.later; does = n.1.runs finish; refused = n.1.refused }))
+      (λ m is. let n = run.goes m is in (n.0, record { is = n.1.is; later = n.1.later; does = n.1.runs finish }))
       run.faults run.blamed gone
+
+  -- what want of memory leaves of the plan
+  abbrev LeftOff : Moment → Moment → Type 0
+  LeftOff m n = (n.world ≡ m.world) ⊎ RunsShort disks stages m n
 
   shown_there : (mid : View P ghosts) (n : Moment) (views : List Shown) → IsMoment see mid n → Shows finish (plain see mid.house) views → Shows finish n.world views
   shown_there mid n views is shows = by finish shows
@@ -214,8 +217,8 @@ module _ {P : Type 0} {ghosts : Ghosts P} (see : P → Seen) (disks : List DiskA
   }
 
   -- memory was wanting
-  pub rested_goes : (old mid new : View P ghosts) → HasRested see old mid → IsLeft see done mid new → IsRefused see old new
-  rested_goes old mid new run gone = record {
+  pub rested_goes : (Left : Moment → Moment → Type 0) (old mid new : View P ghosts) → HasRested see Left old mid → IsLeft see done mid new → IsRefused see Left old new
+  rested_goes Left old mid new run gone = record {
     keeps = but_kept see mid new gone.later gone.stays run.keeps;
     empty = gone.later.hand;
     goes = λ m is.
@@ -225,20 +228,20 @@ module _ {P : Type 0} {ghosts : Ghosts P} (see : P → Seen) (disks : List DiskA
   }
 
   -- memory was wanting for what was to be shown
-  pub unshown_goes : (old mid new : View P ghosts) → HasRun see disks stages old mid → KeepWorld stages → IsLeft see done mid new → IsRefused see old new
-  unshown_goes old mid new run kept gone = rested_goes old mid new (record {
+  pub unshown_goes : (old mid new : View P ghosts) → HasRun see disks stages old mid → KeepWorld stages → IsLeft see done mid new → IsRefused see LeftOff old new
+  unshown_goes old mid new run kept gone = rested_goes LeftOff old mid new (record {
     keeps = keeps_but_group see mid run.keeps;
-    goes = λ m is. let n = run.goes m is in (n.0, n.1.is, n.1.later, n.1.kept kept);
+    goes = λ m is. let n = run.goes m is in (n.0, n.1.is, n.1.later, inl (n.1.kept kept));
     faults = run.faults;
   }) gone
 
 -- what the end of a command leaves in the house, by its answer
-pub over_ends : {P : Type 0} {ghosts : Ghosts P} (see : P → Seen) (Does : Moment → List Shown → End → Moment → Type 0) (result : Result Answer Unserved) (views : List Shown) (end : End) (old mid new : View P ghosts)
+pub over_ends : {P : Type 0} {ghosts : Ghosts P} (see : P → Seen) (Does : Moment → List Shown → End → Moment → Type 0) (Left : Moment → Moment → Type 0) (result : Result Answer Unserved) (views : List Shown) (end : End) (old mid new : View P ghosts)
     → IfOk result (λ a. a ≡ One views end) → OnOk result (IsLeft see end mid new) → IfErr result (λ e. (e ≡ unserved.HeldUp) × IsHeldUp see new)
-    → (IsLeft see end mid new → CommandGoes see Does (One views end) old new) → CommandEnds see Does result old new
-over_ends see Does (Ok a) views end old mid new told left held goes = subst (λ x. CommandGoes see Does x old new) (sym told) (goes left)
-over_ends see Does (Err unserved.OutOfMemory) views end old mid new told left held goes = let is = held.0 in cc
-over_ends see Does (Err unserved.HeldUp) views end old mid new told left held goes = held.1
+    → (IsLeft see end mid new → CommandGoes see Does (One views end) old new) → CommandEnds see Does Left result old new
+over_ends see Does Left (Ok a) views end old mid new told left held goes = subst (λ x. CommandGoes see Does x old new) (sym told) (goes left)
+over_ends see Does Left (Err unserved.OutOfMemory) views end old mid new told left held goes = let is = held.0 in cc
+over_ends see Does Left (Err unserved.HeldUp) views end old mid new told left held goes = held.1
 
 -- the group is there that is to be shown
 here_some : {P : Type 0} {ghosts : Ghosts P} (see : P → Seen) (dg : Option Word) (disks : List DiskAt) (h : House P ghosts) → fails (tests.GroupIs dg) disks (plain see h) ≡ None → MatchOption h.group ⊥ (λ g. Unit {0})
@@ -258,8 +261,13 @@ module _ {P : Type 0} {ghosts : Ghosts P} (see : P → Seen) (disks : List DiskA
   pub ended_from : (stop : Stop) (end : End) → stop ≡ stops.Ended end → StagesGo see disks ss (Err stop) old mid → HasEnded see disks stages end old mid
   ended_from stop end is go = subst (λ x. HasEnded see disks x end old mid) same (subst (λ s. StagesGo see disks ss (Err s) old mid) is go)
 
-  pub rested_from : (stop : Stop) → stop ≡ stops.OutOfMemory → StagesGo see disks ss (Err stop) old mid → HasRested see old mid
-  rested_from stop is go = subst (λ s. StagesGo see disks ss (Err s) old mid) is go
+  pub rested_from : (stop : Stop) → stop ≡ stops.OutOfMemory → StagesGo see disks ss (Err stop) old mid → HasRested see (λ m n. (n.world ≡ m.world) ⊎ RunsShort disks stages m n) old mid
+  rested_from stop is go =
+      let run = subst (λ x. HasRested see (RunsShort disks x) old mid) same (subst (λ s. StagesGo see disks ss (Err s) old mid) is go) in record {
+        keeps = run.keeps;
+        goes = λ m is. let n = run.goes m is in (n.0, n.1, n.2, inr n.3);
+        faults = run.faults;
+      }
 
 -- where records are to be shown, the stages keep the world
 pub records_kept : (stages : List Stage) (finish : Finish) → ShowsRecords finish → AreOrdered stages finish → KeepWorld stages

@@ -14,7 +14,7 @@ use Rattle.vx_answers.specs.declared.answer.End.{End}
 use Rattle.vx_answers.specs.declared.answer.View.{View}
 use Rattle.vx_moments.specs.Moment.{Moment}
 use Rattle.vx_plans.specs.Plans.{plan_of, disks_of}
-use Rattle.vx_plans.specs.Steps.{Does, DoesForm, DoesPlan, IsNotBuilt}
+use Rattle.vx_plans.specs.Steps.{Does, DoesForm, DoesPlan, IsNotBuilt, LeavesOff, WantsForm, WantsPlan}
 use Rattle.vx_engine.specs.Calling.{IsCallIfBuilt}
 
 in_range : (start count : ℕ) → (nat_lt start (2 ^ 40) && nat_lt 0 count && nat_le count 2048) ≡ true → (start < 2 ^ 40) × (0 < count) × (count ≤ 2048)
@@ -31,12 +31,16 @@ call_within group f call is said = by call (subst (λ x. is_said group x ≡ tru
     by (calls.Fill vol start count byte) said = in_range start count (fill_range group vol start count byte said)
     by (calls.Data vol start blocks) said = tt
 
--- how a command goes from one moment to the next
+-- how a command goes from one moment to the next, ..
 abbrev Goings : Type 1
 Goings = Moment → List View → End → Moment → Type 0
 
+-- .. and what want of memory leaves of it
+abbrev Leavings : Type 1
+Leavings = Moment → Moment → Type 0
+
 -- a form that is no call does what its plan does
-pub other_form : (Q : Goings → Type 0) (place : ℕ) (dg : Option Word) (x : Form) → ((call : Call) → x ≡ form.Calling call → ⊥) → Q (DoesPlan (disks_of x) (plan_of dg x)) → Q (DoesForm place dg x)
+pub other_form : (Q : Goings → Leavings → Type 0) (place : ℕ) (dg : Option Word) (x : Form) → ((call : Call) → x ≡ form.Calling call → ⊥) → Q (DoesPlan (disks_of x) (plan_of dg x)) (WantsPlan (disks_of x) (plan_of dg x)) → Q (DoesForm place dg x) (WantsForm dg x)
 other_form Q place dg (form.Calling call) none q = absurd (none call refl)
 other_form Q place dg (form.MkImage a b) none q = q
 other_form Q place dg (form.Bare a b) none q = q
@@ -66,9 +70,9 @@ other_form Q place dg (form.Acting a) none q = q
 other_form Q place dg (form.Sessions a) none q = q
 
 -- a command without a word `cut=N` does what its form does
-pub uncut_form : (Q : Goings → Type 0) (place : ℕ) (c : Command) (x : Form) → c.form ≡ x → is_some c.cut ≡ false → Q (DoesForm place c.group x) → Q (Does place c)
+pub uncut_form : (Q : Goings → Leavings → Type 0) (place : ℕ) (c : Command) (x : Form) → c.form ≡ x → is_some c.cut ≡ false → Q (DoesForm place c.group x) (WantsForm c.group x) → Q (Does place c) (LeavesOff c)
 uncut_form Q place c x is none q = by c.cut none
   where
-    by : (o : Option ℕ) → is_some o ≡ false → Q (λ m views end n. MatchOption o (DoesForm place c.group c.form m views end n) (λ k. IsNotBuilt m views end n))
-    by None e = subst (λ f. Q (DoesForm place c.group f)) (sym is) q
+    by : (o : Option ℕ) → is_some o ≡ false → Q (λ m views end n. MatchOption o (DoesForm place c.group c.form m views end n) (λ k. IsNotBuilt m views end n)) (λ m n. MatchOption o (WantsForm c.group c.form m n) (λ k. n.world ≡ m.world))
+    by None e = subst (λ f. Q (DoesForm place c.group f) (WantsForm c.group f)) (sym is) q
     by (Some n) e = cc

@@ -118,7 +118,7 @@ module _ {P : Type 0} {ghosts : Ghosts P} (see : P → Seen) (s : Shelved) (h k 
     counts = subst (λ hs. AreCountsOf (scene_of s hs) m.counts) (sym same) is.counts;
   }
 
-  pub group_stays : HasRested see (at s h) (at s k)
+  pub group_stays : HasRested see (λ m n. n.world ≡ m.world) (at s h) (at s k)
   group_stays = record {
     keeps = record {
       devices = subst (AreHeld s.held) (sym same) keeps.devices;

@@ -47,7 +47,6 @@ module _ {P : Type 0} {ghosts : Ghosts P} (see : P → Seen) (shelf : Shelved) (
         is = same_moment see shelf h mid same m is;
         later = later_refl m.counts;
         does = does_call place call m (ends.Refused r) m valid (later_refl m.counts) (runs m is);
-        refused = λ s is. refl;
       },
     );
     faults = same_faults see shelf h mid same;
@@ -59,7 +58,7 @@ module _ {P : Type 0} {ghosts : Ghosts P} (see : P → Seen) (shelf : Shelved) (
   given_over place end new g left = over_goes see (DoesCall place call) end (at shelf h) (at shelf mid) new (keeps_ended see end (at shelf mid) g.keeps) g.goes g.faults g.blamed left
 
   -- memory was wanting
-  pub call_refused : IsSameHouse h mid → Keeps see (at shelf h) → h.hand.items ≡ [] → IsRefused see (at shelf h) (at shelf mid)
+  pub call_refused : IsSameHouse h mid → Keeps see (at shelf h) → h.hand.items ≡ [] → IsRefused see (λ m n. n.world ≡ m.world) (at shelf h) (at shelf mid)
   call_refused same keeps empty = record {
     keeps = keeps_but_group see (at shelf mid) (same_kept see shelf h mid same keeps);
     empty = ap (λ hand. hand.items) same.hand ∙ empty;

@@ -399,11 +399,6 @@ module _ {P : Type 0} {ghosts : Ghosts P} (alike : (p q : P) → is_some (ghosts
       by (d ∷ ds) (inr more) each = by ds more (λ x there. each x (inr there))
   blamed_by (served.Lost parts) is cause = subst (λ e. IsBlamed e (scene see (at shelf h)) (scene see (at shelf mid))) (sym is) tt
 
-  not_refused : (a : Served) → IsToldAs see g.base.disks.items a end → (refusal : Refusal) → end ≡ ends.Refused refusal → ⊥
-  not_refused (served.Done parts blocks) is refusal e = let no : ends.Done None parts blocks ≡ ends.Refused refusal = sym is ∙ e in cc
-  not_refused (served.Fault number parts) is refusal e = let no : ends.Fault is.0 is.1 parts ≡ ends.Refused refusal = sym is.2 ∙ e in cc
-  not_refused (served.Lost parts) is refusal e = let no : ends.Lost parts ≡ ends.Refused refusal = sym is ∙ e in cc
-
   given_by : (place : ℕ) → start_of call + count_of call ≤ (volume_seen see r.volume).length → Given see shelf call place end h mid
   given_by place within = record {
     keeps = goes.keeps;
@@ -413,7 +408,6 @@ module _ {P : Type 0} {ghosts : Ghosts P} (alike : (p q : P) → is_some (ghosts
         is = moment_end see end (at shelf mid) (n place m at_m) (next place m at_m).is;
         later = (next place m at_m).later;
         does = does_call place call m end (n place m at_m) valid (next place m at_m).later (runs place m at_m within);
-        refused = λ refusal e. absurd (not_refused done.answer done.told refusal e);
       },
     );
     faults = goes.faults;

@@ -10,8 +10,8 @@ use Rattle.vx_script_words.specs.declared.value.DiskAt.{DiskAt}
 use Rattle.vx_answers.specs.declared.answer.End.{End}
 use Rattle.vx_answers.specs.declared.answer.End.TheVariants as ends
 use Rattle.vx_moments.specs.Moment.{Moment, AreLater}
-use Rattle.vx_plans.specs.Stages.{IsDone, Stops}
-use Rattle.vx_plans.specs.Steps.{Runs}
+use Rattle.vx_plans.specs.Stages.{IsDone, Stops, Wants}
+use Rattle.vx_plans.specs.Steps.{Runs, RunsShort}
 use Rattle.vx_plans.specs.declared.stage.Stage.{Stage}
 use Rattle.vx_plans.specs.declared.stage.Stage.TheVariants as stage
 use Rattle.vx_plans.specs.declared.stages.Finish.{Finish}
@@ -28,7 +28,7 @@ use Rattle.vx_house.proofs.Takes.{blamed_later}
 use Rattle.vx_engine.specs.Fed.{IsAmong, AreFed, AreOrdered, keeps_world}
 use Rattle.vx_engine.specs.Runs.{KeepWorld, HasRun, IsMomentBy, HasEnded, HasRested, StageEnds, StagesGo}
 use Rattle.vx_engine.proofs.Tests.{gives_still}
-use Rattle.vx_engine.proofs.WorldLaws.{world_kept, refused_kept}
+use Rattle.vx_engine.proofs.WorldLaws.{world_kept}
 
 -- what is fed to a stage behind others
 pub fed_at : (done xs : List Stage) (s : Stage) (ss : List Stage) → AreFed done (xs ++ s ∷ ss) → (is_first s ≡ true → done ++ xs ≡ []) × AllOf (IsAmong (done ++ xs)) (wanted s)
@@ -56,7 +56,7 @@ module _ {P : Type 0} {ghosts : Ghosts P} (see : P → Seen) (disks : List DiskA
     keeps = keeps;
     empty = λ is. empty;
     gives = λ kept. tt;
-    goes = λ m is. (m, record { is = is; later = later_refl m.counts; kept = λ kept. refl; runs = λ rest finish views end o runs. runs });
+    goes = λ m is. (m, record { is = is; later = later_refl m.counts; kept = λ kept. refl; runs = λ rest finish views end o runs. runs; short = λ rest o short. short });
     faults = faults_refl (scene see v);
   }
 
@@ -104,6 +104,8 @@ module _ {P : Type 0} {ghosts : Ghosts P} (see : P → Seen) (disks : List DiskA
       by (stage.Create dg) keeps first still = cc
       by (stage.Import dg) keeps first still = cc
       by stage.LetGo keeps first still = cc
+      by (stage.Start vol) keeps first still = cc
+      by (stage.Stop vol) keeps first still = cc
 
   -- one stage more is done
   pub run_then : (done : List Stage) (s : Stage) (old mid new : View P ghosts) → HasRun see disks done old mid → (is_first s ≡ true → done ≡ []) → StageGoes {T = Unit {0}} see s disks (Ok tt) mid new → HasRun see disks (done ++ s ∷ []) old new
@@ -122,13 +124,14 @@ module _ {P : Type 0} {ghosts : Ghosts P} (see : P → Seen) (disks : List DiskA
             later = later_trans m.counts before.0.counts after.0.counts before.1.later after.2;
             kept = λ kept. world_kept s disks before.0 after.0 (all_back (λ t. keeps_world t ≡ true) done (s ∷ []) kept).0 after.3 ∙ before.1.kept (all_front (λ t. keeps_world t ≡ true) done (s ∷ []) kept);
             runs = λ rest finish views end o runs. subst (λ ss. Runs disks ss finish m views end o) (sym (append_assoc done (s ∷ []) rest)) (before.1.runs (s ∷ rest) finish views end o (inl (after.0, after.2, after.3, runs)));
+            short = λ rest o short. subst (λ ss. RunsShort disks ss m o) (sym (append_assoc done (s ∷ []) rest)) (before.1.short (s ∷ rest) o (inl (after.0, after.2, after.3, short)));
           },
         );
     faults = faults_trans (scene see old) (scene see mid) (scene see new) run.faults goes.faults;
   }
 
   -- by how the stage ended the command there is a moment
-  moment_by : (s : Stage) (end : End) (mid new : View P ghosts) → GoesBy {T = Unit {0}} see (IsDone s disks) (Stops s disks) (Err (stops.Ended end)) mid new → (m : Moment) → IsMoment see mid m → (n : Moment) × IsMomentBy end see new n × AreLater m.counts n.counts × Stops s disks m end n
+  moment_by : (s : Stage) (end : End) (mid new : View P ghosts) → GoesBy {T = Unit {0}} see (IsDone s disks) (Stops s disks) (Wants s) (Err (stops.Ended end)) mid new → (m : Moment) → IsMoment see mid m → (n : Moment) × IsMomentBy end see new n × AreLater m.counts n.counts × Stops s disks m end n
   moment_by s (ends.Done copied parts blocks) mid new goes = goes
   moment_by s (ends.Refused r) mid new goes = goes
   moment_by s (ends.Fault told device parts) mid new goes = goes
@@ -137,8 +140,8 @@ module _ {P : Type 0} {ghosts : Ghosts P} (see : P → Seen) (disks : List DiskA
   moment_by s (ends.Lost parts) mid new goes = goes
 
   -- a stage ends the command
-  pub run_ends : (done : List Stage) (s : Stage) (ss : List Stage) (end : End) (old mid new : View P ghosts) → HasRun see disks done old mid → KeepWorld done → StageGoes {T = Unit {0}} see s disks (Err (stops.Ended end)) mid new → HasEnded see disks (done ++ s ∷ ss) end old new
-  run_ends done s ss end old mid new run kept goes = record {
+  pub run_ends : (done : List Stage) (s : Stage) (ss : List Stage) (end : End) (old mid new : View P ghosts) → HasRun see disks done old mid → StageGoes {T = Unit {0}} see s disks (Err (stops.Ended end)) mid new → HasEnded see disks (done ++ s ∷ ss) end old new
+  run_ends done s ss end old mid new run goes = record {
     keeps = goes.keeps;
     goes = λ m is.
         let before = run.goes m is in
@@ -148,7 +151,6 @@ module _ {P : Type 0} {ghosts : Ghosts P} (see : P → Seen) (disks : List DiskA
             is = after.1;
             later = later_trans m.counts before.0.counts after.0.counts before.1.later after.2;
             runs = λ finish. before.1.runs (s ∷ ss) finish [] end after.0 (inr (refl, after.2, after.3));
-            refused = λ r e. refused_kept s disks before.0 r after.0 (subst (λ x. Stops s disks before.0 x after.0) e after.3) ∙ before.1.kept kept;
           },
         );
     faults = faults_trans (scene see old) (scene see mid) (scene see new) run.faults goes.faults;
@@ -156,13 +158,13 @@ module _ {P : Type 0} {ghosts : Ghosts P} (see : P → Seen) (disks : List DiskA
   }
 
   -- memory was wanting in a stage
-  pub run_rests : (done : List Stage) (s : Stage) (old mid new : View P ghosts) → HasRun see disks done old mid → KeepWorld done → HasRested see mid new → HasRested see old new
-  run_rests done s old mid new run kept goes = record {
+  pub run_rests : (done : List Stage) (s : Stage) (ss : List Stage) (old mid new : View P ghosts) → HasRun see disks done old mid → HasRested see (Wants s) mid new → HasRested see (RunsShort disks (done ++ s ∷ ss)) old new
+  run_rests done s ss old mid new run goes = record {
     keeps = goes.keeps;
     goes = λ m is.
         let before = run.goes m is in
         let after = goes.goes before.0 before.1.is in
-        (after.0, after.1, later_trans m.counts before.0.counts after.0.counts before.1.later after.2, after.3 ∙ before.1.kept kept);
+        (after.0, after.1, later_trans m.counts before.0.counts after.0.counts before.1.later after.2, before.1.short (s ∷ ss) after.0 (inr after.3));
     faults = faults_trans (scene see old) (scene see mid) (scene see new) run.faults goes.faults;
   }
 
@@ -173,9 +175,9 @@ module _ {P : Type 0} {ghosts : Ghosts P} (see : P → Seen) (disks : List DiskA
   stage_ends s (Err stops.OutOfMemory) old new goes = record { keeps = keeps_but_group see new goes.keeps; goes = goes.goes; faults = goes.faults }
 
   -- a stage that is not done
-  pub run_stops : (done : List Stage) (s : Stage) (ss : List Stage) (stop : Stop) (old mid new : View P ghosts) → HasRun see disks done old mid → KeepWorld done → StageEnds see s disks (Err stop) mid new → StagesGo see disks (done ++ s ∷ ss) (Err stop) old new
-  run_stops done s ss (stops.Ended end) old mid new run kept goes = run_ends done s ss end old mid new run kept goes
-  run_stops done s ss stops.OutOfMemory old mid new run kept goes = run_rests done s old mid new run kept goes
+  pub run_stops : (done : List Stage) (s : Stage) (ss : List Stage) (stop : Stop) (old mid new : View P ghosts) → HasRun see disks done old mid → StageEnds see s disks (Err stop) mid new → StagesGo see disks (done ++ s ∷ ss) (Err stop) old new
+  run_stops done s ss (stops.Ended end) old mid new run goes = run_ends done s ss end old mid new run goes
+  run_stops done s ss stops.OutOfMemory old mid new run goes = run_rests done s ss old mid new run goes
 
 -- a stage among those of a plan
 pub split_stages : (stages : List Stage) (i : ℕ) (s : Stage) → take (i + 1) stages ≡ take i stages ++ s ∷ [] → stages ≡ take i stages ++ s ∷ drop (i + 1) stages

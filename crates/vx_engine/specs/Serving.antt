@@ -28,11 +28,11 @@ pub record CommandGoes {P : Type 0} {ghosts : Ghosts P} (see : P → Seen) (Does
   pub faults : FaultsGoOn (scene see old) (scene see new)
   pub blamed : AnswerBlamed answer (scene see old) (scene see new)
 
--- For want of memory the world is as it began; of the group's devices some may be joined.
-pub record IsRefused {P : Type 0} {ghosts : Ghosts P} (see : P → Seen) (old new : View P ghosts) : Type 0 where
+-- For want of memory the command is left so; of the group's devices some may be joined.
+pub record IsRefused {P : Type 0} {ghosts : Ghosts P} (see : P → Seen) (Left : Moment → Moment → Type 0) (old new : View P ghosts) : Type 0 where
   pub keeps : KeepsButGroup see new
   pub empty : new.house.hand.items ≡ []
-  pub goes : Goes see (λ m n. n.world ≡ m.world) old new
+  pub goes : Goes see Left old new
   pub faults : FaultsGoOn (scene see old) (scene see new)
 
 -- Memory was wanting to join the devices of a group that was to leave: they are still held.
@@ -42,8 +42,8 @@ pub record IsHeldUp {P : Type 0} {ghosts : Ghosts P} (see : P → Seen) (v : Vie
   pub whole : IfSome v.house.group (IsGroupWhole see)
   pub disks : IfSome v.house.group HasDisk
 
--- The command is served; or nothing was done for want of memory; or a group is held up.
-abbrev pub CommandEnds : {P : Type 0} {ghosts : Ghosts P} → (P → Seen) → (Moment → List Shown → End → Moment → Type 0) → Result Answer Unserved → View P ghosts → View P ghosts → Type 0
-CommandEnds see Does (Ok answer) old new = CommandGoes see Does answer old new
-CommandEnds see Does (Err unserved.OutOfMemory) old new = IsRefused see old new
-CommandEnds see Does (Err unserved.HeldUp) old new = IsHeldUp see new
+-- The command is served; or it was left so for want of memory; or a group is held up.
+abbrev pub CommandEnds : {P : Type 0} {ghosts : Ghosts P} → (P → Seen) → (Moment → List Shown → End → Moment → Type 0) → (Moment → Moment → Type 0) → Result Answer Unserved → View P ghosts → View P ghosts → Type 0
+CommandEnds see Does Left (Ok answer) old new = CommandGoes see Does answer old new
+CommandEnds see Does Left (Err unserved.OutOfMemory) old new = IsRefused see Left old new
+CommandEnds see Does Left (Err unserved.HeldUp) old new = IsHeldUp see new

@@ -41,7 +41,7 @@ pub fn serve_call<S: Shelf>(
     requires keeps { Keeps S.P.seen (at (shelved S.free S.held S.counted S.faults shelf.old) house.old) }
     requires empty { house.old.hand.items ≡ [] }
     requires valid { IsCall call.now }
-    ensures goes { (place : ℕ) → CommandEnds S.P.seen (DoesCall place call.now) result
+    ensures goes { (place : ℕ) → CommandEnds S.P.seen (DoesCall place call.now) (λ m n. n.world ≡ m.world) result
         (at (shelved S.free S.held S.counted S.faults shelf.old) house.old) (at (shelved S.free S.held S.counted S.faults shelf.new) house.new) }
 {
     match serve_any(alloc, house, call) {

@@ -9,7 +9,7 @@ ghost use Rattle.vx_engine.specs.Sound.{HasFormSize};
 ghost use Rattle.vx_house.specs.Scene.{shelved};
 ghost use Rattle.vx_house.specs.View.{Keeps, at};
 ghost use Rattle.vx_plans.specs.Plans.{disks_of, plan_of};
-ghost use Rattle.vx_plans.specs.Steps.{Does, DoesCall, DoesPlan};
+ghost use Rattle.vx_plans.specs.Steps.{Does, DoesCall, DoesPlan, LeavesOff, WantsPlan};
 ghost use Rattle.vx_script.specs.Kept.{is_command};
 
 use crate::calling::serve_call;
@@ -26,7 +26,8 @@ use vx_script_forms::{Call, Form, name_in};
 use vx_script_words::DiskAt;
 use vx_shelf::Shelf;
 
-/// Serves a command. After a refusal of memory the world is as before.
+/// Serves a command. After a refusal of memory it is left as `LeavesOff` says: the world is as before, but where devices of a volume were
+/// called already.
 pub fn execute<S: Shelf>(
     alloc: Global,
     house: &mut House<S::P>,
@@ -36,7 +37,7 @@ pub fn execute<S: Shelf>(
     requires kept { IsTrue (is_command command.now) }
     requires keeps { Keeps S.P.seen (at (shelved S.free S.held S.counted S.faults shelf.old) house.old) }
     requires empty { house.old.hand.items ≡ [] }
-    ensures goes { (place : ℕ) → CommandEnds S.P.seen (Does place command.now) result
+    ensures goes { (place : ℕ) → CommandEnds S.P.seen (Does place command.now) (LeavesOff command.now) result
         (at (shelved S.free S.held S.counted S.faults shelf.old) house.old) (at (shelved S.free S.held S.counted S.faults shelf.new) house.new) }
 {
     if command.cut.is_some() {
@@ -58,7 +59,7 @@ fn serve_said<S: Shelf>(
     requires keeps { Keeps S.P.seen (at (shelved S.free S.held S.counted S.faults shelf.old) house.old) }
     requires empty { house.old.hand.items ≡ [] }
     requires within { IsCallIfBuilt call.now }
-    ensures goes { (place : ℕ) → CommandEnds S.P.seen (DoesCall place call.now) result
+    ensures goes { (place : ℕ) → CommandEnds S.P.seen (DoesCall place call.now) (λ m n. n.world ≡ m.world) result
         (at (shelved S.free S.held S.counted S.faults shelf.old) house.old) (at (shelved S.free S.held S.counted S.faults shelf.new) house.new) }
 {
     match call {
@@ -78,7 +79,7 @@ fn serve_form<S: Shelf>(
     requires keeps { Keeps S.P.seen (at (shelved S.free S.held S.counted S.faults shelf.old) house.old) }
     requires empty { house.old.hand.items ≡ [] }
     requires sized { HasFormSize form.now }
-    ensures goes { CommandEnds S.P.seen (DoesPlan (disks_of form.now) (plan_of group form.now)) result
+    ensures goes { CommandEnds S.P.seen (DoesPlan (disks_of form.now) (plan_of group form.now)) (WantsPlan (disks_of form.now) (plan_of group form.now)) result
         (at (shelved S.free S.held S.counted S.faults shelf.old) house.old) (at (shelved S.free S.held S.counted S.faults shelf.new) house.new) }
 {
     let Ok(found) = plan(alloc, group, form) else {

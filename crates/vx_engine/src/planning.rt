@@ -1,5 +1,5 @@
 //! A command that is a plan.
-ghost use Rattle.std.specs.Prelude.{◌≡◌, [], None, Err, IfSome, IfOk, IfErr, OnOk};
+ghost use Rattle.std.specs.Prelude.{◌≡◌, [], None, Some, Err, IfSome, IfOk, IfErr, OnOk};
 ghost use Rattle.vx_answers.specs.declared.answer.Answer.TheVariants.{One};
 ghost use Rattle.vx_answers.specs.declared.answer.End.TheVariants as ends;
 ghost use Rattle.vx_engine.specs.Sound.{IsSound};
@@ -8,7 +8,7 @@ ghost use Rattle.vx_house.specs.Holders.{AreHeld, holders};
 ghost use Rattle.vx_house.specs.Leaves.{IsLeft};
 ghost use Rattle.vx_house.specs.Scene.{shelved};
 ghost use Rattle.vx_house.specs.View.{IsGroupWhole, Keeps, at};
-ghost use Rattle.vx_plans.specs.Steps.{Runs};
+ghost use Rattle.vx_plans.specs.Steps.{Runs, WantsPlan};
 
 use crate::running::run_stages;
 use crate::showing::show;
@@ -31,7 +31,7 @@ pub fn serve_plan<S: Shelf>(
     requires keeps { Keeps S.P.seen (at (shelved S.free S.held S.counted S.faults shelf.old) house.old) }
     requires empty { house.old.hand.items ≡ [] }
     requires sound { IsSound plan.now }
-    ensures goes { CommandEnds S.P.seen (λ m views end n. Runs disks.now plan.now.stages plan.now.finish m views end n) result
+    ensures goes { CommandEnds S.P.seen (λ m views end n. Runs disks.now plan.now.stages plan.now.finish m views end n) (WantsPlan disks.now (Some plan.now)) result
         (at (shelved S.free S.held S.counted S.faults shelf.old) house.old) (at (shelved S.free S.held S.counted S.faults shelf.new) house.new) }
 {
     match run_stages(alloc, house, shelf, plan.stages.as_slice(), disks) {

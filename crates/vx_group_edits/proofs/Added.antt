@@ -30,7 +30,7 @@ use Rattle.vx_plexes.proofs.Plexes.{config_valid}
 use Rattle.vx_answers.specs.declared.refusal.Refusal.{Refusal}
 use Rattle.vx_plans.specs.Making.{adding_refusal, broken, limit_rules, made, reference_rules, space_rules, started_name}
 use Rattle.vx_plans.specs.Refusals.{refusal_from}
-use Rattle.vx_volume_form.specs.Plexes.{IsVolOf}
+use Rattle.vx_image.specs.UsedPlexes.{IsVolOf}
 use Rattle.vx_volume_form.proofs.Distinct.{AreDistinct, distinct_names, filtered}
 use Rattle.vx_group_edits.specs.Laws.{EachJoiningKeeps, EachMakingKeeps, EachRewritingKeeps}
 use Rattle.vx_group_edits.proofs.ByKind.{Leaves, untouched}

@@ -13,7 +13,7 @@ use Rattle.vx_objects.specs.Applied.{IsEdited}
 use Rattle.vx_objects.specs.Config.{objects_of}
 use Rattle.vx_plexes.proofs.Members.{IsIn, one_in, one_named}
 use Rattle.vx_plexes.proofs.Plexes.{config_valid}
-use Rattle.vx_volume_form.specs.Plexes.{IsVolOf}
+use Rattle.vx_image.specs.UsedPlexes.{IsVolOf}
 use Rattle.vx_plans.specs.Stages.{policy_edit}
 use Rattle.vx_plans.specs.Tests.{volume_in}
 use Rattle.vx_plans.specs.declared.stage.Change.TheVariants as changes

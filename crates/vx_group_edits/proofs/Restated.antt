@@ -19,7 +19,7 @@ use Rattle.vx_objects.specs.Config.{objects_of}
 use Rattle.vx_plexes.proofs.Members.{IsIn, in_map, in_one, one_in}
 use Rattle.vx_state_edits.specs.Edits.{is_new, started, stopped}
 use Rattle.vx_state_edits.specs.Laws.{EachStartRestates, EachStopRestates, IsPlexAfter, Restates, in_state}
-use Rattle.vx_volume_form.specs.Plexes.{IsVolOf}
+use Rattle.vx_image.specs.UsedPlexes.{IsVolOf}
 use Rattle.vx_group_edits.specs.Laws.{EachStartKeeps, EachStopKeeps}
 use Rattle.vx_group_edits.proofs.ByKind.{records_vol, vol_recorded}
 use Rattle.vx_group_edits.proofs.Lists.{among}

@@ -21,7 +21,7 @@ use Rattle.vx_plexes.proofs.Members.{IsIn, in_any, in_either}
 use Rattle.vx_plexes.proofs.Plexes.{config_valid, on_disk}
 use Rattle.vx_image.specs.Bytes.{is_held, relation_maps}
 use Rattle.vx_image.proofs.Members.{contains, is_in}
-use Rattle.vx_volume_form.specs.Plexes.{IsVolOf, is_used_log, is_used_state, used_logs}
+use Rattle.vx_image.specs.UsedPlexes.{IsVolOf, is_used_log, is_used_state, used_logs}
 use Rattle.vx_volume_form.proofs.Bits.{kept}
 use Rattle.vx_volume_form.proofs.Distinct.{filtered}
 use Rattle.vx_left_images.specs.Keeping.{KeepsPlex, KeepsVolume, LiesStill, data_plexes}

@@ -11,7 +11,7 @@ use Rattle.vx_objects.specs.declared.edit.Edit.TheVariants.{AddDisk, Make, SetVo
 use Rattle.vx_objects.specs.Applied.{IsEdited}
 use Rattle.vx_objects.specs.Config.{objects_of}
 use Rattle.vx_state_edits.specs.Edits.{start_edits, stop_edits}
-use Rattle.vx_volume_form.specs.Plexes.{IsVolOf}
+use Rattle.vx_image.specs.UsedPlexes.{IsVolOf}
 use Rattle.vx_moments.specs.World.{Group}
 use Rattle.vx_plans.specs.Making.{Adds, adding_refusal}
 use Rattle.vx_plans.specs.Stages.{edits_of}

@@ -9,7 +9,7 @@ use Rattle.vx_config_parts.specs.Objects.{refers}
 use Rattle.vx_layout.specs.declared.place.Place.{Place}
 use Rattle.vx_objects.specs.declared.config.Config.{Config}
 use Rattle.vx_image.specs.Own.{IsOfVolume}
-use Rattle.vx_volume_form.specs.Plexes.{IsVolOf}
+use Rattle.vx_image.specs.UsedPlexes.{IsVolOf}
 use Rattle.vx_left_images.specs.Keeping.{KeepsVolume, LiesStill}
 
 -- the configuration has a disk in the slot

@@ -45,6 +45,10 @@ volume_by vol.Sync plexes v = volume_read plexes v
 abbrev pub volume_begun : Group → Vol → List Word → Image → Volume
 volume_begun g v plexes image = unsure (owners_of g v.name plexes) (volume_by v.state plexes image)
 
+-- the volume with nothing missing on these plexes
+abbrev pub volume_copied : (Word → Bool) → Volume → Volume
+volume_copied copied w = record w { tracks = λ name. if copied name then no_track else w.tracks name }
+
 -- A volume is started on these plexes, of data and of its log: a life begins over what its bytes say, of which nothing more is known
 -- where they are not sound. Only sectors of the volume have changed, such as those of its log.
 pub record BeginsToRun (g : Group) (v : Vol) (plexes : List Word) (old new : World) : Type 0 where

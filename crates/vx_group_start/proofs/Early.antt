@@ -21,7 +21,7 @@ use Rattle.vx_volume.specs.Opening.{IsFirstUnread}
 use Rattle.vx_volume_form.specs.declared.form.VolumeForm.{VolumeForm}
 use Rattle.vx_volume_form.specs.Form.{IsFormOf}
 use Rattle.vx_volume_form.specs.Laws.{IsLogFor}
-use Rattle.vx_volume_form.specs.Plexes.{IsVolOf}
+use Rattle.vx_image.specs.UsedPlexes.{IsVolOf}
 use Rattle.vx_volume_form.proofs.Rules.{vol_geometry}
 use Rattle.vx_volume_form.proofs.Rooms.{logs_are}
 use Rattle.vx_maps.proofs.CopyRuns.{none_cut}

@@ -18,7 +18,7 @@ use Rattle.vx_volume.specs.Opening.{AreOpenable, count_of}
 use Rattle.vx_volume_form.specs.declared.form.VolumeForm.{VolumeForm}
 use Rattle.vx_volume_form.specs.Form.{IsFormOf}
 use Rattle.vx_volume_form.specs.Laws.{HasLogs, HasOn, IsLogFor}
-use Rattle.vx_volume_form.specs.Plexes.{IsVolOf}
+use Rattle.vx_image.specs.UsedPlexes.{IsVolOf}
 use Rattle.vx_volume_form.proofs.Bits.{maps, masks}
 use Rattle.vx_volume_pieces.specs.Taken.{AreTakenRegions}
 use Rattle.vx_volume_pieces.proofs.Openable.{regions_open}

@@ -12,5 +12,6 @@ mod Rises
 mod Same
 mod Starts
 mod Stills
+mod Together
 mod Unstarted
 mod Untouched

@@ -1,21 +1,29 @@
--- A count of one copy that rose has risen in all pieces.
+-- A count of one copy that rose has risen in all pieces, and is one of a device that the copy lies on.
 use Rattle.std.proofs.Common.{◌≡◌, ℕ, zero, suc, ◌+◌, ◌-◌, ◌^◌, ◌≤◌, ◌==◌, min, Bool, true, false, cond, List, [], ◌∷◌, ◌++◌, ◌∙◌, refl, sym, ap, subst, arith}
 use Rattle.std.specs.Prelude.{◌||◌}
-use Rattle.std.specs.List.{sum_by}
+use Rattle.std.specs.List.{list_any, sum_by, All}
+use Rattle.std.proofs.lemmas.Bool.{false≢true}
+use Rattle.std.proofs.lemmas.List.Folds.{list_any-append}
 use Rattle.std.proofs.lemmas.List.Sums.{sum_by-append, sum_by-cons}
 use Rattle.vx_base.specs.Counts.{Rose}
 use Rattle.vx_piece.specs.Seen.{Seen}
 use Rattle.vx_runs.specs.Run.{EachPiece}
-use Rattle.vx_carve.specs.Together.{SameSectors, cut_of, faults_of, faults_on}
-use Rattle.vx_cut.specs.Same.{SameRun}
+use Rattle.vx_carve.specs.Together.{HasSome, SameSectors, cut_of, cut_on, faults_of, faults_on}
+use Rattle.vx_cut.specs.Same.{SameRun, counted}
+use Rattle.vx_cut.proofs.Parts.{all_parts}
+use Rattle.vx_fronts.specs.Rests.{is_of}
+use Rattle.vx_fronts.proofs.Sectors.{any_same, none_counted}
 use Rattle.vx_pages.specs.Sector.{KeepsPiece}
 use Rattle.vx_maps.specs.Copies.{SameRuns}
 use Rattle.vx_maps.specs.Creating.{copies_cut, run_cut}
 use Rattle.vx_maps.specs.Going.{CopiesGo}
+use Rattle.vx_maps.specs.Loading.{copy_at}
 use Rattle.vx_maps.specs.Wholes.{copy_faults}
+use Rattle.vx_lending.specs.Going.{GoTogether}
 use Rattle.vx_lending.specs.Pieces.{copy_pieces}
+use Rattle.vx_lending.proofs.Counts.{same_owners}
 use Rattle.vx_lending.proofs.Goings.{counted_on}
-use Rattle.vx_group_start.specs.Logs.{SomeCut}
+use Rattle.vx_group_start.specs.Logs.{AreOn, SomeCut}
 
 -- ---- counts of a copy
 
@@ -146,5 +154,58 @@ copies_are_cut (x ∷ xs) e = by (run_cut x) refl (λ rest. after_cut x (copy_pi
     by true is rest e = before_cut x (copy_pieces xs) (run_is_cut x is)
     by false is rest e = rest e
 
-pub cut_beside : (rs ds ss os : List Seen) → SameSectors ((rs ++ ds) ++ ss) os → SomeCut ds → SomeCut os
-cut_beside rs ds ss os same some = let all = before_cut (rs ++ ds) ss (after_cut rs ds some) in (all.0, same.cut all.0 ∙ all.1)
+some_among : (a r s x : ℕ) → x ≡ r + a + s → min a 1 ≡ 1 → min x 1 ≡ 1
+some_among a r s x e f = omega (arith, e, f)
+
+pub cut_beside : (device : ℕ) (rs ds ss os : List Seen) → SameSectors ((rs ++ ds) ++ ss) os → cut_on device ds ≡ 1 → cut_on device os ≡ 1
+cut_beside device rs ds ss os same cut = same.cut device ∙ some_among (sum_by (cut_of device) ds) (sum_by (cut_of device) rs) (sum_by (cut_of device) ss) _ (three (cut_of device) rs ds ss) cut
+
+-- ---- the devices of copies
+
+on_same : (device : ℕ) (ps qs : List Seen) → EachPiece KeepsPiece ps qs → list_any (is_of device) qs ≡ list_any (is_of device) ps
+on_same device [] [] go = refl
+on_same device [] (q ∷ qs) go = absurd go
+on_same device (p ∷ ps) [] go = absurd go
+on_same device (p ∷ ps) (q ∷ qs) go = ap (λ n. (n == device) || list_any (is_of device) qs) go.0.kept.device ∙ ap (λ b. is_of device p || b) (on_same device ps qs go.1)
+
+counts_none : (device : ℕ) (ps : List Seen) → list_any (is_of device) ps ≡ false → counted (λ p. p.faults) device ps ≡ 0
+counts_none device ps none = counted_on device ps ∙ none_counted (faults_of device) device ps (λ p e. ap (λ b. cond b p.faults 0) e) none
+
+-- a device whose count rose is one of the copy's
+rose_on : (device : ℕ) (x c y : List Seen) → All HasSome x → SameRun x c → EachPiece KeepsPiece c y → Rose (counted (λ p. p.faults) device x) (counted (λ p. p.faults) device y) → AreOn device x
+rose_on device x c y some same go rose = by (list_any (is_of device) x) refl
+  where
+    by : (b : Bool) → list_any (is_of device) x ≡ b → list_any (is_of device) x ≡ true
+    by true e = e
+    by false e =
+        let first = counts_none device x e in
+        let last = counts_none device y (on_same device c y go ∙ any_same x c device some (same.some some) (λ k. same_owners x c same device k) ∙ e) in
+        absurd (omega (arith, first, last, rose))
+
+pub copy_on : (device n : ℕ) (xs cut ys : List (List Seen)) → All HasSome (copy_pieces xs) → SameRuns xs cut → CopiesGo KeepsPiece cut ys → Rose (copy_faults xs n device) (copy_faults ys n device) → AreOn device (copy_at xs n)
+copy_on device n [] [] [] some same go rose = absurd (omega (arith, rose))
+copy_on device n [] [] (y ∷ ys) some same go rose = absurd go
+copy_on device n [] (c ∷ cs) ys some same go rose = absurd same
+copy_on device n (x ∷ xs) [] ys some same go rose = absurd same
+copy_on device n (x ∷ xs) (c ∷ cs) [] some same go rose = absurd go
+copy_on device zero (x ∷ xs) (c ∷ cs) (y ∷ ys) some same go rose = rose_on device x c y (all_parts HasSome x (copy_pieces xs) some).0 same.0 go.0 rose
+copy_on device (suc n) (x ∷ xs) (c ∷ cs) (y ∷ ys) some same go rose = copy_on device n xs cs ys (all_parts HasSome x (copy_pieces xs) some).1 same.1 go.1 rose
+
+or_true : (b : Bool) → (b || true) ≡ true
+or_true true = refl
+or_true false = refl
+
+pub on_copies : (device n : ℕ) (xs : List (List Seen)) → AreOn device (copy_at xs n) → AreOn device (copy_pieces xs)
+on_copies device n [] on = absurd (false≢true on)
+on_copies device zero (x ∷ xs) on = list_any-append (is_of device) x (copy_pieces xs) ∙ ap (λ b. b || list_any (is_of device) (copy_pieces xs)) on
+on_copies device (suc n) (x ∷ xs) on = list_any-append (is_of device) x (copy_pieces xs) ∙ ap (λ b. list_any (is_of device) x || b) (on_copies device n xs on) ∙ or_true (list_any (is_of device) x)
+
+-- a device whose power is gone is one of those that went on
+pub cut_own : (device : ℕ) (ps qs : List Seen) → GoTogether ps qs → All HasSome ps → cut_on device qs ≡ 1 → AreOn device ps
+cut_own device ps qs goes some cut = by (list_any (is_of device) ps) refl
+  where
+    by : (b : Bool) → list_any (is_of device) ps ≡ b → list_any (is_of device) ps ≡ true
+    by true e = e
+    by false e =
+        let none = none_counted (cut_of device) device qs (λ p f. ap (λ b. cond b (cond p.cut 1 0) 0) f) (any_same ps qs device some (goes.some some) (λ k. goes.sectors device k) ∙ e) in
+        absurd (omega (arith, none, cut))

@@ -1,5 +1,5 @@
 -- A volume that was opened over pieces that were taken is started.
-use Rattle.std.proofs.Common.{◌≡◌, ℕ, zero, suc, ◌<◌, List, [], ◌∷◌, ◌++◌, length, map, Result, Ok, Err, refl, sym, ap, ◌∙◌, subst, arith, append_assoc, inl, inr}
+use Rattle.std.proofs.Common.{◌≡◌, ℕ, zero, suc, ◌<◌, ◌≤◌, List, [], ◌∷◌, ◌++◌, length, map, Result, Ok, Err, refl, sym, ap, ◌∙◌, subst, arith, append_assoc, inl, inr}
 use Rattle.std.specs.Prelude.{IfOk, nat_lt, is_some, true}
 use Rattle.std.specs.List.{All, flat_map}
 use Rattle.std.proofs.lemmas.Bool.Decides.{nat_tests}
@@ -8,12 +8,14 @@ use Rattle.vx_base.specs.Blocks.{Contents}
 use Rattle.vx_base.specs.Counts.{Rose}
 use Rattle.vx_piece.specs.Seen.{Seen}
 use Rattle.vx_carve.specs.Together.{Holds, SameSectors, faults_on}
-use Rattle.vx_carve.proofs.Same.{same_beside}
+use Rattle.vx_carve.proofs.Same.{same_beside, same_refl}
 use Rattle.vx_cut.proofs.Parts.{all_parts}
 use Rattle.vx_cell.specs.Changes.{CellSeen}
 use Rattle.vx_cell.specs.Plexes.{PlexSeen}
 use Rattle.vx_pages.specs.Items.{item_at}
+use Rattle.vx_pages.specs.Sector.{KeepsPiece}
 use Rattle.vx_pages.specs.declared.local_piece.LocalPiece.{Ghosts}
+use Rattle.vx_maps.specs.Going.{CutCopiesGo}
 use Rattle.vx_maps.specs.Loading.{copy_at}
 use Rattle.vx_config_parts.specs.declared.vol.Vol.{Vol}
 use Rattle.vx_volume.specs.declared.log.VolumeLog.{VolumeLog}
@@ -28,9 +30,11 @@ use Rattle.vx_volume_pieces.specs.Pieces.{all_pieces}
 use Rattle.vx_volume_pieces.specs.Taken.{AreTakenRegions}
 use Rattle.vx_lending.specs.Going.{GoTogether}
 use Rattle.vx_lending.specs.Left.{held_pieces, region_plexes}
-use Rattle.vx_lending.specs.Logs.{log_header, log_pieces}
+use Rattle.vx_lending.specs.Logs.{log_copies, log_header, log_pieces}
 use Rattle.vx_lending.specs.Pieces.{copy_pieces}
-use Rattle.vx_lending.specs.Taken.{AreTakenCopies, OthersStay, log_sectors}
+use Rattle.vx_lending.specs.Taken.{AreTakenCopies, OthersStay, log_sectors, slot_of}
+use Rattle.vx_lending.proofs.LogCopies.{log_copies as copies_roomy}
+use Rattle.vx_lending.proofs.LogShapes.{none_empty}
 use Rattle.vx_lending.proofs.Goings.{go_beside, go_from, go_same, go_then}
 use Rattle.vx_running.specs.declared.public.Public.{Public}
 use Rattle.vx_running.specs.declared.public.Running.{Running}
@@ -41,6 +45,7 @@ use Rattle.vx_group_start.specs.Logs.{AreStartCopies, IsPassedOver, IsStartLog}
 use Rattle.vx_group_start.specs.Refused.{IsNotStarted}
 use Rattle.vx_group_start.specs.Started.{IsStarted}
 use Rattle.vx_group_start.specs.Steps.{IsLogOver, IsRefusedOver, StartsOver}
+use Rattle.vx_group_start.specs.Together.{GoByLog}
 
 -- ---- the plexes of an opened volume
 
@@ -70,7 +75,7 @@ some_copies zero lt = absurd (omega (arith, lt))
 some_copies (suc n) lt = grind (arith, nat_tests)
 
 passed_before : (header : List ℕ) (copy before old new : List Seen) → SameSectors before old → IsPassedOver header old new copy → IsPassedOver header before new copy
-passed_before header copy before old new same (inl x) = inl (x.0, subst (λ n. Rose n (faults_on x.0 new)) (same.faults x.0) x.1)
+passed_before header copy before old new same (inl x) = inl (x.0, x.1, subst (λ n. Rose n (faults_on x.0 new)) (same.faults x.0) x.2)
 passed_before header copy before old new same (inr x) = inr x
 
 pub ok_both : {T E : Type 0} (r : Result T E) (P Q : T → Type 0) → IfOk r P → IfOk r Q → IfOk r (λ x. P x × Q x)
@@ -118,6 +123,34 @@ module _ {P : Type 0} {ghosts : Ghosts P} (v : Vol) (numbers : List ℕ) (old mi
         (go_beside (all_pieces regions ++ copy_pieces copies) (all_pieces regions ++ log_pieces ghosts.seen (log_of running.volume)) (still_pieces ghosts.seen mid) (still_pieces ghosts.seen mid)
         (go_beside (all_pieces regions) (all_pieces regions) (copy_pieces copies) (log_pieces ghosts.seen (log_of running.volume)) (go_same _) over.goes) (go_same _)))
 
+    all_out : SameSectors (still_pieces ghosts.seen old) (all_pieces regions ++ (copy_pieces copies ++ still_pieces ghosts.seen mid))
+    all_out = subst (λ (xs : List Seen). SameSectors (still_pieces ghosts.seen old) xs) (append_assoc (all_pieces regions) (copy_pieces copies) (still_pieces ghosts.seen mid)) all_same
+
+    gone_as : length form.logs.items ≤ 2 → (running : Running P ghosts) → CutCopiesGo KeepsPiece copies (log_copies ghosts.seen (log_of running.volume)) → region_plexes (volume_seen ghosts.seen running.volume).cells ≡ regions →
+        GoByLog numbers form (still_pieces ghosts.seen old) (held_pieces ghosts.seen running.volume ++ still_pieces ghosts.seen mid)
+    gone_as few running cut plexes =
+        record {
+          copies = copies;
+          are = taken.copies_are;
+          go = record {
+            regions = regions;
+            later = log_copies ghosts.seen (log_of running.volume);
+            rest = still_pieces ghosts.seen mid;
+            some = none_empty (slot_of form.shape.geometry) copies (copies_roomy numbers form.logs.items (slot_of form.shape.geometry) copies few taken.copies_are);
+            taken = all_out;
+            cut = cut;
+            back = subst (λ (xs : List (List PlexSeen)). SameSectors (all_pieces regions ++ (log_pieces ghosts.seen (log_of running.volume) ++ still_pieces ghosts.seen mid)) ((all_pieces xs ++ log_pieces ghosts.seen (log_of running.volume)) ++ still_pieces ghosts.seen mid)) (sym plexes)
+                (subst (λ (xs : List Seen). SameSectors xs ((all_pieces regions ++ log_pieces ghosts.seen (log_of running.volume)) ++ still_pieces ghosts.seen mid)) (append_assoc (all_pieces regions) (log_pieces ghosts.seen (log_of running.volume)) (still_pieces ghosts.seen mid)) (same_refl _));
+          };
+        }
+
+    -- how the pieces have gone on
+    pub gone_by : length form.logs.items ≤ 2 → (running : Running P ghosts) → StartsOver ghosts.seen v form regions copies running → GoByLog numbers running.form (still_pieces ghosts.seen old) (held_pieces ghosts.seen running.volume ++ still_pieces ghosts.seen mid)
+    gone_by few running starts =
+        let over : IsLogOver ghosts.seen v form.shape copies (log_of running.volume) = subst (IsLogOver ghosts.seen v form.shape copies) (sym starts.runs.log_is) starts.over in
+        subst (λ (f : VolumeForm). GoByLog numbers f (still_pieces ghosts.seen old) (held_pieces ghosts.seen running.volume ++ still_pieces ghosts.seen mid)) (sym starts.runs.form_is)
+        (gone_as few running over.cut (opened_plexes form.shape (log_seen ghosts.seen starts.log) regions (volume_seen ghosts.seen running.volume) starts.runs.opened))
+
     -- why it is not started
     pub unstarted_by : (new : Public P ghosts) (fault : StartFault) → is_some v.dco ≡ nat_lt 0 (length copies) → IsRefusedOver ghosts.seen v form copies (all_pieces regions ++ copy_pieces copies) mid new fault → IsNotStarted ghosts.seen v numbers form old new fault
     unstarted_by new OutOfMemory dco h = tt
@@ -129,10 +162,11 @@ module _ {P : Type 0} {ghosts : Ghosts P} (v : Vol) (numbers : List ℕ) (old mi
           passed = λ n lt. passed_before (log_header form.shape.geometry) (copy_at copies n) (still_pieces ghosts.seen old) ((all_pieces regions ++ copy_pieces copies) ++ still_pieces ghosts.seen mid) (still_pieces ghosts.seen new) all_same (h.1 n lt);
         }
     unstarted_by new (NoCurrent r) dco h = inl (record { log = h.log; is = start_log h.log h.over; first = h.first })
-    unstarted_by new (Failed device) dco h = subst (λ n. Rose n (faults_on device (still_pieces ghosts.seen new))) (all_same.faults device) h
-    unstarted_by new PowerLost dco h = h
+    unstarted_by new (Failed device) dco h = record { copies = copies; are = start_copies; own = h.0; rose = subst (λ n. Rose n (faults_on device (still_pieces ghosts.seen new))) (all_same.faults device) h.1 }
+    unstarted_by new PowerLost dco h = record { copies = copies; are = start_copies; device = h.0; own = h.1; cut = h.2 }
 
   pub started_over : (form : VolumeForm) → AreTakenFor numbers (pool_of old) (pool_of mid) regions copies form → (running : Running P ghosts) → StartsOver ghosts.seen v form regions copies running → IsStarted ghosts.seen v numbers old mid running
+  unfolding start_log
   started_over form taken running starts =
       let same = sym starts.runs.form_is in
       let log_is = sym starts.runs.log_is in
@@ -146,6 +180,7 @@ module _ {P : Type 0} {ghosts : Ghosts P} (v : Vol) (numbers : List ℕ) (old mi
         taken = taken'.regions_are;
         hold = λ contents h. ((held_parts form taken contents h).0, (held_all form taken contents h).1);
         log = start_log running.form taken' (log_of running.volume) over';
+        out = all_out form taken;
         opened = subst (λ (f : VolumeForm). IsOpened f.shape (log_seen ghosts.seen (log_of running.volume)) regions (volume_seen ghosts.seen running.volume)) same opened;
         whole = starts.runs.whole;
         shape = starts.runs.shape ∙ ap (λ (f : VolumeForm). f.shape) same;

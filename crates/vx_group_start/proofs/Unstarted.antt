@@ -21,7 +21,7 @@ use Rattle.vx_group_start.specs.Steps.{IsLogOver, IsNoLog, IsRefusedOver, IsUnop
 use Rattle.vx_group_start.proofs.Rises.{cut_beside, rose_beside}
 
 passed_beside : (header : List ℕ) (copy rs cs ds ss os : List Seen) → SameSectors ((rs ++ ds) ++ ss) os → IsPassedOver header cs ds copy → IsPassedOver header ((rs ++ cs) ++ ss) os copy
-passed_beside header copy rs cs ds ss os same (inl x) = inl (x.0, rose_beside x.0 rs cs ds ss os same x.1)
+passed_beside header copy rs cs ds ss os same (inl x) = inl (x.0, x.1, rose_beside x.0 rs cs ds ss os same x.2)
 passed_beside header copy rs cs ds ss os same (inr x) = inr x
 
 module _ {P : Type 0} {ghosts : Ghosts P} (v : Vol) (form : VolumeForm) (copies : List (List Seen)) (rs : List Seen) (old new : Public P ghosts) where
@@ -31,8 +31,8 @@ module _ {P : Type 0} {ghosts : Ghosts P} (v : Vol) (form : VolumeForm) (copies 
   no_log left OutOfMemory same h = tt
   no_log left NoLog same h = (h.0, λ n lt. passed_beside (log_header form.shape.geometry) (copy_at copies n) rs (copy_pieces copies) (copy_pieces left) (still_pieces ghosts.seen old) (still_pieces ghosts.seen new) same (h.1 n lt))
   no_log left (NoCurrent r) same h = absurd h
-  no_log left (Failed device) same h = rose_beside device rs (copy_pieces copies) (copy_pieces left) (still_pieces ghosts.seen old) (still_pieces ghosts.seen new) same h
-  no_log left PowerLost same h = cut_beside rs (copy_pieces left) (still_pieces ghosts.seen old) (still_pieces ghosts.seen new) same h
+  no_log left (Failed device) same h = (h.0, rose_beside device rs (copy_pieces copies) (copy_pieces left) (still_pieces ghosts.seen old) (still_pieces ghosts.seen new) same h.1)
+  no_log left PowerLost same h = (h.0, h.1, cut_beside h.0 rs (copy_pieces left) (still_pieces ghosts.seen old) (still_pieces ghosts.seen new) same h.2)
 
   -- the log is there
   pub not_opened : (log : VolumeLog P ghosts) (fault : StartFault) → IsLogOver ghosts.seen v form.shape copies log → IsUnopened form.shape (log_seen ghosts.seen log) fault → IsRefusedOver ghosts.seen v form copies (rs ++ copy_pieces copies) old new fault

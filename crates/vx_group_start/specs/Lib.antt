@@ -8,3 +8,4 @@ pub mod Logs
 pub mod Refused
 pub mod Started
 pub mod Steps
+pub mod Together

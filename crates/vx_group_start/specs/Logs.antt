@@ -1,11 +1,12 @@
 -- What the log of a volume that is started is made of.
 use Rattle.std.specs.Prelude.{◌≡◌, ℕ, ◌⊎◌, Bool, true, false, List}
-use Rattle.std.specs.List.{All}
+use Rattle.std.specs.List.{All, list_any}
 use Rattle.vx_base.specs.Blocks.{Contents}
 use Rattle.vx_base.specs.Counts.{Rose}
 use Rattle.vx_piece.specs.Seen.{Seen}
 use Rattle.vx_runs.specs.Run.{RunTells, run_contents}
 use Rattle.vx_carve.specs.Together.{Holds, cut_on, faults_on}
+use Rattle.vx_fronts.specs.Rests.{is_of}
 use Rattle.vx_maps.specs.Going.{CutCopiesGo}
 use Rattle.vx_pages.specs.Sector.{KeepsPiece}
 use Rattle.vx_pages.specs.declared.local_piece.LocalPiece.{Ghosts}
@@ -39,10 +40,14 @@ pub record IsStartLog {P : Type 0} {ghosts : Ghosts P} (seen : P → Seen) (v : 
 
 -- ---- why there is none
 
+-- some of the pieces are of the device
+abbrev pub AreOn : ℕ → List Seen → Type 0
+AreOn device ps = list_any (is_of device) ps ≡ true
+
 -- the power of one of the pieces is gone
 abbrev pub SomeCut : List Seen → Type 0
 SomeCut ps = (device : ℕ) × (cut_on device ps ≡ 1)
 
--- the copy was passed over: a device failed, or the copy tells what it holds, and does not begin with the header
+-- The copy was passed over: a device that it lies on has failed, or the copy tells what it holds, and does not begin with the header.
 abbrev pub IsPassedOver : List ℕ → List Seen → List Seen → List Seen → Type 0
-IsPassedOver header before after copy = ((device : ℕ) × Rose (faults_on device before) (faults_on device after)) ⊎ (RunTells copy → run_contents copy 0 ≡ header → ⊥)
+IsPassedOver header before after copy = ((device : ℕ) × AreOn device copy × Rose (faults_on device before) (faults_on device after)) ⊎ (RunTells copy → run_contents copy 0 ≡ header → ⊥)

@@ -2,7 +2,7 @@
 use Rattle.std.specs.Prelude.{◌≡◌, ◌⊎◌, ℕ, ◌<◌, ◌++◌, true, false, is_some, None, List, [], length}
 use Rattle.vx_base.specs.Counts.{Rose}
 use Rattle.vx_piece.specs.Seen.{Seen}
-use Rattle.vx_carve.specs.Together.{faults_on}
+use Rattle.vx_carve.specs.Together.{cut_on, faults_on}
 use Rattle.vx_cell.specs.Plexes.{PlexSeen}
 use Rattle.vx_pages.specs.Sector.{KeepsPiece}
 use Rattle.vx_pages.specs.declared.local_piece.LocalPiece.{Ghosts}
@@ -32,7 +32,7 @@ use Rattle.vx_running.specs.Public.{still_pieces}
 use Rattle.vx_group_start.specs.declared.fault.StartFault.{StartFault}
 use Rattle.vx_group_start.specs.declared.fault.StartFault.TheVariants.{OutOfMemory, NoLog, NoCurrent, Failed, PowerLost}
 use Rattle.vx_group_start.specs.Fresh.{is_fresh, is_lowest_on}
-use Rattle.vx_group_start.specs.Logs.{IsLogOf, IsPassedOver, SomeCut}
+use Rattle.vx_group_start.specs.Logs.{AreOn, IsLogOf, IsPassedOver}
 
 -- ---- before anything is touched
 
@@ -68,8 +68,8 @@ abbrev pub IsNoLog : List ℕ → List (List Seen) → List (List Seen) → Star
 IsNoLog header old new OutOfMemory = Unit {0}
 IsNoLog header old new NoLog = (0 < length old) × ArePassedOver header (copy_pieces old) (copy_pieces new) old
 IsNoLog header old new (NoCurrent r) = ⊥
-IsNoLog header old new (Failed device) = Rose (faults_on device (copy_pieces old)) (faults_on device (copy_pieces new))
-IsNoLog header old new PowerLost = SomeCut (copy_pieces new)
+IsNoLog header old new (Failed device) = AreOn device (copy_pieces old) × Rose (faults_on device (copy_pieces old)) (faults_on device (copy_pieces new))
+IsNoLog header old new PowerLost = (device : ℕ) × AreOn device (copy_pieces old) × (cut_on device (copy_pieces new) ≡ 1)
 
 -- ---- the volume
 
@@ -118,5 +118,5 @@ abbrev pub IsRefusedOver : {P : Type 0} {ghosts : Ghosts P} → (P → Seen) →
 IsRefusedOver seen v form copies taken old new OutOfMemory = Unit {0}
 IsRefusedOver seen v form copies taken old new NoLog = (0 < length copies) × ArePassedOver (log_header form.shape.geometry) (taken ++ still_pieces seen old) (still_pieces seen new) copies
 IsRefusedOver {ghosts = ghosts} seen v form copies taken old new (NoCurrent r) = IsUnreadOver ghosts seen v form.shape copies r
-IsRefusedOver seen v form copies taken old new (Failed device) = Rose (faults_on device (taken ++ still_pieces seen old)) (faults_on device (still_pieces seen new))
-IsRefusedOver seen v form copies taken old new PowerLost = SomeCut (still_pieces seen new)
+IsRefusedOver seen v form copies taken old new (Failed device) = AreOn device (copy_pieces copies) × Rose (faults_on device (taken ++ still_pieces seen old)) (faults_on device (still_pieces seen new))
+IsRefusedOver seen v form copies taken old new PowerLost = (device : ℕ) × AreOn device (copy_pieces copies) × (cut_on device (still_pieces seen new) ≡ 1)

@@ -76,6 +76,7 @@ pub fn start_log<P: Piece + Drop>(
     ensures goes { IfOk result (λ log. GoTogether (copy_pieces (copies_seen P.seen copies.items)) (log_pieces P.seen log)) }
     ensures refused { IfErr result (λ refused. IsNoLog (log_header form.now.shape.geometry) (copies_seen P.seen copies.items) (left_copies P.seen refused.left) refused.fault) }
     ensures back { IfErr result (λ refused. GoTogether (copy_pieces (copies_seen P.seen copies.items)) (copy_pieces (left_copies P.seen refused.left))) }
+    ensures cut_back { IfErr result (λ refused. CutCopiesGo KeepsPiece (copies_seen P.seen copies.items) (left_copies P.seen refused.left)) }
 {
     if fresh {
         new_log(alloc, form, copies)
@@ -96,6 +97,7 @@ fn new_log<P: Piece + Drop>(
     ensures goes { IfOk result (λ log. GoTogether (copy_pieces (copies_seen P.seen copies.items)) (log_pieces P.seen log)) }
     ensures refused { IfErr result (λ refused. IsNoLog (log_header form.now.shape.geometry) (copies_seen P.seen copies.items) (left_copies P.seen refused.left) refused.fault) }
     ensures back { IfErr result (λ refused. GoTogether (copy_pieces (copies_seen P.seen copies.items)) (copy_pieces (left_copies P.seen refused.left))) }
+    ensures cut_back { IfErr result (λ refused. CutCopiesGo KeepsPiece (copies_seen P.seen copies.items) (left_copies P.seen refused.left)) }
 {
     match fresh_log(alloc, form, copies, mask_to_copy(form)) {
         Ok(log) => Ok(log),
@@ -118,6 +120,7 @@ fn old_log<P: Piece + Drop>(
     ensures goes { IfOk result (λ log. GoTogether (copy_pieces (copies_seen P.seen copies.items)) (log_pieces P.seen log)) }
     ensures refused { IfErr result (λ refused. IsNoLog (log_header form.now.shape.geometry) (copies_seen P.seen copies.items) (left_copies P.seen refused.left) refused.fault) }
     ensures back { IfErr result (λ refused. GoTogether (copy_pieces (copies_seen P.seen copies.items)) (copy_pieces (left_copies P.seen refused.left))) }
+    ensures cut_back { IfErr result (λ refused. CutCopiesGo KeepsPiece (copies_seen P.seen copies.items) (left_copies P.seen refused.left)) }
 {
     match load_log(alloc, form, copies) {
         Ok(log) => Ok(log),

@@ -11,11 +11,12 @@ ghost use Rattle.vx_volume.specs.Log.{log_seen};
 ghost use Rattle.vx_volume.specs.Opening.{AreOpenable, count_of, regions_seen};
 ghost use Rattle.vx_volume_form.specs.Form.{IsFormOf};
 ghost use Rattle.vx_volume_form.specs.Laws.{AreFree, AreNumbered, CanBeTaken, HasLogs, HasOn, IsLogFor, all_layouts};
-ghost use Rattle.vx_volume_form.specs.Plexes.{IsVolOf};
+ghost use Rattle.vx_image.specs.UsedPlexes.{IsVolOf};
 ghost use Rattle.vx_volume_form.specs.declared.form.VolumeForm.{VolumeForm};
 ghost use Rattle.vx_volume_pieces.specs.Pieces.{all_pieces};
 ghost use Rattle.vx_volume_pieces.specs.Taken.{AreTakenRegions};
 ghost use Rattle.vx_lending.specs.Going.{GoTogether};
+ghost use Rattle.vx_lending.specs.Left.{held_pieces};
 ghost use Rattle.vx_lending.specs.Logs.{log_pieces};
 ghost use Rattle.vx_lending.specs.Pieces.{volume_pieces};
 ghost use Rattle.vx_lending.specs.Taken.{AreLogCopies, HaveBlocks, log_sectors, slot_of};
@@ -24,6 +25,7 @@ ghost use Rattle.vx_group_start.specs.Fresh.{is_fresh, is_lowest_on};
 ghost use Rattle.vx_group_start.specs.Refused.{IsNotStarted, IsRefused};
 ghost use Rattle.vx_group_start.specs.Started.{IsStarted};
 ghost use Rattle.vx_group_start.specs.Steps.{IsEarly, IsRefusedOver, IsUnopened, RunsOver, StartsOver, open_fault};
+ghost use Rattle.vx_group_start.specs.Together.{ComeBack, ComeBackFrom, GoByCopies, GoByLog};
 
 use crate::fault::StartFault;
 use crate::logs::{is_fresh, is_lowest_on, start_log};
@@ -59,7 +61,9 @@ pub fn open_volume<P: Piece + Drop>(
     ensures started { IfOk result (λ running. IsStarted P.seen vol.now numbers.now public.old public.new running) }
     ensures left { IfOk result (λ running. public.new.left.items ≡ public.old.left.items) }
     ensures refused { IfErr result (λ fault. IsRefused P.seen config.now good vol.now numbers.now public.old public.new fault) }
+    ensures goes { IfOk result (λ running. GoByLog numbers.now running.form (still_pieces P.seen public.old) (held_pieces P.seen running.volume ++ still_pieces P.seen public.new)) }
     ensures back { OnErr result (GoTogether (still_pieces P.seen public.old) (still_pieces P.seen public.new)) }
+    ensures comes_back { OnErr result (ComeBack config.now good vol.now numbers.now (still_pieces P.seen public.old) (still_pieces P.seen public.new)) }
     ensures running { public.new.running ≡ public.old.running }
     ensures stuck { public.new.stuck ≡ public.old.stuck }
     // Of a volume that was never started it is known before any piece is touched that no plex is current.
@@ -119,8 +123,10 @@ fn open_form<P: Piece + Drop>(
     ensures form { IfOk result (λ running. running.form ≡ form) }
     ensures started { IfOk result (λ running. IsStarted P.seen vol.now numbers.now public.old public.new running) }
     ensures left { IfOk result (λ running. public.new.left.items ≡ public.old.left.items) }
+    ensures goes { IfOk result (λ running. GoByLog numbers.now running.form (still_pieces P.seen public.old) (held_pieces P.seen running.volume ++ still_pieces P.seen public.new)) }
     ensures refused { IfErr result (λ fault. IsNotStarted P.seen vol.now numbers.now form public.old public.new fault) }
     ensures back { OnErr result (GoTogether (still_pieces P.seen public.old) (still_pieces P.seen public.new)) }
+    ensures comes_back { OnErr result (ComeBackFrom numbers.now form (still_pieces P.seen public.old) (still_pieces P.seen public.new)) }
     ensures running { public.new.running ≡ public.old.running }
     ensures stuck { public.new.stuck ≡ public.old.stuck }
 {
@@ -152,6 +158,7 @@ fn open_taken<P: Piece + Drop>(
     ensures same { IfOk result (λ running. public.new ≡ public.old) }
     ensures refused { IfErr result (λ fault. IsRefusedOver P.seen vol.now form (copies_seen P.seen pieces.copies.items) (volume_pieces P.seen pieces) public.old public.new fault) }
     ensures back { OnErr result (GoTogether (volume_pieces P.seen pieces ++ still_pieces P.seen public.old) (still_pieces P.seen public.new)) }
+    ensures comes_back { OnErr result (GoByCopies (copies_seen P.seen pieces.copies.items) (volume_pieces P.seen pieces ++ still_pieces P.seen public.old) (still_pieces P.seen public.new)) }
     ensures running { public.new.running ≡ public.old.running }
     ensures stuck { public.new.stuck ≡ public.old.stuck }
 {

@@ -28,7 +28,7 @@ use Rattle.vx_volume.specs.Opening.{count_of}
 use Rattle.vx_volume.specs.Volume.{VolumeSeen, cell_at, log_of, region_at, volume_seen}
 use Rattle.vx_volume_pieces.specs.Pieces.{all_pieces, pieces_of}
 use Rattle.vx_volume_form.specs.declared.form.VolumeForm.{VolumeForm}
-use Rattle.vx_volume_form.specs.Plexes.{IsVolOf}
+use Rattle.vx_image.specs.UsedPlexes.{IsVolOf}
 use Rattle.vx_volume_form.specs.Form.{IsFormOf}
 use Rattle.vx_volume_form.proofs.Bits.{on_plex}
 use Rattle.vx_volume_form.proofs.Rules.{vol_geometry}

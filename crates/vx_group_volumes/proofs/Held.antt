@@ -28,7 +28,7 @@ use Rattle.vx_volume_pieces.specs.Taken.{own_map}
 use Rattle.vx_volume_form.specs.declared.form.VolumeForm.{VolumeForm}
 use Rattle.vx_volume_form.specs.Form.{AreLayouts, IsFormOf, IsLayoutOf}
 use Rattle.vx_volume_form.specs.Laws.{good_disks}
-use Rattle.vx_volume_form.specs.Plexes.{held_plexes, used_logs}
+use Rattle.vx_image.specs.UsedPlexes.{held_plexes, used_logs}
 use Rattle.vx_volume_form.proofs.Places.{IsTaken, columns_lie, held_taken, log_taken}
 use Rattle.vx_volume_form.proofs.Zips.{zip_length}
 use Rattle.vx_lending.specs.Left.{region_plexes}

@@ -21,7 +21,7 @@ use Rattle.vx_volume.specs.declared.volume.VolumeShape.{VolumeShape}
 use Rattle.vx_volume.specs.Volume.{cell_at, volume_seen}
 use Rattle.vx_volume_laws.specs.Tracks.{HasMap}
 use Rattle.vx_volume_form.specs.Form.{IsShapeOf}
-use Rattle.vx_volume_form.specs.Plexes.{IsVolOf, is_on}
+use Rattle.vx_image.specs.UsedPlexes.{IsVolOf, is_on}
 use Rattle.vx_volume_form.proofs.Bits.{into_off, into_on, on_plex}
 use Rattle.vx_volume_form.proofs.Maps.{one_of_map}
 use Rattle.vx_volume_form.proofs.Rules.{plex_low}

@@ -1,5 +1,5 @@
 -- A volume that runs, and is left.
-use Rattle.std.proofs.Common.{◌≡◌, ℕ, List, false}
+use Rattle.std.proofs.Common.{ℕ, List, false}
 use Rattle.std.specs.List.{All}
 use Rattle.vx_base.specs.Blocks.{Contents}
 use Rattle.vx_piece.specs.Seen.{Seen}
@@ -11,7 +11,7 @@ use Rattle.vx_moments.specs.World.{Volume}
 use Rattle.vx_image.specs.Image.{PlexImage, IsFilled, WasStarted}
 use Rattle.vx_image.specs.Bytes.{Sectors, image_of}
 use Rattle.vx_volume.specs.Volume.{log_of, volume_seen}
-use Rattle.vx_volume_form.specs.Plexes.{IsVolOf}
+use Rattle.vx_image.specs.UsedPlexes.{IsVolOf}
 use Rattle.vx_lending.specs.Left.{held_pieces}
 use Rattle.vx_lending.specs.Logs.{log_copies}
 use Rattle.vx_opened_images.specs.Contents.{AreSectorsOf}
@@ -23,7 +23,7 @@ use Rattle.vx_left_images.proofs.Configurations.{keeping_goes_on}
 use Rattle.vx_left_images.proofs.Leavings.{volume_leaves}
 use Rattle.vx_left_images.proofs.Restated.{restated_kept}
 use Rattle.vx_running.specs.declared.public.Running.{Running}
-use Rattle.vx_group_volumes.specs.Runs.{Opening, RunsIn}
+use Rattle.vx_group_volumes.specs.Runs.{RunsIn}
 
 module _ {P : Type 0} {ghosts : Ghosts P} (see : P → Seen) (running : Running P ghosts) (c : Config) (good : ℕ) (numbers : List ℕ) (v : Vol) (runs : RunsIn see c good numbers v running) where
   unfoldable pub recorded_runs : (c' : Config) (good' : ℕ) (v' : Vol) → IsVolOf c' v' → IsFilled v'.state → ChangesStates c good v false c' good' v' → RunsIn see c' good' numbers v' running

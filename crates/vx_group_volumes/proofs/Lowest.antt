@@ -19,7 +19,7 @@ use Rattle.vx_image.specs.Image.{PlexImage}
 use Rattle.vx_image.specs.Bytes.{Sectors, image_of, map_or_zero, plex_image}
 use Rattle.vx_image.proofs.Members.{all_from_each, contains, each_from_all, is_in}
 use Rattle.vx_volume.specs.declared.volume.VolumeShape.{VolumeShape}
-use Rattle.vx_volume_form.specs.Plexes.{IsVolOf, is_on}
+use Rattle.vx_image.specs.UsedPlexes.{IsVolOf, is_on}
 use Rattle.vx_volume_form.specs.Form.{IsShapeOf}
 use Rattle.vx_volume_form.proofs.Bits.{held_on, kept, low, off_plex, on_plex}
 use Rattle.vx_volume_form.proofs.Distinct.{filtered}

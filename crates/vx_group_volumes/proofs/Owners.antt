@@ -18,7 +18,7 @@ use Rattle.vx_image.specs.Bytes.{Sectors, image_of, map_or_zero}
 use Rattle.vx_volume.specs.declared.volume.VolumeShape.{VolumeShape}
 use Rattle.vx_volume.specs.Opening.{IsOpened, stage_of}
 use Rattle.vx_volume.specs.Volume.{VolumeSeen}
-use Rattle.vx_volume_form.specs.Plexes.{IsVolOf, is_on}
+use Rattle.vx_image.specs.UsedPlexes.{IsVolOf, is_on}
 use Rattle.vx_volume_form.specs.Form.{IsShapeOf}
 use Rattle.vx_volume_form.proofs.Bits.{held_on, into_on, on_plex}
 use Rattle.vx_volume_form.proofs.Maps.{one_of_map}

@@ -1,5 +1,5 @@
 -- What passes keep of a volume.
-use Rattle.std.proofs.Common.{◌≡◌, ℕ, zero, suc, ◌<◌, true, false, List, Option, Some, None, Result, Ok, Err, refl, sym, subst, inl, inr}
+use Rattle.std.proofs.Common.{ℕ, zero, suc, Option, Some, None, Result, Ok, Err, sym, subst, inl, inr}
 use Rattle.vx_mask.proofs.Tests.{true_or_false}
 use Rattle.vx_cell.specs.declared.fault.CellFault.{CellFault}
 use Rattle.vx_mask.specs.Mask.{has}
@@ -16,7 +16,7 @@ use Rattle.vx_left_images.specs.Calls.{KeepsPlaces}
 use Rattle.vx_left_images.proofs.Keepings.{each_clearing_keeps, each_copy_keeps, each_settling_keeps, keeping_keeps, keeps_same}
 use Rattle.vx_left_images.proofs.Lasting.{lies_on}
 use Rattle.vx_group_stop.specs.Stops.{ComesToRest}
-use Rattle.vx_group_start.specs.Copying.{AreCopied, CopiesMap}
+use Rattle.vx_group_start.specs.Copying.{CopiesMap}
 use Rattle.vx_group_calls.proofs.Failures.{clearing_gone, copying_gone, settling_gone}
 use Rattle.vx_group_calls.proofs.Keeping.{HasGone, gone_same, gone_then}
 use Rattle.vx_group_calls.proofs.Service.{gone_stays}

@@ -10,7 +10,7 @@ use Rattle.vx_image.specs.Image.{IsFilled}
 use Rattle.vx_image.proofs.Members.{contains, is_in}
 use Rattle.vx_volume_form.specs.Form.{IsFormOf}
 use Rattle.vx_volume_form.specs.Laws.{AreNumbered}
-use Rattle.vx_volume_form.specs.Plexes.{IsVolOf}
+use Rattle.vx_image.specs.UsedPlexes.{IsVolOf}
 use Rattle.vx_left_images.specs.Keeping.{ChangesStates, IsRestated}
 use Rattle.vx_left_images.proofs.Plexes.{zip_left}
 use Rattle.vx_left_images.proofs.Restated.{columns_same}

@@ -19,7 +19,7 @@ use Rattle.vx_image.proofs.Members.{is_in}
 use Rattle.vx_moments.specs.Holding.{is_among}
 use Rattle.vx_moments.specs.World.{Group}
 use Rattle.vx_group_images.specs.Owners.{owner_in, owner_of}
-use Rattle.vx_volume_form.specs.Plexes.{held_plexes, used_logs}
+use Rattle.vx_image.specs.UsedPlexes.{held_plexes, used_logs}
 use Rattle.vx_volume_form.proofs.Bits.{kept}
 use Rattle.vx_volume_form.proofs.Distinct.{filtered}
 use Rattle.vx_volume_form.proofs.Places.{held_taken, log_taken}

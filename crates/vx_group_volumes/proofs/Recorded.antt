@@ -1,10 +1,7 @@
 -- What a start and a stop record changes states alone.
 use Rattle.std.proofs.Common.{◌≡◌, ℕ, Bool, true, false, List, [], ◌∷◌, refl, sym, ap, ◌∙◌, subst, inl, inr}
-use Rattle.std.specs.Prelude.{◌&&◌}
 use Rattle.std.specs.List.{AllZip}
 use Rattle.std.proofs.lemmas.Bool.{and_parts, false≢true}
-use Rattle.vx_base.specs.Named.{Word}
-use Rattle.vx_mask.specs.Mask.{has}
 use Rattle.vx_config_parts.specs.declared.object.Object.{Object}
 use Rattle.vx_config_parts.specs.declared.object.Object.TheVariants.{VolRecord}
 use Rattle.vx_config_parts.specs.declared.plex.Plex.{Plex}
@@ -15,7 +12,7 @@ use Rattle.vx_config_parts.specs.declared.state.PlexState.TheVariants as plex
 use Rattle.vx_config_parts.specs.declared.state.VolState.{VolState}
 use Rattle.vx_config_parts.specs.declared.state.VolState.TheVariants as vol
 use Rattle.vx_config_parts.specs.declared.vol.Vol.{Vol}
-use Rattle.vx_config_parts.specs.Objects.{is_data, is_log, is_data_plex_of, is_log_plex_of, refers}
+use Rattle.vx_config_parts.specs.Objects.{is_data, is_log, refers}
 use Rattle.vx_objects.specs.declared.config.Config.{Config}
 use Rattle.vx_objects.specs.Config.{objects_of}
 use Rattle.vx_plexes.specs.Once.{IsOneOf}
@@ -24,7 +21,7 @@ use Rattle.vx_image.specs.Bytes.{is_active}
 use Rattle.vx_states.specs.Table.{plex_started, plex_stopped}
 use Rattle.vx_state_edits.specs.Edits.{is_new, log_started, started, started_as, stopped, stopped_as}
 use Rattle.vx_state_edits.specs.Laws.{EachRestatedVolumeIsRecorded, EachStartRestates, EachStopRestates, IsAmong, IsPlexAfter, Restates}
-use Rattle.vx_volume_form.specs.Plexes.{IsVolOf, is_used_state}
+use Rattle.vx_image.specs.UsedPlexes.{is_used_state}
 use Rattle.vx_left_images.specs.Keeping.{ChangesStates, IsRestated}
 use Rattle.vx_group_start.specs.Fresh.{is_fresh}
 use Rattle.vx_group_volumes.specs.Laws.{EachStartChangesStates, EachStopChangesStates}

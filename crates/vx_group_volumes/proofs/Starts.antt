@@ -1,5 +1,5 @@
 -- A volume that was started.
-use Rattle.std.proofs.Common.{◌≡◌, ◌∙◌, ℕ, zero, suc, ◌+◌, ◌*◌, ◌/◌, ◌<◌, ◌≤◌, Bool, true, false, List, [], Option, Some, None, refl, sym, ap, subst, arith}
+use Rattle.std.proofs.Common.{◌≡◌, ◌∙◌, ℕ, zero, suc, ◌+◌, ◌*◌, ◌/◌, ◌<◌, ◌≤◌, Bool, true, false, List, Option, Some, None, refl, sym, ap, subst, arith}
 use Rattle.std.specs.Prelude.{◌&&◌, nat_lt, is_some, Contains}
 use Rattle.std.specs.List.{All}
 use Rattle.std.proofs.lemmas.Bool.{and_parts, false≢true, ltb-true}
@@ -17,7 +17,7 @@ use Rattle.vx_volume.specs.declared.log.VolumeLog.{VolumeLog}
 use Rattle.vx_volume.specs.declared.volume.VolumeShape.{VolumeShape}
 use Rattle.vx_volume.specs.Opening.{count_of}
 use Rattle.vx_volume.specs.Volume.{log_of, volume_seen}
-use Rattle.vx_volume_form.specs.Plexes.{IsVolOf}
+use Rattle.vx_image.specs.UsedPlexes.{IsVolOf}
 use Rattle.vx_volume_form.specs.Form.{IsFormOf}
 use Rattle.vx_volume_form.proofs.Rules.{vol_geometry}
 use Rattle.vx_config_parts.specs.declared.state.VolState.{VolState}
@@ -52,11 +52,11 @@ use Rattle.vx_group_start.specs.Started.{IsStarted}
 use Rattle.vx_group_calls.proofs.Failures.{opened_alive}
 use Rattle.vx_left_images.specs.Calls.{IsOpenedOn}
 use Rattle.vx_left_images.specs.Keeping.{ChangesStates}
-use Rattle.vx_left_images.specs.Lying.{IsLogFor, LiesIn}
+use Rattle.vx_left_images.specs.Lying.{IsLogFor}
 use Rattle.vx_left_images.proofs.Lasting.{lies_opened}
 use Rattle.vx_left_images.proofs.Logs.{fresh_for, loaded_for}
 use Rattle.vx_left_images.proofs.Restated.{restated_kept}
-use Rattle.vx_group_volumes.specs.Runs.{Opening, RunsIn}
+use Rattle.vx_group_volumes.specs.Runs.{RunsIn}
 
 -- ---- it has regions
 

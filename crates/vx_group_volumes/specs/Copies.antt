@@ -1,5 +1,5 @@
 -- What copies to plexes that are done leave of a volume: those plexes miss nothing.
-use Rattle.std.specs.Prelude.{◌≡◌, ℕ, ◌<◌, Bool, true, false, if◌then◌else◌, List, length, Contains, Ok}
+use Rattle.std.specs.Prelude.{◌≡◌, ℕ, ◌<◌, Bool, true, false, List, length, Contains, Ok}
 use Rattle.vx_base.specs.Named.{Word}
 use Rattle.vx_mask.specs.Mask.{has}
 use Rattle.vx_core.specs.declared.stage.Phase.TheVariants.{Settled}
@@ -9,7 +9,7 @@ use Rattle.vx_moments.specs.World.{Volume}
 use Rattle.vx_image.specs.Image.{PlexImage}
 use Rattle.vx_volume.specs.Laws.{AreTold}
 use Rattle.vx_volume.specs.Volume.{IsVolume, VolumeSeen, cell_at}
-use Rattle.vx_group_images.specs.Lives.{no_track}
+use Rattle.vx_group_images.specs.Lives.{volume_copied}
 use Rattle.vx_group_start.specs.Copying.{AreCopied}
 use Rattle.vx_volume_lives.specs.Running.{IsSureOfOthers, RunsAsVolume}
 
@@ -42,10 +42,6 @@ EachCopyStaysTight =
     (mask n : ℕ) (old new : VolumeSeen) → AreCopied {T = ℕ} mask old new (Ok n) → IsVolume old → AreTold old → LogIsWell old new → AreTight old → AreTight new
 
 -- ---- the volume of the world
-
--- the volume with nothing missing on these plexes
-abbrev pub volume_copied : (Word → Bool) → Volume → Volume
-volume_copied copied w = record w { tracks = λ name. if copied name then no_track else w.tracks name }
 
 -- each plex of these names has a map of the mask, and is on in each region
 pub record IsOnIn (mask : ℕ) (v : VolumeSeen) (p : PlexImage) : Type 0 where

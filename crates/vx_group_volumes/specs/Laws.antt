@@ -20,7 +20,7 @@ use Rattle.vx_volume.specs.declared.volume.Volume.{Volume as Code}
 use Rattle.vx_volume.specs.Log.{LogGoes}
 use Rattle.vx_volume.specs.Volume.{log_of, volume_seen}
 use Rattle.vx_volume_form.specs.declared.form.VolumeForm.{VolumeForm}
-use Rattle.vx_volume_form.specs.Plexes.{IsVolOf}
+use Rattle.vx_image.specs.UsedPlexes.{IsVolOf}
 use Rattle.vx_volume_form.specs.Form.{IsFormOf}
 use Rattle.vx_lending.specs.Left.{held_pieces}
 use Rattle.vx_opened_images.specs.Contents.{AreSectorsOf}

@@ -26,7 +26,7 @@ use Rattle.vx_lending.specs.Left.{held_pieces}
 use Rattle.vx_opened_images.specs.Contents.{AreSectorsOf}
 use Rattle.vx_group_images.specs.Tracks.{TrackOwner, volume_failed}
 use Rattle.vx_group_images.specs.Volumes.{StandsForVolume}
-use Rattle.vx_volume_laws.specs.Loss.{ReadsOneList}
+use Rattle.vx_image.specs.Meaning.{ReadsOneList}
 use Rattle.vx_volume_lives.specs.Laws.{FailuresAreTold, OwnersFit}
 use Rattle.vx_volume_lives.specs.Leaving.{AreNamedIn}
 use Rattle.vx_volume_lives.specs.Running.{IsSureOfOthers, RunsAsVolume}

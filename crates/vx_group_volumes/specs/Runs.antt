@@ -1,13 +1,12 @@
 -- The running volumes of an imported group.
 use Rattle.std.specs.Prelude.{◌≡◌, ℕ, Bool, List}
-use Rattle.vx_base.specs.Named.{Word}
 use Rattle.vx_piece.specs.Seen.{Seen}
 use Rattle.vx_pages.specs.declared.local_piece.LocalPiece.{Ghosts}
 use Rattle.vx_config_parts.specs.declared.vol.Vol.{Vol}
 use Rattle.vx_objects.specs.declared.config.Config.{Config}
 use Rattle.vx_image.specs.Image.{IsFilled}
 use Rattle.vx_volume.specs.Volume.{IsVolume, shape_of, volume_seen}
-use Rattle.vx_volume_form.specs.Plexes.{IsVolOf}
+use Rattle.vx_image.specs.UsedPlexes.{IsVolOf}
 use Rattle.vx_volume_form.specs.Form.{IsFormOf}
 use Rattle.vx_running.specs.declared.public.Running.{Running}
 use Rattle.vx_left_images.specs.Keeping.{KeepsVolume}

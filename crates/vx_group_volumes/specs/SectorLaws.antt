@@ -20,7 +20,7 @@ use Rattle.vx_moments.specs.World.{Device, Group}
 use Rattle.vx_group_images.specs.Group.{ChangesOnly}
 use Rattle.vx_volume_form.specs.Form.{IsFormOf}
 use Rattle.vx_volume_form.specs.Laws.{AreNumbered}
-use Rattle.vx_volume_form.specs.Plexes.{IsVolOf}
+use Rattle.vx_image.specs.UsedPlexes.{IsVolOf}
 use Rattle.vx_lending.specs.Left.{held_pieces}
 use Rattle.vx_left_images.specs.Keeping.{ChangesStates}
 use Rattle.vx_running.specs.declared.public.Public.{Public}

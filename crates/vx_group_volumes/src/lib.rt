@@ -14,7 +14,9 @@ use vx_running::{Public, Running};
 use vx_state_edits::laws::each_change_restates;
 use vx_volume::Volume;
 use vx_volume_laws::each_empty_begins;
-use vx_volume_lives::laws::{each_left_volume_stands, each_opening_runs, each_pass_runs_on, each_running_forgets};
+use vx_volume_lives::laws::{
+    each_left_volume_stands, each_opening_runs, each_pass_runs_on, each_running_forgets,
+};
 
 /// A volume that was started is one of its group that runs, by each configuration that records it as started.
 pub fn each_started_volume_runs<P: Piece + Drop>(

@@ -33,10 +33,10 @@ module _ {P : Type 0} {ghosts : Ghosts P} (see : P → Seen) where
   keeps_ended ends.GroupLost v keeps = keeps_but_group v keeps
   keeps_ended (ends.Lost parts) v keeps = keeps_but_group v keeps
 
-  pub goes_ended : (Done : Moment → Moment → Type 0) (Ends : Moment → End → Moment → Type 0) (end : End) (old new : View P ghosts) → Goes see (λ m n. Ends m end n) old new → GoesBy {T = Unit {0}} see Done Ends (Err (stops.Ended end)) old new
-  goes_ended Done Ends (ends.Done copied parts blocks) old new goes = goes
-  goes_ended Done Ends (ends.Refused r) old new goes = goes
-  goes_ended Done Ends (ends.Fault told device parts) old new goes = goes
-  goes_ended Done Ends ends.ShelfFailed old new goes = goes
-  goes_ended Done Ends ends.GroupLost old new goes = goes_off (λ m n. Ends m ends.GroupLost n) old new goes
-  goes_ended Done Ends (ends.Lost parts) old new goes = goes_off (λ m n. Ends m (ends.Lost parts) n) old new goes
+  pub goes_ended : (Done : Moment → Moment → Type 0) (Ends : Moment → End → Moment → Type 0) (Left : Moment → Moment → Type 0) (end : End) (old new : View P ghosts) → Goes see (λ m n. Ends m end n) old new → GoesBy {T = Unit {0}} see Done Ends Left (Err (stops.Ended end)) old new
+  goes_ended Done Ends Left (ends.Done copied parts blocks) old new goes = goes
+  goes_ended Done Ends Left (ends.Refused r) old new goes = goes
+  goes_ended Done Ends Left (ends.Fault told device parts) old new goes = goes
+  goes_ended Done Ends Left ends.ShelfFailed old new goes = goes
+  goes_ended Done Ends Left ends.GroupLost old new goes = goes_off (λ m n. Ends m ends.GroupLost n) old new goes
+  goes_ended Done Ends Left (ends.Lost parts) old new goes = goes_off (λ m n. Ends m (ends.Lost parts) n) old new goes

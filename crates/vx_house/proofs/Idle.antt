@@ -44,7 +44,7 @@ use Rattle.vx_lending.specs.Logs.{log_copies}
 use Rattle.vx_volume_form.specs.declared.form.VolumeForm.{VolumeForm}
 use Rattle.vx_volume_form.specs.Form.{IsFormOf, IsLayoutOf}
 use Rattle.vx_volume_form.specs.Laws.{AreFree, all_layouts, good_disks}
-use Rattle.vx_volume_form.specs.Plexes.{held_plexes, used_logs}
+use Rattle.vx_image.specs.UsedPlexes.{held_plexes, used_logs}
 use Rattle.vx_volume_form.proofs.Places.{IsTaken, all_are, columns_lie, each_taken}
 use Rattle.vx_volume_form.proofs.Rules.{one_plex}
 use Rattle.vx_volume_form.proofs.Zips.{zip_all}

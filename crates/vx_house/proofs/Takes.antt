@@ -16,7 +16,8 @@ use Rattle.vx_answers.specs.declared.refusal.Refusal.TheVariants as refusal
 use Rattle.vx_moments.specs.Moment.{Moment, AreLater, Rests, CallsNone}
 use Rattle.vx_moments.specs.World.{World}
 use Rattle.vx_plans.specs.Records.{devices_of}
-use Rattle.vx_plans.specs.Stages.{IsFree, AreFree, IsAway, EndsIn, ShelfFailsAt, TakingStops, IsDone, Stops, fault_of, refused}
+use Rattle.vx_plans.specs.Ends.{EndsIn, fault_of, refused}
+use Rattle.vx_plans.specs.Stages.{IsFree, AreFree, IsAway, ShelfFailsAt, TakingStops, IsDone, Stops, Wants}
 use Rattle.vx_plans.specs.declared.stage.Stage.TheVariants as stage
 use Rattle.vx_house.specs.Goes.{Goes, StageGoes}
 use Rattle.vx_house.specs.Holders.{Holder, volume_holder, group_holders, hand_holder, holders, held_as, hand_names, AreHeld}
@@ -298,7 +299,7 @@ module _ {P : Type 0} {ghosts : Ghosts P} (see : P → Seen) (old new : View P g
   }
   take_stage name (Err (stops.Ended end)) stops = record {
     keeps = keeps_ended see end new stops.keeps;
-    goes = goes_ended see (IsDone (stage.Take name) disks) (Stops (stage.Take name) disks) end old new (λ m is.
+    goes = goes_ended see (IsDone (stage.Take name) disks) (Stops (stage.Take name) disks) (Wants (stage.Take name)) end old new (λ m is.
         let went = stops.goes m is in
         (went.0, went.1, went.2, inl (subst (λ ns. ((r : Refusal) × IsAway m.world ns name r × EndsIn r m end went.0) ⊎ ShelfFailsAt name m end went.0) (no_names old.house empty) went.3)));
     gives = tt;
@@ -328,7 +329,7 @@ module _ {P : Type 0} {ghosts : Ghosts P} (see : P → Seen) (old new : View P g
   pub disks_end : (end : End) → TakingEnds see (devices_of disks) end old new → StageGoes {T = Unit {0}} see stage.TakeDisks disks (Err (stops.Ended end)) old new
   disks_end end ends = record {
     keeps = keeps_ended see end new ends.keeps;
-    goes = goes_ended see (IsDone stage.TakeDisks disks) (Stops stage.TakeDisks disks) end old new (λ m is. let went = ends.goes m is in (went.0, went.1, went.2, subst (λ ns. TakingStops ns (devices_of disks) m end went.0) (no_names old.house empty) went.3));
+    goes = goes_ended see (IsDone stage.TakeDisks disks) (Stops stage.TakeDisks disks) (Wants stage.TakeDisks) end old new (λ m is. let went = ends.goes m is in (went.0, went.1, went.2, subst (λ ns. TakingStops ns (devices_of disks) m end went.0) (no_names old.house empty) went.3));
     gives = tt;
     still = λ is. tt;
     faults = ends.faults;

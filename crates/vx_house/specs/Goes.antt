@@ -9,7 +9,7 @@ use Rattle.vx_answers.specs.declared.answer.End.{End}
 use Rattle.vx_answers.specs.declared.answer.End.TheVariants as ends
 use Rattle.vx_moments.specs.Moment.{Moment, AreLater}
 use Rattle.vx_plans.specs.Records.{devices_of}
-use Rattle.vx_plans.specs.Stages.{IsDone, Stops}
+use Rattle.vx_plans.specs.Stages.{IsDone, Stops, Wants}
 use Rattle.vx_plans.specs.Tests.{fails}
 use Rattle.vx_plans.specs.declared.stage.Change.TheVariants as changes
 use Rattle.vx_plans.specs.declared.stage.Stage.{Stage}
@@ -32,13 +32,13 @@ Goes see R old new = (m : Moment) → IsMoment see old m → (n : Moment) × IsM
 abbrev pub GoesOff : {P : Type 0} {ghosts : Ghosts P} → (P → Seen) → (Moment → Moment → Type 0) → View P ghosts → View P ghosts → Type 0
 GoesOff see R old new = (m : Moment) → IsMoment see old m → (n : Moment) × IsMomentButGroup see new n × AreLater m.counts n.counts × R m n
 
--- by the answer: it is done so, or has ended the command so, or for want of memory the world is as before
-abbrev pub GoesBy : {P T : Type 0} {ghosts : Ghosts P} → (P → Seen) → (Moment → Moment → Type 0) → (Moment → End → Moment → Type 0) → Result T Stop → View P ghosts → View P ghosts → Type 0
-GoesBy see Done Ends (Ok u) old new = Goes see Done old new
-GoesBy see Done Ends (Err (stops.Ended ends.GroupLost)) old new = GoesOff see (λ m n. Ends m ends.GroupLost n) old new
-GoesBy see Done Ends (Err (stops.Ended (ends.Lost parts))) old new = GoesOff see (λ m n. Ends m (ends.Lost parts) n) old new
-GoesBy see Done Ends (Err (stops.Ended end)) old new = Goes see (λ m n. Ends m end n) old new
-GoesBy see Done Ends (Err stops.OutOfMemory) old new = Goes see (λ m n. n.world ≡ m.world) old new
+-- by the answer: it is done so, or has ended the command so, or for want of memory it was left so
+abbrev pub GoesBy : {P T : Type 0} {ghosts : Ghosts P} → (P → Seen) → (Moment → Moment → Type 0) → (Moment → End → Moment → Type 0) → (Moment → Moment → Type 0) → Result T Stop → View P ghosts → View P ghosts → Type 0
+GoesBy see Done Ends Left (Ok u) old new = Goes see Done old new
+GoesBy see Done Ends Left (Err (stops.Ended ends.GroupLost)) old new = GoesOff see (λ m n. Ends m ends.GroupLost n) old new
+GoesBy see Done Ends Left (Err (stops.Ended (ends.Lost parts))) old new = GoesOff see (λ m n. Ends m (ends.Lost parts) n) old new
+GoesBy see Done Ends Left (Err (stops.Ended end)) old new = Goes see (λ m n. Ends m end n) old new
+GoesBy see Done Ends Left (Err stops.OutOfMemory) old new = Goes see Left old new
 
 -- by the answer: where the group or the power is lost, the group is kept no more
 abbrev pub KeepsBy : {P T : Type 0} {ghosts : Ghosts P} → (P → Seen) → Result T Stop → View P ghosts → Type 0
@@ -77,6 +77,8 @@ Gives see stage.Join disks h = Unit {0}
 Gives see (stage.Create dg) disks h = Unit {0}
 Gives see (stage.Import dg) disks h = Unit {0}
 Gives see stage.LetGo disks h = Unit {0}
+Gives see (stage.Start vol) disks h = Unit {0}
+Gives see (stage.Stop vol) disks h = Unit {0}
 
 -- the stages of a command that must be done before this one
 abbrev pub wanted : Stage → List Stage
@@ -101,6 +103,8 @@ wanted stage.Join = stage.TakeDisks ∷ stage.LookDisks ∷ stage.Gate tests.Joi
 wanted (stage.Create dg) = stage.TakeDisks ∷ stage.LookDisks ∷ stage.Gate (tests.GroupLimits dg) ∷ stage.Gate (tests.GroupRecords dg) ∷ []
 wanted (stage.Import dg) = []
 wanted stage.LetGo = stage.Gate tests.NoneStarted ∷ []
+wanted (stage.Start vol) = []
+wanted (stage.Stop vol) = []
 
 -- the stage takes devices into an empty hand
 abbrev pub is_first : Stage → Bool
@@ -138,7 +142,7 @@ only_reads other = false
 -- A stage keeps the house, does what it says, and leaves what those behind it need.
 pub record StageGoes {P T : Type 0} {ghosts : Ghosts P} (see : P → Seen) (s : Stage) (disks : List DiskAt) (result : Result T Stop) (old new : View P ghosts) : Type 0 where
   pub keeps : KeepsBy see result new
-  pub goes : GoesBy see (IsDone s disks) (Stops s disks) result old new
+  pub goes : GoesBy see (IsDone s disks) (Stops s disks) (Wants s) result old new
   pub gives : OnOk result (Gives see s disks new.house)
   pub still : only_reads s ≡ true → OnOk result (Still see old.house new.house)
   pub faults : FaultsGoOn (scene see old) (scene see new)

@@ -6,4 +6,5 @@ pub mod Import
 pub mod Meaning
 pub mod Narrowing
 pub mod Own
+pub mod UsedPlexes
 pub mod Soundness

@@ -2,7 +2,8 @@
 -- and the dirty regions; and when it stands for what is known of them.
 use Rattle.std.specs.Prelude.{◌≡◌, ℕ, ◌/◌, ◌<◌, Bool, true, not, ◌&&◌, nat_le, List, map, Contains}
 use Rattle.std.specs.List.{list_all, filter}
-use Rattle.vx_life.specs.Candidates.{OneOf, IsAmong, Candidates}
+use Rattle.vx_base.specs.Blocks.{Contents}
+use Rattle.vx_life.specs.Candidates.{OneOf, IsAmong, IsChosen, Candidates}
 use Rattle.vx_config_parts.specs.declared.state.VolState.{VolState}
 use Rattle.vx_config_parts.specs.declared.state.VolState.TheVariants as vol
 use Rattle.vx_image.specs.Image.{PlexImage, Image, regions_of, is_marked_by_all, is_marked_by_some, has_no_copy, is_read}
@@ -58,6 +59,11 @@ IsMarkedInEach v k sure = (r : ℕ) → r < regions_of v → sure r ≡ true →
 -- a copy marks the map only in these regions
 abbrev pub IsMarkedWithin : Image → ℕ → (ℕ → Bool) → Type 0
 IsMarkedWithin v k possible = (r : ℕ) → r < regions_of v → is_marked_by_some v r k ≡ true → possible r ≡ true
+
+-- one list is read: at each block the plexes that are read hold the same, and it is among these candidates
+pub record ReadsOneList (v : Image) (candidates : Candidates) (list : Contents) : Type 0 where
+  pub among : IsChosen v.length candidates list
+  pub reads : (b : ℕ) → b < v.length → (p : PlexImage) → IsReadAt v b p → p.values b ≡ list b
 
 -- ---- laws
 

@@ -26,7 +26,8 @@ use Rattle.vx_plans.specs.Finding.{Candidate, IsCandidate, AreCounted, Found, Fi
 use Rattle.vx_plans.specs.Plans.{plan_of, plan_deport}
 use Rattle.vx_plans.specs.Records.{next_slot}
 use Rattle.vx_plans.specs.Refusals.{refusal_from}
-use Rattle.vx_plans.specs.Stages.{Stops, IsBetween, IsImporting, ImportRefused, RefusedAsLong}
+use Rattle.vx_plans.specs.Ends.{RefusedAsLong}
+use Rattle.vx_plans.specs.Stages.{Stops, IsBetween, IsImporting, ImportRefused}
 use Rattle.vx_plans.specs.Steps.{Runs, Serves}
 use Rattle.vx_plans.specs.Laws.{WentWell}
 use Rattle.vx_plans.specs.declared.stages.Finish.TheVariants.{Nothing}

@@ -15,7 +15,8 @@ use Rattle.vx_moments.specs.Moment.{Moment, Counts, AreLater, IsQuiet}
 use Rattle.vx_moments.specs.Commit.{Writing, NoneFailed, IsStopped}
 use Rattle.vx_plans.specs.Laws.{WentWell}
 use Rattle.vx_plans.specs.Records.{devices_of}
-use Rattle.vx_plans.specs.Stages.{IsDone, Stops, DeviceEnds, EndsIn, IsChange, edits_of, IsJoining, joining_edit, TakingStops, LookingStops, EditsStop, fault_of, lost}
+use Rattle.vx_plans.specs.Ends.{EndsIn, IsChange, fault_of, lost}
+use Rattle.vx_plans.specs.Stages.{IsDone, Stops, DeviceEnds, edits_of, IsJoining, joining_edit, TakingStops, LookingStops, EditsStop}
 use Rattle.vx_objects.specs.declared.edit.Edit.{Edit}
 use Rattle.vx_answers.specs.declared.refusal.Refusal.TheVariants as refusal
 use Rattle.vx_moments.specs.World.{World, Group}

@@ -13,7 +13,7 @@ use Rattle.vx_plexes.proofs.Members.{IsIn}
 use Rattle.vx_image.specs.Image.{PlexImage}
 use Rattle.vx_image.specs.Bytes.{is_held, plex_image}
 use Rattle.vx_image.proofs.Members.{contains, is_in}
-use Rattle.vx_volume_form.specs.Plexes.{is_used_log, is_used_state, used_logs}
+use Rattle.vx_image.specs.UsedPlexes.{is_used_log, is_used_state, used_logs}
 use Rattle.vx_volume_form.proofs.Bits.{kept}
 use Rattle.vx_volume_form.proofs.Distinct.{filtered}
 use Rattle.vx_opened_images.proofs.Held.{in_image, of_image}

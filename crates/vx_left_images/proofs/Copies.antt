@@ -25,7 +25,7 @@ use Rattle.vx_image.specs.Bytes.{Sectors, plex_contents, is_held, is_active, is_
 use Rattle.vx_image.proofs.Members.{is_in, contains}
 use Rattle.vx_volume.specs.Opening.{count_of}
 use Rattle.vx_volume_form.specs.declared.form.VolumeForm.{VolumeForm}
-use Rattle.vx_volume_form.specs.Plexes.{used_logs, is_used_log, is_used_state}
+use Rattle.vx_image.specs.UsedPlexes.{used_logs, is_used_log, is_used_state}
 use Rattle.vx_volume_form.specs.Form.{AreLayouts, IsFormOf, IsLayoutOf}
 use Rattle.vx_volume_form.proofs.Bits.{kept}
 use Rattle.vx_volume_form.proofs.Distinct.{filtered}

@@ -16,7 +16,7 @@ use Rattle.vx_image.specs.Image.{is_available_state}
 use Rattle.vx_image.specs.Bytes.{is_held, map_or_zero, relation_maps}
 use Rattle.vx_volume_pieces.specs.Taken.{is_among}
 use Rattle.vx_volume_form.specs.declared.form.VolumeForm.{VolumeForm}
-use Rattle.vx_volume_form.specs.Plexes.{held_plexes, is_on, is_used_log, is_used_state, maps_of, off_plexes, on_plexes, used_logs}
+use Rattle.vx_image.specs.UsedPlexes.{held_plexes, is_on, is_used_log, is_used_state, maps_of, off_plexes, on_plexes, used_logs}
 use Rattle.vx_volume_form.specs.Form.{AreLayouts, IsFormOf, IsMaskOf}
 use Rattle.vx_left_images.specs.Forms.{EachFormIsKept, IsUsedAlike, KeepsForm}
 use Rattle.vx_left_images.specs.Keeping.{LiesStill}

@@ -19,7 +19,7 @@ use Rattle.vx_image.specs.Bytes.{Sectors, image_of, log_copies, plex_image, rela
 use Rattle.vx_image.proofs.Members.{is_in}
 use Rattle.vx_volume.specs.Volume.{VolumeSeen, IsVolume}
 use Rattle.vx_volume_form.specs.declared.form.VolumeForm.{VolumeForm}
-use Rattle.vx_volume_form.specs.Plexes.{IsVolOf}
+use Rattle.vx_image.specs.UsedPlexes.{IsVolOf}
 use Rattle.vx_volume_form.specs.Form.{IsFormOf}
 use Rattle.vx_volume_pieces.specs.Pieces.{all_pieces}
 use Rattle.vx_lending.specs.Left.{region_plexes}

@@ -22,7 +22,7 @@ use Rattle.vx_volume.specs.Volume.{VolumeSeen, cell_at, region_at}
 use Rattle.vx_volume_pieces.specs.Pieces.{all_pieces, pieces_of}
 use Rattle.vx_volume_laws.specs.Opening.{IsOpened}
 use Rattle.vx_volume_form.specs.declared.form.VolumeForm.{VolumeForm}
-use Rattle.vx_volume_form.specs.Plexes.{IsVolOf}
+use Rattle.vx_image.specs.UsedPlexes.{IsVolOf}
 use Rattle.vx_volume_form.proofs.Rules.{vol_geometry}
 use Rattle.vx_opened_images.specs.Opened.{IsFixedOf, IsOpenedBy}
 use Rattle.vx_opened_images.proofs.Loaded.{run_tells}

@@ -25,7 +25,7 @@ use Rattle.vx_volume.specs.Volume.{VolumeSeen, IsVolume, cell_at, no_cell}
 use Rattle.vx_volume_pieces.specs.Pieces.{all_pieces, own_pieces}
 use Rattle.vx_volume_pieces.specs.Taken.{own_map, is_among, IsTakenRegion}
 use Rattle.vx_volume_form.specs.declared.form.VolumeForm.{VolumeForm}
-use Rattle.vx_volume_form.specs.Plexes.{IsVolOf, is_on, held_plexes, maps_of}
+use Rattle.vx_image.specs.UsedPlexes.{IsVolOf, is_on, held_plexes, maps_of}
 use Rattle.vx_volume_form.specs.Form.{IsFormOf, IsLayoutOf}
 use Rattle.vx_volume_form.proofs.Bits.{kept, into_held, into_off, on_plex}
 use Rattle.vx_volume_form.proofs.Distinct.{filtered}

@@ -19,7 +19,7 @@ use Rattle.vx_plexes.specs.Lies.{columns_from, slot_of, strip_of, strip_then, st
 use Rattle.vx_plexes.proofs.Members.{IsIn}
 use Rattle.vx_image.specs.Bytes.{is_active, is_held, map_or_zero, relation_maps}
 use Rattle.vx_image.proofs.Members.{contains, is_in}
-use Rattle.vx_volume_form.specs.Plexes.{is_used_log, is_used_state, used_logs}
+use Rattle.vx_image.specs.UsedPlexes.{is_used_log, is_used_state, used_logs}
 use Rattle.vx_volume_form.proofs.Bits.{kept}
 use Rattle.vx_volume_form.proofs.Distinct.{filtered}
 use Rattle.vx_left_images.specs.Keeping.{ChangesStates, EachRestatedVolumeIsKept, IsRestated, KeepsPlex, LiesStill}

@@ -11,7 +11,7 @@ use Rattle.vx_plexes.specs.Lies.{columns_of}
 use Rattle.vx_image.specs.Image.{is_available_state}
 use Rattle.vx_image.specs.Bytes.{Sectors, image_of, is_active, is_held, map_or_zero, relation_maps}
 use Rattle.vx_volume_lives.specs.Leaving.{AreNamedIn}
-use Rattle.vx_volume_form.specs.Plexes.{is_used_state, used_logs}
+use Rattle.vx_image.specs.UsedPlexes.{is_used_state, used_logs}
 
 -- the data plexes of a volume, in order
 abbrev pub data_plexes : Config → Word → List Plex

@@ -11,7 +11,7 @@ use Rattle.vx_image.specs.Image.{PlexImage, IsFilled}
 use Rattle.vx_image.specs.Bytes.{Sectors, image_of}
 use Rattle.vx_volume.specs.Volume.{VolumeSeen, IsVolume}
 use Rattle.vx_volume_form.specs.declared.form.VolumeForm.{VolumeForm}
-use Rattle.vx_volume_form.specs.Plexes.{IsVolOf}
+use Rattle.vx_image.specs.UsedPlexes.{IsVolOf}
 use Rattle.vx_volume_form.specs.Form.{IsFormOf}
 use Rattle.vx_opened_images.specs.Contents.{AreSectorsOf}
 use Rattle.vx_volume_lives.specs.Running.{RunsAsVolume}

@@ -21,7 +21,7 @@ use Rattle.vx_volume.specs.Log.{absent_log}
 use Rattle.vx_volume.specs.Opening.{count_of}
 use Rattle.vx_volume_laws.specs.Start.{IsStartOf}
 use Rattle.vx_volume_form.specs.declared.form.VolumeForm.{VolumeForm}
-use Rattle.vx_volume_form.specs.Plexes.{IsVolOf, used_logs}
+use Rattle.vx_image.specs.UsedPlexes.{IsVolOf, used_logs}
 use Rattle.vx_volume_form.specs.Form.{IsFormOf}
 use Rattle.vx_volume_form.specs.Laws.{HasOn}
 use Rattle.vx_lending.specs.Logs.{log_header, marked_maps}

@@ -38,7 +38,7 @@ use Rattle.vx_image.proofs.Members.{is_in, contains, into_filter}
 use Rattle.vx_volume.specs.Log.{absent_log}
 use Rattle.vx_volume.specs.Opening.{count_of}
 use Rattle.vx_volume_form.specs.declared.form.VolumeForm.{VolumeForm}
-use Rattle.vx_volume_form.specs.Plexes.{used_logs, is_used_log, is_used_state}
+use Rattle.vx_image.specs.UsedPlexes.{used_logs, is_used_log, is_used_state}
 use Rattle.vx_volume_form.specs.Form.{IsFormOf, IsLayoutOf}
 use Rattle.vx_volume_form.proofs.Distinct.{filtered, in_at}
 use Rattle.vx_volume_form.proofs.Places.{columns_lie}

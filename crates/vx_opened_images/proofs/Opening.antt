@@ -41,7 +41,7 @@ use Rattle.vx_volume_pieces.specs.Taken.{own_map, is_among, IsTakenRegion}
 use Rattle.vx_volume_laws.specs.Opening.{HaveOwnMaps, IsOpened, IsWellFormed, is_block_of, region_blocks}
 use Rattle.vx_volume_laws.proofs.Openings.{each_opening_is_fresh}
 use Rattle.vx_volume_form.specs.declared.form.VolumeForm.{VolumeForm}
-use Rattle.vx_volume_form.specs.Plexes.{IsVolOf, is_on, held_plexes, maps_of}
+use Rattle.vx_image.specs.UsedPlexes.{IsVolOf, is_on, held_plexes, maps_of}
 use Rattle.vx_volume_form.specs.Form.{IsFormOf, IsLayoutOf}
 use Rattle.vx_volume_form.proofs.Distinct.{AreDistinct, distinct_by, distinct_filter, filtered}
 use Rattle.vx_volume_form.proofs.Rules.{plex_names, vol_geometry}

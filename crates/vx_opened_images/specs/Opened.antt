@@ -19,7 +19,7 @@ use Rattle.vx_volume.specs.Volume.{VolumeSeen, IsVolume, cell_at, region_at}
 use Rattle.vx_volume_pieces.specs.Taken.{AreTakenRegions}
 use Rattle.vx_volume_laws.specs.Opening.{IsOpened, IsWellFormed}
 use Rattle.vx_volume_form.specs.declared.form.VolumeForm.{VolumeForm}
-use Rattle.vx_volume_form.specs.Plexes.{IsVolOf}
+use Rattle.vx_image.specs.UsedPlexes.{IsVolOf}
 use Rattle.vx_volume_form.specs.Form.{IsFormOf}
 use Rattle.vx_opened_images.specs.Contents.{AreSectorsOf, HoldRegions, ShowsCopy}
 

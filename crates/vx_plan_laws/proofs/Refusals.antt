@@ -26,7 +26,8 @@ use Rattle.vx_moments.specs.World.{World, Group}
 use Rattle.vx_plans.specs.Laws.{WentWell, IsDoneOrRefused, HasCarriers}
 use Rattle.vx_plans.specs.Plans.{plan_of, disks_of}
 use Rattle.vx_plans.specs.Refusals.{refusal_from}
-use Rattle.vx_plans.specs.Stages.{IsDone, Stops, EditsStop, IsChange, edits_of, joining_edit, refused}
+use Rattle.vx_plans.specs.Ends.{IsChange, refused}
+use Rattle.vx_plans.specs.Stages.{IsDone, Stops, EditsStop, edits_of, joining_edit}
 use Rattle.vx_plans.specs.Steps.{Runs, done}
 use Rattle.vx_plans.specs.declared.stage.Change.TheVariants as changes
 use Rattle.vx_plans.specs.declared.stage.Stage.{Stage}

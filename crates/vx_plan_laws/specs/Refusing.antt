@@ -21,7 +21,8 @@ use Rattle.vx_moments.specs.Moment.{Moment}
 use Rattle.vx_plans.specs.Laws.{WentWell, HasCarriers}
 use Rattle.vx_plans.specs.Making.{Adds, adding_refusal, is_started}
 use Rattle.vx_plans.specs.Plans.{plan_of, disks_of}
-use Rattle.vx_plans.specs.Stages.{OnlyDisk, RefusedAsLong, Stops, edits_of, joining_edit, refused}
+use Rattle.vx_plans.specs.Ends.{RefusedAsLong, refused}
+use Rattle.vx_plans.specs.Stages.{OnlyDisk, Stops, edits_of, joining_edit}
 use Rattle.vx_plans.specs.Steps.{Runs, done}
 use Rattle.vx_plans.specs.declared.stage.Stage.{Stage}
 use Rattle.vx_plans.specs.declared.stage.Stage.TheVariants as stage

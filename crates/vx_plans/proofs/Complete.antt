@@ -1,5 +1,5 @@
 -- Where nothing failed and the power stayed, a plan is done, or a test has refused it.
-use Rattle.std.proofs.Common.{◌≡◌, ◌≢◌, Bool, true, false, List, [], ◌∷◌, ◌++◌, Option, Some, None, refl, sym, ap, subst, inl, inr}
+use Rattle.std.proofs.Common.{◌≡◌, ◌≢◌, ℕ, MatchOption, MatchBool, Bool, true, false, List, [], ◌∷◌, ◌++◌, Option, Some, None, refl, sym, ap, subst, inl, inr}
 use Rattle.vx_base.specs.Named.{Word}
 use Rattle.vx_script_forms.specs.declared.form.Form.{Form}
 use Rattle.vx_script_forms.specs.declared.form.Form.TheVariants as form
@@ -7,21 +7,35 @@ use Rattle.vx_script_forms.specs.declared.form.WordPolicy.{WordPolicy}
 use Rattle.vx_script_forms.specs.declared.form.WordPolicy.TheVariants as words
 use Rattle.vx_script_words.specs.declared.value.DiskAt.{DiskAt}
 use Rattle.vx_answers.specs.declared.answer.End.{End}
+use Rattle.vx_answers.specs.declared.answer.End.TheVariants as ends
+use Rattle.vx_answers.specs.declared.refusal.Refusal.TheVariants as refusal
+use Rattle.vx_config_parts.specs.declared.vol.Vol.{Vol}
+use Rattle.vx_copies.specs.Lists.{AnyOf}
+use Rattle.vx_life.specs.declared.Part.{Part}
+use Rattle.vx_mask.specs.Mask.{has}
 use Rattle.vx_answers.specs.declared.answer.View.{View}
 use Rattle.vx_moments.specs.Commit.{Writing, IsStopped, is_written_slot, parties}
-use Rattle.vx_moments.specs.Moment.{Moment, AreLater, HasFailed}
-use Rattle.vx_moments.specs.World.{World}
+use Rattle.vx_moments.specs.Moment.{Moment, AreLater, Counts, HasFailed}
+use Rattle.vx_moments.specs.World.{Group, World}
+use Rattle.vx_plans.specs.Ends.{EndsIn}
 use Rattle.vx_plans.specs.Laws.{WentWell, IsDoneOrRefused, HasCarriers}
 use Rattle.vx_plans.specs.Plans.{plan_of, disks_of}
 use Rattle.vx_plans.specs.Records.{devices_of}
 use Rattle.vx_plans.specs.Stages.{IsDone, Stops, DeviceEnds, FailsAt, TakingStops, LookingStops}
-use Rattle.vx_plans.specs.Steps.{Runs, done}
+use Rattle.vx_plans.specs.Starting.{CopyEnds, IsStartedBy, StopsIn, StopsOf, may_start}
+use Rattle.vx_plans.specs.Steps.{Runs}
+use Rattle.vx_plans.specs.Stopping.{StopStops}
+use Rattle.vx_plans.specs.Tests.{volume_in}
+use Rattle.vx_plans.specs.Touching.{PassHasCause}
 use Rattle.vx_plans.specs.declared.stages.Finish.{Finish}
 use Rattle.vx_plans.specs.declared.stages.Plan.{Plan}
 use Rattle.vx_plans.specs.declared.stage.Stage.{Stage}
 use Rattle.vx_plans.specs.declared.stage.Stage.TheVariants as stage
 use Rattle.vx_plans.proofs.Calm.{calm, shelf_calm, powered, none_of, nowhere, later_self, later_on, well_after}
 use Rattle.vx_plans.proofs.Carriers.{HasCarrier, IsAlive, NamesSlots, by_group, by_words, by_devices}
+
+tells : (copied : Option ℕ) (parts : List Part) (blocks : List ℕ) → parts ≡ [] → blocks ≡ [] → ends.Done copied parts blocks ≡ ends.Done copied [] []
+tells copied parts blocks none bare = cc
 
 -- there is a disk to be written at this stage
 abbrev IsCarried : Stage → List DiskAt → World → Type 0
@@ -41,6 +55,8 @@ IsCarried (stage.Make text) disks w = IsAlive w × NamesSlots w
 IsCarried stage.Join disks w = IsAlive w × NamesSlots w
 IsCarried (stage.Import dg) disks w = IsAlive w × NamesSlots w
 IsCarried stage.LetGo disks w = IsAlive w × NamesSlots w
+IsCarried (stage.Start vol) disks w = IsAlive w × NamesSlots w
+IsCarried (stage.Stop vol) disks w = IsAlive w × NamesSlots w
 
 module _ (old new : Moment) (well : WentWell old new) where
   at_device : (name : Word) (end : End) → FailsAt name old end new → IsDoneOrRefused end
@@ -69,6 +85,65 @@ module _ (old new : Moment) (well : WentWell old new) where
     | inl l ↦ absurd (none_of (λ m. is_written_slot x m.slot ≡ true → HasFailed old.counts new.counts m.device) (λ m. is_written_slot x m.slot ≡ true) x.carriers (λ m fails is. calm old new well m.device (fails is)) l.1 some)
     | inr r ↦ absurd (nowhere (λ m. new.counts.cut m.device ≡ true) (parties x) (λ m gone. powered old new well m.device gone) r.1)
   ]
+
+  -- no pass over a volume had a cause to end
+  passing : (g : Group) (vol : Word) (end : End) → PassHasCause g vol old.counts new.counts end → ⊥
+  passing g vol (ends.Fault told device parts) (none, fails) = calm old new well device fails.failed
+  passing g vol (ends.Lost parts) (none, (device, own, cut)) = powered old new well device cut
+  passing g vol (ends.Done copied parts blocks) cause = cause
+  passing g vol (ends.Refused r) cause = cause
+  passing g vol ends.ShelfFailed cause = cause
+  passing g vol ends.GroupLost cause = cause
+
+  copying : (g now : Group) (v : Vol) (end : End) → CopyEnds g now v old.counts new.counts end → IsDoneOrRefused end
+  copying g now v (ends.Done copied parts blocks) (count, none, bare) = inl (copied, tells copied parts blocks none bare)
+  copying g now v (ends.Fault told device parts) cause = absurd (passing now v.name (ends.Fault told device parts) cause)
+  copying g now v (ends.Lost parts) cause = absurd (passing now v.name (ends.Lost parts) cause)
+  copying g now v (ends.Refused r) cause = absurd cause
+  copying g now v ends.ShelfFailed cause = absurd cause
+  copying g now v ends.GroupLost cause = absurd cause
+
+-- a group that has a good disk has it still
+alive_still : (old new : World) → new.group ≡ old.group → IsAlive old → IsAlive new
+alive_still old new same alive = subst (λ (o : Option Group). MatchOption o (Unit {0}) (λ g. AnyOf (λ m. has g.good m.slot ≡ true) g.members)) (sym same) alive
+
+module _ (old new : Moment) (well : WentWell old new) (alive : IsAlive old.world) where
+  begun_later : (g : Group) (v : Vol) (begun : Moment) → IsStartedBy g v old begun → AreLater old.counts begun.counts
+  begun_later g v begun s = subst (λ (c : Counts). AreLater old.counts c) (sym s.begins.counts) (later_on old.counts s.opened.counts s.recorded.counts s.first s.rest)
+
+  starts_of : (g : Group) (v : Vol) (end : End) → StopsOf g v old end new → IsDoneOrRefused end
+  starts_of g v end (inl (inl (r, e, is), rests)) = inr (r, is)
+  starts_of g v end (inl (inr (none, next, edited, (text, printed, long, is)), rests)) = inr (_, is)
+  starts_of g v end (inr (inl stops)) = elim stops.cause [
+    | inl unread ↦ inr (_, unread.0)
+    | inr (inl (r, is, filled, missed)) ↦ inr (_, is)
+    | inr (inr (inl (told, device, is, fails))) ↦ absurd (calm old new well device fails.failed)
+    | inr (inr (inr (is, (device, own, cut)))) ↦ absurd (powered old new well device cut)
+  ]
+  starts_of g v end (inr (inr (inl c))) =
+      stopping c.opened new (well_after old c.opened new c.first c.rest well) c.stops.0 end
+      (by_group c.opened.world c.stops.0 c.stops.1.group c.stops.1.carriers (alive_still old.world c.opened.world (ap (λ (w : World). w.group) c.touched.world) alive)) c.stops.2
+  starts_of g v end (inr (inr (inr a))) = copying a.begun new (well_after old a.begun new (begun_later g v a.begun a.started) a.rest well) g a.copied.group v end a.copied.ends
+
+  starts_by : (g : Group) (v : Vol) (end : End) (may : Bool) → MatchBool may (StopsOf g v old end new) (EndsIn (refusal.VolState v.state) old end new) → IsDoneOrRefused end
+  starts_by g v end false ends = inr (_, ends.0)
+  starts_by g v end true stops = starts_of g v end stops
+
+  starts_in : (g : Group) (name : Word) (end : End) (o : Option Vol) → MatchOption o (EndsIn (refusal.NoObject name) old end new) (λ v. MatchBool (may_start v.state) (StopsOf g v old end new) (EndsIn (refusal.VolState v.state) old end new)) → IsDoneOrRefused end
+  starts_in g name end None ends = inr (_, ends.0)
+  starts_in g name end (Some v) stops = starts_by g v end (may_start v.state) stops
+
+  starts : (name : Word) (end : End) (o : Option Group) → MatchOption o (EndsIn (refusal.NoGroup None) old end new) (λ g. StopsIn g name old end new) → IsDoneOrRefused end
+  starts name end None ends = inr (_, ends.0)
+  starts name end (Some g) stops = starts_in g name end (volume_in name g.config.volumes) stops
+
+  ends_stop : (name : Word) (end : End) → StopStops name old end new → IsDoneOrRefused end
+  ends_stop name end (inl (inl (r, e, is), rests)) = inr (r, is)
+  ends_stop name end (inl (inr (g, here, none, (v, found, (next, edited, (text, printed, long, is)))), rests)) = inr (_, is)
+  ends_stop name end (inr (inl r)) = absurd (passing old new well r.rest.group name end r.cause)
+  ends_stop name end (inr (inr b)) =
+      stopping b.mid new (well_after old b.mid new b.record_is.rest.later b.after well) b.writing end
+      (by_group b.mid.world b.writing b.change.group b.change.carriers (alive_still old.world b.mid.world (ap (λ (w : World). w.group) b.record_is.rest.goes.world) alive)) b.stopped
 
 -- a stage that is stopped was refused
 stops_well : (s : Stage) (disks : List DiskAt) (old new : Moment) (end : End) → WentWell old new → IsCarried s disks old.world → Stops s disks old end new → IsDoneOrRefused end
@@ -111,6 +186,8 @@ stops_well (stage.Import dg) disks old new end well carried (inr (inl (reads, in
 stops_well (stage.Import dg) disks old new end well carried (inr (inr (mid, between, (x, writing, stopped)))) =
     stopping mid new (well_after old mid new between.first between.rest well) x end (by_devices dg old.world x old.counts mid.counts writing carried.1) stopped
 stops_well stage.LetGo disks old new end well carried stops = absurd stops
+stops_well (stage.Start vol) disks old new end well carried stops = starts old new well carried.0 vol end old.world.group stops
+stops_well (stage.Stop vol) disks old new end well carried stops = ends_stop old new well carried.0 vol end stops
 
 -- the stage changes nothing of the world
 abbrev pub keeps_world : Stage → Bool
@@ -140,6 +217,8 @@ kept_world stage.Join disks old mid keeps done = cc
 kept_world (stage.Create dg) disks old mid keeps done = cc
 kept_world (stage.Import dg) disks old mid keeps done = cc
 kept_world stage.LetGo disks old mid keeps done = cc
+kept_world (stage.Start vol) disks old mid keeps done = cc
+kept_world (stage.Stop vol) disks old mid keeps done = cc
 
 -- all stages but the last keep the world, and each finds a disk to be written
 abbrev IsShaped : List Stage → List DiskAt → World → Type 0
@@ -154,8 +233,8 @@ runs_later disks (s ∷ ss) finish old views end new (inr (none, later, stops)) 
 
 runs_well : (disks : List DiskAt) (stages : List Stage) (finish : Finish) (old : Moment) (views : List View) (end : End) (new : Moment)
     → IsShaped stages disks old.world → Runs disks stages finish old views end new → WentWell old new → IsDoneOrRefused end
-runs_well disks [] finish old views end new shaped (shows, is, same) well = inl is
-runs_well disks (s ∷ []) finish old views end new shaped (inl (mid, later, is, (shows, over, same))) well = inl over
+runs_well disks [] finish old views end new shaped (shows, is, same) well = inl (None, is)
+runs_well disks (s ∷ []) finish old views end new shaped (inl (mid, later, is, (shows, over, same))) well = inl (None, over)
 runs_well disks (s ∷ []) finish old views end new shaped (inr (none, later, stops)) well = stops_well s disks old new end well shaped stops
 runs_well disks (s ∷ t ∷ ss) finish old views end new shaped (inl (mid, later, is, rest)) well =
     let same = kept_world s disks old mid shaped.1 is in
@@ -190,6 +269,8 @@ plan_shaped dg (form.DgAddDisk name disk) w has = let c : IsAlive w × NamesSlot
 plan_shaped dg (form.DgImport name) w has = (has.group, has.masks)
 plan_shaped dg (form.DgDeport name) w has = let c : IsAlive w × NamesSlots w = (has.group, has.masks) in (c, refl, (c, refl, c))
 plan_shaped dg (form.DiskUnsetup device) w has = let c : IsAlive w × NamesSlots w = (has.group, has.masks) in (c, refl, (c, refl, c))
+plan_shaped dg (form.Start vol) w has = tt
+plan_shaped dg (form.Stop vol) w has = tt
 plan_shaped dg (form.PrintM vol) w has = print_shaped dg vol w (has.group, has.masks)
 plan_shaped dg (form.Rdpol vol how) w has = policy_shaped dg vol how w (has.group, has.masks)
 plan_shaped dg (form.RemoveVolume vol) w has = let c : IsAlive w × NamesSlots w = (has.group, has.masks) in (c, refl, (c, refl, (c, refl, (c, refl, c))))
@@ -197,8 +278,6 @@ plan_shaped dg (form.VxMake text) w has = let c : IsAlive w × NamesSlots w = (h
 plan_shaped dg (form.PrintHt vol) w has = tt
 plan_shaped dg (form.AssistMake vol length attrs disks) w has = tt
 plan_shaped dg (form.Mirror vol disks) w has = tt
-plan_shaped dg (form.Start vol) w has = tt
-plan_shaped dg (form.Stop vol) w has = tt
 plan_shaped dg (form.PlexDis plex rm) w has = tt
 plan_shaped dg (form.Prepare vol ndcomirs region) w has = tt
 plan_shaped dg (form.Unprepare vol) w has = tt

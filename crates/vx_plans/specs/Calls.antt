@@ -1,6 +1,6 @@
 -- `read` and `write` of a volume. On a bare one a call is one device call for each of its parts, as its blocks lie one behind
 -- the other on one device.
-use Rattle.std.specs.Prelude.{◌≡◌, ◌≢◌, ℕ, ◌+◌, ◌-◌, ◌*◌, ◌/◌, ◌≤◌, nat_lt, true, Some, None, MatchOption, MatchBool, List, [], ◌∷◌, length, map, replicate}
+use Rattle.std.specs.Prelude.{◌≡◌, ◌≢◌, ℕ, ◌+◌, ◌-◌, ◌*◌, ◌/◌, ◌≤◌, true, Some, None, List, [], ◌∷◌, length, map, replicate}
 use Rattle.vx_base.specs.Blocks.{Contents, block_at, is_in}
 use Rattle.vx_base.specs.Named.{Word, put}
 use Rattle.vx_block.specs.Regions.{part_at}
@@ -12,9 +12,8 @@ use Rattle.vx_script_forms.specs.declared.call.Call.{Call}
 use Rattle.vx_script_forms.specs.declared.call.Call.TheVariants as calls
 use Rattle.vx_answers.specs.declared.answer.End.{End}
 use Rattle.vx_answers.specs.declared.answer.End.TheVariants as ends
-use Rattle.vx_answers.specs.declared.refusal.Refusal.TheVariants.{NotStarted, Range}
 use Rattle.vx_moments.specs.World.{Volume, Lies, OnDevice, OnPlexes}
-use Rattle.vx_moments.specs.Moment.{Moment, Counts, Rests, HasFailed, IsQuiet}
+use Rattle.vx_moments.specs.Moment.{Moment, Counts, HasFailed, IsQuiet}
 
 abbrev pub volume_of : Call → Word
 volume_of (calls.Read vol start count) = vol

@@ -13,7 +13,7 @@ use Rattle.vx_answers.specs.declared.refusal.Refusal.{Refusal}
 use Rattle.vx_moments.specs.World.{World, Device}
 use Rattle.vx_moments.specs.Moment.{Moment, IsQuiet}
 use Rattle.vx_plans.specs.Plans.{plan_of, disks_of}
-use Rattle.vx_plans.specs.Steps.{Runs, done}
+use Rattle.vx_plans.specs.Steps.{Runs}
 use Rattle.vx_plans.specs.declared.stages.Plan.{Plan}
 
 -- nothing failed, and the power stayed; no count stands at its type's end
@@ -25,7 +25,7 @@ pub record WentWell (old new : Moment) : Type 0 where
 
 -- all was done, or a test has refused the command
 abbrev pub IsDoneOrRefused : End → Type 0
-IsDoneOrRefused end = (end ≡ done) ⊎ ((r : Refusal) × (end ≡ ends.Refused r))
+IsDoneOrRefused end = ((copied : Option ℕ) × (end ≡ ends.Done copied [] [])) ⊎ ((r : Refusal) × (end ≡ ends.Refused r))
 
 -- a group is made of some disks
 abbrev pub NamesSome : Form → Type 0

@@ -1,6 +1,6 @@
 -- The stages of commands: what each does where it is done, and how it may end the command. The disks are those that the
 -- command names.
-use Rattle.std.specs.Prelude.{◌≡◌, ◌⊎◌, ℕ, ◌+◌, ◌<◌, ◌≤◌, true, false, replicate, Option, Some, None, IsSome, List, [], ◌∷◌, ◌++◌, length}
+use Rattle.std.specs.Prelude.{◌≡◌, ◌⊎◌, ℕ, ◌+◌, ◌<◌, ◌≤◌, true, false, replicate, Option, Some, None, IsSome, List, [], ◌∷◌, ◌++◌}
 use Rattle.std.specs.Str.{bytes_eq}
 use Rattle.vx_base.specs.Blocks.{Contents, written, IsTorn}
 use Rattle.vx_base.specs.Counts.{later_count}
@@ -27,28 +27,19 @@ use Rattle.vx_moments.specs.World.{World, Device, Volume, Group, OnDevice}
 use Rattle.vx_moments.specs.Moment.{Moment, Counts, AreLater, Rests, HasFailed, ShelfHasFailed, HasFailedOrShelf, IsQuiet, WritesNone, CallsNone}
 use Rattle.vx_moments.specs.Holding.{IsHeld, is_among}
 use Rattle.vx_moments.specs.Leaving.{group_gone}
-use Rattle.vx_moments.specs.Copies.{IsTextOf}
-use Rattle.vx_moments.specs.Commit.{Writing, IsCommitted, IsStopped}
+use Rattle.vx_moments.specs.Commit.{Writing}
+use Rattle.vx_plans.specs.Ends.{fault_of, lost, refused, IsChange, RefusedAsLong, CommitsBy, EndsIn, StopsBy}
 use Rattle.vx_plans.specs.Finding.{Found, Finds, group_found, import_records, import_sectors}
 use Rattle.vx_plans.specs.Making.{Adds, adding_refusal, is_started}
 use Rattle.vx_plans.specs.Records.{devices_of, sectors_at, disk_record, member_at, next_slot, new_records, new_members}
 use Rattle.vx_plans.specs.Refusals.{refusal_from}
+use Rattle.vx_plans.specs.Starting.{StartStops, StartWants}
+use Rattle.vx_plans.specs.Stopping.{IsStopDone, StopStops, StopWants}
 use Rattle.vx_plans.specs.Tests.{fails, is_volume, recorded}
 use Rattle.vx_plans.specs.declared.stage.Change.{Change}
 use Rattle.vx_plans.specs.declared.stage.Change.TheVariants as changes
 use Rattle.vx_plans.specs.declared.stage.Stage.{Stage}
 use Rattle.vx_plans.specs.declared.stage.Stage.TheVariants as stage
-
--- nothing is told of the parts of a call
-abbrev pub fault_of : Word → End
-fault_of name = ends.Fault name name []
-
-abbrev pub lost : End
-lost = ends.Lost []
-
--- the command ends so
-abbrev pub refused : Refusal → End
-refused r = ends.Refused r
 
 -- the name is that of a device that nobody holds, and that is not among those taken
 abbrev pub IsFree : World → List Word → Word → Type 0
@@ -160,17 +151,6 @@ abbrev pub edits_of : Change → Option Group → List Edit
 edits_of (changes.Policy vol policy) g = policy_edit (recorded vol g) (λ v. SetVol vol v.state policy)
 edits_of (changes.Remove vol) g = RemoveVol vol ∷ []
 
--- the imported group, and what is to be written to it by these edits
-pub record IsChange (edits : List Edit) (w : World) (x : Writing) : Type 0 where
-  pub group : w.group ≡ Some x.group
-  pub edited : IsEdited edits x.group.config x.config
-  pub joiners : x.joiners ≡ []
-  pub carriers : x.carriers ≡ x.group.members
-
--- the text of the configuration is too long by so many bytes
-abbrev pub RefusedAsLong : Config → End → Type 0
-RefusedAsLong config end = (text : List ℕ) × IsTextOf config text × (522240 < length text) × (end ≡ refused (refusal.TooLong (length text)))
-
 -- the edits break a rule, or their text is too long
 abbrev pub EditsRefused : List Edit → Group → End → Type 0
 EditsRefused edits g end =
@@ -247,11 +227,7 @@ abbrev pub AreBlank : World → List Word → Type 0
 AreBlank w [] = Unit {0}
 AreBlank w (name ∷ names) = HasNoHeader w name × AreBlank w names
 
--- the writing of a commit
-abbrev pub CommitsBy : (Writing → Type 0) → Moment → Moment → Type 0
-CommitsBy IsWriting old new = (x : Writing) × IsWriting x × IsCommitted x old new
-
--- what a stage does
+-- what a stage does; a start ends its command itself
 abbrev pub IsDone : Stage → List DiskAt → Moment → Moment → Type 0
 IsDone (stage.Gate test) disks old new = (fails test disks old.world ≡ None) × (new ≡ old)
 IsDone (stage.Take name) disks old new = IsFree old.world [] name × Rests old new
@@ -269,6 +245,8 @@ IsDone stage.Join disks old new = OnlyDisk disks (λ p. CommitsBy (λ x. IsJoini
 IsDone (stage.Create dg) disks old new = (old.world.group ≡ None) × CommitsBy (λ x. IsCreating dg disks old.world x) old new
 IsDone (stage.Import dg) disks old new = (old.world.group ≡ None) × (mid : Moment) × IsBetween dg old mid new × CommitsBy (λ x. IsImporting dg old.world x old.counts mid.counts) mid new
 IsDone stage.LetGo disks old new = (new.world ≡ group_gone old.world) × (new.counts ≡ old.counts)
+IsDone (stage.Start vol) disks old new = ⊥
+IsDone (stage.Stop vol) disks old new = IsStopDone vol old new
 
 -- a device in hand ends the command: it has failed, or its power is gone
 abbrev pub DeviceEnds : Word → Moment → End → Moment → Type 0
@@ -290,10 +268,6 @@ ShelfFailsAt name old end new = (new.world ≡ old.world) × CallsNone old.count
 abbrev pub ShelfEnds : Moment → End → Moment → Type 0
 ShelfEnds old end new = (end ≡ ends.ShelfFailed) × ShelfHasFailed old.counts new.counts
 
--- a test has refused the command, and nothing was called
-abbrev pub EndsIn : Refusal → Moment → End → Moment → Type 0
-EndsIn r old end new = (end ≡ refused r) × Rests old new
-
 -- the first of the devices that cannot be taken ends the command
 abbrev pub TakingStops : List Word → List Word → Moment → End → Moment → Type 0
 TakingStops taken [] old end new = ⊥
@@ -307,10 +281,6 @@ LookingStops [] old end new = ⊥
 LookingStops (name ∷ names) old end new =
     ((HasHeader old.world name × (end ≡ refused (refusal.InUse name))) ⊎ DeviceEnds name old end new)
     ⊎ (HasNoHeader old.world name × LookingStops names old end new)
-
--- the commit is stopped
-abbrev pub StopsBy : (Writing → Type 0) → Moment → End → Moment → Type 0
-StopsBy IsWriting old end new = (x : Writing) × IsWriting x × IsStopped x old end new
 
 -- no group is imported, or the edits of the one that is are refused, or their commit is stopped
 abbrev pub EditsStop : (Group → List Edit) → (Writing → Type 0) → Moment → End → Moment → Type 0
@@ -348,3 +318,11 @@ Stops (stage.Import dg) disks old end new =
     ⊎ ((OnlyReads (ImportReads dg old.world) old new × (ImportRefused dg old.world end old.counts new.counts ⊎ (ShelfEnds old end new ⊎ ((end ≡ lost) × ((name : Word) × (new.counts.cut name ≡ true))))))
     ⊎ ((mid : Moment) × IsBetween dg old mid new × StopsBy (λ x. IsImporting dg old.world x old.counts mid.counts) mid end new))
 Stops stage.LetGo disks old end new = ⊥
+Stops (stage.Start vol) disks old end new = StartStops vol old end new
+Stops (stage.Stop vol) disks old end new = StopStops vol old end new
+
+-- what want of memory leaves of a stage: the world as it was, but where devices of a volume were called before
+abbrev pub Wants : Stage → Moment → Moment → Type 0
+Wants (stage.Start vol) old new = StartWants vol old new
+Wants (stage.Stop vol) old new = StopWants vol old new
+Wants other old new = new.world ≡ old.world

@@ -21,7 +21,7 @@ use Rattle.vx_moments.specs.Leaving.{PowerGoes, group_gone}
 use Rattle.vx_group_images.specs.Lives.{GroupStands}
 use Rattle.vx_plans.specs.Serving.{CallRuns}
 use Rattle.vx_plans.specs.Plans.{plan_of, disks_of}
-use Rattle.vx_plans.specs.Stages.{IsDone, Stops}
+use Rattle.vx_plans.specs.Stages.{IsDone, Stops, Wants}
 use Rattle.vx_plans.specs.declared.stages.Finish.{Finish}
 use Rattle.vx_plans.specs.declared.stages.Finish.TheVariants.{Nothing, Records}
 use Rattle.vx_plans.specs.declared.stages.Plan.{Plan}
@@ -44,15 +44,20 @@ Runs disks (s ∷ ss) finish old views end new =
     ((mid : Moment) × AreLater old.counts mid.counts × IsDone s disks old mid × Runs disks ss finish mid views end new)
     ⊎ ((views ≡ []) × AreLater old.counts new.counts × Stops s disks old end new)
 
--- A command that is over: where it was refused the world is as it began, and where the group or the power was lost they go. The bytes
--- that then are left of the group's volumes stand for those that ran.
-abbrev pub Leaves : End → World → World → World → Type 0
-Leaves (ends.Done copied parts blocks) began w left = left ≡ w
-Leaves (ends.Refused refusal) began w left = left ≡ began
-Leaves (ends.Fault told device parts) began w left = left ≡ w
-Leaves ends.ShelfFailed began w left = left ≡ w
-Leaves ends.GroupLost began w left = GroupStands w × (left ≡ group_gone w)
-Leaves (ends.Lost parts) began w left = GroupStands w × PowerGoes w left
+-- Memory was wanting in one of the stages, behind those that were done.
+abbrev pub RunsShort : List DiskAt → List Stage → Moment → Moment → Type 0
+RunsShort disks [] old new = ⊥
+RunsShort disks (s ∷ ss) old new = ((mid : Moment) × AreLater old.counts mid.counts × IsDone s disks old mid × RunsShort disks ss mid new) ⊎ Wants s old new
+
+-- A command that is over: where the group or the power was lost they go. The bytes that then are left of the group's volumes stand for
+-- those that ran.
+abbrev pub Leaves : End → World → World → Type 0
+Leaves (ends.Done copied parts blocks) w left = left ≡ w
+Leaves (ends.Refused refusal) w left = left ≡ w
+Leaves (ends.Fault told device parts) w left = left ≡ w
+Leaves ends.ShelfFailed w left = left ≡ w
+Leaves ends.GroupLost w left = GroupStands w × (left ≡ group_gone w)
+Leaves (ends.Lost parts) w left = GroupStands w × PowerGoes w left
 
 -- from one moment to the next, by what the command does and what is left then
 pub record Serves (Does : Moment → List View → End → Moment → Type 0) (old : Moment) (answer : Answer) (new : Moment) : Type 0 where
@@ -61,7 +66,7 @@ pub record Serves (Does : Moment → List View → End → Moment → Type 0) (o
   pub told : answer ≡ One views end
   pub over : Moment
   pub does : Does old views end over
-  pub leaves : Leaves end old.world over.world new.world
+  pub leaves : Leaves end over.world new.world
   pub counts : new.counts ≡ over.counts
 
 -- a command that is not built is refused before all else
@@ -86,6 +91,19 @@ DoesForm place dg other old views end new = DoesPlan (disks_of other) (plan_of d
 -- what a command does; one with a word `cut=N` is not built
 abbrev pub Does : ℕ → Command → Moment → List View → End → Moment → Type 0
 Does place c old views end new = MatchOption c.cut (DoesForm place c.group c.form old views end new) (λ n. IsNotBuilt old views end new)
+
+-- what want of memory leaves of a plan: the world as it began, or one of its stages was left
+abbrev pub WantsPlan : List DiskAt → Option Plan → Moment → Moment → Type 0
+WantsPlan disks None old new = new.world ≡ old.world
+WantsPlan disks (Some plan) old new = (new.world ≡ old.world) ⊎ RunsShort disks plan.stages old new
+
+abbrev pub WantsForm : Option Word → Form → Moment → Moment → Type 0
+WantsForm dg (form.Calling call) old new = new.world ≡ old.world
+WantsForm dg other old new = WantsPlan (disks_of other) (plan_of dg other) old new
+
+-- what want of memory leaves of a command
+abbrev pub LeavesOff : Command → Moment → Moment → Type 0
+LeavesOff c old new = MatchOption c.cut (WantsForm c.group c.form old new) (λ n. new.world ≡ old.world)
 
 -- the command at this place of the script may have this answer
 abbrev pub Step : ℕ → Command → Moment → Answer → Moment → Type 0

@@ -46,4 +46,8 @@ pub enum Stage {
     Import(Name),
     /// The group leaves, and its devices with it.
     LetGo,
+    /// The volume of the imported group is opened, recorded as started, and its plexes are copied to; this ends the command.
+    Start(Name),
+    /// The volume of the imported group comes to rest, its states are recorded, and it runs no more.
+    Stop(Name),
 }

@@ -145,7 +145,7 @@ module _ {P : Type 0} {ghosts : Ghosts P} (see : P → Seen) (commands : List Co
     left = run.left;
     split = run.split;
     answers = run.answers;
-    goes = shelf_goes (λ m last. IsTranscriptThen 0 m run.begun run.answers last) run.goes;
+    goes = shelf_goes (λ m last. IsTranscriptThen 0 m run.begun run.answers run.left last) run.goes;
     written = run.written;
     faults = all_faults run.faults;
     blamed = all_blamed run.answers run.blamed;

@@ -1,5 +1,5 @@
 -- Runs of commands, one after the other.
-use Rattle.std.proofs.Common.{◌≡◌, ℕ, ◌+◌, Bool, true, false, List, [], ◌∷◌, ◌++◌, length, take, Option, Some, Result, Ok, Err, subst, sym, ap, ◌∙◌, refl, arith, append_assoc, zero-add, suc}
+use Rattle.std.proofs.Common.{◌≡◌, ℕ, ◌+◌, Bool, true, false, List, [], ◌∷◌, ◌++◌, length, take, Option, Some, Result, Ok, Err, inl, inr, subst, sym, ap, ◌∙◌, refl, arith, append_assoc, zero-add, suc}
 use Rattle.std.specs.Prelude.{◌&&◌, IfOk, OnOk, OnErr, IsErrOf}
 use Rattle.std.proofs.lemmas.List.Concat.{flat_map-append}
 use Rattle.std.proofs.lemmas.List.Folds.{list_all-append}
@@ -13,7 +13,7 @@ use Rattle.vx_answers.specs.declared.answer.Answer.TheVariants.{One, Block}
 use Rattle.vx_answers.specs.declared.answer.End.{End}
 use Rattle.vx_answers.specs.declared.answer.View.{View as Shown}
 use Rattle.vx_moments.specs.Moment.{Moment}
-use Rattle.vx_plans.specs.Steps.{IsTranscript, Does}
+use Rattle.vx_plans.specs.Steps.{IsTranscript, Does, LeavesOff}
 use Rattle.vx_house.specs.Scene.{Scene, FaultsGoOn}
 use Rattle.vx_house.specs.View.{View, Keeps, scene}
 use Rattle.vx_house.proofs.Ends.{keeps_but_group}
@@ -24,7 +24,7 @@ use Rattle.vx_engine.specs.declared.unserved.Unserved.{Unserved}
 use Rattle.vx_engine.specs.declared.unserved.Unserved.TheVariants as unserved
 use Rattle.vx_engine.proofs.CommandEnds.{blamed_on}
 use Rattle.vx_serve.specs.Fine.{is_fine, are_fine}
-use Rattle.vx_serve.specs.Run.{AreBlamed, HasRun, HasRunPartly, HoldsButLast, text_of}
+use Rattle.vx_serve.specs.Run.{AreBlamed, HasRun, HasRunPartly, HoldsButLast, RestsIn, text_of}
 use Rattle.vx_serve.specs.Stops.{IsKept, IsKeptButGroup, LeftBy, OnShort, fault_of}
 use Rattle.vx_serve.specs.declared.lines.ServeFault.{ServeFault}
 use Rattle.vx_serve.specs.declared.lines.ServeFault.TheVariants as stops
@@ -36,6 +36,12 @@ transcript_then place old mid new [] ds [] ys h k = subst (λ w. IsTranscript pl
 transcript_then place old mid new [] ds (a ∷ xs) ys h k = absurd h
 transcript_then place old mid new (c ∷ cs) ds [] ys h k = absurd h
 transcript_then place old mid new (c ∷ cs) ds (a ∷ xs) ys h k = (h.0, h.1, transcript_then (place + 1) h.0 mid new cs ds xs ys h.2 (subst (λ p. IsTranscript p mid ds ys new) (omega arith) k))
+
+-- what is left stays left
+rests_more : (cs ds : List Command) (m n : Moment) → RestsIn cs m n → RestsIn (cs ++ ds) m n
+rests_more [] [] m n same = same
+rests_more [] (d ∷ ds) m n same = inl same
+rests_more (c ∷ cs) ds m n rests = rests
 
 -- ---- texts
 
@@ -128,13 +134,13 @@ module _ {P : Type 0} {ghosts : Ghosts P} (see : P → Seen) where
   }
 
   -- one that was not begun
-  pub none_partly : (place : ℕ) (c : Command) (old new : View P ghosts) (taken : Option (List ℕ)) → IsRefused see old new → HasRunPartly see place (c ∷ []) old taken new taken
+  pub none_partly : (place : ℕ) (c : Command) (old new : View P ghosts) (taken : Option (List ℕ)) → IsRefused see (LeavesOff c) old new → HasRunPartly see place (c ∷ []) old taken new taken
   none_partly place c old new taken go = record {
     begun = [];
     left = c ∷ [];
     split = refl;
     answers = [];
-    goes = λ m there. (let n = go.goes m there in (n.0, n.1, n.2, (m, refl, n.2, n.3)));
+    goes = λ m there. (let n = go.goes m there in (n.0, n.1, n.2, (m, refl, n.2, inr n.3)));
     written = λ text told. record {
       bytes = 0;
       written = told ∙ ap (λ t. Some t) (sym (append-nil text));
@@ -183,7 +189,7 @@ module _ {P : Type 0} {ghosts : Ghosts P} (see : P → Seen) where
     left = a.left ++ ds;
     split = ap (λ l. l ++ ds) a.split ∙ append_assoc a.begun a.left ds;
     answers = a.answers;
-    goes = a.goes;
+    goes = λ m there. (let k = a.goes m there in (k.0, k.1, k.2, (k.3.0, k.3.1, k.3.2, rests_more a.left ds k.3.0 k.0 k.3.3)));
     written = a.written;
     faults = a.faults;
     blamed = a.blamed;
@@ -193,11 +199,11 @@ module _ {P : Type 0} {ghosts : Ghosts P} (see : P → Seen) where
 
 module _ {P : Type 0} {ghosts : Ghosts P} (see : P → Seen) where
   -- it had no answer
-  pub unserved_left : (T : Type 0) (why : Unserved) (Do : Moment → List Shown → End → Moment → Type 0) (old new : View P ghosts) → CommandEnds see Do (Err why) old new → LeftBy {T = T} see (Err (fault_of why)) new
-  unserved_left T unserved.OutOfMemory Do old new ends = record { keeps = ends.keeps; empty = ends.empty }
-  unserved_left T unserved.HeldUp Do old new ends = ends
+  pub unserved_left : (T : Type 0) (why : Unserved) (Do : Moment → List Shown → End → Moment → Type 0) (Left : Moment → Moment → Type 0) (old new : View P ghosts) → CommandEnds see Do Left (Err why) old new → LeftBy {T = T} see (Err (fault_of why)) new
+  unserved_left T unserved.OutOfMemory Do Left old new ends = record { keeps = ends.keeps; empty = ends.empty }
+  unserved_left T unserved.HeldUp Do Left old new ends = ends
 
-  pub unserved_partly : (T : Type 0) (why : Unserved) (c : Command) (old new : View P ghosts) (taken : Option (List ℕ)) → ((place : ℕ) → CommandEnds see (Does place c) (Err why) old new) →
+  pub unserved_partly : (T : Type 0) (why : Unserved) (c : Command) (old new : View P ghosts) (taken : Option (List ℕ)) → ((place : ℕ) → CommandEnds see (Does place c) (LeavesOff c) (Err why) old new) →
       OnShort {T = T} (Err (fault_of why)) ((place : ℕ) → HasRunPartly see place (c ∷ []) old taken new taken)
   unserved_partly T unserved.OutOfMemory c old new taken ends = λ place. none_partly see place c old new taken (ends place)
   unserved_partly T unserved.HeldUp c old new taken ends = tt

@@ -40,13 +40,14 @@ pub record CarriesOut (commands : List Command) (old : Shelved) (taken : Option 
   pub faults : FaultsGoOn (bare old) (bare new)
   pub blamed : AreBlamed answers (bare old) (bare new)
 
--- The same of the first of the commands, those that were begun; of their text a front was written.
+-- The same of the first of the commands, those that were answered; of their text a front was written. The next may have been begun, and
+-- left off for want of memory.
 pub record StopsShort (commands : List Command) (old : Shelved) (taken : Option (List ℕ)) (new : Shelved) (taken' : Option (List ℕ)) : Type 0 where
   pub begun : List Command
   pub left : List Command
   pub split : commands ≡ begun ++ left
   pub answers : List Answer
-  pub goes : ShelfGoes (λ m last. IsTranscriptThen 0 m begun answers last) old new
+  pub goes : ShelfGoes (λ m last. IsTranscriptThen 0 m begun answers left last) old new
   pub written : (text : List ℕ) → taken ≡ Some text → WritesFront answers text taken'
   pub faults : FaultsGoOn (bare old) (bare new)
   pub blamed : AreBlamed answers (bare old) (bare new)

@@ -1,5 +1,5 @@
 -- A run of commands over a house and its shelf, and one that was cut short.
-use Rattle.std.specs.Prelude.{◌≡◌, ℕ, ◌≤◌, Bool, List, ◌++◌, length, take, Option, Some}
+use Rattle.std.specs.Prelude.{◌≡◌, ◌⊎◌, ℕ, ◌≤◌, Bool, List, [], ◌∷◌, ◌++◌, length, take, Option, Some}
 use Rattle.std.specs.List.{flat_map}
 use Rattle.vx_pages.specs.declared.local_piece.LocalPiece.{Ghosts}
 use Rattle.vx_piece.specs.Seen.{Seen}
@@ -8,7 +8,7 @@ use Rattle.vx_script.specs.declared.command.Command.{Command}
 use Rattle.vx_answers.specs.Lines.{lines_of}
 use Rattle.vx_answers.specs.declared.answer.Answer.{Answer}
 use Rattle.vx_moments.specs.Moment.{Moment, AreLater}
-use Rattle.vx_plans.specs.Steps.{IsTranscript}
+use Rattle.vx_plans.specs.Steps.{IsTranscript, LeavesOff}
 use Rattle.vx_house.specs.Goes.{Goes}
 use Rattle.vx_house.specs.Scene.{Scene, FaultsGoOn}
 use Rattle.vx_house.specs.View.{View, scene}
@@ -47,18 +47,23 @@ pub record WritesFront (answers : List Answer) (text : List ℕ) (taken : Option
   pub written : taken ≡ Some (text ++ take bytes (text_of answers))
   pub stopped : HoldsButLast answers bytes
 
--- a transcript to a moment behind which nothing of the world was changed
-abbrev pub IsTranscriptThen : ℕ → Moment → List Command → List Answer → Moment → Type 0
-IsTranscriptThen place m commands answers n = (last : Moment) × IsTranscript place m commands answers last × AreLater last.counts n.counts × (n.world ≡ last.world)
+-- nothing of the world was changed, or the first of these commands was begun, and left off for want of memory
+abbrev pub RestsIn : List Command → Moment → Moment → Type 0
+RestsIn [] m n = n.world ≡ m.world
+RestsIn (c ∷ cs) m n = (n.world ≡ m.world) ⊎ LeavesOff c m n
 
--- The same of the first of the commands, those that were begun; of their text a front was written. No command was begun
--- where a line before it was not written whole.
+-- a transcript to a moment, behind which the commands that are left were not carried out
+abbrev pub IsTranscriptThen : ℕ → Moment → List Command → List Answer → List Command → Moment → Type 0
+IsTranscriptThen place m commands answers left n = (last : Moment) × IsTranscript place m commands answers last × AreLater last.counts n.counts × RestsIn left last n
+
+-- The same of the first of the commands, those that were answered; of their text a front was written. The next may have been begun
+-- where memory was wanting. No command was begun where a line before it was not written whole.
 pub record HasRunPartly {P : Type 0} {ghosts : Ghosts P} (see : P → Seen) (place : ℕ) (commands : List Command) (old : View P ghosts) (taken : Option (List ℕ)) (new : View P ghosts) (taken' : Option (List ℕ)) : Type 0 where
   pub begun : List Command
   pub left : List Command
   pub split : commands ≡ begun ++ left
   pub answers : List Answer
-  pub goes : Goes see (λ m n. IsTranscriptThen place m begun answers n) old new
+  pub goes : Goes see (λ m n. IsTranscriptThen place m begun answers left n) old new
   pub written : (text : List ℕ) → taken ≡ Some text → WritesFront answers text taken'
   pub faults : FaultsGoOn (scene see old) (scene see new)
   pub blamed : AreBlamed answers (scene see old) (scene see new)

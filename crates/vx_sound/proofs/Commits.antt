@@ -11,7 +11,8 @@ use Rattle.vx_moments.specs.World.{World, Volume, Group}
 use Rattle.vx_moments.specs.Moment.{Moment, Counts}
 use Rattle.vx_moments.specs.Commit.{Writing, IsCommitting, IsCommitted, IsStopped}
 use Rattle.vx_plans.specs.Finding.{group_found, import_records}
-use Rattle.vx_plans.specs.Stages.{IsChange, IsImporting, edits_of, IsMaking}
+use Rattle.vx_plans.specs.Ends.{IsChange}
+use Rattle.vx_plans.specs.Stages.{IsImporting, edits_of, IsMaking}
 use Rattle.vx_plans.specs.declared.stage.Change.{Change}
 use Rattle.vx_plans.proofs.Carriers.{FoundBy, found_by}
 use Rattle.vx_sound.specs.Standing.{HoldsNoHeader, IsLeading, IsStanding}

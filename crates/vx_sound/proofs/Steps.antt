@@ -27,7 +27,8 @@ use Rattle.vx_moments.specs.Holding.{has_volume}
 use Rattle.vx_moments.specs.Commit.{Writing}
 use Rattle.vx_plans.specs.Plans.{plan_of}
 use Rattle.vx_plans.specs.Records.{devices_of}
-use Rattle.vx_plans.specs.Stages.{IsDone, Stops, EditsStop, IsChange, edits_of, joining_edit, IsJoining, IsCreating}
+use Rattle.vx_plans.specs.Ends.{IsChange}
+use Rattle.vx_plans.specs.Stages.{IsDone, Stops, EditsStop, edits_of, joining_edit, IsJoining, IsCreating}
 use Rattle.vx_plans.specs.Steps.{Runs, Leaves, IsNotBuilt, DoesPlan, DoesCall, DoesForm, Does, Step, IsTranscript}
 use Rattle.vx_plans.specs.Tests.{fails, in_use, is_here, is_volume, unless}
 use Rattle.vx_plans.specs.declared.stages.Finish.{Finish}

@@ -9,7 +9,8 @@ use Rattle.vx_script_words.specs.declared.value.DiskAt.{DiskAt}
 use Rattle.vx_moments.specs.World.{Group}
 use Rattle.vx_moments.specs.Moment.{Moment}
 use Rattle.vx_moments.specs.Commit.{Writing}
-use Rattle.vx_plans.specs.Stages.{IsChange, EditsRefused, edits_of}
+use Rattle.vx_plans.specs.Ends.{IsChange}
+use Rattle.vx_plans.specs.Stages.{EditsRefused, edits_of}
 use Rattle.vx_plans.specs.declared.stage.Change.{Change}
 use Rattle.vx_plans.specs.declared.stage.Change.TheVariants as changes
 use Rattle.vx_plans.specs.declared.stage.Stage.TheVariants as stage

@@ -16,7 +16,8 @@ use Rattle.vx_moments.specs.World.{Group}
 use Rattle.vx_moments.specs.Commit.{Writing, IsCommitted, IsStopped}
 use Rattle.vx_moments.specs.Moment.{Moment}
 use Rattle.vx_moments.specs.Copies.{IsTextOf}
-use Rattle.vx_plans.specs.Stages.{IsDone, Stops, IsChange, EditsRefused}
+use Rattle.vx_plans.specs.Ends.{IsChange}
+use Rattle.vx_plans.specs.Stages.{IsDone, Stops, EditsRefused}
 use Rattle.vx_plans.specs.declared.stage.Stage.{Stage}
 use Rattle.vx_house.specs.Goes.{StageGoes, Gives, only_reads}
 use Rattle.vx_fronts.proofs.Parted.{private_parted}

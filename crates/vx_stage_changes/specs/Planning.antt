@@ -13,7 +13,8 @@ use Rattle.vx_answers.specs.declared.refusal.Refusal.{Refusal}
 use Rattle.vx_answers.specs.declared.refusal.Refusal.TheVariants as refusal
 use Rattle.vx_moments.specs.Copies.{IsTextOf}
 use Rattle.vx_plans.specs.Refusals.{refusal_by, refusal_from}
-use Rattle.vx_plans.specs.Stages.{RefusedAsLong, policy_edit}
+use Rattle.vx_plans.specs.Ends.{RefusedAsLong}
+use Rattle.vx_plans.specs.Stages.{policy_edit}
 use Rattle.vx_plans.specs.Tests.{volume_in}
 use Rattle.vx_plans.specs.declared.stage.Change.{Change}
 use Rattle.vx_plans.specs.declared.stage.Change.TheVariants as changes

@@ -27,7 +27,8 @@ use Rattle.vx_moments.specs.World.{World, Device, Group, Lies, Volume, OnDevice,
 use Rattle.vx_moments.specs.Leaving.{grouped_by, lone_by, grouped as on_plexes}
 use Rattle.vx_moments.specs.Moment.{Moment}
 use Rattle.vx_moments.specs.Holding.{has_volume}
-use Rattle.vx_plans.specs.Stages.{bare_volume, refused}
+use Rattle.vx_plans.specs.Ends.{refused}
+use Rattle.vx_plans.specs.Stages.{bare_volume}
 use Rattle.vx_plans.specs.Records.{sectors_in}
 use Rattle.vx_plans.specs.Tests.{is_volume, fails, unless}
 use Rattle.vx_plans.specs.declared.test.Test.TheVariants as tests

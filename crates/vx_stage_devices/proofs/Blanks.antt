@@ -17,7 +17,8 @@ use Rattle.vx_moments.specs.World.{World}
 use Rattle.vx_moments.specs.Moment.{Moment}
 use Rattle.vx_moments.specs.Holding.{is_among}
 use Rattle.vx_plans.specs.Records.{devices_of}
-use Rattle.vx_plans.specs.Stages.{OfDevice, AreBlank, ReadsEach, HasHeader, LookingStops, DeviceEnds, ReadsAtMost, OnlyReads, refused, IsDone, Stops}
+use Rattle.vx_plans.specs.Ends.{refused}
+use Rattle.vx_plans.specs.Stages.{OfDevice, AreBlank, ReadsEach, HasHeader, LookingStops, DeviceEnds, ReadsAtMost, OnlyReads, IsDone, Stops, Wants}
 use Rattle.vx_plans.specs.declared.stage.Stage.TheVariants as stage
 use Rattle.vx_house.specs.Goes.{Goes, StageGoes, IsBlankSeen, IsHandBlank, Still}
 use Rattle.vx_house.specs.Holders.{Holder, holders, hand_holder, hand_names, held_as, AreHeld}
@@ -221,7 +222,7 @@ module _ {P : Type 0} {ghosts : Ghosts P} (see : P → Seen) (h k : House P ghos
   }
   disks_look disks (Err (Ended end)) named stops = record {
     keeps = keeps_ended see end (at shelf (after h k)) (most_keeps see h k shelf are keeps (stops_read see end h.hand.items k.hand.items stops));
-    goes = goes_ended see (IsDone stage.LookDisks disks) (Stops stage.LookDisks disks) end (at shelf h) (at shelf (after h k)) (subst (λ ns. Goes see (λ m n. OnlyReads (ReadsAtMost ns) m n × LookingStops ns m end n) (at shelf h) (at shelf (after h k))) named (stop_goes end stops));
+    goes = goes_ended see (IsDone stage.LookDisks disks) (Stops stage.LookDisks disks) (Wants stage.LookDisks) end (at shelf h) (at shelf (after h k)) (subst (λ ns. Goes see (λ m n. OnlyReads (ReadsAtMost ns) m n × LookingStops ns m end n) (at shelf h) (at shelf (after h k))) named (stop_goes end stops));
     gives = tt;
     still = λ _. tt;
     faults = most_faults see h k shelf are keeps (stops_read see end h.hand.items k.hand.items stops);
@@ -240,7 +241,7 @@ module _ {P : Type 0} {ghosts : Ghosts P} (see : P → Seen) (h k : House P ghos
   }
   blank_look name disks (Err (Ended end)) named stops = record {
     keeps = keeps_ended see end (at shelf (after h k)) (most_keeps see h k shelf are keeps (stops_read see end h.hand.items k.hand.items stops));
-    goes = goes_ended see (IsDone (stage.LookBlank name) disks) (Stops (stage.LookBlank name) disks) end (at shelf h) (at shelf (after h k)) (subst (λ ns. Goes see (λ m n. OnlyReads (ReadsAtMost ns) m n × LookingStops ns m end n) (at shelf h) (at shelf (after h k))) named (stop_goes end stops));
+    goes = goes_ended see (IsDone (stage.LookBlank name) disks) (Stops (stage.LookBlank name) disks) (Wants (stage.LookBlank name)) end (at shelf h) (at shelf (after h k)) (subst (λ ns. Goes see (λ m n. OnlyReads (ReadsAtMost ns) m n × LookingStops ns m end n) (at shelf h) (at shelf (after h k))) named (stop_goes end stops));
     gives = tt;
     still = λ _. tt;
     faults = most_faults see h k shelf are keeps (stops_read see end h.hand.items k.hand.items stops);

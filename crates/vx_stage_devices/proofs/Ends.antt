@@ -22,7 +22,8 @@ use Rattle.vx_moments.specs.World.{Device}
 use Rattle.vx_moments.specs.Moment.{Moment, AreLater, WritesNone}
 use Rattle.vx_moments.specs.Holding.{is_among}
 use Rattle.vx_plans.specs.Records.{devices_of}
-use Rattle.vx_plans.specs.Stages.{IsFree, NamesGroup, SearchCalls, SearchesAtMost, FailsAt, OnlyReads, ShelfEnds, IsDone, Stops, refused}
+use Rattle.vx_plans.specs.Ends.{refused}
+use Rattle.vx_plans.specs.Stages.{IsFree, NamesGroup, SearchCalls, SearchesAtMost, FailsAt, OnlyReads, ShelfEnds, IsDone, Stops, Wants}
 use Rattle.vx_plans.specs.declared.stage.Stage.TheVariants as stage
 use Rattle.vx_house.specs.Goes.{Goes, StageGoes, Still, IsStill}
 use Rattle.vx_house.specs.Holders.{Holder, volume_holder, holders, hand_names, held_as}
@@ -279,7 +280,7 @@ module _ {P : Type 0} {ghosts : Ghosts P} (see : P → Seen) (v : View P ghosts)
       → IsBlamed end (scene see v) (scene see (at shelf v.house)) → StageGoes {T = Unit {0}} see (stage.Search dg) disks (Err (Ended end)) v (at shelf v.house)
   ended names only end stops blamed = record {
     keeps = keeps_ended see end (at shelf v.house) (only_keeps see v keeps shelf names only);
-    goes = goes_ended see (IsDone (stage.Search dg) disks) (Stops (stage.Search dg) disks) end v (at shelf v.house)
+    goes = goes_ended see (IsDone (stage.Search dg) disks) (Stops (stage.Search dg) disks) (Wants (stage.Search dg)) end v (at shelf v.house)
         (subst (λ ns. Goes see (λ m n. OnlyReads (SearchesAtMost ns m.world) m n × (((name : Word) × IsFree m.world ns name × ((NamesGroup dg m.world name × (end ≡ refused (Exists dg))) ⊎ FailsAt name m end n)) ⊎ ShelfEnds m end n)) v (at shelf v.house)) taken
         (λ m is.
         let a = some_of v.shelf.free is.told in

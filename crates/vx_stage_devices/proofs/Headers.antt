@@ -9,7 +9,8 @@ use Rattle.vx_script_words.specs.declared.value.DiskAt.{DiskAt}
 use Rattle.vx_answers.specs.declared.answer.End.{End}
 use Rattle.vx_answers.specs.declared.refusal.Refusal.TheVariants.{NotInitialised}
 use Rattle.vx_moments.specs.Moment.{Moment}
-use Rattle.vx_plans.specs.Stages.{HasHeader, HasNoHeader, DeviceEnds, ReadsEach, ReadsAtMost, OnlyReads, IsDone, Stops, refused}
+use Rattle.vx_plans.specs.Ends.{refused}
+use Rattle.vx_plans.specs.Stages.{HasHeader, HasNoHeader, DeviceEnds, ReadsEach, ReadsAtMost, OnlyReads, IsDone, Stops, Wants}
 use Rattle.vx_plans.specs.declared.stage.Stage.TheVariants as stage
 use Rattle.vx_house.specs.Goes.{Goes, StageGoes, IsBlankSeen}
 use Rattle.vx_house.specs.Holders.{holders, hand_names, AreHeld}
@@ -58,7 +59,7 @@ module _ {P : Type 0} {ghosts : Ghosts P} (see : P → Seen) (h k : House P ghos
   }
   headed_look disks (Err (Ended end)) (read, ends) = record {
     keeps = keeps_ended see end (at shelf (after h k)) (most_keeps see h k shelf are keeps (each_one (IsOnlyRead see) read));
-    goes = goes_ended see (IsDone (stage.LookHeaded t.device) disks) (Stops (stage.LookHeaded t.device) disks) end (at shelf h) (at shelf (after h k))
+    goes = goes_ended see (IsDone (stage.LookHeaded t.device) disks) (Stops (stage.LookHeaded t.device) disks) (Wants (stage.LookHeaded t.device)) end (at shelf h) (at shelf (after h k))
         (subst (λ ns. Goes see (λ m n. OnlyReads (ReadsAtMost ns) m n × ((HasNoHeader m.world t.device × (end ≡ refused (NotInitialised t.device))) ⊎ DeviceEnds t.device m end n)) (at shelf h) (at shelf (after h k))) named
         (most_goes see h k shelf are keeps (each_one (IsOnlyRead see) read) end (λ m e n. (HasNoHeader m.world t.device × (e ≡ refused (NotInitialised t.device))) ⊎ DeviceEnds t.device m e n) (headed_ends end read ends)));
     gives = tt;

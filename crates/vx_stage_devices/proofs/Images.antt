@@ -13,7 +13,8 @@ use Rattle.vx_script_words.specs.declared.value.DiskAt.{DiskAt}
 use Rattle.vx_answers.specs.declared.refusal.Refusal.TheVariants.{Exists}
 use Rattle.vx_moments.specs.World.{World, Device}
 use Rattle.vx_moments.specs.Moment.{Moment, AreLater, CallsNone, IsQuiet}
-use Rattle.vx_plans.specs.Stages.{IsDone, fault_of, refused}
+use Rattle.vx_plans.specs.Ends.{fault_of, refused}
+use Rattle.vx_plans.specs.Stages.{IsDone}
 use Rattle.vx_plans.specs.declared.stage.Stage.TheVariants as stage
 use Rattle.vx_house.specs.Goes.{Goes, StageGoes}
 use Rattle.vx_house.specs.Holders.{holders, held_as}

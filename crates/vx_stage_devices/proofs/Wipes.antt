@@ -9,7 +9,7 @@ use Rattle.vx_script_words.specs.declared.value.DiskAt.{DiskAt}
 use Rattle.vx_answers.specs.declared.answer.End.{End}
 use Rattle.vx_moments.specs.World.{Device}
 use Rattle.vx_moments.specs.Moment.{Moment, Counts}
-use Rattle.vx_plans.specs.Stages.{WritesOne, WritesAtMost, IsDone, Stops}
+use Rattle.vx_plans.specs.Stages.{WritesOne, WritesAtMost, IsDone, Stops, Wants}
 use Rattle.vx_plans.specs.declared.stage.Stage.TheVariants as stage
 use Rattle.vx_house.specs.Goes.{Goes, StageGoes}
 use Rattle.vx_house.specs.Holders.{holders, AreHeld}
@@ -131,7 +131,7 @@ module _ {P : Type 0} {ghosts : Ghosts P} (see : P → Seen) (h k : House P ghos
   }
   wipe_stage disks (Err (Ended end)) (torn, ends) = record {
     keeps = keeps_ended see end (at shelf (after h k)) (one_keeps (torn_called torn));
-    goes = goes_ended see (IsDone (stage.Wipe t.device) disks) (Stops (stage.Wipe t.device) disks) end (at shelf h) (at shelf (after h k)) (torn_goes torn end ends disks);
+    goes = goes_ended see (IsDone (stage.Wipe t.device) disks) (Stops (stage.Wipe t.device) disks) (Wants (stage.Wipe t.device)) end (at shelf h) (at shelf (after h k)) (torn_goes torn end ends disks);
     gives = tt;
     still = λ e. tt;
     faults = one_faults (torn_called torn);

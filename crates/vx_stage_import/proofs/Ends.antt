@@ -10,7 +10,7 @@ use Rattle.vx_answers.specs.declared.answer.End.{End}
 use Rattle.vx_answers.specs.declared.answer.End.TheVariants as ends
 use Rattle.vx_answers.specs.declared.refusal.Refusal.TheVariants.{InUse}
 use Rattle.vx_moments.specs.Moment.{Moment, AreLater, Rests}
-use Rattle.vx_plans.specs.Stages.{IsDone, Stops, ImportReads, ImportRefused, GroupStops}
+use Rattle.vx_plans.specs.Stages.{IsDone, Stops, ImportReads, ImportRefused, GroupStops, Wants}
 use Rattle.vx_plans.specs.declared.stage.Stage.TheVariants as stage
 use Rattle.vx_house.specs.Goes.{StageGoes}
 use Rattle.vx_house.specs.Scene.{Shelved, Scene, seen_at, count_in, reads_at, counts_of, IsBlamed}
@@ -62,7 +62,7 @@ module _ {P : Type 0} {ghosts : Ghosts P} (see : P → Seen) (group : Word) (dis
     pub ends_read : (end : End) → ((m : Moment) (is : IsMoment see (at first h) m) → Stops (stage.Import group) disks m end (moment_at m.world after)) → IsBlamed end before after → StageGoes {T = Unit {0}} see (stage.Import group) disks (Err (stops.Ended end)) (at first h) (at new h)
     ends_read end stopped blamed = record {
       keeps = keeps_ended see end (at new h) keeps_read;
-      goes = goes_ended see (IsDone (stage.Import group) disks) (Stops (stage.Import group) disks) end (at first h) (at new h) (λ m is. (moment_at m.world after, read_moment m is, read_later m is, stopped m is));
+      goes = goes_ended see (IsDone (stage.Import group) disks) (Stops (stage.Import group) disks) (Wants (stage.Import group)) end (at first h) (at new h) (λ m is. (moment_at m.world after, read_moment m is, read_later m is, stopped m is));
       gives = tt;
       still = λ e. cc;
       faults = read.reads.faults;

@@ -23,7 +23,8 @@ use Rattle.vx_script_words.specs.declared.value.DiskAt.{DiskAt}
 use Rattle.vx_plans.specs.Finding.{Finds, import_records}
 use Rattle.vx_plans.specs.Refusals.{refusal_from}
 use Rattle.vx_moments.specs.Moment.{Moment}
-use Rattle.vx_plans.specs.Stages.{ImportReads, RefusedAsLong}
+use Rattle.vx_plans.specs.Ends.{RefusedAsLong}
+use Rattle.vx_plans.specs.Stages.{ImportReads}
 use Rattle.vx_plans.specs.declared.stage.Stage.TheVariants as stage
 use Rattle.vx_house.specs.Goes.{StageGoes}
 use Rattle.vx_house.specs.Holders.{holders, held_as, volume_at}

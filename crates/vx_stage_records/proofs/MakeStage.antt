@@ -18,7 +18,8 @@ use Rattle.vx_moments.specs.World.{World, Volume, Group}
 use Rattle.vx_moments.specs.Moment.{Moment}
 use Rattle.vx_moments.specs.Commit.{Writing}
 use Rattle.vx_plans.specs.Making.{adding_refusal, is_started, made}
-use Rattle.vx_plans.specs.Stages.{IsChange, IsMaking, MakingRefused}
+use Rattle.vx_plans.specs.Ends.{IsChange}
+use Rattle.vx_plans.specs.Stages.{IsMaking, MakingRefused}
 use Rattle.vx_plans.specs.declared.stage.Stage.TheVariants as stage
 use Rattle.vx_house.specs.Goes.{StageGoes}
 use Rattle.vx_house.specs.Holders.{holders, volume_at, AreHeld}

@@ -19,7 +19,7 @@ use Rattle.vx_volume.specs.declared.volume.VolumeShape.{VolumeShape}
 use Rattle.vx_volume.specs.Opening.{AreVolumeMasks}
 use Rattle.vx_volume_pieces.specs.Laws.{AreMapsOf}
 use Rattle.vx_volume_pieces.specs.Taken.{is_among}
-use Rattle.vx_volume_form.specs.Plexes.{IsVolOf, is_on, held_plexes, on_plexes, off_plexes, maps_of}
+use Rattle.vx_image.specs.UsedPlexes.{IsVolOf, is_on, held_plexes, on_plexes, off_plexes, maps_of}
 use Rattle.vx_volume_form.specs.Form.{IsShapeOf}
 use Rattle.vx_volume_form.specs.Laws.{HasOn, IsLogFor}
 use Rattle.vx_volume_form.proofs.Distinct.{filtered}

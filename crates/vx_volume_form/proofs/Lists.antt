@@ -16,7 +16,7 @@ use Rattle.vx_objects.specs.Config.{objects_of}
 use Rattle.vx_plexes.specs.Lies.{IsPlexOf}
 use Rattle.vx_plexes.proofs.Members.{IsIn, in_one, plex_in, from_map}
 use Rattle.vx_image.specs.Bytes.{map_or_zero, relation_maps}
-use Rattle.vx_volume_form.specs.Plexes.{IsVolOf, maps_of, held_plexes, used_logs, relation_map}
+use Rattle.vx_image.specs.UsedPlexes.{IsVolOf, maps_of, held_plexes, used_logs, relation_map}
 use Rattle.vx_volume_form.proofs.Distinct.{filtered}
 use Rattle.vx_volume_form.proofs.Rules.{plex_low, relation_low}
 use Rattle.vx_volume_form.proofs.Maps.{in_among, snap_among}

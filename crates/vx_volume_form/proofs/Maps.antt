@@ -18,7 +18,7 @@ use Rattle.vx_objects.specs.Config.{objects_of}
 use Rattle.vx_plexes.proofs.Members.{IsIn, in_any, any_in, from_map, in_map, count_some, count_one, plex_in}
 use Rattle.vx_image.specs.Bytes.{map_or_zero, relation_maps}
 use Rattle.vx_volume_pieces.specs.Taken.{is_among, AreDifferent}
-use Rattle.vx_volume_form.specs.Plexes.{IsVolOf, maps_of}
+use Rattle.vx_image.specs.UsedPlexes.{IsVolOf, maps_of}
 use Rattle.vx_volume_form.proofs.Distinct.{AreDistinct, distinct_by, filtered, distinct_filter}
 use Rattle.vx_volume_form.proofs.Rules.{vol_logs, map_once, plex_fits, plex_low, HasRelation, snap_in, relation_low, relation_prepared, plex_names}
 

@@ -32,7 +32,7 @@ use Rattle.vx_image.proofs.Members.{is_in, contains, into_filter}
 use Rattle.vx_image.specs.Bytes.{is_held, map_or_zero}
 use Rattle.vx_volume_pieces.specs.Taken.{AreDifferent}
 use Rattle.vx_volume_form.specs.declared.form.VolumeForm.{VolumeForm}
-use Rattle.vx_volume_form.specs.Plexes.{IsVolOf, held_plexes, used_logs, is_used_log, is_used_state}
+use Rattle.vx_image.specs.UsedPlexes.{IsVolOf, held_plexes, used_logs, is_used_log, is_used_state}
 use Rattle.vx_volume_form.specs.Form.{IsLayoutOf, AreLayouts, IsFormOf}
 use Rattle.vx_volume_form.specs.Laws.{good_disks, all_layouts, AreFree, AreNumbered, CanBeTaken}
 use Rattle.vx_volume_form.proofs.Distinct.{AreDistinct, distinct_append, distinct_filter, distinct_at, filtered}

@@ -26,7 +26,7 @@ use Rattle.vx_plexes.proofs.Plexes.{config_valid}
 use Rattle.vx_plexes.proofs.Shapes.{holds_its_log}
 use Rattle.vx_image.specs.Bytes.{is_held}
 use Rattle.vx_volume_form.specs.declared.form.VolumeForm.{VolumeForm}
-use Rattle.vx_volume_form.specs.Plexes.{IsVolOf, used_logs, is_used_log, is_used_state}
+use Rattle.vx_image.specs.UsedPlexes.{IsVolOf, used_logs, is_used_log, is_used_state}
 use Rattle.vx_volume_form.specs.Form.{IsLayoutOf, IsFormOf}
 use Rattle.vx_volume_form.specs.Laws.{HasLogs}
 use Rattle.vx_volume_form.proofs.Rules.{vol_logs}

@@ -33,7 +33,7 @@ use Rattle.vx_plexes.proofs.Members.{IsIn, in_right, in_map, one_in, one_named, 
 use Rattle.vx_plexes.proofs.Plexes.{config_valid}
 use Rattle.vx_plexes.proofs.Valid.{one_rule, in_rule}
 use Rattle.vx_image.specs.Bytes.{map_or_zero}
-use Rattle.vx_volume_form.specs.Plexes.{IsVolOf}
+use Rattle.vx_image.specs.UsedPlexes.{IsVolOf}
 use Rattle.vx_volume_form.proofs.Distinct.{AreDistinct, distinct_right, distinct_left, distinct_before, distinct_names}
 
 -- ---- rules

@@ -12,7 +12,7 @@ use Rattle.vx_image.specs.Bytes.{relation_maps}
 use Rattle.vx_volume.specs.declared.volume.VolumeShape.{VolumeShape}
 use Rattle.vx_volume_pieces.specs.Taken.{is_among}
 use Rattle.vx_volume_form.specs.declared.form.VolumeForm.{VolumeForm}
-use Rattle.vx_volume_form.specs.Plexes.{held_plexes, on_plexes, off_plexes, used_logs, maps_of}
+use Rattle.vx_image.specs.UsedPlexes.{held_plexes, on_plexes, off_plexes, used_logs, maps_of}
 
 -- the mask has these maps and no other
 pub record IsMaskOf (maps : List ℕ) (mask : ℕ) : Type 0 where

@@ -18,7 +18,7 @@ use Rattle.vx_volume.specs.Opening.{AreVolumeMasks}
 use Rattle.vx_volume_pieces.specs.Laws.{AreMapsOf}
 use Rattle.vx_volume_pieces.specs.Taken.{AreDifferent}
 use Rattle.vx_volume_form.specs.declared.form.VolumeForm.{VolumeForm}
-use Rattle.vx_volume_form.specs.Plexes.{IsVolOf}
+use Rattle.vx_image.specs.UsedPlexes.{IsVolOf}
 use Rattle.vx_volume_form.specs.Form.{IsFormOf}
 
 -- ---- where the plexes lie

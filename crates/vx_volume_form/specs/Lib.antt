@@ -1,3 +1,2 @@
-pub mod Plexes
 pub mod Form
 pub mod Laws

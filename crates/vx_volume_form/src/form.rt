@@ -2,7 +2,7 @@ ghost use Rattle.std.specs.Prelude.{◌≡◌, IfOk};
 ghost use Rattle.std.specs.List.{All};
 ghost use Rattle.vx_plexes.specs.Lies.{IsPlexOf};
 ghost use Rattle.vx_volume_form.specs.Form.{AreLayouts, IsFormOf};
-ghost use Rattle.vx_volume_form.specs.Plexes.{IsVolOf};
+ghost use Rattle.vx_image.specs.UsedPlexes.{IsVolOf};
 
 use crate::masks::shape_of;
 use crate::plexes::{held_plexes, maps_of, used_logs};

@@ -5,7 +5,7 @@ ghost use Rattle.std.specs.List.{All, filter_map};
 ghost use Rattle.vx_picker.specs.declared.picker.Policy.TheVariants as policy;
 ghost use Rattle.vx_image.specs.Bytes.{relation_maps};
 ghost use Rattle.vx_volume_form.specs.Form.{IsMaskOf, IsShapeOf};
-ghost use Rattle.vx_volume_form.specs.Plexes.{IsVolOf, maps_of, off_plexes, on_plexes, relation_map};
+ghost use Rattle.vx_image.specs.UsedPlexes.{IsVolOf, maps_of, off_plexes, on_plexes, relation_map};
 
 use crate::plexes::{maps_of, off_plexes, on_plexes};
 use std::alloc::{AllocError, Global};

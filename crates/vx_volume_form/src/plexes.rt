@@ -7,7 +7,7 @@ ghost use Rattle.vx_plexes.specs.Lies.{slot_of};
 ghost use Rattle.vx_config_parts.specs.Objects.{is_data_plex_of, is_log_plex_of};
 ghost use Rattle.vx_image.specs.Image.{is_available_state};
 ghost use Rattle.vx_image.specs.Bytes.{is_held, map_or_zero};
-ghost use Rattle.vx_volume_form.specs.Plexes.{held_plexes, is_on, is_used_log, is_used_state, maps_of, off_plexes, on_plexes, used_logs};
+ghost use Rattle.vx_image.specs.UsedPlexes.{held_plexes, is_on, is_used_log, is_used_state, maps_of, off_plexes, on_plexes, used_logs};
 
 use std::alloc::Global;
 use vx_base::OutOfMemory;

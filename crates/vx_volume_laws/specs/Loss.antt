@@ -1,11 +1,10 @@
 -- What a started volume leaves on its disks, when the power goes, or when it is stopped.
 use Rattle.std.specs.Prelude.{◌≡◌, ℕ, ◌<◌, Bool, List, Contains}
 use Rattle.vx_base.specs.Blocks.{Contents}
-use Rattle.vx_life.specs.Candidates.{Candidates, IsChosen}
 use Rattle.vx_life.specs.Life.{Life}
 use Rattle.vx_core.specs.Schedule.{Happening, AllFit, IsFresh, run}
-use Rattle.vx_image.specs.Image.{PlexImage, Image, WasStarted, IsFilled}
-use Rattle.vx_image.specs.Meaning.{IsReadAt, StandsForCandidates, IsMarkedInEach, IsMarkedWithin}
+use Rattle.vx_image.specs.Image.{Image, WasStarted, IsFilled}
+use Rattle.vx_image.specs.Meaning.{ReadsOneList, StandsForCandidates, IsMarkedInEach, IsMarkedWithin}
 use Rattle.vx_image.specs.Soundness.{IsSoundImage, IsSoundPair}
 use Rattle.vx_volume_laws.specs.Regions.{Regions, LeaveImage, IsLifeOf, AllSettled, GoWith}
 
@@ -26,11 +25,6 @@ EachLossStands =
     (v : Image) → LeaveImage (run happenings regions) v → WasStarted v.state →
     (life : Life) → IsLifeOf v.length v.region life (run happenings regions) →
     StandsForLife v life (run happenings regions)
-
--- one list is read: at each block the plexes that are read hold the same, and it is among these candidates
-pub record ReadsOneList (v : Image) (candidates : Candidates) (list : Contents) : Type 0 where
-  pub among : IsChosen v.length candidates list
-  pub reads : (b : ℕ) → b < v.length → (p : PlexImage) → IsReadAt v b p → p.values b ≡ list b
 
 -- A volume that is stopped has all regions settled. Its bytes are sound though it is recorded clean, and one list is read from
 -- them, with each block among the life's candidates.

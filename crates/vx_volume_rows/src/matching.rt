@@ -6,7 +6,7 @@ ghost use Rattle.vx_carve.specs.Carved.{HaveNumbers};
 ghost use Rattle.vx_confdb.specs.Groups.{members};
 ghost use Rattle.vx_copies.specs.Disks.{disk_seen};
 ghost use Rattle.vx_piece.specs.MemPiece.{mem_seen};
-ghost use Rattle.vx_volume_form.specs.Plexes.{IsVolOf};
+ghost use Rattle.vx_image.specs.UsedPlexes.{IsVolOf};
 ghost use Rattle.vx_group_start.specs.GroupDisks.{AreGroupDisks};
 ghost use Rattle.vx_volume_rows.specs.Matching.{is_disk_on};
 

@@ -4,7 +4,7 @@ ghost use Rattle.vx_confdb.specs.Groups.{members};
 ghost use Rattle.vx_copies.specs.Lists.{AllOf};
 ghost use Rattle.vx_piece.specs.MemPiece.{mem_seen};
 ghost use Rattle.vx_fronts.specs.Parted.{AreParted, IsCutShort};
-ghost use Rattle.vx_volume_form.specs.Plexes.{IsVolOf};
+ghost use Rattle.vx_image.specs.UsedPlexes.{IsVolOf};
 ghost use Rattle.vx_group_start.specs.GroupDisks.{AreGroupDisks};
 
 use crate::group::group;

@@ -1,3 +1,4 @@
+use Rattle.std.specs.Prelude.{◌≡◌}
 use Rattle.vx_plans.specs.Steps.{DoesCall}
 use Rattle.vx_house.specs.Scene.{shelved}
 use Rattle.vx_house.proofs.Ends.{whole_kept}
@@ -14,7 +15,7 @@ over-requires-clause-whole g c κs within = whole_kept g.S.P.Piece.seen c.serve_
 
 pub returns-in-Ok : goal.returns-in-Ok
 returns-in-Ok g c = record {
-  goes = λ place. over_ends g.S.P.Piece.seen (DoesCall place c.args.call.now) c.over.result c.from_vec.result c.in-Ok.end _ _ _ c.over.ensures.told c.over.ensures.left c.over.ensures.held_up
+  goes = λ place. over_ends g.S.P.Piece.seen (DoesCall place c.args.call.now) (λ m n. n.world ≡ m.world) c.over.result c.from_vec.result c.in-Ok.end _ _ _ c.over.ensures.told c.over.ensures.left c.over.ensures.held_up
       (λ left. rw (c.from_vec.ensures, c.new.ensures.items)
       (given_over g.S.P.Piece.seen _ c.args.call.now c.requires.valid c.args.house.now c.serve_any.new.house place c.in-Ok.end _
       (given _ c.args.house.now c.args.call.now c.requires.valid c.requires.keeps g.met.S.Shelf.pieces_tell place c.in-Ok.end c.serve_any.new.house c.in-Ok.ensures.serves) left));

@@ -27,7 +27,7 @@ returns-in-Err g c =
     let split = split_stages c.args.stages.now i c.stage-item.result (take_more c.args.stages.now i c.stage-item.result c.loop-stage-test.true ∙ ap (λ x. take i c.args.stages.now ++ x ∷ []) (sym c.stage-item.is)) in
     record {
       go = subst (λ ss. StagesGo g.S.P.Piece.seen c.args.disks.now ss (Err c.in-Err.stop) (at (shelved g.S.Shelf.free g.S.Shelf.held g.S.Shelf.counted g.S.Shelf.faults c.args.shelf.now) c.args.house.now) (at (shelved g.S.Shelf.free g.S.Shelf.held g.S.Shelf.counted g.S.Shelf.faults c.run_stage.new.shelf) c.run_stage.new.house)) (sym split)
-          (run_stops g.S.P.Piece.seen c.args.disks.now (take i c.args.stages.now) c.stage-item.result (drop (i + 1) c.args.stages.now) c.in-Err.stop _ _ _ c.loop-stage.invariant.run (front_kept c.args.stages.now i c.stage-item.result split c.requires.ordered.0 c.requires.ordered.1) c.in-Err.ensures.goes);
+          (run_stops g.S.P.Piece.seen c.args.disks.now (take i c.args.stages.now) c.stage-item.result (drop (i + 1) c.args.stages.now) c.in-Err.stop _ _ _ c.loop-stage.invariant.run c.in-Err.ensures.goes);
     }
 
 pub loop-stage-preserved : goal.loop-stage-preserved

@@ -10,6 +10,6 @@ returns-in-Ok g c = record { goes = group_let_go g.S.P.Piece.seen c.args.disks.n
 
 pub returns-in-Err : goal.returns-in-Err
 returns-in-Err g c = record {
-  goes = subst (λ s. HasRested g.S.P.Piece.seen (at (shelved g.S.Shelf.free g.S.Shelf.held g.S.Shelf.counted g.S.Shelf.faults c.args.shelf.now) c.args.house.now) (at (shelved g.S.Shelf.free g.S.Shelf.held g.S.Shelf.counted g.S.Shelf.faults s) c.give_group.new.house)) (sym c.in-Err.ensures.shelf)
+  goes = subst (λ s. HasRested g.S.P.Piece.seen (λ m n. n.world ≡ m.world) (at (shelved g.S.Shelf.free g.S.Shelf.held g.S.Shelf.counted g.S.Shelf.faults c.args.shelf.now) c.args.house.now) (at (shelved g.S.Shelf.free g.S.Shelf.held g.S.Shelf.counted g.S.Shelf.faults s) c.give_group.new.house)) (sym c.in-Err.ensures.shelf)
       (group_stays g.S.P.Piece.seen (shelved g.S.Shelf.free g.S.Shelf.held g.S.Shelf.counted g.S.Shelf.faults c.args.shelf.now) c.args.house.now c.give_group.new.house c.args.disks.now c.requires.ready c.requires.keeps c.in-Err.ensures.kept);
 }

@@ -1,14 +1,19 @@
 -- The log is made, and the volume opened over it.
+use Rattle.std.proofs.Common.{List}
 use Rattle.std.proofs.lemmas.Result.{IfErr-weaker, IfOk-weaker, on_err_weaker}
+use Rattle.vx_piece.specs.Seen.{Seen}
 use Rattle.vx_maps.specs.Spares.{copies_seen}
 use Rattle.vx_volume.specs.Log.{log_seen}
 use Rattle.vx_volume.specs.Opening.{regions_seen}
 use Rattle.vx_volume_pieces.specs.Pieces.{all_pieces}
 use Rattle.vx_lending.specs.Left.{left_copies}
-use Rattle.vx_lending.specs.Logs.{log_pieces}
+use Rattle.vx_lending.specs.Logs.{log_copies, log_pieces}
 use Rattle.vx_lending.specs.Pieces.{copy_pieces}
+use Rattle.vx_lending.specs.Taken.{slot_of}
+use Rattle.vx_lending.proofs.LogShapes.{none_empty}
 use Rattle.vx_running.specs.Public.{still_pieces}
 use Rattle.vx_group_start.proofs.Fits.{log_over}
+use Rattle.vx_group_start.proofs.Together.{come_back}
 use Rattle.vx_group_start.proofs.Unstarted.{gone, no_log, not_opened}
 use Rattle.vx_group_start.proofs.opening.open_taken.Goals as goal
 
@@ -42,3 +47,17 @@ pub returns-in-Err-clause-back : goal.returns-in-Err-clause-back
 returns-in-Err-clause-back g c =
     gone (all_pieces (regions_seen g.P.Piece.seen c.args.pieces.regions.items)) (copy_pieces (copies_seen g.P.Piece.seen c.args.pieces.copies.items)) (copy_pieces (left_copies g.P.Piece.seen c.in-Err.refused.left)) (still_pieces g.P.Piece.seen c.args.public.now) (still_pieces g.P.Piece.seen c.put_back.new.public)
     c.in-Err.ensures.back c.put_back.ensures.still
+
+pub returns-in-Ok-clause-comes_back : goal.returns-in-Ok-clause-comes_back
+returns-in-Ok-clause-comes_back g c =
+    let copies : List (List Seen) = copies_seen g.P.Piece.seen c.args.pieces.copies.items in
+    on_err_weaker c.open_over.result
+    (λ same. come_back (regions_seen g.P.Piece.seen c.args.pieces.regions.items) copies (log_copies g.P.Piece.seen c.in-Ok.log) (still_pieces g.P.Piece.seen c.args.public.now) (still_pieces g.P.Piece.seen c.open_over.new.public)
+    (none_empty (slot_of c.args.form.shape.geometry) copies c.requires.copies) c.in-Ok.ensures.cut same)
+    c.open_over.ensures.back
+
+pub returns-in-Err-clause-comes_back : goal.returns-in-Err-clause-comes_back
+returns-in-Err-clause-comes_back g c =
+    let copies : List (List Seen) = copies_seen g.P.Piece.seen c.args.pieces.copies.items in
+    come_back (regions_seen g.P.Piece.seen c.args.pieces.regions.items) copies (left_copies g.P.Piece.seen c.in-Err.refused.left) (still_pieces g.P.Piece.seen c.args.public.now) (still_pieces g.P.Piece.seen c.put_back.new.public)
+    (none_empty (slot_of c.args.form.shape.geometry) copies c.requires.copies) c.in-Err.ensures.cut_back c.put_back.ensures.still

@@ -1,15 +1,18 @@
 -- The form is that of the configuration, and the volume is opened with it.
-use Rattle.std.proofs.Common.{◌≡◌, refl, ap, subst, inr, map, ◌++◌}
+use Rattle.std.proofs.Common.{◌≡◌, refl, ap, subst, inr, List, map, ◌++◌}
 use Rattle.std.specs.List.{flat_map}
-use Rattle.std.proofs.lemmas.Result.{IfErr-weaker, IfOk-weaker}
+use Rattle.std.proofs.lemmas.Result.{IfErr-weaker, IfOk-weaker, on_err_weaker}
+use Rattle.vx_piece.specs.Seen.{Seen}
 use Rattle.vx_volume_form.specs.Form.{IsFormOf}
 use Rattle.vx_volume_form.proofs.Places.{can_be_taken}
 use Rattle.vx_volume_form.proofs.Rooms.{logs_are}
+use Rattle.vx_lending.specs.Left.{held_pieces}
 use Rattle.vx_running.specs.Public.{remaining_pieces, still_pieces}
 use Rattle.vx_group_start.specs.Fresh.{is_fresh}
+use Rattle.vx_group_start.specs.Together.{GoByLog}
 use Rattle.vx_group_start.proofs.Early.{early}
 use Rattle.vx_group_start.proofs.Forms.{logged, no_logs, openable, roomy}
-use Rattle.vx_group_start.proofs.Same.{not_started_from, started_from}
+use Rattle.vx_group_start.proofs.Same.{come_from, not_started_from, started_from}
 use Rattle.vx_group_start.proofs.Untouched.{never_unread}
 use Rattle.vx_group_start.proofs.opening.open_volume.Goals as goal
 
@@ -57,3 +60,18 @@ returns-in-None-clause-untouched g c fresh r same =
 
 pub returns-in-Some-clause-untouched : goal.returns-in-Some-clause-untouched
 returns-in-Some-clause-untouched g c fresh r same = ap (λ xs. map g.P.Piece.seen c.args.public.now.pool.items.items ++ flat_map (remaining_pieces g.P.Piece.seen) xs) c.reserve.ensures.items
+
+pub returns-in-None-clause-goes : goal.returns-in-None-clause-goes
+returns-in-None-clause-goes g c =
+    let still : still_pieces g.P.Piece.seen (record c.args.public.now { left = c.reserve.new.self }) ≡ still_pieces g.P.Piece.seen c.args.public.now = ap (λ xs. map g.P.Piece.seen c.args.public.now.pool.items.items ++ flat_map (remaining_pieces g.P.Piece.seen) xs) c.reserve.ensures.items in
+    IfOk-weaker c.open_form.result _ _
+    (λ running go. subst (λ (xs : List Seen). GoByLog c.args.numbers.now running.form xs (held_pieces g.P.Piece.seen running.volume ++ still_pieces g.P.Piece.seen c.open_form.new.public)) still go)
+    c.open_form.ensures.goes
+
+pub returns-in-None-clause-comes_back : goal.returns-in-None-clause-comes_back
+returns-in-None-clause-comes_back g c =
+    let is : IsFormOf c.args.config.now c.args.good c.args.vol.now (is_fresh c.args.vol.now.state) c.in-Ok.form = subst (λ b. IsFormOf c.args.config.now c.args.good c.args.vol.now b c.in-Ok.form) c.is_fresh.ensures c.in-Ok.ensures in
+    let still : still_pieces g.P.Piece.seen (record c.args.public.now { left = c.reserve.new.self }) ≡ still_pieces g.P.Piece.seen c.args.public.now = ap (λ xs. map g.P.Piece.seen c.args.public.now.pool.items.items ++ flat_map (remaining_pieces g.P.Piece.seen) xs) c.reserve.ensures.items in
+    on_err_weaker c.open_form.result
+    (λ come. come_from c.args.config.now c.args.good c.args.vol.now c.args.numbers.now c.in-Ok.form (still_pieces g.P.Piece.seen c.args.public.now) (still_pieces g.P.Piece.seen (record c.args.public.now { left = c.reserve.new.self })) (still_pieces g.P.Piece.seen c.open_form.new.public) is still come)
+    c.open_form.ensures.comes_back

@@ -1,13 +1,13 @@
 use Rattle.std.proofs.Common.{Bool}
 use Rattle.std.proofs.lemmas.Result.{err_from_is_err_and, on_err_weaker}
-use Rattle.vx_plans.specs.Steps.{Does}
+use Rattle.vx_plans.specs.Steps.{Does, LeavesOff}
 use Rattle.vx_serve.proofs.Runs.{both_ok, not_sink, on_short, one_run, one_partly, served_left, unserved_left, unserved_partly}
 use Rattle.vx_serve.proofs.lines.one_line.Goals as goal
 
 pub returns-in_err-answer-clause-keeps : goal.returns-in_err-answer-clause-keeps
 returns-in_err-answer-clause-keeps g c =
     let p = err_from_is_err_and c.from_residual.result c.from_residual.ensures.1 in
-    rw (p.1, p.2) (unserved_left g.S.P.Piece.seen Bool c.in_err-answer.field-0.0 (Does 0 c.args.command.now) _ _ (c.in_err-answer.ensures.goes 0))
+    rw (p.1, p.2) (unserved_left g.S.P.Piece.seen Bool c.in_err-answer.field-0.0 (Does 0 c.args.command.now) (LeavesOff c.args.command.now) _ _ (c.in_err-answer.ensures.goes 0))
 
 pub returns-in_err-answer-clause-partly : goal.returns-in_err-answer-clause-partly
 returns-in_err-answer-clause-partly g c =

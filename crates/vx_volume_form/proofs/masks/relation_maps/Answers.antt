@@ -1,6 +1,6 @@
 use Rattle.std.proofs.Common.{◌∙◌, ap}
 use Rattle.std.specs.List.{filter_map}
-use Rattle.vx_volume_form.specs.Plexes.{relation_map}
+use Rattle.vx_image.specs.UsedPlexes.{relation_map}
 use Rattle.vx_volume_form.proofs.Lists.{relations_are}
 use Rattle.vx_volume_form.proofs.masks.relation_maps.Goals as goal
 

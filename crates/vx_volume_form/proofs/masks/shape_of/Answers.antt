@@ -1,6 +1,6 @@
 use Rattle.std.proofs.Common.{◌∙◌, ◌<◌, not, ap}
 use Rattle.std.proofs.lemmas.List.Elements.{All-same}
-use Rattle.vx_volume_form.specs.Plexes.{is_on, maps_of}
+use Rattle.vx_image.specs.UsedPlexes.{is_on, maps_of}
 use Rattle.vx_volume_form.proofs.Lists.{plexes_below, relations_below}
 use Rattle.vx_volume_form.proofs.masks.shape_of.Goals as goal
 

@@ -1,5 +1,5 @@
 -- A command of a plan that is done: each of its stages was, and what went well as a whole went well in each.
-use Rattle.std.proofs.Common.{◌≡◌, ℕ, ◌≤◌, Bool, true, false, List, [], ◌∷◌, ◌++◌, Option, Some, MatchOption, refl, sym, ◌∙◌, ap, subst, inl, inr, arith}
+use Rattle.std.proofs.Common.{◌≡◌, ℕ, ◌≤◌, Bool, true, false, List, [], ◌∷◌, ◌++◌, Option, Some, None, MatchBool, MatchOption, refl, sym, ◌∙◌, ap, subst, inl, inr, arith}
 use Rattle.std.specs.Prelude.{IsTrue}
 use Rattle.vx_base.specs.Named.{Word}
 use Rattle.vx_script_words.specs.declared.value.DiskAt.{DiskAt}
@@ -20,6 +20,11 @@ use Rattle.vx_plans.specs.Stages.{IsDone, Stops, DeviceEnds, edits_of, IsJoining
 use Rattle.vx_objects.specs.declared.edit.Edit.{Edit}
 use Rattle.vx_answers.specs.declared.refusal.Refusal.TheVariants as refusal
 use Rattle.vx_moments.specs.World.{World, Group}
+use Rattle.vx_config_parts.specs.declared.vol.Vol.{Vol}
+use Rattle.vx_plans.specs.Starting.{CopyEnds, StopsIn, StopsOf, may_start, regions_copied}
+use Rattle.vx_plans.specs.Stopping.{StopStops}
+use Rattle.vx_plans.specs.Tests.{volume_in}
+use Rattle.vx_plans.specs.Touching.{PassHasCause}
 use Rattle.vx_plans.specs.Steps.{Runs, Serves, Step, Leaves, DoesForm, IsNotBuilt, done}
 use Rattle.vx_plans.specs.declared.stages.Finish.{Finish}
 use Rattle.vx_plans.specs.declared.stages.Finish.TheVariants.{Nothing}
@@ -31,10 +36,17 @@ use Rattle.vx_laws.specs.Returning.{IsOf, is_done}
 
 -- ---- a stage that ends the command
 
--- the command is not done
+-- the command is not done, or tells how many regions it has copied
 abbrev IsNotDone : End → Type 0
-IsNotDone (ends.Done copied parts blocks) = ⊥
+IsNotDone (ends.Done None parts blocks) = ⊥
+IsNotDone (ends.Done (Some copied) parts blocks) = Unit {0}
 IsNotDone other = Unit {0}
+
+-- the stage starts or stops a volume of the group
+abbrev pub runs_volume : Stage → Bool
+runs_volume (stage.Start vol) = true
+runs_volume (stage.Stop vol) = true
+runs_volume other = false
 
 -- the command is not done, and starts and ends no volume
 pub record HasStopped (old : Moment) (end : End) (new : Moment) : Type 0 where
@@ -78,40 +90,103 @@ module _ (old new : Moment) (end : End) where
   editing edits IsWriting (inr (inl ((g, here, inr (config, edited, (text, printed, long, is))), rests))) = denied _ (is, rests)
   editing edits IsWriting (inr (inr (x, writing, stopped))) = stopping x old refl stopped
 
-  pub has_stopped : (s : Stage) (disks : List DiskAt) → Stops s disks old end new → HasStopped old end new
-  has_stopped (stage.Gate test) disks (r, fails, is, same) = ended (ends.Refused r) tt is (ap (λ (m : Moment). m.world.volumes) same)
-  has_stopped (stage.Take name) disks stops = taking [] (name ∷ []) stops
-  has_stopped stage.TakeDisks disks stops = taking [] (devices_of disks) stops
-  has_stopped (stage.LookBlank name) disks (reads, looks) = looking (name ∷ []) reads.0 looks
-  has_stopped stage.LookDisks disks (reads, looks) = looking (devices_of disks) reads.0 looks
-  has_stopped (stage.LookHeaded name) disks (reads, inl (blank, is)) = ended (ends.Refused (refusal.NotInitialised name)) tt is (volumes_of old.world new.world reads.0)
-  has_stopped (stage.LookHeaded name) disks (reads, inr fails) = at_hand name (volumes_of old.world new.world reads.0) fails
-  has_stopped (stage.Search dg) disks (reads, inl (name, free, inl (names, is))) = ended (ends.Refused (refusal.Exists dg)) tt is (volumes_of old.world new.world reads.0)
-  has_stopped (stage.Search dg) disks (reads, inl (name, free, inr (inl (is, failed)))) = ended (fault_of name) tt is (volumes_of old.world new.world reads.0)
-  has_stopped (stage.Search dg) disks (reads, inl (name, free, inr (inr (is, cut)))) = ended lost tt is (volumes_of old.world new.world reads.0)
-  has_stopped (stage.Search dg) disks (reads, inr (is, shelf)) = ended ends.ShelfFailed tt is (volumes_of old.world new.world reads.0)
-  has_stopped (stage.MakeImage name sectors) disks (inl (some, ends)) = denied _ ends
-  has_stopped (stage.MakeImage name sectors) disks (inr (same, none, is, shelf)) = ended (fault_of name) tt is (volumes_of old.world new.world same)
-  has_stopped (stage.Wipe name) disks (has, calls, ends) = at_hand name (ap (λ (w : World). w.volumes) has.is) ends
-  has_stopped (stage.StartBare vol name) disks (is, ends) = denied _ ends
-  has_stopped (stage.Change change) disks stops = editing (λ g. edits_of change (Some g)) (λ x. IsChange (edits_of change old.world.group) old.world x) stops
-  has_stopped (stage.Make text) disks (inl (none, ends)) = denied _ ends
-  has_stopped (stage.Make text) disks (inr (inl ((g, here, inl (line, bad, is)), rests))) = denied _ (is, rests)
-  has_stopped (stage.Make text) disks (inr (inl ((g, here, inr (added, adds, inl (r, e, is))), rests))) = denied r (is, rests)
-  has_stopped (stage.Make text) disks (inr (inl ((g, here, inr (added, adds, inr (fine, inl (r, e, is)))), rests))) = denied r (is, rests)
-  has_stopped (stage.Make text) disks (inr (inl ((g, here, inr (added, adds, inr (fine, inr (config, edited, (printed, text_is, long, is))))), rests))) = denied _ (is, rests)
-  has_stopped (stage.Make text) disks (inr (inr (x, making, stopped))) = stopping x old refl stopped
-  has_stopped stage.Join [] stops = absurd stops
-  has_stopped stage.Join (p ∷ q ∷ ps) stops = absurd stops
-  has_stopped stage.Join (p ∷ []) stops = editing (λ g. joining_edit p old.world g ∷ []) (λ x. IsJoining p old.world x) stops
-  has_stopped (stage.Create dg) disks (inl (g, here, ends)) = denied _ ends
-  has_stopped (stage.Create dg) disks (inr (x, writing, stopped)) = stopping x old refl stopped
-  has_stopped (stage.Import dg) disks (inl (g, here, ends)) = denied _ ends
-  has_stopped (stage.Import dg) disks (inr (inl (reads, inl turned))) = ended (ends.Refused turned.why) tt turned.end_is (volumes_of old.world new.world reads.0)
-  has_stopped (stage.Import dg) disks (inr (inl (reads, inr (inl (is, shelf))))) = ended ends.ShelfFailed tt is (volumes_of old.world new.world reads.0)
-  has_stopped (stage.Import dg) disks (inr (inl (reads, inr (inr (is, cut))))) = ended lost tt is (volumes_of old.world new.world reads.0)
-  has_stopped (stage.Import dg) disks (inr (inr (mid, between, (x, writing, stopped)))) = stopping x mid between.world stopped
-  has_stopped stage.LetGo disks stops = absurd stops
+  pub has_stopped : (s : Stage) (disks : List DiskAt) → runs_volume s ≡ false → Stops s disks old end new → HasStopped old end new
+  has_stopped (stage.Gate test) disks other (r, fails, is, same) = ended (ends.Refused r) tt is (ap (λ (m : Moment). m.world.volumes) same)
+  has_stopped (stage.Take name) disks other stops = taking [] (name ∷ []) stops
+  has_stopped stage.TakeDisks disks other stops = taking [] (devices_of disks) stops
+  has_stopped (stage.LookBlank name) disks other (reads, looks) = looking (name ∷ []) reads.0 looks
+  has_stopped stage.LookDisks disks other (reads, looks) = looking (devices_of disks) reads.0 looks
+  has_stopped (stage.LookHeaded name) disks other (reads, inl (blank, is)) = ended (ends.Refused (refusal.NotInitialised name)) tt is (volumes_of old.world new.world reads.0)
+  has_stopped (stage.LookHeaded name) disks other (reads, inr fails) = at_hand name (volumes_of old.world new.world reads.0) fails
+  has_stopped (stage.Search dg) disks other (reads, inl (name, free, inl (names, is))) = ended (ends.Refused (refusal.Exists dg)) tt is (volumes_of old.world new.world reads.0)
+  has_stopped (stage.Search dg) disks other (reads, inl (name, free, inr (inl (is, failed)))) = ended (fault_of name) tt is (volumes_of old.world new.world reads.0)
+  has_stopped (stage.Search dg) disks other (reads, inl (name, free, inr (inr (is, cut)))) = ended lost tt is (volumes_of old.world new.world reads.0)
+  has_stopped (stage.Search dg) disks other (reads, inr (is, shelf)) = ended ends.ShelfFailed tt is (volumes_of old.world new.world reads.0)
+  has_stopped (stage.MakeImage name sectors) disks other (inl (some, ends)) = denied _ ends
+  has_stopped (stage.MakeImage name sectors) disks other (inr (same, none, is, shelf)) = ended (fault_of name) tt is (volumes_of old.world new.world same)
+  has_stopped (stage.Wipe name) disks other (has, calls, ends) = at_hand name (ap (λ (w : World). w.volumes) has.is) ends
+  has_stopped (stage.StartBare vol name) disks other (is, ends) = denied _ ends
+  has_stopped (stage.Change change) disks other stops = editing (λ g. edits_of change (Some g)) (λ x. IsChange (edits_of change old.world.group) old.world x) stops
+  has_stopped (stage.Make text) disks other (inl (none, ends)) = denied _ ends
+  has_stopped (stage.Make text) disks other (inr (inl ((g, here, inl (line, bad, is)), rests))) = denied _ (is, rests)
+  has_stopped (stage.Make text) disks other (inr (inl ((g, here, inr (added, adds, inl (r, e, is))), rests))) = denied r (is, rests)
+  has_stopped (stage.Make text) disks other (inr (inl ((g, here, inr (added, adds, inr (fine, inl (r, e, is)))), rests))) = denied r (is, rests)
+  has_stopped (stage.Make text) disks other (inr (inl ((g, here, inr (added, adds, inr (fine, inr (config, edited, (printed, text_is, long, is))))), rests))) = denied _ (is, rests)
+  has_stopped (stage.Make text) disks other (inr (inr (x, making, stopped))) = stopping x old refl stopped
+  has_stopped stage.Join [] other stops = absurd stops
+  has_stopped stage.Join (p ∷ q ∷ ps) other stops = absurd stops
+  has_stopped stage.Join (p ∷ []) other stops = editing (λ g. joining_edit p old.world g ∷ []) (λ x. IsJoining p old.world x) stops
+  has_stopped (stage.Create dg) disks other (inl (g, here, ends)) = denied _ ends
+  has_stopped (stage.Create dg) disks other (inr (x, writing, stopped)) = stopping x old refl stopped
+  has_stopped (stage.Import dg) disks other (inl (g, here, ends)) = denied _ ends
+  has_stopped (stage.Import dg) disks other (inr (inl (reads, inl turned))) = ended (ends.Refused turned.why) tt turned.end_is (volumes_of old.world new.world reads.0)
+  has_stopped (stage.Import dg) disks other (inr (inl (reads, inr (inl (is, shelf))))) = ended ends.ShelfFailed tt is (volumes_of old.world new.world reads.0)
+  has_stopped (stage.Import dg) disks other (inr (inl (reads, inr (inr (is, cut))))) = ended lost tt is (volumes_of old.world new.world reads.0)
+  has_stopped (stage.Import dg) disks other (inr (inr (mid, between, (x, writing, stopped)))) = stopping x mid between.world stopped
+  has_stopped stage.LetGo disks other stops = absurd stops
+  has_stopped (stage.Start vol) disks other stops = cc
+  has_stopped (stage.Stop vol) disks other stops = cc
+
+  -- ---- a start and a stop
+
+  told : (e : End) → IsNotDone e → end ≡ e → IsNotDone end
+  told e other is = subst IsNotDone (sym is) other
+
+  committing : (x : Writing) (from : Moment) → IsStopped x from end new → IsNotDone end
+  committing x from stopped = elim stopped.ends [ inl l ↦ told ends.GroupLost tt l.0 | inr r ↦ told lost tt r.0 ]
+
+  passing : (g : Group) (vol : Word) (from : Moment) (e : End) → PassHasCause g vol from.counts new.counts e → IsNotDone e
+  passing g vol from (ends.Done copied parts blocks) cause = absurd cause
+  passing g vol from (ends.Fault told device parts) cause = tt
+  passing g vol from (ends.Lost parts) cause = tt
+  passing g vol from (ends.Refused r) cause = tt
+  passing g vol from ends.ShelfFailed cause = tt
+  passing g vol from ends.GroupLost cause = tt
+
+  copying : (g now : Group) (v : Vol) (from : Moment) (e : End) → CopyEnds g now v from.counts new.counts e → IsNotDone e
+  copying g now v from (ends.Done None parts blocks) tells = let no : None ≡ Some (regions_copied g v) = tells.0 in cc
+  copying g now v from (ends.Done (Some copied) parts blocks) tells = tt
+  copying g now v from (ends.Fault told device parts) tells = tt
+  copying g now v from (ends.Lost parts) tells = tt
+  copying g now v from (ends.Refused r) tells = tt
+  copying g now v from ends.ShelfFailed tells = tt
+  copying g now v from ends.GroupLost tells = tt
+
+  start_of : (g : Group) (v : Vol) → StopsOf g v old end new → IsNotDone end
+  start_of g v (inl (inl (r, e, is), rests)) = told (ends.Refused r) tt is
+  start_of g v (inl (inr (none, next, edited, (text, printed, long, is)), rests)) = told (ends.Refused _) tt is
+  start_of g v (inr (inl stops)) = elim stops.cause [
+    | inl unread ↦ told (ends.Refused (refusal.NoLog v.name)) tt unread.0
+    | inr (inl (region, is, filled, missed)) ↦ told (ends.Refused (refusal.NoCurrent region)) tt is
+    | inr (inr (inl (disk, device, is, fails))) ↦ told (ends.Fault disk device []) tt is
+    | inr (inr (inr (is, cut))) ↦ told lost tt is
+  ]
+  start_of g v (inr (inr (inl c))) = committing c.stops.0 c.opened c.stops.2
+  start_of g v (inr (inr (inr a))) = copying g a.copied.group v a.begun end a.copied.ends
+
+  start_by : (g : Group) (v : Vol) (may : Bool) → MatchBool may (StopsOf g v old end new) (EndsIn (refusal.VolState v.state) old end new) → IsNotDone end
+  start_by g v true stops = start_of g v stops
+  start_by g v false ends = (denied _ ends).not_done
+
+  start_in : (g : Group) (name : Word) (o : Option Vol) → MatchOption o (EndsIn (refusal.NoObject name) old end new) (λ v. MatchBool (may_start v.state) (StopsOf g v old end new) (EndsIn (refusal.VolState v.state) old end new)) → IsNotDone end
+  start_in g name None ends = (denied _ ends).not_done
+  start_in g name (Some v) stops = start_by g v (may_start v.state) stops
+
+  start_stops : (name : Word) (o : Option Group) → MatchOption o (EndsIn (refusal.NoGroup None) old end new) (λ g. StopsIn g name old end new) → IsNotDone end
+  start_stops name None ends = (denied _ ends).not_done
+  start_stops name (Some g) stops = start_in g name (volume_in name g.config.volumes) stops
+
+  stop_stops : (name : Word) → StopStops name old end new → IsNotDone end
+  stop_stops name (inl (inl (r, e, is), rests)) = told (ends.Refused r) tt is
+  stop_stops name (inl (inr (g, here, none, (v, found, (next, edited, (text, printed, long, is)))), rests)) = told (ends.Refused _) tt is
+  stop_stops name (inr (inl r)) = passing r.rest.group name old end r.cause
+  stop_stops name (inr (inr b)) = committing b.writing b.mid b.stopped
+
+  -- a stage that ends the command has not done it, but that a start tells of its regions
+  not_done : (s : Stage) (disks : List DiskAt) → Stops s disks old end new → IsNotDone end
+  not_done (stage.Start vol) disks stops = start_stops vol old.world.group stops
+  not_done (stage.Stop vol) disks stops = stop_stops vol stops
+  not_done other disks stops = (has_stopped other disks refl stops).not_done
 
 -- ---- the stages of a command that is done
 
@@ -123,14 +198,14 @@ AllDone disks (s ∷ ss) old new = (mid : Moment) × WentWell old new × IsDone 
 all_done : (disks : List DiskAt) (stages : List Stage) (finish : Finish) (old : Moment) (views : List View) (end : End) (new : Moment) → Runs disks stages finish old views end new → end ≡ done → WentWell old new → AllDone disks stages old new
 all_done disks [] finish old views end new (shows, is, same) over well = same
 all_done disks (s ∷ ss) finish old views end new (inl (mid, later, is, rest)) over well = (mid, well, is, all_done disks ss finish mid views end new rest over (well_after old mid new later (runs_later disks ss finish mid views end new rest) well))
-all_done disks (s ∷ ss) finish old views end new (inr (none, later, stops)) over well = absurd (subst IsNotDone over (has_stopped old new end s disks stops).not_done)
+all_done disks (s ∷ ss) finish old views end new (inr (none, later, stops)) over well = absurd (subst IsNotDone over (not_done old new end s disks stops))
 
 same_moment : (a b : Moment) → a.world ≡ b.world → a.counts ≡ b.counts → a ≡ b
 same_moment a b worlds counts = λ i. record { world = worlds i; counts = counts i }
 
 -- a command that is done leaves the moment at which it was over
 pub left_so : (Does : Moment → List View → End → Moment → Type 0) (old : Moment) (answer : Answer) (new : Moment) (s : Serves Does old answer new) → s.end ≡ done → new ≡ s.over
-left_so Does old answer new s is = same_moment new s.over (subst (λ (e : End). Leaves e old.world s.over.world new.world) is s.leaves) s.counts
+left_so Does old answer new s is = same_moment new s.over (subst (λ (e : End). Leaves e s.over.world new.world) is s.leaves) s.counts
 
 pub stages_done : (disks : List DiskAt) (stages : List Stage) (old new : Moment) → Serves (Runs disks stages Nothing) old is_done new → WentWell old new → AllDone disks stages old new
 stages_done disks stages old new s well =

@@ -5,10 +5,15 @@ use Rattle.vx_base.specs.Named.{Word}
 use Rattle.vx_life.specs.Candidates.{Candidates, known}
 use Rattle.vx_life.specs.Entry.{Entry, candidates_of, IsHistory}
 use Rattle.vx_life.specs.Life.{Life}
+use Rattle.vx_config_parts.specs.declared.vol.Vol.{Vol}
+use Rattle.vx_image.specs.Meaning.{candidates_read}
 use Rattle.vx_script.specs.declared.command.Command.{Command}
 use Rattle.vx_answers.specs.declared.answer.Answer.{Answer}
-use Rattle.vx_moments.specs.World.{World, Volume, Lies, OnDevice, OnPlexes}
+use Rattle.vx_moments.specs.World.{Group, World, Volume, Lies, OnDevice, OnPlexes}
 use Rattle.vx_moments.specs.Moment.{Moment}
+use Rattle.vx_group_images.specs.Group.{image_on}
+use Rattle.vx_plans.specs.Starting.{may_start}
+use Rattle.vx_plans.specs.Tests.{volume_in}
 use Rattle.vx_plans.specs.Steps.{IsTranscript}
 
 -- the numbers of the region's entries, the newest first, are n down to 1
@@ -34,23 +39,42 @@ pub record WasThere (place : ℕ) (old : Moment) (commands : List Command) (answ
   pub transcript : IsTranscript place old before told moment
   pub here : moment.world.devices name ≡ Some (record { sectors = sectors; contents = blocks })
 
+-- before some command of the transcript a group was imported that recorded a volume of this name and size, in a state from which it can be
+-- started, and these candidates are read from the bytes that it had then
+pub record WasRead (place : ℕ) (old : Moment) (commands : List Command) (answers : List Answer) (name : Word) (sectors : ℕ) (first : Candidates) : Type 0 where
+  pub before : List Command
+  pub others : List Command
+  pub commands_are : commands ≡ before ++ others
+  pub told : List Answer
+  pub later : List Answer
+  pub answers_are : answers ≡ told ++ later
+  pub moment : Moment
+  pub transcript : IsTranscript place old before told moment
+  pub group : Group
+  pub imported : moment.world.group ≡ Some group
+  pub of : Vol
+  pub recorded : volume_in name group.config.volumes ≡ Some of
+  pub size : of.len ≡ sectors
+  pub state : may_start of.state ≡ true
+  pub candidates : first ≡ candidates_read (image_on moment.world.devices group of)
+
 -- A volume on a device has a history from blocks that the device held. One on plexes of the group has one where its bytes were sound as
--- it began.
-abbrev pub IsHistoriedOn : (Word → ℕ → Contents → Type 0) → Lies → Volume → Type 0
-IsHistoriedOn Held (OnDevice name) v = (first : Contents) × Held name v.length first × HasHistory (known first) v.life
-IsHistoriedOn Held (OnPlexes plexes) v = v.sound ≡ true → (first : Candidates) × HasHistory first v.life
+-- it began, from the candidates that they were read as.
+abbrev pub IsHistoriedOn : (Word → ℕ → Contents → Type 0) → (Word → ℕ → Candidates → Type 0) → Word → Lies → Volume → Type 0
+IsHistoriedOn Held Read vol (OnDevice name) v = (first : Contents) × Held name v.length first × HasHistory (known first) v.life
+IsHistoriedOn Held Read vol (OnPlexes plexes) v = v.sound ≡ true → (first : Candidates) × Read vol v.length first × HasHistory first v.life
 
 -- by where it lies
-abbrev pub IsHistoried : (Word → ℕ → Contents → Type 0) → Volume → Type 0
-IsHistoried Held v = IsHistoriedOn Held v.lies v
+abbrev pub IsHistoried : (Word → ℕ → Contents → Type 0) → (Word → ℕ → Candidates → Type 0) → Word → Volume → Type 0
+IsHistoried Held Read vol v = IsHistoriedOn Held Read vol v.lies v
 
 -- each started volume has a history
-abbrev pub HaveHistories : (Word → ℕ → Contents → Type 0) → World → Type 0
-HaveHistories Held w = (vol : Word) (v : Volume) → w.volumes vol ≡ Some v → IsHistoried Held v
+abbrev pub HaveHistories : (Word → ℕ → Contents → Type 0) → (Word → ℕ → Candidates → Type 0) → World → Type 0
+HaveHistories Held Read w = (vol : Word) (v : Volume) → w.volumes vol ≡ Some v → IsHistoried Held Read vol v
 
 -- no volume is started
 abbrev pub NoneStarted : World → Type 0
 NoneStarted w = (vol : Word) → w.volumes vol ≡ None
 
 abbrev pub EachVolumeHasAHistory : Type 0
-EachVolumeHasAHistory = (place : ℕ) (old new : Moment) (commands : List Command) (answers : List Answer) → NoneStarted old.world → IsTranscript place old commands answers new → HaveHistories (WasThere place old commands answers) new.world
+EachVolumeHasAHistory = (place : ℕ) (old new : Moment) (commands : List Command) (answers : List Answer) → NoneStarted old.world → IsTranscript place old commands answers new → HaveHistories (WasThere place old commands answers) (WasRead place old commands answers) new.world

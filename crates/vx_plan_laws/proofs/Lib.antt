@@ -10,4 +10,7 @@ mod Removals
 mod Joins
 mod Makings
 mod Tests
+mod Volumes
+mod Kept
+mod Told
 mod Refusals

@@ -1,7 +1,6 @@
 -- What the stages before one let through, and so why it refuses.
 use Rattle.std.proofs.Common.{◌≡◌, ◌⊎◌, Bool, true, false, Option, Some, None, List, [], ◌∷◌, refl, sym, ◌∙◌, ap, subst, inl, inr, if◌then◌else◌}
 use Rattle.vx_base.specs.Named.{Word}
-use Rattle.vx_copies.specs.Lists.{AnyOf}
 use Rattle.vx_config_parts.specs.declared.fault.ObjectFault.{ObjectFault}
 use Rattle.vx_config_parts.specs.declared.fault.ObjectFault.TheVariants.{Exists}
 use Rattle.vx_rules.specs.References.{has_name}
@@ -19,8 +18,7 @@ use Rattle.vx_answers.specs.declared.answer.End.{End}
 use Rattle.vx_answers.specs.declared.answer.View.{View}
 use Rattle.vx_answers.specs.declared.refusal.Refusal.{Refusal}
 use Rattle.vx_answers.specs.declared.refusal.Refusal.TheVariants as refusal
-use Rattle.vx_answers.specs.declared.answer.End.TheVariants.{GroupLost, Lost}
-use Rattle.vx_moments.specs.Commit.{Writing, IsStopped, CarriersFailed, parties}
+use Rattle.vx_moments.specs.Commit.{Writing}
 use Rattle.vx_moments.specs.Moment.{Moment}
 use Rattle.vx_moments.specs.World.{World, Group}
 use Rattle.vx_plans.specs.Laws.{WentWell, IsDoneOrRefused, HasCarriers}
@@ -36,10 +34,12 @@ use Rattle.vx_plans.specs.declared.stages.Finish.{Finish}
 use Rattle.vx_plans.specs.declared.stages.Plan.{Plan}
 use Rattle.vx_plans.specs.declared.test.Test.TheVariants as tests
 use Rattle.vx_plans.proofs.Complete.{keeps_world, kept_world, each_plan_is_complete}
-use Rattle.vx_plan_laws.specs.Refusing.{IsTooLong, OfGroup, Refuses, OneRefuses}
+use Rattle.vx_plan_laws.specs.Refusing.{IsDoneBy, IsTooLong, OfGroup, Refuses, OneRefuses}
+use Rattle.vx_plan_laws.proofs.Told.{tells_done}
 use Rattle.vx_plan_laws.specs.Unbroken.{LetsThrough, PrefersItsPlex}
 use Rattle.vx_plan_laws.proofs.Makings.{making_kept}
-use Rattle.vx_plan_laws.proofs.Tests.{group_here, policy_law, removal_law, joining_law}
+use Rattle.vx_plan_laws.proofs.Tests.{group_here, policy_law, removal_law, joining_law, volume_there}
+use Rattle.vx_plan_laws.proofs.Volumes.{not_stopped, same_refusal, start_refuses, stop_refuses}
 
 -- ---- what a stage needs of those before it
 
@@ -52,21 +52,12 @@ Finds (stage.Change (changes.Policy vol how)) disks w = HasGroup w × LetsThroug
 Finds (stage.Change (changes.Remove vol)) disks w = HasGroup w × LetsThrough (tests.HasVolume vol) [] w × LetsThrough (tests.Unrelated vol) [] w
 Finds (stage.Make text) disks w = HasGroup w
 Finds stage.Join disks w = HasGroup w × LetsThrough tests.JoinLimits disks w
+Finds (stage.Start vol) disks w = HasGroup w × LetsThrough (tests.HasVolume vol) [] w
+Finds (stage.Stop vol) disks w = HasGroup w × LetsThrough (tests.HasVolume vol) [] w
 Finds other disks w = Unit {0}
 
 not_done : (r : Refusal) → refused r ≡ done → ⊥
 not_done r e = cc
-
--- a commit that is stopped is no refusal
-not_stopped : (x : Writing) (old : Moment) (r : Refusal) (new : Moment) → IsStopped x old (refused r) new → ⊥
-not_stopped x old r new stopped = by stopped.ends
-  where
-    by : ((refused r ≡ GroupLost) × CarriersFailed x old.counts new.counts) ⊎ ((refused r ≡ Lost []) × AnyOf (λ m. new.counts.cut m.device ≡ true) (parties x)) → ⊥
-    by (inl l) = let e = l.0 in cc
-    by (inr l) = let e = l.0 in cc
-
-same_refusal : (r s : Refusal) → refused r ≡ refused s → r ≡ s
-same_refusal r s e = cc
 
 no_refusal : (f : Option ObjectFault) (r : Refusal) → f ≡ None → refusal_from f ≡ Some r → ⊥
 no_refusal None r e is = cc
@@ -107,6 +98,8 @@ module _ (old : Moment) (r : Refusal) (new : Moment) where
       (g, here, inl (taken.0, same_refusal r s is ∙ taken.1))
   refuses stage.Join (p ∷ []) (has, limits) (inr (inl ((g, here, inr long), rests))) = (g, here, inr long)
   refuses stage.Join (p ∷ []) (has, limits) (inr (inr (x, writing, stopped))) = absurd (not_stopped x old r new stopped)
+  refuses (stage.Start vol) disks ((g, here), there) stops = start_refuses old r new vol g here (volume_there old.world g here vol [] there) stops
+  refuses (stage.Stop vol) disks ((g, here), there) stops = stop_refuses old r new vol g here (volume_there old.world g here vol [] there) stops
   refuses s disks finds stops = stops
 
 -- ---- a plan
@@ -173,9 +166,10 @@ each_refusal_is_tested dg f plan old views r new is runs =
 pub done_or_tested : (dg : Option Word) (f : Form) (plan : Plan) (old : Moment) (views : List View) (end : End) (new : Moment)
     → plan_of dg f ≡ Some plan → Runs (disks_of f) plan.stages plan.finish old views end new
     → WentWell old new → HasCarriers f old.world
-    → (end ≡ done) ⊎ ((r : Refusal) × (end ≡ refused r) × OneRefuses plan.stages (disks_of f) old.world r new)
+    → IsDoneBy f old.world end ⊎ ((r : Refusal) × (end ≡ refused r) × OneRefuses plan.stages (disks_of f) old.world r new)
 done_or_tested dg f plan old views end new is runs well has = by (each_plan_is_complete dg f plan old views end new is runs well has)
   where
-    by : IsDoneOrRefused end → (end ≡ done) ⊎ ((r : Refusal) × (end ≡ refused r) × OneRefuses plan.stages (disks_of f) old.world r new)
-    by (inl all) = inl all
+    by : IsDoneOrRefused end → IsDoneBy f old.world end ⊎ ((r : Refusal) × (end ≡ refused r) × OneRefuses plan.stages (disks_of f) old.world r new)
+    by (inl (copied, e)) =
+        inl (subst (λ (x : End). IsDoneBy f old.world x) (sym e) (tells_done copied dg f plan old views new is (subst (λ (x : End). Runs (disks_of f) plan.stages plan.finish old views x new) e runs)))
     by (inr (r, e)) = inr (r, e, each_refusal_is_tested dg f plan old views r new is (subst (λ (x : End). Runs (disks_of f) plan.stages plan.finish old views x new) e runs))

@@ -60,7 +60,7 @@ group_here dg disks w e = by w.group refl (holds_so (is_here dg w.group) (refusa
     by (Some g) e is = (g, e)
 
 module _ (w : World) (g : Group) (here : w.group ≡ Some g) where
-  volume_there : (vol : Word) (disks : List DiskAt) → LetsThrough (tests.HasVolume vol) disks w → is_some (volume_in vol g.config.volumes) ≡ true
+  pub volume_there : (vol : Word) (disks : List DiskAt) → LetsThrough (tests.HasVolume vol) disks w → is_some (volume_in vol g.config.volumes) ≡ true
   unfolding fails
   volume_there vol disks e = subst (λ (o : Option Group). is_some (recorded vol o) ≡ true) here (holds_so (is_some (recorded vol w.group)) (refusal.NoObject vol) e)
 

@@ -1,9 +1,10 @@
 -- Why a command of a plan is refused: by a test, as its text is too long, or as the name of a disk is taken.
-use Rattle.std.specs.Prelude.{◌≡◌, ◌⊎◌, ℕ, true, Option, Some, List, [], ◌∷◌}
+use Rattle.std.specs.Prelude.{◌≡◌, ◌⊎◌, ℕ, ◌&&◌, true, false, is_some, Option, Some, None, List, [], ◌∷◌}
 use Rattle.vx_base.specs.Named.{Word}
 use Rattle.vx_copies.specs.Lists.{AnyOf}
 use Rattle.vx_record.specs.Grammar.{IsBadLine}
 use Rattle.vx_config_parts.specs.declared.object.Object.{Object}
+use Rattle.vx_config_parts.specs.declared.vol.Vol.{Vol}
 use Rattle.vx_rules.specs.References.{has_name}
 use Rattle.vx_objects.specs.declared.config.Config.{Config}
 use Rattle.vx_objects.specs.declared.edit.Edit.{Edit}
@@ -12,18 +13,27 @@ use Rattle.vx_objects.specs.Applied.{IsEdited}
 use Rattle.vx_objects.specs.Config.{objects_of}
 use Rattle.vx_script_words.specs.declared.value.DiskAt.{DiskAt}
 use Rattle.vx_script_forms.specs.declared.form.Form.{Form}
+use Rattle.vx_script_forms.specs.declared.form.Form.TheVariants as form
 use Rattle.vx_answers.specs.declared.answer.End.{End}
+use Rattle.vx_answers.specs.declared.answer.End.TheVariants as ends
 use Rattle.vx_answers.specs.declared.answer.View.{View}
 use Rattle.vx_answers.specs.declared.refusal.Refusal.{Refusal}
 use Rattle.vx_answers.specs.declared.refusal.Refusal.TheVariants as refusal
 use Rattle.vx_moments.specs.World.{World, Group}
 use Rattle.vx_moments.specs.Moment.{Moment}
+use Rattle.vx_image.specs.Image.{IsFilled}
+use Rattle.vx_group_images.specs.Group.{image_on}
+use Rattle.vx_state_edits.specs.Edits.{start_edits, stop_edits}
+use Rattle.vx_state_texts.specs.Texts.{all_maps}
 use Rattle.vx_plans.specs.Laws.{WentWell, HasCarriers}
 use Rattle.vx_plans.specs.Making.{Adds, adding_refusal, is_started}
 use Rattle.vx_plans.specs.Plans.{plan_of, disks_of}
 use Rattle.vx_plans.specs.Ends.{RefusedAsLong, refused}
 use Rattle.vx_plans.specs.Stages.{OnlyDisk, Stops, edits_of, joining_edit}
+use Rattle.vx_plans.specs.Starting.{HasNoReadCopy, IsFirstMissed, may_start, refusal_at_once, regions_copied}
 use Rattle.vx_plans.specs.Steps.{Runs, done}
+use Rattle.vx_plans.specs.Stopping.{is_active, runs_on_plexes}
+use Rattle.vx_plans.specs.Tests.{volume_in}
 use Rattle.vx_plans.specs.declared.stage.Stage.{Stage}
 use Rattle.vx_plans.specs.declared.stage.Stage.TheVariants as stage
 use Rattle.vx_plans.specs.declared.stages.Plan.{Plan}
@@ -36,9 +46,38 @@ OfGroup w Holds = (g : Group) × (w.group ≡ Some g) × Holds g
 abbrev pub IsTooLong : List Edit → Group → Refusal → Type 0
 IsTooLong edits g r = (config : Config) × IsEdited edits g.config config × RefusedAsLong config (refused r)
 
+-- the group records such a volume under the name
+abbrev pub OfVolume : Word → Group → (Vol → Type 0) → Type 0
+OfVolume name g Holds = (v : Vol) × (volume_in name g.config.volumes ≡ Some v) × Holds v
+
+-- ---- a start and a stop
+
+-- A volume that was started before cannot be opened: no copy of its log could be read, and each that counts has failed; or in some region
+-- no plex is current.
+abbrev pub OpeningRefuses : Group → Vol → Moment → Refusal → Moment → Type 0
+OpeningRefuses g v old r new =
+    IsFilled v.state
+    × (((r ≡ refusal.NoLog v.name) × (is_some v.dco ≡ true) × HasNoReadCopy g v old new)
+    ⊎ ((region : ℕ) × (r ≡ refusal.NoCurrent region) × IsFirstMissed (image_on old.world.devices g v) region))
+
+-- A volume is not started: its state does not fit; or the configuration and the good disks refuse it, or the text would be too long, or it
+-- cannot be opened.
+abbrev pub StartRefuses : Group → Vol → Moment → Refusal → Moment → Type 0
+StartRefuses g v old r new =
+    ((may_start v.state ≡ false) × (r ≡ refusal.VolState v.state))
+    ⊎ ((may_start v.state ≡ true) × ((refusal_at_once g v ≡ Some r) ⊎ (((refusal_at_once g v ≡ None) × IsTooLong (start_edits g.config v) g r) ⊎ OpeningRefuses g v old r new)))
+
+-- A volume is not stopped: it does not run, or its state does not fit; or the text would be too long.
+abbrev pub StopRefuses : Word → Group → Vol → World → Refusal → Type 0
+StopRefuses name g v w r =
+    (((runs_on_plexes w name && is_active v.state) ≡ false) × (r ≡ refusal.VolState v.state))
+    ⊎ (((runs_on_plexes w name && is_active v.state) ≡ true) × IsTooLong (stop_edits g.config v all_maps) g r)
+
+-- ---- each stage
+
 -- A stage of a plan refuses its command. One that changes a configuration does so where the text would be too long; one that
--- adds records, where a line is none or a test of the records refuses them, too; and one by which a disk joins, where the
--- disk's name is taken. Any other stage has tests alone.
+-- adds records, where a line is none or a test of the records refuses them, too; one by which a disk joins, where the
+-- disk's name is taken; and a start and a stop by what they find of their volume. Any other stage has tests alone.
 abbrev pub Refuses : Stage → List DiskAt → Moment → Refusal → Moment → Type 0
 Refuses (stage.Change change) disks old r new = OfGroup old.world (λ g. IsTooLong (edits_of change (Some g)) g r)
 Refuses (stage.Make text) disks old r new =
@@ -46,6 +85,8 @@ Refuses (stage.Make text) disks old r new =
     ⊎ OfGroup old.world (λ g. (added : List Object) × Adds text added × ((adding_refusal (is_started old.world) (objects_of g.config) added ≡ Some r) ⊎ IsTooLong (Make added ∷ []) g r))
 Refuses stage.Join disks old r new =
     OnlyDisk disks (λ p. OfGroup old.world (λ g. ((has_name p.disk (objects_of g.config) ≡ true) × (r ≡ refusal.Exists p.disk)) ⊎ IsTooLong (joining_edit p old.world g ∷ []) g r))
+Refuses (stage.Start vol) disks old r new = OfGroup old.world (λ g. OfVolume vol g (λ v. StartRefuses g v old r new))
+Refuses (stage.Stop vol) disks old r new = OfGroup old.world (λ g. OfVolume vol g (λ v. StopRefuses vol g v old.world r))
 Refuses other disks old r new = Stops other disks old (refused r) new
 
 -- one of the stages refuses, in the world in which the command began
@@ -59,10 +100,15 @@ EachRefusalIsTested =
     → plan_of dg f ≡ Some plan → Runs (disks_of f) plan.stages plan.finish old views (refused r) new
     → OneRefuses plan.stages (disks_of f) old.world r new
 
+-- all is done: a start tells how many regions it has copied, and nothing else is told
+abbrev pub IsDoneBy : Form → World → End → Type 0
+IsDoneBy (form.Start vol) w end = OfGroup w (λ g. OfVolume vol g (λ v. end ≡ ends.Done (Some (regions_copied g v)) [] []))
+IsDoneBy other w end = end ≡ done
+
 -- where nothing failed and the power stayed, all is done, or a stage has refused so
 abbrev pub EachCommandIsDoneOrTested : Type 0
 EachCommandIsDoneOrTested =
     (dg : Option Word) (f : Form) (plan : Plan) (old : Moment) (views : List View) (end : End) (new : Moment)
     → plan_of dg f ≡ Some plan → Runs (disks_of f) plan.stages plan.finish old views end new
     → WentWell old new → HasCarriers f old.world
-    → (end ≡ done) ⊎ ((r : Refusal) × (end ≡ refused r) × OneRefuses plan.stages (disks_of f) old.world r new)
+    → IsDoneBy f old.world end ⊎ ((r : Refusal) × (end ≡ refused r) × OneRefuses plan.stages (disks_of f) old.world r new)

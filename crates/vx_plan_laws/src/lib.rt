@@ -2,6 +2,7 @@
 //! promise them.
 #![tactic(auto)]
 
+ghost use Rattle.vx_plan_laws.specs.Keeping.{EachRefusalKeepsTheWorld};
 ghost use Rattle.vx_plan_laws.specs.Refusing.{EachRefusalIsTested, EachCommandIsDoneOrTested};
 ghost use Rattle.vx_plan_laws.specs.Unbroken.{NoRuleRefusesAPolicy, NoRuleRefusesARemoval, NoRuleRefusesRecords, OnlyANameRefusesADisk};
 
@@ -26,7 +27,7 @@ pub fn only_a_name_refuses_a_disk()
 {}
 
 /// A command of a plan that is refused was refused by a test, as its text would be too long, or as the name of the disk
-/// that is to join is taken.
+/// that is to join is taken; a start and a stop by what they find of their volume, and a start as it cannot be opened.
 pub fn each_refusal_is_tested()
     ensures { EachRefusalIsTested }
 {}
@@ -34,4 +35,10 @@ pub fn each_refusal_is_tested()
 /// Where no device call failed and the power stayed, a command does all that it is asked, or is refused so.
 pub fn each_command_is_done_or_tested()
     ensures { EachCommandIsDoneOrTested }
+{}
+
+/// A command that is refused leaves the world as it began; but a start whose volume cannot be opened may have called its log,
+/// and then the devices have changed in sectors of that volume alone.
+pub fn each_refusal_keeps_the_world()
+    ensures { EachRefusalKeepsTheWorld }
 {}

@@ -12,10 +12,15 @@ use Rattle.vx_moments.specs.Moment.{Moment, Counts}
 use Rattle.vx_moments.specs.Commit.{Writing, IsCommitting, IsCommitted, IsStopped}
 use Rattle.vx_plans.specs.Finding.{group_found, import_records}
 use Rattle.vx_plans.specs.Ends.{IsChange}
-use Rattle.vx_plans.specs.Stages.{IsImporting, edits_of, IsMaking}
+use Rattle.vx_plans.specs.Stages.{IsImporting, IsJoining, edits_of, IsMaking}
 use Rattle.vx_plans.specs.declared.stage.Change.{Change}
 use Rattle.vx_plans.proofs.Carriers.{FoundBy, found_by}
 use Rattle.vx_sound.specs.Standing.{HoldsNoHeader, IsLeading, IsStanding}
+use Rattle.vx_script_words.specs.declared.value.DiskAt.{DiskAt}
+use Rattle.vx_moments.specs.Holding.{has_volume}
+use Rattle.vx_moments.specs.Leaving.{lone}
+use Rattle.vx_plans.specs.Records.{disk_record, next_slot, sectors_at}
+use Rattle.vx_sound.proofs.Names.{IsApart, IsFree, change_apart, finds_free, import_apart, join_apart, make_apart}
 use Rattle.vx_sound.proofs.Edits.{IsGrown, change_grown, make_grown, import_grown}
 use Rattle.vx_sound.proofs.Ready.{IsReady}
 use Rattle.vx_sound.proofs.ReadyToWrite.{IsLed, led, ready_alone}
@@ -35,11 +40,12 @@ Ends end w = IsStanding w ⊎ (IsSettled w × MustGo end)
 volumes_on : (x : Writing) (last : ℕ) (old new : Moment) → IsCommitting x last old new → IsStanding old.world → (vol : Word) (v : Volume) → new.world.volumes vol ≡ Some v → HoldsNoHeader v
 volumes_on x last old new c s vol v is = s.volumes vol v (sym (ap (λ (f : Word → Option Volume). f vol) c.volumes) ∙ is)
 
-pub commit_done : (x : Writing) (old new : Moment) → IsStanding old.world → IsReady x old.world → IsCommitted x old new → IsStanding new.world
-commit_done x old new s r d = record {
+pub commit_done : (x : Writing) (old new : Moment) → IsStanding old.world → IsReady x old.world → IsApart x.config old.world → IsCommitted x old new → IsStanding new.world
+commit_done x old new s r apart d = record {
   copies = sound_on x d.last old new d.committing r s.copies;
   group = subst (λ (g : Option Group). MatchOption g (Unit {0}) (IsLeading new.world)) (sym d.group) (leading_on x old new d r);
   volumes = volumes_on x d.last old new d.committing s;
+  names = λ vol h. ap lone (ap (λ (f : Word → Option Volume). f vol) d.committing.volumes) ∙ apart vol (ap (λ (g : Option Group). has_volume g vol) (sym d.group) ∙ h);
 }
 
 pub commit_stopped : (x : Writing) (old : Moment) (end : End) (new : Moment) → IsStanding old.world → IsReady x old.world → IsStopped x old end new → Ends end new.world
@@ -57,6 +63,25 @@ commit_stopped x old end new s r d = inr (
 pub imported_led : (w : World) (g : Group) → IsStanding w → w.group ≡ Some g → IsLed g.config.group w g
 imported_led w g s here =
     led w g (subst (λ (o : Option Group). MatchOption o (Unit {0}) (IsLeading w)) here s.group) (s.copies g.config.group)
+
+-- the names of its volumes
+pub group_apart : (w : World) (g : Group) → IsStanding w → w.group ≡ Some g → IsApart g.config w
+group_apart w g s here vol h = s.names vol (ap (λ (o : Option Group). has_volume o vol) here ∙ h)
+
+pub change_unnamed : (change : Change) (w : World) (x : Writing) → IsStanding w → IsChange (edits_of change w.group) w x → IsApart x.config w
+change_unnamed change w x s is = change_apart w change w.group x.group.config x.config is.edited (group_apart w x.group s is.group)
+
+pub make_unnamed : (text : List ℕ) (w : World) (x : Writing) → IsStanding w → IsMaking text w x → IsApart x.config w
+make_unnamed text w x s is = make_apart w is.added x.group.config x.config is.change.edited is.fine (group_apart w x.group s is.change.group)
+
+pub join_unnamed : (p : DiskAt) (w : World) (x : Writing) → IsStanding w → IsJoining p w x → IsApart x.config w
+join_unnamed p w x s is = join_apart w (disk_record p (next_slot x.group.config) (sectors_at w p.device)) x.group.config x.config is.edited (group_apart w x.group s is.group)
+
+pub import_unnamed : (dg : Word) (w : World) (x : Writing) (old new : Counts) → IsImporting dg w x old new → IsApart x.config w
+import_unnamed dg w x old new is =
+    let F : Offer → Config → Type 0 = λ o config. (x.group ≡ group_found o is.found.counted config) × (objects_of x.config ≡ import_records config) in
+    let all = found_by dg w is.found.unread is.found.counted (IsFree w F) (finds_free dg w is.found.unread is.found.counted F is.finds) in
+    import_apart w all.config x.config all.holds.0.1 all.holds.1
 
 pub change_ready : (change : Change) (w : World) (x : Writing) → IsStanding w → IsChange (edits_of change w.group) w x → IsReady x w
 change_ready change w x s is = ready_alone x w (imported_led w x.group s is.group) (change_grown change w.group x.group.config x.config is.edited) is.joiners is.carriers

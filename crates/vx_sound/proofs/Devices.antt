@@ -57,7 +57,7 @@ module _ (w : World) (name : Word) (thing : Device) (bare : HasNoLabel thing) (i
   members_stay (Some g) idle = all_imp (λ m. m.device ≡ name → ⊥) (MemberStays w after) g.members member_stays (all_without (λ m. m.device ≡ name) g.members idle)
 
   pub standing_put : IsStanding w → IsStanding after
-  standing_put s = standing_still w after (record { had = back; stays = fore; group = refl; members = members_stay w.group idle }) s s.volumes
+  standing_put s = standing_still w after (record { had = back; stays = fore; group = refl; members = members_stay w.group idle }) s s.names s.volumes
 
 -- ---- an image
 

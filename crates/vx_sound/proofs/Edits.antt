@@ -10,6 +10,7 @@ use Rattle.vx_mask.proofs.Tests.{or_from_left, or_from_right}
 use Rattle.vx_copies.specs.Lists.{AllOf}
 use Rattle.vx_config_parts.specs.declared.disk.Disk.{Disk}
 use Rattle.vx_config_parts.specs.declared.group.Group.{Group as GroupPart}
+use Rattle.vx_config_parts.specs.declared.state.PlexState.{PlexState}
 use Rattle.vx_config_parts.specs.declared.state.VolState.{VolState}
 use Rattle.vx_config_parts.specs.declared.vol.PolicyName.{PolicyName}
 use Rattle.vx_config_parts.specs.declared.vol.Vol.{Vol}
@@ -18,7 +19,7 @@ use Rattle.vx_config_parts.specs.declared.object.Object.TheVariants.{GroupRecord
 use Rattle.vx_config_parts.specs.Objects.{refers}
 use Rattle.vx_objects.specs.declared.config.Config.{Config}
 use Rattle.vx_objects.specs.declared.edit.Edit.{Edit}
-use Rattle.vx_objects.specs.declared.edit.Edit.TheVariants.{AddDisk, Make, SetVol, RemoveVol}
+use Rattle.vx_objects.specs.declared.edit.Edit.TheVariants.{AddDisk, Make, SetPlex, SetVol, RemoveVol}
 use Rattle.vx_objects.specs.Applied.{IsEdited}
 use Rattle.vx_objects.specs.Config.{objects_of}
 use Rattle.vx_objects.specs.Edits.{change, added, edited, kept, names_plex_of}
@@ -35,11 +36,11 @@ use Rattle.vx_sound.proofs.Configs.{Records, disks_in, disks_made}
 use Rattle.vx_sound.proofs.Lists.{all_imp}
 
 -- the name in the group's record, which is the first
-abbrev name_first : List Object → Word
+abbrev pub name_first : List Object → Word
 name_first (GroupRecord g ∷ os) = g.name
 name_first os = []
 
-disk_in : Option Object → Option Disk
+pub disk_in : Option Object → Option Disk
 disk_in None = None
 disk_in (Some o) = as_disk o
 
@@ -49,7 +50,7 @@ cons_where None os = refl
 cons_where (Some o) os = refl
 
 -- what leaves each disk's record alone leaves the disks
-same_disks : (f : Object → Option Object) → ((o : Object) → disk_in (f o) ≡ as_disk o) → (os : List Object) → filter_map as_disk (filter_map f os) ≡ filter_map as_disk os
+pub same_disks : (f : Object → Option Object) → ((o : Object) → disk_in (f o) ≡ as_disk o) → (os : List Object) → filter_map as_disk (filter_map f os) ≡ filter_map as_disk os
 same_disks f same [] = refl
 same_disks f same (o ∷ os) =
     cons_where (f o) (filter_map f os) ∙ ap (λ (d : Option Disk). cons_option d (filter_map as_disk (filter_map f os))) (same o)
@@ -61,9 +62,9 @@ stays_none true o none = refl
 stays_none false o none = sym none
 
 -- the edit lets the records of the group and of disks alone
-record IsKeeping (e : Edit) : Type 0 where
-  disks : (all : List Object) (o : Object) → disk_in (change e all o) ≡ as_disk o
-  group : (all : List Object) (g : GroupPart) → change e all (GroupRecord g) ≡ Some (GroupRecord g)
+pub record IsKeeping (e : Edit) : Type 0 where
+  pub disks : (all : List Object) (o : Object) → disk_in (change e all o) ≡ as_disk o
+  pub group : (all : List Object) (g : GroupPart) → change e all (GroupRecord g) ≡ Some (GroupRecord g)
 
 policy_keeps : (vol : Word) (next : VolState) (policy : PolicyName) (all : List Object) (o : Object) → disk_in (change (SetVol vol next policy) all o) ≡ as_disk o
 unfolding change disk_in
@@ -75,6 +76,16 @@ policy_keeps vol next policy all (VolRecord v) = refl
 policy_keeps vol next policy all (DcoRecord d) = refl
 policy_keeps vol next policy all (SnapRecord s) = refl
 
+plex_keeps : (plex : Word) (vol : Option Word) (next : PlexState) (number : Option ℕ) (all : List Object) (o : Object) → disk_in (change (SetPlex plex vol next number) all o) ≡ as_disk o
+unfolding change disk_in
+plex_keeps plex vol next number all (GroupRecord g) = refl
+plex_keeps plex vol next number all (DiskRecord d) = refl
+plex_keeps plex vol next number all (SubdiskRecord s) = refl
+plex_keeps plex vol next number all (PlexRecord p) = refl
+plex_keeps plex vol next number all (VolRecord v) = refl
+plex_keeps plex vol next number all (DcoRecord d) = refl
+plex_keeps plex vol next number all (SnapRecord s) = refl
+
 remove_keeps : (vol : Word) (all : List Object) (o : Object) → disk_in (change (RemoveVol vol) all o) ≡ as_disk o
 unfolding change disk_in
 remove_keeps vol all (GroupRecord g) = refl
@@ -85,9 +96,13 @@ remove_keeps vol all (VolRecord v) = stays_none (not (bytes_eq v.name vol)) (Vol
 remove_keeps vol all (DcoRecord d) = stays_none (not (bytes_eq d.vol vol)) (DcoRecord d) refl
 remove_keeps vol all (SnapRecord s) = refl
 
-policy_kept : (vol : Word) (next : VolState) (policy : PolicyName) → IsKeeping (SetVol vol next policy)
+pub policy_kept : (vol : Word) (next : VolState) (policy : PolicyName) → IsKeeping (SetVol vol next policy)
 unfolding change
 policy_kept vol next policy = record { disks = policy_keeps vol next policy; group = λ all g. refl }
+
+pub plex_kept : (plex : Word) (vol : Option Word) (next : PlexState) (number : Option ℕ) → IsKeeping (SetPlex plex vol next number)
+unfolding change
+plex_kept plex vol next number = record { disks = plex_keeps plex vol next number; group = λ all g. refl }
 
 remove_kept : (vol : Word) → IsKeeping (RemoveVol vol)
 unfolding change
@@ -106,7 +121,7 @@ pub record IsGrown (old new : Config) : Type 0 where
   pub group : new.group ≡ old.group
   pub disks : (slot : ℕ) → Records old slot → Records new slot
 
-same_grown : (old new : Config) → new.group ≡ old.group → new.disks ≡ old.disks → IsGrown old new
+pub same_grown : (old new : Config) → new.group ≡ old.group → new.disks ≡ old.disks → IsGrown old new
 same_grown old new group same = record { group = group; disks = λ slot h. ap (λ (ds : List Disk). list_any (λ d. d.slot == slot) ds) same ∙ h }
 
 module _ (e : Edit) (keeps : IsKeeping e) (old new : Config) (made : IsEdited (e ∷ []) old new) where

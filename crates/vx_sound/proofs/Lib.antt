@@ -2,7 +2,9 @@ mod Headers
 mod Fewer
 mod Configs
 mod Lists
+mod Names
 mod Edits
+mod States
 mod Ready
 mod DevicesAfterCommit
 mod CommitSteps
@@ -15,5 +17,7 @@ mod Private
 mod Volumes
 mod Joiners
 mod Commits
+mod Running
 mod Runs
 pub mod Steps
+pub mod Wants

@@ -1,23 +1,25 @@
 -- A world whose devices have changed behind their private regions alone is as sound as before.
-use Rattle.std.proofs.Common.{◌≡◌, ◌∙◌, ◌⊎◌, ℕ, ◌+◌, ◌<◌, true, List, Option, Some, None, MatchOption, inl, inr, sym, ap, subst, arith}
+use Rattle.std.proofs.Common.{◌≡◌, ◌∙◌, ◌⊎◌, ℕ, ◌<◌, true, Option, Some, None, MatchOption, inl, inr, refl, sym, ap, subst, arith}
 use Rattle.vx_base.specs.Named.{Word}
 use Rattle.vx_mask.specs.Mask.{has}
 use Rattle.vx_header.specs.Named.{Label, header_of}
 use Rattle.vx_copies.specs.Image.{Offer}
-use Rattle.vx_copies.specs.Lists.{AllOf}
 use Rattle.vx_fronts.proofs.Contents.{offer_stays}
 use Rattle.vx_moments.specs.World.{World, Device, Volume, Member, Group}
 use Rattle.vx_moments.specs.Holding.{IsLent}
 use Rattle.vx_group_images.specs.Group.{DeviceStaysBut, IsSectorOf}
 use Rattle.vx_sound.specs.Offers.{IsHeaded, Offers}
-use Rattle.vx_sound.specs.Sound.{IsNewest, NamesNewer, NamesMissing, IsChained, AreSound}
-use Rattle.vx_sound.specs.Standing.{HoldsNoHeader, IsOwn, Carries, IsLeading, IsStanding}
+use Rattle.vx_sound.specs.Sound.{IsNewest, NamesNewer, NamesMissing, IsChained}
+use Rattle.vx_sound.specs.Standing.{HoldsNoHeader, IsOwn, Carries, IsLeading, IsStanding, NamesAreApart}
 use Rattle.vx_sound.proofs.Lists.{all_imp}
 
 -- the device of the same sectors, with the same private region
 pub record HasSameFront (d e : Device) : Type 0 where
   pub sectors : e.sectors ≡ d.sectors
   pub private : (k : ℕ) → k < 2048 → e.contents k ≡ d.contents k
+
+pub same_front : (d : Device) → HasSameFront d d
+same_front d = record { sectors = refl; private = λ k lt. refl }
 
 abbrev pub IsSameFront : Option Device → Option Device → Type 0
 IsSameFront None None = Unit {0}
@@ -29,6 +31,11 @@ IsSameFront (Some d) (Some e) = HasSameFront d e
 pub record IsSamePrivate (old new : World) : Type 0 where
   pub devices : (name : Word) → IsSameFront (old.devices name) (new.devices name)
   pub lent : (name : Word) → IsLent new name → IsLent old name
+
+-- a device that is as it was
+pub front_itself : (o : Option Device) → IsSameFront o o
+front_itself None = tt
+front_itself (Some d) = same_front d
 
 turned : (o p : Option Device) → IsSameFront o p → IsSameFront p o
 turned None None same = tt
@@ -141,9 +148,10 @@ module _ (old new : World) (same : IsSamePrivate old new) (unlent : (name : Word
   group_same None l = tt
   group_same (Some g) l = leading_same g l
 
-  pub standing_behind : new.group ≡ old.group → IsStanding old → ((vol : Word) (v : Volume) → new.volumes vol ≡ Some v → HoldsNoHeader v) → IsStanding new
-  standing_behind group s volumes = record {
+  pub standing_behind : new.group ≡ old.group → IsStanding old → NamesAreApart new → ((vol : Word) (v : Volume) → new.volumes vol ≡ Some v → HoldsNoHeader v) → IsStanding new
+  standing_behind group s names volumes = record {
     copies = λ dg. chained_same dg (s.copies dg);
     group = subst (λ (g : Option Group). MatchOption g (Unit {0}) (IsLeading new)) (sym group) (group_same old.group s.group);
     volumes = volumes;
+    names = names;
   }

@@ -33,6 +33,8 @@ Passed stage.Join disks w = ⊥
 Passed (stage.Create dg) disks w = ⊥
 Passed (stage.Import dg) disks w = ⊥
 Passed stage.LetGo disks w = ⊥
+Passed (stage.Start vol) disks w = ⊥
+Passed (stage.Stop vol) disks w = ⊥
 
 -- the stage leaves the world
 abbrev pub leaves_world : Stage → Bool
@@ -52,6 +54,8 @@ leaves_world stage.Join = false
 leaves_world (stage.Create dg) = false
 leaves_world (stage.Import dg) = false
 leaves_world stage.LetGo = false
+leaves_world (stage.Start vol) = false
+leaves_world (stage.Stop vol) = false
 
 -- such a stage that is done
 calm_done : (s : Stage) (disks : List DiskAt) (old new : Moment) → leaves_world s ≡ true → IsDone s disks old new → (new.world ≡ old.world) × Passed s disks old.world
@@ -71,6 +75,8 @@ calm_done stage.Join disks old new calm done = cc
 calm_done (stage.Create dg) disks old new calm done = cc
 calm_done (stage.Import dg) disks old new calm done = cc
 calm_done stage.LetGo disks old new calm done = cc
+calm_done (stage.Start vol) disks old new calm done = cc
+calm_done (stage.Stop vol) disks old new calm done = cc
 
 taking_stays : (taken names : List Word) (old : Moment) (end : End) (new : Moment) → TakingStops taken names old end new → new.world ≡ old.world
 taking_stays taken [] old end new stops = absurd stops
@@ -96,6 +102,8 @@ calm_stops stage.Join disks old end new calm stops = cc
 calm_stops (stage.Create dg) disks old end new calm stops = cc
 calm_stops (stage.Import dg) disks old end new calm stops = cc
 calm_stops stage.LetGo disks old end new calm stops = cc
+calm_stops (stage.Start vol) disks old end new calm stops = cc
+calm_stops (stage.Stop vol) disks old end new calm stops = cc
 
 abbrev pub AreCalm : List Stage → Type 0
 AreCalm [] = Unit {0}

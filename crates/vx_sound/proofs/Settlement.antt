@@ -9,11 +9,11 @@ use Rattle.vx_moments.specs.Holding.{IsLent, HasDevice}
 use Rattle.vx_moments.specs.Leaving.{PowerGoes, IsLeftBy, group_gone}
 use Rattle.vx_sound.specs.Offers.{IsHeaded}
 use Rattle.vx_sound.specs.Sound.{AreSound}
-use Rattle.vx_sound.specs.Standing.{HoldsNoHeader, HoldsNoneOn, IsOwn, Carries, IsLeading, IsStanding}
+use Rattle.vx_sound.specs.Standing.{HoldsNoHeader, HoldsNoneOn, IsOwn, Carries, IsLeading, IsStanding, NamesAreApart}
 use Rattle.vx_sound.proofs.Headers.{size_above, never_some, some_same}
 use Rattle.vx_sound.proofs.Fewer.{HadEach, HasOrNone, offered, chained_fewer}
 use Rattle.vx_sound.proofs.Lists.{all_two}
-use Rattle.vx_moments.proofs.Lone.{lone_was, lent_was, lent_still}
+use Rattle.vx_moments.proofs.Lone.{lone_was, none_lone, lent_was, lent_still}
 
 -- the world is sound once its group leaves
 pub record IsSettled (w : World) : Type 0 where
@@ -69,11 +69,12 @@ module _ (old new : World) (change : IsLittle old new) where
   pub sound_still : AreSound old → AreSound new
   sound_still sound dg = chained_fewer dg old new (change.had dg) (change.stays dg) (sound dg)
 
-  pub standing_still : IsStanding old → ((vol : Word) (v : Volume) → new.volumes vol ≡ Some v → HoldsNoHeader v) → IsStanding new
-  standing_still s volumes = record {
+  pub standing_still : IsStanding old → NamesAreApart new → ((vol : Word) (v : Volume) → new.volumes vol ≡ Some v → HoldsNoHeader v) → IsStanding new
+  standing_still s names volumes = record {
     copies = sound_still s.copies;
     group = subst (λ (g : Option Group). MatchOption g (Unit {0}) (IsLeading new)) (sym change.group) (group_kept old.group change.members s.group);
     volumes = volumes;
+    names = names;
   }
 
 -- ---- the group leaves
@@ -90,6 +91,7 @@ module _ (w : World) where
     copies = λ dg. chained_fewer dg w (group_gone w) (gone_back dg) (gone_fore dg) (s.copies dg);
     group = tt;
     volumes = λ vol v is. s.volumes vol v (lone_was (w.volumes vol) v is);
+    names = λ vol is. cc;
   }
 
 -- ---- the power goes
@@ -125,4 +127,5 @@ module _ (old new : World) (goes : PowerGoes old new) (s : IsSettled old) where
     copies = λ dg. chained_fewer dg old new (power_back dg) (power_fore dg) (s.copies dg);
     group = subst (λ (g : Option Group). MatchOption g (Unit {0}) (IsLeading new)) (sym goes.no_group) tt;
     volumes = λ vol v is. never_some (new.volumes vol) v (goes.volumes vol) is;
+    names = λ vol is. none_lone (new.volumes vol) (goes.volumes vol);
   }

@@ -24,6 +24,7 @@ use Rattle.vx_moments.specs.World.{World, Volume, Group}
 use Rattle.vx_moments.specs.Moment.{Moment}
 use Rattle.vx_moments.specs.Leaving.{PowerGoes}
 use Rattle.vx_moments.specs.Holding.{has_volume}
+use Rattle.vx_moments.proofs.Lone.{none_lone}
 use Rattle.vx_moments.specs.Commit.{Writing}
 use Rattle.vx_plans.specs.Plans.{plan_of}
 use Rattle.vx_plans.specs.Records.{devices_of}
@@ -42,12 +43,14 @@ use Rattle.vx_sound.specs.Laws.{FormWritesNoHeader, WriteNoHeader, IsIdle}
 use Rattle.vx_sound.specs.Sound.{AreSound}
 use Rattle.vx_sound.specs.Standing.{IsLeading, IsStanding}
 use Rattle.vx_sound.proofs.Headers.{never_some}
-use Rattle.vx_sound.proofs.Commits.{Ends, commit_done, commit_stopped, change_ready, make_ready, import_ready, imported_led}
+use Rattle.vx_sound.proofs.Commits.{Ends, commit_done, commit_stopped, change_ready, change_unnamed, make_ready, make_unnamed, import_ready, import_unnamed, imported_led, join_unnamed}
 use Rattle.vx_sound.proofs.Devices.{standing_image, standing_torn, standing_wiped}
 use Rattle.vx_sound.proofs.Joiners.{all_unheld, all_blank, room_for, ready_join, ready_create}
 use Rattle.vx_sound.proofs.Ready.{IsReady}
 use Rattle.vx_sound.proofs.Runs.{AreCalm, AllPassed, Through, runs_through}
 use Rattle.vx_sound.proofs.Settlement.{settled, standing_gone, standing_left}
+use Rattle.vx_sound.proofs.Names.{IsApart, create_apart}
+use Rattle.vx_sound.proofs.Running.{start_ends, stop_done, stop_ends}
 use Rattle.vx_sound.proofs.Volumes.{standing_bare, standing_served}
 
 same_ends : (end : End) (w v : World) → v ≡ w → IsStanding w → Ends end v
@@ -71,6 +74,9 @@ group_here dg disks w g here passed =
     holds : (b : Bool) → unless b (refusal.NoGroup (Some dg)) ≡ None → b ≡ true
     holds true e = refl
     holds false e = never_some None (refusal.NoGroup (Some dg)) refl (sym e)
+
+not_recorded : (w : World) (vol : Word) → is_volume vol w ≡ false → has_volume w.group vol ≡ false
+not_recorded w vol e = (or_neither (is_some (w.volumes vol)) (has_volume w.group vol) e).1
 
 not_started : (w : World) (vol : Word) → is_volume vol w ≡ false → w.volumes vol ≡ None
 not_started w vol e = by (w.volumes vol) (or_neither (is_some (w.volumes vol)) (has_volume w.group vol) e).0
@@ -96,14 +102,14 @@ edits_end edits IsWriting old end new s ready (inr (inr (x, is, stopped))) = com
 change_ends : (change : Change) (disks : List DiskAt) (finish : Finish) (old : Moment) (views : List View) (end : End) (new : Moment) → IsStanding old.world → Runs disks (stage.Change change ∷ []) finish old views end new → Ends end new.world
 change_ends change disks finish old views end new s runs =
     one_stage (stage.Change change) disks finish old views end new
-    (λ m done. commit_done done.0 old m s (change_ready change old.world done.0 s done.1) done.2)
+    (λ m done. commit_done done.0 old m s (change_ready change old.world done.0 s done.1) (change_unnamed change old.world done.0 s done.1) done.2)
     (λ stops. edits_end (λ g. edits_of change (Some g)) (λ x. IsChange (edits_of change old.world.group) old.world x) old end new s (λ x is. change_ready change old.world x s is) stops)
     runs
 
 make_ends : (text : List ℕ) (disks : List DiskAt) (finish : Finish) (old : Moment) (views : List View) (end : End) (new : Moment) → IsStanding old.world → Runs disks (stage.Make text ∷ []) finish old views end new → Ends end new.world
 make_ends text disks finish old views end new s runs =
     one_stage (stage.Make text) disks finish old views end new
-    (λ m done. commit_done done.0 old m s (make_ready text old.world done.0 s done.1) done.2)
+    (λ m done. commit_done done.0 old m s (make_ready text old.world done.0 s done.1) (make_unnamed text old.world done.0 s done.1) done.2)
     stops runs
   where
     stops : Stops (stage.Make text) disks old end new → Ends end new.world
@@ -124,7 +130,7 @@ import_ends dg disks finish old views end new s runs =
     (λ m done.
     let mid = done.1 in
     let same = sym done.2.world in
-    commit_done done.3.0 mid m (subst IsStanding same s) (subst (λ (w : World). IsReady done.3.0 w) same (import_ready dg old.world done.3.0 old.counts mid.counts s done.3.1)) done.3.2)
+    commit_done done.3.0 mid m (subst IsStanding same s) (subst (λ (w : World). IsReady done.3.0 w) same (import_ready dg old.world done.3.0 old.counts mid.counts s done.3.1)) (subst (λ (w : World). IsApart done.3.0.config w) same (import_unnamed dg old.world done.3.0 old.counts mid.counts done.3.1)) done.3.2)
     stops runs
   where
     stops : Stops (stage.Import dg) disks old end new → Ends end new.world
@@ -148,7 +154,7 @@ module _ (views : List View) (end : End) (new : Moment) where
   bare_ends : (vol name : Word) (mid : Moment) → IsStanding mid.world → AllPassed (stage.Take name ∷ stage.LookBlank name ∷ stage.Gate (tests.Sized name) ∷ []) [] mid.world → Runs [] (stage.StartBare vol name ∷ []) Nothing mid views end new → Ends end new.world
   bare_ends vol name mid s passed runs =
       one_stage (stage.StartBare vol name) [] Nothing mid views end new
-      (λ m done. standing_bare vol name mid.world m.world s (not_started mid.world vol done.0) passed.1.0 (λ member. passed.0.1.0 (inr member)) done.1)
+      (λ m done. standing_bare vol name mid.world m.world s (not_started mid.world vol done.0) (not_recorded mid.world vol done.0) passed.1.0 (λ member. passed.0.1.0 (inr member)) done.1)
       (λ stops. same_ends end mid.world new.world stops.1.1.stays.world s)
       runs
 
@@ -173,7 +179,7 @@ module _ (views : List View) (end : End) (new : Moment) where
       let ready = λ (x : Writing) (is : IsCreating dg disks mid.world x).
       ready_create dg disks mid.world x is (no_group disks mid.world passed.1.1.0) (all_unheld mid.world [] (devices_of disks) passed.0) (all_blank mid.world (devices_of disks) passed.1.0) passed.1.1.1.1.0 in
       one_stage (stage.Create dg) disks Nothing mid views end new
-      (λ m done. commit_done done.1.0 mid m s (ready done.1.0 done.1.1) done.1.2)
+      (λ m done. commit_done done.1.0 mid m s (ready done.1.0 done.1.1) (create_apart mid.world dg disks done.1.0.config done.1.1.records) done.1.2)
       (λ stops. elim stops [
         | inl here ↦ same_ends end mid.world new.world here.2.1.stays.world s
         | inr stopped ↦ commit_stopped stopped.0 mid end new s (ready stopped.0 stopped.1) stopped.2
@@ -188,9 +194,15 @@ module _ (views : List View) (end : End) (new : Moment) where
       ready_join p dg mid.world x is (imported_led mid.world x.group s is.group) (room_for (p ∷ []) mid.world x.group is.group passed.1.1.1.0)
       (group_here dg (p ∷ []) mid.world x.group is.group passed.1.0) passed.0.0.1.0 passed.1.1.0.0 passed.1.1.1.1.0 in
       one_stage stage.Join (p ∷ []) Nothing mid views end new
-      (λ m done. commit_done done.0 mid m s (ready done.0 done.1) done.2)
+      (λ m done. commit_done done.0 mid m s (ready done.0 done.1) (join_unnamed p mid.world done.0 s done.1) done.2)
       (λ stops. edits_end (λ g. joining_edit p mid.world g ∷ []) (λ x. IsJoining p mid.world x) mid end new s ready stops)
       runs
+
+  starting_ends : (dg : Option Word) (vol : Word) (mid : Moment) → IsStanding mid.world → AllPassed (stage.Gate (tests.GroupIs dg) ∷ stage.Gate (tests.HasVolume vol) ∷ []) [] mid.world → Runs [] (stage.Start vol ∷ []) Nothing mid views end new → Ends end new.world
+  starting_ends dg vol mid s passed runs = one_stage (stage.Start vol) [] Nothing mid views end new (λ m done. absurd done) (λ stops. start_ends mid end new s vol stops) runs
+
+  stopping_ends : (dg : Option Word) (vol : Word) (mid : Moment) → IsStanding mid.world → AllPassed (stage.Gate (tests.GroupIs dg) ∷ stage.Gate (tests.HasVolume vol) ∷ []) [] mid.world → Runs [] (stage.Stop vol ∷ []) Nothing mid views end new → Ends end new.world
+  stopping_ends dg vol mid s passed runs = one_stage (stage.Stop vol) [] Nothing mid views end new (λ m done. stop_done vol mid s m done) (λ stops. stop_ends vol mid s end new stops) runs
 
   shown_ends : (finish : Finish) (mid : Moment) → IsStanding mid.world → Runs [] [] finish mid views end new → Ends end new.world
   shown_ends finish mid s runs = inl (subst (λ (n : Moment). IsStanding n.world) (sym runs.2) s)
@@ -277,28 +289,30 @@ module _ (old : Moment) (views : List View) (end : End) (new : Moment) (s : IsSt
 
 -- ---- what is left
 
-leaves : (end : End) (began w left : World) → IsStanding began → Ends end w → Leaves end began w left → IsStanding left
-leaves (ends.Refused refusal) began w left s e is = subst IsStanding (sym is) s
-leaves (ends.Done copied parts blocks) began w left s (inl t) is = subst IsStanding (sym is) t
-leaves (ends.Done copied parts blocks) began w left s (inr (t, inl never)) is = cc
-leaves (ends.Done copied parts blocks) began w left s (inr (t, inr never)) is = cc
-leaves (ends.Fault told device parts) began w left s (inl t) is = subst IsStanding (sym is) t
-leaves (ends.Fault told device parts) began w left s (inr (t, inl never)) is = cc
-leaves (ends.Fault told device parts) began w left s (inr (t, inr never)) is = cc
-leaves ends.ShelfFailed began w left s (inl t) is = subst IsStanding (sym is) t
-leaves ends.ShelfFailed began w left s (inr (t, inl never)) is = cc
-leaves ends.ShelfFailed began w left s (inr (t, inr never)) is = cc
-leaves ends.GroupLost began w left s (inl t) is = subst IsStanding (sym is.1) (standing_gone w (settled w t))
-leaves ends.GroupLost began w left s (inr (t, must)) is = subst IsStanding (sym is.1) (standing_gone w t)
-leaves (ends.Lost parts) began w left s (inl t) goes = standing_left w left goes.1 (settled w t)
-leaves (ends.Lost parts) began w left s (inr (t, must)) goes = standing_left w left goes.1 t
+leaves : (end : End) (w left : World) → Ends end w → Leaves end w left → IsStanding left
+leaves (ends.Refused refusal) w left (inl t) is = subst IsStanding (sym is) t
+leaves (ends.Refused refusal) w left (inr (t, inl never)) is = cc
+leaves (ends.Refused refusal) w left (inr (t, inr never)) is = cc
+leaves (ends.Done copied parts blocks) w left (inl t) is = subst IsStanding (sym is) t
+leaves (ends.Done copied parts blocks) w left (inr (t, inl never)) is = cc
+leaves (ends.Done copied parts blocks) w left (inr (t, inr never)) is = cc
+leaves (ends.Fault told device parts) w left (inl t) is = subst IsStanding (sym is) t
+leaves (ends.Fault told device parts) w left (inr (t, inl never)) is = cc
+leaves (ends.Fault told device parts) w left (inr (t, inr never)) is = cc
+leaves ends.ShelfFailed w left (inl t) is = subst IsStanding (sym is) t
+leaves ends.ShelfFailed w left (inr (t, inl never)) is = cc
+leaves ends.ShelfFailed w left (inr (t, inr never)) is = cc
+leaves ends.GroupLost w left (inl t) is = subst IsStanding (sym is.1) (standing_gone w (settled w t))
+leaves ends.GroupLost w left (inr (t, must)) is = subst IsStanding (sym is.1) (standing_gone w t)
+leaves (ends.Lost parts) w left (inl t) goes = standing_left w left goes.1 (settled w t)
+leaves (ends.Lost parts) w left (inr (t, must)) goes = standing_left w left goes.1 t
 
 pub each_step_keeps_the_world_sound : (place : ℕ) (c : Command) (old : Moment) (answer : Answer) (new : Moment)
     → FormWritesNoHeader c.form → IsStanding old.world → Step place c old answer new → IsStanding new.world
 each_step_keeps_the_world_sound place c old answer new none s step =
-    leaves step.end old.world step.over.world new.world s (command_ends old step.views step.end step.over s place c step.does) step.leaves
+    leaves step.end step.over.world new.world (command_ends old step.views step.end step.over s place c step.does) step.leaves
 
-run_stands : (place : ℕ) (old : Moment) (commands : List Command) (answers : List Answer) (last : Moment)
+pub run_stands : (place : ℕ) (old : Moment) (commands : List Command) (answers : List Answer) (last : Moment)
     → WriteNoHeader commands → IsStanding old.world → IsTranscript place old commands answers last → IsStanding last.world
 run_stands place old [] [] last none s is = subst (λ (m : Moment). IsStanding m.world) (sym is) s
 run_stands place old (c ∷ cs) (a ∷ rest) last none s (mid, step, more) = run_stands (place + 1) mid cs rest last none.1 (each_step_keeps_the_world_sound place c old a mid none.0 s step) more
@@ -310,11 +324,12 @@ pub each_run_leaves_sound_devices : (place : ℕ) (old : Moment) (commands : Lis
 each_run_leaves_sound_devices place old commands answers last left none s is goes =
     standing_left last.world left goes (settled last.world (run_stands place old commands answers last none s is))
 
-sound_stands : (w : World) → IsIdle w → AreSound w → IsStanding w
+pub sound_stands : (w : World) → IsIdle w → AreSound w → IsStanding w
 sound_stands w idle sound = record {
   copies = sound;
   group = subst (λ (g : Option Group). MatchOption g (Unit {0}) (IsLeading w)) (sym idle.group) tt;
   volumes = λ vol v is. never_some (w.volumes vol) v (idle.volumes vol) is;
+  names = λ vol is. none_lone (w.volumes vol) (idle.volumes vol);
 }
 
 pub each_run_keeps_devices_sound : (place : ℕ) (old : Moment) (commands : List Command) (answers : List Answer) (last : Moment) (left : World)

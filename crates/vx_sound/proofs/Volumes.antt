@@ -20,21 +20,24 @@ use Rattle.vx_group_images.specs.Owners.{owners_of}
 use Rattle.vx_group_images.specs.Tracks.{volume_failed}
 use Rattle.vx_group_images.proofs.Tracked.{goes_lies}
 use Rattle.vx_moments.specs.Moment.{Moment, Rests}
-use Rattle.vx_moments.specs.Holding.{IsLent, IsMemberDevice, HasDevice}
+use Rattle.vx_moments.specs.Holding.{IsLent, IsMemberDevice, HasDevice, has_volume}
+use Rattle.vx_moments.specs.Leaving.{lone, lone_by}
+use Rattle.vx_moments.proofs.Lone.{lone_stays}
+use Rattle.vx_mask.proofs.Tests.{not_both}
 use Rattle.vx_plans.specs.Calls.{volume_of, start_of, count_of, values_of, done_kind, failed_kind, IsOf, AreOf, Tells}
 use Rattle.vx_plans.specs.GroupCalls.{BecomesBy, IsServedOnPlexes, is_known}
 use Rattle.vx_plans.specs.Serving.{CallRuns, ServesOn}
 use Rattle.vx_plans.specs.Stages.{IsBare, bare_volume, HasNoHeader}
-use Rattle.vx_sound.specs.Standing.{HoldsNoHeader, HoldsNoneOn, IsStanding}
+use Rattle.vx_sound.specs.Standing.{HoldsNoHeader, HoldsNoneOn, IsStanding, NamesAreApart}
 use Rattle.vx_sound.proofs.Headers.{none_filled, never_some, some_same}
 use Rattle.vx_sound.proofs.Fewer.{HadEach, HasOrNone}
 use Rattle.vx_sound.proofs.Lists.{all_from, all_imp, all_without}
-use Rattle.vx_sound.proofs.Private.{behind_private, standing_behind}
+use Rattle.vx_sound.proofs.Private.{IsSameFront, behind_private, standing_behind}
 use Rattle.vx_sound.proofs.Settlement.{MemberStays, standing_still}
 
 -- ---- a volume is started
 
-module _ (w : World) (vol name : Word) (device : Device) (free : w.volumes vol ≡ None) (was : w.devices name ≡ Some device) (blank : header_of (device.contents 0) ≡ None) (idle : IsMemberDevice w.group name → ⊥) where
+module _ (w : World) (vol name : Word) (device : Device) (free : w.volumes vol ≡ None) (unrecorded : has_volume w.group vol ≡ false) (was : w.devices name ≡ Some device) (blank : header_of (device.contents 0) ≡ None) (idle : IsMemberDevice w.group name → ⊥) where
   abbrev after : World
   after = record w { volumes = put vol (Some (bare_volume name device)) w.volumes }
 
@@ -82,16 +85,22 @@ module _ (w : World) (vol name : Word) (device : Device) (free : w.volumes vol �
   bare_holds value (inl same) = ap header_of same ∙ blank
   bare_holds value (inr none) = absurd none
 
+  names_after : NamesAreApart w → NamesAreApart after
+  names_after names v h = elim (name_cases vol v) [
+    | inl same ↦ not_both h (ap (λ (n : Word). has_volume w.group n) (sym same) ∙ unrecorded)
+    | inr differ ↦ ap lone (put_other vol v (Some (bare_volume name device)) w.volumes differ) ∙ names v h
+  ]
+
   pub standing_started : IsStanding w → IsStanding after
-  standing_started s = standing_still w after (record { had = back; stays = fore; group = refl; members = members_stay w.group idle }) s (λ v volume is. elim (name_cases vol v) [
+  standing_started s = standing_still w after (record { had = back; stays = fore; group = refl; members = members_stay w.group idle }) s (names_after s.names) (λ v volume is. elim (name_cases vol v) [
     | inl same ↦ subst HoldsNoHeader (some_same (bare_volume name device) volume (sym (put_same vol (Some (bare_volume name device)) w.volumes) ∙ ap (λ (n : Word). put vol (Some (bare_volume name device)) w.volumes n) same ∙ is)) bare_holds
     | inr differ ↦ s.volumes v volume (sym (put_other vol v (Some (bare_volume name device)) w.volumes differ) ∙ is)
   ])
 
-pub standing_bare : (vol name : Word) (old new : World) → IsStanding old → old.volumes vol ≡ None → HasNoHeader old name → (IsMemberDevice old.group name → ⊥) → IsBare vol name old new → IsStanding new
-standing_bare vol name old new s free (d, is, blank) idle made =
+pub standing_bare : (vol name : Word) (old new : World) → IsStanding old → old.volumes vol ≡ None → has_volume old.group vol ≡ false → HasNoHeader old name → (IsMemberDevice old.group name → ⊥) → IsBare vol name old new → IsStanding new
+standing_bare vol name old new s free unrecorded (d, is, blank) idle made =
     let same : d ≡ made.device = some_same d made.device (sym is ∙ made.was) in
-    subst IsStanding (sym made.is) (standing_started old vol name made.device free made.was (ap (λ (x : Device). header_of (x.contents 0)) (sym same) ∙ blank) idle s)
+    subst IsStanding (sym made.is) (standing_started old vol name made.device free unrecorded made.was (ap (λ (x : Device). header_of (x.contents 0)) (sym same) ∙ blank) idle s)
 
 -- ---- a volume lives on
 
@@ -201,20 +210,75 @@ module _ (w : World) (vol : Word) (v : Volume) (life : Life) (was : w.volumes vo
   on_members None = tt
   on_members (Some g) = all_from (MemberStays w on) g.members (λ m. record { device = refl; apart = lent_before m.device })
 
+  same_lone : (lies : Lies) → lone_by lies v ≡ None → lone_by lies (record v { life = life }) ≡ None
+  same_lone (OnDevice device) none = cc
+  same_lone (OnPlexes plexes) none = refl
+
+  on_names : NamesAreApart w → NamesAreApart on
+  on_names names u h = elim (name_cases vol u) [
+    | inl same ↦
+        let before : lone (Some v) ≡ None = ap lone (sym was ∙ ap (λ (n : Word). w.volumes n) same) ∙ names u h in
+        ap lone (ap (λ (n : Word). put vol (Some (record v { life = life })) w.volumes n) (sym same) ∙ put_same vol (Some (record v { life = life })) w.volumes) ∙ same_lone v.lies before
+    | inr differ ↦ ap lone (put_other vol u (Some (record v { life = life })) w.volumes differ) ∙ names u h
+  ]
+
   pub standing_on : IsStanding w → IsStanding on
-  standing_on s = standing_still w on (record { had = on_back; stays = on_fore; group = refl; members = on_members w.group }) s (λ u volume is. elim (name_cases vol u) [
+  standing_on s = standing_still w on (record { had = on_back; stays = on_fore; group = refl; members = on_members w.group }) s (on_names s.names) (λ u volume is. elim (name_cases vol u) [
     | inl same ↦ subst HoldsNoHeader (some_same (record v { life = life }) volume (sym (put_same vol (Some (record v { life = life })) w.volumes) ∙ ap (λ (n : Word). put vol (Some (record v { life = life })) w.volumes n) same ∙ is)) holds
     | inr differ ↦ s.volumes u volume (sym (put_other vol u (Some (record v { life = life })) w.volumes differ) ∙ is)
   ])
 
 -- ---- a volume on plexes of the group
 
+-- a volume on plexes is not there without the group
+pub lone_plexes : (v : Volume) (plexes : List Word) → v.lies ≡ OnPlexes plexes → lone (Some v) ≡ None
+lone_plexes v plexes is = ap (λ l. lone_by l v) is
+
+-- Devices have changed behind their private regions alone, and one volume that lies on no whole device is another, on plexes, or is gone.
+module _ (vol : Word) (there : Word → Option Device) (later : Option Volume) (old : World) (was : lone (old.volumes vol) ≡ None) (is_lone : lone later ≡ None) (devices : (name : Word) → IsSameFront (old.devices name) (there name)) where
+  abbrev now : World
+  now = record old { devices = there; volumes = put vol later old.volumes }
+
+  -- such a volume has no whole device
+  never : (o : Option Volume) (u : Volume) (name : Word) → lone o ≡ None → o ≡ Some u → HasDevice u.lies name → ⊥
+  never o u name none is has = never_some (lone o) u none (lone_stays o u name is has)
+
+  lent_before_it : (other : Word) → IsLent now other → IsLent old other
+  lent_before_it other (u, volume, is, has) = elim (name_cases vol u) [
+    | inl same ↦ absurd (never later volume other is_lone (sym (put_same vol later old.volumes) ∙ ap (λ (n : Word). put vol later old.volumes n) same ∙ is) has)
+    | inr differ ↦ (u, volume, sym (put_other vol u later old.volumes differ) ∙ is, has)
+  ]
+
+  lent_after_it : (other : Word) → IsLent old other → IsLent now other
+  lent_after_it other (u, volume, is, has) = elim (name_cases vol u) [
+    | inl same ↦ absurd (never (old.volumes vol) volume other was (ap (λ (n : Word). old.volumes n) same ∙ is) has)
+    | inr differ ↦ (u, volume, put_other vol u later old.volumes differ ∙ is, has)
+  ]
+
+  names_now : NamesAreApart old → NamesAreApart now
+  names_now names u h = elim (name_cases vol u) [
+    | inl same ↦ ap lone (ap (λ (n : Word). put vol later old.volumes n) (sym same) ∙ put_same vol later old.volumes) ∙ is_lone
+    | inr differ ↦ ap lone (put_other vol u later old.volumes differ) ∙ names u h
+  ]
+
+  -- it holds no header, as it has no device
+  no_header : (o : Option Volume) (u : Volume) → lone o ≡ None → o ≡ Some u → HoldsNoHeader u
+  no_header o u none is = by u.lies refl
+    where
+      by : (lies : Lies) → u.lies ≡ lies → HoldsNoneOn lies u
+      by (OnDevice device) lies = absurd (never o u device none is (subst (λ l. HasDevice l device) (sym lies) refl))
+      by (OnPlexes plexes) lies = tt
+
+  pub standing_goes : IsStanding old → IsStanding now
+  standing_goes s = standing_behind old now (record { devices = devices; lent = lent_before_it }) lent_after_it refl s (names_now s.names)
+      (λ u volume is. elim (name_cases vol u) [
+        | inl same ↦ no_header later volume is_lone (sym (put_same vol later old.volumes) ∙ ap (λ (n : Word). put vol later old.volumes n) same ∙ is)
+        | inr differ ↦ s.volumes u volume (sym (put_other vol u later old.volumes differ) ∙ is)
+      ])
+
 module _ (place : ℕ) (call : Call) (plexes : List Word) (v : Volume) (old : Moment) (end : End) (new : Moment) (was : old.world.volumes (volume_of call) ≡ Some v) (lies : v.lies ≡ OnPlexes plexes) (done : IsServedOnPlexes place call plexes v old end new) where
   abbrev vol : Word
   vol = volume_of call
-
-  abbrev now : World
-  now = record old.world { devices = new.world.devices; volumes = put vol (Some done.later) old.world.volumes }
 
   -- it lies where it did
   later_lies : done.later.lies ≡ OnPlexes plexes
@@ -224,35 +288,10 @@ module _ (place : ℕ) (call : Call) (plexes : List Word) (v : Volume) (old : Mo
       by true lives = ap (λ (x : Volume). x.lies) lives.is ∙ goes_lies (owners_of done.group vol plexes) lives.entries (volume_failed (owners_of done.group vol plexes) lives.failed v) ∙ lies
       by false is = ap (λ (x : Volume). x.lies) is ∙ lies
 
-  never : (other : Word) (volume : Volume) → volume.lies ≡ OnPlexes plexes → HasDevice volume.lies other → ⊥
-  never other volume on has = subst (λ l. HasDevice l other) on has
-
-  lent_before_it : (other : Word) → IsLent now other → IsLent old.world other
-  lent_before_it other (u, volume, is, has) = elim (name_cases vol u) [
-    | inl same ↦
-        let here : done.later ≡ volume = some_same done.later volume (sym (put_same vol (Some done.later) old.world.volumes) ∙ ap (λ (n : Word). put vol (Some done.later) old.world.volumes n) same ∙ is) in
-        absurd (never other volume (ap (λ (x : Volume). x.lies) (sym here) ∙ later_lies) has)
-    | inr differ ↦ (u, volume, sym (put_other vol u (Some done.later) old.world.volumes differ) ∙ is, has)
-  ]
-
-  lent_after_it : (other : Word) → IsLent old.world other → IsLent now other
-  lent_after_it other (u, volume, is, has) = elim (name_cases vol u) [
-    | inl same ↦
-        let here : v ≡ volume = some_same v volume (sym was ∙ ap (λ (n : Word). old.world.volumes n) same ∙ is) in
-        absurd (never other volume (ap (λ (x : Volume). x.lies) (sym here) ∙ lies) has)
-    | inr differ ↦ (u, volume, put_other vol u (Some done.later) old.world.volumes differ ∙ is, has)
-  ]
-
   pub standing_plexes : IsStanding old.world → IsStanding new.world
-  standing_plexes s = subst IsStanding (sym done.world) (standing_behind old.world now
-      (record { devices = λ name. behind_private done.group vol name (old.world.devices name) (new.world.devices name) (done.changes name); lent = lent_before_it })
-      lent_after_it refl s
-      (λ u volume is. elim (name_cases vol u) [
-        | inl same ↦
-            let here : done.later ≡ volume = some_same done.later volume (sym (put_same vol (Some done.later) old.world.volumes) ∙ ap (λ (n : Word). put vol (Some done.later) old.world.volumes n) same ∙ is) in
-            subst (λ l. HoldsNoneOn l volume) (sym (ap (λ (x : Volume). x.lies) (sym here) ∙ later_lies)) tt
-        | inr differ ↦ s.volumes u volume (sym (put_other vol u (Some done.later) old.world.volumes differ) ∙ is)
-      ]))
+  standing_plexes s = subst IsStanding (sym done.world)
+      (standing_goes vol new.world.devices (Some done.later) old.world (ap lone was ∙ lone_plexes v plexes lies) (lone_plexes done.later plexes later_lies)
+      (λ name. behind_private done.group vol name (old.world.devices name) (new.world.devices name) (done.changes name)) s)
 
 -- a call leaves the world sound
 pub standing_served : (place : ℕ) (call : Call) (old : Moment) (end : End) (new : Moment) → IsBuilt call → IsStanding old.world → CallRuns place call old end new → IsStanding new.world

@@ -16,7 +16,7 @@ use Rattle.vx_moments.specs.World.{World}
 use Rattle.vx_moments.specs.Moment.{Moment, Counts}
 use Rattle.vx_moments.specs.Leaving.{PowerGoes}
 use Rattle.vx_plans.specs.Finding.{Found, Finds}
-use Rattle.vx_plans.specs.Steps.{Step, IsTranscript}
+use Rattle.vx_plans.specs.Steps.{Step, IsTranscript, LeavesOff}
 use Rattle.vx_sound.specs.Sound.{IsNewest, IsChained, AreSound}
 use Rattle.vx_sound.specs.Standing.{IsStanding}
 
@@ -64,3 +64,13 @@ abbrev pub EachRunKeepsDevicesSound : Type 0
 EachRunKeepsDevicesSound =
     (place : ℕ) (old : Moment) (commands : List Command) (answers : List Answer) (last : Moment) (left : World)
     → WriteNoHeader commands → IsIdle old.world → AreSound old.world → IsTranscript place old commands answers last → PowerGoes last.world left → AreSound left
+
+-- what want of memory leaves of a command is sound too
+abbrev pub EachWantKeepsTheWorldSound : Type 0
+EachWantKeepsTheWorldSound = (c : Command) (old new : Moment) → IsStanding old.world → LeavesOff c old new → IsStanding new.world
+
+-- so a run leaves sound devices that is left off in its last command, as memory is wanting
+abbrev pub EachRunLeftOffKeepsDevicesSound : Type 0
+EachRunLeftOffKeepsDevicesSound =
+    (place : ℕ) (old : Moment) (commands : List Command) (answers : List Answer) (last : Moment) (c : Command) (off : Moment) (left : World)
+    → WriteNoHeader commands → IsIdle old.world → AreSound old.world → IsTranscript place old commands answers last → LeavesOff c last off → PowerGoes off.world left → AreSound left

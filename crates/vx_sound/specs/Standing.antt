@@ -8,7 +8,8 @@ use Rattle.vx_life.specs.Candidates.{IsAmong}
 use Rattle.vx_copies.specs.Lists.{AllOf, AnyOf}
 use Rattle.vx_copies.specs.Image.{Offer}
 use Rattle.vx_moments.specs.Copies.{IsTextOf, label_of}
-use Rattle.vx_moments.specs.Holding.{IsLent}
+use Rattle.vx_moments.specs.Holding.{IsLent, has_volume}
+use Rattle.vx_moments.specs.Leaving.{lone}
 use Rattle.vx_moments.specs.World.{World, Device, Volume, Member, Group, Lies, OnDevice, OnPlexes}
 use Rattle.vx_sound.specs.Offers.{Offers}
 use Rattle.vx_sound.specs.Sound.{AreSound}
@@ -46,8 +47,14 @@ pub record IsLeading (w : World) (g : Group) : Type 0 where
   pub some : AnyOf (λ m. has g.good m.slot ≡ true) g.members
   pub recorded : AllOf (λ m. list_any (λ d. d.slot == m.slot) g.config.disks ≡ true) g.members
 
--- the world is sound: the copies of each group are chained, the imported one leads, and no started volume holds a header
+-- no started volume that lies on a whole device has the name of one that the imported group records
+abbrev pub NamesAreApart : World → Type 0
+NamesAreApart w = (vol : Word) → has_volume w.group vol ≡ true → lone (w.volumes vol) ≡ None
+
+-- the world is sound: the copies of each group are chained, the imported one leads, no started volume holds a header, and none that lies
+-- on a whole device has a name that the group records
 pub record IsStanding (w : World) : Type 0 where
   pub copies : AreSound w
   pub group : MatchOption w.group (Unit {0}) (IsLeading w)
   pub volumes : (vol : Word) (v : Volume) → w.volumes vol ≡ Some v → HoldsNoHeader v
+  pub names : NamesAreApart w

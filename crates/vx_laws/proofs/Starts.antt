@@ -1,0 +1,155 @@
+-- A start begins a life over what the volume's bytes are read as, and neither copying nor coming to rest is anything to its history.
+use Rattle.std.proofs.Common.{◌≡◌, ◌∙◌, Bool, true, false, cond, List, [], ◌∷◌, Option, Some, None, MatchBool, MatchOption, refl, sym, ap, subst, inl, inr}
+use Rattle.std.specs.Str.{bytes_eq}
+use Rattle.vx_base.specs.Named.{Word, put}
+use Rattle.vx_base.proofs.NamedLemmas.{bytes_eq_same}
+use Rattle.vx_life.specs.Life.{begun_from}
+use Rattle.vx_config_parts.specs.declared.state.VolState.{VolState}
+use Rattle.vx_config_parts.specs.declared.state.VolState.TheVariants as vol
+use Rattle.vx_config_parts.specs.declared.vol.Vol.{Vol}
+use Rattle.vx_image.specs.Image.{Image}
+use Rattle.vx_image.specs.Meaning.{candidates_read}
+use Rattle.vx_answers.specs.declared.answer.End.{End}
+use Rattle.vx_answers.specs.declared.answer.End.TheVariants as ends
+use Rattle.vx_answers.specs.declared.refusal.Refusal.TheVariants as refusal
+use Rattle.vx_moments.specs.Moment.{Counts, Moment}
+use Rattle.vx_moments.specs.World.{Group, OnPlexes, Volume, World}
+use Rattle.vx_group_images.specs.Group.{image_on}
+use Rattle.vx_group_images.specs.Lives.{volume_by, volume_copied}
+use Rattle.vx_group_images.specs.Owners.{owners_of}
+use Rattle.vx_group_images.specs.Tracks.{volume_failed}
+use Rattle.vx_plans.specs.Ends.{EndsIn}
+use Rattle.vx_plans.specs.Starting.{BecomesBy, CopiesTo, IsCopied, IsStartedBy, StartStops, StopsIn, StopsOf, is_copied, may_start, plexes_started, volume_started}
+use Rattle.vx_plans.specs.Stopping.{ComesToRest, IsStopDone, StopStops, rested_volume, without_volume}
+use Rattle.vx_plans.specs.Tests.{volume_in}
+use Rattle.vx_laws.specs.Histories.{HasHistory, HaveHistories, IsHistoried, IsHistoriedOn}
+use Rattle.vx_laws.proofs.Lives.{Holding, Reading, begun_history, carried, put_history, same_volumes, taken_history}
+use Rattle.vx_laws.proofs.Runs.{volumes_of}
+
+-- ---- the volume as it begins
+
+lies_so : (state : VolState) (plexes : List Word) (image : Image) → (volume_by state plexes image).lies ≡ OnPlexes plexes
+lies_so vol.Empty plexes image = refl
+lies_so vol.Clean plexes image = refl
+lies_so vol.Active plexes image = refl
+lies_so vol.NeedSync plexes image = refl
+lies_so vol.Sync plexes image = refl
+
+long_so : (state : VolState) (plexes : List Word) (image : Image) → (volume_by state plexes image).length ≡ image.length
+long_so vol.Empty plexes image = refl
+long_so vol.Clean plexes image = refl
+long_so vol.Active plexes image = refl
+long_so vol.NeedSync plexes image = refl
+long_so vol.Sync plexes image = refl
+
+lives_so : (state : VolState) (plexes : List Word) (image : Image) → (volume_by state plexes image).life ≡ begun_from (candidates_read image)
+lives_so vol.Empty plexes image = refl
+lives_so vol.Clean plexes image = refl
+lives_so vol.Active plexes image = refl
+lives_so vol.NeedSync plexes image = refl
+lives_so vol.Sync plexes image = refl
+
+-- the volume that is found under a name has it
+found_named : (name : Word) (vs : List Vol) (v : Vol) → volume_in name vs ≡ Some v → v.name ≡ name
+found_named name [] v is = cc
+found_named name (u ∷ us) v is = by (bytes_eq u.name name) refl (found_named name us v) is
+  where
+    by : (b : Bool) → bytes_eq u.name name ≡ b → (volume_in name us ≡ Some v → v.name ≡ name) → cond b (Some u) (volume_in name us) ≡ Some v → v.name ≡ name
+    by true e further found = let same : u ≡ v = cc in subst (λ (x : Vol). x.name ≡ name) same (bytes_eq_same u.name name e)
+    by false e further found = further found
+
+-- what the bytes of each volume that may be started are read as
+abbrev pub AreRead : Reading → World → Type 0
+AreRead Read w = (g : Group) → w.group ≡ Some g → (name : Word) (v : Vol) → volume_in name g.config.volumes ≡ Some v → may_start v.state ≡ true → Read name v.len (candidates_read (image_on w.devices g v))
+
+module _ (Held : Holding) (Read : Reading) where
+  started_history : (g : Group) (v : Vol) (image : Image) (sound : Bool) → Read v.name image.length (candidates_read image) → IsHistoried Held Read v.name (volume_started g v image sound)
+  started_history g v image sound was =
+      subst (λ l. IsHistoriedOn Held Read v.name l (volume_started g v image sound)) (sym (lies_so v.state (plexes_started g v) image))
+      (λ is. (candidates_read image, subst (λ n. Read v.name n (candidates_read image)) (sym (long_so v.state (plexes_started g v) image)) was, subst (HasHistory (candidates_read image)) (sym (lives_so v.state (plexes_started g v) image)) (begun_history (candidates_read image))))
+
+  -- devices that fail are nothing to it
+  failed_history : (name : Word) (g : Group) (vol : Word) (plexes : List Word) (failed : Word → Bool) (v : Volume) → IsHistoried Held Read name v → IsHistoried Held Read name (volume_failed (owners_of g vol plexes) failed v)
+  failed_history name g vol plexes failed v own = carried Held Read name v (volume_failed (owners_of g vol plexes) failed v) refl refl refl (λ is. is) own
+
+  copied_history : (name : Word) (copied : Word → Bool) (v : Volume) → IsHistoried Held Read name v → IsHistoried Held Read name (volume_copied copied v)
+  copied_history name copied v own = carried Held Read name v (volume_copied copied v) refl refl refl (λ is. is) own
+
+  module _ (name : Word) (g now : Group) (v : Vol) (failed : Word → Bool) (old new : Counts) (run later : Volume) (own : IsHistoried Held Read name run) where
+    abbrev fails : Volume
+    fails = volume_failed (owners_of now v.name (plexes_started g v)) failed run
+
+    as_failed : later ≡ fails → IsHistoried Held Read name later
+    as_failed is = subst (IsHistoried Held Read name) (sym is) (failed_history name now v.name (plexes_started g v) failed run own)
+
+    copies : (end : End) → CopiesTo g now v failed old new end run later → IsHistoried Held Read name later
+    copies (ends.Done copied parts blocks) (inl is) = subst (IsHistoried Held Read name) (sym is) (copied_history name (is_copied g v) fails (failed_history name now v.name (plexes_started g v) failed run own))
+    copies (ends.Done copied parts blocks) (inr (log, is)) = as_failed is
+    copies (ends.Fault told device parts) is = as_failed is
+    copies (ends.Lost parts) is = as_failed is
+    copies (ends.Refused r) is = as_failed is
+    copies ends.ShelfFailed is = as_failed is
+    copies ends.GroupLost is = as_failed is
+
+    becomes : (sound : Bool) (end : End) → BecomesBy sound g now v failed old new end run later → IsHistoried Held Read name later
+    becomes true end is = copies end is
+    becomes false end is = subst (IsHistoried Held Read name) (sym is) own
+
+  -- ---- a start
+
+  module _ (old new : Moment) (end : End) (all : HaveHistories Held Read old.world) (read : AreRead Read old.world) where
+    still : new.world.volumes ≡ old.world.volumes → HaveHistories Held Read new.world
+    still e = same_volumes Held Read old.world new.world e all
+
+    module _ (g : Group) (here : old.world.group ≡ Some g) (v : Vol) (named : volume_in v.name g.config.volumes ≡ Some v) (may : may_start v.state ≡ true) where
+      begun : (m : Moment) → IsStartedBy g v old m → HaveHistories Held Read m.world
+      begun m s =
+          let image = image_on old.world.devices g v in
+          let recorded : HaveHistories Held Read s.recorded.world = same_volumes Held Read old.world s.recorded.world (s.committed.committing.volumes ∙ ap (λ (w : World). w.volumes) s.touched.world) all in
+          same_volumes Held Read (record s.recorded.world { volumes = put v.name (Some (volume_started g v image s.begins.sound)) s.recorded.world.volumes }) m.world (ap (λ (w : World). w.volumes) s.begins.world)
+          (put_history Held Read s.recorded.world v.name (volume_started g v image s.begins.sound) (started_history g v image s.begins.sound (read g here v.name v named may)) recorded)
+
+      copied : (m : Moment) → HaveHistories Held Read m.world → IsCopied g v m end new → HaveHistories Held Read new.world
+      copied m have c =
+          same_volumes Held Read (record m.world { volumes = put v.name (Some c.later) m.world.volumes }) new.world (ap (λ (w : World). w.volumes) c.goes.world)
+          (put_history Held Read m.world v.name c.later (becomes v.name g c.group v c.failed m.counts new.counts c.volume c.later (have v.name c.volume c.was) c.volume.sound end c.becomes) have)
+
+      of_volume : StopsOf g v old end new → HaveHistories Held Read new.world
+      of_volume (inl (why, rests)) = still (volumes_of old.world new.world rests.stays.world)
+      of_volume (inr (inl stops)) = still (ap (λ (w : World). w.volumes) stops.touched.world)
+      of_volume (inr (inr (inl c))) = still (c.stops.2.committing.volumes ∙ ap (λ (w : World). w.volumes) c.touched.world)
+      of_volume (inr (inr (inr a))) = copied a.begun (begun a.begun a.started) a.copied
+
+    of_state : (g : Group) (v : Vol) (may : Bool) → may_start v.state ≡ may → old.world.group ≡ Some g → volume_in v.name g.config.volumes ≡ Some v → MatchBool may (StopsOf g v old end new) (EndsIn (refusal.VolState v.state) old end new) → HaveHistories Held Read new.world
+    of_state g v true may here is stops = of_volume g here v is may stops
+    of_state g v false may here is ends = still (volumes_of old.world new.world ends.1.stays.world)
+
+    in_group : (g : Group) (name : Word) (o : Option Vol) → old.world.group ≡ Some g → volume_in name g.config.volumes ≡ o → MatchOption o (EndsIn (refusal.NoObject name) old end new) (λ v. MatchBool (may_start v.state) (StopsOf g v old end new) (EndsIn (refusal.VolState v.state) old end new)) → HaveHistories Held Read new.world
+    in_group g name None here is ends = still (volumes_of old.world new.world ends.1.stays.world)
+    in_group g name (Some v) here is stops =
+        of_state g v (may_start v.state) refl here (subst (λ (n : Word). volume_in n g.config.volumes ≡ Some v) (sym (found_named name g.config.volumes v is)) is) stops
+
+    in_world : (name : Word) (o : Option Group) → old.world.group ≡ o → MatchOption o (EndsIn (refusal.NoGroup None) old end new) (λ g. StopsIn g name old end new) → HaveHistories Held Read new.world
+    in_world name None here ends = still (volumes_of old.world new.world ends.1.stays.world)
+    in_world name (Some g) here stops = in_group g name (volume_in name g.config.volumes) here refl stops
+
+    pub start_kept : (name : Word) → StartStops name old end new → HaveHistories Held Read new.world
+    start_kept name stops = in_world name old.world.group refl stops
+
+  -- ---- a stop
+
+  module _ (name : Word) (old : Moment) (all : HaveHistories Held Read old.world) where
+    rested : (mid : Moment) → ComesToRest name old mid → HaveHistories Held Read mid.world
+    rested mid rest =
+        same_volumes Held Read (record old.world { volumes = put name (Some (rested_volume rest)) old.world.volumes }) mid.world (ap (λ (w : World). w.volumes) rest.goes.world)
+        (put_history Held Read old.world name (rested_volume rest) (failed_history name rest.group name rest.plexes rest.failed rest.volume (all name rest.volume rest.there)) all)
+
+    pub stop_done : (new : Moment) → IsStopDone name old new → HaveHistories Held Read new.world
+    stop_done new d =
+        same_volumes Held Read (without_volume name d.mid).world new.world d.committed.committing.volumes
+        (taken_history Held Read d.mid.world name (rested d.mid d.record_is.rest))
+
+    pub stop_kept : (end : End) (new : Moment) → StopStops name old end new → HaveHistories Held Read new.world
+    stop_kept end new (inl (why, rests)) = same_volumes Held Read old.world new.world (volumes_of old.world new.world rests.stays.world) all
+    stop_kept end new (inr (inl r)) = rested new r.rest
+    stop_kept end new (inr (inr b)) = same_volumes Held Read b.mid.world new.world b.stopped.committing.volumes (rested b.mid b.record_is.rest)

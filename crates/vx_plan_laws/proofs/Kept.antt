@@ -1,0 +1,210 @@
+-- A stage that refuses its command leaves the world, but for a start that cannot open its volume.
+use Rattle.std.proofs.Common.{◌≡◌, ◌∙◌, ◌⊎◌, ℕ, ◌+◌, Bool, true, false, nat_lt, List, [], ◌∷◌, ◌++◌, Option, Some, None, MatchBool, MatchOption, refl, sym, ap, subst, inl, inr}
+use Rattle.vx_base.specs.Named.{Word}
+use Rattle.vx_script_words.specs.declared.value.DiskAt.{DiskAt}
+use Rattle.vx_script_forms.specs.declared.call.Call.{Call}
+use Rattle.vx_script_forms.specs.declared.call.Call.TheVariants as said
+use Rattle.vx_script_forms.specs.declared.form.Form.{Form}
+use Rattle.vx_script_forms.specs.declared.form.Form.TheVariants as form
+use Rattle.vx_script_forms.specs.declared.form.WordPolicy.TheVariants as words
+use Rattle.vx_script.specs.declared.command.Command.{Command}
+use Rattle.vx_answers.specs.declared.answer.Answer.TheVariants.{One}
+use Rattle.vx_answers.specs.declared.answer.End.{End}
+use Rattle.vx_answers.specs.declared.answer.End.TheVariants as ends
+use Rattle.vx_answers.specs.declared.answer.View.{View}
+use Rattle.vx_answers.specs.declared.refusal.Refusal.{Refusal}
+use Rattle.vx_answers.specs.declared.refusal.Refusal.TheVariants.{NotStarted, Range}
+use Rattle.vx_moments.specs.Commit.{Writing}
+use Rattle.vx_moments.specs.Moment.{Moment, Rests}
+use Rattle.vx_moments.specs.World.{Lies, OnDevice, OnPlexes, Volume}
+use Rattle.vx_plans.specs.Calls.{count_of, start_of, volume_of}
+use Rattle.vx_plans.specs.Ends.{StopsBy, refused}
+use Rattle.vx_plans.specs.Plans.{plan_of, disks_of}
+use Rattle.vx_plans.specs.Records.{devices_of}
+use Rattle.vx_plans.specs.Serving.{CallRuns, ServesOn}
+use Rattle.vx_plans.specs.Stages.{Stops, TakingStops}
+use Rattle.vx_plans.specs.Steps.{DoesCall, DoesForm, DoesPlan, IsNotBuilt, Leaves, Runs, Step, done}
+use Rattle.vx_plans.specs.declared.stage.Stage.{Stage}
+use Rattle.vx_plans.specs.declared.stage.Stage.TheVariants as stage
+use Rattle.vx_plans.specs.declared.stages.Finish.{Finish}
+use Rattle.vx_plans.specs.declared.stages.Finish.TheVariants.{Nothing}
+use Rattle.vx_plans.specs.declared.test.Test.{Test}
+use Rattle.vx_plans.specs.declared.stages.Plan.{Plan}
+use Rattle.vx_plans.proofs.Complete.{keeps_world, kept_world}
+use Rattle.vx_plan_laws.specs.Keeping.{IsLeftUnopened, RefusedLeaves}
+use Rattle.vx_plan_laws.proofs.Volumes.{not_stopped, start_left, stop_left}
+
+-- ---- stages
+
+-- the stage is a start
+abbrev pub is_start : Stage → Bool
+is_start (stage.Start vol) = true
+is_start other = false
+
+taking_kept : (taken names : List Word) (m : Moment) (end : End) (n : Moment) → TakingStops taken names m end n → n.world ≡ m.world
+taking_kept taken [] m end n stops = absurd stops
+taking_kept taken (name ∷ names) m end n (inl (inl (r, away, ends))) = ends.1.stays.world
+taking_kept taken (name ∷ names) m end n (inl (inr fails)) = fails.0
+taking_kept taken (name ∷ names) m end n (inr more) = taking_kept (taken ++ name ∷ []) names m end n more.1
+
+no_refusal : (IsWriting : Writing → Type 0) (m : Moment) (r : Refusal) (n : Moment) → StopsBy IsWriting m (refused r) n → ⊥
+no_refusal IsWriting m r n (x, writing, stopped) = not_stopped x m r n stopped
+
+-- a stage that refuses the command leaves the world
+refused_kept : (s : Stage) (disks : List DiskAt) (m : Moment) (r : Refusal) (n : Moment) → is_start s ≡ false → Stops s disks m (refused r) n → n.world ≡ m.world
+refused_kept (stage.Gate test) disks m r n other (why, fails, is, same) = ap (λ (x : Moment). x.world) same
+refused_kept (stage.Take name) disks m r n other stops = taking_kept [] (name ∷ []) m (refused r) n stops
+refused_kept stage.TakeDisks disks m r n other stops = taking_kept [] (devices_of disks) m (refused r) n stops
+refused_kept (stage.LookBlank name) disks m r n other (reads, looks) = reads.0
+refused_kept stage.LookDisks disks m r n other (reads, looks) = reads.0
+refused_kept (stage.LookHeaded name) disks m r n other (reads, looks) = reads.0
+refused_kept (stage.Search dg) disks m r n other (reads, looks) = reads.0
+refused_kept (stage.MakeImage name sectors) disks m r n other (inl (some, ends)) = ends.1.stays.world
+refused_kept (stage.MakeImage name sectors) disks m r n other (inr fails) = fails.0
+refused_kept (stage.Wipe name) disks m r n other (has, calls, inl (is, failed)) = cc
+refused_kept (stage.Wipe name) disks m r n other (has, calls, inr (is, cut)) = cc
+refused_kept (stage.StartBare vol name) disks m r n other (is, ends) = ends.1.stays.world
+refused_kept (stage.Change change) disks m r n other (inl (none, ends)) = ends.1.stays.world
+refused_kept (stage.Change change) disks m r n other (inr (inl (why, rests))) = rests.stays.world
+refused_kept (stage.Change change) disks m r n other (inr (inr stops)) = absurd (no_refusal _ m r n stops)
+refused_kept (stage.Make text) disks m r n other (inl (none, ends)) = ends.1.stays.world
+refused_kept (stage.Make text) disks m r n other (inr (inl (why, rests))) = rests.stays.world
+refused_kept (stage.Make text) disks m r n other (inr (inr stops)) = absurd (no_refusal _ m r n stops)
+refused_kept stage.Join [] m r n other stops = absurd stops
+refused_kept stage.Join (p ∷ q ∷ ps) m r n other stops = absurd stops
+refused_kept stage.Join (p ∷ []) m r n other (inl (none, ends)) = ends.1.stays.world
+refused_kept stage.Join (p ∷ []) m r n other (inr (inl (why, rests))) = rests.stays.world
+refused_kept stage.Join (p ∷ []) m r n other (inr (inr stops)) = absurd (no_refusal _ m r n stops)
+refused_kept (stage.Create dg) disks m r n other (inl (g, here, ends)) = ends.1.stays.world
+refused_kept (stage.Create dg) disks m r n other (inr stops) = absurd (no_refusal _ m r n stops)
+refused_kept (stage.Import dg) disks m r n other (inl (g, here, ends)) = ends.1.stays.world
+refused_kept (stage.Import dg) disks m r n other (inr (inl (reads, why))) = reads.0
+refused_kept (stage.Import dg) disks m r n other (inr (inr (mid, between, stops))) = absurd (no_refusal _ mid r n stops)
+refused_kept stage.LetGo disks m r n other stops = absurd stops
+refused_kept (stage.Start vol) disks m r n other stops = cc
+refused_kept (stage.Stop vol) disks m r n other stops = stop_left m r n vol stops
+
+-- ---- plans
+
+not_done : (r : Refusal) → refused r ≡ done → ⊥
+not_done r e = cc
+
+-- all stages but the last keep the world, and none is a start
+abbrev pub AreStill : List Stage → Type 0
+AreStill [] = Unit {0}
+AreStill (s ∷ []) = is_start s ≡ false
+AreStill (s ∷ t ∷ ss) = (is_start s ≡ false) × (keeps_world s ≡ true) × AreStill (t ∷ ss)
+
+still_kept : (disks : List DiskAt) (stages : List Stage) (finish : Finish) (old : Moment) (views : List View) (r : Refusal) (new : Moment) → AreStill stages → Runs disks stages finish old views (refused r) new → new.world ≡ old.world
+still_kept disks [] finish old views r new still (shows, is, stays) = absurd (not_done r is)
+still_kept disks (s ∷ []) finish old views r new still (inl (mid, later, is, (shows, over, stays))) = absurd (not_done r over)
+still_kept disks (s ∷ []) finish old views r new still (inr (none, later, stops)) = refused_kept s disks old r new still stops
+still_kept disks (s ∷ t ∷ ss) finish old views r new still (inl (mid, later, is, rest)) = still_kept disks (t ∷ ss) finish mid views r new still.2 rest ∙ kept_world s disks old mid still.1 is
+still_kept disks (s ∷ t ∷ ss) finish old views r new still (inr (none, later, stops)) = refused_kept s disks old r new still.0 stops
+
+abbrev pub IsStill : Option Plan → Type 0
+IsStill None = Unit {0}
+IsStill (Some plan) = AreStill plan.stages
+
+-- the form is that of a start
+abbrev pub starts : Form → Bool
+starts (form.Start vol) = true
+starts other = false
+
+pub plan_still : (dg : Option Word) (f : Form) → starts f ≡ false → IsStill (plan_of dg f)
+unfolding plan_of
+plan_still dg (form.MkImage device length) other = refl
+plan_still dg (form.Bare vol device) other = (refl, refl, (refl, refl, (refl, refl, refl)))
+plan_still dg (form.DgInit name disks) other = (refl, refl, (refl, refl, (refl, refl, (refl, refl, (refl, refl, (refl, refl, refl))))))
+plan_still dg (form.DgAddDisk name disk) other = (refl, refl, (refl, refl, (refl, refl, (refl, refl, (refl, refl, refl)))))
+plan_still dg (form.DgImport name) other = refl
+plan_still dg (form.DgDeport name) other = (refl, refl, (refl, refl, refl))
+plan_still dg (form.DiskUnsetup device) other = (refl, refl, (refl, refl, refl))
+plan_still dg (form.PrintM None) other = refl
+plan_still dg (form.PrintM (Some vol)) other = (refl, refl, refl)
+plan_still dg (form.VxMake text) other = (refl, refl, refl)
+plan_still dg (form.Rdpol vol words.Round) other = (refl, refl, (refl, refl, refl))
+plan_still dg (form.Rdpol vol words.Select) other = (refl, refl, (refl, refl, refl))
+plan_still dg (form.Rdpol vol (words.Prefer plex)) other = (refl, refl, (refl, refl, (refl, refl, refl)))
+plan_still dg (form.RemoveVolume vol) other = (refl, refl, (refl, refl, (refl, refl, (refl, refl, refl))))
+plan_still dg (form.Stop vol) other = tt
+plan_still dg (form.Start vol) other = cc
+plan_still dg (form.PrintHt vol) other = tt
+plan_still dg (form.AssistMake vol length attrs disks) other = tt
+plan_still dg (form.Mirror vol disks) other = tt
+plan_still dg (form.PlexDis plex rm) other = tt
+plan_still dg (form.Prepare vol ndcomirs region) other = tt
+plan_still dg (form.Unprepare vol) other = tt
+plan_still dg (form.AddMir vol disks) other = tt
+plan_still dg (form.Dis snap) other = tt
+plan_still dg (form.Split snap) other = tt
+plan_still dg (form.PrintSnaps vol) other = tt
+plan_still dg (form.Recover vol) other = tt
+plan_still dg (form.Acting act) other = tt
+plan_still dg (form.Calling call) other = tt
+plan_still dg (form.Sessions block) other = tt
+
+-- ---- commands
+
+module _ (old : Moment) (views : List View) (r : Refusal) (new : Moment) where
+  not_built : IsNotBuilt old views (refused r) new → new.world ≡ old.world
+  not_built (none, is, stays) = ap (λ (m : Moment). m.world) stays
+
+  plan_left : (disks : List DiskAt) (plan : Option Plan) → IsStill plan → DoesPlan disks plan old views (refused r) new → new.world ≡ old.world
+  plan_left disks None still does = not_built does
+  plan_left disks (Some plan) still does = still_kept disks plan.stages plan.finish old views r new still does
+
+  -- a start behind two gates is refused: each gate leaves the moment
+  starting_left : (first second : Test) (vol : Word) → Runs [] (stage.Gate first ∷ stage.Gate second ∷ stage.Start vol ∷ []) Nothing old views (refused r) new → (new.world ≡ old.world) ⊎ IsLeftUnopened vol old r new
+  starting_left first second vol (inr (none, later, (s, fails, is, same))) = inl (ap (λ (m : Moment). m.world) same)
+  starting_left first second vol (inl (one, later, (passed, same), inr (none, on, (s, fails, is, stays)))) = inl (ap (λ (m : Moment). m.world) (stays ∙ same))
+  starting_left first second vol (inl (one, later, (passed, same), inl (two, on, (has, stays), inl (three, more, is, runs)))) = absurd is
+  starting_left first second vol (inl (one, later, (passed, same), inl (two, on, (has, stays), inr (none, more, stops)))) =
+      subst (λ (m : Moment). (new.world ≡ m.world) ⊎ IsLeftUnopened vol m r new) (stays ∙ same) (start_left two r new vol stops)
+
+  served_left : (place : ℕ) (call : Call) (v : Volume) (lies : Lies) → ServesOn lies place call v old (refused r) new → new.world ≡ old.world
+  served_left place call v (OnDevice device) served = absurd served.cause
+  served_left place call v (OnPlexes plexes) served = absurd served.cause
+
+  call_left : (place : ℕ) (call : Call) → CallRuns place call old (refused r) new → new.world ≡ old.world
+  call_left place call runs = by (old.world.volumes (volume_of call)) runs
+    where
+      at_range : (v : Volume) (b : Bool) → MatchBool b ((refused r ≡ ends.Refused Range) × Rests old new) (ServesOn v.lies place call v old (refused r) new) → new.world ≡ old.world
+      at_range v true h = h.1.stays.world
+      at_range v false h = served_left place call v v.lies h
+
+      by : (o : Option Volume) → MatchOption o ((refused r ≡ ends.Refused (NotStarted (volume_of call))) × Rests old new) (λ v. MatchBool (nat_lt v.length (start_of call + count_of call)) ((refused r ≡ ends.Refused Range) × Rests old new) (ServesOn v.lies place call v old (refused r) new)) → new.world ≡ old.world
+      by None h = h.1.stays.world
+      by (Some v) h = at_range v (nat_lt v.length (start_of call + count_of call)) h
+
+  calling_left : (place : ℕ) (call : Call) → DoesCall place call old views (refused r) new → new.world ≡ old.world
+  calling_left place (said.Data vol start blocks) does = not_built does
+  calling_left place (said.Read vol start count) does = call_left place (said.Read vol start count) does.2
+  calling_left place (said.Fill vol start count byte) does = call_left place (said.Fill vol start count byte) does.2
+
+  -- what leaves the world leaves as much as a start does
+  all_left : (f : Form) → new.world ≡ old.world → RefusedLeaves f old r new
+  all_left (form.Start vol) same = inl same
+  all_left other same = same
+
+  form_left : (place : ℕ) (dg : Option Word) (f : Form) → DoesForm place dg f old views (refused r) new → RefusedLeaves f old r new
+  unfolding plan_of
+  form_left place dg (form.Calling call) does = calling_left place call does
+  form_left place dg (form.Start vol) does = inl (not_built does)
+  form_left place dg other does = plan_left (disks_of other) (plan_of dg other) (plan_still dg other refl) does
+
+  command_left : (place : ℕ) (c : Command) (cut : Option ℕ) → MatchOption cut (DoesForm place c.group c.form old views (refused r) new) (λ n. IsNotBuilt old views (refused r) new) → RefusedLeaves c.form old r new
+  command_left place c None does = form_left place c.group c.form does
+  command_left place c (Some n) does = all_left c.form (not_built does)
+
+same_moment : (a b : Moment) → a.world ≡ b.world → a.counts ≡ b.counts → a ≡ b
+same_moment a b worlds counts = λ i. record { world = worlds i; counts = counts i }
+
+pub each_refusal_keeps_the_world : (place : ℕ) (c : Command) (old : Moment) (views : List View) (r : Refusal) (new : Moment) → Step place c old (One views (refused r)) new → RefusedLeaves c.form old r new
+each_refusal_keeps_the_world place c old views r new step =
+    let told : One views (refused r) ≡ One step.views step.end = step.told in
+    let is : step.end ≡ refused r = cc in
+    let same : new ≡ step.over = same_moment new step.over (subst (λ (e : End). Leaves e step.over.world new.world) is step.leaves) step.counts in
+    subst (λ (m : Moment). RefusedLeaves c.form old r m) (sym same)
+    (command_left old step.views r step.over place c c.cut
+    (subst (λ (e : End). MatchOption c.cut (DoesForm place c.group c.form old step.views e step.over) (λ n. IsNotBuilt old step.views e step.over)) is step.does))

@@ -1,0 +1,194 @@
+-- What a command tells that is done: a start how many regions it has copied, and another nothing.
+use Rattle.std.proofs.Common.{◌≡◌, ◌∙◌, ℕ, Bool, true, false, List, [], ◌∷◌, ◌++◌, Option, Some, None, MatchBool, MatchOption, refl, sym, ap, subst, inl, inr}
+use Rattle.vx_base.specs.Named.{Word}
+use Rattle.vx_config_parts.specs.declared.vol.Vol.{Vol}
+use Rattle.vx_objects.specs.declared.edit.Edit.{Edit}
+use Rattle.vx_script_words.specs.declared.value.DiskAt.{DiskAt}
+use Rattle.vx_script_forms.specs.declared.form.Form.{Form}
+use Rattle.vx_script_forms.specs.declared.form.Form.TheVariants as form
+use Rattle.vx_answers.specs.declared.answer.End.{End}
+use Rattle.vx_answers.specs.declared.answer.End.TheVariants as ends
+use Rattle.vx_answers.specs.declared.answer.View.{View}
+use Rattle.vx_answers.specs.declared.refusal.Refusal.{Refusal}
+use Rattle.vx_answers.specs.declared.refusal.Refusal.TheVariants as refusal
+use Rattle.vx_moments.specs.Commit.{Writing, IsStopped}
+use Rattle.vx_moments.specs.Moment.{Moment}
+use Rattle.vx_moments.specs.World.{Group, World}
+use Rattle.vx_plans.specs.Ends.{EndsIn, IsChange, fault_of, lost, refused}
+use Rattle.vx_plans.specs.Plans.{plan_of, disks_of}
+use Rattle.vx_plans.specs.Records.{devices_of}
+use Rattle.vx_plans.specs.Stages.{DeviceEnds, EditsStop, FailsAt, IsJoining, LookingStops, Stops, TakingStops, edits_of, joining_edit}
+use Rattle.vx_plans.specs.Starting.{StartStops, StopsIn, StopsOf, may_start, regions_copied}
+use Rattle.vx_plans.specs.Stopping.{StopStops}
+use Rattle.vx_plans.specs.Steps.{Runs, done}
+use Rattle.vx_plans.specs.Tests.{volume_in}
+use Rattle.vx_plans.specs.declared.stage.Stage.{Stage}
+use Rattle.vx_plans.specs.declared.stage.Stage.TheVariants as stage
+use Rattle.vx_plans.specs.declared.stages.Finish.{Finish}
+use Rattle.vx_plans.specs.declared.stages.Finish.TheVariants.{Nothing}
+use Rattle.vx_plans.specs.declared.test.Test.{Test}
+use Rattle.vx_plans.specs.declared.stages.Plan.{Plan}
+use Rattle.vx_plan_laws.specs.Refusing.{IsDoneBy, OfGroup, OfVolume}
+use Rattle.vx_plan_laws.proofs.Kept.{AreStill, IsStill, is_start, plan_still}
+
+-- the command was done, and so many regions were copied
+abbrev all_done : Option ℕ → End
+all_done copied = ends.Done copied [] []
+
+module _ (copied : Option ℕ) where
+  no_fault : (name : Word) → all_done copied ≡ fault_of name → ⊥
+  no_fault name e = cc
+
+  no_refusal : (r : Refusal) → all_done copied ≡ refused r → ⊥
+  no_refusal r e = cc
+
+  no_loss : all_done copied ≡ lost → ⊥
+  no_loss e = cc
+
+  no_shelf : all_done copied ≡ ends.ShelfFailed → ⊥
+  no_shelf e = cc
+
+  not_gone : all_done copied ≡ ends.GroupLost → ⊥
+  not_gone e = cc
+
+  module _ (old new : Moment) where
+    denied : (r : Refusal) → EndsIn r old (all_done copied) new → ⊥
+    denied r ends = no_refusal r ends.0
+
+    at_hand : (name : Word) → DeviceEnds name old (all_done copied) new → ⊥
+    at_hand name (inl (is, failed)) = no_fault name is
+    at_hand name (inr (is, cut)) = no_loss is
+
+    at_device : (name : Word) → FailsAt name old (all_done copied) new → ⊥
+    at_device name (inl (is, failed)) = no_fault name is
+    at_device name (inr (is, cut)) = no_loss is
+
+    taking : (taken names : List Word) → TakingStops taken names old (all_done copied) new → ⊥
+    taking taken [] stops = stops
+    taking taken (name ∷ names) (inl (inl (r, away, ends))) = denied r ends
+    taking taken (name ∷ names) (inl (inr (same, none, is, shelf))) = no_fault name is
+    taking taken (name ∷ names) (inr more) = taking (taken ++ name ∷ []) names more.1
+
+    looking : (names : List Word) → LookingStops names old (all_done copied) new → ⊥
+    looking [] stops = stops
+    looking (name ∷ names) (inl (inl headed)) = no_refusal _ headed.1
+    looking (name ∷ names) (inl (inr fails)) = at_hand name fails
+    looking (name ∷ names) (inr more) = looking names more.1
+
+    not_stopped : (x : Writing) → IsStopped x old (all_done copied) new → ⊥
+    not_stopped x stopped = elim stopped.ends [ inl l ↦ not_gone l.0 | inr l ↦ no_loss l.0 ]
+
+  editing : (old new : Moment) (edits : Group → List Edit) (IsWriting : Writing → Type 0) → EditsStop edits IsWriting old (all_done copied) new → ⊥
+  editing old new edits IsWriting (inl (none, ends)) = denied old new _ ends
+  editing old new edits IsWriting (inr (inl ((g, here, inl (r, e, is)), rests))) = no_refusal r is
+  editing old new edits IsWriting (inr (inl ((g, here, inr (config, edited, (text, printed, long, is))), rests))) = no_refusal _ is
+  editing old new edits IsWriting (inr (inr (x, writing, stopped))) = not_stopped old new x stopped
+
+  stopping : (old new : Moment) (vol : Word) → StopStops vol old (all_done copied) new → ⊥
+  stopping old new vol (inl (inl (r, e, is), rests)) = no_refusal r is
+  stopping old new vol (inl (inr (g, here, none, (v, found, (next, edited, (text, printed, long, is)))), rests)) = no_refusal _ is
+  stopping old new vol (inr (inl rest)) = rest.cause
+  stopping old new vol (inr (inr b)) = not_stopped b.mid new b.writing b.stopped
+
+  -- no stage but a start is done where it ends the command
+  not_done : (s : Stage) (disks : List DiskAt) (old new : Moment) → is_start s ≡ false → Stops s disks old (all_done copied) new → ⊥
+  not_done (stage.Gate test) disks old new other (r, fails, is, same) = no_refusal r is
+  not_done (stage.Take name) disks old new other stops = taking old new [] (name ∷ []) stops
+  not_done stage.TakeDisks disks old new other stops = taking old new [] (devices_of disks) stops
+  not_done (stage.LookBlank name) disks old new other (reads, looks) = looking old new (name ∷ []) looks
+  not_done stage.LookDisks disks old new other (reads, looks) = looking old new (devices_of disks) looks
+  not_done (stage.LookHeaded name) disks old new other (reads, inl (blank, is)) = no_refusal _ is
+  not_done (stage.LookHeaded name) disks old new other (reads, inr fails) = at_hand old new name fails
+  not_done (stage.Search dg) disks old new other (reads, inl (name, free, inl (names, is))) = no_refusal _ is
+  not_done (stage.Search dg) disks old new other (reads, inl (name, free, inr fails)) = at_device old new name fails
+  not_done (stage.Search dg) disks old new other (reads, inr (is, shelf)) = no_shelf is
+  not_done (stage.MakeImage name sectors) disks old new other (inl (some, ends)) = denied old new _ ends
+  not_done (stage.MakeImage name sectors) disks old new other (inr (same, none, is, shelf)) = no_fault name is
+  not_done (stage.Wipe name) disks old new other (has, calls, ends) = at_hand old new name ends
+  not_done (stage.StartBare vol name) disks old new other (is, ends) = denied old new _ ends
+  not_done (stage.Change change) disks old new other stops = editing old new (λ g. edits_of change (Some g)) (λ x. IsChange (edits_of change old.world.group) old.world x) stops
+  not_done (stage.Make text) disks old new other (inl (none, ends)) = denied old new _ ends
+  not_done (stage.Make text) disks old new other (inr (inl ((g, here, inl (line, bad, is)), rests))) = no_refusal _ is
+  not_done (stage.Make text) disks old new other (inr (inl ((g, here, inr (added, adds, inl (r, e, is))), rests))) = no_refusal r is
+  not_done (stage.Make text) disks old new other (inr (inl ((g, here, inr (added, adds, inr (fine, inl (r, e, is)))), rests))) = no_refusal r is
+  not_done (stage.Make text) disks old new other (inr (inl ((g, here, inr (added, adds, inr (fine, inr (config, edited, (printed, text_is, long, is))))), rests))) = no_refusal _ is
+  not_done (stage.Make text) disks old new other (inr (inr (x, making, stopped))) = not_stopped old new x stopped
+  not_done stage.Join [] old new other stops = stops
+  not_done stage.Join (p ∷ q ∷ ps) old new other stops = stops
+  not_done stage.Join (p ∷ []) old new other stops = editing old new (λ g. joining_edit p old.world g ∷ []) (λ x. IsJoining p old.world x) stops
+  not_done (stage.Create dg) disks old new other (inl (g, here, ends)) = denied old new _ ends
+  not_done (stage.Create dg) disks old new other (inr (x, writing, stopped)) = not_stopped old new x stopped
+  not_done (stage.Import dg) disks old new other (inl (g, here, ends)) = denied old new _ ends
+  not_done (stage.Import dg) disks old new other (inr (inl (reads, inl turned))) = no_refusal turned.why turned.end_is
+  not_done (stage.Import dg) disks old new other (inr (inl (reads, inr (inl (is, shelf))))) = no_shelf is
+  not_done (stage.Import dg) disks old new other (inr (inl (reads, inr (inr (is, cut))))) = no_loss is
+  not_done (stage.Import dg) disks old new other (inr (inr (mid, between, (x, writing, stopped)))) = not_stopped mid new x stopped
+  not_done stage.LetGo disks old new other stops = stops
+  not_done (stage.Start vol) disks old new other stops = cc
+  not_done (stage.Stop vol) disks old new other stops = stopping old new vol stops
+
+  -- ---- a start
+
+  -- the start tells of the regions of this volume
+  abbrev Tells : Word → World → Type 0
+  Tells name w = OfGroup w (λ g. OfVolume name g (λ v. all_done copied ≡ ends.Done (Some (regions_copied g v)) [] []))
+
+  started : (name : Word) (old new : Moment) → StartStops name old (all_done copied) new → Tells name old.world
+  started name old new stops = in_world old.world.group refl stops
+    where
+      of_volume : (g : Group) (v : Vol) → StopsOf g v old (all_done copied) new → copied ≡ Some (regions_copied g v)
+      of_volume g v (inl (inl (r, e, is), rests)) = absurd (no_refusal r is)
+      of_volume g v (inl (inr (none, next, edited, (text, printed, long, is)), rests)) = absurd (no_refusal _ is)
+      of_volume g v (inr (inl stops)) = elim stops.cause [
+        | inl unread ↦ absurd (no_refusal _ unread.0)
+        | inr (inl (region, is, filled, missed)) ↦ absurd (no_refusal _ is)
+        | inr (inr (inl (told, device, is, fails))) ↦ let no : all_done copied ≡ ends.Fault told device [] = is in cc
+        | inr (inr (inr (is, cut))) ↦ absurd (no_loss is)
+      ]
+      of_volume g v (inr (inr (inl c))) = absurd (not_stopped c.opened new c.stops.0 c.stops.2)
+      of_volume g v (inr (inr (inr a))) = a.copied.ends.0
+
+      of_state : (g : Group) (v : Vol) (may : Bool) → MatchBool may (StopsOf g v old (all_done copied) new) (EndsIn (refusal.VolState v.state) old (all_done copied) new) → copied ≡ Some (regions_copied g v)
+      of_state g v true stops = of_volume g v stops
+      of_state g v false ends = absurd (denied old new _ ends)
+
+      in_group : (g : Group) (o : Option Vol) → old.world.group ≡ Some g → volume_in name g.config.volumes ≡ o → MatchOption o (EndsIn (refusal.NoObject name) old (all_done copied) new) (λ v. MatchBool (may_start v.state) (StopsOf g v old (all_done copied) new) (EndsIn (refusal.VolState v.state) old (all_done copied) new)) → Tells name old.world
+      in_group g None here is ends = absurd (denied old new _ ends)
+      in_group g (Some v) here is stops = (g, here, (v, is, ap (λ (n : Option ℕ). all_done n) (of_state g v (may_start v.state) stops)))
+
+      in_world : (o : Option Group) → old.world.group ≡ o → MatchOption o (EndsIn (refusal.NoGroup None) old (all_done copied) new) (λ g. StopsIn g name old (all_done copied) new) → Tells name old.world
+      in_world None here ends = absurd (denied old new _ ends)
+      in_world (Some g) here stops = in_group g (volume_in name g.config.volumes) here refl stops
+
+  -- ---- plans
+
+  still_done : (disks : List DiskAt) (stages : List Stage) (finish : Finish) (old : Moment) (views : List View) (new : Moment) → AreStill stages → Runs disks stages finish old views (all_done copied) new → all_done copied ≡ done
+  still_done disks [] finish old views new still (shows, is, stays) = is
+  still_done disks (s ∷ []) finish old views new still (inl (mid, later, is, (shows, over, stays))) = over
+  still_done disks (s ∷ []) finish old views new still (inr (none, later, stops)) = absurd (not_done s disks old new still stops)
+  still_done disks (s ∷ t ∷ ss) finish old views new still (inl (mid, later, is, rest)) = still_done disks (t ∷ ss) finish mid views new still.2 rest
+  still_done disks (s ∷ t ∷ ss) finish old views new still (inr (none, later, stops)) = absurd (not_done s disks old new still.0 stops)
+
+  -- what a plan tells, once it is done
+  abbrev RunsSo : Option Plan → List DiskAt → Moment → List View → Moment → Type 0
+  RunsSo plan disks old views new = MatchOption plan ⊥ (λ p. Runs disks p.stages p.finish old views (all_done copied) new)
+
+  still_plan : (disks : List DiskAt) (plan : Option Plan) (old : Moment) (views : List View) (new : Moment) → IsStill plan → RunsSo plan disks old views new → all_done copied ≡ done
+  still_plan disks None old views new still runs = absurd runs
+  still_plan disks (Some plan) old views new still runs = still_done disks plan.stages plan.finish old views new still runs
+
+  -- a start behind two gates
+  start_tells : (first second : Test) (vol : Word) (old : Moment) (views : List View) (new : Moment) → Runs [] (stage.Gate first ∷ stage.Gate second ∷ stage.Start vol ∷ []) Nothing old views (all_done copied) new → Tells vol old.world
+  start_tells first second vol old views new (inr (none, later, (r, fails, is, same))) = absurd (no_refusal r is)
+  start_tells first second vol old views new (inl (one, later, (passed, same), inr (none, on, (r, fails, is, stays)))) = absurd (no_refusal r is)
+  start_tells first second vol old views new (inl (one, later, (passed, same), inl (two, on, (has, stays), inl (three, more, is, runs)))) = absurd is
+  start_tells first second vol old views new (inl (one, later, (passed, same), inl (two, on, (has, stays), inr (none, more, stops)))) =
+      subst (λ (m : Moment). Tells vol m.world) (stays ∙ same) (started vol two new stops)
+
+  form_tells : (dg : Option Word) (f : Form) (old : Moment) (views : List View) (new : Moment) → RunsSo (plan_of dg f) (disks_of f) old views new → IsDoneBy f old.world (all_done copied)
+  unfolding plan_of
+  form_tells dg (form.Start vol) old views new runs = absurd runs
+  form_tells dg other old views new runs = still_plan (disks_of other) (plan_of dg other) old views new (plan_still dg other refl) runs
+
+  pub tells_done : (dg : Option Word) (f : Form) (plan : Plan) (old : Moment) (views : List View) (new : Moment) → plan_of dg f ≡ Some plan → Runs (disks_of f) plan.stages plan.finish old views (all_done copied) new → IsDoneBy f old.world (all_done copied)
+  tells_done dg f plan old views new is runs = form_tells dg f old views new (subst (λ (p : Option Plan). RunsSo p (disks_of f) old views new) (sym is) runs)

@@ -1,0 +1,115 @@
+-- Why a start and a stop refuse their volume, and what a start leaves then.
+use Rattle.std.proofs.Common.{◌≡◌, ◌⊎◌, ◌&&◌, ◌∙◌, Bool, true, false, MatchBool, MatchOption, Option, Some, None, [], is_some, if◌then◌else◌, refl, sym, ap, subst, inl, inr}
+use Rattle.vx_base.specs.Named.{Word}
+use Rattle.vx_config_parts.specs.declared.vol.Vol.{Vol}
+use Rattle.vx_copies.specs.Lists.{AnyOf}
+use Rattle.vx_answers.specs.declared.answer.End.TheVariants as ends
+use Rattle.vx_answers.specs.declared.refusal.Refusal.{Refusal}
+use Rattle.vx_answers.specs.declared.refusal.Refusal.TheVariants as refusal
+use Rattle.vx_moments.specs.Commit.{Writing, IsStopped, CarriersFailed, parties}
+use Rattle.vx_moments.specs.Moment.{Moment}
+use Rattle.vx_moments.specs.World.{Group}
+use Rattle.vx_plans.specs.Ends.{EndsIn, refused}
+use Rattle.vx_plans.specs.Starting.{StartStops, StopsIn, StopsOf, StopsUnopened, may_start}
+use Rattle.vx_plans.specs.Stopping.{StopStops, is_active, refusal_by, runs_on_plexes, stop_refusal}
+use Rattle.vx_plans.specs.Tests.{volume_in}
+use Rattle.vx_plan_laws.specs.Keeping.{IsLeftUnopened}
+use Rattle.vx_plan_laws.specs.Refusing.{OfGroup, OfVolume, OpeningRefuses, StartRefuses, StopRefuses}
+
+-- a commit that is stopped is no refusal
+pub not_stopped : (x : Writing) (old : Moment) (r : Refusal) (new : Moment) → IsStopped x old (refused r) new → ⊥
+not_stopped x old r new stopped = by stopped.ends
+  where
+    by : ((refused r ≡ ends.GroupLost) × CarriersFailed x old.counts new.counts) ⊎ ((refused r ≡ ends.Lost []) × AnyOf (λ m. new.counts.cut m.device ≡ true) (parties x)) → ⊥
+    by (inl l) = let e = l.0 in cc
+    by (inr l) = let e = l.0 in cc
+
+pub same_refusal : (r s : Refusal) → refused r ≡ refused s → r ≡ s
+same_refusal r s e = cc
+
+module _ (old : Moment) (r : Refusal) (new : Moment) where
+  -- ---- a start
+
+  opening : (g : Group) (v : Vol) → StopsUnopened g v old (refused r) new → OpeningRefuses g v old r new
+  opening g v stops = elim stops.cause [
+    | inl unread ↦ (unread.1, inl (same_refusal r (refusal.NoLog v.name) unread.0, unread.2, unread.3))
+    | inr (inl (region, is, filled, missed)) ↦ (filled, inr (region, same_refusal r (refusal.NoCurrent region) is, missed))
+    | inr (inr (inl (told, device, is, fails))) ↦ let no : refused r ≡ ends.Fault told device [] = is in cc
+    | inr (inr (inr (is, cut))) ↦ let no : refused r ≡ ends.Lost [] = is in cc
+  ]
+
+  by_stages : (g : Group) (v : Vol) → may_start v.state ≡ true → StopsOf g v old (refused r) new → StartRefuses g v old r new
+  by_stages g v may (inl (inl (s, e, is), rests)) = inr (may, inl (e ∙ ap (λ (x : Refusal). Some x) (sym (same_refusal r s is))))
+  by_stages g v may (inl (inr (none, next, edited, long), rests)) = inr (may, inr (inl (none, (next, edited, long))))
+  by_stages g v may (inr (inl stops)) = inr (may, inr (inr (opening g v stops)))
+  by_stages g v may (inr (inr (inl c))) = absurd (not_stopped c.stops.0 c.opened r new c.stops.2)
+  by_stages g v may (inr (inr (inr a))) = absurd a.copied.ends
+
+  by_state : (g : Group) (v : Vol) (may : Bool) → may_start v.state ≡ may → MatchBool may (StopsOf g v old (refused r) new) (EndsIn (refusal.VolState v.state) old (refused r) new) → StartRefuses g v old r new
+  by_state g v true may stops = by_stages g v may stops
+  by_state g v false may ends = inl (may, same_refusal r (refusal.VolState v.state) ends.0)
+
+  abbrev Starts : Group → Word → Option Vol → Type 0
+  Starts g name o = MatchOption o (EndsIn (refusal.NoObject name) old (refused r) new) (λ v. MatchBool (may_start v.state) (StopsOf g v old (refused r) new) (EndsIn (refusal.VolState v.state) old (refused r) new))
+
+  pub start_refuses : (name : Word) (g : Group) → old.world.group ≡ Some g → is_some (volume_in name g.config.volumes) ≡ true → StartStops name old (refused r) new → OfGroup old.world (λ g. OfVolume name g (λ v. StartRefuses g v old r new))
+  start_refuses name g here there stops =
+      (g, here, by (volume_in name g.config.volumes) refl there (subst (λ (o : Option Group). MatchOption o (EndsIn (refusal.NoGroup None) old (refused r) new) (λ g. StopsIn g name old (refused r) new)) here stops))
+    where
+      by : (o : Option Vol) → volume_in name g.config.volumes ≡ o → is_some o ≡ true → Starts g name o → OfVolume name g (λ v. StartRefuses g v old r new)
+      by None is some ends = cc
+      by (Some v) is some stops = (v, is, by_state g v (may_start v.state) refl stops)
+
+  -- the world stays, but where the log was called of a volume that cannot be opened
+  left_of : (g : Group) (v : Vol) → may_start v.state ≡ true → StopsOf g v old (refused r) new → (new.world ≡ old.world) ⊎ StopsUnopened g v old (refused r) new
+  left_of g v may (inl (why, rests)) = inl rests.stays.world
+  left_of g v may (inr (inl stops)) = inr stops
+  left_of g v may (inr (inr (inl c))) = absurd (not_stopped c.stops.0 c.opened r new c.stops.2)
+  left_of g v may (inr (inr (inr a))) = absurd a.copied.ends
+
+  pub start_left : (name : Word) → StartStops name old (refused r) new → (new.world ≡ old.world) ⊎ IsLeftUnopened name old r new
+  start_left name stops = in_world old.world.group refl stops
+    where
+      told : (g : Group) (v : Vol) → old.world.group ≡ Some g → volume_in name g.config.volumes ≡ Some v → may_start v.state ≡ true → (new.world ≡ old.world) ⊎ StopsUnopened g v old (refused r) new → (new.world ≡ old.world) ⊎ IsLeftUnopened name old r new
+      told g v here is may (inl same) = inl same
+      told g v here is may (inr stops) = inr (g, here, (v, is, (may, stops.touched, opening g v stops)))
+
+      of_state : (g : Group) (v : Vol) (may : Bool) → may_start v.state ≡ may → old.world.group ≡ Some g → volume_in name g.config.volumes ≡ Some v → MatchBool may (StopsOf g v old (refused r) new) (EndsIn (refusal.VolState v.state) old (refused r) new) → (new.world ≡ old.world) ⊎ IsLeftUnopened name old r new
+      of_state g v true may here is stops = told g v here is may (left_of g v may stops)
+      of_state g v false may here is ends = inl ends.1.stays.world
+
+      in_group : (g : Group) (o : Option Vol) → old.world.group ≡ Some g → volume_in name g.config.volumes ≡ o → Starts g name o → (new.world ≡ old.world) ⊎ IsLeftUnopened name old r new
+      in_group g None here is ends = inl ends.1.stays.world
+      in_group g (Some v) here is stops = of_state g v (may_start v.state) refl here is stops
+
+      in_world : (o : Option Group) → old.world.group ≡ o → MatchOption o (EndsIn (refusal.NoGroup None) old (refused r) new) (λ g. StopsIn g name old (refused r) new) → (new.world ≡ old.world) ⊎ IsLeftUnopened name old r new
+      in_world None here ends = inl ends.1.stays.world
+      in_world (Some g) here stops = in_group g (volume_in name g.config.volumes) here refl stops
+
+  -- ---- a stop
+
+  by_tests : (v : Vol) (fits : Bool) (s : Refusal) → (if fits then None else Some (refusal.VolState v.state)) ≡ Some s → (fits ≡ false) × (s ≡ refusal.VolState v.state)
+  by_tests v true s e = absurd (cc)
+  by_tests v false s e = (refl, cc)
+
+  has_passed : (v : Vol) (fits : Bool) → (if fits then None else Some (refusal.VolState v.state)) ≡ None → fits ≡ true
+  has_passed v true e = refl
+  has_passed v false e = cc
+
+  pub stop_refuses : (name : Word) (g : Group) → old.world.group ≡ Some g → is_some (volume_in name g.config.volumes) ≡ true → StopStops name old (refused r) new → OfGroup old.world (λ g. OfVolume name g (λ v. StopRefuses name g v old.world r))
+  stop_refuses name g here there (inl (inl (s, e, told), rests)) = (g, here, by (volume_in name g.config.volumes) refl there (subst (λ (o : Option Group). stop_refusal name o (runs_on_plexes old.world name) ≡ Some s) here e))
+    where
+      by : (o : Option Vol) → volume_in name g.config.volumes ≡ o → is_some o ≡ true → refusal_by name o (runs_on_plexes old.world name) ≡ Some s → OfVolume name g (λ v. StopRefuses name g v old.world r)
+      by None is some e = cc
+      by (Some v) is some e =
+          let found = by_tests v (runs_on_plexes old.world name && is_active v.state) s e in
+          (v, is, inl (found.0, same_refusal r s told ∙ found.1))
+  stop_refuses name g here there (inl (inr (g', here', none, (v, found, long)), rests)) =
+      (g', here', (v, found, inr (has_passed v (runs_on_plexes old.world name && is_active v.state) (subst (λ (o : Option Vol). refusal_by name o (runs_on_plexes old.world name) ≡ None) found none), long)))
+  stop_refuses name g here there (inr (inl rest)) = absurd rest.cause
+  stop_refuses name g here there (inr (inr b)) = absurd (not_stopped b.writing b.mid r new b.stopped)
+
+  pub stop_left : (name : Word) → StopStops name old (refused r) new → new.world ≡ old.world
+  stop_left name (inl (why, rests)) = rests.stays.world
+  stop_left name (inr (inl rest)) = absurd rest.cause
+  stop_left name (inr (inr b)) = absurd (not_stopped b.writing b.mid r new b.stopped)

@@ -1,0 +1,31 @@
+-- What a refused command leaves of the world.
+use Rattle.std.specs.Prelude.{◌≡◌, ◌⊎◌, ℕ, true, List}
+use Rattle.vx_base.specs.Named.{Word}
+use Rattle.vx_script_forms.specs.declared.form.Form.{Form}
+use Rattle.vx_script_forms.specs.declared.form.Form.TheVariants as form
+use Rattle.vx_script.specs.declared.command.Command.{Command}
+use Rattle.vx_answers.specs.declared.answer.Answer.TheVariants.{One}
+use Rattle.vx_answers.specs.declared.answer.View.{View}
+use Rattle.vx_answers.specs.declared.refusal.Refusal.{Refusal}
+use Rattle.vx_moments.specs.Moment.{Moment}
+use Rattle.vx_plans.specs.Ends.{refused}
+use Rattle.vx_plans.specs.Starting.{may_start}
+use Rattle.vx_plans.specs.Steps.{Step}
+use Rattle.vx_plans.specs.Touching.{IsTouched}
+use Rattle.vx_plan_laws.specs.Refusing.{OfGroup, OfVolume, OpeningRefuses}
+
+-- The volume cannot be opened. Its log was called: the devices have changed in sectors of the volume alone, and nothing else of the world
+-- has changed.
+abbrev pub IsLeftUnopened : Word → Moment → Refusal → Moment → Type 0
+IsLeftUnopened name old r new = OfGroup old.world (λ g. OfVolume name g (λ v. (may_start v.state ≡ true) × IsTouched g v.name old new × OpeningRefuses g v old r new))
+
+-- what a refused command of this form leaves: the world as it began; a start may have called the log of its volume, where it cannot be opened
+abbrev pub RefusedLeaves : Form → Moment → Refusal → Moment → Type 0
+RefusedLeaves (form.Start vol) old r new = (new.world ≡ old.world) ⊎ IsLeftUnopened vol old r new
+RefusedLeaves other old r new = new.world ≡ old.world
+
+-- each command that is refused leaves so much of the world
+abbrev pub EachRefusalKeepsTheWorld : Type 0
+EachRefusalKeepsTheWorld =
+    (place : ℕ) (c : Command) (old : Moment) (views : List View) (r : Refusal) (new : Moment)
+    → Step place c old (One views (refused r)) new → RefusedLeaves c.form old r new

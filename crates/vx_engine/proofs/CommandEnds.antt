@@ -154,6 +154,10 @@ moment_end see ends.ShelfFailed v m is = is
 moment_end see ends.GroupLost v m is = moment_but_group see v m is
 moment_end see (ends.Lost parts) v m is = moment_but_group see v m is
 
+-- what want of memory leaves of these stages
+abbrev LeftOff : List DiskAt → List Stage → Moment → Moment → Type 0
+LeftOff disks stages m n = (n.world ≡ m.world) ⊎ RunsShort disks stages m n
+
 -- what a command that ended has done by then
 pub record HasDone {P : Type 0} {ghosts : Ghosts P} (see : P → Seen) (Does : Moment → List Shown → End → Moment → Type 0) (end : End) (mid : View P ghosts) (m n : Moment) : Type 0 where
   pub is : IsMomentBy end see mid n
@@ -180,10 +184,6 @@ module _ {P : Type 0} {ghosts : Ghosts P} (see : P → Seen) (disks : List DiskA
       over_goes see (λ m views end n. Runs disks stages finish m views end n) end old mid new run.keeps
       (λ m is. let n = run.goes m is in (n.0, record { is = n.1.is; later = n.1.later; does = n.1.runs finish }))
       run.faults run.blamed gone
-
-  -- what want of memory leaves of the plan
-  abbrev LeftOff : Moment → Moment → Type 0
-  LeftOff m n = (n.world ≡ m.world) ⊎ RunsShort disks stages m n
 
   shown_there : (mid : View P ghosts) (n : Moment) (views : List Shown) → IsMoment see mid n → Shows finish (plain see mid.house) views → Shows finish n.world views
   shown_there mid n views is shows = by finish shows
@@ -228,8 +228,8 @@ module _ {P : Type 0} {ghosts : Ghosts P} (see : P → Seen) (disks : List DiskA
   }
 
   -- memory was wanting for what was to be shown
-  pub unshown_goes : (old mid new : View P ghosts) → HasRun see disks stages old mid → KeepWorld stages → IsLeft see done mid new → IsRefused see LeftOff old new
-  unshown_goes old mid new run kept gone = rested_goes LeftOff old mid new (record {
+  pub unshown_goes : (old mid new : View P ghosts) → HasRun see disks stages old mid → KeepWorld stages → IsLeft see done mid new → IsRefused see (LeftOff disks stages) old new
+  unshown_goes old mid new run kept gone = rested_goes (LeftOff disks stages) old mid new (record {
     keeps = keeps_but_group see mid run.keeps;
     goes = λ m is. let n = run.goes m is in (n.0, n.1.is, n.1.later, inl (n.1.kept kept));
     faults = run.faults;
@@ -261,7 +261,7 @@ module _ {P : Type 0} {ghosts : Ghosts P} (see : P → Seen) (disks : List DiskA
   pub ended_from : (stop : Stop) (end : End) → stop ≡ stops.Ended end → StagesGo see disks ss (Err stop) old mid → HasEnded see disks stages end old mid
   ended_from stop end is go = subst (λ x. HasEnded see disks x end old mid) same (subst (λ s. StagesGo see disks ss (Err s) old mid) is go)
 
-  pub rested_from : (stop : Stop) → stop ≡ stops.OutOfMemory → StagesGo see disks ss (Err stop) old mid → HasRested see (λ m n. (n.world ≡ m.world) ⊎ RunsShort disks stages m n) old mid
+  pub rested_from : (stop : Stop) → stop ≡ stops.OutOfMemory → StagesGo see disks ss (Err stop) old mid → HasRested see (LeftOff disks stages) old mid
   rested_from stop is go =
       let run = subst (λ x. HasRested see (RunsShort disks x) old mid) same (subst (λ s. StagesGo see disks ss (Err s) old mid) is go) in record {
         keeps = run.keeps;

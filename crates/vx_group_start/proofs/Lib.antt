@@ -12,6 +12,6 @@ mod Rises
 mod Same
 mod Starts
 mod Stills
-mod Together
+pub mod Together
 mod Unstarted
 mod Untouched

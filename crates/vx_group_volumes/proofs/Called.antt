@@ -101,7 +101,7 @@ any_order others held held' ps ps' kept same same' once device k none =
 
 -- ---- disks
 
-keeps_same : (p : Seen) → Keeps p p
+pub keeps_same : (p : Seen) → Keeps p p
 keeps_same p = record { device = refl; start = refl; sectors = refl; stop = refl; faults = omega arith; cut = λ h. h }
 
 module _ (held : List Seen) (r r' : Rest) (h : DiskSeen) (same : (k : ℕ) → list_any (covers h.seen.device k) held ≡ false → r'.contents k ≡ r.contents k) where

@@ -122,7 +122,7 @@ same_map own maps j m k same at has = sym at ∙ ap (λ (ms : List ℕ). slice_i
 
 module _ (c : Config) (good : ℕ) (v : Vol) (fresh : Bool) (form : VolumeForm) (is : IsFormOf c good v fresh form) (numbers : List ℕ) (device : ℕ) where
   -- a plex of which a block lies on the device
-  of_block : (p : Plex) (l : Layout) (k : ℕ) → IsTaken c good v p → IsLayoutOf c p l → IsAtBlock numbers l.unit l.columns device k → LiesOnDevice c (good_disks good c.disks) numbers p device
+  pub of_block : (p : Plex) (l : Layout) (k : ℕ) → IsTaken c good v p → IsLayoutOf c p l → IsAtBlock numbers l.unit l.columns device k → LiesOnDevice c (good_disks good c.disks) numbers p device
   of_block p l k taken lay block =
       let at : IsAtBlock numbers p.unit (columns_of c p) device k =
       subst (λ u. IsAtBlock numbers u (columns_of c p) device k) lay.unit (subst (λ columns. IsAtBlock numbers l.unit columns device k) lay.columns block) in

@@ -62,7 +62,7 @@ pub record IsSectorOfPlex (c : Config) (good : ℕ) (v : Vol) (numbers : List �
   pub on : IsSlotOf (good_disks good c.disks) slot
 
 module _ (c : Config) (good : ℕ) (v : Vol) (fresh : Bool) (form : VolumeForm) (is : IsFormOf c good v fresh form) (numbers : List ℕ) (device k : ℕ) where
-  of_layout : (p : Plex) (l : Layout) → IsTaken c good v p → IsLayoutOf c p l → IsAtBlock numbers l.unit l.columns device k → IsSectorOfPlex c good v numbers device k
+  pub of_layout : (p : Plex) (l : Layout) → IsTaken c good v p → IsLayoutOf c p l → IsAtBlock numbers l.unit l.columns device k → IsSectorOfPlex c good v numbers device k
   of_layout p l taken lay block =
       let at : IsAtBlock numbers p.unit (columns_of c p) device k =
       subst (λ u. IsAtBlock numbers u (columns_of c p) device k) lay.unit (subst (λ columns. IsAtBlock numbers l.unit columns device k) lay.columns block) in

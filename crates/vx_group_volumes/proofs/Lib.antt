@@ -24,3 +24,4 @@ pub mod Rests
 pub mod Reasons
 pub mod Stands
 pub mod Commits
+mod Taken

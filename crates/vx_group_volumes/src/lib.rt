@@ -5,6 +5,7 @@
 ghost use Rattle.vx_group_volumes.specs.CommitLaws.{EachCommitKeepsImages, EachCommitKeepsPublic};
 ghost use Rattle.vx_group_volumes.specs.Copies.{EachCopyMissesNothing, EachCopyStaysTight, EachCopyUnmarks, EachUnmarkedMissesNothing};
 ghost use Rattle.vx_group_volumes.specs.Laws.{CopiesGoOn, EachLeavingStandsFor, EachRecordedVolumeRuns, EachStartChangesStates, EachStopChangesStates, FreshStartForgets, FreshStartIsTight, FreshStartRuns, LoadedStartForgets, LoadedStartRuns, RestGoesOn, StartFits, StartRuns};
+ghost use Rattle.vx_group_volumes.specs.LogLaws.{EachDiskGoesByCopies, EachLogChangesOnly, EachLogCountsItsOwn, EachLogHasItsCopy, EachTakenCopyIsOwn, EachTakenDeviceIsOwn};
 ghost use Rattle.vx_group_volumes.specs.PlexLaws.{DataFailuresAreOwn, EachCutDeviceIsOwn, EachDeviceIsNamed, EachFailedDeviceIsOwn, EachHeldDeviceIsOwn, EachOwnDeviceIsNamed, LogFailuresAreOwn, PlexesFit};
 ghost use Rattle.vx_group_volumes.specs.RestLaws.{EachRestHasReason, EachRestRunsOn, EachStoppedVolumeStands};
 ghost use Rattle.vx_group_volumes.specs.SectorLaws.{AnyCutChangesItsOwn, AnyOrderChangesItsOwn, EachCallChangesOnly, EachDiskGoesOn, EachKeptPieceIsOwn, EachPieceIsOwn, HeldChangeTheirOwn, PlacesGoOn, PlacesStay, RecordedRunsInPlace, RestatedKeepPlaces, StartRunsInPlace};
@@ -161,6 +162,21 @@ pub fn each_call_changes_only<P: Piece + Drop>(running: &Running<P>)
 {
     let _ = running;
 }
+
+/// Copies that were taken for the log of a volume lie on its log plexes, whether it was opened then or refused.
+pub fn each_taken_copy_is_own()
+    ensures sectors { EachTakenCopyIsOwn }
+    ensures devices { EachTakenDeviceIsOwn }
+    ensures plexes { EachLogHasItsCopy }
+{}
+
+/// So what opening a volume does to the pieces of its group changes the devices of the world in the sectors of this volume alone, and
+/// counts nothing on devices that it does not lie on.
+pub fn each_log_changes_only()
+    ensures disks { EachDiskGoesByCopies }
+    ensures world { EachLogChangesOnly }
+    ensures counts { EachLogCountsItsOwn }
+{}
 
 /// The data plexes of a running volume, as their tracks see them by the configuration of now, are those that its regions have.
 pub fn each_plex_fits<P: Piece + Drop>(running: &Running<P>)

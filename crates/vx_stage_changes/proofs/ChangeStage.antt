@@ -81,6 +81,7 @@ module _ {P : Type 0} {ghosts : Ghosts P} (see : P → Seen) (c : Change) (disks
     is_stage : IsStage see (stage.Change c) disks shelf old g (change_edits c g.config)
     is_stage = record {
       writes = refl;
+      wants = λ m. refl;
       gives = λ h. tt;
       group = λ next edited. group_kept c g.config next edited;
       keeps_disks = λ next edited. disks_kept c g.config next edited;

@@ -17,7 +17,7 @@ use Rattle.vx_moments.specs.Commit.{Writing, IsCommitted, IsStopped}
 use Rattle.vx_moments.specs.Moment.{Moment}
 use Rattle.vx_moments.specs.Copies.{IsTextOf}
 use Rattle.vx_plans.specs.Ends.{IsChange}
-use Rattle.vx_plans.specs.Stages.{IsDone, Stops, EditsRefused}
+use Rattle.vx_plans.specs.Stages.{IsDone, Stops, EditsRefused, Wants}
 use Rattle.vx_plans.specs.declared.stage.Stage.{Stage}
 use Rattle.vx_house.specs.Goes.{StageGoes, Gives, only_reads}
 use Rattle.vx_fronts.proofs.Parted.{private_parted}
@@ -70,6 +70,7 @@ stopped_ends see edits g g' next text (stops.Ended (ends.Lost parts)) same publi
 -- What a stage of these edits is, over the house with this group.
 pub record IsStage {P : Type 0} {ghosts : Ghosts P} (see : P → Seen) (s : Stage) (disks : List DiskAt) (shelf : Shelved) (old : House P ghosts) (g : Imported P ghosts) (edits : List Edit) : Type 0 where
   pub writes : only_reads s ≡ false
+  pub wants : (m : Moment) → Wants s m m
   pub gives : (h : House P ghosts) → Gives see s disks h
   pub group : (next : Config) → IsEdited edits g.config next → next.group ≡ g.config.group
   pub keeps_disks : (next : Config) → IsEdited edits g.config next → next.disks ≡ g.config.disks
@@ -80,10 +81,10 @@ pub record IsStage {P : Type 0} {ghosts : Ghosts P} (see : P → Seen) (s : Stag
 
 module _ {P : Type 0} {ghosts : Ghosts P} (see : P → Seen) (s : Stage) (disks : List DiskAt) (shelf : Shelved) (old : House P ghosts) (keeps : KeepsHouse see old) (are_held : AreHeld shelf.held (holders see old)) where
   -- want of memory
-  pub unchanged : StageGoes {T = Unit {0}} see s disks (Err stops.OutOfMemory) (at shelf old) (at shelf old)
-  unchanged = record {
+  pub unchanged : ((m : Moment) → Wants s m m) → StageGoes {T = Unit {0}} see s disks (Err stops.OutOfMemory) (at shelf old) (at shelf old)
+  unchanged wants = record {
     keeps = record { devices = are_held; house = keeps };
-    goes = λ m is. (m, is, later_refl m.counts, refl);
+    goes = λ m is. (m, is, later_refl m.counts, wants m);
     gives = tt;
     still = λ is. tt;
     faults = faults_refl (scene see (at shelf old));
@@ -156,7 +157,7 @@ module _ {P : Type 0} {ghosts : Ghosts P} (see : P → Seen) (s : Stage) (disks 
           done_stage (alone w) s disks keeps (record { ordered = keeps.ordered; hand = keeps.hand; volumes = keeps.volumes; group = kept_after g' text public meant finished }) (runs_done w (is_stage.stays g'.config meant.edited)) (is_stage.gives (house g')) is_stage.writes (λ m is.
           is_stage.done m _ (x_alone w g'.config) is (is_change m is g' text public finished.tried g'.config meant.edited)
           (committed_alone w m (moment_but_group see (at shelf old) m is) finished meant.printed.0 meant.printed.1 (same_name g'.config meant.edited)))
-      edits_go (Err stops.OutOfMemory) g' same = subst (λ h. StageGoes {T = Unit {0}} see s disks (Err stops.OutOfMemory) (at shelf old) (at shelf h)) (same_house g' same) unchanged
+      edits_go (Err stops.OutOfMemory) g' same = subst (λ h. StageGoes {T = Unit {0}} see s disks (Err stops.OutOfMemory) (at shelf old) (at shelf h)) (same_house g' same) (unchanged is_stage.wants)
       edits_go (Err (stops.Ended ends.GroupLost)) g' (public, (next, text, meant, tried, risen)) =
           let w = written g' text public tried in
           group_lost_stage (alone w) s disks keeps keeps.hand (whole_after g' text public tried) (runs_lost w) (λ m is.

@@ -73,6 +73,7 @@ module _ {P : Type 0} {ghosts : Ghosts P} (see : P → Seen) (text : List ℕ) (
   is_stage : (added : List Object) → IsReady (is_either old.volumes g.public.running) text (objects_of g.config) added → IsStage see (stage.Make text) disks shelf old g (Make added ∷ [])
   is_stage added ready = record {
     writes = refl;
+    wants = λ m. refl;
     gives = λ h. tt;
     group = λ next edited. group_kept (Make added ∷ []) g.config next edited;
     keeps_disks = λ next edited. disks_beside added g.config next (subst (λ os. filter_map as_disk os ≡ []) (sym ready.adds.4) (no_disk_made ready.adds.1)) edited;
@@ -84,7 +85,7 @@ module _ {P : Type 0} {ghosts : Ghosts P} (see : P → Seen) (text : List ℕ) (
 
   -- nothing is added, and the house is as before
   unready : (stop : Stop) → StopsAs (IsUnready (is_either old.volumes g.public.running) text (objects_of g.config)) stop → StageGoes {T = Unit {0}} see (stage.Make text) disks (Err stop) (at shelf old) (at shelf old)
-  unready stops.OutOfMemory why = unchanged see (stage.Make text) disks shelf old keeps are_held
+  unready stops.OutOfMemory why = unchanged see (stage.Make text) disks shelf old keeps are_held (λ m. refl)
   unready (stops.Ended end) (r, is, why) =
       subst (λ e. StageGoes {T = Unit {0}} see (stage.Make text) disks (Err (stops.Ended e)) (at shelf old) (at shelf old)) (sym is)
       (refused_here see (stage.Make text) disks shelf old keeps are_held r (λ m at_m.

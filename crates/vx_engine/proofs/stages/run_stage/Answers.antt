@@ -16,3 +16,36 @@ returns-in-MakeImage g c = record { goes = rw c.in-MakeImage.is (stage_ends g.S.
 
 pub returns-in-Wipe : goal.returns-in-Wipe
 returns-in-Wipe g c = record { goes = rw c.in-Wipe.is (stage_ends g.S.P.Piece.seen c.args.disks.now _ _ _ _ (c.wipe.ensures.goes (shelved g.S.Shelf.free g.S.Shelf.held g.S.Shelf.counted g.S.Shelf.faults c.args.shelf.now) c.requires.keeps.devices)) }
+
+pub returns-in-StartBare : goal.returns-in-StartBare
+returns-in-StartBare g c = record { goes = rw c.in-StartBare.is (stage_ends g.S.P.Piece.seen c.args.disks.now _ _ _ _ (c.start_bare.ensures.goes (shelved g.S.Shelf.free g.S.Shelf.held g.S.Shelf.counted g.S.Shelf.faults c.args.shelf.now) c.requires.keeps.devices)) }
+
+pub returns-in-Change : goal.returns-in-Change
+returns-in-Change g c = record { goes = rw c.in-Change.is (stage_ends g.S.P.Piece.seen c.args.disks.now _ _ _ _ (c.change.ensures.goes c.args.disks.now (shelved g.S.Shelf.free g.S.Shelf.held g.S.Shelf.counted g.S.Shelf.faults c.args.shelf.now) (rw c.in-Change.is at c.requires.ready) c.requires.keeps.devices)) }
+
+pub returns-in-Make : goal.returns-in-Make
+returns-in-Make g c = record { goes = rw (c.in-Make.is, ← c.as_slice.ensures) (stage_ends g.S.P.Piece.seen c.args.disks.now _ _ _ _ (c.make.ensures.goes c.args.disks.now (shelved g.S.Shelf.free g.S.Shelf.held g.S.Shelf.counted g.S.Shelf.faults c.args.shelf.now) c.requires.keeps.devices)) }
+
+pub returns-in-Gate : goal.returns-in-Gate
+returns-in-Gate g c = record { goes = rw c.in-Gate.is (stage_ends g.S.P.Piece.seen c.args.disks.now _ _ _ _ (c.pass.ensures.goes (shelved g.S.Shelf.free g.S.Shelf.held g.S.Shelf.counted g.S.Shelf.faults c.args.shelf.now) c.requires.keeps)) }
+
+pub returns-in-LetGo : goal.returns-in-LetGo
+returns-in-LetGo g c = record { goes = rw c.in-LetGo.is c.let_go.ensures.goes }
+
+pub returns-in-Take : goal.returns-in-Take
+returns-in-Take g c = record { goes = rw c.in-Take.is (stage_ends g.S.P.Piece.seen c.args.disks.now _ _ _ _ (c.take.ensures.goes c.args.disks.now (rw c.in-Take.is at c.requires.ready))) }
+
+pub returns-in-Join : goal.returns-in-Join
+returns-in-Join g c = record { goes = rw c.in-Join.is (stage_ends g.S.P.Piece.seen c.args.disks.now _ _ _ _ (c.join.ensures.goes (shelved g.S.Shelf.free g.S.Shelf.held g.S.Shelf.counted g.S.Shelf.faults c.args.shelf.now) c.requires.keeps.devices)) }
+
+pub returns-in-Create : goal.returns-in-Create
+returns-in-Create g c = record { goes = rw c.in-Create.is (stage_ends g.S.P.Piece.seen c.args.disks.now _ _ _ _ (c.create.ensures.goes (shelved g.S.Shelf.free g.S.Shelf.held g.S.Shelf.counted g.S.Shelf.faults c.args.shelf.now) c.requires.keeps.devices)) }
+
+pub returns-in-TakeDisks : goal.returns-in-TakeDisks
+returns-in-TakeDisks g c = record { goes = rw c.in-TakeDisks.is (stage_ends g.S.P.Piece.seen c.args.disks.now _ _ _ _ c.take_disks.ensures.goes) }
+
+pub returns-in-Search : goal.returns-in-Search
+returns-in-Search g c = record { goes = rw c.in-Search.is (stage_ends g.S.P.Piece.seen c.args.disks.now _ _ _ _ c.search.ensures.goes) }
+
+pub returns-in-Import : goal.returns-in-Import
+returns-in-Import g c = record { goes = rw c.in-Import.is (stage_ends g.S.P.Piece.seen c.args.disks.now _ _ _ _ c.import.ensures.goes) }

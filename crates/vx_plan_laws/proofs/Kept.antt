@@ -89,60 +89,71 @@ refused_kept (stage.Stop vol) disks m r n other stops = stop_left m r n vol stop
 not_done : (r : Refusal) → refused r ≡ done → ⊥
 not_done r e = cc
 
--- all stages but the last keep the world, and none is a start
-abbrev pub AreStill : List Stage → Type 0
-AreStill [] = Unit {0}
-AreStill (s ∷ []) = is_start s ≡ false
-AreStill (s ∷ t ∷ ss) = (is_start s ≡ false) × (keeps_world s ≡ true) × AreStill (t ∷ ss)
+-- the stage is a start or a stop
+abbrev pub calls_volume : Stage → Bool
+calls_volume (stage.Start vol) = true
+calls_volume (stage.Stop vol) = true
+calls_volume other = false
 
-still_kept : (disks : List DiskAt) (stages : List Stage) (finish : Finish) (old : Moment) (views : List View) (r : Refusal) (new : Moment) → AreStill stages → Runs disks stages finish old views (refused r) new → new.world ≡ old.world
+-- all stages but the last keep the world, and none is such a one
+abbrev pub AreStill : (Stage → Bool) → List Stage → Type 0
+AreStill is_such [] = Unit {0}
+AreStill is_such (s ∷ []) = is_such s ≡ false
+AreStill is_such (s ∷ t ∷ ss) = (is_such s ≡ false) × (keeps_world s ≡ true) × AreStill is_such (t ∷ ss)
+
+no_start : (s : Stage) → calls_volume s ≡ false → is_start s ≡ false
+no_start (stage.Start vol) e = cc
+no_start other e = refl
+
+pub have_no_start : (stages : List Stage) → AreStill calls_volume stages → AreStill is_start stages
+have_no_start [] still = tt
+have_no_start (s ∷ []) still = no_start s still
+have_no_start (s ∷ t ∷ ss) still = (no_start s still.0, still.1, have_no_start (t ∷ ss) still.2)
+
+still_kept : (disks : List DiskAt) (stages : List Stage) (finish : Finish) (old : Moment) (views : List View) (r : Refusal) (new : Moment) → AreStill is_start stages → Runs disks stages finish old views (refused r) new → new.world ≡ old.world
 still_kept disks [] finish old views r new still (shows, is, stays) = absurd (not_done r is)
 still_kept disks (s ∷ []) finish old views r new still (inl (mid, later, is, (shows, over, stays))) = absurd (not_done r over)
 still_kept disks (s ∷ []) finish old views r new still (inr (none, later, stops)) = refused_kept s disks old r new still stops
 still_kept disks (s ∷ t ∷ ss) finish old views r new still (inl (mid, later, is, rest)) = still_kept disks (t ∷ ss) finish mid views r new still.2 rest ∙ kept_world s disks old mid still.1 is
 still_kept disks (s ∷ t ∷ ss) finish old views r new still (inr (none, later, stops)) = refused_kept s disks old r new still.0 stops
 
-abbrev pub IsStill : Option Plan → Type 0
-IsStill None = Unit {0}
-IsStill (Some plan) = AreStill plan.stages
+-- no stage of the plan calls a volume of the group, and all but the last keep the world
+abbrev pub IsPlain : Option Plan → Type 0
+IsPlain None = Unit {0}
+IsPlain (Some plan) = AreStill calls_volume plan.stages
 
--- the form is that of a start
-abbrev pub starts : Form → Bool
-starts (form.Start vol) = true
-starts other = false
-
-pub plan_still : (dg : Option Word) (f : Form) → starts f ≡ false → IsStill (plan_of dg f)
+pub plan_plain : (dg : Option Word) (f : Form) → IsPlain (plan_of dg f)
 unfolding plan_of
-plan_still dg (form.MkImage device length) other = refl
-plan_still dg (form.Bare vol device) other = (refl, refl, (refl, refl, (refl, refl, refl)))
-plan_still dg (form.DgInit name disks) other = (refl, refl, (refl, refl, (refl, refl, (refl, refl, (refl, refl, (refl, refl, refl))))))
-plan_still dg (form.DgAddDisk name disk) other = (refl, refl, (refl, refl, (refl, refl, (refl, refl, (refl, refl, refl)))))
-plan_still dg (form.DgImport name) other = refl
-plan_still dg (form.DgDeport name) other = (refl, refl, (refl, refl, refl))
-plan_still dg (form.DiskUnsetup device) other = (refl, refl, (refl, refl, refl))
-plan_still dg (form.PrintM None) other = refl
-plan_still dg (form.PrintM (Some vol)) other = (refl, refl, refl)
-plan_still dg (form.VxMake text) other = (refl, refl, refl)
-plan_still dg (form.Rdpol vol words.Round) other = (refl, refl, (refl, refl, refl))
-plan_still dg (form.Rdpol vol words.Select) other = (refl, refl, (refl, refl, refl))
-plan_still dg (form.Rdpol vol (words.Prefer plex)) other = (refl, refl, (refl, refl, (refl, refl, refl)))
-plan_still dg (form.RemoveVolume vol) other = (refl, refl, (refl, refl, (refl, refl, (refl, refl, refl))))
-plan_still dg (form.Stop vol) other = tt
-plan_still dg (form.Start vol) other = cc
-plan_still dg (form.PrintHt vol) other = tt
-plan_still dg (form.AssistMake vol length attrs disks) other = tt
-plan_still dg (form.Mirror vol disks) other = tt
-plan_still dg (form.PlexDis plex rm) other = tt
-plan_still dg (form.Prepare vol ndcomirs region) other = tt
-plan_still dg (form.Unprepare vol) other = tt
-plan_still dg (form.AddMir vol disks) other = tt
-plan_still dg (form.Dis snap) other = tt
-plan_still dg (form.Split snap) other = tt
-plan_still dg (form.PrintSnaps vol) other = tt
-plan_still dg (form.Recover vol) other = tt
-plan_still dg (form.Acting act) other = tt
-plan_still dg (form.Calling call) other = tt
-plan_still dg (form.Sessions block) other = tt
+plan_plain dg (form.MkImage device length) = refl
+plan_plain dg (form.Bare vol device) = (refl, refl, (refl, refl, (refl, refl, refl)))
+plan_plain dg (form.DgInit name disks) = (refl, refl, (refl, refl, (refl, refl, (refl, refl, (refl, refl, (refl, refl, refl))))))
+plan_plain dg (form.DgAddDisk name disk) = (refl, refl, (refl, refl, (refl, refl, (refl, refl, (refl, refl, refl)))))
+plan_plain dg (form.DgImport name) = refl
+plan_plain dg (form.DgDeport name) = (refl, refl, (refl, refl, refl))
+plan_plain dg (form.DiskUnsetup device) = (refl, refl, (refl, refl, refl))
+plan_plain dg (form.PrintM None) = refl
+plan_plain dg (form.PrintM (Some vol)) = (refl, refl, refl)
+plan_plain dg (form.VxMake text) = (refl, refl, refl)
+plan_plain dg (form.Rdpol vol words.Round) = (refl, refl, (refl, refl, refl))
+plan_plain dg (form.Rdpol vol words.Select) = (refl, refl, (refl, refl, refl))
+plan_plain dg (form.Rdpol vol (words.Prefer plex)) = (refl, refl, (refl, refl, (refl, refl, refl)))
+plan_plain dg (form.RemoveVolume vol) = (refl, refl, (refl, refl, (refl, refl, (refl, refl, refl))))
+plan_plain dg (form.Stop vol) = tt
+plan_plain dg (form.Start vol) = tt
+plan_plain dg (form.PrintHt vol) = tt
+plan_plain dg (form.AssistMake vol length attrs disks) = tt
+plan_plain dg (form.Mirror vol disks) = tt
+plan_plain dg (form.PlexDis plex rm) = tt
+plan_plain dg (form.Prepare vol ndcomirs region) = tt
+plan_plain dg (form.Unprepare vol) = tt
+plan_plain dg (form.AddMir vol disks) = tt
+plan_plain dg (form.Dis snap) = tt
+plan_plain dg (form.Split snap) = tt
+plan_plain dg (form.PrintSnaps vol) = tt
+plan_plain dg (form.Recover vol) = tt
+plan_plain dg (form.Acting act) = tt
+plan_plain dg (form.Calling call) = tt
+plan_plain dg (form.Sessions block) = tt
 
 -- ---- commands
 
@@ -150,9 +161,9 @@ module _ (old : Moment) (views : List View) (r : Refusal) (new : Moment) where
   not_built : IsNotBuilt old views (refused r) new → new.world ≡ old.world
   not_built (none, is, stays) = ap (λ (m : Moment). m.world) stays
 
-  plan_left : (disks : List DiskAt) (plan : Option Plan) → IsStill plan → DoesPlan disks plan old views (refused r) new → new.world ≡ old.world
-  plan_left disks None still does = not_built does
-  plan_left disks (Some plan) still does = still_kept disks plan.stages plan.finish old views r new still does
+  plan_left : (disks : List DiskAt) (plan : Option Plan) → IsPlain plan → DoesPlan disks plan old views (refused r) new → new.world ≡ old.world
+  plan_left disks None plain does = not_built does
+  plan_left disks (Some plan) plain does = still_kept disks plan.stages plan.finish old views r new (have_no_start plan.stages plain) does
 
   -- a start behind two gates is refused: each gate leaves the moment
   starting_left : (first second : Test) (vol : Word) → Runs [] (stage.Gate first ∷ stage.Gate second ∷ stage.Start vol ∷ []) Nothing old views (refused r) new → (new.world ≡ old.world) ⊎ IsLeftUnopened vol old r new
@@ -191,7 +202,7 @@ module _ (old : Moment) (views : List View) (r : Refusal) (new : Moment) where
   unfolding plan_of
   form_left place dg (form.Calling call) does = calling_left place call does
   form_left place dg (form.Start vol) does = inl (not_built does)
-  form_left place dg other does = plan_left (disks_of other) (plan_of dg other) (plan_still dg other refl) does
+  form_left place dg other does = plan_left (disks_of other) (plan_of dg other) (plan_plain dg other) does
 
   command_left : (place : ℕ) (c : Command) (cut : Option ℕ) → MatchOption cut (DoesForm place c.group c.form old views (refused r) new) (λ n. IsNotBuilt old views (refused r) new) → RefusedLeaves c.form old r new
   command_left place c None does = form_left place c.group c.form does

@@ -12,5 +12,6 @@ mod Makings
 mod Tests
 mod Volumes
 mod Kept
+mod Wanting
 mod Told
 mod Refusals

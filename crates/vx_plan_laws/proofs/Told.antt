@@ -29,7 +29,7 @@ use Rattle.vx_plans.specs.declared.stages.Finish.TheVariants.{Nothing}
 use Rattle.vx_plans.specs.declared.test.Test.{Test}
 use Rattle.vx_plans.specs.declared.stages.Plan.{Plan}
 use Rattle.vx_plan_laws.specs.Refusing.{IsDoneBy, OfGroup, OfVolume}
-use Rattle.vx_plan_laws.proofs.Kept.{AreStill, IsStill, is_start, plan_still}
+use Rattle.vx_plan_laws.proofs.Kept.{AreStill, IsPlain, have_no_start, is_start, plan_plain}
 
 -- the command was done, and so many regions were copied
 abbrev all_done : Option ℕ → End
@@ -162,7 +162,7 @@ module _ (copied : Option ℕ) where
 
   -- ---- plans
 
-  still_done : (disks : List DiskAt) (stages : List Stage) (finish : Finish) (old : Moment) (views : List View) (new : Moment) → AreStill stages → Runs disks stages finish old views (all_done copied) new → all_done copied ≡ done
+  still_done : (disks : List DiskAt) (stages : List Stage) (finish : Finish) (old : Moment) (views : List View) (new : Moment) → AreStill is_start stages → Runs disks stages finish old views (all_done copied) new → all_done copied ≡ done
   still_done disks [] finish old views new still (shows, is, stays) = is
   still_done disks (s ∷ []) finish old views new still (inl (mid, later, is, (shows, over, stays))) = over
   still_done disks (s ∷ []) finish old views new still (inr (none, later, stops)) = absurd (not_done s disks old new still stops)
@@ -173,9 +173,9 @@ module _ (copied : Option ℕ) where
   abbrev RunsSo : Option Plan → List DiskAt → Moment → List View → Moment → Type 0
   RunsSo plan disks old views new = MatchOption plan ⊥ (λ p. Runs disks p.stages p.finish old views (all_done copied) new)
 
-  still_plan : (disks : List DiskAt) (plan : Option Plan) (old : Moment) (views : List View) (new : Moment) → IsStill plan → RunsSo plan disks old views new → all_done copied ≡ done
+  still_plan : (disks : List DiskAt) (plan : Option Plan) (old : Moment) (views : List View) (new : Moment) → IsPlain plan → RunsSo plan disks old views new → all_done copied ≡ done
   still_plan disks None old views new still runs = absurd runs
-  still_plan disks (Some plan) old views new still runs = still_done disks plan.stages plan.finish old views new still runs
+  still_plan disks (Some plan) old views new still runs = still_done disks plan.stages plan.finish old views new (have_no_start plan.stages still) runs
 
   -- a start behind two gates
   start_tells : (first second : Test) (vol : Word) (old : Moment) (views : List View) (new : Moment) → Runs [] (stage.Gate first ∷ stage.Gate second ∷ stage.Start vol ∷ []) Nothing old views (all_done copied) new → Tells vol old.world
@@ -188,7 +188,7 @@ module _ (copied : Option ℕ) where
   form_tells : (dg : Option Word) (f : Form) (old : Moment) (views : List View) (new : Moment) → RunsSo (plan_of dg f) (disks_of f) old views new → IsDoneBy f old.world (all_done copied)
   unfolding plan_of
   form_tells dg (form.Start vol) old views new runs = absurd runs
-  form_tells dg other old views new runs = still_plan (disks_of other) (plan_of dg other) old views new (plan_still dg other refl) runs
+  form_tells dg other old views new runs = still_plan (disks_of other) (plan_of dg other) old views new (plan_plain dg other) runs
 
   pub tells_done : (dg : Option Word) (f : Form) (plan : Plan) (old : Moment) (views : List View) (new : Moment) → plan_of dg f ≡ Some plan → Runs (disks_of f) plan.stages plan.finish old views (all_done copied) new → IsDoneBy f old.world (all_done copied)
   tells_done dg f plan old views new is runs = form_tells dg f old views new (subst (λ (p : Option Plan). RunsSo p (disks_of f) old views new) (sym is) runs)

@@ -1,4 +1,4 @@
--- What a refused command leaves of the world.
+-- What a command that is refused, or left off for want of memory, leaves of the world.
 use Rattle.std.specs.Prelude.{◌≡◌, ◌⊎◌, ℕ, true, List}
 use Rattle.vx_base.specs.Named.{Word}
 use Rattle.vx_script_forms.specs.declared.form.Form.{Form}
@@ -10,7 +10,7 @@ use Rattle.vx_answers.specs.declared.refusal.Refusal.{Refusal}
 use Rattle.vx_moments.specs.Moment.{Moment}
 use Rattle.vx_plans.specs.Ends.{refused}
 use Rattle.vx_plans.specs.Starting.{may_start}
-use Rattle.vx_plans.specs.Steps.{Step}
+use Rattle.vx_plans.specs.Steps.{LeavesOff, Step}
 use Rattle.vx_plans.specs.Touching.{IsTouched}
 use Rattle.vx_plan_laws.specs.Refusing.{OfGroup, OfVolume, OpeningRefuses}
 
@@ -29,3 +29,7 @@ abbrev pub EachRefusalKeepsTheWorld : Type 0
 EachRefusalKeepsTheWorld =
     (place : ℕ) (c : Command) (old : Moment) (views : List View) (r : Refusal) (new : Moment)
     → Step place c old (One views (refused r)) new → RefusedLeaves c.form old r new
+
+-- want of memory leaves the world as the command found it: no plan starts or stops a volume of the group yet
+abbrev pub EachWantKeepsTheWorld : Type 0
+EachWantKeepsTheWorld = (c : Command) (old new : Moment) → LeavesOff c old new → new.world ≡ old.world

@@ -2,7 +2,7 @@
 //! promise them.
 #![tactic(auto)]
 
-ghost use Rattle.vx_plan_laws.specs.Keeping.{EachRefusalKeepsTheWorld};
+ghost use Rattle.vx_plan_laws.specs.Keeping.{EachRefusalKeepsTheWorld, EachWantKeepsTheWorld};
 ghost use Rattle.vx_plan_laws.specs.Refusing.{EachRefusalIsTested, EachCommandIsDoneOrTested};
 ghost use Rattle.vx_plan_laws.specs.Unbroken.{NoRuleRefusesAPolicy, NoRuleRefusesARemoval, NoRuleRefusesRecords, OnlyANameRefusesADisk};
 
@@ -41,4 +41,9 @@ pub fn each_command_is_done_or_tested()
 /// and then the devices have changed in sectors of that volume alone.
 pub fn each_refusal_keeps_the_world()
     ensures { EachRefusalKeepsTheWorld }
+{}
+
+/// Want of memory leaves the world as the command found it.
+pub fn each_want_keeps_the_world()
+    ensures { EachWantKeepsTheWorld }
 {}

@@ -6,7 +6,7 @@ use Rattle.vx_rules.specs.Adding.{firsts}
 use Rattle.vx_rules.specs.References.{repeated_after}
 use Rattle.vx_rules.specs.Rules.{first_broken, is_valid}
 use Rattle.vx_rules.proofs.InOrder.{names_differ}
-use Rattle.vx_plans.specs.Making.{adding_refusal, refusal_among}
+use Rattle.vx_stages.specs.Making.{adding_refusal, refusal_among}
 
 nothing : {A : Type 0} (o : Option A) → is_none o ≡ true → o ≡ None
 nothing None e = refl

@@ -2,8 +2,8 @@
 ghost use Rattle.std.specs.Prelude.{◌≡◌, ◌++◌, [], None, IfOk};
 ghost use Rattle.vx_added_records.specs.Started.{is_either, is_running};
 ghost use Rattle.vx_objects.specs.Config.{objects_of};
-ghost use Rattle.vx_plans.specs.Making.{adding_refusal, broken, refusal_among, started_name};
-ghost use Rattle.vx_plans.specs.Refusals.{refusal_from};
+ghost use Rattle.vx_stages.specs.Making.{adding_refusal, broken, refusal_among, started_name};
+ghost use Rattle.vx_stages.specs.Refusals.{refusal_from};
 ghost use Rattle.vx_rules.specs.Adding.{firsts, had_fault};
 ghost use Rattle.vx_rules.specs.Faults.{first_of};
 ghost use Rattle.vx_rules.specs.References.{repeated_after};
@@ -14,8 +14,8 @@ use vx_answers::Refusal;
 use vx_base::OutOfMemory;
 use vx_names::Name;
 use vx_objects::{Config, Object, Rule};
-use vx_plans::refusal_from;
 use vx_rules::{first_broken_by, first_had, firsts};
+use vx_stages::refusal_from;
 
 /// What is referred to is there.
 const REFERENCES: [Rule; 2] = [Rule::ReferencesAreThere, Rule::PreferredPlexIsThere];

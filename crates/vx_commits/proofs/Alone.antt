@@ -29,7 +29,7 @@ use Rattle.vx_fronts.specs.Laws.{Carries, Commits, whole_disks}
 use Rattle.vx_fronts.specs.Rests.{rests_of}
 use Rattle.vx_fronts.proofs.Disks.{ready_one}
 use Rattle.vx_fronts.proofs.Groups.{all_whole, each_commit, each_cut, each_failure, each_text, each_write, private_then}
-use Rattle.vx_running.specs.Public.{lent_pieces, still_pieces}
+use Rattle.vx_lending.specs.Public.{lent_pieces, still_pieces}
 use Rattle.vx_commits.proofs.DeviceLaws.{IsCalled}
 use Rattle.vx_commits.proofs.GoodDisks.{any_good}
 use Rattle.vx_commits.proofs.Holders.{same_members, world_group, group_is, both_tell}

@@ -14,8 +14,8 @@ use Rattle.vx_answers.specs.declared.answer.End.TheVariants as ends
 use Rattle.vx_started.specs.Stands.{IsSized}
 use Rattle.vx_started.specs.declared.started.Started.{Started}
 use Rattle.vx_moments.specs.Moment.{Moment}
-use Rattle.vx_plans.specs.Stages.{IsDone, Stops}
-use Rattle.vx_plans.specs.declared.stage.Stage.{Stage}
+use Rattle.vx_stages.specs.Stages.{IsDone, Stops}
+use Rattle.vx_stages.specs.declared.stage.Stage.{Stage}
 use Rattle.vx_house.specs.Goes.{StageGoes, Gives, only_reads}
 use Rattle.vx_house.specs.Holders.{Holder, volume_at}
 use Rattle.vx_house.specs.Runs.{AreRuns}

@@ -18,15 +18,15 @@ use Rattle.vx_image.specs.Own.{IsOfVolume}
 use Rattle.vx_image.proofs.Imports.{filled}
 use Rattle.vx_layout.specs.declared.place.Place.{Place}
 use Rattle.vx_moments.specs.World.{Group, Member, Volume}
-use Rattle.vx_running.specs.declared.public.Public.{Public}
-use Rattle.vx_running.specs.declared.public.Running.{Running}
-use Rattle.vx_volume_lives.specs.Leaving.{AreNamedIn}
-use Rattle.vx_left_images.proofs.Configurations.{keeping_goes_on, kept_named}
+use Rattle.vx_lending.specs.declared.public.Public.{Public}
+use Rattle.vx_lending.specs.declared.public.Running.{Running}
+use Rattle.vx_volume_laws.specs.Leaving.{AreNamedIn}
+use Rattle.vx_volume_laws.proofs.Configurations.{keeping_goes_on, kept_named}
 use Rattle.vx_group_volumes.specs.Runs.{RunsIn}
 use Rattle.vx_group_edits.specs.Stays.{AreFewer, EachStays, StaysRecorded}
 use Rattle.vx_confdb.specs.Groups.{members}
 use Rattle.vx_moments.specs.Leaving.{grouped}
-use Rattle.vx_running.specs.Public.{running_at}
+use Rattle.vx_lending.specs.Public.{running_at}
 use Rattle.vx_group_images.specs.Owners.{device_at}
 use Rattle.vx_group_volumes.specs.Places.{KeepsPlaces, RunsInPlace}
 use Rattle.vx_group_volumes.proofs.Places.{places_go_on}

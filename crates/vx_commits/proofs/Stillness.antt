@@ -8,7 +8,7 @@ use Rattle.vx_copies.specs.declared.disk.Disk.{Disk}
 use Rattle.vx_objects.specs.declared.config.Config.{Config}
 use Rattle.vx_fronts.specs.Parted.{AreParted}
 use Rattle.vx_fronts.proofs.Parted.{parted_committed}
-use Rattle.vx_running.specs.Public.{lent_pieces, still_pieces}
+use Rattle.vx_lending.specs.Public.{lent_pieces, still_pieces}
 use Rattle.vx_house.specs.View.{AreSized, HaveSlots, AreRecorded, IsGroupWhole}
 use Rattle.vx_house.specs.declared.house.Imported.{Imported}
 use Rattle.vx_confdb.specs.Groups.{members}

@@ -13,7 +13,7 @@ use Rattle.vx_script_forms.specs.declared.call.Call.{Call}
 use Rattle.vx_answers.specs.declared.answer.End.{End}
 use Rattle.vx_answers.specs.declared.answer.End.TheVariants.{Refused}
 use Rattle.vx_answers.specs.declared.refusal.Refusal.TheVariants.{Range}
-use Rattle.vx_plans.specs.Calls.{start_of, count_of}
+use Rattle.vx_stages.specs.Calls.{start_of, count_of}
 use Rattle.vx_started.specs.declared.started.Started.{Started}
 use Rattle.vx_engine.specs.Calling.{IsServedAmong, ServesAmong}
 

@@ -18,10 +18,10 @@ use Rattle.vx_answers.specs.declared.refusal.Refusal.TheVariants.{NotStarted, Ra
 use Rattle.vx_moments.specs.Leaving.{grouped, grouped_by, lone, lone_by}
 use Rattle.vx_moments.specs.Moment.{Moment, Rests}
 use Rattle.vx_moments.specs.World.{Group, Lies, OnDevice, OnPlexes, Volume}
-use Rattle.vx_plans.specs.Calls.{volume_of, start_of, count_of}
+use Rattle.vx_stages.specs.Calls.{volume_of, start_of, count_of}
 use Rattle.vx_plans.specs.Serving.{CallRuns, ServesOn}
-use Rattle.vx_running.specs.declared.public.Running.{Running}
-use Rattle.vx_running.specs.Public.{running_at}
+use Rattle.vx_lending.specs.declared.public.Running.{Running}
+use Rattle.vx_lending.specs.Public.{running_at}
 use Rattle.vx_volume.specs.Volume.{volume_seen}
 use Rattle.vx_house.specs.Holders.{volume_at}
 use Rattle.vx_house.specs.Runs.{IsAtRun, IsRunOf, fronts_in, run_in}

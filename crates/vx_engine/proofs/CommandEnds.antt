@@ -27,9 +27,9 @@ use Rattle.vx_moments.specs.Moment.{Moment, AreLater}
 use Rattle.vx_moments.specs.World.{World}
 use Rattle.vx_moments.specs.Leaving.{group_gone}
 use Rattle.vx_plans.specs.Steps.{Runs, RunsShort, Leaves, Shows, done}
-use Rattle.vx_plans.specs.declared.stage.Stage.{Stage}
-use Rattle.vx_plans.specs.declared.stages.Finish.{Finish}
-use Rattle.vx_plans.specs.declared.stages.Finish.TheVariants.{Nothing, Records}
+use Rattle.vx_stages.specs.declared.stage.Stage.{Stage}
+use Rattle.vx_stages.specs.declared.stages.Finish.{Finish}
+use Rattle.vx_stages.specs.declared.stages.Finish.TheVariants.{Nothing, Records}
 use Rattle.vx_house.specs.Goes.{KeepsBy}
 use Rattle.vx_house.specs.Holders.{volume_at}
 use Rattle.vx_house.specs.Leaves.{StandsAt, IsLeft, IsLater, LeavesBoth, LeavesVolumes, LeavesNone, StaysBy}
@@ -53,9 +53,9 @@ use Rattle.vx_engine.specs.declared.unserved.Unserved.{Unserved}
 use Rattle.vx_engine.specs.declared.unserved.Unserved.TheVariants as unserved
 use Rattle.vx_engine.specs.Fed.{ShowsAfter}
 use Rattle.vx_engine.specs.Shows.{CanShow, ShowsRecords}
-use Rattle.vx_plans.specs.Tests.{fails, unless, is_here}
-use Rattle.vx_plans.specs.declared.test.Test.TheVariants as tests
-use Rattle.vx_plans.specs.declared.stage.Stage.TheVariants as stage
+use Rattle.vx_stages.specs.Tests.{fails, unless, is_here}
+use Rattle.vx_stages.specs.declared.test.Test.TheVariants as tests
+use Rattle.vx_stages.specs.declared.stage.Stage.TheVariants as stage
 use Rattle.vx_answers.specs.declared.refusal.Refusal.TheVariants as refusal
 use Rattle.vx_engine.proofs.StageChains.{ordered_all, given_one}
 

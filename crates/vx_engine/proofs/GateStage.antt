@@ -15,9 +15,9 @@ use Rattle.vx_started.specs.declared.started.Started.{Started}
 use Rattle.vx_answers.specs.declared.refusal.Refusal.{Refusal}
 use Rattle.vx_answers.specs.declared.answer.End.TheVariants as ends
 use Rattle.vx_moments.specs.Moment.{Moment}
-use Rattle.vx_plans.specs.Tests.{fails}
-use Rattle.vx_plans.specs.declared.stage.Stage.TheVariants as stage
-use Rattle.vx_plans.specs.declared.test.Test.{Test}
+use Rattle.vx_stages.specs.Tests.{fails}
+use Rattle.vx_stages.specs.declared.stage.Stage.TheVariants as stage
+use Rattle.vx_stages.specs.declared.test.Test.{Test}
 use Rattle.vx_house.specs.Closing.{GivesGroup, KeepsGroup}
 use Rattle.vx_house.specs.Goes.{IsReady, IsStill, StageGoes}
 use Rattle.vx_house.specs.Plain.{plain}

@@ -25,7 +25,7 @@ use Rattle.vx_answers.specs.declared.answer.End.TheVariants as ends
 use Rattle.vx_answers.specs.declared.refusal.Refusal.TheVariants.{NotStarted, Range}
 use Rattle.vx_moments.specs.Moment.{Moment, AreLater, Rests}
 use Rattle.vx_moments.specs.World.{World, Device, Volume, OnDevice}
-use Rattle.vx_plans.specs.Calls.{volume_of, start_of, count_of, reads_of, writes_of, Lives, LiesOn, HasCause, CallsOnce, IsServed}
+use Rattle.vx_stages.specs.Calls.{volume_of, start_of, count_of, reads_of, writes_of, Lives, LiesOn, HasCause, CallsOnce, IsServed}
 use Rattle.vx_plans.specs.Serving.{CallRuns, ServesOn}
 use Rattle.vx_house.specs.Holders.{Holder, holders, volume_holder, group_holders, hand_holder, volume_at, AreHeld, AreApart}
 use Rattle.vx_house.specs.Scene.{Shelved, Scene, seen_at, faults_at, faults_in, count_in, FaultsGoOn, IsBlamed}

@@ -12,10 +12,10 @@ use Rattle.vx_started.specs.declared.started.Started.{Started}
 use Rattle.vx_moments.specs.Leaving.{grouped}
 use Rattle.vx_moments.specs.World.{Group, Volume}
 use Rattle.vx_moments.specs.Moment.{Moment}
-use Rattle.vx_running.specs.declared.public.Running.{Running}
-use Rattle.vx_plans.specs.Tests.{earlier, fails, first_started, in_use_by, started_of}
+use Rattle.vx_lending.specs.declared.public.Running.{Running}
+use Rattle.vx_stages.specs.Tests.{earlier, fails, first_started, in_use_by, started_of}
 use Rattle.vx_config_parts.specs.Objects.{comes_before}
-use Rattle.vx_plans.specs.declared.test.Test.TheVariants as tests
+use Rattle.vx_stages.specs.declared.test.Test.TheVariants as tests
 use Rattle.vx_house.specs.Holders.{volume_at}
 use Rattle.vx_house.specs.Plain.{plain, told_volume}
 use Rattle.vx_house.specs.Runs.{AreRuns, IsAtRun, fronts_in, run_in}

@@ -39,10 +39,10 @@ use Rattle.vx_group_images.specs.Owners.{IsDeviceOfVolume, owner_of, owners_of, 
 use Rattle.vx_group_images.specs.Tracks.{TrackOwner, has_failed, volume_failed, volume_lived}
 use Rattle.vx_group_images.proofs.Tracked.{goes_length, goes_lies, goes_region, goes_sound}
 use Rattle.vx_volume.specs.Volume.{cell_at, volume_seen}
-use Rattle.vx_volume_lives.specs.Laws.{FailuresAreTold, MayComeNext, OwnersFit}
+use Rattle.vx_volume_laws.specs.RunLaws.{FailuresAreTold, MayComeNext, OwnersFit}
 use Rattle.vx_lending.specs.Left.{held_pieces}
-use Rattle.vx_running.specs.declared.public.Running.{Running}
-use Rattle.vx_running.specs.Public.{running_at}
+use Rattle.vx_lending.specs.declared.public.Running.{Running}
+use Rattle.vx_lending.specs.Public.{running_at}
 use Rattle.vx_group_calls.specs.Causes.{ServedHasCause}
 use Rattle.vx_group_calls.specs.Serving.{Tells}
 use Rattle.vx_group_calls.specs.declared.served.Served.{Served}
@@ -54,8 +54,8 @@ use Rattle.vx_group_volumes.specs.Opened.{opened_plexes}
 use Rattle.vx_group_volumes.proofs.Failures.{data_failures, log_failures}
 use Rattle.vx_group_volumes.proofs.HeldDevices.{plexes_fit}
 use Rattle.vx_group_volumes.proofs.Plexes.{owner_is}
-use Rattle.vx_plans.specs.Calls.{volume_of, start_of, count_of}
-use Rattle.vx_plans.specs.GroupCalls.{BecomesBy, CurrentHaveFailed, EndHasCause, FaultHasCause, IsLastPart, IsServedOnPlexes, LivesOnPlexes, LogHasFailed, PlexHasFailed, TellsParts, comes_next, is_known}
+use Rattle.vx_stages.specs.Calls.{volume_of, start_of, count_of}
+use Rattle.vx_stages.specs.GroupCalls.{BecomesBy, CurrentHaveFailed, EndHasCause, FaultHasCause, IsLastPart, IsServedOnPlexes, LivesOnPlexes, LogHasFailed, PlexHasFailed, TellsParts, comes_next, is_known}
 use Rattle.vx_plans.specs.Serving.{CallRuns, ServesOn}
 use Rattle.vx_group_volumes.specs.Places.{disks_at}
 use Rattle.vx_house.specs.Runs.{IsRunOf}

@@ -9,13 +9,13 @@ use Rattle.vx_block.specs.Geometry.{is_geometry}
 use Rattle.vx_rules.specs.Rules.{first_broken}
 use Rattle.vx_config_parts.specs.declared.fault.Limit.TheVariants as limit
 use Rattle.vx_answers.specs.declared.refusal.Refusal.TheVariants as refusal
-use Rattle.vx_plans.specs.Refusals.{refusal_from}
+use Rattle.vx_stages.specs.Refusals.{refusal_from}
 use Rattle.vx_moments.specs.World.{World, Group}
-use Rattle.vx_plans.specs.Records.{devices_of, sectors_at, is_disk_size, are_disk_sized, disk_record, disk_records, names_of, slot_in}
+use Rattle.vx_stages.specs.Records.{devices_of, sectors_at, is_disk_size, are_disk_sized, disk_record, disk_records, names_of, slot_in}
 use Rattle.vx_config_parts.specs.declared.object.Object.TheVariants.{DiskRecord, GroupRecord}
-use Rattle.vx_plans.specs.Tests.{fails, first_started, started_of, earlier, unless, where_, in_use, in_use_by, is_here, limit_passed, recorded, state_of, is_related, is_data_plex}
-use Rattle.vx_plans.specs.declared.test.Test.{Test}
-use Rattle.vx_plans.specs.declared.test.Test.TheVariants as tests
+use Rattle.vx_stages.specs.Tests.{fails, first_started, started_of, earlier, unless, where_, in_use, in_use_by, is_here, limit_passed, recorded, state_of, is_related, is_data_plex}
+use Rattle.vx_stages.specs.declared.test.Test.{Test}
+use Rattle.vx_stages.specs.declared.test.Test.TheVariants as tests
 
 -- the devices of which a test asks the sizes
 abbrev pub named_in : Test → List DiskAt → List Word

@@ -19,8 +19,8 @@ use Rattle.vx_fronts.specs.Laws.{whole_disks}
 use Rattle.vx_fronts.specs.Parted.{AreParted}
 use Rattle.vx_fronts.specs.Rests.{rests_of}
 use Rattle.vx_group_start.specs.Laying.{AreRunningVolumes}
-use Rattle.vx_running.specs.declared.public.Running.{Running}
-use Rattle.vx_running.specs.Public.{lent_pieces, running_at, running_pieces, still_pieces, stuck_pieces}
+use Rattle.vx_lending.specs.declared.public.Running.{Running}
+use Rattle.vx_lending.specs.Public.{lent_pieces, running_at, running_pieces, still_pieces, stuck_pieces}
 use Rattle.vx_started.specs.declared.started.Started.{Started}
 use Rattle.vx_moments.specs.Leaving.{grouped, lone}
 use Rattle.vx_moments.specs.Moment.{Moment}

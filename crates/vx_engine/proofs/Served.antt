@@ -17,8 +17,8 @@ use Rattle.vx_fronts.specs.Parted.{IsOfSome}
 use Rattle.vx_fronts.proofs.Parted.{all_parts}
 use Rattle.vx_volume.specs.Volume.{IsVolume, volume_seen}
 use Rattle.vx_lending.specs.Left.{held_pieces}
-use Rattle.vx_running.specs.declared.public.Running.{Running}
-use Rattle.vx_running.specs.Public.{running_at, running_pieces, still_pieces, stuck_pieces}
+use Rattle.vx_lending.specs.declared.public.Running.{Running}
+use Rattle.vx_lending.specs.Public.{running_at, running_pieces, still_pieces, stuck_pieces}
 use Rattle.vx_group_calls.specs.Causes.{ServedHasCause}
 use Rattle.vx_group_calls.specs.declared.served.Served.{Served}
 use Rattle.vx_group_calls.specs.declared.served.Served.TheVariants as served

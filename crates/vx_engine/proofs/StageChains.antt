@@ -10,12 +10,12 @@ use Rattle.vx_script_words.specs.declared.value.DiskAt.{DiskAt}
 use Rattle.vx_answers.specs.declared.answer.End.{End}
 use Rattle.vx_answers.specs.declared.answer.End.TheVariants as ends
 use Rattle.vx_moments.specs.Moment.{Moment, AreLater}
-use Rattle.vx_plans.specs.Stages.{IsDone, Stops, Wants}
+use Rattle.vx_stages.specs.Stages.{IsDone, Stops, Wants}
 use Rattle.vx_plans.specs.Steps.{Runs, RunsShort}
-use Rattle.vx_plans.specs.declared.stage.Stage.{Stage}
-use Rattle.vx_plans.specs.declared.stage.Stage.TheVariants as stage
-use Rattle.vx_plans.specs.declared.stages.Finish.{Finish}
-use Rattle.vx_plans.specs.declared.stages.Finish.TheVariants.{Records}
+use Rattle.vx_stages.specs.declared.stage.Stage.{Stage}
+use Rattle.vx_stages.specs.declared.stage.Stage.TheVariants as stage
+use Rattle.vx_stages.specs.declared.stages.Finish.{Finish}
+use Rattle.vx_stages.specs.declared.stages.Finish.TheVariants.{Records}
 use Rattle.vx_house.specs.Goes.{Gives, GoesBy, StageGoes, Still, IsReady, wanted, is_first, only_reads}
 use Rattle.vx_house.specs.View.{View, Keeps, IsMoment, scene}
 use Rattle.vx_house.specs.declared.house.House.{House}

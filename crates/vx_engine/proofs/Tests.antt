@@ -16,12 +16,12 @@ use Rattle.vx_script_words.specs.declared.value.DiskAt.{DiskAt}
 use Rattle.vx_started.specs.declared.started.Started.{Started}
 use Rattle.vx_moments.specs.Moment.{Moment}
 use Rattle.vx_moments.specs.World.{Device, Volume}
-use Rattle.vx_plans.specs.Records.{sectors_at, sectors_in}
-use Rattle.vx_plans.specs.Tests.{fails}
-use Rattle.vx_plans.specs.declared.stage.Stage.{Stage}
-use Rattle.vx_plans.specs.declared.stage.Stage.TheVariants as stage
-use Rattle.vx_plans.specs.declared.test.Test.{Test}
-use Rattle.vx_plans.specs.declared.test.Test.TheVariants as tests
+use Rattle.vx_stages.specs.Records.{sectors_at, sectors_in}
+use Rattle.vx_stages.specs.Tests.{fails}
+use Rattle.vx_stages.specs.declared.stage.Stage.{Stage}
+use Rattle.vx_stages.specs.declared.stage.Stage.TheVariants as stage
+use Rattle.vx_stages.specs.declared.test.Test.{Test}
+use Rattle.vx_stages.specs.declared.test.Test.TheVariants as tests
 use Rattle.vx_house.specs.Goes.{Gives, IsReady, IsStill, Still, IsBlankSeen}
 use Rattle.vx_house.specs.Holders.{Holder, hand_holder, hand_names, held_as, holders, AreHeld, volume_at, volume_holder, group_holders}
 use Rattle.vx_house.specs.Plain.{plain, sized_device, told_volume}

@@ -7,11 +7,11 @@ use Rattle.vx_answers.specs.declared.answer.End.TheVariants as ends
 use Rattle.vx_answers.specs.declared.refusal.Refusal.{Refusal}
 use Rattle.vx_moments.specs.Commit.{Writing}
 use Rattle.vx_moments.specs.Moment.{Moment}
-use Rattle.vx_plans.specs.Records.{devices_of}
-use Rattle.vx_plans.specs.Ends.{StopsBy, refused}
-use Rattle.vx_plans.specs.Stages.{IsDone, Stops, TakingStops}
-use Rattle.vx_plans.specs.declared.stage.Stage.{Stage}
-use Rattle.vx_plans.specs.declared.stage.Stage.TheVariants as stage
+use Rattle.vx_stages.specs.Records.{devices_of}
+use Rattle.vx_stages.specs.Ends.{StopsBy, refused}
+use Rattle.vx_stages.specs.Stages.{IsDone, Stops, TakingStops}
+use Rattle.vx_stages.specs.declared.stage.Stage.{Stage}
+use Rattle.vx_stages.specs.declared.stage.Stage.TheVariants as stage
 use Rattle.vx_engine.specs.Fed.{keeps_world}
 
 pub world_kept : (s : Stage) (disks : List DiskAt) (m n : Moment) → keeps_world s ≡ true → IsDone s disks m n → n.world ≡ m.world

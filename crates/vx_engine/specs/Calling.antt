@@ -12,7 +12,7 @@ use Rattle.vx_answers.specs.declared.answer.End.{End}
 use Rattle.vx_answers.specs.declared.answer.End.TheVariants.{Refused}
 use Rattle.vx_answers.specs.declared.refusal.Refusal.TheVariants.{NotStarted, Range}
 use Rattle.vx_moments.specs.World.{Volume}
-use Rattle.vx_plans.specs.Calls.{volume_of, start_of, count_of, reads_of, writes_of}
+use Rattle.vx_stages.specs.Calls.{volume_of, start_of, count_of, reads_of, writes_of}
 use Rattle.vx_started.specs.declared.started.Started.{Started}
 use Rattle.vx_started.specs.Stands.{HasShape, Serves, EndHasCause, CallsAtMost}
 

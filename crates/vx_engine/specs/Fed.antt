@@ -2,11 +2,11 @@
 use Rattle.std.specs.Prelude.{◌≡◌, ◌≤◌, ◌^◌, Bool, true, false, Option, Some, None, List, [], ◌∷◌, ◌++◌}
 use Rattle.vx_base.specs.Named.{Word}
 use Rattle.vx_copies.specs.Lists.{AllOf, AnyOf}
-use Rattle.vx_plans.specs.declared.stage.Stage.{Stage}
-use Rattle.vx_plans.specs.declared.stage.Stage.TheVariants as stage
-use Rattle.vx_plans.specs.declared.stages.Finish.{Finish}
-use Rattle.vx_plans.specs.declared.stages.Finish.TheVariants.{Nothing, Records}
-use Rattle.vx_plans.specs.declared.test.Test.TheVariants as tests
+use Rattle.vx_stages.specs.declared.stage.Stage.{Stage}
+use Rattle.vx_stages.specs.declared.stage.Stage.TheVariants as stage
+use Rattle.vx_stages.specs.declared.stages.Finish.{Finish}
+use Rattle.vx_stages.specs.declared.stages.Finish.TheVariants.{Nothing, Records}
+use Rattle.vx_stages.specs.declared.test.Test.TheVariants as tests
 use Rattle.vx_house.specs.Goes.{wanted, is_first}
 
 -- the stage is among these

@@ -14,14 +14,14 @@ use Rattle.vx_script_forms.specs.declared.call.Call.{Call}
 use Rattle.vx_answers.specs.declared.answer.End.{End}
 use Rattle.vx_answers.specs.declared.answer.End.TheVariants as ends
 use Rattle.vx_answers.specs.declared.refusal.Refusal.TheVariants.{NotStarted, Range}
-use Rattle.vx_plans.specs.Calls.{count_of, start_of, volume_of}
+use Rattle.vx_stages.specs.Calls.{count_of, start_of, volume_of}
 use Rattle.vx_volume.specs.Log.{LogGoes}
 use Rattle.vx_volume.specs.Volume.{IsVolume, log_of, shape_of, volume_seen}
 use Rattle.vx_lending.specs.Going.{GoTogether}
 use Rattle.vx_lending.specs.Left.{held_pieces}
-use Rattle.vx_left_images.specs.Lying.{LiesIn}
-use Rattle.vx_running.specs.Public.{running_at}
-use Rattle.vx_running.specs.declared.public.Running.{Running}
+use Rattle.vx_volume_laws.specs.Lying.{LiesIn}
+use Rattle.vx_lending.specs.Public.{running_at}
+use Rattle.vx_lending.specs.declared.public.Running.{Running}
 use Rattle.vx_group_calls.specs.Causes.{AreCutWhereDead, FailuresAreCounted, ServedHasCause}
 use Rattle.vx_group_calls.specs.Serving.{ServesCall}
 use Rattle.vx_group_calls.specs.declared.served.Served.{Served}

@@ -3,7 +3,7 @@ use Rattle.std.specs.Prelude.{◌≤◌, ◌^◌, Option, Some, None, []}
 use Rattle.vx_copies.specs.Lists.{AllOf}
 use Rattle.vx_script_forms.specs.declared.form.Form.{Form}
 use Rattle.vx_script_forms.specs.declared.form.Form.TheVariants as form
-use Rattle.vx_plans.specs.declared.stages.Plan.{Plan}
+use Rattle.vx_stages.specs.declared.stages.Plan.{Plan}
 use Rattle.vx_engine.specs.Fed.{AreFed, AreOrdered, CanRun, ShowsAfter}
 
 -- Its stages find what they need, only the last changes the world, and what is shown is there.

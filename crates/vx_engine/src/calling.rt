@@ -5,7 +5,7 @@ ghost use Rattle.std.specs.Cmp.Lexicographic.{slice_cmp};
 ghost use Rattle.std.specs.Ordering.{nat_cmp};
 ghost use Rattle.vx_started.specs.Stands.{IsSized};
 ghost use Rattle.vx_started.specs.declared.started.Started.{Started as StartedValue};
-ghost use Rattle.vx_plans.specs.Calls.{volume_of, start_of, count_of};
+ghost use Rattle.vx_stages.specs.Calls.{volume_of, start_of, count_of};
 ghost use Rattle.vx_plans.specs.Steps.{DoesCall};
 ghost use Rattle.vx_engine.specs.Calling.{IsCall, IsServedBy, ServesAmong};
 ghost use Rattle.vx_engine.specs.Grouped.{IsSameHouse, ServesAny};

@@ -5,8 +5,8 @@ ghost use Rattle.std.specs.Option.{option_map};
 ghost use Rattle.std.specs.BTreeMap.{get};
 ghost use Rattle.std.specs.Cmp.Lexicographic.{slice_cmp};
 ghost use Rattle.std.specs.Ordering.{nat_cmp};
-ghost use Rattle.vx_plans.specs.Calls.{volume_of};
-ghost use Rattle.vx_running.specs.Public.{running_at};
+ghost use Rattle.vx_stages.specs.Calls.{volume_of};
+ghost use Rattle.vx_lending.specs.Public.{running_at};
 ghost use Rattle.vx_house.specs.View.{IsGroupWhole};
 ghost use Rattle.vx_engine.specs.Calling.{IsCall};
 ghost use Rattle.vx_engine.specs.Grouped.{IsSameGroup, IsToldAs, MayRunCall, NamesFault, RunsCall, ServesInGroup, is_on};
@@ -19,9 +19,9 @@ use vx_base::OutOfMemory;
 use vx_copies::Disk;
 use vx_group_calls::{Served, serve};
 use vx_house::Imported;
+use vx_lending::Running;
 use vx_names::Name;
 use vx_piece::Piece;
-use vx_running::Running;
 use vx_script_forms::Call;
 
 /// Serves a call of a volume of the group that runs. After a refusal of memory nothing has changed.

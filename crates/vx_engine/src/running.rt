@@ -1,7 +1,7 @@
 //! The stages of a plan, one after the other.
 ghost use Rattle.std.specs.Prelude.{◌≡◌, []};
 ghost use Rattle.vx_copies.specs.Lists.{AllOf};
-ghost use Rattle.vx_plans.specs.declared.stages.Finish.{Finish};
+ghost use Rattle.vx_stages.specs.declared.stages.Finish.{Finish};
 ghost use Rattle.vx_engine.specs.Fed.{AreFed, AreOrdered, CanRun};
 ghost use Rattle.vx_engine.specs.Runs.{StagesGo};
 ghost use Rattle.vx_house.specs.Scene.{shelved};
@@ -10,9 +10,9 @@ ghost use Rattle.vx_house.specs.View.{Keeps, at};
 use crate::stages::run_stage;
 use std::alloc::Global;
 use vx_house::{House, Stop};
-use vx_plans::Stage;
 use vx_script_words::DiskAt;
 use vx_shelf::Shelf;
+use vx_stages::Stage;
 
 /// Runs stages one after the other, up to the first that ends the command.
 pub(crate) fn run_stages<S: Shelf>(

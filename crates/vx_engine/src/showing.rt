@@ -11,8 +11,8 @@ use vx_house::House;
 use vx_names::Name;
 use vx_objects::Config;
 use vx_piece::Piece;
-use vx_plans::Finish;
 use vx_print::print_m;
+use vx_stages::Finish;
 
 /// What is shown at the end of a plan.
 pub(crate) fn show<P: Piece>(

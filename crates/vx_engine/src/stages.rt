@@ -4,12 +4,11 @@ ghost use Rattle.vx_engine.specs.Runs.{StageEnds};
 ghost use Rattle.vx_house.specs.Goes.{IsReady, StageGoes};
 ghost use Rattle.vx_house.specs.Scene.{Shelved, shelved};
 ghost use Rattle.vx_house.specs.View.{Keeps, at};
-ghost use Rattle.vx_plans.specs.declared.stage.Stage.TheVariants as stages;
+ghost use Rattle.vx_stages.specs.declared.stage.Stage.TheVariants as stages;
 
 use std::alloc::Global;
 use vx_house::{House, Stop, give_group, refused, take, take_disks};
 use vx_piece::Piece;
-use vx_plans::{Stage, Test};
 use vx_script_words::DiskAt;
 use vx_shelf::Shelf;
 use vx_stage_changes::{change, create, join};
@@ -17,6 +16,7 @@ use vx_stage_devices::{look_blank, look_disks, look_headed, make_image, search, 
 use vx_stage_gates::failing;
 use vx_stage_import::import;
 use vx_stage_records::make;
+use vx_stages::{Stage, Test};
 
 /// Runs a stage.
 pub(crate) fn run_stage<S: Shelf>(

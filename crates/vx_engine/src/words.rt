@@ -1,6 +1,6 @@
 //! What a call says of its range.
 ghost use Rattle.std.specs.Prelude.{◌≡◌, ◌+◌};
-ghost use Rattle.vx_plans.specs.Calls.{count_of, start_of, volume_of};
+ghost use Rattle.vx_stages.specs.Calls.{count_of, start_of, volume_of};
 ghost use Rattle.vx_engine.specs.Calling.{IsCall};
 
 use vx_names::Name;

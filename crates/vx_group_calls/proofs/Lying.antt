@@ -6,9 +6,9 @@ use Rattle.vx_volume.specs.declared.volume.Volume.{Volume}
 use Rattle.vx_volume.specs.Log.{LogGoes}
 use Rattle.vx_volume.specs.Volume.{log_of, volume_seen}
 use Rattle.vx_volume_form.specs.declared.form.VolumeForm.{VolumeForm}
-use Rattle.vx_left_images.specs.Lying.{LiesIn}
-use Rattle.vx_left_images.proofs.Keepings.{each_read_keeps, each_write_keeps}
-use Rattle.vx_left_images.proofs.Lasting.{lies_on}
+use Rattle.vx_volume_laws.specs.Lying.{LiesIn}
+use Rattle.vx_volume_laws.proofs.Keepings.{each_read_keeps, each_write_keeps}
+use Rattle.vx_volume_laws.proofs.Lasting.{lies_on}
 use Rattle.vx_group_calls.specs.declared.served.Served.{Served}
 use Rattle.vx_group_calls.specs.Ending.{IsReadServed, IsWriteServed}
 

@@ -26,7 +26,7 @@ use Rattle.vx_mask.proofs.Sets.{in_without}
 use Rattle.vx_script_forms.specs.declared.call.Call.{Call}
 use Rattle.vx_script_forms.specs.declared.call.Call.TheVariants as calls
 use Rattle.vx_moments.specs.World.{Volume as WorldVolume}
-use Rattle.vx_plans.specs.Calls.{AreParts, count_of, start_of}
+use Rattle.vx_stages.specs.Calls.{AreParts, count_of, start_of}
 use Rattle.vx_volume.specs.declared.fault.IoFault.{IoFault}
 use Rattle.vx_volume.specs.declared.fault.IoFault.TheVariants.{Fault, PowerLost, Range}
 use Rattle.vx_volume.specs.declared.receipt.Receipt.{Receipt}
@@ -40,8 +40,8 @@ use Rattle.vx_lending.specs.Going.{GoTogether}
 use Rattle.vx_lending.specs.Left.{held_pieces, region_plexes}
 use Rattle.vx_lending.specs.Logs.{log_pieces}
 use Rattle.vx_lending.proofs.Goings.{each_goes}
-use Rattle.vx_volume_lives.specs.Laws.{EachReadRunsOn, EachWriteRunsOn, RunsOn}
-use Rattle.vx_volume_lives.specs.Telling.{TellsEntries}
+use Rattle.vx_volume_laws.specs.RunLaws.{EachReadRunsOn, EachWriteRunsOn, RunsOn}
+use Rattle.vx_volume_laws.specs.Telling.{TellsEntries}
 use Rattle.vx_group_calls.specs.declared.served.Served.{Served}
 use Rattle.vx_group_calls.specs.Causes.{AreCutWhereDead, CurrentFailed, FailuresAreCounted, LastFailed, LogPiecesRose, ServedHasCause}
 use Rattle.vx_group_calls.specs.Laws.{StaysTogether}

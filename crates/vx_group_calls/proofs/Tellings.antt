@@ -18,9 +18,9 @@ use Rattle.vx_volume.specs.declared.fault.IoFault.{IoFault}
 use Rattle.vx_volume.specs.declared.fault.IoFault.TheVariants.{Fault, PowerLost, Range}
 use Rattle.vx_volume.specs.declared.receipt.Receipt.{Receipt}
 use Rattle.vx_volume.specs.Laws.{values_of}
-use Rattle.vx_plans.specs.Calls.{AreOf, AreParts, count_of, done_kind, failed_kind, printed_length, start_of}
-use Rattle.vx_plans.specs.Calls.{values_of as told_values}
-use Rattle.vx_volume_lives.specs.Telling.{AreOfParts, HoldFrom, IsOfPart, TellsEntries, span_of}
+use Rattle.vx_stages.specs.Calls.{AreOf, AreParts, count_of, done_kind, failed_kind, printed_length, start_of}
+use Rattle.vx_stages.specs.Calls.{values_of as told_values}
+use Rattle.vx_volume_laws.specs.Telling.{AreOfParts, HoldFrom, IsOfPart, TellsEntries, span_of}
 use Rattle.vx_group_calls.specs.declared.served.Served.{Served}
 use Rattle.vx_group_calls.specs.Ending.{EndsAs}
 use Rattle.vx_group_calls.specs.Serving.{Tells}

@@ -14,7 +14,7 @@ use Rattle.vx_volume.specs.Volume.{VolumeSeen, cell_at, log_of, region_at, volum
 use Rattle.vx_volume.specs.declared.volume.Volume.{Volume}
 use Rattle.vx_lending.specs.Left.{held_pieces}
 use Rattle.vx_lending.specs.Logs.{log_pieces}
-use Rattle.vx_plans.specs.GroupCalls.{IsLastPart}
+use Rattle.vx_stages.specs.GroupCalls.{IsLastPart}
 use Rattle.vx_group_calls.specs.declared.served.Served.{Served}
 use Rattle.vx_group_calls.specs.declared.served.Served.TheVariants.{Done, Fault, Lost}
 

@@ -6,14 +6,14 @@ use Rattle.vx_piece.specs.Seen.{Seen}
 use Rattle.vx_pages.specs.declared.local_piece.LocalPiece.{Ghosts}
 use Rattle.vx_script_forms.specs.declared.call.Call.{Call}
 use Rattle.vx_script_forms.specs.declared.call.Call.TheVariants as calls
-use Rattle.vx_plans.specs.Calls.{AreOf, AreParts, IsDoneBy, count_of, failed_kind, start_of, values_of}
+use Rattle.vx_stages.specs.Calls.{AreOf, AreParts, IsDoneBy, count_of, failed_kind, start_of, values_of}
 use Rattle.vx_moments.specs.World.{Volume}
 use Rattle.vx_image.specs.Image.{PlexImage}
 use Rattle.vx_group_images.specs.Tracks.{TrackOwner}
 use Rattle.vx_volume.specs.Volume.{VolumeSeen, volume_seen}
-use Rattle.vx_volume_lives.specs.Laws.{FailuresAreTold, MayComeNext, OwnersFit, RunsOn}
-use Rattle.vx_volume_lives.specs.Running.{RunsAsVolume}
-use Rattle.vx_running.specs.declared.public.Running.{Running}
+use Rattle.vx_volume_laws.specs.RunLaws.{FailuresAreTold, MayComeNext, OwnersFit, RunsOn}
+use Rattle.vx_volume_laws.specs.Running.{RunsAsVolume}
+use Rattle.vx_lending.specs.declared.public.Running.{Running}
 use Rattle.vx_group_calls.specs.declared.served.Served.{Served}
 use Rattle.vx_group_calls.specs.declared.served.Served.TheVariants.{Done, Fault, Lost}
 

@@ -3,9 +3,9 @@ ghost use Rattle.vx_mask.specs.Mask.{has};
 ghost use Rattle.vx_piece.specs.Seen.{Keeps};
 ghost use Rattle.vx_runs.specs.Run.{EachPiece};
 ghost use Rattle.vx_lending.specs.Going.{GoTogether};
-ghost use Rattle.vx_left_images.specs.Lying.{LiesIn};
+ghost use Rattle.vx_volume_laws.specs.Lying.{LiesIn};
 ghost use Rattle.vx_lending.specs.Left.{held_pieces};
-ghost use Rattle.vx_plans.specs.Calls.{start_of, count_of};
+ghost use Rattle.vx_stages.specs.Calls.{start_of, count_of};
 ghost use Rattle.vx_volume.specs.Log.{LogGoes};
 ghost use Rattle.vx_volume.specs.Volume.{IsVolume, log_of, shape_of, volume_seen};
 ghost use Rattle.vx_group_calls.specs.Serving.{IsWithinLimits, ServesCall};
@@ -17,13 +17,13 @@ use crate::ending::ended;
 use crate::served::Served;
 use std::alloc::Global;
 use vx_base::OutOfMemory;
+use vx_lending::Running;
 use vx_picker::Picker;
 use vx_piece::Piece;
-use vx_running::Running;
 use vx_script_forms::Call;
 use vx_script_words::Blocks;
 use vx_volume::{Receipt, Volume};
-use vx_volume_lives::laws::each_call_runs_on;
+use vx_volume_laws::lives::each_call_runs_on;
 
 /// A volume of which a region may have drawn a number above this one serves no call: there is no memory for it.
 const MOST_NUMBERS: u64 = 1 << 61;

@@ -28,8 +28,8 @@ use Rattle.vx_objects.proofs.OneGroup.{first_none, second_none}
 use Rattle.vx_plexes.proofs.Members.{IsIn, first_of_in, one_in, plex_in}
 use Rattle.vx_plexes.proofs.Plexes.{config_valid}
 use Rattle.vx_answers.specs.declared.refusal.Refusal.{Refusal}
-use Rattle.vx_plans.specs.Making.{adding_refusal, broken, limit_rules, made, reference_rules, space_rules, started_name}
-use Rattle.vx_plans.specs.Refusals.{refusal_from}
+use Rattle.vx_stages.specs.Making.{adding_refusal, broken, limit_rules, made, reference_rules, space_rules, started_name}
+use Rattle.vx_stages.specs.Refusals.{refusal_from}
 use Rattle.vx_image.specs.UsedPlexes.{IsVolOf}
 use Rattle.vx_volume_form.proofs.Distinct.{AreDistinct, distinct_names, filtered}
 use Rattle.vx_group_edits.specs.Laws.{EachJoiningKeeps, EachMakingKeeps, EachRewritingKeeps}

@@ -14,9 +14,9 @@ use Rattle.vx_objects.specs.Config.{objects_of}
 use Rattle.vx_plexes.proofs.Members.{IsIn, one_in, one_named}
 use Rattle.vx_plexes.proofs.Plexes.{config_valid}
 use Rattle.vx_image.specs.UsedPlexes.{IsVolOf}
-use Rattle.vx_plans.specs.Stages.{policy_edit}
-use Rattle.vx_plans.specs.Tests.{volume_in}
-use Rattle.vx_plans.specs.declared.stage.Change.TheVariants as changes
+use Rattle.vx_stages.specs.Stages.{policy_edit}
+use Rattle.vx_stages.specs.Tests.{volume_in}
+use Rattle.vx_stages.specs.declared.stage.Change.TheVariants as changes
 use Rattle.vx_group_edits.specs.Laws.{EachChangeKeeps}
 use Rattle.vx_group_edits.specs.Stays.{EachStays}
 use Rattle.vx_group_edits.proofs.Added.{rewriting_keeps}

@@ -24,7 +24,7 @@ use Rattle.vx_image.proofs.Members.{contains, is_in}
 use Rattle.vx_image.specs.UsedPlexes.{IsVolOf, is_used_log, is_used_state, used_logs}
 use Rattle.vx_volume_form.proofs.Bits.{kept}
 use Rattle.vx_volume_form.proofs.Distinct.{filtered}
-use Rattle.vx_left_images.specs.Keeping.{KeepsPlex, KeepsVolume, LiesStill, data_plexes}
+use Rattle.vx_volume_laws.specs.Keeping.{KeepsPlex, KeepsVolume, LiesStill, data_plexes}
 use Rattle.vx_group_edits.specs.Stays.{AreFewer, StaysPlex, StaysRecorded}
 use Rattle.vx_group_edits.proofs.Columns.{columns_same, held_before, subdisks_of}
 use Rattle.vx_group_edits.proofs.Lists.{filter_narrow, found_in, zip_each}

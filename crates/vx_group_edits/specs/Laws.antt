@@ -13,10 +13,10 @@ use Rattle.vx_objects.specs.Config.{objects_of}
 use Rattle.vx_state_edits.specs.Edits.{start_edits, stop_edits}
 use Rattle.vx_image.specs.UsedPlexes.{IsVolOf}
 use Rattle.vx_moments.specs.World.{Group}
-use Rattle.vx_plans.specs.Making.{Adds, adding_refusal}
-use Rattle.vx_plans.specs.Stages.{edits_of}
-use Rattle.vx_plans.specs.declared.stage.Change.{Change}
-use Rattle.vx_plans.specs.declared.stage.Change.TheVariants as changes
+use Rattle.vx_stages.specs.Making.{Adds, adding_refusal}
+use Rattle.vx_stages.specs.Stages.{edits_of}
+use Rattle.vx_stages.specs.declared.stage.Change.{Change}
+use Rattle.vx_stages.specs.declared.stage.Change.TheVariants as changes
 use Rattle.vx_group_edits.specs.Stays.{EachStays}
 
 -- Another policy of a volume keeps every volume, and the volume itself where it has the state that the edit gives it.

@@ -10,7 +10,7 @@ use Rattle.vx_layout.specs.declared.place.Place.{Place}
 use Rattle.vx_objects.specs.declared.config.Config.{Config}
 use Rattle.vx_image.specs.Own.{IsOfVolume}
 use Rattle.vx_image.specs.UsedPlexes.{IsVolOf}
-use Rattle.vx_left_images.specs.Keeping.{KeepsVolume, LiesStill}
+use Rattle.vx_volume_laws.specs.Keeping.{KeepsVolume, LiesStill}
 
 -- the configuration has a disk in the slot
 abbrev pub has_disk_in : Config → ℕ → Bool

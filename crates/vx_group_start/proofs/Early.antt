@@ -26,8 +26,8 @@ use Rattle.vx_volume_form.proofs.Rules.{vol_geometry}
 use Rattle.vx_volume_form.proofs.Rooms.{logs_are}
 use Rattle.vx_maps.proofs.CopyRuns.{none_cut}
 use Rattle.vx_lending.specs.Taken.{AreTakenCopies}
-use Rattle.vx_running.specs.declared.public.Public.{Public}
-use Rattle.vx_running.specs.Public.{still_pieces}
+use Rattle.vx_lending.specs.declared.public.Public.{Public}
+use Rattle.vx_lending.specs.Public.{still_pieces}
 use Rattle.vx_group_start.specs.declared.fault.StartFault.{StartFault}
 use Rattle.vx_group_start.specs.declared.fault.StartFault.TheVariants.{OutOfMemory, NoLog, NoCurrent, Failed, PowerLost}
 use Rattle.vx_group_start.specs.Fresh.{is_fresh}
@@ -87,7 +87,7 @@ first_none c good v fresh form of is none =
 module _ {P : Type 0} {ghosts : Ghosts P} (c : Config) (good : ℕ) (v : Vol) (numbers : List ℕ) (form : VolumeForm) (of : IsVolOf c v) (is : IsFormOf c good v (is_fresh v.state) form) (old new : Public P ghosts) where
   pub early : (fault : StartFault) → IsEarly v form fault → IsNotStarted ghosts.seen v numbers form old new fault
   early OutOfMemory h = absurd h
-  early NoLog h = record { dco = h.0; copies = []; are = start_none numbers form (still_pieces ghosts.seen old) h.1; passed = λ n lt. absurd (omega (arith, lt)) }
+  early NoLog h = record { dco = h.0; copies = []; are = start_none numbers form (still_pieces ghosts.seen old) h.1; filled = λ fresh. refl; passed = λ n lt. absurd (omega (arith, lt)) }
   early (NoCurrent r) (zero_is, inl h) =
       inl (record {
         log = Absent;

@@ -7,9 +7,9 @@ use Rattle.vx_carve.specs.Together.{SameSectors}
 use Rattle.vx_carve.proofs.Same.{same_beside}
 use Rattle.vx_volume.specs.Volume.{IsVolume, volume_seen}
 use Rattle.vx_lending.specs.Left.{held_pieces}
-use Rattle.vx_running.specs.declared.public.Public.{Public}
-use Rattle.vx_running.specs.declared.public.Running.{Running}
-use Rattle.vx_running.specs.Public.{lent_pieces, running_pieces, still_pieces, stuck_pieces}
+use Rattle.vx_lending.specs.declared.public.Public.{Public}
+use Rattle.vx_lending.specs.declared.public.Running.{Running}
+use Rattle.vx_lending.specs.Public.{lent_pieces, running_pieces, still_pieces, stuck_pieces}
 use Rattle.vx_group_start.specs.Closed.{IsSameRunning}
 use Rattle.vx_group_start.specs.Laying.{public_pieces}
 use Rattle.vx_group_start.proofs.Closings.{same_held}

@@ -1,5 +1,5 @@
 -- Why there is no log, by all pieces of its copies.
-use Rattle.std.proofs.Common.{◌≡◌, ℕ, ◌<◌, List, length, inl, inr}
+use Rattle.std.proofs.Common.{◌≡◌, ℕ, ◌<◌, List, length, true, false, refl, inl, inr}
 use Rattle.std.specs.List.{All}
 use Rattle.vx_base.specs.Counts.{Rose}
 use Rattle.vx_piece.specs.Seen.{Seen}
@@ -33,19 +33,19 @@ module _ (header : List ℕ) (old new : List (List Seen)) (all : All HasSome (co
   power_lost : SomeCut (copy_pieces new) → (device : ℕ) × AreOn device (copy_pieces old) × (cut_on device (copy_pieces new) ≡ 1)
   power_lost some = (some.0, cut_own some.0 (copy_pieces old) (copy_pieces new) (cut_go old new all go) all some.1, some.1)
 
-  pub not_loaded : (f : StoreFault) → 0 < length old → IsNotLoaded header f old new → IsNoLog header old new (start_fault f)
+  pub not_loaded : (f : StoreFault) → 0 < length old → IsNotLoaded header f old new → IsNoLog false header old new (start_fault f)
   not_loaded OutOfMemory some h = tt
-  not_loaded NoCopy some h = (some, λ n lt. passed_over n (h n lt))
+  not_loaded NoCopy some h = (refl, some, λ n lt. passed_over n (h n lt))
   not_loaded (Failed copy device) some h = failed copy device h.1
   not_loaded PowerLost some h = power_lost (copies_are_cut new h)
 
-  not_new : (f : StoreFault) → IsNotFresh f old new (copy_faults new) (copies_cut new) → IsNoLog header old new (start_fault f)
+  not_new : (f : StoreFault) → IsNotFresh f old new (copy_faults new) (copies_cut new) → IsNoLog true header old new (start_fault f)
   not_new OutOfMemory h = tt
   not_new NoCopy h = absurd h
   not_new (Failed copy device) h = failed copy device h
   not_new PowerLost h = power_lost (copies_are_cut new h)
 
 pub not_fresh : {P : Type 0} {ghosts : Ghosts P} (header : List ℕ) (f : StoreFault) (old : List (List Seen)) (left : LogLeft P ghosts) → All HasSome (copy_pieces old) → CutCopiesGo KeepsPiece old (left_copies ghosts.seen left) →
-    IsNotFresh f old (left_copies ghosts.seen left) (left_faults ghosts.seen left) (left_cut ghosts.seen left) → IsNoLog header old (left_copies ghosts.seen left) (left_fault f left)
+    IsNotFresh f old (left_copies ghosts.seen left) (left_faults ghosts.seen left) (left_cut ghosts.seen left) → IsNoLog true header old (left_copies ghosts.seen left) (left_fault f left)
 not_fresh {ghosts = ghosts} header f old (Copies copies) all go h = not_new header old (copies_seen ghosts.seen copies.items) all go f h
 not_fresh header f old (Store store) all go h = tt

@@ -1,7 +1,8 @@
 -- A volume that was opened over pieces that were taken is started.
 use Rattle.std.proofs.Common.{◌≡◌, ℕ, zero, suc, ◌<◌, ◌≤◌, List, [], ◌∷◌, ◌++◌, length, map, Result, Ok, Err, refl, sym, ap, ◌∙◌, subst, arith, append_assoc, inl, inr}
-use Rattle.std.specs.Prelude.{IfOk, nat_lt, is_some, true}
+use Rattle.std.specs.Prelude.{IfOk, nat_lt, is_some, true, false}
 use Rattle.std.specs.List.{All, flat_map}
+use Rattle.std.proofs.lemmas.Bool.{false≢true}
 use Rattle.std.proofs.lemmas.Bool.Decides.{nat_tests}
 use Rattle.std.proofs.lemmas.List.Elements.{All-nil, All-cons}
 use Rattle.vx_base.specs.Blocks.{Contents}
@@ -36,9 +37,9 @@ use Rattle.vx_lending.specs.Taken.{AreTakenCopies, OthersStay, log_sectors, slot
 use Rattle.vx_lending.proofs.LogCopies.{log_copies as copies_roomy}
 use Rattle.vx_lending.proofs.LogShapes.{none_empty}
 use Rattle.vx_lending.proofs.Goings.{go_beside, go_from, go_same, go_then}
-use Rattle.vx_running.specs.declared.public.Public.{Public}
-use Rattle.vx_running.specs.declared.public.Running.{Running}
-use Rattle.vx_running.specs.Public.{remaining_pieces, still_pieces}
+use Rattle.vx_lending.specs.declared.public.Public.{Public}
+use Rattle.vx_lending.specs.declared.public.Running.{Running}
+use Rattle.vx_lending.specs.Public.{remaining_pieces, still_pieces}
 use Rattle.vx_group_start.specs.declared.fault.StartFault.{StartFault}
 use Rattle.vx_group_start.specs.declared.fault.StartFault.TheVariants.{OutOfMemory, NoLog, NoCurrent, Failed, PowerLost}
 use Rattle.vx_group_start.specs.Logs.{AreStartCopies, IsPassedOver, IsStartLog}
@@ -156,10 +157,11 @@ module _ {P : Type 0} {ghosts : Ghosts P} (v : Vol) (numbers : List ℕ) (old mi
     unstarted_by new OutOfMemory dco h = tt
     unstarted_by new NoLog dco h =
         record {
-          dco = dco ∙ some_copies (length copies) h.0;
+          dco = dco ∙ some_copies (length copies) h.1;
           copies = copies;
           are = start_copies;
-          passed = λ n lt. passed_before (log_header form.shape.geometry) (copy_at copies n) (still_pieces ghosts.seen old) ((all_pieces regions ++ copy_pieces copies) ++ still_pieces ghosts.seen mid) (still_pieces ghosts.seen new) all_same (h.1 n lt);
+          filled = λ fresh. absurd (false≢true (sym h.0 ∙ fresh));
+          passed = λ n lt. passed_before (log_header form.shape.geometry) (copy_at copies n) (still_pieces ghosts.seen old) ((all_pieces regions ++ copy_pieces copies) ++ still_pieces ghosts.seen mid) (still_pieces ghosts.seen new) all_same (h.2 n lt);
         }
     unstarted_by new (NoCurrent r) dco h = inl (record { log = h.log; is = start_log h.log h.over; first = h.first })
     unstarted_by new (Failed device) dco h = record { copies = copies; are = start_copies; own = h.0; rose = subst (λ n. Rose n (faults_on device (still_pieces ghosts.seen new))) (all_same.faults device) h.1 }

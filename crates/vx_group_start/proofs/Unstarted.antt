@@ -12,10 +12,11 @@ use Rattle.vx_lending.specs.Going.{GoTogether}
 use Rattle.vx_lending.specs.Logs.{log_header}
 use Rattle.vx_lending.specs.Pieces.{copy_pieces}
 use Rattle.vx_lending.proofs.Goings.{go_beside, go_from, go_same, go_then}
-use Rattle.vx_running.specs.declared.public.Public.{Public}
-use Rattle.vx_running.specs.Public.{still_pieces}
+use Rattle.vx_lending.specs.declared.public.Public.{Public}
+use Rattle.vx_lending.specs.Public.{still_pieces}
 use Rattle.vx_group_start.specs.declared.fault.StartFault.{StartFault}
 use Rattle.vx_group_start.specs.declared.fault.StartFault.TheVariants.{OutOfMemory, NoLog, NoCurrent, Failed, PowerLost}
+use Rattle.vx_group_start.specs.Fresh.{is_fresh}
 use Rattle.vx_group_start.specs.Logs.{IsPassedOver}
 use Rattle.vx_group_start.specs.Steps.{IsLogOver, IsNoLog, IsRefusedOver, IsUnopened}
 use Rattle.vx_group_start.proofs.Rises.{cut_beside, rose_beside}
@@ -26,10 +27,10 @@ passed_beside header copy rs cs ds ss os same (inr x) = inr x
 
 module _ {P : Type 0} {ghosts : Ghosts P} (v : Vol) (form : VolumeForm) (copies : List (List Seen)) (rs : List Seen) (old new : Public P ghosts) where
   -- there is no log
-  pub no_log : (left : List (List Seen)) (fault : StartFault) → SameSectors ((rs ++ copy_pieces left) ++ still_pieces ghosts.seen old) (still_pieces ghosts.seen new) → IsNoLog (log_header form.shape.geometry) copies left fault →
+  pub no_log : (left : List (List Seen)) (fault : StartFault) → SameSectors ((rs ++ copy_pieces left) ++ still_pieces ghosts.seen old) (still_pieces ghosts.seen new) → IsNoLog (is_fresh v.state) (log_header form.shape.geometry) copies left fault →
       IsRefusedOver ghosts.seen v form copies (rs ++ copy_pieces copies) old new fault
   no_log left OutOfMemory same h = tt
-  no_log left NoLog same h = (h.0, λ n lt. passed_beside (log_header form.shape.geometry) (copy_at copies n) rs (copy_pieces copies) (copy_pieces left) (still_pieces ghosts.seen old) (still_pieces ghosts.seen new) same (h.1 n lt))
+  no_log left NoLog same h = (h.0, h.1, λ n lt. passed_beside (log_header form.shape.geometry) (copy_at copies n) rs (copy_pieces copies) (copy_pieces left) (still_pieces ghosts.seen old) (still_pieces ghosts.seen new) same (h.2 n lt))
   no_log left (NoCurrent r) same h = absurd h
   no_log left (Failed device) same h = (h.0, rose_beside device rs (copy_pieces copies) (copy_pieces left) (still_pieces ghosts.seen old) (still_pieces ghosts.seen new) same h.1)
   no_log left PowerLost same h = (h.0, h.1, cut_beside h.0 rs (copy_pieces left) (still_pieces ghosts.seen old) (still_pieces ghosts.seen new) same h.2)

@@ -17,7 +17,7 @@ use Rattle.vx_objects.specs.declared.config.Config.{Config}
 use Rattle.vx_volume_form.specs.declared.form.VolumeForm.{VolumeForm}
 use Rattle.vx_volume_form.specs.Form.{IsFormOf}
 use Rattle.vx_lending.specs.Logs.{marked_maps}
-use Rattle.vx_running.specs.declared.public.Public.{Public}
+use Rattle.vx_lending.specs.declared.public.Public.{Public}
 use Rattle.vx_group_start.specs.declared.fault.StartFault.{StartFault}
 use Rattle.vx_group_start.specs.declared.fault.StartFault.TheVariants.{NoCurrent}
 use Rattle.vx_group_start.specs.Fresh.{all_maps, is_fresh, is_lowest_on, maps_to_copy}

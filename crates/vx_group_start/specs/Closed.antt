@@ -4,7 +4,7 @@ use Rattle.vx_piece.specs.Seen.{Seen}
 use Rattle.vx_pages.specs.declared.local_piece.LocalPiece.{Ghosts}
 use Rattle.vx_volume.specs.declared.volume.Volume.{Volume}
 use Rattle.vx_volume.specs.Volume.{log_of, shape_of, volume_seen}
-use Rattle.vx_running.specs.declared.public.Running.{Running}
+use Rattle.vx_lending.specs.declared.public.Running.{Running}
 
 -- the volume is as that one
 pub record IsSameVolume {P : Type 0} {ghosts : Ghosts P} (seen : P → Seen) (old new : Volume P ghosts) : Type 0 where

@@ -5,9 +5,9 @@ use Rattle.vx_piece.specs.Seen.{Seen}
 use Rattle.vx_pages.specs.declared.local_piece.LocalPiece.{Ghosts}
 use Rattle.vx_copies.specs.Lists.{AllOf}
 use Rattle.vx_volume.specs.Volume.{IsVolume, volume_seen}
-use Rattle.vx_running.specs.declared.public.Public.{Public}
-use Rattle.vx_running.specs.declared.public.Running.{Running}
-use Rattle.vx_running.specs.Public.{lent_pieces, still_pieces}
+use Rattle.vx_lending.specs.declared.public.Public.{Public}
+use Rattle.vx_lending.specs.declared.public.Running.{Running}
+use Rattle.vx_lending.specs.Public.{lent_pieces, still_pieces}
 
 -- each running volume, by its name, is a volume
 abbrev pub AreRunningVolumes : {P : Type 0} {ghosts : Ghosts P} → (P → Seen) → List (Word × Running P ghosts) → Type 0

@@ -1,5 +1,5 @@
 -- Why a volume is not started.
-use Rattle.std.specs.Prelude.{◌≡◌, ℕ, ◌<◌, ◌⊎◌, true, false, is_some, List, length}
+use Rattle.std.specs.Prelude.{◌≡◌, ℕ, ◌<◌, ◌⊎◌, true, false, is_some, List, [], length}
 use Rattle.vx_base.specs.Counts.{Rose}
 use Rattle.vx_piece.specs.Seen.{Seen}
 use Rattle.vx_carve.specs.Together.{cut_on, faults_on}
@@ -15,18 +15,19 @@ use Rattle.vx_volume_form.specs.declared.form.VolumeForm.{VolumeForm}
 use Rattle.vx_volume_form.specs.Form.{IsFormOf}
 use Rattle.vx_lending.specs.Logs.{log_header}
 use Rattle.vx_lending.specs.Pieces.{copy_pieces}
-use Rattle.vx_running.specs.declared.public.Public.{Public}
-use Rattle.vx_running.specs.Public.{still_pieces}
+use Rattle.vx_lending.specs.declared.public.Public.{Public}
+use Rattle.vx_lending.specs.Public.{still_pieces}
 use Rattle.vx_group_start.specs.declared.fault.StartFault.{StartFault}
 use Rattle.vx_group_start.specs.declared.fault.StartFault.TheVariants.{OutOfMemory, NoLog, NoCurrent, Failed, PowerLost}
 use Rattle.vx_group_start.specs.Fresh.{is_fresh, is_lowest_on}
 use Rattle.vx_group_start.specs.Logs.{AreOn, AreStartCopies, IsPassedOver, IsStartLog}
 
--- the volume has a DCO, and each copy of its log that is on good disks was passed over
+-- The volume has a DCO, and each copy of its log that is on good disks was passed over; of one that was never started there is none.
 pub record IsUnlogged (v : Vol) (numbers : List ℕ) (form : VolumeForm) (before after : List Seen) : Type 0 where
   pub dco : is_some v.dco ≡ true
   pub copies : List (List Seen)
   pub are : AreStartCopies numbers form before copies
+  pub filled : is_fresh v.state ≡ true → copies ≡ []
   pub passed : (n : ℕ) → n < length copies → IsPassedOver (log_header form.shape.geometry) before after (copy_at copies n)
 
 -- a device that a copy of the log lies on has failed

@@ -1,5 +1,5 @@
 -- The steps of a start, over pieces that were taken.
-use Rattle.std.specs.Prelude.{◌≡◌, ◌⊎◌, ℕ, ◌<◌, ◌++◌, true, false, is_some, None, List, [], length}
+use Rattle.std.specs.Prelude.{◌≡◌, ◌⊎◌, ℕ, ◌<◌, ◌++◌, Bool, true, false, is_some, None, List, [], length}
 use Rattle.vx_base.specs.Counts.{Rose}
 use Rattle.vx_piece.specs.Seen.{Seen}
 use Rattle.vx_carve.specs.Together.{cut_on, faults_on}
@@ -26,9 +26,9 @@ use Rattle.vx_lending.specs.Logs.{log_copies, log_header, log_pieces}
 use Rattle.vx_lending.specs.declared.left.LogLeft.{LogLeft}
 use Rattle.vx_lending.specs.declared.left.LogLeft.TheVariants.{Copies, Store}
 use Rattle.vx_lending.specs.Pieces.{copy_pieces}
-use Rattle.vx_running.specs.declared.public.Public.{Public}
-use Rattle.vx_running.specs.declared.public.Running.{Running}
-use Rattle.vx_running.specs.Public.{still_pieces}
+use Rattle.vx_lending.specs.declared.public.Public.{Public}
+use Rattle.vx_lending.specs.declared.public.Running.{Running}
+use Rattle.vx_lending.specs.Public.{still_pieces}
 use Rattle.vx_group_start.specs.declared.fault.StartFault.{StartFault}
 use Rattle.vx_group_start.specs.declared.fault.StartFault.TheVariants.{OutOfMemory, NoLog, NoCurrent, Failed, PowerLost}
 use Rattle.vx_group_start.specs.Fresh.{is_fresh, is_lowest_on}
@@ -63,13 +63,13 @@ left_fault fault (Store store) = OutOfMemory
 abbrev pub ArePassedOver : List ℕ → List Seen → List Seen → List (List Seen) → Type 0
 ArePassedOver header before after copies = (n : ℕ) → n < length copies → IsPassedOver header before after (copy_at copies n)
 
--- why there is no log, by the copies before and after
-abbrev pub IsNoLog : List ℕ → List (List Seen) → List (List Seen) → StartFault → Type 0
-IsNoLog header old new OutOfMemory = Unit {0}
-IsNoLog header old new NoLog = (0 < length old) × ArePassedOver header (copy_pieces old) (copy_pieces new) old
-IsNoLog header old new (NoCurrent r) = ⊥
-IsNoLog header old new (Failed device) = AreOn device (copy_pieces old) × Rose (faults_on device (copy_pieces old)) (faults_on device (copy_pieces new))
-IsNoLog header old new PowerLost = (device : ℕ) × AreOn device (copy_pieces old) × (cut_on device (copy_pieces new) ≡ 1)
+-- why there is no log, of a volume that was never started or not, by the copies before and after
+abbrev pub IsNoLog : Bool → List ℕ → List (List Seen) → List (List Seen) → StartFault → Type 0
+IsNoLog fresh header old new OutOfMemory = Unit {0}
+IsNoLog fresh header old new NoLog = (fresh ≡ false) × (0 < length old) × ArePassedOver header (copy_pieces old) (copy_pieces new) old
+IsNoLog fresh header old new (NoCurrent r) = ⊥
+IsNoLog fresh header old new (Failed device) = AreOn device (copy_pieces old) × Rose (faults_on device (copy_pieces old)) (faults_on device (copy_pieces new))
+IsNoLog fresh header old new PowerLost = (device : ℕ) × AreOn device (copy_pieces old) × (cut_on device (copy_pieces new) ≡ 1)
 
 -- ---- the volume
 
@@ -116,7 +116,7 @@ pub record IsUnreadOver {P : Type 0} (ghosts : Ghosts P) (seen : P → Seen) (v 
 -- why a volume is not started over pieces that were taken beside those that lie still
 abbrev pub IsRefusedOver : {P : Type 0} {ghosts : Ghosts P} → (P → Seen) → Vol → VolumeForm → List (List Seen) → List Seen → Public P ghosts → Public P ghosts → StartFault → Type 0
 IsRefusedOver seen v form copies taken old new OutOfMemory = Unit {0}
-IsRefusedOver seen v form copies taken old new NoLog = (0 < length copies) × ArePassedOver (log_header form.shape.geometry) (taken ++ still_pieces seen old) (still_pieces seen new) copies
+IsRefusedOver seen v form copies taken old new NoLog = (is_fresh v.state ≡ false) × (0 < length copies) × ArePassedOver (log_header form.shape.geometry) (taken ++ still_pieces seen old) (still_pieces seen new) copies
 IsRefusedOver {ghosts = ghosts} seen v form copies taken old new (NoCurrent r) = IsUnreadOver ghosts seen v form.shape copies r
 IsRefusedOver seen v form copies taken old new (Failed device) = AreOn device (copy_pieces copies) × Rose (faults_on device (taken ++ still_pieces seen old)) (faults_on device (still_pieces seen new))
 IsRefusedOver seen v form copies taken old new PowerLost = (device : ℕ) × AreOn device (copy_pieces copies) × (cut_on device (still_pieces seen new) ≡ 1)

@@ -6,17 +6,16 @@ ghost use Rattle.vx_volume.specs.Volume.{IsVolume, volume_seen};
 ghost use Rattle.vx_volume_pieces.specs.Pieces.{all_pieces, cell_plexes};
 ghost use Rattle.vx_lending.specs.Left.{held_pieces};
 ghost use Rattle.vx_lending.specs.Logs.{log_pieces};
-ghost use Rattle.vx_running.specs.Public.{still_pieces};
+ghost use Rattle.vx_lending.specs.Public.{still_pieces};
 ghost use Rattle.vx_group_start.specs.Closed.{IsSameRunning, IsSameVolume};
 
 use std::alloc::Global;
 use vx_base::OutOfMemory;
 use vx_carve::Pool;
 use vx_cell::Cell;
-use vx_lending::{VolumeLeft, put_volume};
+use vx_lending::{Public, Running, VolumeLeft, put_volume};
 use vx_maps::store_pieces;
 use vx_piece::Piece;
-use vx_running::{Public, Running};
 use vx_volume::{Volume, VolumeLog};
 use vx_volume_pieces::pieces_in;
 

@@ -2,16 +2,15 @@
 
 ghost use Rattle.std.specs.Prelude.{◌≡◌, ◌<◌, ◌++◌, [], map, vec_len, vec_capacity, IfErr, OnOk};
 ghost use Rattle.vx_carve.specs.Together.{SameSectors};
-ghost use Rattle.vx_running.specs.Public.{remaining_pieces, still_pieces};
+ghost use Rattle.vx_lending.specs.Public.{remaining_pieces, still_pieces};
 
 use crate::remains::{log_left, put_remains};
 use std::alloc::Global;
 use vx_base::OutOfMemory;
 use vx_carve::Pool;
 use vx_cell::Plex;
-use vx_lending::LogLeft;
+use vx_lending::{LogLeft, Public, Remains};
 use vx_piece::Piece;
-use vx_running::{Public, Remains};
 use vx_volume::VolumeLog;
 
 /// Puts what is left of volumes that were not started back into the pool, the last one first. Where there is no memory for that

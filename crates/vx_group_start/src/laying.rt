@@ -4,15 +4,15 @@ ghost use Rattle.std.specs.Prelude.{◌≡◌, ◌<◌, ◌++◌, [], vec_len, v
 ghost use Rattle.vx_carve.specs.Together.{SameSectors};
 ghost use Rattle.vx_volume.specs.Volume.{IsVolume, volume_seen};
 ghost use Rattle.vx_lending.specs.Left.{held_pieces};
-ghost use Rattle.vx_running.specs.Public.{lent_pieces, still_pieces};
+ghost use Rattle.vx_lending.specs.Public.{lent_pieces, still_pieces};
 ghost use Rattle.vx_group_start.specs.Laying.{AreRunningVolumes, AreStuckVolumes, public_pieces};
 
 use crate::closing::close_volume;
 use crate::gathering::gather;
 use std::alloc::Global;
 use vx_base::OutOfMemory;
+use vx_lending::{Public, Running};
 use vx_piece::Piece;
-use vx_running::{Public, Running};
 
 /// Puts the pieces of all running volumes, and of those that could not be put back before, into the pool, and what is left of
 /// volumes that were not started. Where there is no memory the volumes and remains that were not put back are still there: of

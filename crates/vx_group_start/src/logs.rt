@@ -1,6 +1,6 @@
 //! The log of a volume that is started.
 
-ghost use Rattle.std.specs.Prelude.{◌≡◌, IfOk, IfErr};
+ghost use Rattle.std.specs.Prelude.{◌≡◌, true, false, IfOk, IfErr};
 ghost use Rattle.vx_pages.specs.Sector.{KeepsPiece};
 ghost use Rattle.vx_maps.specs.Going.{CutCopiesGo};
 ghost use Rattle.vx_maps.specs.Spares.{copies_seen};
@@ -74,7 +74,7 @@ pub fn start_log<P: Piece + Drop>(
     ensures log { IfOk result (λ log. IsLogOf P.seen fresh form.now.shape (copies_seen P.seen copies.items) log) }
     ensures cut { IfOk result (λ log. CutCopiesGo KeepsPiece (copies_seen P.seen copies.items) (log_copies P.seen log)) }
     ensures goes { IfOk result (λ log. GoTogether (copy_pieces (copies_seen P.seen copies.items)) (log_pieces P.seen log)) }
-    ensures refused { IfErr result (λ refused. IsNoLog (log_header form.now.shape.geometry) (copies_seen P.seen copies.items) (left_copies P.seen refused.left) refused.fault) }
+    ensures refused { IfErr result (λ refused. IsNoLog fresh (log_header form.now.shape.geometry) (copies_seen P.seen copies.items) (left_copies P.seen refused.left) refused.fault) }
     ensures back { IfErr result (λ refused. GoTogether (copy_pieces (copies_seen P.seen copies.items)) (copy_pieces (left_copies P.seen refused.left))) }
     ensures cut_back { IfErr result (λ refused. CutCopiesGo KeepsPiece (copies_seen P.seen copies.items) (left_copies P.seen refused.left)) }
 {
@@ -95,7 +95,7 @@ fn new_log<P: Piece + Drop>(
     ensures log { IfOk result (λ log. IsFreshLog P.seen form.now.shape.geometry (maps_to_copy form.now.shape) (copies_seen P.seen copies.items) log) }
     ensures cut { IfOk result (λ log. CutCopiesGo KeepsPiece (copies_seen P.seen copies.items) (log_copies P.seen log)) }
     ensures goes { IfOk result (λ log. GoTogether (copy_pieces (copies_seen P.seen copies.items)) (log_pieces P.seen log)) }
-    ensures refused { IfErr result (λ refused. IsNoLog (log_header form.now.shape.geometry) (copies_seen P.seen copies.items) (left_copies P.seen refused.left) refused.fault) }
+    ensures refused { IfErr result (λ refused. IsNoLog true (log_header form.now.shape.geometry) (copies_seen P.seen copies.items) (left_copies P.seen refused.left) refused.fault) }
     ensures back { IfErr result (λ refused. GoTogether (copy_pieces (copies_seen P.seen copies.items)) (copy_pieces (left_copies P.seen refused.left))) }
     ensures cut_back { IfErr result (λ refused. CutCopiesGo KeepsPiece (copies_seen P.seen copies.items) (left_copies P.seen refused.left)) }
 {
@@ -118,7 +118,7 @@ fn old_log<P: Piece + Drop>(
     ensures log { IfOk result (λ log. IsLoadedLog P.seen form.now.shape.geometry (copies_seen P.seen copies.items) log) }
     ensures cut { IfOk result (λ log. CutCopiesGo KeepsPiece (copies_seen P.seen copies.items) (log_copies P.seen log)) }
     ensures goes { IfOk result (λ log. GoTogether (copy_pieces (copies_seen P.seen copies.items)) (log_pieces P.seen log)) }
-    ensures refused { IfErr result (λ refused. IsNoLog (log_header form.now.shape.geometry) (copies_seen P.seen copies.items) (left_copies P.seen refused.left) refused.fault) }
+    ensures refused { IfErr result (λ refused. IsNoLog false (log_header form.now.shape.geometry) (copies_seen P.seen copies.items) (left_copies P.seen refused.left) refused.fault) }
     ensures back { IfErr result (λ refused. GoTogether (copy_pieces (copies_seen P.seen copies.items)) (copy_pieces (left_copies P.seen refused.left))) }
     ensures cut_back { IfErr result (λ refused. CutCopiesGo KeepsPiece (copies_seen P.seen copies.items) (left_copies P.seen refused.left)) }
 {

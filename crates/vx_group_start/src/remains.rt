@@ -7,14 +7,13 @@ ghost use Rattle.vx_volume_pieces.specs.Pieces.{all_pieces};
 ghost use Rattle.vx_lending.specs.Left.{left_copies};
 ghost use Rattle.vx_lending.specs.Logs.{log_copies};
 ghost use Rattle.vx_lending.specs.Pieces.{copy_pieces};
-ghost use Rattle.vx_running.specs.Public.{remaining_pieces, still_pieces};
+ghost use Rattle.vx_lending.specs.Public.{remaining_pieces, still_pieces};
 
 use std::alloc::Global;
 use vx_carve::Pool;
 use vx_cell::Plex;
-use vx_lending::{LogLeft, VolumePieces, put_pieces};
+use vx_lending::{LogLeft, Public, Remains, VolumePieces, put_pieces};
 use vx_piece::Piece;
-use vx_running::{Public, Remains};
 use vx_volume::VolumeLog;
 use vx_volume_pieces::put_regions;
 

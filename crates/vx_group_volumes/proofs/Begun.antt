@@ -18,7 +18,7 @@ use Rattle.vx_group_images.specs.Lives.{no_track, volume_first, whole_track}
 use Rattle.vx_group_images.specs.Volumes.{StandsForVolume, is_named}
 use Rattle.vx_volume_laws.specs.Opening.{IsOpened, IsWellFormed}
 use Rattle.vx_volume_laws.specs.Start.{EachEmptyBegins, IsStartOf}
-use Rattle.vx_volume_lives.specs.Starting.{BeginsOver}
+use Rattle.vx_volume_laws.specs.Starting.{BeginsOver}
 
 -- no plex of these has a lower map
 abbrev pub is_low : List PlexImage → PlexImage → Bool

@@ -20,7 +20,7 @@ use Rattle.vx_group_images.specs.Owners.{device_at, devices_on, listed}
 use Rattle.vx_volume.specs.Volume.{log_of, volume_seen}
 use Rattle.vx_lending.specs.Left.{held_pieces}
 use Rattle.vx_lending.specs.Logs.{log_copies}
-use Rattle.vx_running.specs.declared.public.Running.{Running}
+use Rattle.vx_lending.specs.declared.public.Running.{Running}
 use Rattle.vx_group_volumes.specs.Places.{IsOwnSector, IsSlotOf, disks_at}
 use Rattle.vx_group_volumes.proofs.Held.{kept_sector, of_pieces}
 use Rattle.vx_group_volumes.specs.Devices.{IsOwnDevice, LiesOnDevice}

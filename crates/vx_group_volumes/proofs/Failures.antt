@@ -37,11 +37,11 @@ use Rattle.vx_lending.specs.Left.{region_plexes}
 use Rattle.vx_lending.specs.Logs.{log_copies, log_pieces}
 use Rattle.vx_lending.specs.Pieces.{copy_pieces}
 use Rattle.vx_lending.specs.Pieces.{own_pieces as own_copy}
-use Rattle.vx_opened_images.proofs.Opening.{some_of}
-use Rattle.vx_left_images.specs.Lying.{LiesAs}
-use Rattle.vx_left_images.proofs.Plexes.{plexes_at}
-use Rattle.vx_left_images.proofs.Spots.{all_right, cut_lies, cut_long}
-use Rattle.vx_running.specs.declared.public.Running.{Running}
+use Rattle.vx_volume_laws.proofs.OpenedImages.{some_of}
+use Rattle.vx_volume_laws.specs.Lying.{LiesAs}
+use Rattle.vx_volume_laws.proofs.Plexes.{plexes_at}
+use Rattle.vx_volume_laws.proofs.Spots.{all_right, cut_lies, cut_long}
+use Rattle.vx_lending.specs.declared.public.Running.{Running}
 use Rattle.vx_group_calls.proofs.HeldPieces.{log_stays}
 use Rattle.vx_group_volumes.specs.Places.{disks_at}
 use Rattle.vx_group_volumes.proofs.Held.{layout_plex}

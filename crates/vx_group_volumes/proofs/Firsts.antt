@@ -35,20 +35,20 @@ use Rattle.vx_volume_form.proofs.Rules.{vol_geometry}
 use Rattle.vx_lending.specs.Logs.{IsFreshLog, marked_maps}
 use Rattle.vx_volume_laws.specs.Opening.{IsOpened}
 use Rattle.vx_volume_laws.specs.Start.{EachEmptyBegins}
-use Rattle.vx_opened_images.specs.Contents.{AreSectorsOf, ShowsCopy}
-use Rattle.vx_opened_images.specs.Opened.{IsFixedOf, IsOpenedBy}
-use Rattle.vx_opened_images.proofs.Held.{in_image}
-use Rattle.vx_opened_images.proofs.Loaded.{all_tell, run_tells}
-use Rattle.vx_opened_images.proofs.Opening.{opened_is, same_item, well_formed}
+use Rattle.vx_volume_laws.specs.Contents.{AreSectorsOf, ShowsCopy}
+use Rattle.vx_volume_laws.specs.Opened.{IsFixedOf, IsOpenedBy}
+use Rattle.vx_volume_laws.proofs.Held.{in_image}
+use Rattle.vx_volume_laws.proofs.Loaded.{all_tell, run_tells}
+use Rattle.vx_volume_laws.proofs.OpenedImages.{opened_is, same_item, well_formed}
 use Rattle.vx_moments.specs.World.{Volume}
 use Rattle.vx_group_images.specs.Lives.{volume_first}
-use Rattle.vx_volume_lives.specs.Running.{RunsAsVolume}
-use Rattle.vx_volume_lives.specs.Starting.{EachOpeningRuns, IsOpenedOver}
-use Rattle.vx_left_images.proofs.Logs.{log_new}
-use Rattle.vx_left_images.proofs.Spots.{all_left, all_right}
-use Rattle.vx_running.specs.Public.{still_pieces}
-use Rattle.vx_running.specs.declared.public.Public.{Public}
-use Rattle.vx_running.specs.declared.public.Running.{Running}
+use Rattle.vx_volume_laws.specs.Running.{RunsAsVolume}
+use Rattle.vx_volume_laws.specs.Starting.{EachOpeningRuns, IsOpenedOver}
+use Rattle.vx_volume_laws.proofs.LeftLogs.{log_new}
+use Rattle.vx_volume_laws.proofs.Spots.{all_left, all_right}
+use Rattle.vx_lending.specs.Public.{still_pieces}
+use Rattle.vx_lending.specs.declared.public.Public.{Public}
+use Rattle.vx_lending.specs.declared.public.Running.{Running}
 use Rattle.vx_group_start.specs.Fresh.{is_fresh, maps_to_copy}
 use Rattle.vx_group_start.specs.Logs.{IsLogOf}
 use Rattle.vx_group_start.specs.Started.{IsStarted}

@@ -34,9 +34,9 @@ use Rattle.vx_volume_form.proofs.Zips.{zip_length}
 use Rattle.vx_lending.specs.Left.{region_plexes}
 use Rattle.vx_lending.specs.Pieces.{copy_pieces}
 use Rattle.vx_lending.specs.Pieces.{own_pieces as own_copy}
-use Rattle.vx_opened_images.proofs.Opening.{some_of}
-use Rattle.vx_left_images.specs.Lying.{LiesAs, pieces_in}
-use Rattle.vx_left_images.proofs.Spots.{cut_lies, cut_long}
+use Rattle.vx_volume_laws.proofs.OpenedImages.{some_of}
+use Rattle.vx_volume_laws.specs.Lying.{LiesAs, pieces_in}
+use Rattle.vx_volume_laws.proofs.Spots.{cut_lies, cut_long}
 use Rattle.vx_group_volumes.specs.Places.{IsOwnSector, IsSlotOf, KeepsPlaces}
 use Rattle.vx_group_volumes.proofs.Spots.{IsAtBlock, any_flat, mapped_at, on_block}
 use Rattle.vx_group_volumes.proofs.Strips.{place_own}

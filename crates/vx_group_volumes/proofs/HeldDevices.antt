@@ -25,8 +25,8 @@ use Rattle.vx_image.specs.UsedPlexes.{IsVolOf, is_on}
 use Rattle.vx_volume_form.proofs.Bits.{into_off, into_on, on_plex}
 use Rattle.vx_volume_form.proofs.Maps.{one_of_map}
 use Rattle.vx_volume_form.proofs.Rules.{plex_low}
-use Rattle.vx_left_images.specs.Lying.{HasMasksOf}
-use Rattle.vx_running.specs.declared.public.Running.{Running}
+use Rattle.vx_volume_laws.specs.Lying.{HasMasksOf}
+use Rattle.vx_lending.specs.declared.public.Running.{Running}
 use Rattle.vx_group_volumes.specs.Runs.{Opening}
 use Rattle.vx_group_volumes.specs.PlexLaws.{PlexesFit}
 use Rattle.vx_group_volumes.specs.Opened.{opened_plexes}

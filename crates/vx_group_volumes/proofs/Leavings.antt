@@ -14,15 +14,15 @@ use Rattle.vx_volume.specs.Volume.{log_of, volume_seen}
 use Rattle.vx_image.specs.UsedPlexes.{IsVolOf}
 use Rattle.vx_lending.specs.Left.{held_pieces}
 use Rattle.vx_lending.specs.Logs.{log_copies}
-use Rattle.vx_opened_images.specs.Contents.{AreSectorsOf}
+use Rattle.vx_volume_laws.specs.Contents.{AreSectorsOf}
 use Rattle.vx_group_images.specs.Volumes.{StandsForVolume}
-use Rattle.vx_volume_lives.specs.Leaving.{AreNamedIn, EachLeavingStands}
-use Rattle.vx_volume_lives.specs.Running.{IsSureOfOthers, RunsAsVolume}
-use Rattle.vx_left_images.specs.Keeping.{ChangesStates}
-use Rattle.vx_left_images.proofs.Configurations.{keeping_goes_on}
-use Rattle.vx_left_images.proofs.Leavings.{volume_leaves}
-use Rattle.vx_left_images.proofs.Restated.{restated_kept}
-use Rattle.vx_running.specs.declared.public.Running.{Running}
+use Rattle.vx_volume_laws.specs.Leaving.{AreNamedIn, EachLeavingStands}
+use Rattle.vx_volume_laws.specs.Running.{IsSureOfOthers, RunsAsVolume}
+use Rattle.vx_volume_laws.specs.Keeping.{ChangesStates}
+use Rattle.vx_volume_laws.proofs.Configurations.{keeping_goes_on}
+use Rattle.vx_volume_laws.proofs.Leavings.{volume_leaves}
+use Rattle.vx_volume_laws.proofs.Restated.{restated_kept}
+use Rattle.vx_lending.specs.declared.public.Running.{Running}
 use Rattle.vx_group_volumes.specs.Runs.{RunsIn}
 
 module _ {P : Type 0} {ghosts : Ghosts P} (see : P → Seen) (running : Running P ghosts) (c : Config) (good : ℕ) (numbers : List ℕ) (v : Vol) (runs : RunsIn see c good numbers v running) where

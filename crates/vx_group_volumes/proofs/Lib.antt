@@ -25,3 +25,4 @@ pub mod Reasons
 pub mod Stands
 pub mod Commits
 mod Taken
+mod Unlogged

@@ -26,9 +26,9 @@ use Rattle.vx_volume_form.proofs.Distinct.{filtered}
 use Rattle.vx_volume_form.proofs.Maps.{one_without}
 use Rattle.vx_volume_form.proofs.Rules.{one_plex, plex_low}
 use Rattle.vx_lending.specs.Logs.{marked_maps}
-use Rattle.vx_opened_images.proofs.Held.{of_image}
-use Rattle.vx_left_images.specs.Keeping.{data_plexes}
-use Rattle.vx_left_images.specs.Starts.{HasOthers, is_lowest}
+use Rattle.vx_volume_laws.proofs.Held.{of_image}
+use Rattle.vx_volume_laws.specs.Keeping.{data_plexes}
+use Rattle.vx_volume_laws.specs.Recorded.{HasOthers, is_lowest}
 use Rattle.vx_group_start.specs.Fresh.{all_maps, maps_to_copy}
 use Rattle.vx_group_volumes.proofs.Begun.{is_low}
 

@@ -23,10 +23,10 @@ use Rattle.vx_volume_form.specs.Form.{IsShapeOf}
 use Rattle.vx_volume_form.proofs.Bits.{held_on, into_on, on_plex}
 use Rattle.vx_volume_form.proofs.Maps.{one_of_map}
 use Rattle.vx_volume_form.proofs.Rules.{plex_low}
-use Rattle.vx_opened_images.proofs.Held.{of_image}
+use Rattle.vx_volume_laws.proofs.Held.{of_image}
 use Rattle.vx_volume_laws.specs.Tracks.{HasMap}
 use Rattle.vx_group_images.specs.Tracks.{TrackOwner}
-use Rattle.vx_volume_lives.specs.Laws.{OwnersFit}
+use Rattle.vx_volume_laws.specs.RunLaws.{OwnersFit}
 
 module _ (c : Config) (good : ℕ) (v : Vol) (of : IsVolOf c v) (shape : VolumeShape) (is : IsShapeOf c good v shape) where
   -- a data plex is on by the mask just where it is available

@@ -12,9 +12,9 @@ use Rattle.vx_volume.specs.Log.{LogGoes}
 use Rattle.vx_volume.specs.Loop.{AreDone, AreMade}
 use Rattle.vx_volume.specs.Passes.{Clears, PassEnds, Settles}
 use Rattle.vx_volume.specs.Volume.{VolumeSeen, log_of, volume_seen}
-use Rattle.vx_left_images.specs.Calls.{KeepsPlaces}
-use Rattle.vx_left_images.proofs.Keepings.{each_clearing_keeps, each_copy_keeps, each_settling_keeps, keeping_keeps, keeps_same}
-use Rattle.vx_left_images.proofs.Lasting.{lies_on}
+use Rattle.vx_volume_laws.specs.Calls.{KeepsPlaces}
+use Rattle.vx_volume_laws.proofs.Keepings.{each_clearing_keeps, each_copy_keeps, each_settling_keeps, keeping_keeps, keeps_same}
+use Rattle.vx_volume_laws.proofs.Lasting.{lies_on}
 use Rattle.vx_group_stop.specs.Stops.{ComesToRest}
 use Rattle.vx_group_start.specs.Copying.{CopiesMap}
 use Rattle.vx_group_calls.proofs.Failures.{clearing_gone, copying_gone, settling_gone}

@@ -11,11 +11,11 @@ use Rattle.vx_image.proofs.Members.{contains, is_in}
 use Rattle.vx_volume_form.specs.Form.{IsFormOf}
 use Rattle.vx_volume_form.specs.Laws.{AreNumbered}
 use Rattle.vx_image.specs.UsedPlexes.{IsVolOf}
-use Rattle.vx_left_images.specs.Keeping.{ChangesStates, IsRestated}
-use Rattle.vx_left_images.proofs.Plexes.{zip_left}
-use Rattle.vx_left_images.proofs.Restated.{columns_same}
-use Rattle.vx_running.specs.declared.public.Public.{Public}
-use Rattle.vx_running.specs.declared.public.Running.{Running}
+use Rattle.vx_volume_laws.specs.Keeping.{ChangesStates, IsRestated}
+use Rattle.vx_volume_laws.proofs.Plexes.{zip_left}
+use Rattle.vx_volume_laws.proofs.Restated.{columns_same}
+use Rattle.vx_lending.specs.declared.public.Public.{Public}
+use Rattle.vx_lending.specs.declared.public.Running.{Running}
 use Rattle.vx_group_start.specs.Fresh.{is_fresh}
 use Rattle.vx_group_start.specs.Started.{IsStarted}
 use Rattle.vx_group_volumes.proofs.Leavings.{recorded_runs}

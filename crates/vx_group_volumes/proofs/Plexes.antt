@@ -24,8 +24,8 @@ use Rattle.vx_volume_form.proofs.Bits.{kept}
 use Rattle.vx_volume_form.proofs.Distinct.{filtered}
 use Rattle.vx_volume_form.proofs.Places.{held_taken, log_taken}
 use Rattle.vx_volume_form.proofs.Rules.{one_plex}
-use Rattle.vx_left_images.specs.Keeping.{KeepsPlex, KeepsVolume, data_plexes}
-use Rattle.vx_left_images.proofs.Plexes.{zip_left, zip_right}
+use Rattle.vx_volume_laws.specs.Keeping.{KeepsPlex, KeepsVolume, data_plexes}
+use Rattle.vx_volume_laws.proofs.Plexes.{zip_left, zip_right}
 use Rattle.vx_group_volumes.specs.Runs.{Opening}
 use Rattle.vx_group_volumes.specs.Opened.{WereThere, opened_plexes}
 

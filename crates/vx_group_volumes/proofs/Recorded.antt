@@ -22,7 +22,7 @@ use Rattle.vx_states.specs.Table.{plex_started, plex_stopped}
 use Rattle.vx_state_edits.specs.Edits.{is_new, log_started, started, started_as, stopped, stopped_as}
 use Rattle.vx_state_edits.specs.Laws.{EachRestatedVolumeIsRecorded, EachStartRestates, EachStopRestates, IsAmong, IsPlexAfter, Restates}
 use Rattle.vx_image.specs.UsedPlexes.{is_used_state}
-use Rattle.vx_left_images.specs.Keeping.{ChangesStates, IsRestated}
+use Rattle.vx_volume_laws.specs.Keeping.{ChangesStates, IsRestated}
 use Rattle.vx_group_start.specs.Fresh.{is_fresh}
 use Rattle.vx_group_volumes.specs.Laws.{EachStartChangesStates, EachStopChangesStates}
 

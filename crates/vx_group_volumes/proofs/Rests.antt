@@ -20,9 +20,9 @@ use Rattle.vx_volume.specs.Volume.{IsVolume, VolumeSeen, blocks_in, cell_at, reg
 use Rattle.vx_volume.proofs.Regions.{IsLeft, settled_left}
 use Rattle.vx_volume.proofs.Steps.{step_volume, volume_ready}
 use Rattle.vx_volume_laws.specs.Tracks.{HasMap}
-use Rattle.vx_volume_lives.specs.Laws.{EachClearingRunsOn, EachSettlingRunsOn, FailuresAreTold, OwnersFit}
-use Rattle.vx_volume_lives.specs.Running.{IsSureOfOthers, RunsAsVolume}
-use Rattle.vx_left_images.proofs.Keepings.{each_settling_keeps}
+use Rattle.vx_volume_laws.specs.RunLaws.{EachClearingRunsOn, EachSettlingRunsOn, FailuresAreTold, OwnersFit}
+use Rattle.vx_volume_laws.specs.Running.{IsSureOfOthers, RunsAsVolume}
+use Rattle.vx_volume_laws.proofs.Keepings.{each_settling_keeps}
 use Rattle.vx_group_calls.proofs.Failures.{clearing_gone, settling_gone}
 use Rattle.vx_group_calls.proofs.Keeping.{HasGone}
 use Rattle.vx_group_volumes.specs.RestLaws.{EachRestRunsOn}

@@ -11,7 +11,7 @@ use Rattle.vx_layout.specs.declared.place.Place.{Place}
 use Rattle.vx_layout.specs.declared.strip.Strip.{Strip}
 use Rattle.vx_layout.specs.Columns.{place_of}
 use Rattle.vx_fronts.proofs.Sectors.{covered}
-use Rattle.vx_left_images.specs.Places.{LieOn, Spot, spot, spot_at, spot_of}
+use Rattle.vx_volume_laws.specs.Places.{LieOn, Spot, spot, spot_at, spot_of}
 
 -- ---- lists
 

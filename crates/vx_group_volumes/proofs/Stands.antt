@@ -10,12 +10,12 @@ use Rattle.vx_image.specs.Image.{PlexImage}
 use Rattle.vx_image.specs.Bytes.{image_of}
 use Rattle.vx_volume.specs.Volume.{log_of, volume_seen}
 use Rattle.vx_lending.specs.Logs.{log_copies}
-use Rattle.vx_volume_lives.specs.Leaving.{AreNamedIn, EachStopStands}
-use Rattle.vx_left_images.specs.Keeping.{ChangesStates}
-use Rattle.vx_left_images.proofs.Configurations.{kept_named}
-use Rattle.vx_left_images.proofs.Leavings.{volume_leaves}
-use Rattle.vx_left_images.proofs.Restated.{restated_kept}
-use Rattle.vx_running.specs.declared.public.Running.{Running}
+use Rattle.vx_volume_laws.specs.Leaving.{AreNamedIn, EachStopStands}
+use Rattle.vx_volume_laws.specs.Keeping.{ChangesStates}
+use Rattle.vx_volume_laws.proofs.Configurations.{kept_named}
+use Rattle.vx_volume_laws.proofs.Leavings.{volume_leaves}
+use Rattle.vx_volume_laws.proofs.Restated.{restated_kept}
+use Rattle.vx_lending.specs.declared.public.Running.{Running}
 use Rattle.vx_group_volumes.specs.Laws.{EachStopChangesStates}
 use Rattle.vx_group_volumes.proofs.Leavings.{recorded_runs}
 use Rattle.vx_group_volumes.specs.RestLaws.{EachStoppedVolumeStands}

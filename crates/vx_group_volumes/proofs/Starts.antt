@@ -32,30 +32,30 @@ use Rattle.vx_volume.specs.Log.{log_seen}
 use Rattle.vx_volume_form.specs.declared.form.VolumeForm.{VolumeForm}
 use Rattle.vx_lending.specs.Logs.{IsLoadedLog}
 use Rattle.vx_lending.specs.Taken.{log_sectors}
-use Rattle.vx_opened_images.specs.Contents.{AreSectorsOf, ShowsCopy}
-use Rattle.vx_opened_images.specs.Logs.{AreTakenCopies}
-use Rattle.vx_opened_images.specs.Opened.{IsOpenedBy}
-use Rattle.vx_opened_images.proofs.Loaded.{absent_shows, all_tell, loaded_shows}
-use Rattle.vx_opened_images.proofs.Opening.{well_formed}
+use Rattle.vx_volume_laws.specs.Contents.{AreSectorsOf, ShowsCopy}
+use Rattle.vx_volume_laws.specs.LoadedLogs.{AreTakenCopies}
+use Rattle.vx_volume_laws.specs.Opened.{IsOpenedBy}
+use Rattle.vx_volume_laws.proofs.Loaded.{absent_shows, all_tell, loaded_shows}
+use Rattle.vx_volume_laws.proofs.OpenedImages.{well_formed}
 use Rattle.vx_group_images.specs.Volumes.{volume_read}
 use Rattle.vx_group_images.proofs.VolumesRead.{each_volume_read_stands}
-use Rattle.vx_volume_lives.specs.Running.{RunsAsVolume}
-use Rattle.vx_volume_lives.specs.Starting.{EachOpeningRuns}
+use Rattle.vx_volume_laws.specs.Running.{RunsAsVolume}
+use Rattle.vx_volume_laws.specs.Starting.{EachOpeningRuns}
 use Rattle.vx_mapfmt.specs.Sizes.{map_bytes_of, parts_of, plex_bytes_of}
-use Rattle.vx_left_images.proofs.Openings.{opened_is_over}
-use Rattle.vx_running.specs.Public.{still_pieces}
-use Rattle.vx_running.specs.declared.public.Public.{Public}
-use Rattle.vx_running.specs.declared.public.Running.{Running}
+use Rattle.vx_volume_laws.proofs.LeftOpenings.{opened_is_over}
+use Rattle.vx_lending.specs.Public.{still_pieces}
+use Rattle.vx_lending.specs.declared.public.Public.{Public}
+use Rattle.vx_lending.specs.declared.public.Running.{Running}
 use Rattle.vx_group_start.specs.Fresh.{is_fresh, maps_to_copy}
 use Rattle.vx_group_start.specs.Logs.{IsLogOf}
 use Rattle.vx_group_start.specs.Started.{IsStarted}
 use Rattle.vx_group_calls.proofs.Failures.{opened_alive}
-use Rattle.vx_left_images.specs.Calls.{IsOpenedOn}
-use Rattle.vx_left_images.specs.Keeping.{ChangesStates}
-use Rattle.vx_left_images.specs.Lying.{IsLogFor}
-use Rattle.vx_left_images.proofs.Lasting.{lies_opened}
-use Rattle.vx_left_images.proofs.Logs.{fresh_for, loaded_for}
-use Rattle.vx_left_images.proofs.Restated.{restated_kept}
+use Rattle.vx_volume_laws.specs.Calls.{IsOpenedOn}
+use Rattle.vx_volume_laws.specs.Keeping.{ChangesStates}
+use Rattle.vx_volume_laws.specs.Lying.{IsLogFor}
+use Rattle.vx_volume_laws.proofs.Lasting.{lies_opened}
+use Rattle.vx_volume_laws.proofs.LeftLogs.{fresh_for, loaded_for}
+use Rattle.vx_volume_laws.proofs.Restated.{restated_kept}
 use Rattle.vx_group_volumes.specs.Runs.{RunsIn}
 
 -- ---- it has regions

@@ -36,8 +36,8 @@ use Rattle.vx_lending.specs.Pieces.{copy_pieces}
 use Rattle.vx_lending.specs.Pieces.{own_pieces as own_copy}
 use Rattle.vx_lending.specs.Taken.{AreTakenCopies, log_sectors}
 use Rattle.vx_lending.proofs.Goings.{go_beside, go_same}
-use Rattle.vx_opened_images.proofs.Opening.{some_of}
-use Rattle.vx_left_images.proofs.Spots.{cut_lies, cut_long}
+use Rattle.vx_volume_laws.proofs.OpenedImages.{some_of}
+use Rattle.vx_volume_laws.proofs.Spots.{cut_lies, cut_long}
 use Rattle.vx_group_start.specs.Together.{GoByCopies}
 use Rattle.vx_group_start.proofs.Together.{beside, counts, own, together}
 use Rattle.vx_group_volumes.specs.Devices.{LiesOnDevice}
@@ -63,7 +63,7 @@ none_empty numbers unit columns (run ∷ runs) (p ∷ ps) start end are pieces =
     All-cons HasSome p ps (omega (arith, some, count)) (none_empty numbers unit columns runs ps (start + run.count) end are.3 pieces.1)
 
 -- the layout of a plex
-layout_of : (c : Config) (plexes : List Plex) (layouts : List Layout) (p : Plex) → AreLayouts c plexes layouts → IsIn plexes p → (n : ℕ) × (n < length layouts) × ((d : Layout) → IsLayoutOf c p (slice_index_or layouts n d))
+pub layout_of : (c : Config) (plexes : List Plex) (layouts : List Layout) (p : Plex) → AreLayouts c plexes layouts → IsIn plexes p → (n : ℕ) × (n < length layouts) × ((d : Layout) → IsLayoutOf c p (slice_index_or layouts n d))
 layout_of c [] layouts p are there = absurd there
 layout_of c (q ∷ qs) [] p are there = absurd are
 layout_of c (q ∷ qs) (l ∷ ls) p are (inl same) = (0, omega arith, λ d. subst (λ (x : Plex). IsLayoutOf c x l) (sym same) are.0)
@@ -84,7 +84,7 @@ module _ (c : Config) (good : ℕ) (v : Vol) (fresh : Bool) (form : VolumeForm) 
         on_block numbers layout.unit layout.columns 0 (log_sectors form.shape.geometry) copy (cut_lies numbers layout.unit layout.columns 0 (log_sectors form.shape.geometry) copy cut) (cut_long numbers layout.unit layout.columns 0 (log_sectors form.shape.geometry) copy cut)
         device k any
 
-    lies_on : (p : Plex) → IsTaken c good v p → IsLayoutOf c p layout → (device : ℕ) → list_any (is_of device) copy ≡ true → LiesOnDevice c (good_disks good c.disks) numbers p device
+    pub lies_on : (p : Plex) → IsTaken c good v p → IsLayoutOf c p layout → (device : ℕ) → list_any (is_of device) copy ≡ true → LiesOnDevice c (good_disks good c.disks) numbers p device
     lies_on p there lay device any =
         let cut = taken.cut n d laid in
         let r = some_covered device copy (none_empty numbers layout.unit layout.columns cut.runs copy 0 (log_sectors form.shape.geometry) cut.are_runs cut.pieces) any in

@@ -11,7 +11,7 @@ use Rattle.vx_volume.specs.Laws.{AreTold}
 use Rattle.vx_volume.specs.Volume.{IsVolume, VolumeSeen, cell_at}
 use Rattle.vx_group_images.specs.Lives.{volume_copied}
 use Rattle.vx_group_start.specs.Copying.{AreCopied}
-use Rattle.vx_volume_lives.specs.Running.{IsSureOfOthers, RunsAsVolume}
+use Rattle.vx_volume_laws.specs.Running.{IsSureOfOthers, RunsAsVolume}
 
 -- ---- marks
 

@@ -23,18 +23,18 @@ use Rattle.vx_volume_form.specs.declared.form.VolumeForm.{VolumeForm}
 use Rattle.vx_image.specs.UsedPlexes.{IsVolOf}
 use Rattle.vx_volume_form.specs.Form.{IsFormOf}
 use Rattle.vx_lending.specs.Left.{held_pieces}
-use Rattle.vx_opened_images.specs.Contents.{AreSectorsOf}
+use Rattle.vx_volume_laws.specs.Contents.{AreSectorsOf}
 use Rattle.vx_group_images.specs.Lives.{volume_first}
 use Rattle.vx_group_images.specs.Tracks.{TrackOwner, unsure}
 use Rattle.vx_group_images.specs.Volumes.{StandsForVolume, volume_read}
-use Rattle.vx_volume_lives.specs.Laws.{OwnersFit}
-use Rattle.vx_volume_lives.specs.Leaving.{AreNamedIn}
-use Rattle.vx_volume_lives.specs.Running.{IsSureOfOthers, RunsAsVolume}
-use Rattle.vx_left_images.specs.Keeping.{ChangesStates}
-use Rattle.vx_left_images.specs.Lying.{LiesIn}
-use Rattle.vx_running.specs.declared.public.Public.{Public}
-use Rattle.vx_running.specs.declared.public.Running.{Running}
-use Rattle.vx_running.specs.Public.{still_pieces}
+use Rattle.vx_volume_laws.specs.RunLaws.{OwnersFit}
+use Rattle.vx_volume_laws.specs.Leaving.{AreNamedIn}
+use Rattle.vx_volume_laws.specs.Running.{IsSureOfOthers, RunsAsVolume}
+use Rattle.vx_volume_laws.specs.Keeping.{ChangesStates}
+use Rattle.vx_volume_laws.specs.Lying.{LiesIn}
+use Rattle.vx_lending.specs.declared.public.Public.{Public}
+use Rattle.vx_lending.specs.declared.public.Running.{Running}
+use Rattle.vx_lending.specs.Public.{still_pieces}
 use Rattle.vx_group_stop.specs.Stops.{ComesToRest}
 use Rattle.vx_group_start.specs.Copying.{AreCopied}
 use Rattle.vx_group_start.specs.Fresh.{is_fresh}

@@ -1,10 +1,11 @@
 -- The copies that are taken for the log of a volume lie on its log plexes, and as they are called nothing but sectors of the volume changes.
-use Rattle.std.specs.Prelude.{◌≡◌, ℕ, ◌<◌, ◌++◌, Bool, true, List, [], length, Contains, Option, slice_index_or}
-use Rattle.std.specs.List.{list_any}
+use Rattle.std.specs.Prelude.{◌≡◌, ℕ, ◌<◌, ◌++◌, Bool, true, false, List, [], length, Contains, Option, slice_index_or}
+use Rattle.std.specs.List.{All, list_any}
+use Rattle.vx_base.specs.Blocks.{Contents}
 use Rattle.vx_base.specs.Named.{Word}
 use Rattle.vx_piece.specs.Seen.{Seen}
 use Rattle.vx_carve.specs.Carved.{HaveNumbers}
-use Rattle.vx_carve.specs.Together.{covers}
+use Rattle.vx_carve.specs.Together.{Holds, covers}
 use Rattle.vx_copies.specs.Disks.{DiskSeen}
 use Rattle.vx_copies.specs.Lists.{AllOf, Each}
 use Rattle.vx_fronts.specs.Laws.{whole_disks}
@@ -13,6 +14,7 @@ use Rattle.vx_fronts.specs.Rests.{AllTell, is_of, rests_of}
 use Rattle.vx_config_parts.specs.declared.plex.Plex.{Plex}
 use Rattle.vx_config_parts.specs.declared.vol.Vol.{Vol}
 use Rattle.vx_objects.specs.declared.config.Config.{Config}
+use Rattle.vx_image.specs.Bytes.{Sectors, is_log_copy}
 use Rattle.vx_image.specs.UsedPlexes.{used_logs}
 use Rattle.vx_moments.specs.World.{Device, Group}
 use Rattle.vx_group_images.specs.Group.{ChangesOnly}
@@ -21,8 +23,10 @@ use Rattle.vx_volume_form.specs.Form.{IsFormOf}
 use Rattle.vx_volume_form.specs.Laws.{AreNumbered, good_disks}
 use Rattle.vx_lending.specs.Pieces.{copy_pieces}
 use Rattle.vx_lending.specs.Taken.{AreTakenCopies, log_sectors}
+use Rattle.vx_volume_laws.specs.Contents.{AreSectorsOf}
+use Rattle.vx_group_start.specs.Refused.{IsUnlogged}
 use Rattle.vx_group_start.specs.Together.{CountsStay, GoByCopies, GoByLog}
-use Rattle.vx_group_volumes.specs.Devices.{IsOwnDevice, LiesOnDevice}
+use Rattle.vx_group_volumes.specs.Devices.{HasFailedOn, IsOwnDevice, LiesOnDevice}
 use Rattle.vx_group_volumes.specs.Disks.{AreDevicesOf, DiskGoesOn, IsMemberOn, OtherDevicesStay}
 use Rattle.vx_group_volumes.specs.Places.{IsOwnSector}
 
@@ -78,3 +82,13 @@ EachLogCountsItsOwn =
     (c : Config) (good : ℕ) (v : Vol) (fresh : Bool) (form : VolumeForm) → IsFormOf c good v fresh form →
     (numbers : List ℕ) (before after others : List Seen) → GoByLog numbers form before after →
     (device : ℕ) → (IsOwnDevice c v.name (good_disks good c.disks) numbers device → ⊥) → CountsStay device (before ++ others) (after ++ others)
+
+-- ---- why there is no log
+
+-- Where each copy of the log of a volume was passed over, as it was to be loaded, each log plex that counts has failed.
+abbrev pub EachPassedLogHasFailed : Type 0
+EachPassedLogHasFailed =
+    (c : Config) (good : ℕ) (v : Vol) (form : VolumeForm) → IsFormOf c good v false form →
+    (numbers : List ℕ) (before after : List Seen) → IsUnlogged v numbers form before after →
+    (contents : ℕ → Contents) → All (Holds contents) before → (bytes : Sectors) → AreSectorsOf good numbers contents bytes →
+    (p : Plex) → Contains c.plexes p → is_log_copy c good bytes v p ≡ true → HasFailedOn c (good_disks good c.disks) numbers before after p

@@ -4,7 +4,7 @@ use Rattle.vx_base.specs.Named.{Word}
 use Rattle.vx_image.specs.Bytes.{Sectors, image_of}
 use Rattle.vx_image.specs.Image.{PlexImage}
 use Rattle.vx_image.specs.UsedPlexes.{held_plexes, used_logs}
-use Rattle.vx_volume_lives.specs.Leaving.{AreNamedIn}
+use Rattle.vx_volume_laws.specs.Leaving.{AreNamedIn}
 use Rattle.vx_group_volumes.specs.Runs.{Opening}
 
 -- the plexes whose pieces a volume was opened with: data plexes, and then those of its log

@@ -10,8 +10,8 @@ use Rattle.vx_config_parts.specs.Objects.{refers}
 use Rattle.vx_objects.specs.declared.config.Config.{Config}
 use Rattle.vx_image.specs.Own.{IsOfVolume}
 use Rattle.vx_volume_form.specs.Laws.{AreNumbered, good_disks}
-use Rattle.vx_left_images.specs.Keeping.{LiesStill}
-use Rattle.vx_running.specs.declared.public.Running.{Running}
+use Rattle.vx_volume_laws.specs.Keeping.{LiesStill}
+use Rattle.vx_lending.specs.declared.public.Running.{Running}
 use Rattle.vx_group_volumes.specs.Runs.{Opening, RunsIn}
 
 -- one of these disks has the slot

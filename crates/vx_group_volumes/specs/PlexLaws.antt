@@ -19,9 +19,9 @@ use Rattle.vx_group_images.specs.Owners.{IsDeviceOfVolume, device_at, devices_on
 use Rattle.vx_volume.specs.declared.volume.Volume.{Volume}
 use Rattle.vx_volume.specs.Log.{LogGoes}
 use Rattle.vx_volume.specs.Volume.{cell_at, log_of, volume_seen}
-use Rattle.vx_volume_lives.specs.Laws.{OwnersFit}
+use Rattle.vx_volume_laws.specs.RunLaws.{OwnersFit}
 use Rattle.vx_lending.specs.Left.{held_pieces}
-use Rattle.vx_running.specs.declared.public.Running.{Running}
+use Rattle.vx_lending.specs.declared.public.Running.{Running}
 use Rattle.vx_group_calls.specs.Causes.{FailuresAreCounted, LogPiecesRose}
 use Rattle.vx_group_volumes.specs.Places.{RunsInPlace, disks_at}
 use Rattle.vx_group_volumes.specs.Opened.{WereThere, opened_plexes}

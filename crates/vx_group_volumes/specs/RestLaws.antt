@@ -23,14 +23,14 @@ use Rattle.vx_volume.specs.declared.volume.Volume.{Volume as Code}
 use Rattle.vx_volume.specs.Log.{LogGoes}
 use Rattle.vx_volume.specs.Volume.{IsVolume, VolumeSeen, log_of, volume_seen}
 use Rattle.vx_lending.specs.Left.{held_pieces}
-use Rattle.vx_opened_images.specs.Contents.{AreSectorsOf}
+use Rattle.vx_volume_laws.specs.Contents.{AreSectorsOf}
 use Rattle.vx_group_images.specs.Tracks.{TrackOwner, volume_failed}
 use Rattle.vx_group_images.specs.Volumes.{StandsForVolume}
 use Rattle.vx_image.specs.Meaning.{ReadsOneList}
-use Rattle.vx_volume_lives.specs.Laws.{FailuresAreTold, OwnersFit}
-use Rattle.vx_volume_lives.specs.Leaving.{AreNamedIn}
-use Rattle.vx_volume_lives.specs.Running.{IsSureOfOthers, RunsAsVolume}
-use Rattle.vx_running.specs.declared.public.Running.{Running}
+use Rattle.vx_volume_laws.specs.RunLaws.{FailuresAreTold, OwnersFit}
+use Rattle.vx_volume_laws.specs.Leaving.{AreNamedIn}
+use Rattle.vx_volume_laws.specs.Running.{IsSureOfOthers, RunsAsVolume}
+use Rattle.vx_lending.specs.declared.public.Running.{Running}
 use Rattle.vx_group_calls.specs.Causes.{AreCutWhereDead}
 use Rattle.vx_group_calls.specs.Ending.{device_of}
 use Rattle.vx_group_stop.specs.Laws.{AreSettled}

@@ -8,9 +8,9 @@ use Rattle.vx_image.specs.Image.{IsFilled}
 use Rattle.vx_volume.specs.Volume.{IsVolume, shape_of, volume_seen}
 use Rattle.vx_image.specs.UsedPlexes.{IsVolOf}
 use Rattle.vx_volume_form.specs.Form.{IsFormOf}
-use Rattle.vx_running.specs.declared.public.Running.{Running}
-use Rattle.vx_left_images.specs.Keeping.{KeepsVolume}
-use Rattle.vx_left_images.specs.Lying.{LiesIn}
+use Rattle.vx_lending.specs.declared.public.Running.{Running}
+use Rattle.vx_volume_laws.specs.Keeping.{KeepsVolume}
+use Rattle.vx_volume_laws.specs.Lying.{LiesIn}
 use Rattle.vx_group_calls.specs.Causes.{AreCutWhereDead}
 
 -- what a volume was opened by: a configuration, the slots whose disks were good, and whether it had never been started

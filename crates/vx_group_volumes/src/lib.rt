@@ -5,17 +5,17 @@
 ghost use Rattle.vx_group_volumes.specs.CommitLaws.{EachCommitKeepsImages, EachCommitKeepsPublic};
 ghost use Rattle.vx_group_volumes.specs.Copies.{EachCopyMissesNothing, EachCopyStaysTight, EachCopyUnmarks, EachUnmarkedMissesNothing};
 ghost use Rattle.vx_group_volumes.specs.Laws.{CopiesGoOn, EachLeavingStandsFor, EachRecordedVolumeRuns, EachStartChangesStates, EachStopChangesStates, FreshStartForgets, FreshStartIsTight, FreshStartRuns, LoadedStartForgets, LoadedStartRuns, RestGoesOn, StartFits, StartRuns};
-ghost use Rattle.vx_group_volumes.specs.LogLaws.{EachDiskGoesByCopies, EachLogChangesOnly, EachLogCountsItsOwn, EachLogHasItsCopy, EachTakenCopyIsOwn, EachTakenDeviceIsOwn};
+ghost use Rattle.vx_group_volumes.specs.LogLaws.{EachDiskGoesByCopies, EachLogChangesOnly, EachLogCountsItsOwn, EachLogHasItsCopy, EachPassedLogHasFailed, EachTakenCopyIsOwn, EachTakenDeviceIsOwn};
 ghost use Rattle.vx_group_volumes.specs.PlexLaws.{DataFailuresAreOwn, EachCutDeviceIsOwn, EachDeviceIsNamed, EachFailedDeviceIsOwn, EachHeldDeviceIsOwn, EachOwnDeviceIsNamed, LogFailuresAreOwn, PlexesFit};
 ghost use Rattle.vx_group_volumes.specs.RestLaws.{EachRestHasReason, EachRestRunsOn, EachStoppedVolumeStands};
 ghost use Rattle.vx_group_volumes.specs.SectorLaws.{AnyCutChangesItsOwn, AnyOrderChangesItsOwn, EachCallChangesOnly, EachDiskGoesOn, EachKeptPieceIsOwn, EachPieceIsOwn, HeldChangeTheirOwn, PlacesGoOn, PlacesStay, RecordedRunsInPlace, RestatedKeepPlaces, StartRunsInPlace};
 
+use vx_lending::{Public, Running};
 use vx_piece::Piece;
-use vx_running::{Public, Running};
 use vx_state_edits::laws::each_change_restates;
 use vx_volume::Volume;
 use vx_volume_laws::each_empty_begins;
-use vx_volume_lives::laws::{
+use vx_volume_laws::lives::{
     each_left_volume_stands, each_opening_runs, each_pass_runs_on, each_running_forgets,
 };
 
@@ -168,6 +168,11 @@ pub fn each_taken_copy_is_own()
     ensures sectors { EachTakenCopyIsOwn }
     ensures devices { EachTakenDeviceIsOwn }
     ensures plexes { EachLogHasItsCopy }
+{}
+
+/// Where each copy of the log of a volume was passed over as it was to be loaded, each log plex that counts has failed.
+pub fn each_passed_log_has_failed()
+    ensures { EachPassedLogHasFailed }
 {}
 
 /// So what opening a volume does to the pieces of its group changes the devices of the world in the sectors of this volume alone, and

@@ -17,7 +17,7 @@ use Rattle.vx_fronts.specs.Parted.{IsWhole as IsWholeDisk}
 use Rattle.vx_fronts.specs.Rests.{is_of}
 use Rattle.vx_fronts.proofs.Parted.{parted_alone}
 use Rattle.vx_fronts.proofs.Sectors.{other_lacks}
-use Rattle.vx_running.specs.Public.{lent_pieces, still_pieces}
+use Rattle.vx_lending.specs.Public.{lent_pieces, still_pieces}
 use Rattle.vx_shelf.specs.Shelf.{Held, AreNumbered, held_as}
 use Rattle.vx_house.specs.Holders.{Holder, AreApart, IsTakenFrom, holder_in}
 use Rattle.vx_house.specs.View.{AreSized, IsGroupIdle, IsGroupParted, IsGroupWhole}

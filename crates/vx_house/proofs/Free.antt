@@ -15,7 +15,7 @@ use Rattle.vx_moments.specs.World.{World, Device, Volume, Member, Lies, OnDevice
 use Rattle.vx_moments.specs.Leaving.{lone}
 use Rattle.vx_moments.proofs.Lone.{lone_was, lone_stays}
 use Rattle.vx_moments.specs.Holding.{IsHeld, IsLent, IsMemberDevice, HasDevice, is_among}
-use Rattle.vx_plans.specs.Stages.{IsFree}
+use Rattle.vx_stages.specs.Stages.{IsFree}
 use Rattle.vx_house.specs.Holders.{Holder, holders, volume_holder, holder_in, hand_holder, group_holders, whole_members, hand_names, volume_at, held_as, AreHeld, IsTakenFrom}
 use Rattle.vx_house.specs.Scene.{Scene, seen_in, seen_at}
 use Rattle.vx_house.specs.View.{IsDeviceOf, IsVolumeOf, IsAtVolume, member_in, group_of, is_lent, KeepsHouse}

@@ -49,8 +49,8 @@ use Rattle.vx_volume_form.proofs.Places.{IsTaken, all_are, columns_lie, each_tak
 use Rattle.vx_volume_form.proofs.Rules.{one_plex}
 use Rattle.vx_volume_form.proofs.Zips.{zip_all}
 use Rattle.vx_layout.specs.declared.layout.Layout.{Layout}
-use Rattle.vx_running.specs.declared.public.Running.{Running}
-use Rattle.vx_running.specs.Public.{lent_pieces, remaining_pieces, running_at, running_pieces, still_pieces, stuck_pieces}
+use Rattle.vx_lending.specs.declared.public.Running.{Running}
+use Rattle.vx_lending.specs.Public.{lent_pieces, remaining_pieces, running_at, running_pieces, still_pieces, stuck_pieces}
 use Rattle.vx_group_volumes.specs.Places.{IsOwnSector, disks_at}
 use Rattle.vx_group_volumes.proofs.Held.{kept_sector, of_pieces}
 use Rattle.vx_house.specs.Idle.{EachIdleVolumeIsFree, HaveRoom, IsGathered}

@@ -19,7 +19,7 @@ use Rattle.vx_fronts.specs.Fronts.{Rest, Rests, whole_told, with_device, whole_d
 use Rattle.vx_fronts.specs.Laws.{whole_disks}
 use Rattle.vx_fronts.specs.Parted.{AreParted, AreSameWhole, IsSameDisk, fronts_of}
 use Rattle.vx_fronts.specs.Rests.{AllTell, IsTelling, rests_of, untold}
-use Rattle.vx_running.specs.Public.{lent_pieces, running_pieces, still_pieces}
+use Rattle.vx_lending.specs.Public.{lent_pieces, running_pieces, still_pieces}
 use Rattle.vx_house.specs.Holders.{disk_holder, group_holders, holder_in, whole_members}
 use Rattle.vx_moments.specs.World.{Member}
 use Rattle.vx_house.specs.View.{IsGroupIdle, IsGroupWhole, group_of, member_in, member_of}

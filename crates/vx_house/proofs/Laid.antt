@@ -15,7 +15,7 @@ use Rattle.vx_fronts.specs.Rests.{AllTell, bare, rests_of, untold}
 use Rattle.vx_fronts.proofs.Behind.{rests_counted, rests_stay}
 use Rattle.vx_fronts.proofs.Joined.{parts_once}
 use Rattle.vx_fronts.proofs.Parted.{parted_once, parted_stay}
-use Rattle.vx_running.specs.Public.{lent_pieces, still_pieces}
+use Rattle.vx_lending.specs.Public.{lent_pieces, still_pieces}
 use Rattle.vx_house.specs.Holders.{group_holders, holder_in}
 use Rattle.vx_house.specs.View.{IsGroupParted}
 use Rattle.vx_house.specs.declared.house.Imported.{Imported}

@@ -13,7 +13,7 @@ use Rattle.vx_plexes.proofs.Members.{IsIn}
 use Rattle.vx_group_edits.proofs.ByKind.{vol_recorded}
 use Rattle.vx_moments.specs.Holding.{has_volume}
 use Rattle.vx_moments.specs.World.{Group, Volume}
-use Rattle.vx_running.specs.declared.public.Running.{Running}
+use Rattle.vx_lending.specs.declared.public.Running.{Running}
 use Rattle.vx_house.specs.Runs.{IsAtRun}
 
 -- a volume is among these by its name

@@ -9,8 +9,8 @@ use Rattle.vx_confdb.specs.Groups.{members}
 use Rattle.vx_moments.specs.Leaving.{grouped, grouped_by, lone, lone_by}
 use Rattle.vx_moments.proofs.Lone.{lone_all}
 use Rattle.vx_moments.specs.World.{Volume, Group, World, Lies, OnDevice, OnPlexes}
-use Rattle.vx_running.specs.declared.public.Running.{Running}
-use Rattle.vx_running.specs.Public.{running_at}
+use Rattle.vx_lending.specs.declared.public.Running.{Running}
+use Rattle.vx_lending.specs.Public.{running_at}
 use Rattle.vx_house.specs.Runs.{AllInPlace, AreInPlace, AreRuns, IsAtRun, IsInPlace, fronts_in, run_in}
 use Rattle.vx_started.specs.declared.started.Started.{Started}
 use Rattle.vx_house.specs.Holders.{volume_at}

@@ -33,11 +33,11 @@ use Rattle.vx_layout.specs.declared.place.Place.{Place}
 use Rattle.vx_image.specs.Bytes.{Sectors, image_of}
 use Rattle.vx_image.specs.Own.{IsOfVolume, SameInside}
 use Rattle.vx_image.proofs.Own.{image_own}
-use Rattle.vx_opened_images.specs.Contents.{AreSectorsOf}
+use Rattle.vx_volume_laws.specs.Contents.{AreSectorsOf}
 use Rattle.vx_lending.specs.Left.{held_pieces}
-use Rattle.vx_running.specs.declared.public.Running.{Running}
-use Rattle.vx_running.specs.Public.{lent_pieces, running_pieces, still_pieces, stuck_pieces}
-use Rattle.vx_volume_lives.specs.Leaving.{EachLeavingStands}
+use Rattle.vx_lending.specs.declared.public.Running.{Running}
+use Rattle.vx_lending.specs.Public.{lent_pieces, running_pieces, still_pieces, stuck_pieces}
+use Rattle.vx_volume_laws.specs.Leaving.{EachLeavingStands}
 use Rattle.vx_group_images.specs.Group.{image_on, public_of, sectors_of}
 use Rattle.vx_group_images.specs.Lives.{GroupStands, StandForEach, StandsFor}
 use Rattle.vx_group_images.specs.Volumes.{StandsForVolume}

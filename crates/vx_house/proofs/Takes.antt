@@ -15,10 +15,10 @@ use Rattle.vx_answers.specs.declared.refusal.Refusal.{Refusal}
 use Rattle.vx_answers.specs.declared.refusal.Refusal.TheVariants as refusal
 use Rattle.vx_moments.specs.Moment.{Moment, AreLater, Rests, CallsNone}
 use Rattle.vx_moments.specs.World.{World}
-use Rattle.vx_plans.specs.Records.{devices_of}
-use Rattle.vx_plans.specs.Ends.{EndsIn, fault_of, refused}
-use Rattle.vx_plans.specs.Stages.{IsFree, AreFree, IsAway, ShelfFailsAt, TakingStops, IsDone, Stops, Wants}
-use Rattle.vx_plans.specs.declared.stage.Stage.TheVariants as stage
+use Rattle.vx_stages.specs.Records.{devices_of}
+use Rattle.vx_stages.specs.Ends.{EndsIn, fault_of, refused}
+use Rattle.vx_stages.specs.Stages.{IsFree, AreFree, IsAway, ShelfFailsAt, TakingStops, IsDone, Stops, Wants}
+use Rattle.vx_stages.specs.declared.stage.Stage.TheVariants as stage
 use Rattle.vx_house.specs.Goes.{Goes, StageGoes}
 use Rattle.vx_house.specs.Holders.{Holder, volume_holder, group_holders, hand_holder, holders, held_as, hand_names, AreHeld}
 use Rattle.vx_house.specs.Scene.{Shelved, Scene, seen_in, seen_at, faults_in, faults_at, count_in, counts_of, FaultsGoOn, IsBlamed}

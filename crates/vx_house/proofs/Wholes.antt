@@ -11,7 +11,7 @@ use Rattle.vx_confdb.specs.Groups.{members}
 use Rattle.vx_fronts.specs.Fronts.{Rest, Rests, with_device, whole_disk}
 use Rattle.vx_fronts.specs.Laws.{whole_disks}
 use Rattle.vx_fronts.specs.Rests.{rests_of}
-use Rattle.vx_running.specs.Public.{lent_pieces, remaining_pieces, running_pieces, still_pieces, stuck_pieces}
+use Rattle.vx_lending.specs.Public.{lent_pieces, remaining_pieces, running_pieces, still_pieces, stuck_pieces}
 use Rattle.vx_moments.specs.World.{Member}
 use Rattle.vx_house.specs.Holders.{disk_holder, group_holders, group_rests, holder_in, whole_members}
 use Rattle.vx_house.specs.View.{IsGroupIdle, member_in, member_of}

@@ -8,13 +8,13 @@ use Rattle.vx_script_words.specs.declared.value.DiskAt.{DiskAt}
 use Rattle.vx_answers.specs.declared.answer.End.{End}
 use Rattle.vx_answers.specs.declared.answer.End.TheVariants as ends
 use Rattle.vx_moments.specs.Moment.{Moment, AreLater}
-use Rattle.vx_plans.specs.Records.{devices_of}
-use Rattle.vx_plans.specs.Stages.{IsDone, Stops, Wants}
-use Rattle.vx_plans.specs.Tests.{fails}
-use Rattle.vx_plans.specs.declared.stage.Change.TheVariants as changes
-use Rattle.vx_plans.specs.declared.stage.Stage.{Stage}
-use Rattle.vx_plans.specs.declared.stage.Stage.TheVariants as stage
-use Rattle.vx_plans.specs.declared.test.Test.TheVariants as tests
+use Rattle.vx_stages.specs.Records.{devices_of}
+use Rattle.vx_stages.specs.Stages.{IsDone, Stops, Wants}
+use Rattle.vx_stages.specs.Tests.{fails}
+use Rattle.vx_stages.specs.declared.stage.Change.TheVariants as changes
+use Rattle.vx_stages.specs.declared.stage.Stage.{Stage}
+use Rattle.vx_stages.specs.declared.stage.Stage.TheVariants as stage
+use Rattle.vx_stages.specs.declared.test.Test.TheVariants as tests
 use Rattle.vx_house.specs.Holders.{hand_names}
 use Rattle.vx_house.specs.Plain.{plain}
 use Rattle.vx_house.specs.Scene.{FaultsGoOn, IsBlamed}
@@ -103,7 +103,7 @@ wanted stage.Join = stage.TakeDisks ∷ stage.LookDisks ∷ stage.Gate tests.Joi
 wanted (stage.Create dg) = stage.TakeDisks ∷ stage.LookDisks ∷ stage.Gate (tests.GroupLimits dg) ∷ stage.Gate (tests.GroupRecords dg) ∷ []
 wanted (stage.Import dg) = []
 wanted stage.LetGo = stage.Gate tests.NoneStarted ∷ []
-wanted (stage.Start vol) = []
+wanted (stage.Start vol) = stage.Gate (tests.Stopped vol) ∷ []
 wanted (stage.Stop vol) = []
 
 -- the stage takes devices into an empty hand

@@ -15,7 +15,7 @@ use Rattle.vx_confdb.specs.Groups.{members}
 use Rattle.vx_fronts.specs.Fronts.{Rests}
 use Rattle.vx_fronts.specs.Laws.{whole_disks}
 use Rattle.vx_fronts.specs.Rests.{rests_of}
-use Rattle.vx_running.specs.Public.{lent_pieces, still_pieces}
+use Rattle.vx_lending.specs.Public.{lent_pieces, still_pieces}
 use Rattle.vx_started.specs.declared.started.Started.{Started}
 use Rattle.vx_house.specs.declared.house.House.{House}
 use Rattle.vx_house.specs.declared.house.Imported.{Imported}

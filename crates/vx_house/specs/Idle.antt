@@ -11,7 +11,7 @@ use Rattle.vx_fronts.specs.Parted.{IsCutShort}
 use Rattle.vx_volume_form.specs.Form.{IsFormOf}
 use Rattle.vx_volume_form.specs.Laws.{AreFree, all_layouts, good_disks}
 use Rattle.vx_volume_form.specs.declared.form.VolumeForm.{VolumeForm}
-use Rattle.vx_running.specs.Public.{running_at}
+use Rattle.vx_lending.specs.Public.{running_at}
 use Rattle.vx_house.specs.Runs.{IsOnDisk}
 use Rattle.vx_house.specs.View.{IsGroupKept}
 use Rattle.vx_house.specs.declared.house.Imported.{Imported}

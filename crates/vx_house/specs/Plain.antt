@@ -4,8 +4,8 @@ use Rattle.vx_pages.specs.declared.local_piece.LocalPiece.{Ghosts}
 use Rattle.vx_piece.specs.Seen.{Seen}
 use Rattle.vx_started.specs.declared.started.Started.{Started}
 use Rattle.vx_moments.specs.World.{World, Device, Volume}
-use Rattle.vx_plans.specs.Stages.{bare_volume}
-use Rattle.vx_running.specs.declared.public.Running.{Running}
+use Rattle.vx_stages.specs.Stages.{bare_volume}
+use Rattle.vx_lending.specs.declared.public.Running.{Running}
 use Rattle.vx_house.specs.Holders.{hand_holder, held_as, volume_at}
 use Rattle.vx_house.specs.Runs.{run_in}
 use Rattle.vx_house.specs.View.{group_of}

@@ -17,10 +17,10 @@ use Rattle.vx_group_images.specs.Owners.{device_at}
 use Rattle.vx_moments.specs.Leaving.{grouped}
 use Rattle.vx_moments.specs.World.{Member, Volume, Group, OnPlexes}
 use Rattle.vx_volume.specs.Volume.{volume_seen}
-use Rattle.vx_volume_lives.specs.Leaving.{AreNamedIn}
-use Rattle.vx_volume_lives.specs.Running.{IsSureOfOthers, RunsAsVolume}
-use Rattle.vx_running.specs.declared.public.Running.{Running}
-use Rattle.vx_running.specs.Public.{running_at}
+use Rattle.vx_volume_laws.specs.Leaving.{AreNamedIn}
+use Rattle.vx_volume_laws.specs.Running.{IsSureOfOthers, RunsAsVolume}
+use Rattle.vx_lending.specs.declared.public.Running.{Running}
+use Rattle.vx_lending.specs.Public.{running_at}
 use Rattle.vx_carve.specs.Carved.{HaveNumbers}
 use Rattle.vx_group_volumes.specs.Places.{IsSlotOf, RunsInPlace, disks_at}
 use Rattle.vx_group_volumes.specs.Opened.{opened_plexes}

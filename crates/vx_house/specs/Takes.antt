@@ -6,8 +6,8 @@ use Rattle.vx_piece.specs.Seen.{Seen}
 use Rattle.vx_answers.specs.declared.answer.End.{End}
 use Rattle.vx_answers.specs.declared.refusal.Refusal.{Refusal}
 use Rattle.vx_moments.specs.Moment.{Moment}
-use Rattle.vx_plans.specs.Ends.{EndsIn}
-use Rattle.vx_plans.specs.Stages.{AreFree, IsAway, ShelfFailsAt}
+use Rattle.vx_stages.specs.Ends.{EndsIn}
+use Rattle.vx_stages.specs.Stages.{AreFree, IsAway, ShelfFailsAt}
 use Rattle.vx_house.specs.Goes.{Goes}
 use Rattle.vx_house.specs.Holders.{hand_names}
 use Rattle.vx_house.specs.Scene.{FaultsGoOn, IsBlamed}

@@ -15,7 +15,7 @@ use Rattle.vx_confdb.specs.Groups.{members, CarriesText}
 use Rattle.vx_confdb.specs.Texts.{text_of}
 use Rattle.vx_objects.specs.declared.config.Config.{Config}
 use Rattle.vx_fronts.specs.Parted.{AreParted}
-use Rattle.vx_running.specs.Public.{lent_pieces, still_pieces}
+use Rattle.vx_lending.specs.Public.{lent_pieces, still_pieces}
 use Rattle.vx_group_start.specs.Laying.{AreRunningVolumes, AreStuckVolumes}
 use Rattle.vx_started.specs.Stands.{IsSized, StandsFor}
 use Rattle.vx_started.specs.declared.started.Started.{Started}

@@ -3,11 +3,11 @@ ghost use Rattle.std.specs.Prelude.{◌≡◌, [], None};
 use std::alloc::Global;
 use std::collections::BTreeMap;
 use vx_confdb::Group;
+use vx_lending::Public;
 use vx_names::Name;
 use vx_objects::Config;
 use vx_pages::LocalPiece;
 use vx_piece::Piece;
-use vx_running::Public;
 use vx_started::Started;
 
 /// A device that the command has taken.
@@ -27,7 +27,7 @@ pub struct Imported<P: LocalPiece> {
 }
 
 impl<P: Piece + Drop> Imported<P> {
-    ghost use Rattle.vx_running.specs.Public.{lent_pieces, still_pieces};
+    ghost use Rattle.vx_lending.specs.Public.{lent_pieces, still_pieces};
     ghost use Rattle.vx_house.specs.View.{IsGroupIdle};
 
     /// The group, of which no disk is parted.

@@ -6,7 +6,7 @@ ghost use Rattle.vx_house.specs.View.{at};
 
 use crate::House;
 use vx_piece::Piece;
-use vx_volume_lives::laws::each_left_volume_stands;
+use vx_volume_laws::lives::each_left_volume_stands;
 
 /// While no call is under way the bytes of the group's devices stand for the volumes that run: a law, as a function that does
 /// nothing and promises it.

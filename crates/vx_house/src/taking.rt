@@ -1,6 +1,6 @@
 //! Devices that are taken from the shelf into the hand.
 ghost use Rattle.std.specs.Prelude.{[], List};
-ghost use Rattle.vx_plans.specs.declared.stage.Stage.TheVariants as stages;
+ghost use Rattle.vx_stages.specs.declared.stage.Stage.TheVariants as stages;
 ghost use Rattle.vx_script_words.specs.declared.value.DiskAt.{DiskAt};
 ghost use Rattle.vx_house.specs.Goes.{IsReady, StageGoes};
 ghost use Rattle.vx_house.specs.Scene.{shelved};

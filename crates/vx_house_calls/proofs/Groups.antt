@@ -21,8 +21,8 @@ use Rattle.vx_fronts.specs.Parted.{AreParted, IsOfSome}
 use Rattle.vx_fronts.specs.Rests.{AllTell, is_of, rests_of}
 use Rattle.vx_fronts.proofs.Parted.{all_parts}
 use Rattle.vx_lending.specs.Left.{held_pieces}
-use Rattle.vx_running.specs.declared.public.Running.{Running}
-use Rattle.vx_running.specs.Public.{lent_pieces, running_pieces, still_pieces, stuck_pieces}
+use Rattle.vx_lending.specs.declared.public.Running.{Running}
+use Rattle.vx_lending.specs.Public.{lent_pieces, running_pieces, still_pieces, stuck_pieces}
 use Rattle.vx_group_start.specs.Laying.{AreRunningVolumes}
 use Rattle.vx_volume.specs.Volume.{IsVolume, volume_seen}
 use Rattle.vx_group_volumes.specs.Disks.{DiskGoesOn}

@@ -23,7 +23,7 @@ use Rattle.vx_fronts.specs.Parted.{IsOfSome}
 use Rattle.vx_fronts.specs.Rests.{is_of}
 use Rattle.vx_fronts.proofs.Sectors.{same_number, self}
 use Rattle.vx_lending.specs.Left.{held_pieces}
-use Rattle.vx_running.specs.declared.public.Running.{Running}
+use Rattle.vx_lending.specs.declared.public.Running.{Running}
 use Rattle.vx_house.specs.Holders.{Holder, holders, volume_holder, group_holders, group_rests, hand_holder, held_as, holder_in, whole_members, AreApart, IsTakenFrom}
 use Rattle.vx_house.specs.Scene.{Shelved, Scene, faults_at, faults_in, FaultsGoOn, HasFailed}
 use Rattle.vx_house.specs.View.{at, scene, IsGroupKept, Keeps}

@@ -26,11 +26,11 @@ use Rattle.vx_moments.specs.Moment.{HasFailed as FailsAt}
 use Rattle.vx_moments.specs.World.{World, Device, Group, Lies, OnDevice, OnPlexes, Volume}
 use Rattle.vx_group_images.specs.Group.{ChangesOnly, IsSectorOf}
 use Rattle.vx_group_images.specs.Owners.{IsDeviceOfVolume, device_at}
-use Rattle.vx_plans.specs.GroupCalls.{CallsOnly, PlexHasFailed}
+use Rattle.vx_stages.specs.GroupCalls.{CallsOnly, PlexHasFailed}
 use Rattle.vx_volume.specs.Volume.{volume_seen}
-use Rattle.vx_volume_lives.specs.Running.{IsSureOfOthers, RunsAsVolume}
-use Rattle.vx_running.specs.declared.public.Running.{Running}
-use Rattle.vx_running.specs.Public.{running_at}
+use Rattle.vx_volume_laws.specs.Running.{IsSureOfOthers, RunsAsVolume}
+use Rattle.vx_lending.specs.declared.public.Running.{Running}
+use Rattle.vx_lending.specs.Public.{running_at}
 use Rattle.vx_group_volumes.specs.Places.{IsSlotOf, disks_at}
 use Rattle.vx_house.specs.Holders.{group_holders, hand_holder, held_as, holder_in, holders, volume_at, volume_holder, whole_members, IsTakenFrom}
 use Rattle.vx_house.specs.Runs.{IsAtRun, IsRunOf, fronts_in, run_in}

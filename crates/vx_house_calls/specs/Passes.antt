@@ -24,15 +24,15 @@ use Rattle.vx_moments.specs.World.{Group, Volume}
 use Rattle.vx_group_images.specs.Group.{ChangesOnly}
 use Rattle.vx_group_images.specs.Owners.{IsDeviceOfVolume, device_at}
 use Rattle.vx_volume.specs.Volume.{IsVolume, shape_of, volume_seen}
-use Rattle.vx_volume_lives.specs.Running.{IsSureOfOthers, RunsAsVolume}
+use Rattle.vx_volume_laws.specs.Running.{IsSureOfOthers, RunsAsVolume}
 use Rattle.vx_lending.specs.Left.{held_pieces}
-use Rattle.vx_left_images.specs.Lying.{LiesIn}
-use Rattle.vx_running.specs.declared.public.Running.{Running}
-use Rattle.vx_running.specs.Public.{running_at}
+use Rattle.vx_volume_laws.specs.Lying.{LiesIn}
+use Rattle.vx_lending.specs.declared.public.Running.{Running}
+use Rattle.vx_lending.specs.Public.{running_at}
 use Rattle.vx_group_calls.specs.Causes.{AreCutWhereDead}
 use Rattle.vx_group_volumes.specs.Disks.{AreCalled}
 use Rattle.vx_group_volumes.specs.Places.{IsSlotOf, disks_at}
-use Rattle.vx_plans.specs.GroupCalls.{CallsOnly, PlexHasFailed}
+use Rattle.vx_stages.specs.GroupCalls.{CallsOnly, PlexHasFailed}
 use Rattle.vx_house.specs.Runs.{IsRunOf}
 use Rattle.vx_house.specs.Scene.{Scene, Shelved, HasFailed, FaultsGoOn, counts_of}
 use Rattle.vx_house.specs.View.{View, Keeps, IsGroupWhole, IsMoment, at, member_in, scene}

@@ -20,7 +20,7 @@ use Rattle.vx_moments.specs.Holding.{IsLent, IsHeld}
 use Rattle.vx_moments.specs.Leaving.{group_gone}
 use Rattle.vx_moments.specs.Copies.{label_of, IsCurrent}
 use Rattle.vx_moments.specs.Commit.{Writing, parties, is_written_slot, DeviceGoes, MemberGoes, JoinerGoes, IsNoDeviceOf, NoneFailed, IsCarrying, IsHeaded, IsCommitted}
-use Rattle.vx_plans.specs.Finding.{Candidate, IsCandidate, is_recorded}
+use Rattle.vx_stages.specs.Finding.{Candidate, IsCandidate, is_recorded}
 use Rattle.vx_laws.specs.Returning.{SlotsRise, HasJustDisks, HasSamePublic, IsKeptOn, IsDeviceOf, nobody, IsOutdated, IsLeftOn, IsLeftBehind}
 use Rattle.vx_laws.proofs.ListFacts.{either, both_ways, all_all, all_pass, all_append, all_front, all_behind}
 use Rattle.vx_moments.proofs.Lone.{lent_was}

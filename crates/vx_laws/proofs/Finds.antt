@@ -25,7 +25,7 @@ use Rattle.vx_objects.specs.Printed.{record_of, IsReadOf}
 use Rattle.vx_answers.specs.declared.refusal.Refusal.{Refusal}
 use Rattle.vx_moments.specs.World.{World, Device, Member, Group}
 use Rattle.vx_moments.specs.Copies.{label_of, IsCurrent}
-use Rattle.vx_plans.specs.Finding.{Candidate, IsCandidate, AreRising, AreCounted, IsUpTo, offers_of, is_damaged, is_damaged_one, first_that, missing_from, is_recorded, good_ones, member_of, members_of, IsBrokenBy, FindsConfig, FindsText, FindsAll, FindsOffer, Finds}
+use Rattle.vx_stages.specs.Finding.{Candidate, IsCandidate, AreRising, AreCounted, IsUpTo, offers_of, is_damaged, is_damaged_one, first_that, missing_from, is_recorded, good_ones, member_of, members_of, IsBrokenBy, FindsConfig, FindsText, FindsAll, FindsOffer, Finds}
 use Rattle.vx_laws.specs.Returning.{SlotsRise, HasJustDisks, IsKeptOn, nobody, IsDeviceOf, IsOutdated, IsLeftBehind, good_members}
 use Rattle.vx_laws.proofs.ListFacts.{at_found, at_test, clash, either, both_ways, is_equal, not_past, and_second, and_unless, guarded, any_gives, any_with, any_map, any_all, all_map, all_all, all_filter, all_filtered, list_any_from, first_none, any_filter, all_mapped, any_mapped}
 use Rattle.vx_laws.proofs.Orderless.{is_plain, all_permuted}

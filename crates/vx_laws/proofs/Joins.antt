@@ -22,11 +22,11 @@ use Rattle.vx_moments.specs.Moment.{Moment}
 use Rattle.vx_moments.specs.Holding.{IsLent, IsMemberDevice, is_among}
 use Rattle.vx_moments.specs.Leaving.{group_gone}
 use Rattle.vx_moments.specs.Commit.{Writing, parties, is_written_slot, is_slot_of, IsNoDeviceOf, IsCommitted}
-use Rattle.vx_plans.specs.Finding.{Candidate, IsCandidate}
+use Rattle.vx_stages.specs.Finding.{Candidate, IsCandidate}
 use Rattle.vx_plans.specs.Plans.{plan_of, plan_init, plan_add}
-use Rattle.vx_plans.specs.Records.{devices_of, names_of, sectors_in, sectors_at, are_disk_sized, disk_record, member_at, next_slot, disk_records, new_members, slot_in}
-use Rattle.vx_plans.specs.Stages.{IsFree, AreFree, NamesGroup, IsCreating, IsJoining}
-use Rattle.vx_plans.specs.Tests.{fails, limit_passed}
+use Rattle.vx_stages.specs.Records.{devices_of, names_of, sectors_in, sectors_at, are_disk_sized, disk_record, member_at, next_slot, disk_records, new_members, slot_in}
+use Rattle.vx_stages.specs.Stages.{IsFree, AreFree, NamesGroup, IsCreating, IsJoining}
+use Rattle.vx_stages.specs.Tests.{fails, limit_passed}
 use Rattle.vx_plans.specs.Laws.{WentWell}
 use Rattle.vx_laws.specs.Returning.{SlotsRise, nobody, IsWhole, EachMadeGroupIsWhole, HasJustDisks, IsKeptOn, EachJoinedGroupIsWhole, IsLeftOn, IsDeviceOf}
 use Rattle.vx_laws.proofs.ListFacts.{either, is_equal, equal_is, or_first, or_second, or_neither, all_map, all_all, any_map, any_from_list, all_append, any_front, any_behind, all_pass, both_ways}

@@ -4,7 +4,7 @@ use Rattle.std.specs.Prelude.{MatchBool, MatchOption}
 use Rattle.std.specs.List.{list_any, filter}
 use Rattle.std.proofs.lemmas.Bool.Decides.{nat_tests}
 use Rattle.vx_copies.specs.Lists.{AllOf, AnyOf}
-use Rattle.vx_plans.specs.Finding.{first_that}
+use Rattle.vx_stages.specs.Finding.{first_that}
 
 -- ---- tests
 

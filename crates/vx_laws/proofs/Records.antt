@@ -15,7 +15,7 @@ use Rattle.vx_objects.specs.declared.config.Config.{Config}
 use Rattle.vx_objects.specs.Config.{objects_of}
 use Rattle.vx_objects.specs.Parts.{as_disk, as_subdisk, as_plex, as_vol, as_dco, as_snap}
 use Rattle.vx_objects.proofs.InKinds.{disks_below, subdisks_below, plexes_below, volumes_below, dcos_below, snaps_below}
-use Rattle.vx_plans.specs.Finding.{is_recorded}
+use Rattle.vx_stages.specs.Finding.{is_recorded}
 use Rattle.vx_laws.specs.Returning.{HasJustDisks}
 use Rattle.vx_laws.proofs.Orderless.{is_plain}
 

@@ -22,16 +22,16 @@ use Rattle.vx_moments.specs.Holding.{IsMemberDevice, is_among}
 use Rattle.vx_moments.specs.Leaving.{group_gone}
 use Rattle.vx_moments.specs.Copies.{IsTextOf}
 use Rattle.vx_moments.specs.Commit.{Writing, parties, is_written_slot, is_slot_of, DeviceGoes, NoneFailed, IsCommitted}
-use Rattle.vx_plans.specs.Finding.{Candidate, IsCandidate, AreCounted, Found, Finds, group_found, import_records}
+use Rattle.vx_stages.specs.Finding.{Candidate, IsCandidate, AreCounted, Found, Finds, group_found, import_records}
 use Rattle.vx_plans.specs.Plans.{plan_of, plan_deport}
-use Rattle.vx_plans.specs.Records.{next_slot}
-use Rattle.vx_plans.specs.Refusals.{refusal_from}
-use Rattle.vx_plans.specs.Ends.{RefusedAsLong}
-use Rattle.vx_plans.specs.Stages.{Stops, IsBetween, IsImporting, ImportRefused}
+use Rattle.vx_stages.specs.Records.{next_slot}
+use Rattle.vx_stages.specs.Refusals.{refusal_from}
+use Rattle.vx_stages.specs.Ends.{RefusedAsLong}
+use Rattle.vx_stages.specs.Stages.{Stops, IsBetween, IsImporting, ImportRefused}
 use Rattle.vx_plans.specs.Steps.{Runs, Serves}
 use Rattle.vx_plans.specs.Laws.{WentWell}
-use Rattle.vx_plans.specs.declared.stages.Finish.TheVariants.{Nothing}
-use Rattle.vx_plans.specs.declared.stage.Stage.TheVariants.{Import}
+use Rattle.vx_stages.specs.declared.stages.Finish.TheVariants.{Nothing}
+use Rattle.vx_stages.specs.declared.stage.Stage.TheVariants.{Import}
 use Rattle.vx_plans.proofs.Calm.{calm, shelf_calm, powered, none_of, nowhere, well_after}
 use Rattle.vx_laws.specs.Returning.{HasSamePublic, IsKeptOn, nobody, IsOutdated, IsLeftBehind, IsFull, IsReturned, is_done, good_members, EachGroupReturns, IsWhole, EachWholeGroupComesBack, IsDeviceOf}
 use Rattle.vx_laws.proofs.ListFacts.{clash, either, both_ways, alike, any_with, all_map, all_filtered, all_append, all_pass, all_any}
@@ -43,8 +43,8 @@ use Rattle.vx_laws.proofs.Finds.{current_short, members_back, in_text, same_obje
 use Rattle.vx_laws.proofs.Commits.{same_candidate, HasItsHeader, IsRecorded, CanBeWritten, can_be, kept_as, group_now, all_good, one_more, public_kept, each_other, left_behind}
 use Rattle.vx_config_parts.specs.declared.vol.Vol.{Vol}
 use Rattle.vx_answers.specs.declared.refusal.Refusal.TheVariants.{NoGroup}
-use Rattle.vx_plans.specs.Tests.{fails, unless, is_here, in_use_by, started_of, first_started}
-use Rattle.vx_plans.specs.declared.test.Test.TheVariants as tests
+use Rattle.vx_stages.specs.Tests.{fails, unless, is_here, in_use_by, started_of, first_started}
+use Rattle.vx_stages.specs.declared.test.Test.TheVariants as tests
 use Rattle.vx_moments.proofs.Lone.{lent_still}
 
 -- ---- all devices are found

@@ -14,22 +14,22 @@ use Rattle.vx_answers.specs.declared.refusal.Refusal.{Refusal}
 use Rattle.vx_moments.specs.Moment.{Moment, Counts, AreLater, IsQuiet}
 use Rattle.vx_moments.specs.Commit.{Writing, NoneFailed, IsStopped}
 use Rattle.vx_plans.specs.Laws.{WentWell}
-use Rattle.vx_plans.specs.Records.{devices_of}
-use Rattle.vx_plans.specs.Ends.{EndsIn, IsChange, fault_of, lost}
-use Rattle.vx_plans.specs.Stages.{IsDone, Stops, DeviceEnds, edits_of, IsJoining, joining_edit, TakingStops, LookingStops, EditsStop}
+use Rattle.vx_stages.specs.Records.{devices_of}
+use Rattle.vx_stages.specs.Ends.{EndsIn, IsChange, fault_of, lost}
+use Rattle.vx_stages.specs.Stages.{IsDone, Stops, DeviceEnds, edits_of, IsJoining, joining_edit, TakingStops, LookingStops, EditsStop}
 use Rattle.vx_objects.specs.declared.edit.Edit.{Edit}
 use Rattle.vx_answers.specs.declared.refusal.Refusal.TheVariants as refusal
 use Rattle.vx_moments.specs.World.{World, Group}
 use Rattle.vx_config_parts.specs.declared.vol.Vol.{Vol}
-use Rattle.vx_plans.specs.Starting.{CopyEnds, StopsIn, StopsOf, may_start, regions_copied}
-use Rattle.vx_plans.specs.Stopping.{StopStops}
-use Rattle.vx_plans.specs.Tests.{volume_in}
-use Rattle.vx_plans.specs.Touching.{PassHasCause}
+use Rattle.vx_stages.specs.Starting.{CopyEnds, StopsIn, StopsOf, may_start, regions_copied}
+use Rattle.vx_stages.specs.Stopping.{StopStops}
+use Rattle.vx_stages.specs.Tests.{volume_in}
+use Rattle.vx_stages.specs.Touching.{PassHasCause}
 use Rattle.vx_plans.specs.Steps.{Runs, Serves, Step, Leaves, DoesForm, IsNotBuilt, done}
-use Rattle.vx_plans.specs.declared.stages.Finish.{Finish}
-use Rattle.vx_plans.specs.declared.stages.Finish.TheVariants.{Nothing}
-use Rattle.vx_plans.specs.declared.stage.Stage.{Stage}
-use Rattle.vx_plans.specs.declared.stage.Stage.TheVariants as stage
+use Rattle.vx_stages.specs.declared.stages.Finish.{Finish}
+use Rattle.vx_stages.specs.declared.stages.Finish.TheVariants.{Nothing}
+use Rattle.vx_stages.specs.declared.stage.Stage.{Stage}
+use Rattle.vx_stages.specs.declared.stage.Stage.TheVariants as stage
 use Rattle.vx_plans.proofs.Calm.{calm, well_after}
 use Rattle.vx_plans.proofs.Complete.{runs_later}
 use Rattle.vx_laws.specs.Returning.{IsOf, is_done}

@@ -30,8 +30,8 @@ use Rattle.vx_objects.proofs.Numbers.{have_records, valid_none}
 use Rattle.vx_objects.proofs.OneSaid.{one_list}
 use Rattle.vx_print.specs.Shown.{IsPrinted, by_kind, is_shown}
 use Rattle.vx_answers.specs.declared.refusal.Refusal.{Refusal}
-use Rattle.vx_plans.specs.Finding.{IsBrokenBy, needs_sync, import_records}
-use Rattle.vx_plans.specs.Refusals.{refusal_from}
+use Rattle.vx_stages.specs.Finding.{IsBrokenBy, needs_sync, import_records}
+use Rattle.vx_stages.specs.Refusals.{refusal_from}
 use Rattle.vx_laws.specs.Returning.{HasJustDisks}
 use Rattle.vx_laws.proofs.Orderless.{is_plain, all_permuted, still_valid}
 

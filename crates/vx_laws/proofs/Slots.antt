@@ -8,7 +8,7 @@ use Rattle.std.proofs.lemmas.List.Sorted.{list_any-IsPermutation}
 use Rattle.vx_config_parts.specs.Objects.{is_disk}
 use Rattle.vx_objects.specs.declared.config.Config.{Config}
 use Rattle.vx_objects.specs.Config.{objects_of}
-use Rattle.vx_plans.specs.Records.{free_slot_from, slot_or_last, next_slot}
+use Rattle.vx_stages.specs.Records.{free_slot_from, slot_or_last, next_slot}
 use Rattle.vx_laws.proofs.ListFacts.{both_ways}
 use Rattle.vx_laws.proofs.Records.{disks_pass}
 

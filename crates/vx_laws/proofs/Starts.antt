@@ -18,10 +18,10 @@ use Rattle.vx_group_images.specs.Group.{image_on}
 use Rattle.vx_group_images.specs.Lives.{volume_by, volume_copied}
 use Rattle.vx_group_images.specs.Owners.{owners_of}
 use Rattle.vx_group_images.specs.Tracks.{volume_failed}
-use Rattle.vx_plans.specs.Ends.{EndsIn}
-use Rattle.vx_plans.specs.Starting.{BecomesBy, CopiesTo, IsCopied, IsStartedBy, StartStops, StopsIn, StopsOf, is_copied, may_start, plexes_started, volume_started}
-use Rattle.vx_plans.specs.Stopping.{ComesToRest, IsStopDone, StopStops, rested_volume, without_volume}
-use Rattle.vx_plans.specs.Tests.{volume_in}
+use Rattle.vx_stages.specs.Ends.{EndsIn}
+use Rattle.vx_stages.specs.Starting.{BecomesBy, CopiesTo, IsCopied, IsStartedBy, StartStops, StopsIn, StopsOf, is_copied, may_start, plexes_started, volume_started}
+use Rattle.vx_stages.specs.Stopping.{ComesToRest, IsStopDone, StopStops, rested_volume, without_volume}
+use Rattle.vx_stages.specs.Tests.{volume_in}
 use Rattle.vx_laws.specs.Histories.{HasHistory, HaveHistories, IsHistoried, IsHistoriedOn}
 use Rattle.vx_laws.proofs.Lives.{Holding, Reading, begun_history, carried, put_history, same_volumes, taken_history}
 use Rattle.vx_laws.proofs.Runs.{volumes_of}

@@ -4,7 +4,7 @@ use Rattle.vx_base.specs.Named.{Word}
 use Rattle.vx_moments.specs.World.{World, Member, Group}
 use Rattle.vx_moments.specs.Holding.{IsLent, IsHeld, IsMemberDevice}
 use Rattle.vx_moments.specs.Leaving.{group_gone, PowerGoes}
-use Rattle.vx_plans.specs.Finding.{Candidate, IsCandidate}
+use Rattle.vx_stages.specs.Finding.{Candidate, IsCandidate}
 use Rattle.vx_laws.specs.Returning.{IsKeptOn, nobody, good_members, IsLeftBehind, IsFull, EachGroupOutlivesPower}
 use Rattle.vx_laws.proofs.ListFacts.{clash, all_map}
 use Rattle.vx_laws.proofs.Commits.{just_lent, same_candidate}

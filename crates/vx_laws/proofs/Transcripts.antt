@@ -13,12 +13,12 @@ use Rattle.vx_group_images.specs.Owners.{owners_of}
 use Rattle.vx_group_images.specs.Tracks.{volume_failed}
 use Rattle.vx_group_images.proofs.Tracked.{goes_length, goes_lies}
 use Rattle.vx_moments.specs.Moment.{Moment, Rests}
-use Rattle.vx_plans.specs.Calls.{volume_of, start_of, count_of}
-use Rattle.vx_plans.specs.GroupCalls.{BecomesBy, IsServedOnPlexes, comes_next, is_known}
+use Rattle.vx_stages.specs.Calls.{volume_of, start_of, count_of}
+use Rattle.vx_stages.specs.GroupCalls.{BecomesBy, IsServedOnPlexes, comes_next, is_known}
 use Rattle.vx_plans.specs.Serving.{CallRuns, ServesOn}
-use Rattle.vx_plans.specs.Stages.{IsDone, Stops, bare_volume}
-use Rattle.vx_plans.specs.declared.stage.Stage.{Stage}
-use Rattle.vx_plans.specs.declared.stage.Stage.TheVariants as stage
+use Rattle.vx_stages.specs.Stages.{IsDone, Stops, bare_volume}
+use Rattle.vx_stages.specs.declared.stage.Stage.{Stage}
+use Rattle.vx_stages.specs.declared.stage.Stage.TheVariants as stage
 use Rattle.vx_plans.proofs.Complete.{kept_world, keeps_world}
 use Rattle.vx_life.specs.Candidates.{Candidates, known}
 use Rattle.vx_image.specs.Meaning.{candidates_read}
@@ -36,8 +36,8 @@ use Rattle.vx_answers.specs.declared.answer.Answer.{Answer}
 use Rattle.vx_answers.specs.declared.answer.View.{View}
 use Rattle.vx_plans.specs.Plans.{plan_of, disks_of}
 use Rattle.vx_plans.specs.Steps.{Runs, Leaves, IsNotBuilt, DoesPlan, DoesCall, DoesForm, Step, IsTranscript}
-use Rattle.vx_plans.specs.declared.stages.Finish.{Finish}
-use Rattle.vx_plans.specs.declared.stages.Plan.{Plan}
+use Rattle.vx_stages.specs.declared.stages.Finish.{Finish}
+use Rattle.vx_stages.specs.declared.stages.Plan.{Plan}
 
 -- what holds on each device may have been held
 abbrev pub AreThere : Holding → World → Type 0

@@ -12,8 +12,8 @@ use Rattle.vx_answers.specs.declared.answer.Answer.{Answer}
 use Rattle.vx_moments.specs.World.{Group, World, Volume, Lies, OnDevice, OnPlexes}
 use Rattle.vx_moments.specs.Moment.{Moment}
 use Rattle.vx_group_images.specs.Group.{image_on}
-use Rattle.vx_plans.specs.Starting.{may_start}
-use Rattle.vx_plans.specs.Tests.{volume_in}
+use Rattle.vx_stages.specs.Starting.{may_start}
+use Rattle.vx_stages.specs.Tests.{volume_in}
 use Rattle.vx_plans.specs.Steps.{IsTranscript}
 
 -- the numbers of the region's entries, the newest first, are n down to 1

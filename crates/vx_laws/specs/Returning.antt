@@ -21,8 +21,8 @@ use Rattle.vx_moments.specs.Holding.{IsHeld, IsLent}
 use Rattle.vx_moments.specs.Leaving.{group_gone, PowerGoes}
 use Rattle.vx_moments.specs.Copies.{IsTextOf, label_of, IsCurrent}
 use Rattle.vx_moments.specs.Commit.{DeviceGoes, IsNoDeviceOf}
-use Rattle.vx_plans.specs.Finding.{Candidate, IsCandidate, is_recorded}
-use Rattle.vx_plans.specs.Records.{next_slot}
+use Rattle.vx_stages.specs.Finding.{Candidate, IsCandidate, is_recorded}
+use Rattle.vx_stages.specs.Records.{next_slot}
 use Rattle.vx_plans.specs.Steps.{Step, IsTranscript, done}
 use Rattle.vx_plans.specs.Laws.{WentWell}
 

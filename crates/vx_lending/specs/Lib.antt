@@ -5,3 +5,4 @@ pub mod Laws
 pub mod Left
 pub mod Logs
 pub mod Marking
+pub mod Public

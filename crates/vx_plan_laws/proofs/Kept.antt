@@ -17,19 +17,19 @@ use Rattle.vx_answers.specs.declared.refusal.Refusal.TheVariants.{NotStarted, Ra
 use Rattle.vx_moments.specs.Commit.{Writing}
 use Rattle.vx_moments.specs.Moment.{Moment, Rests}
 use Rattle.vx_moments.specs.World.{Lies, OnDevice, OnPlexes, Volume}
-use Rattle.vx_plans.specs.Calls.{count_of, start_of, volume_of}
-use Rattle.vx_plans.specs.Ends.{StopsBy, refused}
+use Rattle.vx_stages.specs.Calls.{count_of, start_of, volume_of}
+use Rattle.vx_stages.specs.Ends.{StopsBy, refused}
 use Rattle.vx_plans.specs.Plans.{plan_of, disks_of}
-use Rattle.vx_plans.specs.Records.{devices_of}
+use Rattle.vx_stages.specs.Records.{devices_of}
 use Rattle.vx_plans.specs.Serving.{CallRuns, ServesOn}
-use Rattle.vx_plans.specs.Stages.{Stops, TakingStops}
+use Rattle.vx_stages.specs.Stages.{Stops, TakingStops}
 use Rattle.vx_plans.specs.Steps.{DoesCall, DoesForm, DoesPlan, IsNotBuilt, Leaves, Runs, Step, done}
-use Rattle.vx_plans.specs.declared.stage.Stage.{Stage}
-use Rattle.vx_plans.specs.declared.stage.Stage.TheVariants as stage
-use Rattle.vx_plans.specs.declared.stages.Finish.{Finish}
-use Rattle.vx_plans.specs.declared.stages.Finish.TheVariants.{Nothing}
-use Rattle.vx_plans.specs.declared.test.Test.{Test}
-use Rattle.vx_plans.specs.declared.stages.Plan.{Plan}
+use Rattle.vx_stages.specs.declared.stage.Stage.{Stage}
+use Rattle.vx_stages.specs.declared.stage.Stage.TheVariants as stage
+use Rattle.vx_stages.specs.declared.stages.Finish.{Finish}
+use Rattle.vx_stages.specs.declared.stages.Finish.TheVariants.{Nothing}
+use Rattle.vx_stages.specs.declared.test.Test.{Test}
+use Rattle.vx_stages.specs.declared.stages.Plan.{Plan}
 use Rattle.vx_plans.proofs.Complete.{keeps_world, kept_world}
 use Rattle.vx_plan_laws.specs.Keeping.{IsLeftUnopened, RefusedLeaves}
 use Rattle.vx_plan_laws.proofs.Volumes.{not_stopped, start_left, stop_left}

@@ -26,8 +26,8 @@ use Rattle.vx_objects.specs.declared.edit.Edit.TheVariants.{Make}
 use Rattle.vx_objects.specs.Edits.{change, added, target_fault, refusal_of}
 use Rattle.vx_objects.specs.Parts.{in_kinds}
 use Rattle.vx_objects.proofs.OneGroup.{first_none, second_none}
-use Rattle.vx_plans.specs.Making.{reference_rules, limit_rules, space_rules, broken, started_name, adding_refusal}
-use Rattle.vx_plans.specs.Refusals.{refusal_from}
+use Rattle.vx_stages.specs.Making.{reference_rules, limit_rules, space_rules, broken, started_name, adding_refusal}
+use Rattle.vx_stages.specs.Refusals.{refusal_from}
 use Rattle.vx_plan_laws.proofs.Differ.{new_name, once}
 use Rattle.vx_plan_laws.proofs.FirstRefusals.{over_all, in_all}
 use Rattle.vx_plan_laws.proofs.Joins.{all_stay}

@@ -16,7 +16,7 @@ use Rattle.vx_objects.specs.declared.config.Config.{Config}
 use Rattle.vx_objects.specs.Config.{objects_of}
 use Rattle.vx_objects.specs.Parts.{as_disk, as_plex, as_vol, as_snap}
 use Rattle.vx_objects.proofs.InKinds.{disks_below, plexes_below, volumes_below, snaps_below}
-use Rattle.vx_plans.specs.Tests.{volume_in}
+use Rattle.vx_stages.specs.Tests.{volume_in}
 
 nothing : {A : Type 0} (o : Option A) → is_none o ≡ true → o ≡ None
 nothing None e = refl

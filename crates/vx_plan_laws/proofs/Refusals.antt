@@ -7,7 +7,7 @@ use Rattle.vx_rules.specs.References.{has_name}
 use Rattle.vx_objects.specs.declared.edit.Edit.{Edit}
 use Rattle.vx_objects.specs.declared.edit.Edit.TheVariants.{Make}
 use Rattle.vx_objects.specs.Config.{objects_of}
-use Rattle.vx_plans.specs.Making.{is_started}
+use Rattle.vx_stages.specs.Making.{is_started}
 use Rattle.vx_objects.specs.Edits.{refusal_of}
 use Rattle.vx_script_words.specs.declared.value.DiskAt.{DiskAt}
 use Rattle.vx_script_forms.specs.declared.form.Form.{Form}
@@ -23,16 +23,16 @@ use Rattle.vx_moments.specs.Moment.{Moment}
 use Rattle.vx_moments.specs.World.{World, Group}
 use Rattle.vx_plans.specs.Laws.{WentWell, IsDoneOrRefused, HasCarriers}
 use Rattle.vx_plans.specs.Plans.{plan_of, disks_of}
-use Rattle.vx_plans.specs.Refusals.{refusal_from}
-use Rattle.vx_plans.specs.Ends.{IsChange, refused}
-use Rattle.vx_plans.specs.Stages.{IsDone, Stops, EditsStop, edits_of, joining_edit}
+use Rattle.vx_stages.specs.Refusals.{refusal_from}
+use Rattle.vx_stages.specs.Ends.{IsChange, refused}
+use Rattle.vx_stages.specs.Stages.{IsDone, Stops, EditsStop, edits_of, joining_edit}
 use Rattle.vx_plans.specs.Steps.{Runs, done}
-use Rattle.vx_plans.specs.declared.stage.Change.TheVariants as changes
-use Rattle.vx_plans.specs.declared.stage.Stage.{Stage}
-use Rattle.vx_plans.specs.declared.stage.Stage.TheVariants as stage
-use Rattle.vx_plans.specs.declared.stages.Finish.{Finish}
-use Rattle.vx_plans.specs.declared.stages.Plan.{Plan}
-use Rattle.vx_plans.specs.declared.test.Test.TheVariants as tests
+use Rattle.vx_stages.specs.declared.stage.Change.TheVariants as changes
+use Rattle.vx_stages.specs.declared.stage.Stage.{Stage}
+use Rattle.vx_stages.specs.declared.stage.Stage.TheVariants as stage
+use Rattle.vx_stages.specs.declared.stages.Finish.{Finish}
+use Rattle.vx_stages.specs.declared.stages.Plan.{Plan}
+use Rattle.vx_stages.specs.declared.test.Test.TheVariants as tests
 use Rattle.vx_plans.proofs.Complete.{keeps_world, kept_world, each_plan_is_complete}
 use Rattle.vx_plan_laws.specs.Refusing.{IsDoneBy, IsTooLong, OfGroup, Refuses, OneRefuses}
 use Rattle.vx_plan_laws.proofs.Told.{tells_done}

@@ -25,11 +25,11 @@ use Rattle.vx_script_words.specs.declared.value.DiskAt.{DiskAt}
 use Rattle.vx_answers.specs.declared.refusal.Refusal.{Refusal}
 use Rattle.vx_answers.specs.declared.refusal.Refusal.TheVariants as refusal
 use Rattle.vx_moments.specs.World.{World, Group}
-use Rattle.vx_plans.specs.Records.{devices_of, names_of, sectors_at, is_disk_size, are_disk_sized, disk_record, free_slot_from, slot_or_last, next_slot, slot_in}
-use Rattle.vx_plans.specs.Stages.{edits_of, policy_edit, joining_edit}
-use Rattle.vx_plans.specs.Tests.{unless, where_, limit_passed, volume_in, recorded, is_related, is_data, is_data_plex, is_here, fails}
-use Rattle.vx_plans.specs.declared.stage.Change.TheVariants as changes
-use Rattle.vx_plans.specs.declared.test.Test.TheVariants as tests
+use Rattle.vx_stages.specs.Records.{devices_of, names_of, sectors_at, is_disk_size, are_disk_sized, disk_record, free_slot_from, slot_or_last, next_slot, slot_in}
+use Rattle.vx_stages.specs.Stages.{edits_of, policy_edit, joining_edit}
+use Rattle.vx_stages.specs.Tests.{unless, where_, limit_passed, volume_in, recorded, is_related, is_data, is_data_plex, is_here, fails}
+use Rattle.vx_stages.specs.declared.stage.Change.TheVariants as changes
+use Rattle.vx_stages.specs.declared.test.Test.TheVariants as tests
 use Rattle.vx_plan_laws.specs.Unbroken.{LetsThrough, PrefersItsPlex}
 use Rattle.vx_plan_laws.proofs.Counts.{first_of_two, second_of_two, any_like}
 use Rattle.vx_plan_laws.proofs.FirstRefusals.{unless_true}

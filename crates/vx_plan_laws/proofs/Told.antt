@@ -14,20 +14,20 @@ use Rattle.vx_answers.specs.declared.refusal.Refusal.TheVariants as refusal
 use Rattle.vx_moments.specs.Commit.{Writing, IsStopped}
 use Rattle.vx_moments.specs.Moment.{Moment}
 use Rattle.vx_moments.specs.World.{Group, World}
-use Rattle.vx_plans.specs.Ends.{EndsIn, IsChange, fault_of, lost, refused}
+use Rattle.vx_stages.specs.Ends.{EndsIn, IsChange, fault_of, lost, refused}
 use Rattle.vx_plans.specs.Plans.{plan_of, disks_of}
-use Rattle.vx_plans.specs.Records.{devices_of}
-use Rattle.vx_plans.specs.Stages.{DeviceEnds, EditsStop, FailsAt, IsJoining, LookingStops, Stops, TakingStops, edits_of, joining_edit}
-use Rattle.vx_plans.specs.Starting.{StartStops, StopsIn, StopsOf, may_start, regions_copied}
-use Rattle.vx_plans.specs.Stopping.{StopStops}
+use Rattle.vx_stages.specs.Records.{devices_of}
+use Rattle.vx_stages.specs.Stages.{DeviceEnds, EditsStop, FailsAt, IsJoining, LookingStops, Stops, TakingStops, edits_of, joining_edit}
+use Rattle.vx_stages.specs.Starting.{StartStops, StopsIn, StopsOf, may_start, regions_copied}
+use Rattle.vx_stages.specs.Stopping.{StopStops}
 use Rattle.vx_plans.specs.Steps.{Runs, done}
-use Rattle.vx_plans.specs.Tests.{volume_in}
-use Rattle.vx_plans.specs.declared.stage.Stage.{Stage}
-use Rattle.vx_plans.specs.declared.stage.Stage.TheVariants as stage
-use Rattle.vx_plans.specs.declared.stages.Finish.{Finish}
-use Rattle.vx_plans.specs.declared.stages.Finish.TheVariants.{Nothing}
-use Rattle.vx_plans.specs.declared.test.Test.{Test}
-use Rattle.vx_plans.specs.declared.stages.Plan.{Plan}
+use Rattle.vx_stages.specs.Tests.{volume_in}
+use Rattle.vx_stages.specs.declared.stage.Stage.{Stage}
+use Rattle.vx_stages.specs.declared.stage.Stage.TheVariants as stage
+use Rattle.vx_stages.specs.declared.stages.Finish.{Finish}
+use Rattle.vx_stages.specs.declared.stages.Finish.TheVariants.{Nothing}
+use Rattle.vx_stages.specs.declared.test.Test.{Test}
+use Rattle.vx_stages.specs.declared.stages.Plan.{Plan}
 use Rattle.vx_plan_laws.specs.Refusing.{IsDoneBy, OfGroup, OfVolume}
 use Rattle.vx_plan_laws.proofs.Kept.{AreStill, IsPlain, have_no_start, is_start, plan_plain}
 

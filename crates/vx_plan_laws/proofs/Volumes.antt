@@ -9,10 +9,10 @@ use Rattle.vx_answers.specs.declared.refusal.Refusal.TheVariants as refusal
 use Rattle.vx_moments.specs.Commit.{Writing, IsStopped, CarriersFailed, parties}
 use Rattle.vx_moments.specs.Moment.{Moment}
 use Rattle.vx_moments.specs.World.{Group}
-use Rattle.vx_plans.specs.Ends.{EndsIn, refused}
-use Rattle.vx_plans.specs.Starting.{StartStops, StopsIn, StopsOf, StopsUnopened, may_start}
-use Rattle.vx_plans.specs.Stopping.{StopStops, is_active, refusal_by, runs_on_plexes, stop_refusal}
-use Rattle.vx_plans.specs.Tests.{volume_in}
+use Rattle.vx_stages.specs.Ends.{EndsIn, refused}
+use Rattle.vx_stages.specs.Starting.{StartStops, StopsIn, StopsOf, StopsUnopened, may_start}
+use Rattle.vx_stages.specs.Stopping.{StopStops, is_active, refusal_by, runs_on_plexes, stop_refusal}
+use Rattle.vx_stages.specs.Tests.{volume_in}
 use Rattle.vx_plan_laws.specs.Keeping.{IsLeftUnopened}
 use Rattle.vx_plan_laws.specs.Refusing.{OfGroup, OfVolume, OpeningRefuses, StartRefuses, StopRefuses}
 

@@ -7,11 +7,11 @@ use Rattle.vx_script_forms.specs.declared.form.Form.TheVariants as form
 use Rattle.vx_script.specs.declared.command.Command.{Command}
 use Rattle.vx_moments.specs.Moment.{Moment}
 use Rattle.vx_plans.specs.Plans.{plan_of, disks_of}
-use Rattle.vx_plans.specs.Stages.{Wants}
+use Rattle.vx_stages.specs.Stages.{Wants}
 use Rattle.vx_plans.specs.Steps.{LeavesOff, RunsShort, WantsForm, WantsPlan}
-use Rattle.vx_plans.specs.declared.stage.Stage.{Stage}
-use Rattle.vx_plans.specs.declared.stage.Stage.TheVariants as stage
-use Rattle.vx_plans.specs.declared.stages.Plan.{Plan}
+use Rattle.vx_stages.specs.declared.stage.Stage.{Stage}
+use Rattle.vx_stages.specs.declared.stage.Stage.TheVariants as stage
+use Rattle.vx_stages.specs.declared.stages.Plan.{Plan}
 use Rattle.vx_plans.proofs.Complete.{kept_world}
 use Rattle.vx_plan_laws.proofs.Kept.{AreStill, IsPlain, calls_volume, plan_plain}
 

@@ -8,10 +8,10 @@ use Rattle.vx_answers.specs.declared.answer.Answer.TheVariants.{One}
 use Rattle.vx_answers.specs.declared.answer.View.{View}
 use Rattle.vx_answers.specs.declared.refusal.Refusal.{Refusal}
 use Rattle.vx_moments.specs.Moment.{Moment}
-use Rattle.vx_plans.specs.Ends.{refused}
-use Rattle.vx_plans.specs.Starting.{may_start}
+use Rattle.vx_stages.specs.Ends.{refused}
+use Rattle.vx_stages.specs.Starting.{may_start}
 use Rattle.vx_plans.specs.Steps.{LeavesOff, Step}
-use Rattle.vx_plans.specs.Touching.{IsTouched}
+use Rattle.vx_stages.specs.Touching.{IsTouched}
 use Rattle.vx_plan_laws.specs.Refusing.{OfGroup, OfVolume, OpeningRefuses}
 
 -- The volume cannot be opened. Its log was called: the devices have changed in sectors of the volume alone, and nothing else of the world

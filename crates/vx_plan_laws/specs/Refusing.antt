@@ -26,17 +26,17 @@ use Rattle.vx_group_images.specs.Group.{image_on}
 use Rattle.vx_state_edits.specs.Edits.{start_edits, stop_edits}
 use Rattle.vx_state_texts.specs.Texts.{all_maps}
 use Rattle.vx_plans.specs.Laws.{WentWell, HasCarriers}
-use Rattle.vx_plans.specs.Making.{Adds, adding_refusal, is_started}
+use Rattle.vx_stages.specs.Making.{Adds, adding_refusal, is_started}
 use Rattle.vx_plans.specs.Plans.{plan_of, disks_of}
-use Rattle.vx_plans.specs.Ends.{RefusedAsLong, refused}
-use Rattle.vx_plans.specs.Stages.{OnlyDisk, Stops, edits_of, joining_edit}
-use Rattle.vx_plans.specs.Starting.{HasNoReadCopy, IsFirstMissed, may_start, refusal_at_once, regions_copied}
+use Rattle.vx_stages.specs.Ends.{RefusedAsLong, refused}
+use Rattle.vx_stages.specs.Stages.{OnlyDisk, Stops, edits_of, joining_edit}
+use Rattle.vx_stages.specs.Starting.{HasNoReadCopy, IsFirstMissed, may_start, refusal_at_once, regions_copied}
 use Rattle.vx_plans.specs.Steps.{Runs, done}
-use Rattle.vx_plans.specs.Stopping.{is_active, runs_on_plexes}
-use Rattle.vx_plans.specs.Tests.{volume_in}
-use Rattle.vx_plans.specs.declared.stage.Stage.{Stage}
-use Rattle.vx_plans.specs.declared.stage.Stage.TheVariants as stage
-use Rattle.vx_plans.specs.declared.stages.Plan.{Plan}
+use Rattle.vx_stages.specs.Stopping.{is_active, runs_on_plexes}
+use Rattle.vx_stages.specs.Tests.{volume_in}
+use Rattle.vx_stages.specs.declared.stage.Stage.{Stage}
+use Rattle.vx_stages.specs.declared.stage.Stage.TheVariants as stage
+use Rattle.vx_stages.specs.declared.stages.Plan.{Plan}
 
 -- the imported group is such
 abbrev pub OfGroup : World → (Group → Type 0) → Type 0

@@ -11,12 +11,12 @@ use Rattle.vx_objects.specs.Config.{objects_of}
 use Rattle.vx_objects.specs.Edits.{refusal_of}
 use Rattle.vx_script_words.specs.declared.value.DiskAt.{DiskAt}
 use Rattle.vx_moments.specs.World.{World, Group}
-use Rattle.vx_plans.specs.Making.{adding_refusal}
-use Rattle.vx_plans.specs.Stages.{edits_of, joining_edit}
-use Rattle.vx_plans.specs.Tests.{fails}
-use Rattle.vx_plans.specs.declared.stage.Change.TheVariants as changes
-use Rattle.vx_plans.specs.declared.test.Test.{Test}
-use Rattle.vx_plans.specs.declared.test.Test.TheVariants as tests
+use Rattle.vx_stages.specs.Making.{adding_refusal}
+use Rattle.vx_stages.specs.Stages.{edits_of, joining_edit}
+use Rattle.vx_stages.specs.Tests.{fails}
+use Rattle.vx_stages.specs.declared.stage.Change.TheVariants as changes
+use Rattle.vx_stages.specs.declared.test.Test.{Test}
+use Rattle.vx_stages.specs.declared.test.Test.TheVariants as tests
 
 -- the test lets the command through
 abbrev pub LetsThrough : Test → List DiskAt → World → Type 0

@@ -17,9 +17,9 @@ use Rattle.vx_moments.specs.Commit.{Writing, is_written_slot, is_slot_of}
 use Rattle.vx_moments.specs.Moment.{Counts}
 use Rattle.vx_moments.specs.World.{World, Device, Member, Group}
 use Rattle.std.specs.Str.{bytes_eq}
-use Rattle.vx_plans.specs.Finding.{is_recorded, IsDamage, IsDiskOf, Candidate, IsCandidate, Finds, FindsOffer, FindsAll, FindsText, offers_of, first_that, is_damaged_one, is_taken_of, missing_from, good_ones, members_of, member_of, group_found, import_records}
-use Rattle.vx_plans.specs.Records.{new_members, member_at}
-use Rattle.vx_plans.specs.Stages.{IsCreating, IsImporting}
+use Rattle.vx_stages.specs.Finding.{is_recorded, IsDamage, IsDiskOf, Candidate, IsCandidate, Finds, FindsOffer, FindsAll, FindsText, offers_of, first_that, is_damaged_one, is_taken_of, missing_from, good_ones, members_of, member_of, group_found, import_records}
+use Rattle.vx_stages.specs.Records.{new_members, member_at}
+use Rattle.vx_stages.specs.Stages.{IsCreating, IsImporting}
 use Rattle.vx_plans.proofs.Calm.{any_map}
 
 -- a member that is written carries the commit

@@ -17,20 +17,20 @@ use Rattle.vx_answers.specs.declared.answer.View.{View}
 use Rattle.vx_moments.specs.Commit.{Writing, IsStopped, is_written_slot, parties}
 use Rattle.vx_moments.specs.Moment.{Moment, AreLater, Counts, HasFailed}
 use Rattle.vx_moments.specs.World.{Group, World}
-use Rattle.vx_plans.specs.Ends.{EndsIn}
+use Rattle.vx_stages.specs.Ends.{EndsIn}
 use Rattle.vx_plans.specs.Laws.{WentWell, IsDoneOrRefused, HasCarriers}
 use Rattle.vx_plans.specs.Plans.{plan_of, disks_of}
-use Rattle.vx_plans.specs.Records.{devices_of}
-use Rattle.vx_plans.specs.Stages.{IsDone, Stops, DeviceEnds, FailsAt, TakingStops, LookingStops}
-use Rattle.vx_plans.specs.Starting.{CopyEnds, IsStartedBy, StopsIn, StopsOf, may_start}
+use Rattle.vx_stages.specs.Records.{devices_of}
+use Rattle.vx_stages.specs.Stages.{IsDone, Stops, DeviceEnds, FailsAt, TakingStops, LookingStops}
+use Rattle.vx_stages.specs.Starting.{CopyEnds, IsStartedBy, StopsIn, StopsOf, may_start}
 use Rattle.vx_plans.specs.Steps.{Runs}
-use Rattle.vx_plans.specs.Stopping.{StopStops}
-use Rattle.vx_plans.specs.Tests.{volume_in}
-use Rattle.vx_plans.specs.Touching.{PassHasCause}
-use Rattle.vx_plans.specs.declared.stages.Finish.{Finish}
-use Rattle.vx_plans.specs.declared.stages.Plan.{Plan}
-use Rattle.vx_plans.specs.declared.stage.Stage.{Stage}
-use Rattle.vx_plans.specs.declared.stage.Stage.TheVariants as stage
+use Rattle.vx_stages.specs.Stopping.{StopStops}
+use Rattle.vx_stages.specs.Tests.{volume_in}
+use Rattle.vx_stages.specs.Touching.{PassHasCause}
+use Rattle.vx_stages.specs.declared.stages.Finish.{Finish}
+use Rattle.vx_stages.specs.declared.stages.Plan.{Plan}
+use Rattle.vx_stages.specs.declared.stage.Stage.{Stage}
+use Rattle.vx_stages.specs.declared.stage.Stage.TheVariants as stage
 use Rattle.vx_plans.proofs.Calm.{calm, shelf_calm, powered, none_of, nowhere, later_self, later_on, well_after}
 use Rattle.vx_plans.proofs.Carriers.{HasCarrier, IsAlive, NamesSlots, by_group, by_words, by_devices}
 

@@ -1,15 +1,3 @@
-pub mod Refusals
-pub mod Records
-pub mod Tests
-pub mod Making
-pub mod Finding
-pub mod Ends
-pub mod Calls
-pub mod GroupCalls
-pub mod Touching
-pub mod Starting
-pub mod Stopping
-pub mod Stages
 pub mod Plans
 pub mod Serving
 pub mod Steps

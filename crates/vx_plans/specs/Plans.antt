@@ -7,13 +7,13 @@ use Rattle.vx_script_forms.specs.declared.form.Form.{Form}
 use Rattle.vx_script_forms.specs.declared.form.Form.TheVariants as form
 use Rattle.vx_script_forms.specs.declared.form.WordPolicy.{WordPolicy}
 use Rattle.vx_script_forms.specs.declared.form.WordPolicy.TheVariants as words
-use Rattle.vx_plans.specs.declared.stages.Finish.{Finish}
-use Rattle.vx_plans.specs.declared.stages.Finish.TheVariants.{Nothing, Records}
-use Rattle.vx_plans.specs.declared.stages.Plan.{Plan}
-use Rattle.vx_plans.specs.declared.stage.Change.TheVariants as changes
-use Rattle.vx_plans.specs.declared.stage.Stage.{Stage}
-use Rattle.vx_plans.specs.declared.stage.Stage.TheVariants as stage
-use Rattle.vx_plans.specs.declared.test.Test.TheVariants as tests
+use Rattle.vx_stages.specs.declared.stages.Finish.{Finish}
+use Rattle.vx_stages.specs.declared.stages.Finish.TheVariants.{Nothing, Records}
+use Rattle.vx_stages.specs.declared.stages.Plan.{Plan}
+use Rattle.vx_stages.specs.declared.stage.Change.TheVariants as changes
+use Rattle.vx_stages.specs.declared.stage.Stage.{Stage}
+use Rattle.vx_stages.specs.declared.stage.Stage.TheVariants as stage
+use Rattle.vx_stages.specs.declared.test.Test.TheVariants as tests
 
 -- the stages of a command, and what it shows
 abbrev pub ending : List Stage → Finish → Option Plan

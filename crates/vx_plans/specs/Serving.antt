@@ -6,8 +6,8 @@ use Rattle.vx_answers.specs.declared.answer.End.TheVariants as ends
 use Rattle.vx_answers.specs.declared.refusal.Refusal.TheVariants.{NotStarted, Range}
 use Rattle.vx_moments.specs.World.{Volume, Lies, OnDevice, OnPlexes}
 use Rattle.vx_moments.specs.Moment.{Moment, Rests}
-use Rattle.vx_plans.specs.Calls.{volume_of, start_of, count_of, IsServed}
-use Rattle.vx_plans.specs.GroupCalls.{IsServedOnPlexes}
+use Rattle.vx_stages.specs.Calls.{volume_of, start_of, count_of, IsServed}
+use Rattle.vx_stages.specs.GroupCalls.{IsServedOnPlexes}
 
 -- by where the volume lies
 abbrev pub ServesOn : Lies → ℕ → Call → Volume → Moment → End → Moment → Type 0

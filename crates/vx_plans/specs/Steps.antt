@@ -21,11 +21,11 @@ use Rattle.vx_moments.specs.Leaving.{PowerGoes, group_gone}
 use Rattle.vx_group_images.specs.Lives.{GroupStands}
 use Rattle.vx_plans.specs.Serving.{CallRuns}
 use Rattle.vx_plans.specs.Plans.{plan_of, disks_of}
-use Rattle.vx_plans.specs.Stages.{IsDone, Stops, Wants}
-use Rattle.vx_plans.specs.declared.stages.Finish.{Finish}
-use Rattle.vx_plans.specs.declared.stages.Finish.TheVariants.{Nothing, Records}
-use Rattle.vx_plans.specs.declared.stages.Plan.{Plan}
-use Rattle.vx_plans.specs.declared.stage.Stage.{Stage}
+use Rattle.vx_stages.specs.Stages.{IsDone, Stops, Wants}
+use Rattle.vx_stages.specs.declared.stages.Finish.{Finish}
+use Rattle.vx_stages.specs.declared.stages.Finish.TheVariants.{Nothing, Records}
+use Rattle.vx_stages.specs.declared.stages.Plan.{Plan}
+use Rattle.vx_stages.specs.declared.stage.Stage.{Stage}
 use Rattle.vx_script_words.specs.declared.value.DiskAt.{DiskAt}
 
 -- all was done, and nothing is told beside

@@ -1,17 +1,17 @@
 //! The plan of each form.
 ghost use Rattle.std.specs.Prelude.{◌≡◌, IfOk};
 ghost use Rattle.vx_plans.specs.Plans.{doing, ending, plan_add, plan_bare, plan_deport, plan_init, plan_make, plan_of, plan_print, plan_rdpol, plan_remove, plan_unsetup};
-ghost use Rattle.vx_plans.specs.declared.stages.Finish.TheVariants.{Records};
-ghost use Rattle.vx_plans.specs.declared.stage.Change.TheVariants as changes;
-ghost use Rattle.vx_plans.specs.declared.stage.Stage.TheVariants as stages;
+ghost use Rattle.vx_stages.specs.declared.stages.Finish.TheVariants.{Records};
+ghost use Rattle.vx_stages.specs.declared.stage.Change.TheVariants as changes;
+ghost use Rattle.vx_stages.specs.declared.stage.Stage.TheVariants as stages;
 
-use crate::{Change, Finish, Plan, Stage, Stages, Test};
 use std::alloc::Global;
 use vx_base::OutOfMemory;
 use vx_config_parts::PolicyName;
 use vx_names::Name;
 use vx_script_forms::{Form, WordPolicy};
 use vx_script_words::Bytes;
+use vx_stages::{Change, Finish, Plan, Stage, Stages, Test};
 
 /// The plan of a form, where it is built as one. The group is the word of `-g`.
 #[tactic(auto, unfolding(crate::specs::Plans::plan_of))]

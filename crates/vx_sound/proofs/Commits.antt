@@ -10,16 +10,16 @@ use Rattle.vx_answers.specs.declared.answer.End.TheVariants as ends
 use Rattle.vx_moments.specs.World.{World, Volume, Group}
 use Rattle.vx_moments.specs.Moment.{Moment, Counts}
 use Rattle.vx_moments.specs.Commit.{Writing, IsCommitting, IsCommitted, IsStopped}
-use Rattle.vx_plans.specs.Finding.{group_found, import_records}
-use Rattle.vx_plans.specs.Ends.{IsChange}
-use Rattle.vx_plans.specs.Stages.{IsImporting, IsJoining, edits_of, IsMaking}
-use Rattle.vx_plans.specs.declared.stage.Change.{Change}
+use Rattle.vx_stages.specs.Finding.{group_found, import_records}
+use Rattle.vx_stages.specs.Ends.{IsChange}
+use Rattle.vx_stages.specs.Stages.{IsImporting, IsJoining, edits_of, IsMaking}
+use Rattle.vx_stages.specs.declared.stage.Change.{Change}
 use Rattle.vx_plans.proofs.Carriers.{FoundBy, found_by}
 use Rattle.vx_sound.specs.Standing.{HoldsNoHeader, IsLeading, IsStanding}
 use Rattle.vx_script_words.specs.declared.value.DiskAt.{DiskAt}
 use Rattle.vx_moments.specs.Holding.{has_volume}
 use Rattle.vx_moments.specs.Leaving.{lone}
-use Rattle.vx_plans.specs.Records.{disk_record, next_slot, sectors_at}
+use Rattle.vx_stages.specs.Records.{disk_record, next_slot, sectors_at}
 use Rattle.vx_sound.proofs.Names.{IsApart, IsFree, change_apart, finds_free, import_apart, join_apart, make_apart}
 use Rattle.vx_sound.proofs.Edits.{IsGrown, change_grown, make_grown, import_grown}
 use Rattle.vx_sound.proofs.Ready.{IsReady}

@@ -27,7 +27,7 @@ use Rattle.vx_objects.specs.Printed.{record_of, has_record, can_be_said}
 use Rattle.vx_objects.proofs.InKinds.{disks_below}
 use Rattle.vx_objects.proofs.Numbers.{have_records}
 use Rattle.vx_moments.specs.Copies.{IsTextOf}
-use Rattle.vx_plans.specs.Finding.{has_slot}
+use Rattle.vx_stages.specs.Finding.{has_slot}
 use Rattle.vx_sound.specs.Sound.{IsConfigOf, RecordsSlot}
 
 -- a disk of the configuration has the slot

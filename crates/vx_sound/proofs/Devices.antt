@@ -10,7 +10,7 @@ use Rattle.vx_header.specs.Named.{Label, header_of}
 use Rattle.vx_copies.specs.Lists.{AllOf, AnyOf}
 use Rattle.vx_moments.specs.World.{World, Device, Member, Group}
 use Rattle.vx_moments.specs.Holding.{IsMemberDevice}
-use Rattle.vx_plans.specs.Stages.{IsImageMade, HasContents}
+use Rattle.vx_stages.specs.Stages.{IsImageMade, HasContents}
 use Rattle.vx_sound.specs.Offers.{IsHeaded}
 use Rattle.vx_sound.specs.Standing.{IsOwn, IsLeading, IsStanding}
 use Rattle.vx_sound.proofs.Headers.{size_above, none_filled, never_some, some_same}

@@ -26,12 +26,12 @@ use Rattle.vx_objects.specs.Edits.{change, added, edited, kept, names_plex_of}
 use Rattle.vx_objects.specs.Parts.{as_disk, in_kinds, records_below}
 use Rattle.vx_script_words.specs.declared.value.DiskAt.{DiskAt}
 use Rattle.vx_moments.specs.World.{World, Group}
-use Rattle.vx_plans.specs.Finding.{needs_sync, import_records}
-use Rattle.vx_plans.specs.Records.{disk_records, new_records, new_members}
-use Rattle.vx_plans.specs.Stages.{edits_of, policy_edit}
-use Rattle.vx_plans.specs.Tests.{recorded}
-use Rattle.vx_plans.specs.declared.stage.Change.{Change}
-use Rattle.vx_plans.specs.declared.stage.Change.TheVariants as changes
+use Rattle.vx_stages.specs.Finding.{needs_sync, import_records}
+use Rattle.vx_stages.specs.Records.{disk_records, new_records, new_members}
+use Rattle.vx_stages.specs.Stages.{edits_of, policy_edit}
+use Rattle.vx_stages.specs.Tests.{recorded}
+use Rattle.vx_stages.specs.declared.stage.Change.{Change}
+use Rattle.vx_stages.specs.declared.stage.Change.TheVariants as changes
 use Rattle.vx_sound.proofs.Configs.{Records, disks_in, disks_made}
 use Rattle.vx_sound.proofs.Lists.{all_imp}
 

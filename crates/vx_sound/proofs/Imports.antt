@@ -15,7 +15,7 @@ use Rattle.vx_copies.proofs.InGroup.{in_member}
 use Rattle.vx_objects.specs.declared.config.Config.{Config}
 use Rattle.vx_moments.specs.World.{World, Device}
 use Rattle.vx_moments.specs.Moment.{Counts}
-use Rattle.vx_plans.specs.Finding.{Candidate, IsCandidate, Found, Finds, offers_of, first_that, is_recorded, good_ones, member_of, group_found}
+use Rattle.vx_stages.specs.Finding.{Candidate, IsCandidate, Found, Finds, offers_of, first_that, is_recorded, good_ones, member_of, group_found}
 use Rattle.vx_plans.proofs.Carriers.{FoundBy, found_by, one_offers, one_there, is_there}
 use Rattle.vx_sound.specs.Offers.{IsHeaded, Offers}
 use Rattle.vx_sound.specs.Sound.{IsNewest, NamesNewer, NamesMissing, IsChained, IsConfigOf}

@@ -21,10 +21,10 @@ use Rattle.vx_answers.specs.declared.refusal.Refusal.TheVariants as refusal
 use Rattle.vx_moments.specs.World.{World, Device, Member, Group}
 use Rattle.vx_moments.specs.Commit.{Writing, is_slot_of}
 use Rattle.vx_moments.specs.Holding.{IsHeld, IsMemberDevice, is_among}
-use Rattle.vx_plans.specs.Records.{devices_of, names_of, disk_record, member_at, next_slot, free_slot_from, slot_or_last, slot_in, new_members, are_disk_sized, sectors_at}
-use Rattle.vx_plans.specs.Stages.{IsFree, AreFree, AreBlank, HasNoHeader, NamesGroup, IsJoining, IsCreating}
-use Rattle.vx_plans.specs.Tests.{fails, limit_passed, unless}
-use Rattle.vx_plans.specs.declared.test.Test.TheVariants as tests
+use Rattle.vx_stages.specs.Records.{devices_of, names_of, disk_record, member_at, next_slot, free_slot_from, slot_or_last, slot_in, new_members, are_disk_sized, sectors_at}
+use Rattle.vx_stages.specs.Stages.{IsFree, AreFree, AreBlank, HasNoHeader, NamesGroup, IsJoining, IsCreating}
+use Rattle.vx_stages.specs.Tests.{fails, limit_passed, unless}
+use Rattle.vx_stages.specs.declared.test.Test.TheVariants as tests
 use Rattle.vx_sound.specs.Offers.{IsHeaded}
 use Rattle.vx_sound.specs.Standing.{IsOwn}
 use Rattle.vx_sound.proofs.Headers.{never_some, some_same}

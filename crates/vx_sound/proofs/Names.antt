@@ -35,14 +35,14 @@ use Rattle.vx_answers.specs.declared.refusal.Refusal.{Refusal}
 use Rattle.vx_answers.specs.declared.refusal.Refusal.TheVariants.{Exists}
 use Rattle.vx_moments.specs.Leaving.{lone}
 use Rattle.vx_moments.specs.World.{World, Volume, Group}
-use Rattle.vx_plans.specs.Finding.{Candidate, Finds, FindsAll, FindsOffer, FindsText, IsDamage, IsDiskOf, first_that, good_ones, import_records, is_damaged_one, is_recorded, is_taken_of, missing_from, needs_sync, offers_of}
-use Rattle.vx_plans.specs.Making.{adding_refusal, broken, is_started, limit_rules, reference_rules, space_rules, started_name}
-use Rattle.vx_plans.specs.Records.{disk_records, new_records}
-use Rattle.vx_plans.specs.Refusals.{refusal_from}
-use Rattle.vx_plans.specs.Stages.{edits_of, policy_edit}
-use Rattle.vx_plans.specs.Tests.{recorded}
-use Rattle.vx_plans.specs.declared.stage.Change.{Change}
-use Rattle.vx_plans.specs.declared.stage.Change.TheVariants as changes
+use Rattle.vx_stages.specs.Finding.{Candidate, Finds, FindsAll, FindsOffer, FindsText, IsDamage, IsDiskOf, first_that, good_ones, import_records, is_damaged_one, is_recorded, is_taken_of, missing_from, needs_sync, offers_of}
+use Rattle.vx_stages.specs.Making.{adding_refusal, broken, is_started, limit_rules, reference_rules, space_rules, started_name}
+use Rattle.vx_stages.specs.Records.{disk_records, new_records}
+use Rattle.vx_stages.specs.Refusals.{refusal_from}
+use Rattle.vx_stages.specs.Stages.{edits_of, policy_edit}
+use Rattle.vx_stages.specs.Tests.{recorded}
+use Rattle.vx_stages.specs.declared.stage.Change.{Change}
+use Rattle.vx_stages.specs.declared.stage.Change.TheVariants as changes
 
 -- the configuration records a volume of the name
 abbrev pub RecordsVolume : Config → Word → Type 0

@@ -23,11 +23,11 @@ use Rattle.vx_moments.specs.Moment.{Counts, Moment}
 use Rattle.vx_moments.specs.World.{Group, OnPlexes, Volume, World}
 use Rattle.vx_group_images.specs.Group.{image_on}
 use Rattle.vx_group_images.specs.Lives.{volume_by}
-use Rattle.vx_plans.specs.Ends.{EndsIn, IsChange}
-use Rattle.vx_plans.specs.Starting.{BecomesBy, CopiesTo, IsCopied, IsStartedBy, StartStops, StopsIn, StopsOf, may_start, plexes_started, volume_started}
-use Rattle.vx_plans.specs.Stopping.{ComesToRest, IsStopDone, StopStops, rested_volume, without_volume}
-use Rattle.vx_plans.specs.Tests.{volume_in}
-use Rattle.vx_plans.specs.Touching.{IsTouched, VolumeGoes}
+use Rattle.vx_stages.specs.Ends.{EndsIn, IsChange}
+use Rattle.vx_stages.specs.Starting.{BecomesBy, CopiesTo, IsCopied, IsStartedBy, StartStops, StopsIn, StopsOf, may_start, plexes_started, volume_started}
+use Rattle.vx_stages.specs.Stopping.{ComesToRest, IsStopDone, StopStops, rested_volume, without_volume}
+use Rattle.vx_stages.specs.Tests.{volume_in}
+use Rattle.vx_stages.specs.Touching.{IsTouched, VolumeGoes}
 use Rattle.vx_sound.specs.Standing.{IsStanding}
 use Rattle.vx_sound.proofs.Commits.{Ends, commit_done, commit_stopped, group_apart, imported_led}
 use Rattle.vx_sound.proofs.Headers.{some_same}

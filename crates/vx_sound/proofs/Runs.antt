@@ -6,13 +6,13 @@ use Rattle.vx_answers.specs.declared.answer.End.{End}
 use Rattle.vx_answers.specs.declared.answer.View.{View}
 use Rattle.vx_moments.specs.World.{World}
 use Rattle.vx_moments.specs.Moment.{Moment}
-use Rattle.vx_plans.specs.Records.{devices_of}
-use Rattle.vx_plans.specs.Stages.{IsFree, AreFree, HasNoHeader, HasHeader, AreBlank, IsDone, Stops, TakingStops}
+use Rattle.vx_stages.specs.Records.{devices_of}
+use Rattle.vx_stages.specs.Stages.{IsFree, AreFree, HasNoHeader, HasHeader, AreBlank, IsDone, Stops, TakingStops}
 use Rattle.vx_plans.specs.Steps.{Runs}
-use Rattle.vx_plans.specs.Tests.{fails}
-use Rattle.vx_plans.specs.declared.stages.Finish.{Finish}
-use Rattle.vx_plans.specs.declared.stage.Stage.{Stage}
-use Rattle.vx_plans.specs.declared.stage.Stage.TheVariants as stage
+use Rattle.vx_stages.specs.Tests.{fails}
+use Rattle.vx_stages.specs.declared.stages.Finish.{Finish}
+use Rattle.vx_stages.specs.declared.stage.Stage.{Stage}
+use Rattle.vx_stages.specs.declared.stage.Stage.TheVariants as stage
 use Rattle.vx_sound.proofs.Joiners.{HasSearched}
 
 -- what a stage that leaves the world has found there; of another, nothing

@@ -24,10 +24,10 @@ use Rattle.vx_moments.specs.Holding.{IsLent, IsMemberDevice, HasDevice, has_volu
 use Rattle.vx_moments.specs.Leaving.{lone, lone_by}
 use Rattle.vx_moments.proofs.Lone.{lone_stays}
 use Rattle.vx_mask.proofs.Tests.{not_both}
-use Rattle.vx_plans.specs.Calls.{volume_of, start_of, count_of, values_of, done_kind, failed_kind, IsOf, AreOf, Tells}
-use Rattle.vx_plans.specs.GroupCalls.{BecomesBy, IsServedOnPlexes, is_known}
+use Rattle.vx_stages.specs.Calls.{volume_of, start_of, count_of, values_of, done_kind, failed_kind, IsOf, AreOf, Tells}
+use Rattle.vx_stages.specs.GroupCalls.{BecomesBy, IsServedOnPlexes, is_known}
 use Rattle.vx_plans.specs.Serving.{CallRuns, ServesOn}
-use Rattle.vx_plans.specs.Stages.{IsBare, bare_volume, HasNoHeader}
+use Rattle.vx_stages.specs.Stages.{IsBare, bare_volume, HasNoHeader}
 use Rattle.vx_sound.specs.Standing.{HoldsNoHeader, HoldsNoneOn, IsStanding, NamesAreApart}
 use Rattle.vx_sound.proofs.Headers.{none_filled, never_some, some_same}
 use Rattle.vx_sound.proofs.Fewer.{HadEach, HasOrNone}

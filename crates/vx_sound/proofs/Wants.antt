@@ -12,11 +12,11 @@ use Rattle.vx_moments.specs.Leaving.{PowerGoes}
 use Rattle.vx_moments.specs.Moment.{Moment}
 use Rattle.vx_moments.specs.World.{World}
 use Rattle.vx_plans.specs.Plans.{disks_of, plan_of}
-use Rattle.vx_plans.specs.Stages.{Wants}
+use Rattle.vx_stages.specs.Stages.{Wants}
 use Rattle.vx_plans.specs.Steps.{IsTranscript, LeavesOff, RunsShort, WantsForm, WantsPlan}
-use Rattle.vx_plans.specs.declared.stage.Stage.{Stage}
-use Rattle.vx_plans.specs.declared.stage.Stage.TheVariants as stage
-use Rattle.vx_plans.specs.declared.stages.Plan.{Plan}
+use Rattle.vx_stages.specs.declared.stage.Stage.{Stage}
+use Rattle.vx_stages.specs.declared.stage.Stage.TheVariants as stage
+use Rattle.vx_stages.specs.declared.stages.Plan.{Plan}
 use Rattle.vx_plans.proofs.Complete.{keeps_world, kept_world}
 use Rattle.vx_sound.specs.Laws.{IsIdle, WriteNoHeader}
 use Rattle.vx_sound.specs.Sound.{AreSound}

@@ -15,7 +15,7 @@ use Rattle.vx_answers.specs.declared.answer.Answer.{Answer}
 use Rattle.vx_moments.specs.World.{World}
 use Rattle.vx_moments.specs.Moment.{Moment, Counts}
 use Rattle.vx_moments.specs.Leaving.{PowerGoes}
-use Rattle.vx_plans.specs.Finding.{Found, Finds}
+use Rattle.vx_stages.specs.Finding.{Found, Finds}
 use Rattle.vx_plans.specs.Steps.{Step, IsTranscript, LeavesOff}
 use Rattle.vx_sound.specs.Sound.{IsNewest, IsChained, AreSound}
 use Rattle.vx_sound.specs.Standing.{IsStanding}

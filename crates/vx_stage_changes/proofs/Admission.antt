@@ -16,8 +16,8 @@ use Rattle.vx_objects.specs.declared.edit.Edit.TheVariants.{AddDisk}
 use Rattle.vx_script_words.specs.declared.value.DiskAt.{DiskAt}
 use Rattle.vx_moments.specs.Moment.{Moment}
 use Rattle.vx_moments.specs.Commit.{Writing}
-use Rattle.vx_plans.specs.Records.{disk_record, sectors_at}
-use Rattle.vx_plans.specs.Stages.{IsJoining}
+use Rattle.vx_stages.specs.Records.{disk_record, sectors_at}
+use Rattle.vx_stages.specs.Stages.{IsJoining}
 use Rattle.vx_fronts.proofs.Disks.{same_slot}
 use Rattle.vx_fronts.proofs.Groups.{all_whole, whole_lead, whole_order}
 use Rattle.vx_house.specs.Holders.{Holder, group_holders, hand_holder, holder_in, volume_holder}

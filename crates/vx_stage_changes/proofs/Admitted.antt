@@ -24,7 +24,7 @@ use Rattle.vx_fronts.proofs.Entries.{drop_back, each_entry, second_now, take_fro
 use Rattle.vx_fronts.proofs.Groups.{all_whole, private_then, take_whole, whole_goes}
 use Rattle.vx_fronts.proofs.Joined.{joined_parted, joined_unparted}
 use Rattle.vx_fronts.proofs.Parted.{parted_entered, private_parted}
-use Rattle.vx_running.specs.Public.{lent_pieces, still_pieces}
+use Rattle.vx_lending.specs.Public.{lent_pieces, still_pieces}
 use Rattle.vx_objects.specs.declared.config.Config.{Config}
 use Rattle.vx_script_words.specs.declared.value.DiskAt.{DiskAt}
 use Rattle.vx_house.specs.Holders.{Holder, holders, volume_holder, group_rests, holder_in, whole_members, AreHeld, AreApart, IsTakenFrom}

@@ -9,17 +9,17 @@ use Rattle.vx_script_words.specs.declared.value.DiskAt.{DiskAt}
 use Rattle.vx_moments.specs.World.{Group}
 use Rattle.vx_moments.specs.Moment.{Moment}
 use Rattle.vx_moments.specs.Commit.{Writing}
-use Rattle.vx_plans.specs.Ends.{IsChange}
-use Rattle.vx_plans.specs.Stages.{EditsRefused, edits_of}
-use Rattle.vx_plans.specs.declared.stage.Change.{Change}
-use Rattle.vx_plans.specs.declared.stage.Change.TheVariants as changes
-use Rattle.vx_plans.specs.declared.stage.Stage.TheVariants as stage
+use Rattle.vx_stages.specs.Ends.{IsChange}
+use Rattle.vx_stages.specs.Stages.{EditsRefused, edits_of}
+use Rattle.vx_stages.specs.declared.stage.Change.{Change}
+use Rattle.vx_stages.specs.declared.stage.Change.TheVariants as changes
+use Rattle.vx_stages.specs.declared.stage.Stage.TheVariants as stage
 use Rattle.vx_config_parts.specs.declared.vol.Vol.{Vol}
 use Rattle.vx_answers.specs.declared.refusal.Refusal.{Refusal}
 use Rattle.vx_objects.specs.Applied.{IsEdited}
 use Rattle.vx_started.specs.declared.started.Started.{Started}
-use Rattle.vx_running.specs.declared.public.Running.{Running}
-use Rattle.vx_plans.specs.Tests.{fails, recorded, state_of, unless}
+use Rattle.vx_lending.specs.declared.public.Running.{Running}
+use Rattle.vx_stages.specs.Tests.{fails, recorded, state_of, unless}
 use Rattle.vx_group_edits.specs.Laws.{StaysBy}
 use Rattle.vx_group_edits.proofs.Commands.{change_keeps}
 use Rattle.vx_commits.proofs.Owns.{Runs}

@@ -18,10 +18,10 @@ use Rattle.vx_objects.specs.Config.{objects_of}
 use Rattle.vx_objects.specs.Edits.{change, added, edited, edited_by, kept, stays_without_vol}
 use Rattle.vx_objects.specs.Parts.{as_disk, as_group, as_subdisk, as_plex, as_vol, as_dco, as_snap, in_kinds, sorted_below}
 use Rattle.vx_objects.proofs.InKinds.{disks_below}
-use Rattle.vx_plans.specs.Stages.{policy_edit}
-use Rattle.vx_plans.specs.Tests.{volume_in}
-use Rattle.vx_plans.specs.declared.stage.Change.{Change}
-use Rattle.vx_plans.specs.declared.stage.Change.TheVariants as changes
+use Rattle.vx_stages.specs.Stages.{policy_edit}
+use Rattle.vx_stages.specs.Tests.{volume_in}
+use Rattle.vx_stages.specs.declared.stage.Change.{Change}
+use Rattle.vx_stages.specs.declared.stage.Change.TheVariants as changes
 use Rattle.vx_stage_changes.specs.Planning.{change_edits}
 
 no_disks : {A : Type 0} (f : A → Object) → ((a : A) → as_disk (f a) ≡ None) → (xs : List A) → filter_map as_disk (map f xs) ≡ []

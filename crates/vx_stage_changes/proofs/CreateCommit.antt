@@ -17,8 +17,8 @@ use Rattle.vx_script_words.specs.declared.value.DiskAt.{DiskAt}
 use Rattle.vx_moments.specs.World.{Group}
 use Rattle.vx_moments.specs.Moment.{Moment}
 use Rattle.vx_moments.specs.Commit.{Writing}
-use Rattle.vx_plans.specs.Records.{devices_of, sectors_in, sectors_at}
-use Rattle.vx_plans.specs.Stages.{IsCreating}
+use Rattle.vx_stages.specs.Records.{devices_of, sectors_in, sectors_at}
+use Rattle.vx_stages.specs.Stages.{IsCreating}
 use Rattle.vx_house.specs.Holders.{holders, group_holders, hand_holder, volume_holder, AreHeld, holder_in}
 use Rattle.vx_house.specs.Scene.{Shelved}
 use Rattle.vx_house.specs.View.{at, IsMoment, KeepsHouse, member_in}

@@ -16,12 +16,12 @@ use Rattle.vx_moments.specs.World.{Group}
 use Rattle.vx_moments.specs.Commit.{Writing, IsCommitted, IsStopped}
 use Rattle.vx_moments.specs.Moment.{Moment}
 use Rattle.vx_moments.specs.Copies.{IsTextOf}
-use Rattle.vx_plans.specs.Ends.{IsChange}
-use Rattle.vx_plans.specs.Stages.{IsDone, Stops, EditsRefused, Wants}
-use Rattle.vx_plans.specs.declared.stage.Stage.{Stage}
+use Rattle.vx_stages.specs.Ends.{IsChange}
+use Rattle.vx_stages.specs.Stages.{IsDone, Stops, EditsRefused, Wants}
+use Rattle.vx_stages.specs.declared.stage.Stage.{Stage}
 use Rattle.vx_house.specs.Goes.{StageGoes, Gives, only_reads}
 use Rattle.vx_fronts.proofs.Parted.{private_parted}
-use Rattle.vx_running.specs.Public.{lent_pieces, still_pieces}
+use Rattle.vx_lending.specs.Public.{lent_pieces, still_pieces}
 use Rattle.vx_house.specs.Holders.{holders, AreHeld}
 use Rattle.vx_house.specs.Scene.{Shelved}
 use Rattle.vx_house.specs.View.{at, scene, group_of, IsMoment, IsGroupKept, IsGroupWhole, KeepsHouse}

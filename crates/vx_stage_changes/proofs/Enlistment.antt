@@ -13,7 +13,7 @@ use Rattle.vx_config_parts.specs.declared.object.Object.TheVariants.{DiskRecord}
 use Rattle.vx_objects.specs.declared.config.Config.{Config}
 use Rattle.vx_script_words.specs.declared.value.DiskAt.{DiskAt}
 use Rattle.vx_moments.specs.World.{World}
-use Rattle.vx_plans.specs.Records.{devices_of, sectors_at, disk_record, disk_records, new_members, member_at}
+use Rattle.vx_stages.specs.Records.{devices_of, sectors_at, disk_record, disk_records, new_members, member_at}
 use Rattle.vx_house.specs.Goes.{IsBlankSeen}
 use Rattle.vx_house.specs.Holders.{hand_holder, holder_in}
 use Rattle.vx_house.specs.View.{AreSized, HaveSlots, AreRecorded, member_in}

@@ -21,16 +21,16 @@ use Rattle.vx_answers.specs.declared.answer.End.TheVariants as ends
 use Rattle.vx_moments.specs.World.{Device, Group}
 use Rattle.vx_moments.specs.Moment.{Moment}
 use Rattle.vx_moments.specs.Copies.{IsTextOf}
-use Rattle.vx_plans.specs.Records.{disk_record, next_slot, sectors_in, sectors_at}
-use Rattle.vx_plans.specs.Stages.{EditsRefused}
-use Rattle.vx_plans.specs.declared.stage.Stage.TheVariants as stage
+use Rattle.vx_stages.specs.Records.{disk_record, next_slot, sectors_in, sectors_at}
+use Rattle.vx_stages.specs.Stages.{EditsRefused}
+use Rattle.vx_stages.specs.declared.stage.Stage.TheVariants as stage
 use Rattle.vx_house.specs.Goes.{StageGoes}
 use Rattle.vx_fronts.specs.Laws.{whole_disks}
 use Rattle.vx_fronts.specs.Parted.{AreParted}
 use Rattle.vx_fronts.specs.Rests.{rests_of}
 use Rattle.vx_objects.specs.declared.config.Config.{Config}
-use Rattle.vx_running.specs.declared.public.Public.{Public}
-use Rattle.vx_running.specs.Public.{lent_pieces, still_pieces}
+use Rattle.vx_lending.specs.declared.public.Public.{Public}
+use Rattle.vx_lending.specs.Public.{lent_pieces, still_pieces}
 use Rattle.vx_house.specs.Holders.{Holder, holders, held_as, group_holders, group_rests, hand_holder, holder_in, whole_members, volume_holder, volume_at, AreHeld, AreApart}
 use Rattle.vx_house.specs.Scene.{Shelved, seen_in, seen_at, AreCountsOf, FaultsGoOn}
 use Rattle.vx_house.specs.View.{at, scene, group_of, member_of, is_lent, IsDeviceOf, IsAtVolume, IsMoment, IsGroupKept, AreSized, HaveSlots, AreRecorded, KeepsHouse, Keeps}

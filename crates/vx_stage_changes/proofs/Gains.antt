@@ -13,7 +13,7 @@ use Rattle.vx_confdb.specs.Create.{Joins}
 use Rattle.vx_confdb.specs.Groups.{CarriesText}
 use Rattle.vx_script_words.specs.declared.value.DiskAt.{DiskAt}
 use Rattle.vx_moments.specs.Copies.{IsTextOf}
-use Rattle.vx_plans.specs.Records.{disk_record}
+use Rattle.vx_stages.specs.Records.{disk_record}
 use Rattle.vx_house.specs.Scene.{Shelved}
 use Rattle.vx_house.specs.View.{IsGroupKept, AreSized, HaveSlots, AreRecorded}
 use Rattle.vx_house.specs.declared.house.House.{House}

@@ -13,7 +13,7 @@ use Rattle.vx_objects.specs.declared.config.Config.{Config}
 use Rattle.vx_script_words.specs.declared.value.DiskAt.{DiskAt}
 use Rattle.vx_moments.specs.World.{Group, Member}
 use Rattle.vx_moments.specs.Moment.{Moment}
-use Rattle.vx_plans.specs.Records.{disk_record}
+use Rattle.vx_stages.specs.Records.{disk_record}
 use Rattle.vx_group_edits.specs.Stays.{has_disk_in, AreFewer, EachStays}
 use Rattle.vx_group_edits.proofs.Added.{joining_keeps}
 use Rattle.vx_group_images.specs.Owners.{device_at}

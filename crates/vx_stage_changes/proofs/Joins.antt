@@ -21,7 +21,7 @@ use Rattle.vx_objects.specs.declared.config.Config.{Config}
 use Rattle.vx_script_words.specs.declared.value.DiskAt.{DiskAt}
 use Rattle.vx_answers.specs.declared.answer.End.TheVariants as ends
 use Rattle.vx_moments.specs.Commit.{parties}
-use Rattle.vx_plans.specs.declared.stage.Stage.TheVariants as stage
+use Rattle.vx_stages.specs.declared.stage.Stage.TheVariants as stage
 use Rattle.vx_house.specs.Goes.{StageGoes}
 use Rattle.vx_fronts.proofs.Entries.{each_addition}
 use Rattle.vx_fronts.proofs.Groups.{each_cut, take_whole, whole_gives, whole_headed, whole_ready, whole_risen}

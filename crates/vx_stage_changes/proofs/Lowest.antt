@@ -2,7 +2,7 @@
 use Rattle.std.proofs.Common.{◌≡◌, ℕ, zero, suc, ◌+◌, ◌<◌, ◌≤◌, Bool, true, false, cond, Option, Some, None, refl, ap, ◌∙◌, subst, arith}
 use Rattle.std.proofs.lemmas.Bool.{cond-true}
 use Rattle.vx_objects.specs.declared.config.Config.{Config}
-use Rattle.vx_plans.specs.Records.{free_slot_from, slot_or_last, next_slot}
+use Rattle.vx_stages.specs.Records.{free_slot_from, slot_or_last, next_slot}
 use Rattle.vx_stage_changes.specs.Joining.{has_slot}
 
 by_has : (b : Bool) (rest : Option ℕ) (slot s : ℕ) → (b ≡ true → rest ≡ Some s) → (b ≡ false → slot ≡ s) → cond b rest (Some slot) ≡ Some s

@@ -21,7 +21,7 @@ use Rattle.vx_objects.specs.declared.config.Config.{Config}
 use Rattle.vx_objects.specs.Config.{objects_of, IsMadeOf}
 use Rattle.vx_objects.specs.Parts.{as_disk, records_of, in_kinds}
 use Rattle.vx_objects.proofs.InKinds.{are_sorted}
-use Rattle.vx_plans.specs.Records.{is_disk_size}
+use Rattle.vx_stages.specs.Records.{is_disk_size}
 use Rattle.vx_house.specs.View.{AreRecorded}
 use Rattle.vx_house.specs.declared.stop.Stop.{Stop}
 use Rattle.vx_commits.specs.Committing.{stop_of}

@@ -10,7 +10,7 @@ use Rattle.vx_objects.specs.Edits.{edited_by, refusal_of}
 use Rattle.vx_objects.specs.Parts.{in_kinds}
 use Rattle.vx_objects.proofs.InKinds.{are_sorted}
 use Rattle.vx_answers.specs.declared.refusal.Refusal.{Refusal}
-use Rattle.vx_plans.specs.Refusals.{refusal_by, refusal_from}
+use Rattle.vx_stages.specs.Refusals.{refusal_by, refusal_from}
 use Rattle.vx_house.specs.declared.stop.Stop.{Stop}
 use Rattle.vx_house.specs.declared.stop.Stop.TheVariants as stops
 use Rattle.vx_stage_changes.specs.Planning.{broken_stop, stop_by, IsUnedited, IsLong, IsUnplanned}

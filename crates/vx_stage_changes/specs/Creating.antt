@@ -17,8 +17,8 @@ use Rattle.vx_config_parts.specs.declared.object.Object.TheVariants.{GroupRecord
 use Rattle.vx_objects.specs.declared.config.Config.{Config}
 use Rattle.vx_objects.specs.Config.{objects_of}
 use Rattle.vx_script_words.specs.declared.value.DiskAt.{DiskAt}
-use Rattle.vx_plans.specs.Records.{is_disk_size}
-use Rattle.vx_running.specs.Public.{lent_pieces, still_pieces}
+use Rattle.vx_stages.specs.Records.{is_disk_size}
+use Rattle.vx_lending.specs.Public.{lent_pieces, still_pieces}
 use Rattle.vx_house.specs.Goes.{IsBlankSeen}
 use Rattle.vx_house.specs.View.{IsGroupIdle}
 use Rattle.vx_house.specs.declared.house.Imported.{Imported}

@@ -12,7 +12,7 @@ use Rattle.vx_objects.specs.declared.config.Config.{Config}
 use Rattle.vx_objects.specs.declared.edit.Edit.{Edit}
 use Rattle.vx_objects.specs.declared.edit.Edit.TheVariants.{AddDisk}
 use Rattle.vx_script_words.specs.declared.value.DiskAt.{DiskAt}
-use Rattle.vx_plans.specs.Records.{disk_record, next_slot}
+use Rattle.vx_stages.specs.Records.{disk_record, next_slot}
 use Rattle.vx_house.specs.declared.house.Imported.{Imported}
 use Rattle.vx_house.specs.declared.house.Taken.{Taken}
 use Rattle.vx_house.specs.declared.stop.Stop.{Stop}

@@ -12,12 +12,12 @@ use Rattle.vx_answers.specs.declared.answer.End.TheVariants as ends
 use Rattle.vx_answers.specs.declared.refusal.Refusal.{Refusal}
 use Rattle.vx_answers.specs.declared.refusal.Refusal.TheVariants as refusal
 use Rattle.vx_moments.specs.Copies.{IsTextOf}
-use Rattle.vx_plans.specs.Refusals.{refusal_by, refusal_from}
-use Rattle.vx_plans.specs.Ends.{RefusedAsLong}
-use Rattle.vx_plans.specs.Stages.{policy_edit}
-use Rattle.vx_plans.specs.Tests.{volume_in}
-use Rattle.vx_plans.specs.declared.stage.Change.{Change}
-use Rattle.vx_plans.specs.declared.stage.Change.TheVariants as changes
+use Rattle.vx_stages.specs.Refusals.{refusal_by, refusal_from}
+use Rattle.vx_stages.specs.Ends.{RefusedAsLong}
+use Rattle.vx_stages.specs.Stages.{policy_edit}
+use Rattle.vx_stages.specs.Tests.{volume_in}
+use Rattle.vx_stages.specs.declared.stage.Change.{Change}
+use Rattle.vx_stages.specs.declared.stage.Change.TheVariants as changes
 use Rattle.vx_house.specs.declared.stop.Stop.{Stop}
 use Rattle.vx_house.specs.declared.stop.Stop.TheVariants as stops
 use Rattle.vx_stage_changes.specs.declared.planning.NextConfig.{NextConfig}

@@ -4,7 +4,7 @@ ghost use Rattle.vx_house.specs.Holders.{holders, AreHeld};
 ghost use Rattle.vx_house.specs.Scene.{Shelved};
 ghost use Rattle.vx_house.specs.View.{KeepsHouse, IsGroupKept, at};
 ghost use Rattle.std.specs.Prelude.{List, IfOk, IfErr};
-ghost use Rattle.vx_plans.specs.declared.stage.Stage.TheVariants as stages;
+ghost use Rattle.vx_stages.specs.declared.stage.Stage.TheVariants as stages;
 ghost use Rattle.vx_script_words.specs.declared.value.DiskAt.{DiskAt};
 ghost use Rattle.vx_stage_changes.specs.Changing.{ChangeEnds};
 ghost use Rattle.vx_stage_changes.specs.Planning.{change_edits, IsPlanned, IsUnplanned};
@@ -16,7 +16,7 @@ use vx_commits::commit;
 use vx_house::{House, Imported, Stop, refused};
 use vx_objects::Edit;
 use vx_piece::Piece;
-use vx_plans::Change;
+use vx_stages::Change;
 
 /// Changes the configuration of the imported group, and commits it.
 pub fn change<P: Piece>(alloc: Global, house: &mut House<P>, change: Change) -> Result<(), Stop>

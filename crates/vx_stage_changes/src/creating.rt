@@ -5,8 +5,8 @@ ghost use Rattle.vx_house.specs.Goes.{IsBlankSeen, IsReady, StageGoes};
 ghost use Rattle.vx_house.specs.Holders.{holders, AreHeld};
 ghost use Rattle.vx_house.specs.Scene.{Shelved};
 ghost use Rattle.vx_house.specs.View.{at, KeepsHouse};
-ghost use Rattle.vx_plans.specs.Records.{devices_of};
-ghost use Rattle.vx_plans.specs.declared.stage.Stage.TheVariants as stages;
+ghost use Rattle.vx_stages.specs.Records.{devices_of};
+ghost use Rattle.vx_stages.specs.declared.stage.Stage.TheVariants as stages;
 ghost use Rattle.vx_stage_changes.specs.Creating.{CreateEnds};
 
 use crate::founding::{Unfounded, found};

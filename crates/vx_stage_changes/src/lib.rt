@@ -12,3 +12,4 @@ mod slots;
 pub use changing::{change, commit_edits};
 pub use creating::create;
 pub use joining::join;
+pub use planning::{NextConfig, planned, volume_in};

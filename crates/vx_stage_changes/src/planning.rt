@@ -3,7 +3,7 @@ ghost use Rattle.std.specs.Prelude.{◌≡◌, ◌≤◌, ◌∷◌, [], length,
 ghost use Rattle.vx_moments.specs.Copies.{IsTextOf};
 ghost use Rattle.vx_objects.specs.Applied.{IsEdited};
 ghost use Rattle.vx_objects.specs.Config.{objects_of};
-ghost use Rattle.vx_plans.specs.Tests.{volume_in};
+ghost use Rattle.vx_stages.specs.Tests.{volume_in};
 ghost use Rattle.vx_stage_changes.specs.Planning.{broken_stop, change_edits, IsUnedited, IsLong, IsTooLong, IsShortText, IsPlanned, IsUnplanned};
 
 use std::alloc::Global;
@@ -14,8 +14,8 @@ use vx_header::MOST_TEXT;
 use vx_house::{Stop, refused};
 use vx_names::Name;
 use vx_objects::{Config, Edit, Vol};
-use vx_plans::{Change, refusal_by};
 use vx_print::print_m;
+use vx_stages::{Change, refusal_by};
 
 /// A configuration that is to be committed, and its text.
 #[derive(Drop)]
@@ -83,7 +83,7 @@ fn within(text: Vec<u8>) -> Result<Vec<u8>, Stop>
 }
 
 /// What is to be committed.
-pub(crate) fn planned(alloc: Global, config: &Config, edits: &[Edit]) -> Result<NextConfig, Stop>
+pub fn planned(alloc: Global, config: &Config, edits: &[Edit]) -> Result<NextConfig, Stop>
     ensures planned { IfOk result (IsPlanned edits.now config.now) }
     ensures unplanned { IfErr result (IsUnplanned edits.now config.now) }
 {
@@ -93,7 +93,7 @@ pub(crate) fn planned(alloc: Global, config: &Config, edits: &[Edit]) -> Result<
 }
 
 /// The volume of the name.
-fn volume_in(volumes: &[Vol], name: &Name) -> Option<Vol>
+pub fn volume_in(volumes: &[Vol], name: &Name) -> Option<Vol>
     ensures { result ≡ volume_in name.now volumes.now }
 {
     match volumes {

@@ -27,12 +27,12 @@ use Rattle.vx_moments.specs.World.{World, Device, Group, Lies, Volume, OnDevice,
 use Rattle.vx_moments.specs.Leaving.{grouped_by, lone_by, grouped as on_plexes}
 use Rattle.vx_moments.specs.Moment.{Moment}
 use Rattle.vx_moments.specs.Holding.{has_volume}
-use Rattle.vx_plans.specs.Ends.{refused}
-use Rattle.vx_plans.specs.Stages.{bare_volume}
-use Rattle.vx_plans.specs.Records.{sectors_in}
-use Rattle.vx_plans.specs.Tests.{is_volume, fails, unless}
-use Rattle.vx_plans.specs.declared.test.Test.TheVariants as tests
-use Rattle.vx_plans.specs.declared.stage.Stage.TheVariants as stage
+use Rattle.vx_stages.specs.Ends.{refused}
+use Rattle.vx_stages.specs.Stages.{bare_volume}
+use Rattle.vx_stages.specs.Records.{sectors_in}
+use Rattle.vx_stages.specs.Tests.{is_volume, fails, unless}
+use Rattle.vx_stages.specs.declared.test.Test.TheVariants as tests
+use Rattle.vx_stages.specs.declared.stage.Stage.TheVariants as stage
 use Rattle.vx_house.specs.Goes.{StageGoes}
 use Rattle.vx_house.specs.Holders.{Holder, holders, volume_holder, group_holders, hand_holder, volume_at, held_as, AreApart, AreHeld, IsTakenFrom}
 use Rattle.vx_house.specs.Plain.{plain, sized_device}
@@ -53,7 +53,7 @@ use Rattle.vx_stage_devices.proofs.Entries.{IsPutAt, put_at, any_less}
 use Rattle.vx_house.proofs.Hands.{IsInWorld, hand_in_world}
 use Rattle.vx_moments.specs.Leaving.{lone}
 use Rattle.vx_copies.specs.Disks.{DiskSeen}
-use Rattle.vx_running.specs.declared.public.Running.{Running}
+use Rattle.vx_lending.specs.declared.public.Running.{Running}
 use Rattle.vx_house.specs.Runs.{AreRuns, IsAtRun, fronts_in, run_in}
 use Rattle.vx_house.proofs.Recorded.{run_recorded, unrecorded_rests}
 use Rattle.vx_house.proofs.Runs.{none_at}

@@ -16,10 +16,10 @@ use Rattle.vx_answers.specs.declared.refusal.Refusal.TheVariants.{InUse}
 use Rattle.vx_moments.specs.World.{World}
 use Rattle.vx_moments.specs.Moment.{Moment}
 use Rattle.vx_moments.specs.Holding.{is_among}
-use Rattle.vx_plans.specs.Records.{devices_of}
-use Rattle.vx_plans.specs.Ends.{refused}
-use Rattle.vx_plans.specs.Stages.{OfDevice, AreBlank, ReadsEach, HasHeader, LookingStops, DeviceEnds, ReadsAtMost, OnlyReads, IsDone, Stops, Wants}
-use Rattle.vx_plans.specs.declared.stage.Stage.TheVariants as stage
+use Rattle.vx_stages.specs.Records.{devices_of}
+use Rattle.vx_stages.specs.Ends.{refused}
+use Rattle.vx_stages.specs.Stages.{OfDevice, AreBlank, ReadsEach, HasHeader, LookingStops, DeviceEnds, ReadsAtMost, OnlyReads, IsDone, Stops, Wants}
+use Rattle.vx_stages.specs.declared.stage.Stage.TheVariants as stage
 use Rattle.vx_house.specs.Goes.{Goes, StageGoes, IsBlankSeen, IsHandBlank, Still}
 use Rattle.vx_house.specs.Holders.{Holder, holders, hand_holder, hand_names, held_as, AreHeld}
 use Rattle.vx_house.specs.Scene.{Shelved, seen_in, faults_in, faults_at, count_in, FaultsGoOn, IsBlamed}

@@ -21,10 +21,10 @@ use Rattle.vx_answers.specs.declared.refusal.Refusal.TheVariants.{Exists}
 use Rattle.vx_moments.specs.World.{Device}
 use Rattle.vx_moments.specs.Moment.{Moment, AreLater, WritesNone}
 use Rattle.vx_moments.specs.Holding.{is_among}
-use Rattle.vx_plans.specs.Records.{devices_of}
-use Rattle.vx_plans.specs.Ends.{refused}
-use Rattle.vx_plans.specs.Stages.{IsFree, NamesGroup, SearchCalls, SearchesAtMost, FailsAt, OnlyReads, ShelfEnds, IsDone, Stops, Wants}
-use Rattle.vx_plans.specs.declared.stage.Stage.TheVariants as stage
+use Rattle.vx_stages.specs.Records.{devices_of}
+use Rattle.vx_stages.specs.Ends.{refused}
+use Rattle.vx_stages.specs.Stages.{IsFree, NamesGroup, SearchCalls, SearchesAtMost, FailsAt, OnlyReads, ShelfEnds, IsDone, Stops, Wants}
+use Rattle.vx_stages.specs.declared.stage.Stage.TheVariants as stage
 use Rattle.vx_house.specs.Goes.{Goes, StageGoes, Still, IsStill}
 use Rattle.vx_house.specs.Holders.{Holder, volume_holder, holders, hand_names, held_as}
 use Rattle.vx_house.specs.Scene.{Shelved, seen_in, seen_at, faults_in, faults_at, count_in, counts_of, FaultsGoOn, IsBlamed}

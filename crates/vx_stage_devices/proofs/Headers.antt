@@ -9,9 +9,9 @@ use Rattle.vx_script_words.specs.declared.value.DiskAt.{DiskAt}
 use Rattle.vx_answers.specs.declared.answer.End.{End}
 use Rattle.vx_answers.specs.declared.refusal.Refusal.TheVariants.{NotInitialised}
 use Rattle.vx_moments.specs.Moment.{Moment}
-use Rattle.vx_plans.specs.Ends.{refused}
-use Rattle.vx_plans.specs.Stages.{HasHeader, HasNoHeader, DeviceEnds, ReadsEach, ReadsAtMost, OnlyReads, IsDone, Stops, Wants}
-use Rattle.vx_plans.specs.declared.stage.Stage.TheVariants as stage
+use Rattle.vx_stages.specs.Ends.{refused}
+use Rattle.vx_stages.specs.Stages.{HasHeader, HasNoHeader, DeviceEnds, ReadsEach, ReadsAtMost, OnlyReads, IsDone, Stops, Wants}
+use Rattle.vx_stages.specs.declared.stage.Stage.TheVariants as stage
 use Rattle.vx_house.specs.Goes.{Goes, StageGoes, IsBlankSeen}
 use Rattle.vx_house.specs.Holders.{holders, hand_names, AreHeld}
 use Rattle.vx_house.specs.Scene.{Shelved, IsBlamed}

@@ -13,9 +13,9 @@ use Rattle.vx_script_words.specs.declared.value.DiskAt.{DiskAt}
 use Rattle.vx_answers.specs.declared.refusal.Refusal.TheVariants.{Exists}
 use Rattle.vx_moments.specs.World.{World, Device}
 use Rattle.vx_moments.specs.Moment.{Moment, AreLater, CallsNone, IsQuiet}
-use Rattle.vx_plans.specs.Ends.{fault_of, refused}
-use Rattle.vx_plans.specs.Stages.{IsDone}
-use Rattle.vx_plans.specs.declared.stage.Stage.TheVariants as stage
+use Rattle.vx_stages.specs.Ends.{fault_of, refused}
+use Rattle.vx_stages.specs.Stages.{IsDone}
+use Rattle.vx_stages.specs.declared.stage.Stage.TheVariants as stage
 use Rattle.vx_house.specs.Goes.{Goes, StageGoes}
 use Rattle.vx_house.specs.Holders.{holders, held_as}
 use Rattle.vx_house.specs.Scene.{Shelved, seen_in, seen_at, faults_in, faults_at, count_in, counts_of, FaultsGoOn}

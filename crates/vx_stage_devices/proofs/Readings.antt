@@ -7,7 +7,7 @@ use Rattle.vx_piece.specs.Seen.{Seen, Keeps, IsRead}
 use Rattle.vx_copies.specs.Lists.{Each, AllOf}
 use Rattle.vx_moments.specs.Moment.{Moment, WritesNone}
 use Rattle.vx_moments.specs.Holding.{is_among}
-use Rattle.vx_plans.specs.Stages.{ReadsEach, ReadsAtMost}
+use Rattle.vx_stages.specs.Stages.{ReadsEach, ReadsAtMost}
 use Rattle.vx_house.specs.Goes.{IsStill}
 use Rattle.vx_house.specs.Holders.{Holder, holders, hand_holder, hand_names, held_as}
 use Rattle.vx_house.specs.Scene.{Shelved, count_in, counts_of}

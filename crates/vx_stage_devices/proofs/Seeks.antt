@@ -10,7 +10,7 @@ use Rattle.vx_piece.specs.Seen.{Seen}
 use Rattle.vx_shelf.specs.Shelf.{Held, IsTaken, LeavesShelf, IsGiven, ComesToShelf, SameCounts, put_count, AreCounted, IsNowhere}
 use Rattle.vx_answers.specs.declared.answer.End.{End}
 use Rattle.vx_moments.specs.Holding.{is_among}
-use Rattle.vx_plans.specs.Ends.{fault_of}
+use Rattle.vx_stages.specs.Ends.{fault_of}
 use Rattle.vx_house.specs.Scene.{Shelved}
 use Rattle.vx_house.specs.declared.stop.Stop.{Stop}
 use Rattle.vx_house.specs.declared.stop.Stop.TheVariants.{Ended, OutOfMemory}

@@ -9,8 +9,8 @@ use Rattle.vx_script_words.specs.declared.value.DiskAt.{DiskAt}
 use Rattle.vx_answers.specs.declared.answer.End.{End}
 use Rattle.vx_moments.specs.World.{Device}
 use Rattle.vx_moments.specs.Moment.{Moment, Counts}
-use Rattle.vx_plans.specs.Stages.{WritesOne, WritesAtMost, IsDone, Stops, Wants}
-use Rattle.vx_plans.specs.declared.stage.Stage.TheVariants as stage
+use Rattle.vx_stages.specs.Stages.{WritesOne, WritesAtMost, IsDone, Stops, Wants}
+use Rattle.vx_stages.specs.declared.stage.Stage.TheVariants as stage
 use Rattle.vx_house.specs.Goes.{Goes, StageGoes}
 use Rattle.vx_house.specs.Holders.{holders, AreHeld}
 use Rattle.vx_house.specs.Scene.{Shelved, count_in, counts_of}

@@ -7,7 +7,7 @@ use Rattle.vx_copies.specs.Lists.{Each}
 use Rattle.vx_piece.specs.Seen.{Seen, Keeps, IsRead}
 use Rattle.vx_answers.specs.declared.answer.End.{End}
 use Rattle.vx_answers.specs.declared.refusal.Refusal.TheVariants.{InUse, NotInitialised}
-use Rattle.vx_plans.specs.Ends.{fault_of, lost, refused}
+use Rattle.vx_stages.specs.Ends.{fault_of, lost, refused}
 use Rattle.vx_house.specs.Goes.{IsBlankSeen}
 use Rattle.vx_house.specs.declared.house.Taken.{Taken}
 use Rattle.vx_house.specs.declared.stop.Stop.{Stop}

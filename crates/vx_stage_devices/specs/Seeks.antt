@@ -9,7 +9,7 @@ use Rattle.vx_copies.specs.Image.{names_group}
 use Rattle.vx_answers.specs.declared.answer.End.{End}
 use Rattle.vx_answers.specs.declared.refusal.Refusal.TheVariants.{Exists}
 use Rattle.vx_moments.specs.Holding.{is_among}
-use Rattle.vx_plans.specs.Ends.{fault_of, lost, refused}
+use Rattle.vx_stages.specs.Ends.{fault_of, lost, refused}
 use Rattle.vx_house.specs.Scene.{Shelved}
 use Rattle.vx_house.specs.declared.stop.Stop.{Stop}
 use Rattle.vx_house.specs.declared.stop.Stop.TheVariants.{Ended, OutOfMemory}

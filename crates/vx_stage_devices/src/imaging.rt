@@ -1,7 +1,7 @@
 //! A device of zeros.
 ghost use Rattle.std.specs.Prelude.{◌≤◌, ◌^◌, List};
 ghost use Rattle.vx_script_words.specs.declared.value.DiskAt.{DiskAt};
-ghost use Rattle.vx_plans.specs.declared.stage.Stage.TheVariants as stages;
+ghost use Rattle.vx_stages.specs.declared.stage.Stage.TheVariants as stages;
 ghost use Rattle.vx_house.specs.Goes.{StageGoes};
 ghost use Rattle.vx_house.specs.Scene.{shelved};
 ghost use Rattle.vx_house.specs.View.{Keeps, at};

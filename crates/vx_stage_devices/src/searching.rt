@@ -1,7 +1,7 @@
 //! The headers of all devices that nobody has.
 ghost use Rattle.std.specs.Prelude.{◌<◌};
 ghost use Rattle.vx_shelf.specs.Listed.{IsRising};
-ghost use Rattle.vx_plans.specs.declared.stage.Stage.TheVariants as stages;
+ghost use Rattle.vx_stages.specs.declared.stage.Stage.TheVariants as stages;
 ghost use Rattle.vx_house.specs.Goes.{IsReady, StageGoes};
 ghost use Rattle.vx_house.specs.Scene.{shelved};
 ghost use Rattle.vx_house.specs.View.{Keeps, at};

@@ -3,7 +3,7 @@ ghost use Rattle.std.specs.Prelude.{◌≡◌, IsTrue, IfErr, OnOk, OnErr, false
 ghost use Rattle.std.specs.List.{list_any};
 ghost use Rattle.std.specs.Str.{bytes_eq};
 ghost use Rattle.vx_block.specs.Geometry.{is_geometry};
-ghost use Rattle.vx_plans.specs.declared.stage.Stage.TheVariants as stages;
+ghost use Rattle.vx_stages.specs.declared.stage.Stage.TheVariants as stages;
 ghost use Rattle.vx_house.specs.Goes.{IsReady, StageGoes};
 ghost use Rattle.vx_house.specs.Holders.{AreHeld, holders};
 ghost use Rattle.vx_house.specs.Scene.{Shelved};

@@ -1,6 +1,6 @@
 //! A device in hand whose header is wiped out.
 ghost use Rattle.std.specs.Prelude.{◌<◌};
-ghost use Rattle.vx_plans.specs.declared.stage.Stage.TheVariants as stages;
+ghost use Rattle.vx_stages.specs.declared.stage.Stage.TheVariants as stages;
 ghost use Rattle.vx_house.specs.Goes.{IsReady, StageGoes};
 ghost use Rattle.vx_house.specs.Holders.{AreHeld, holders};
 ghost use Rattle.vx_house.specs.Scene.{Shelved};

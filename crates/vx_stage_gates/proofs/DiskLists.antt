@@ -11,10 +11,10 @@ use Rattle.vx_config_parts.specs.declared.disk.Disk.{Disk}
 use Rattle.vx_config_parts.specs.declared.fault.Limit.TheVariants as limit
 use Rattle.vx_base.specs.Named.{Word}
 use Rattle.vx_answers.specs.declared.refusal.Refusal.TheVariants as refusal
-use Rattle.vx_plans.specs.Tests.{fails, unless}
-use Rattle.vx_plans.specs.declared.test.Test.TheVariants.{GroupLimits}
+use Rattle.vx_stages.specs.Tests.{fails, unless}
+use Rattle.vx_stages.specs.declared.test.Test.TheVariants.{GroupLimits}
 use Rattle.vx_moments.specs.World.{World}
-use Rattle.vx_plans.specs.Records.{names_of, devices_of, is_disk_size, sectors_at, are_disk_sized, disk_record, disk_records, new_records}
+use Rattle.vx_stages.specs.Records.{names_of, devices_of, is_disk_size, sectors_at, are_disk_sized, disk_record, disk_records, new_records}
 
 all_mapped : {X Y : Type 0} (test : Y → Bool) (f : X → Y) (xs : List X) → list_all (λ x. test (f x)) xs ≡ list_all test (map f xs)
 all_mapped test f [] = refl

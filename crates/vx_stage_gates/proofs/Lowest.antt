@@ -3,7 +3,7 @@ use Rattle.std.proofs.Common.{◌≡◌, ℕ, zero, suc, ◌+◌, ◌<◌, ◌�
 use Rattle.std.proofs.lemmas.Bool.{cond-true}
 use Rattle.std.specs.List.{list_any}
 use Rattle.vx_objects.specs.declared.config.Config.{Config}
-use Rattle.vx_plans.specs.Records.{free_slot_from, slot_or_last, next_slot}
+use Rattle.vx_stages.specs.Records.{free_slot_from, slot_or_last, next_slot}
 
 -- a disk has the slot
 abbrev pub has_slot : ℕ → Config → Bool

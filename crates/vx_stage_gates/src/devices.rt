@@ -4,9 +4,9 @@ ghost use Rattle.std.specs.List.{list_all};
 ghost use Rattle.vx_block.specs.Geometry.{is_geometry};
 ghost use Rattle.vx_header.specs.Sectors.{is_short_name};
 ghost use Rattle.vx_rules.specs.Rules.{first_broken};
-ghost use Rattle.vx_plans.specs.Records.{devices_of, names_of, sectors_at, is_disk_size, are_disk_sized, slot_in, disk_record, new_records};
-ghost use Rattle.vx_plans.specs.Refusals.{refusal_from};
-ghost use Rattle.vx_plans.specs.Tests.{limit_passed};
+ghost use Rattle.vx_stages.specs.Records.{devices_of, names_of, sectors_at, is_disk_size, are_disk_sized, slot_in, disk_record, new_records};
+ghost use Rattle.vx_stages.specs.Refusals.{refusal_from};
+ghost use Rattle.vx_stages.specs.Tests.{limit_passed};
 ghost use Rattle.vx_stage_gates.specs.Sizes.{sectors_seen};
 ghost use Rattle.vx_house.specs.Holders.{hand_holder, held_as};
 ghost use Rattle.vx_house.specs.Plain.{plain};
@@ -23,9 +23,9 @@ use vx_house::{House, Imported, Taken};
 use vx_names::Name;
 use vx_objects::{Group, Object};
 use vx_piece::Piece;
-use vx_plans::refusal_from;
 use vx_rules::first_broken;
 use vx_script_words::DiskAt;
+use vx_stages::refusal_from;
 
 /// The most sectors of a disk's device.
 const MOST_SECTORS: u64 = 1 << 40;

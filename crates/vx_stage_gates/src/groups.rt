@@ -3,7 +3,7 @@ ghost use Rattle.std.specs.Prelude.{◌≡◌, ◌||◌, ◌&&◌};
 ghost use Rattle.std.specs.List.{list_any};
 ghost use Rattle.std.specs.Str.{bytes_eq};
 ghost use Rattle.vx_config_parts.specs.Objects.{refers};
-ghost use Rattle.vx_plans.specs.Tests.{is_here, is_meant, recorded, volume_in, is_related, is_data, is_data_plex};
+ghost use Rattle.vx_stages.specs.Tests.{is_here, is_meant, recorded, volume_in, is_related, is_data, is_data_plex};
 ghost use Rattle.vx_house.specs.View.{group_of};
 
 use vx_config_parts::{PlexKind, refers, same};

@@ -1,7 +1,7 @@
 //! The slot of a disk that is to join.
 ghost use Rattle.std.specs.Prelude.{◌≡◌, ◌==◌};
 ghost use Rattle.std.specs.List.{list_any};
-ghost use Rattle.vx_plans.specs.Records.{next_slot};
+ghost use Rattle.vx_stages.specs.Records.{next_slot};
 
 use vx_objects::Config;
 

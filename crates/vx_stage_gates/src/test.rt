@@ -1,7 +1,7 @@
 //! A test of a command.
 ghost use Rattle.std.specs.Prelude.{◌≡◌, if◌then◌else◌, is_some, None, IfOk};
-ghost use Rattle.vx_plans.specs.Tests.{fails, unless, in_use, in_use_by, recorded, state_of};
-ghost use Rattle.vx_plans.specs.declared.stage.Stage.TheVariants as stages;
+ghost use Rattle.vx_stages.specs.Tests.{fails, unless, in_use, in_use_by, recorded, state_of};
+ghost use Rattle.vx_stages.specs.declared.stage.Stage.TheVariants as stages;
 ghost use Rattle.vx_house.specs.Goes.{IsReady};
 ghost use Rattle.vx_house.specs.Plain.{plain};
 ghost use Rattle.vx_house.specs.View.{group_of};
@@ -17,11 +17,11 @@ use vx_house::{House, Imported};
 use vx_names::Name;
 use vx_objects::Vol;
 use vx_piece::Piece;
-use vx_plans::Test;
 use vx_script_words::DiskAt;
+use vx_stages::Test;
 
 /// With which refusal the test fails, if it does.
-#[tactic(auto, unfolding(vx_plans::specs::Tests::fails))]
+#[tactic(auto, unfolding(vx_stages::specs::Tests::fails))]
 pub fn failing<P: Piece>(
     alloc: Global,
     house: &House<P>,

@@ -1,6 +1,6 @@
 //! Which volumes are started.
 ghost use Rattle.std.specs.Prelude.{◌≡◌, Some, is_some};
-ghost use Rattle.vx_plans.specs.Tests.{earlier, first_started, started_of};
+ghost use Rattle.vx_stages.specs.Tests.{earlier, first_started, started_of};
 ghost use Rattle.vx_house.specs.Plain.{plain};
 ghost use Rattle.vx_house.specs.Runs.{run_in};
 

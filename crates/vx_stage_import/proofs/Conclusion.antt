@@ -19,7 +19,7 @@ use Rattle.vx_answers.specs.declared.refusal.Refusal.{Refusal}
 use Rattle.vx_objects.specs.declared.config.Config.{Config}
 use Rattle.vx_answers.specs.declared.refusal.Refusal.TheVariants.{NoGroup, Damaged, Missing}
 use Rattle.vx_moments.specs.World.{World}
-use Rattle.vx_plans.specs.Finding.{Candidate, offers_of, first_that, is_damaged_one, is_taken_of, has_sequence, IsDamage, IsDiskOf, FindsText, FindsAll, FindsOffer, Finds}
+use Rattle.vx_stages.specs.Finding.{Candidate, offers_of, first_that, is_damaged_one, is_taken_of, has_sequence, IsDamage, IsDiskOf, FindsText, FindsAll, FindsOffer, Finds}
 use Rattle.vx_stage_import.specs.Finds.{contents_in, candidate_of, candidates_of}
 use Rattle.vx_stage_import.proofs.Links.{IsLinked, offers_link, test_of, whole_link, IsHurtFirst, hurt_link, none_missing, one_missing}
 

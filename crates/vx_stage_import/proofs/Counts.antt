@@ -19,7 +19,7 @@ use Rattle.vx_started.specs.declared.started.Started.{Started}
 use Rattle.vx_moments.specs.World.{Device}
 use Rattle.vx_moments.specs.Moment.{Moment, Counts, HasFailed}
 use Rattle.vx_moments.specs.Holding.{IsHeld, is_among}
-use Rattle.vx_plans.specs.Finding.{Candidate, IsCandidate, AreRising, AreCounted, IsUpTo, Found}
+use Rattle.vx_stages.specs.Finding.{Candidate, IsCandidate, AreRising, AreCounted, IsUpTo, Found}
 use Rattle.vx_house.specs.Holders.{Holder, holders, volume_holder, held_as, AreApart, hand_names}
 use Rattle.vx_house.specs.Scene.{Shelved, Scene, seen_in, seen_at, faults_in, faults_at, counts_of, FaultsGoOn}
 use Rattle.vx_house.specs.View.{IsMoment, IsDeviceOf, is_lent, at, scene}

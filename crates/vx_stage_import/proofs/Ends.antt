@@ -10,8 +10,8 @@ use Rattle.vx_answers.specs.declared.answer.End.{End}
 use Rattle.vx_answers.specs.declared.answer.End.TheVariants as ends
 use Rattle.vx_answers.specs.declared.refusal.Refusal.TheVariants.{InUse}
 use Rattle.vx_moments.specs.Moment.{Moment, AreLater, Rests}
-use Rattle.vx_plans.specs.Stages.{IsDone, Stops, ImportReads, ImportRefused, GroupStops, Wants}
-use Rattle.vx_plans.specs.declared.stage.Stage.TheVariants as stage
+use Rattle.vx_stages.specs.Stages.{IsDone, Stops, ImportReads, ImportRefused, GroupStops, Wants}
+use Rattle.vx_stages.specs.declared.stage.Stage.TheVariants as stage
 use Rattle.vx_house.specs.Goes.{StageGoes}
 use Rattle.vx_house.specs.Scene.{Shelved, Scene, seen_at, count_in, reads_at, counts_of, IsBlamed}
 use Rattle.vx_house.specs.View.{Keeps, IsMoment, is_lent, at, scene, group_of}

@@ -5,7 +5,7 @@ use Rattle.vx_mask.specs.Mask.{has}
 use Rattle.vx_copies.specs.Lists.{AllOf}
 use Rattle.vx_import.specs.Looks.{Looked}
 use Rattle.vx_import.specs.Naming.{is_readable_slot, AllThere}
-use Rattle.vx_plans.specs.Finding.{good_ones}
+use Rattle.vx_stages.specs.Finding.{good_ones}
 use Rattle.vx_stage_import.specs.Places.{ArePlaced}
 use Rattle.vx_stage_import.specs.Finds.{candidate_of, candidates_of}
 use Rattle.vx_stage_import.specs.Giving.{good_looks}

@@ -27,16 +27,16 @@ use Rattle.vx_moments.specs.World.{World, Group}
 use Rattle.vx_moments.specs.Moment.{Moment, AreLater}
 use Rattle.vx_moments.specs.Copies.{IsTextOf}
 use Rattle.vx_moments.specs.Commit.{Writing, IsStopped}
-use Rattle.vx_plans.specs.Finding.{members_of, member_of, group_found, import_records}
-use Rattle.vx_plans.specs.Finding.{Found}
-use Rattle.vx_plans.specs.Stages.{IsImporting, IsBetween, Stops}
-use Rattle.vx_plans.specs.declared.stage.Stage.TheVariants as stage
+use Rattle.vx_stages.specs.Finding.{members_of, member_of, group_found, import_records}
+use Rattle.vx_stages.specs.Finding.{Found}
+use Rattle.vx_stages.specs.Stages.{IsImporting, IsBetween, Stops}
+use Rattle.vx_stages.specs.declared.stage.Stage.TheVariants as stage
 use Rattle.vx_house.specs.Goes.{StageGoes}
 use Rattle.vx_fronts.specs.Fronts.{HasPrivate}
 use Rattle.vx_fronts.specs.Parted.{AreParted, IsFront}
 use Rattle.vx_fronts.proofs.Parted.{parted_committed}
-use Rattle.vx_running.specs.Public.{lent_pieces, still_pieces}
-use Rattle.vx_running.specs.declared.public.Public.{Public}
+use Rattle.vx_lending.specs.Public.{lent_pieces, still_pieces}
+use Rattle.vx_lending.specs.declared.public.Public.{Public}
 use Rattle.vx_house.specs.Holders.{Holder, holders, volume_holder, group_holders, hand_holder, holder_in, volume_at, whole_members, AreApart, AreHeld, IsTakenFrom}
 use Rattle.vx_house.specs.Scene.{Shelved, Scene, seen_at, counts_of, FaultsGoOn}
 use Rattle.vx_house.specs.View.{at, scene, is_lent, group_of, member_in, AreSized, IsGroupIdle, IsGroupWhole, IsMoment, IsMomentButGroup, IsGroupKept, KeepsButGroup}

@@ -13,7 +13,7 @@ use Rattle.vx_import.specs.Looks.{Looked, looked, IsPrivate}
 use Rattle.vx_import.specs.Toggles.{Inspects, IsUnread}
 use Rattle.vx_import.specs.Answers.{IsOf, IsRising}
 use Rattle.vx_import.specs.declared.device.GroupDevice.{GroupDevice}
-use Rattle.vx_plans.specs.Finding.{IsUpTo}
+use Rattle.vx_stages.specs.Finding.{IsUpTo}
 use Rattle.vx_house.specs.Holders.{Holder, held_as, AreApart, AreHeld}
 use Rattle.vx_house.proofs.Holders.{later_held}
 use Rattle.vx_house.proofs.AllLaws.{all_back, all_unmapped, held_each}

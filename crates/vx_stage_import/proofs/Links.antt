@@ -20,7 +20,7 @@ use Rattle.vx_import.specs.Naming.{is_readable_slot, AllThere, IsGone, is_meant,
 use Rattle.vx_import.specs.declared.device.Reading.{Reading}
 use Rattle.vx_import.specs.declared.device.Reading.TheVariants as reading
 use Rattle.vx_import.specs.declared.naming.Damage.{Damage}
-use Rattle.vx_plans.specs.Finding.{Candidate, offers_of, is_damaged, is_damaged_one, first_that, missing_from}
+use Rattle.vx_stages.specs.Finding.{Candidate, offers_of, is_damaged, is_damaged_one, first_that, missing_from}
 use Rattle.vx_moments.specs.World.{Device}
 use Rattle.vx_stage_import.specs.Finds.{contents_in, candidate_of, candidates_of}
 

@@ -15,7 +15,7 @@ use Rattle.vx_piece.specs.Seen.{Seen, Keeps, IsRead}
 use Rattle.vx_header.specs.Named.{Label}
 use Rattle.vx_shelf.specs.Shelf.{SameCounts}
 use Rattle.vx_import.specs.Looks.{Looked}
-use Rattle.vx_plans.specs.Finding.{IsUpTo}
+use Rattle.vx_stages.specs.Finding.{IsUpTo}
 use Rattle.vx_house.specs.Holders.{Holder, held_as, AreHeld}
 use Rattle.vx_house.specs.Scene.{Shelved, seen_in}
 use Rattle.vx_house.proofs.Scenes.{scene_of, IsHanded}

@@ -11,8 +11,8 @@ use Rattle.vx_copies.specs.Image.{names_group, text_sectors}
 use Rattle.vx_moments.specs.World.{Device}
 use Rattle.vx_moments.specs.Moment.{Moment}
 use Rattle.vx_moments.specs.Holding.{IsHeld, is_among}
-use Rattle.vx_plans.specs.Finding.{import_sectors}
-use Rattle.vx_plans.specs.Stages.{IsFree, ImportReads}
+use Rattle.vx_stages.specs.Finding.{import_sectors}
+use Rattle.vx_stages.specs.Stages.{IsFree, ImportReads}
 use Rattle.vx_house.specs.Holders.{holders, held_as}
 use Rattle.vx_house.specs.Reading.{Stays}
 use Rattle.vx_house.specs.Scene.{Shelved, Scene, seen_in, seen_at, reads_at, counts_of}

@@ -13,8 +13,8 @@ use Rattle.vx_copies.specs.Lists.{AllOf}
 use Rattle.vx_import.specs.Looks.{Looked}
 use Rattle.vx_moments.specs.World.{Device}
 use Rattle.vx_moments.specs.Moment.{Moment}
-use Rattle.vx_plans.specs.Finding.{import_sectors}
-use Rattle.vx_plans.specs.Stages.{ImportReads}
+use Rattle.vx_stages.specs.Finding.{import_sectors}
+use Rattle.vx_stages.specs.Stages.{ImportReads}
 use Rattle.vx_house.specs.Holders.{holders, held_as}
 use Rattle.vx_house.specs.Reading.{Stays}
 use Rattle.vx_house.specs.Scene.{Shelved, Scene, seen_at, count_in, reads_at, counts_of}

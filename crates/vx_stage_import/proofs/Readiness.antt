@@ -25,7 +25,7 @@ use Rattle.vx_import.specs.Answers.{IsOf, IsGiven, disk_of}
 use Rattle.vx_import.specs.declared.device.GroupDevice.{GroupDevice}
 use Rattle.vx_import.specs.declared.judging.Given.{Given}
 use Rattle.vx_import.proofs.Members.{own_front, ready, member_of, below}
-use Rattle.vx_plans.specs.Finding.{needs_sync, import_records}
+use Rattle.vx_stages.specs.Finding.{needs_sync, import_records}
 use Rattle.vx_house.specs.View.{HaveSlots, AreRecorded}
 use Rattle.vx_house.proofs.AllLaws.{all_mapped, all_unmapped, all_each, all_two}
 use Rattle.vx_stage_import.specs.Places.{ArePlaced}

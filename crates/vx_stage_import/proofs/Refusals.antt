@@ -20,12 +20,12 @@ use Rattle.vx_answers.specs.declared.answer.End.{End}
 use Rattle.vx_answers.specs.declared.answer.End.TheVariants as ends
 use Rattle.vx_answers.specs.declared.refusal.Refusal.{Refusal}
 use Rattle.vx_script_words.specs.declared.value.DiskAt.{DiskAt}
-use Rattle.vx_plans.specs.Finding.{Finds, import_records}
-use Rattle.vx_plans.specs.Refusals.{refusal_from}
+use Rattle.vx_stages.specs.Finding.{Finds, import_records}
+use Rattle.vx_stages.specs.Refusals.{refusal_from}
 use Rattle.vx_moments.specs.Moment.{Moment}
-use Rattle.vx_plans.specs.Ends.{RefusedAsLong}
-use Rattle.vx_plans.specs.Stages.{ImportReads}
-use Rattle.vx_plans.specs.declared.stage.Stage.TheVariants as stage
+use Rattle.vx_stages.specs.Ends.{RefusedAsLong}
+use Rattle.vx_stages.specs.Stages.{ImportReads}
+use Rattle.vx_stages.specs.declared.stage.Stage.TheVariants as stage
 use Rattle.vx_house.specs.Goes.{StageGoes}
 use Rattle.vx_house.specs.Holders.{holders, held_as, volume_at}
 use Rattle.vx_house.specs.Scene.{Shelved, seen_in, seen_at, counts_of, FaultsGoOn}

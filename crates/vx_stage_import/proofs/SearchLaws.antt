@@ -17,7 +17,7 @@ use Rattle.vx_header.specs.Said.{toggle_of}
 use Rattle.vx_copies.specs.Image.{text_sectors}
 use Rattle.vx_moments.specs.Holding.{is_among}
 use Rattle.vx_moments.specs.Moment.{Moment}
-use Rattle.vx_plans.specs.Stages.{ImportReads}
+use Rattle.vx_stages.specs.Stages.{ImportReads}
 use Rattle.vx_house.specs.Holders.{holders, held_as}
 use Rattle.vx_house.specs.Scene.{Shelved, Scene, seen_in, seen_at, faults_in, faults_at, count_in, reads_at, counts_of}
 use Rattle.vx_house.specs.View.{Keeps, IsMoment, at, scene}

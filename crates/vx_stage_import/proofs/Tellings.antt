@@ -24,9 +24,9 @@ use Rattle.vx_answers.specs.declared.refusal.Refusal.TheVariants as refusal
 use Rattle.vx_started.specs.declared.started.Started.{Started}
 use Rattle.vx_moments.specs.World.{World, Volume}
 use Rattle.vx_moments.specs.Copies.{IsTextOf}
-use Rattle.vx_plans.specs.Finding.{Candidate, FindsText, Finds, import_records}
-use Rattle.vx_plans.specs.Refusals.{refusal_from}
-use Rattle.vx_plans.specs.Ends.{RefusedAsLong}
+use Rattle.vx_stages.specs.Finding.{Candidate, FindsText, Finds, import_records}
+use Rattle.vx_stages.specs.Refusals.{refusal_from}
+use Rattle.vx_stages.specs.Ends.{RefusedAsLong}
 use Rattle.vx_house.specs.View.{IsAtVolume}
 use Rattle.vx_stage_import.specs.Finds.{candidates_of}
 use Rattle.vx_stage_import.specs.Judging.{stray_in, started_in, CommitJudged, ConfigJudged, TextJudged}

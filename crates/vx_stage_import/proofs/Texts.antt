@@ -12,7 +12,7 @@ use Rattle.vx_copies.specs.Image.{Offer}
 use Rattle.vx_answers.specs.declared.refusal.Refusal.{Refusal}
 use Rattle.vx_answers.specs.declared.refusal.Refusal.TheVariants as refusal
 use Rattle.vx_moments.specs.World.{World}
-use Rattle.vx_plans.specs.Finding.{Candidate, first_that, is_recorded, good_ones, FindsConfig, FindsText}
+use Rattle.vx_stages.specs.Finding.{Candidate, first_that, is_recorded, good_ones, FindsConfig, FindsText}
 use Rattle.vx_stage_import.specs.Judging.{stray_in, started_in, CommitJudged, ConfigJudged, TextJudged}
 use Rattle.vx_stage_import.specs.declared.judging.Judged.{Judged}
 use Rattle.vx_stage_import.specs.declared.judging.Judged.TheVariants as judged

@@ -13,9 +13,9 @@ use Rattle.vx_objects.specs.declared.config.Config.{Config}
 use Rattle.vx_objects.specs.Config.{objects_of, IsMadeOf, IsRefusedOf}
 use Rattle.vx_objects.specs.Parts.{in_kinds}
 use Rattle.vx_objects.specs.Printed.{IsReadOf}
-use Rattle.vx_plans.specs.Finding.{needs_sync, import_records}
+use Rattle.vx_stages.specs.Finding.{needs_sync, import_records}
 use Rattle.vx_stage_import.specs.Judging.{TextJudged, RecordsJudged, ConfigJudged, CommitJudged, PrintJudged, RefusedBy}
-use Rattle.vx_plans.specs.Refusals.{refusal_by, refusal_from}
+use Rattle.vx_stages.specs.Refusals.{refusal_by, refusal_from}
 use Rattle.vx_answers.specs.declared.refusal.Refusal.{Refusal}
 use Rattle.vx_stage_import.specs.declared.judging.Judged.{Judged}
 

@@ -11,7 +11,7 @@ use Rattle.vx_copies.specs.Lists.{AllOf, AnyOf}
 use Rattle.vx_import.specs.Looks.{Looked, looked}
 use Rattle.vx_import.specs.declared.device.GroupDevice.{GroupDevice}
 use Rattle.vx_moments.specs.World.{Device}
-use Rattle.vx_plans.specs.Finding.{Candidate, IsUpTo}
+use Rattle.vx_stages.specs.Finding.{Candidate, IsUpTo}
 use Rattle.vx_house.specs.Holders.{Holder}
 use Rattle.vx_house.specs.Scene.{Shelved, Scene}
 use Rattle.vx_stage_import.specs.Places.{slots_of, ArePlaced}

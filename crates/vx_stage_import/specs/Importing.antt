@@ -16,7 +16,7 @@ use Rattle.vx_import.specs.declared.judging.ImportFault.TheVariants as fault
 use Rattle.vx_answers.specs.declared.answer.End.{End}
 use Rattle.vx_answers.specs.declared.answer.End.TheVariants as ends
 use Rattle.vx_answers.specs.declared.refusal.Refusal.TheVariants.{NoGroup, Damaged, Missing}
-use Rattle.vx_plans.specs.Finding.{IsDiskOf}
+use Rattle.vx_stages.specs.Finding.{IsDiskOf}
 use Rattle.vx_house.specs.Holders.{holders, held_as, AreHeld}
 use Rattle.vx_house.specs.Scene.{Shelved, Scene, faults_at, reads_at}
 use Rattle.vx_house.specs.View.{Keeps, at, scene}

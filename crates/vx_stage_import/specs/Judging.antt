@@ -24,8 +24,8 @@ use Rattle.vx_started.specs.declared.started.Started.{Started}
 use Rattle.vx_answers.specs.declared.refusal.Refusal.{Refusal}
 use Rattle.vx_answers.specs.declared.refusal.Refusal.TheVariants as refusal
 use Rattle.vx_moments.specs.Copies.{IsTextOf}
-use Rattle.vx_plans.specs.Finding.{IsBrokenBy, import_records}
-use Rattle.vx_plans.specs.Refusals.{refusal_by, refusal_from}
+use Rattle.vx_stages.specs.Finding.{IsBrokenBy, import_records}
+use Rattle.vx_stages.specs.Refusals.{refusal_by, refusal_from}
 use Rattle.vx_stage_import.specs.declared.judging.Judged.{Judged}
 use Rattle.vx_stage_import.specs.declared.judging.Judged.TheVariants.{Refused, Ready}
 

@@ -11,7 +11,7 @@ use Rattle.vx_confdb.specs.Groups.{IsMemberOf}
 use Rattle.vx_objects.specs.declared.config.Config.{Config}
 use Rattle.vx_objects.specs.Config.{objects_of}
 use Rattle.vx_moments.specs.Copies.{IsTextOf}
-use Rattle.vx_plans.specs.Finding.{import_records}
+use Rattle.vx_stages.specs.Finding.{import_records}
 use Rattle.vx_house.specs.View.{AreSized, HaveSlots}
 use Rattle.vx_stage_import.specs.Judging.{stray_in}
 use Rattle.vx_stage_import.specs.Giving.{seen_disks}

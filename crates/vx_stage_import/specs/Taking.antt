@@ -8,8 +8,8 @@ use Rattle.vx_copies.specs.declared.disk.Disk.{Disk}
 use Rattle.vx_confdb.specs.declared.group.Group.{Group}
 use Rattle.vx_import.specs.declared.judging.Given.{Given}
 use Rattle.vx_objects.specs.declared.config.Config.{Config}
-use Rattle.vx_running.specs.Public.{lent_pieces, still_pieces}
-use Rattle.vx_running.specs.declared.public.Public.{Public}
+use Rattle.vx_lending.specs.Public.{lent_pieces, still_pieces}
+use Rattle.vx_lending.specs.declared.public.Public.{Public}
 use Rattle.vx_house.specs.Closing.{GivesBack}
 use Rattle.vx_house.specs.Scene.{Shelved}
 use Rattle.vx_house.specs.View.{IsGroupIdle}

@@ -2,7 +2,7 @@
 ghost use Rattle.std.specs.Prelude.{◌++◌, ◌≤◌, List, length, map};
 ghost use Rattle.vx_import.specs.Answers.{IsGiven};
 ghost use Rattle.vx_import.specs.Looks.{looked};
-ghost use Rattle.vx_plans.specs.declared.stage.Stage.TheVariants as stages;
+ghost use Rattle.vx_stages.specs.declared.stage.Stage.TheVariants as stages;
 ghost use Rattle.vx_script_words.specs.declared.value.DiskAt.{DiskAt};
 ghost use Rattle.vx_house.specs.Goes.{StageGoes};
 ghost use Rattle.vx_house.specs.Holders.{holders, AreHeld};

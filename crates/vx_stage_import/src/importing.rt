@@ -4,7 +4,7 @@ ghost use Rattle.vx_base.specs.Named.{Word};
 ghost use Rattle.vx_shelf.specs.Listed.{IsRising};
 ghost use Rattle.vx_import.specs.Answers.{IsGiven};
 ghost use Rattle.vx_import.specs.Looks.{looked};
-ghost use Rattle.vx_plans.specs.declared.stage.Stage.TheVariants as stages;
+ghost use Rattle.vx_stages.specs.declared.stage.Stage.TheVariants as stages;
 ghost use Rattle.vx_script_words.specs.declared.value.DiskAt.{DiskAt};
 ghost use Rattle.vx_house.specs.Goes.{IsReady, StageGoes};
 ghost use Rattle.vx_house.specs.Holders.{holders, AreHeld};

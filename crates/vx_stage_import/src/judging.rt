@@ -1,5 +1,5 @@
 ghost use Rattle.std.specs.Prelude.{◌≡◌, map, IfOk};
-ghost use Rattle.vx_plans.specs.Finding.{needs_sync, needs_sync_state};
+ghost use Rattle.vx_stages.specs.Finding.{needs_sync, needs_sync_state};
 ghost use Rattle.vx_stage_import.specs.Judging.{labels_of, is_started, BadIs, RefusedBy, SizeJudged, CommitJudged, PrintJudged, ConfigJudged, RecordsJudged, TextJudged};
 
 use crate::checking::{first_started, first_stray};
@@ -13,9 +13,9 @@ use vx_import::GroupDevice;
 use vx_names::Name;
 use vx_objects::{Config, Object, ObjectFault, Vol, VolState};
 use vx_piece::Piece;
-use vx_plans::refusal_by;
 use vx_print::print_m;
 use vx_record::{Record, RecordFault, read};
+use vx_stages::refusal_by;
 use vx_started::Started;
 
 /// What becomes of a configuration's text.

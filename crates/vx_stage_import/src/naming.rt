@@ -1,5 +1,5 @@
 ghost use Rattle.std.specs.Prelude.{◌≡◌, IfOk, decimal, codes};
-ghost use Rattle.vx_plans.specs.Finding.{IsDiskOf, name_in, first_that, has_slot, is_value, attr_value, is_disk_kind};
+ghost use Rattle.vx_stages.specs.Finding.{IsDiskOf, name_in, first_that, has_slot, is_value, attr_value, is_disk_kind};
 
 use std::alloc::Global;
 use vx_base::OutOfMemory;

@@ -17,10 +17,10 @@ use Rattle.vx_started.specs.declared.started.Started.{Started}
 use Rattle.vx_moments.specs.World.{World, Volume, Group}
 use Rattle.vx_moments.specs.Moment.{Moment}
 use Rattle.vx_moments.specs.Commit.{Writing}
-use Rattle.vx_plans.specs.Making.{adding_refusal, is_started, made}
-use Rattle.vx_plans.specs.Ends.{IsChange}
-use Rattle.vx_plans.specs.Stages.{IsMaking, MakingRefused}
-use Rattle.vx_plans.specs.declared.stage.Stage.TheVariants as stage
+use Rattle.vx_stages.specs.Making.{adding_refusal, is_started, made}
+use Rattle.vx_stages.specs.Ends.{IsChange}
+use Rattle.vx_stages.specs.Stages.{IsMaking, MakingRefused}
+use Rattle.vx_stages.specs.declared.stage.Stage.TheVariants as stage
 use Rattle.vx_house.specs.Goes.{StageGoes}
 use Rattle.vx_house.specs.Holders.{holders, volume_at, AreHeld}
 use Rattle.vx_house.specs.Scene.{Shelved}
@@ -38,7 +38,7 @@ use Rattle.vx_house.specs.Plain.{told_volume}
 use Rattle.vx_house.specs.Runs.{run_in}
 use Rattle.vx_house.proofs.Runs.{started_same}
 use Rattle.vx_group_edits.proofs.Added.{making_keeps}
-use Rattle.vx_running.specs.declared.public.Running.{Running}
+use Rattle.vx_lending.specs.declared.public.Running.{Running}
 
 no_disk_made : (os : List Object) → filter_map as_disk (filter_map made os) ≡ []
 no_disk_made [] = refl

@@ -13,7 +13,7 @@ use Rattle.vx_objects.specs.Printed.{AreReadAs}
 use Rattle.vx_answers.specs.declared.answer.End.TheVariants as ends
 use Rattle.vx_answers.specs.declared.refusal.Refusal.{Refusal}
 use Rattle.vx_answers.specs.declared.refusal.Refusal.TheVariants as refusal
-use Rattle.vx_plans.specs.Making.{Adds, made, adding_refusal}
+use Rattle.vx_stages.specs.Making.{Adds, made, adding_refusal}
 use Rattle.vx_house.specs.declared.house.Imported.{Imported}
 use Rattle.vx_house.specs.declared.stop.Stop.{Stop}
 use Rattle.vx_house.specs.declared.stop.Stop.TheVariants as stops

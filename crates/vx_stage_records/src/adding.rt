@@ -1,7 +1,7 @@
 //! The records that a text adds.
 ghost use Rattle.std.specs.Prelude.{◌≡◌, IfOk, IfErr};
 ghost use Rattle.std.specs.List.{filter_map};
-ghost use Rattle.vx_plans.specs.Making.{Adds, made, made_state};
+ghost use Rattle.vx_stages.specs.Making.{Adds, made, made_state};
 ghost use Rattle.vx_stage_records.specs.Judging.{AddedOf, IsBad, StopsAs};
 
 use std::alloc::{AllocError, Global};

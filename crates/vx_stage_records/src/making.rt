@@ -5,7 +5,7 @@ ghost use Rattle.vx_house.specs.Goes.{StageGoes};
 ghost use Rattle.vx_house.specs.Holders.{holders, AreHeld};
 ghost use Rattle.vx_house.specs.Scene.{Shelved};
 ghost use Rattle.vx_house.specs.View.{KeepsHouse, IsGroupKept, at};
-ghost use Rattle.vx_plans.specs.declared.stage.Stage.TheVariants as stages;
+ghost use Rattle.vx_stages.specs.declared.stage.Stage.TheVariants as stages;
 ghost use Rattle.vx_script_words.specs.declared.value.DiskAt.{DiskAt};
 ghost use Rattle.vx_stage_records.specs.Judging.{MakeEnds};
 

@@ -12,7 +12,7 @@ use Rattle.vx_life.specs.declared.EntryKind.{EntryKind}
 use Rattle.vx_life.specs.Entry.{Entry, candidates_after, ReadsAmong}
 use Rattle.vx_life.specs.Life.{Life, life_after}
 use Rattle.vx_life.proofs.History.{goes_on_more}
-use Rattle.vx_plans.specs.Calls.{IsPart, AreParts, IsOf, AreOf}
+use Rattle.vx_stages.specs.Calls.{IsPart, AreParts, IsOf, AreOf}
 use Rattle.vx_started.specs.Stands.{IsAmongTold, StandsFor, IsDrawn, AreBelow, entry_of, PartGoes, CallGoes}
 
 parts_more : (size start count index : ℕ) (es : List Entry) (e : Entry) → AreParts size start count index es → IsPart size start count (index + length es) e → AreParts size start count index (es ++ e ∷ [])

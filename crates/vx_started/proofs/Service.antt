@@ -16,7 +16,7 @@ use Rattle.vx_script_forms.specs.declared.call.Call.TheVariants as calls
 use Rattle.vx_answers.specs.declared.answer.End.{End}
 use Rattle.vx_answers.specs.declared.answer.End.TheVariants.{Done, Fault, Lost}
 use Rattle.vx_moments.specs.World.{Volume, Lies, OnDevice}
-use Rattle.vx_plans.specs.Calls.{LiesOn, start_of, count_of, values_of, failed_kind, AreParts, AreOf}
+use Rattle.vx_stages.specs.Calls.{LiesOn, start_of, count_of, values_of, failed_kind, AreParts, AreOf}
 use Rattle.vx_started.specs.Stands.{IsAmongTold, CallGoes, Serves}
 use Rattle.vx_started.specs.Buffers.{HoldsFirst}
 use Rattle.vx_started.proofs.Choice.{is_in_bounds}

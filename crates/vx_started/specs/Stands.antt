@@ -15,7 +15,7 @@ use Rattle.vx_script_forms.specs.declared.call.Call.{Call}
 use Rattle.vx_answers.specs.declared.answer.End.{End}
 use Rattle.vx_answers.specs.declared.answer.End.TheVariants.{Done, Refused, Fault, ShelfFailed, GroupLost, Lost}
 use Rattle.vx_moments.specs.World.{Volume, OnDevice}
-use Rattle.vx_plans.specs.Calls.{AreParts, AreOf, Lives}
+use Rattle.vx_stages.specs.Calls.{AreParts, AreOf, Lives}
 
 -- the contents are told, and each block is among its candidates
 abbrev pub IsAmongTold : ℕ → Option Contents → Candidates → Type 0

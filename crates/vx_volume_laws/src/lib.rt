@@ -12,6 +12,10 @@ ghost use Rattle.vx_volume_laws.specs.Start.{EachEmptyBegins, EachSettledVolumeB
 ghost use Rattle.vx_volume_laws.specs.Tracks.{EachCallIsTracked};
 ghost use Rattle.vx_volume_laws.specs.Volumes.{EachVolumeIsLeft};
 
+pub mod left;
+pub mod lives;
+pub mod opened;
+
 /// After a loss and a recovery the available plexes hold one list, with every acknowledged write.
 pub fn each_loss_is_recovered()
     ensures { EachLossIsRecovered }

@@ -2,16 +2,16 @@ ghost use Rattle.std.specs.Prelude.{◌+◌, ◌^◌, ◌<◌, ◌≤◌, IsTrue
 ghost use Rattle.vx_piece.specs.MemPiece.{mem_seen};
 ghost use Rattle.vx_lending.specs.Going.{GoTogether};
 ghost use Rattle.vx_lending.specs.Left.{held_pieces};
-ghost use Rattle.vx_plans.specs.Calls.{start_of, count_of};
+ghost use Rattle.vx_stages.specs.Calls.{start_of, count_of};
 ghost use Rattle.vx_volume.specs.Volume.{IsVolume, volume_seen};
 ghost use Rattle.vx_group_calls.specs.Serving.{IsWithinLimits};
 
 use crate::shown::show_served;
 use std::io;
 use vx_group_calls::serve;
+use vx_lending::Running;
 use vx_names::Name;
 use vx_piece::MemPiece;
-use vx_running::Running;
 use vx_script_forms::Call;
 
 /// Fills both regions with one byte, reads across the bound between them, fills a block, and reads all.

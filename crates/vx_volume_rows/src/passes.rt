@@ -7,8 +7,8 @@ ghost use Rattle.vx_volume.specs.Volume.{IsVolume, volume_seen};
 use std::io;
 use vx_group_start::{copy_all, mask_to_copy};
 use vx_group_stop::quiesce;
+use vx_lending::Running;
 use vx_piece::MemPiece;
-use vx_running::Running;
 use vx_volume::{IoFault, Volume};
 
 /// Copies to the plexes that a new log marks, or to none.

@@ -20,10 +20,10 @@ use vx_confdb::Group;
 use vx_fronts::open_group;
 use vx_group_start::laws::volumes_can_be_opened;
 use vx_group_start::open_volume;
+use vx_lending::Public;
 use vx_objects::{Config, Vol};
 use vx_piece::{Bad, MemPiece};
 use vx_record::read;
-use vx_running::Public;
 
 pub fn show(rt: &HostRuntime) -> io::Result<()> {
     println!(rt; "one plex on the first disk, no log")?;

@@ -4,7 +4,7 @@ ghost use Rattle.vx_piece.specs.MemPiece.{mem_seen};
 ghost use Rattle.vx_fronts.specs.Parted.{AreParted};
 ghost use Rattle.vx_lending.specs.Going.{GoTogether};
 ghost use Rattle.vx_lending.specs.Left.{held_pieces};
-ghost use Rattle.vx_running.specs.Public.{still_pieces};
+ghost use Rattle.vx_lending.specs.Public.{still_pieces};
 ghost use Rattle.vx_volume.specs.Volume.{IsVolume, volume_seen};
 ghost use Rattle.vx_volume_rows.specs.Whole.{AreFromBehind};
 
@@ -16,9 +16,9 @@ use vx_carve::Pool;
 use vx_confdb::Group;
 use vx_fronts::close_group;
 use vx_group_start::close_volume;
+use vx_lending::{Public, Running};
 use vx_names::Name;
 use vx_piece::MemPiece;
-use vx_running::{Public, Running};
 
 /// Copies to the plexes of a volume, if that is wanted, makes calls on it, brings it to rest, and puts it back.
 pub fn ran(

@@ -6,7 +6,7 @@ use Rattle.std.specs.Ordering.{nat_cmp}
 use Rattle.vx_base.specs.Named.{put, SameUnder}
 use Rattle.std.proofs.lemmas.Map.Steps.{set_value_same}
 use Rattle.std.proofs.lemmas.Result.{on_err_weaker}
-use Rattle.vx_plans.specs.Calls.{volume_of, start_of, count_of}
+use Rattle.vx_stages.specs.Calls.{volume_of, start_of, count_of}
 use Rattle.vx_engine.proofs.Among.{past_among, served_among, one_ok, puts_as}
 use Rattle.vx_engine.proofs.calling.serve_among.Goals as goal
 

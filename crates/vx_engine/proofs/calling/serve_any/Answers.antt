@@ -1,5 +1,5 @@
 use Rattle.std.proofs.Common.{◌≡◌, None, Some, refl, sym, subst, rules}
-use Rattle.vx_plans.specs.Calls.{volume_of}
+use Rattle.vx_stages.specs.Calls.{volume_of}
 use Rattle.vx_house.specs.Holders.{volume_at}
 use Rattle.vx_engine.specs.Grouped.{ServesBy, ServesGroup}
 use Rattle.vx_engine.proofs.Among.{one_ok}

@@ -6,8 +6,8 @@ use Rattle.std.specs.Cmp.Lexicographic.{slice_cmp}
 use Rattle.std.specs.Ordering.{nat_cmp}
 use Rattle.vx_answers.specs.declared.answer.End.TheVariants.{Refused}
 use Rattle.vx_answers.specs.declared.refusal.Refusal.TheVariants.{Range}
-use Rattle.vx_plans.specs.Calls.{count_of, start_of, volume_of}
-use Rattle.vx_running.specs.Public.{running_at}
+use Rattle.vx_stages.specs.Calls.{count_of, start_of, volume_of}
+use Rattle.vx_lending.specs.Public.{running_at}
 use Rattle.vx_volume.specs.Volume.{volume_seen}
 use Rattle.vx_engine.specs.Grouped.{IsServedIn, IsToldAs, MayRunCall, NamesFault, RunsCall, ServesInGroup}
 use Rattle.vx_engine.proofs.Served.{is_volume, names_fault}

@@ -2,7 +2,7 @@ use Rattle.std.proofs.Common.{◌∙◌, sym, subst, Result}
 use Rattle.vx_house.specs.Goes.{StageGoes}
 use Rattle.vx_house.specs.View.{at}
 use Rattle.vx_house.specs.declared.stop.Stop.{Stop}
-use Rattle.vx_plans.specs.declared.stage.Stage.TheVariants as stages
+use Rattle.vx_stages.specs.declared.stage.Stage.TheVariants as stages
 use Rattle.vx_engine.proofs.GateStage.{test_passed, test_failed}
 use Rattle.vx_engine.proofs.stages.pass.Goals as goal
 

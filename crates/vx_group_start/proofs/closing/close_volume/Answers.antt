@@ -4,7 +4,7 @@ use Rattle.std.specs.List.{flat_map}
 use Rattle.vx_piece.specs.Seen.{Seen}
 use Rattle.vx_carve.specs.Together.{SameSectors}
 use Rattle.vx_lending.specs.Left.{held_pieces}
-use Rattle.vx_running.specs.Public.{remaining_pieces}
+use Rattle.vx_lending.specs.Public.{remaining_pieces}
 use Rattle.vx_group_start.proofs.Closings.{same_held}
 use Rattle.vx_group_start.proofs.Stills.{still_put}
 use Rattle.vx_group_start.proofs.closing.close_volume.Goals as goal

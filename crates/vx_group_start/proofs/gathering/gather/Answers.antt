@@ -1,7 +1,7 @@
 -- What is left of one volume is put in, or stays.
 use Rattle.std.proofs.Common.{rules, ◌≡◌, ◌++◌, [], ◌∷◌, map}
 use Rattle.vx_carve.proofs.Same.{same_trans}
-use Rattle.vx_running.specs.Public.{remaining_pieces}
+use Rattle.vx_lending.specs.Public.{remaining_pieces}
 use Rattle.vx_group_start.proofs.Stills.{still_again, still_less}
 use Rattle.vx_group_start.proofs.gathering.gather.Goals as goal
 

@@ -1,7 +1,7 @@
 -- What is left and the pool are together what there was.
 use Rattle.std.proofs.Common.{◌≡◌, vec_len}
 use Rattle.vx_carve.specs.Together.{SameSectors}
-use Rattle.vx_running.specs.Public.{still_pieces}
+use Rattle.vx_lending.specs.Public.{still_pieces}
 use Rattle.vx_group_start.proofs.gathering.gather.Given as goal
 
 abbrev pub invariant-left : goal.invariant-left

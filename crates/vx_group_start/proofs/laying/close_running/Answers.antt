@@ -5,7 +5,7 @@ use Rattle.std.specs.List.{flat_map}
 use Rattle.vx_carve.proofs.Same.{same_trans}
 use Rattle.vx_volume.specs.Volume.{IsVolume, volume_seen}
 use Rattle.vx_group_start.specs.Laying.{AreRunningVolumes}
-use Rattle.vx_running.specs.Public.{running_pieces, still_pieces, stuck_pieces}
+use Rattle.vx_lending.specs.Public.{running_pieces, still_pieces, stuck_pieces}
 use Rattle.vx_group_start.proofs.OneByOne.{all_behind, head_first, none_left}
 use Rattle.vx_group_start.proofs.laying.close_running.Goals as goal
 

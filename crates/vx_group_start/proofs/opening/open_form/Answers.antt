@@ -12,7 +12,7 @@ use Rattle.vx_volume.specs.Opening.{regions_seen}
 use Rattle.vx_lending.specs.Left.{held_pieces}
 use Rattle.vx_lending.specs.Pieces.{volume_pieces}
 use Rattle.vx_lending.proofs.Goings.{go_from, go_then}
-use Rattle.vx_running.specs.Public.{remaining_pieces, still_pieces}
+use Rattle.vx_lending.specs.Public.{remaining_pieces, still_pieces}
 use Rattle.vx_group_start.specs.Started.{IsStarted}
 use Rattle.vx_group_start.specs.Together.{GoByLog}
 use Rattle.vx_group_start.proofs.Starts.{AreTakenFor, gone_by, ok_both, started_over, still_taken, unstarted_by}

@@ -1,5 +1,5 @@
 -- The log is made, and the volume opened over it.
-use Rattle.std.proofs.Common.{List}
+use Rattle.std.proofs.Common.{Bool, List, subst}
 use Rattle.std.proofs.lemmas.Result.{IfErr-weaker, IfOk-weaker, on_err_weaker}
 use Rattle.vx_piece.specs.Seen.{Seen}
 use Rattle.vx_maps.specs.Spares.{copies_seen}
@@ -7,11 +7,12 @@ use Rattle.vx_volume.specs.Log.{log_seen}
 use Rattle.vx_volume.specs.Opening.{regions_seen}
 use Rattle.vx_volume_pieces.specs.Pieces.{all_pieces}
 use Rattle.vx_lending.specs.Left.{left_copies}
-use Rattle.vx_lending.specs.Logs.{log_copies, log_pieces}
+use Rattle.vx_lending.specs.Logs.{log_copies, log_header, log_pieces}
 use Rattle.vx_lending.specs.Pieces.{copy_pieces}
 use Rattle.vx_lending.specs.Taken.{slot_of}
 use Rattle.vx_lending.proofs.LogShapes.{none_empty}
-use Rattle.vx_running.specs.Public.{still_pieces}
+use Rattle.vx_lending.specs.Public.{still_pieces}
+use Rattle.vx_group_start.specs.Steps.{IsNoLog}
 use Rattle.vx_group_start.proofs.Fits.{log_over}
 use Rattle.vx_group_start.proofs.Together.{come_back}
 use Rattle.vx_group_start.proofs.Unstarted.{gone, no_log, not_opened}
@@ -41,7 +42,8 @@ returns-in-Ok-clause-back g c =
 pub returns-in-Err-clause-refused : goal.returns-in-Err-clause-refused
 returns-in-Err-clause-refused g c =
     no_log c.args.vol.now c.args.form (copies_seen g.P.Piece.seen c.args.pieces.copies.items) (all_pieces (regions_seen g.P.Piece.seen c.args.pieces.regions.items)) c.args.public.now c.put_back.new.public (left_copies g.P.Piece.seen c.in-Err.refused.left) c.in-Err.refused.fault
-    c.put_back.ensures.still c.in-Err.ensures.refused
+    c.put_back.ensures.still
+    (subst (λ (fresh : Bool). IsNoLog fresh (log_header c.args.form.shape.geometry) (copies_seen g.P.Piece.seen c.args.pieces.copies.items) (left_copies g.P.Piece.seen c.in-Err.refused.left) c.in-Err.refused.fault) c.is_fresh.ensures c.in-Err.ensures.refused)
 
 pub returns-in-Err-clause-back : goal.returns-in-Err-clause-back
 returns-in-Err-clause-back g c =

@@ -7,7 +7,7 @@ use Rattle.vx_volume_form.specs.Form.{IsFormOf}
 use Rattle.vx_volume_form.proofs.Places.{can_be_taken}
 use Rattle.vx_volume_form.proofs.Rooms.{logs_are}
 use Rattle.vx_lending.specs.Left.{held_pieces}
-use Rattle.vx_running.specs.Public.{remaining_pieces, still_pieces}
+use Rattle.vx_lending.specs.Public.{remaining_pieces, still_pieces}
 use Rattle.vx_group_start.specs.Fresh.{is_fresh}
 use Rattle.vx_group_start.specs.Together.{GoByLog}
 use Rattle.vx_group_start.proofs.Early.{early}

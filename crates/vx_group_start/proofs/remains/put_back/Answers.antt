@@ -5,7 +5,7 @@ use Rattle.vx_volume.specs.Opening.{regions_seen}
 use Rattle.vx_volume_pieces.specs.Pieces.{all_pieces}
 use Rattle.vx_lending.specs.Left.{left_copies}
 use Rattle.vx_lending.specs.Pieces.{copy_pieces}
-use Rattle.vx_running.specs.Public.{remaining_pieces}
+use Rattle.vx_lending.specs.Public.{remaining_pieces}
 use Rattle.vx_group_start.proofs.Stills.{still_more, still_put}
 use Rattle.vx_group_start.proofs.remains.put_back.Goals as goal
 

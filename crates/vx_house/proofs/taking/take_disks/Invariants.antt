@@ -1,5 +1,5 @@
 use Rattle.std.proofs.Common.{take}
-use Rattle.vx_plans.specs.Records.{devices_of}
+use Rattle.vx_stages.specs.Records.{devices_of}
 use Rattle.vx_house.specs.Scene.{shelved}
 use Rattle.vx_house.specs.Takes.{Took}
 use Rattle.vx_house.specs.View.{at}

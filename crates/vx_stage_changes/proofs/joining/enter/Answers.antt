@@ -1,6 +1,6 @@
 use Rattle.std.proofs.Common.{◌∷◌, [], subst}
 use Rattle.vx_objects.specs.declared.edit.Edit.TheVariants.{AddDisk}
-use Rattle.vx_plans.specs.Records.{disk_record}
+use Rattle.vx_stages.specs.Records.{disk_record}
 use Rattle.vx_stage_changes.specs.Planning.{IsPlanned}
 use Rattle.vx_stage_changes.proofs.Room.{has_room, offers_none, is_fresh, join_ends}
 use Rattle.vx_stage_changes.proofs.joining.enter.Goals as goal

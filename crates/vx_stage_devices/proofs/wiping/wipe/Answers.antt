@@ -1,6 +1,6 @@
 use Rattle.std.proofs.Common.{subst}
 use Rattle.std.specs.Vec.{with_item}
-use Rattle.vx_plans.specs.declared.stage.Stage.TheVariants.{Wipe}
+use Rattle.vx_stages.specs.declared.stage.Stage.TheVariants.{Wipe}
 use Rattle.vx_house.specs.Goes.{StageGoes}
 use Rattle.vx_house.specs.View.{at}
 use Rattle.vx_stage_devices.proofs.Wipes.{wipe_stage}

@@ -1,6 +1,6 @@
 use Rattle.std.proofs.Common.{◌≡◌, ◌∙◌, ◌+◌, ◌++◌, ◌∷◌, [], ℕ, sym, ap, take, rules, arith}
 use Rattle.std.proofs.lemmas.List.{take_more, length-take-le}
-use Rattle.vx_plans.specs.Records.{disk_record, sectors_at}
+use Rattle.vx_stages.specs.Records.{disk_record, sectors_at}
 use Rattle.vx_house.specs.Plain.{plain}
 use Rattle.vx_stage_gates.proofs.DiskLists.{records_next}
 use Rattle.vx_stage_gates.proofs.devices.new_records.Goals as goal

@@ -1,5 +1,5 @@
 use Rattle.std.proofs.Common.{◌≡◌, take}
-use Rattle.vx_plans.specs.Records.{new_records}
+use Rattle.vx_stages.specs.Records.{new_records}
 use Rattle.vx_house.specs.Plain.{plain}
 use Rattle.vx_stage_gates.proofs.devices.new_records.Given as goal
 

@@ -1,5 +1,5 @@
 use Rattle.std.proofs.Common.{◌≡◌, map, take}
-use Rattle.vx_plans.specs.Finding.{needs_sync}
+use Rattle.vx_stages.specs.Finding.{needs_sync}
 use Rattle.vx_stage_import.proofs.judging.all_synced.Given as goal
 
 abbrev pub invariant-loop-object : goal.invariant-loop-object

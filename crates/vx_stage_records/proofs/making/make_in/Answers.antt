@@ -1,7 +1,7 @@
 use Rattle.std.proofs.Common.{◌≡◌, ◌∙◌, Err, Some, None, [], ◌∷◌, refl, inl, inr, ap, sym, subst}
 use Rattle.std.proofs.lemmas.Result.{err_from_is_err_and}
 use Rattle.vx_objects.specs.Config.{objects_of}
-use Rattle.vx_plans.specs.Making.{adding_refusal}
+use Rattle.vx_stages.specs.Making.{adding_refusal}
 use Rattle.vx_house.specs.declared.stop.Stop.TheVariants as stops
 use Rattle.vx_answers.specs.declared.answer.End.TheVariants as ends
 use Rattle.vx_objects.specs.declared.edit.Edit.TheVariants.{Make}

@@ -1,5 +1,0 @@
-use Rattle.vx_left_images.proofs.Lasting.{lies_opened}
-use Rattle.vx_left_images.proofs.each_opened_volume_lies.Goals as goal
-
-pub returns : goal.returns
-returns g c numbers form regions taken on = lies_opened numbers form regions taken c.args.volume.now on

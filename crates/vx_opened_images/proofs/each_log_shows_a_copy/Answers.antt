@@ -1,8 +1,0 @@
-use Rattle.vx_opened_images.proofs.Loaded.{loaded_shows, absent_shows}
-use Rattle.vx_opened_images.proofs.each_log_shows_a_copy.Goals as goal
-
-pub returns-clause-loaded : goal.returns-clause-loaded
-returns-clause-loaded c = loaded_shows
-
-pub returns-clause-absent : goal.returns-clause-absent
-returns-clause-absent c = absent_shows

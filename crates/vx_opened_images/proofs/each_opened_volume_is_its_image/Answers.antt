@@ -1,8 +1,0 @@
-use Rattle.vx_opened_images.proofs.Opening.{opened_is, opened_stands}
-use Rattle.vx_opened_images.proofs.each_opened_volume_is_its_image.Goals as goal
-
-pub returns-clause-image : goal.returns-clause-image
-returns-clause-image c = opened_is
-
-pub returns-clause-stands : goal.returns-clause-stands
-returns-clause-stands c = opened_stands

@@ -1,3 +1,0 @@
-pub mod Contents
-pub mod Opened
-pub mod Logs

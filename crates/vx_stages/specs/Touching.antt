@@ -1,0 +1,45 @@
+-- What a command does to one volume of the imported group by calls on its devices: its sectors alone change, and why it ends.
+use Rattle.std.specs.Prelude.{◌≡◌, true, Some, [], Contains}
+use Rattle.vx_base.specs.Named.{Word, put}
+use Rattle.vx_answers.specs.declared.answer.End.{End}
+use Rattle.vx_answers.specs.declared.answer.End.TheVariants as ends
+use Rattle.vx_moments.specs.World.{Group, Member, Volume}
+use Rattle.vx_moments.specs.Moment.{Counts, HasFailed, Moment}
+use Rattle.vx_group_images.specs.Group.{ChangesOnly}
+use Rattle.vx_group_images.specs.Owners.{IsDeviceOfVolume}
+use Rattle.vx_stages.specs.GroupCalls.{CallsOnly}
+
+-- ---- what has changed
+
+-- Nothing but sectors of the volume has changed, and no device was called but its own.
+pub record IsTouched (g : Group) (vol : Word) (old new : Moment) : Type 0 where
+  pub world : new.world ≡ record old.world { devices = new.world.devices }
+  pub changes : ChangesOnly g vol old.world.devices new.world.devices
+  pub calls : CallsOnly g vol old.counts new.counts
+
+-- beside that, the started volume is this one now
+pub record VolumeGoes (g : Group) (vol : Word) (later : Volume) (old new : Moment) : Type 0 where
+  pub world : new.world ≡ record old.world { devices = new.world.devices; volumes = put vol (Some later) old.world.volumes }
+  pub changes : ChangesOnly g vol old.world.devices new.world.devices
+  pub calls : CallsOnly g vol old.counts new.counts
+
+-- ---- why it has ended so
+
+-- a device of the volume has failed, and the disk of the group on it is told
+pub record FailsOn (g : Group) (vol : Word) (old new : Counts) (told device : Word) : Type 0 where
+  pub member : Member
+  pub there : Contains g.members member
+  pub device_is : member.device ≡ device
+  pub disk_is : member.disk ≡ told
+  pub own : IsDeviceOfVolume g vol device
+  pub failed : HasFailed old new device
+
+-- on some device of the volume the power is gone
+abbrev pub IsCutOff : Group → Word → Counts → Type 0
+IsCutOff g vol counts = (device : Word) × IsDeviceOfVolume g vol device × (counts.cut device ≡ true)
+
+-- a pass over the volume that is not done has a cause; nothing is told of parts
+abbrev pub PassHasCause : Group → Word → Counts → Counts → End → Type 0
+PassHasCause g vol old new (ends.Fault told device parts) = (parts ≡ []) × FailsOn g vol old new told device
+PassHasCause g vol old new (ends.Lost parts) = (parts ≡ []) × IsCutOff g vol new
+PassHasCause g vol old new other = ⊥

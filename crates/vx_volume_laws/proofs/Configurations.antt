@@ -1,0 +1,92 @@
+-- What keeps volumes, one configuration after another.
+use Rattle.std.proofs.Common.{◌≡◌, ℕ, Bool, true, false, Option, Some, None, List, [], ◌∷◌, refl, sym, ap, ◌∙◌}
+use Rattle.std.specs.Prelude.{◌&&◌}
+use Rattle.std.specs.List.{AllZip}
+use Rattle.std.proofs.lemmas.Bool.{and_parts, and_from, false≢true}
+use Rattle.vx_base.specs.Named.{Word}
+use Rattle.vx_config_parts.specs.declared.plex.Plex.{Plex}
+use Rattle.vx_config_parts.specs.declared.state.PlexState.{PlexState}
+use Rattle.vx_config_parts.specs.declared.state.PlexState.TheVariants as plex
+use Rattle.vx_config_parts.specs.Objects.{is_data_plex_of, is_log_plex_of}
+use Rattle.vx_objects.specs.declared.config.Config.{Config}
+use Rattle.vx_plexes.proofs.Members.{IsIn}
+use Rattle.vx_image.specs.Image.{PlexImage}
+use Rattle.vx_image.specs.Bytes.{is_held, plex_image}
+use Rattle.vx_image.proofs.Members.{contains, is_in}
+use Rattle.vx_image.specs.UsedPlexes.{is_used_log, is_used_state, used_logs}
+use Rattle.vx_volume_form.proofs.Bits.{kept}
+use Rattle.vx_volume_form.proofs.Distinct.{filtered}
+use Rattle.vx_volume_laws.proofs.Held.{in_image, of_image}
+use Rattle.vx_volume_laws.specs.Keeping.{EachKeepingGoesOn, EachKeptVolumeIsNamed, EachVolumeKeepsItself, KeepsPlex, LiesStill, data_plexes}
+use Rattle.vx_volume_laws.proofs.Plexes.{zip_right}
+
+zip_same : {A : Type 0} (R : A → A → Type 0) → ((x : A) → R x x) → (xs : List A) → AllZip R xs xs
+zip_same R same [] = tt
+zip_same R same (x ∷ xs) = (same x, zip_same R same xs)
+
+zip_then : {A B C : Type 0} (R : A → B → Type 0) (S : B → C → Type 0) (T : A → C → Type 0) → ((x : A) (y : B) (z : C) → R x y → S y z → T x z) → (xs : List A) (ys : List B) (zs : List C) → AllZip R xs ys → AllZip S ys zs → AllZip T xs zs
+zip_then R S T each [] [] [] a b = tt
+zip_then R S T each [] [] (z ∷ zs) a b = absurd b
+zip_then R S T each [] (y ∷ ys) zs a b = absurd a
+zip_then R S T each (x ∷ xs) [] zs a b = absurd a
+zip_then R S T each (x ∷ xs) (y ∷ ys) [] a b = absurd b
+zip_then R S T each (x ∷ xs) (y ∷ ys) (z ∷ zs) a b = (each x y z a.0 b.0, zip_then R S T each xs ys zs a.1 b.1)
+
+lies_same : (c : Config) (p : Plex) → LiesStill c c p p
+lies_same c p = record { unit = refl; columns = refl }
+
+lies_then : (c0 c c' : Config) (p q q' : Plex) → LiesStill c0 c p q → LiesStill c c' q q' → LiesStill c0 c' p q'
+lies_then c0 c c' p q q' a b = record { unit = b.unit ∙ a.unit; columns = b.columns ∙ a.columns }
+
+-- a log plex that is active is used in any start
+used_any : (fresh : Bool) (s : PlexState) → is_used_state false s ≡ true → is_used_state fresh s ≡ true
+used_any fresh plex.Empty h = absurd (false≢true h)
+used_any fresh plex.Clean h = h
+used_any fresh plex.Active h = refl
+used_any fresh plex.IoFail h = h
+used_any fresh plex.Stale h = h
+used_any fresh plex.SnapAtt h = h
+used_any fresh plex.SnapDone h = h
+used_any fresh plex.DcoSnp h = h
+
+log_used : (c : Config) (good : ℕ) (vol : Word) (fresh : Bool) (dco : Option Word) (q : Plex) → IsIn (used_logs dco c good false vol) q → IsIn (used_logs dco c good fresh vol) q
+log_used c good vol fresh None q there = there
+log_used c good vol fresh (Some d) q there =
+    let w = filtered (is_used_log c good false vol) c.plexes q there in
+    let first = and_parts (is_log_plex_of vol q) (is_used_state false q.state && is_held c good q) w.1 in
+    let second = and_parts (is_used_state false q.state) (is_held c good q) first.1 in
+    kept (is_used_log c good fresh vol) c.plexes q w.0 (and_from _ _ first.0 (and_from _ _ (used_any fresh q.state second.0) second.1))
+
+pub volume_kept : EachVolumeKeepsItself
+volume_kept c good v fresh =
+    record {
+      length_is = refl;
+      region_is = refl;
+      dco = refl;
+      plexes = zip_same (KeepsPlex c good c good) (λ p. record { name = refl; map = refl; lies = lies_same c p; available = refl; held = λ h. h }) (data_plexes c v.name);
+      logs = λ q one. (q, contains (used_logs v.dco c good fresh v.name) q (log_used c good v.name fresh v.dco q (is_in (used_logs v.dco c good false v.name) q one)), lies_same c q);
+      relations = refl;
+    }
+
+pub keeping_goes_on : EachKeepingGoesOn
+keeping_goes_on c0 good0 v0 fresh c good v c' good' v' a b =
+    record {
+      length_is = b.length_is ∙ a.length_is;
+      region_is = b.region_is ∙ a.region_is;
+      dco = b.dco ∙ a.dco;
+      plexes = zip_then (KeepsPlex c0 good0 c good) (KeepsPlex c good c' good') (KeepsPlex c0 good0 c' good')
+          (λ p q q' x y.
+          record { name = y.name ∙ x.name; map = y.map ∙ x.map; lies = lies_then c0 c c' p q q' x.lies y.lies; available = y.available ∙ x.available; held = λ h. x.held (y.held h) }) (data_plexes c0 v0.name) (data_plexes c v.name) (data_plexes c' v'.name) a.plexes b.plexes;
+      logs = λ q' one.
+          let q = b.logs q' one in
+          let p = a.logs q.0 q.1 in
+          (p.0, p.1, lies_then c0 c c' p.0 q.0 q' p.2 q.2);
+      relations = b.relations ∙ a.relations;
+    }
+
+pub kept_named : EachKeptVolumeIsNamed
+kept_named c0 good0 v0 fresh c good v keeps bytes0 bytes p one =
+    let x = of_image c good bytes v p one in
+    let r = zip_right (KeepsPlex c0 good0 c good) (data_plexes c0 v0.name) (data_plexes c v.name) keeps.plexes x.plex (kept (is_data_plex_of v.name) c.plexes x.plex x.there x.of) in
+    let w = filtered (is_data_plex_of v0.name) c0.plexes r.0 r.1 in
+    (plex_image c0 good0 bytes0 r.0, in_image c0 good0 bytes0 v0 r.0 w.0 w.1, sym (ap (λ (y : PlexImage). y.name) x.is ∙ r.2.name), sym (ap (λ (y : PlexImage). y.map) x.is ∙ r.2.map))

@@ -1,8 +1,0 @@
-mod Ends
-mod Leavings
-mod Lives
-mod Marking
-mod Runs
-mod Startings
-mod Tellings
-mod Volumes

@@ -23,7 +23,7 @@ use Rattle.vx_volume.specs.Volume.{IsVolume, VolumeSeen, cell_at}
 use Rattle.vx_volume.proofs.PartEntries.{call_made}
 use Rattle.vx_volume.proofs.Volumes.{IsWay}
 use Rattle.vx_volume_laws.specs.Telling.{AreOfParts, HoldFrom, IsOfPart}
-use Rattle.vx_volume_laws.proofs.Lives.{IsPlaced}
+use Rattle.vx_volume_laws.proofs.LivesOn.{IsPlaced}
 use Rattle.vx_volume_laws.proofs.Tellings.{IsNeverDead, IsTold, MayBeTold, all_told, done_alive, hold_all, hold_as, same_parts, stopped_alive, stopped_told}
 
 module _ (Way : Span → List ℕ → Option CellFault → RegionSeen → RegionSeen → Type 0) (may : Option CellFault → EntryKind → Type 0) (way : IsWay Way may) (never : IsNeverDead Way)

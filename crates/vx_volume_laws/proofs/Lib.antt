@@ -15,7 +15,7 @@ pub mod OpenedImages
 pub mod Loaded
 mod Ends
 mod LivesLeft
-mod Lives
+mod LivesOn
 mod Marking
 mod LivesRun
 mod Startings

@@ -35,7 +35,7 @@ use Rattle.vx_volume_laws.specs.Tracks.{EachCallIsTracked, GoesAt, TellOf}
 use Rattle.vx_group_images.specs.Tracks.{TrackOwner, has_failed, volume_failed, volume_goes, was_torn_in, was_unsettled, volume_lived}
 use Rattle.vx_volume_laws.specs.Running.{IsSureOfOthers, RegionRunsAs, RunsAsVolume, entries_in, state_at}
 use Rattle.vx_volume_laws.specs.RunLaws.{FailuresAreTold, MayComeNext, OwnersFit, RunsOn}
-use Rattle.vx_volume_laws.proofs.Lives.{Agrees, HasRecord, IsPlaced, life_goes, lived, record_last, torn_lived}
+use Rattle.vx_volume_laws.proofs.LivesOn.{Agrees, HasRecord, IsPlaced, life_goes, lived, record_last, torn_lived}
 use Rattle.vx_volume_laws.proofs.Marking.{KeepsRest, Within, any_front, failed_sure, goes_rest, here_in, made_front, sure_goes, torn_told, within_goes, within_same}
 
 -- ---- lists

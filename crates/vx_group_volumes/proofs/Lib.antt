@@ -1,11 +1,11 @@
-mod Begun
-mod Copied
-mod Firsts
+pub mod Begun
+pub mod Copied
+pub mod Firsts
 pub mod Starts
-mod Tight
+pub mod Tight
 pub mod Leavings
-mod Lowest
-mod Owners
+pub mod Lowest
+pub mod Owners
 pub mod Passes
 pub mod Recorded
 pub mod Spots
@@ -24,5 +24,5 @@ pub mod Rests
 pub mod Reasons
 pub mod Stands
 pub mod Commits
-mod Taken
-mod Unlogged
+pub mod Taken
+pub mod Unlogged

@@ -26,3 +26,4 @@ pub mod Stands
 pub mod Commits
 pub mod Taken
 pub mod Unlogged
+pub mod CopiesRun

@@ -1,5 +1,5 @@
 -- A call that is served is what the plans say of it: of a volume on a whole device, of one that the group runs, or of none.
-use Rattle.std.proofs.Common.{◌≡◌, ◌∙◌, ◌+◌, ◌<◌, ◌≤◌, ℕ, Bool, true, false, List, [], Option, Some, None, refl, sym, ap, subst}
+use Rattle.std.proofs.Common.{◌≡◌, ◌∙◌, ◌+◌, ◌<◌, ◌≤◌, ℕ, Bool, true, false, List, Option, Some, None, refl, sym, ap, subst}
 use Rattle.std.specs.Prelude.{MatchOption, MatchBool, nat_lt, is_some}
 use Rattle.std.specs.BTreeMap.{BTreeMap}
 use Rattle.std.proofs.lemmas.Bool.{ltb-true, ltb-false, lt-ltb}
@@ -24,7 +24,7 @@ use Rattle.vx_lending.specs.declared.public.Running.{Running}
 use Rattle.vx_lending.specs.Public.{running_at}
 use Rattle.vx_volume.specs.Volume.{volume_seen}
 use Rattle.vx_house.specs.Holders.{volume_at}
-use Rattle.vx_house.specs.Runs.{IsAtRun, IsRunOf, fronts_in, run_in}
+use Rattle.vx_house.specs.Runs.{IsAtRun, fronts_in, run_in}
 use Rattle.vx_house.specs.Scene.{Shelved}
 use Rattle.vx_house.specs.View.{IsAtVolume, IsMoment, Keeps, at}
 use Rattle.vx_house.specs.declared.house.House.{House}
@@ -32,7 +32,7 @@ use Rattle.vx_house.specs.declared.house.Imported.{Imported}
 use Rattle.vx_house.proofs.Free.{at_lone}
 use Rattle.vx_house.proofs.Takes.{rests_self}
 use Rattle.vx_house_calls.proofs.Moments.{run_there}
-use Rattle.vx_engine.specs.Calling.{IsCall, IsServedAmong, ServesAmong}
+use Rattle.vx_engine.specs.Calling.{IsCall, IsServedAmong}
 use Rattle.vx_engine.specs.Grouped.{CallsGroup, CallsVolumes, IsSameHouse, IsSameIfThere, IsServedIn, ServesAny, ServesBy, ServesGroup, ServesInGroup}
 use Rattle.vx_engine.proofs.CommandEnds.{moment_end}
 use Rattle.vx_engine.proofs.Given.{Given, does_call, refused_given}

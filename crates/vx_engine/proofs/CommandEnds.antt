@@ -22,7 +22,6 @@ use Rattle.vx_answers.specs.declared.answer.Answer.TheVariants.{One}
 use Rattle.vx_answers.specs.declared.answer.End.{End}
 use Rattle.vx_answers.specs.declared.answer.End.TheVariants as ends
 use Rattle.vx_answers.specs.declared.answer.View.{View as Shown}
-use Rattle.vx_answers.specs.declared.refusal.Refusal.{Refusal}
 use Rattle.vx_moments.specs.Moment.{Moment, AreLater}
 use Rattle.vx_moments.specs.World.{World}
 use Rattle.vx_moments.specs.Leaving.{group_gone}

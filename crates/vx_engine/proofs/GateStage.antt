@@ -28,7 +28,7 @@ use Rattle.vx_house.specs.View.{View, at, scene, is_lent, Keeps, IsAtVolume, IsD
 use Rattle.vx_house.specs.declared.house.House.{House}
 use Rattle.vx_house.specs.declared.house.Taken.{Taken}
 use Rattle.vx_house.specs.declared.stop.Stop.TheVariants.{Ended, OutOfMemory}
-use Rattle.vx_house.proofs.Ends.{keeps_but_group, moment_but_group, whole_kept}
+use Rattle.vx_house.proofs.Ends.{keeps_but_group, moment_but_group}
 use Rattle.vx_house.proofs.Runs.{none_found, none_runs_in, none_still}
 use Rattle.vx_engine.proofs.NoneRun.{none_runs}
 use Rattle.vx_moments.specs.Leaving.{group_gone, lone}

@@ -32,7 +32,6 @@ use Rattle.vx_house.specs.Scene.{Shelved, Scene, seen_at, faults_at, faults_in, 
 use Rattle.vx_house.specs.View.{at, scene, is_lent, IsDeviceOf, IsVolumeOf, IsAtVolume, IsMoment, Keeps}
 use Rattle.vx_house.specs.declared.house.House.{House}
 use Rattle.vx_house.proofs.LaterFaults.{seen_here, faults_here, faults_now, seen_called, held_called, faults_called, places_called, later_one}
-use Rattle.vx_house.proofs.Free.{at_house}
 use Rattle.vx_house.proofs.Holders.{IsLater, held_at, later_apart, not_both}
 use Rattle.vx_house.proofs.Moments.{counts_own, counts_later, moment_at, PlaceGoesOn}
 use Rattle.vx_house.proofs.Scenes.{scene_of}

@@ -1,12 +1,11 @@
 -- Where no recorded volume is started, none of the group runs.
-use Rattle.std.proofs.Common.{◌≡◌, ◌∙◌, ◌⊎◌, Bool, true, false, if◌then◌else◌, List, [], ◌∷◌, Option, Some, None, refl, sym, ap, subst, inl, inr}
+use Rattle.std.proofs.Common.{◌≡◌, ◌∙◌, ◌⊎◌, Bool, true, false, if◌then◌else◌, List, [], ◌∷◌, Option, Some, None, refl, ap, subst, inl, inr}
 use Rattle.std.specs.Prelude.{is_some}
 use Rattle.vx_pages.specs.declared.local_piece.LocalPiece.{Ghosts}
 use Rattle.vx_base.specs.Named.{Word}
 use Rattle.vx_piece.specs.Seen.{Seen}
 use Rattle.vx_config_parts.specs.declared.vol.Vol.{Vol}
 use Rattle.vx_plexes.proofs.Members.{IsIn}
-use Rattle.vx_copies.specs.Disks.{DiskSeen}
 use Rattle.vx_script_words.specs.declared.value.DiskAt.{DiskAt}
 use Rattle.vx_started.specs.declared.started.Started.{Started}
 use Rattle.vx_moments.specs.Leaving.{grouped}
@@ -18,9 +17,8 @@ use Rattle.vx_config_parts.specs.Objects.{comes_before}
 use Rattle.vx_stages.specs.declared.test.Test.TheVariants as tests
 use Rattle.vx_house.specs.Holders.{volume_at}
 use Rattle.vx_house.specs.Plain.{plain, told_volume}
-use Rattle.vx_house.specs.Runs.{AreRuns, IsAtRun, fronts_in, run_in}
+use Rattle.vx_house.specs.Runs.{IsAtRun, fronts_in, run_in}
 use Rattle.vx_house.specs.View.{View, IsMoment, group_of}
-use Rattle.vx_house.specs.declared.house.House.{House}
 use Rattle.vx_house.proofs.Recorded.{recorded_run}
 
 -- the first of two names is one of them

@@ -1,17 +1,14 @@
 -- A call on a volume of the group that runs is what the plans say of it.
-use Rattle.std.proofs.Common.{◌≡◌, ◌∙◌, ◌⊎◌, ◌+◌, ◌<◌, ◌≤◌, ℕ, Bool, true, false, ◌&&◌, ◌||◌, not, ◌==◌, nat_le, nat_lt, List, [], ◌∷◌, map, length, Option, Some, None, refl, sym, ap, subst, inl, inr}
-use Rattle.std.specs.Prelude.{IfSome, MatchOption, MatchBool, Contains, is_some, slice_index, if◌then◌else◌}
+use Rattle.std.proofs.Common.{◌≡◌, ◌∙◌, ◌⊎◌, ◌+◌, ◌<◌, ◌≤◌, ℕ, Bool, true, false, ◌&&◌, ◌||◌, not, ◌==◌, nat_le, nat_lt, List, [], ◌∷◌, map, length, Option, Some, refl, sym, ap, subst, inl, inr}
+use Rattle.std.specs.Prelude.{IfSome, MatchOption, MatchBool, Contains, is_some, if◌then◌else◌}
 use Rattle.std.specs.List.{All, list_any, list_all, filter}
 use Rattle.std.proofs.lemmas.Bool.{le-ltb, ltb-true, leb-true, le-leb, and_parts}
 use Rattle.vx_pages.specs.declared.local_piece.LocalPiece.{Ghosts}
-use Rattle.vx_base.specs.Blocks.{Contents}
 use Rattle.vx_base.specs.Counts.{Rose, later_count}
-use Rattle.vx_base.specs.Named.{Word, put}
-use Rattle.vx_base.proofs.NamedLemmas.{bytes_eq_self}
+use Rattle.vx_base.specs.Named.{Word}
 use Rattle.vx_mask.specs.Mask.{has}
 use Rattle.vx_life.specs.declared.Part.{Part}
 use Rattle.vx_life.specs.Entry.{Entry}
-use Rattle.vx_life.specs.Life.{Life}
 use Rattle.vx_core.specs.History.{AllOf as Every, MayPrecede}
 use Rattle.vx_piece.specs.Seen.{Seen}
 use Rattle.vx_carve.specs.Together.{HasSome, faults_on}
@@ -21,25 +18,24 @@ use Rattle.vx_copies.specs.Lists.{AnyOf}
 use Rattle.vx_copies.specs.declared.disk.Disk.{Disk}
 use Rattle.vx_confdb.specs.Groups.{members}
 use Rattle.vx_config_parts.specs.declared.plex.Plex.{Plex}
-use Rattle.vx_config_parts.specs.Objects.{is_data_plex_of, is_log_plex_of}
+use Rattle.vx_config_parts.specs.Objects.{is_data_plex_of}
 use Rattle.vx_plexes.proofs.Members.{IsIn}
-use Rattle.vx_image.specs.Bytes.{Sectors, image_of, map_or_zero, plex_image}
+use Rattle.vx_image.specs.Bytes.{Sectors, plex_image}
 use Rattle.vx_image.specs.Image.{PlexImage}
 use Rattle.vx_image.proofs.Members.{contains, is_in}
 use Rattle.vx_volume_form.proofs.Rules.{one_plex}
 use Rattle.vx_script_forms.specs.declared.call.Call.{Call}
 use Rattle.vx_answers.specs.declared.answer.End.{End}
 use Rattle.vx_answers.specs.declared.answer.End.TheVariants as ends
-use Rattle.vx_answers.specs.declared.refusal.Refusal.{Refusal}
 use Rattle.vx_answers.specs.declared.refusal.Refusal.TheVariants.{NotStarted, Range}
 use Rattle.vx_moments.specs.Moment.{Counts, Moment, Rests}
 use Rattle.vx_moments.specs.Moment.{HasFailed as FailsAt}
-use Rattle.vx_moments.specs.World.{Group, OnPlexes, Volume}
+use Rattle.vx_moments.specs.World.{Group, Volume}
 use Rattle.vx_group_images.specs.Owners.{IsDeviceOfVolume, owner_of, owners_of, devices_on}
 use Rattle.vx_group_images.specs.Tracks.{TrackOwner, has_failed, volume_failed, volume_lived}
-use Rattle.vx_group_images.proofs.Tracked.{goes_length, goes_lies, goes_region, goes_sound}
+use Rattle.vx_group_images.proofs.Tracked.{goes_length, goes_lies, goes_region}
 use Rattle.vx_volume.specs.Volume.{cell_at, volume_seen}
-use Rattle.vx_volume_laws.specs.RunLaws.{FailuresAreTold, MayComeNext, OwnersFit}
+use Rattle.vx_volume_laws.specs.RunLaws.{FailuresAreTold, OwnersFit}
 use Rattle.vx_lending.specs.Left.{held_pieces}
 use Rattle.vx_lending.specs.declared.public.Running.{Running}
 use Rattle.vx_lending.specs.Public.{running_at}
@@ -55,7 +51,7 @@ use Rattle.vx_group_volumes.proofs.Failures.{data_failures, log_failures}
 use Rattle.vx_group_volumes.proofs.HeldDevices.{plexes_fit}
 use Rattle.vx_group_volumes.proofs.Plexes.{owner_is}
 use Rattle.vx_stages.specs.Calls.{volume_of, start_of, count_of}
-use Rattle.vx_stages.specs.GroupCalls.{BecomesBy, CurrentHaveFailed, EndHasCause, FaultHasCause, IsLastPart, IsServedOnPlexes, LivesOnPlexes, LogHasFailed, PlexHasFailed, TellsParts, comes_next, is_known}
+use Rattle.vx_stages.specs.GroupCalls.{BecomesBy, CurrentHaveFailed, EndHasCause, FaultHasCause, IsLastPart, IsServedOnPlexes, LogHasFailed, PlexHasFailed, TellsParts, comes_next, is_known}
 use Rattle.vx_plans.specs.Serving.{CallRuns, ServesOn}
 use Rattle.vx_group_volumes.specs.Places.{disks_at}
 use Rattle.vx_house.specs.Runs.{IsRunOf}
@@ -64,12 +60,12 @@ use Rattle.vx_house.specs.Scene.{HasFailed as SceneFailed}
 use Rattle.vx_house.specs.View.{IsGroupKept, IsMoment, Keeps, at, member_in, scene}
 use Rattle.vx_house.specs.declared.house.House.{House}
 use Rattle.vx_house.specs.declared.house.Imported.{Imported}
-use Rattle.vx_house_calls.specs.Passes.{GoesOnWith, IsCalledIn, IsNext, IsOneOf, LiesAlike, RunsOn, with_group}
+use Rattle.vx_house_calls.specs.Passes.{GoesOnWith, IsCalledIn, IsNext, IsOneOf, RunsOn, with_group}
 use Rattle.vx_house_calls.proofs.Groups.{some}
 use Rattle.vx_house_calls.proofs.Moments.{each_call_on}
 use Rattle.vx_engine.specs.Calling.{IsCall}
-use Rattle.vx_engine.specs.Grouped.{HasNumber, IsNamed, IsServedIn, IsToldAs}
-use Rattle.vx_engine.proofs.CommandEnds.{HasDone, moment_end}
+use Rattle.vx_engine.specs.Grouped.{IsNamed, IsServedIn, IsToldAs}
+use Rattle.vx_engine.proofs.CommandEnds.{moment_end}
 use Rattle.vx_engine.proofs.Given.{Given, does_call}
 
 -- the volume of the world has the blocks of the one that runs as it

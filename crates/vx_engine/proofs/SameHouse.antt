@@ -1,6 +1,6 @@
 -- A house whose maps have the entries that they had is the same moments.
 use Rattle.std.proofs.Common.{◌≡◌, ◌∙◌, ◌<◌, List, [], ◌++◌, map, Option, Some, None, refl, sym, ap, subst}
-use Rattle.std.specs.Prelude.{IfSome, IsSome}
+use Rattle.std.specs.Prelude.{IfSome}
 use Rattle.std.specs.BTreeMap.{BTreeMap}
 use Rattle.std.specs.Cmp.Lexicographic.{slice_cmp}
 use Rattle.std.specs.List.{flat_map, list_any}
@@ -11,24 +11,22 @@ use Rattle.std.specs.Str.{bytes_eq}
 use Rattle.vx_pages.specs.declared.local_piece.LocalPiece.{Ghosts}
 use Rattle.vx_base.specs.Named.{Word}
 use Rattle.vx_piece.specs.Seen.{Seen}
-use Rattle.vx_copies.specs.Disks.{DiskSeen, good_mask}
+use Rattle.vx_copies.specs.Disks.{good_mask}
 use Rattle.vx_copies.specs.Lists.{AllOf}
-use Rattle.vx_copies.specs.declared.disk.Disk.{Disk}
 use Rattle.vx_confdb.specs.Groups.{members}
 use Rattle.vx_fronts.specs.Laws.{whole_disks}
 use Rattle.vx_fronts.specs.Parted.{AreParted}
 use Rattle.vx_fronts.specs.Rests.{rests_of}
 use Rattle.vx_group_start.specs.Laying.{AreRunningVolumes}
 use Rattle.vx_lending.specs.declared.public.Running.{Running}
-use Rattle.vx_lending.specs.Public.{lent_pieces, running_at, running_pieces, still_pieces, stuck_pieces}
+use Rattle.vx_lending.specs.Public.{running_at, running_pieces, still_pieces, stuck_pieces}
 use Rattle.vx_started.specs.declared.started.Started.{Started}
 use Rattle.vx_moments.specs.Leaving.{grouped, lone}
 use Rattle.vx_moments.specs.Moment.{Moment}
-use Rattle.vx_moments.specs.World.{Group, Volume}
-use Rattle.vx_house.specs.Holders.{Holder, group_holders, hand_holder, holder_in, holders, volume_holder, whole_members, AreHeld}
-use Rattle.vx_house.specs.Runs.{AllInPlace, AreRuns, IsAtRun, fronts_in, run_in}
+use Rattle.vx_house.specs.Holders.{group_holders, hand_holder, holder_in, holders, volume_holder, whole_members, AreHeld}
+use Rattle.vx_house.specs.Runs.{AllInPlace, IsAtRun, fronts_in, run_in}
 use Rattle.vx_house.specs.Scene.{Shelved, AreCountsOf, FaultsGoOn, seen_at}
-use Rattle.vx_house.specs.View.{AreSized, IsAtVolume, IsDeviceOf, IsGroupKept, IsGroupWhole, IsMoment, Keeps, at, group_of, is_lent, scene}
+use Rattle.vx_house.specs.View.{AreSized, IsAtVolume, IsDeviceOf, IsGroupKept, IsMoment, Keeps, at, group_of, is_lent, scene}
 use Rattle.vx_house.specs.declared.house.House.{House}
 use Rattle.vx_house.specs.declared.house.Imported.{Imported}
 use Rattle.vx_house.proofs.AllLaws.{found_in}

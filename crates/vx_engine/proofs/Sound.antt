@@ -65,8 +65,8 @@ plan_sound dg (form.PrintM vol) size = print dg vol
 plan_sound dg (form.Rdpol vol how) size = rdpol dg vol how
 plan_sound dg (form.RemoveVolume vol) size = record { fed = ((λ is. cc, tt), ((λ is. cc, tt), ((λ is. cc, tt), ((λ is. cc, tt), ((λ is. cc, (inr (inl refl), (inr (inr (inl refl)), tt))), tt))))); ordered = (refl, (refl, (refl, (refl, tt)))); sized = (tt, (tt, (tt, (tt, (tt, tt))))); shows = tt }
 plan_sound dg (form.VxMake text) size = record { fed = ((λ is. cc, tt), ((λ is. cc, tt), tt)); ordered = (refl, tt); sized = (tt, (tt, tt)); shows = tt }
-plan_sound dg (form.Start vol) size = tt
-plan_sound dg (form.Stop vol) size = tt
+plan_sound dg (form.Start vol) size = record { fed = ((λ is. cc, tt), ((λ is. cc, tt), ((λ is. cc, tt), ((λ is. cc, (inr (inr (inl refl)), tt)), tt)))); ordered = (refl, (refl, (refl, tt))); sized = (tt, (tt, (tt, (tt, tt)))); shows = tt }
+plan_sound dg (form.Stop vol) size = record { fed = ((λ is. cc, tt), ((λ is. cc, tt), ((λ is. cc, tt), tt))); ordered = (refl, (refl, tt)); sized = (tt, (tt, (tt, tt))); shows = tt }
 plan_sound dg (form.PrintHt vol) size = tt
 plan_sound dg (form.AssistMake vol length attrs disks) size = tt
 plan_sound dg (form.Mirror vol disks) size = tt

@@ -15,7 +15,7 @@ use Rattle.vx_copies.specs.Lists.{AllOf, AnyOf, Each}
 use Rattle.vx_script_words.specs.declared.value.DiskAt.{DiskAt}
 use Rattle.vx_started.specs.declared.started.Started.{Started}
 use Rattle.vx_moments.specs.Moment.{Moment}
-use Rattle.vx_moments.specs.World.{Device, Volume}
+use Rattle.vx_moments.specs.World.{Device}
 use Rattle.vx_stages.specs.Records.{sectors_at, sectors_in}
 use Rattle.vx_stages.specs.Tests.{fails}
 use Rattle.vx_stages.specs.declared.stage.Stage.{Stage}
@@ -28,7 +28,7 @@ use Rattle.vx_house.specs.Plain.{plain, sized_device, told_volume}
 use Rattle.vx_house.specs.Runs.{run_in}
 use Rattle.vx_house.specs.Scene.{seen_in}
 use Rattle.vx_house.proofs.Runs.{started_same}
-use Rattle.vx_house.specs.View.{View, is_lent, IsDeviceOf, IsAtVolume, IsMoment, group_of}
+use Rattle.vx_house.specs.View.{View, is_lent, IsDeviceOf, IsMoment, group_of}
 use Rattle.vx_house.specs.declared.house.House.{House}
 use Rattle.vx_house.specs.declared.house.Taken.{Taken}
 use Rattle.vx_house.proofs.AllLaws.{held_each, all_back}

@@ -1,15 +1,8 @@
 -- Stages that keep the world.
-use Rattle.std.proofs.Common.{◌≡◌, true, List, [], ◌∷◌, ◌++◌, ap, inl, inr}
-use Rattle.vx_base.specs.Named.{Word}
+use Rattle.std.proofs.Common.{◌≡◌, true, List, ap}
 use Rattle.vx_script_words.specs.declared.value.DiskAt.{DiskAt}
-use Rattle.vx_answers.specs.declared.answer.End.{End}
-use Rattle.vx_answers.specs.declared.answer.End.TheVariants as ends
-use Rattle.vx_answers.specs.declared.refusal.Refusal.{Refusal}
-use Rattle.vx_moments.specs.Commit.{Writing}
 use Rattle.vx_moments.specs.Moment.{Moment}
-use Rattle.vx_stages.specs.Records.{devices_of}
-use Rattle.vx_stages.specs.Ends.{StopsBy, refused}
-use Rattle.vx_stages.specs.Stages.{IsDone, Stops, TakingStops}
+use Rattle.vx_stages.specs.Stages.{IsDone}
 use Rattle.vx_stages.specs.declared.stage.Stage.{Stage}
 use Rattle.vx_stages.specs.declared.stage.Stage.TheVariants as stage
 use Rattle.vx_engine.specs.Fed.{keeps_world}

@@ -36,13 +36,10 @@ AreOrdered (s ∷ []) Nothing = Unit {0}
 AreOrdered (s ∷ []) (Records vol) = keeps_world s ≡ true
 AreOrdered (s ∷ t ∷ ss) finish = (keeps_world s ≡ true) × AreOrdered (t ∷ ss) finish
 
--- The stage can be run: a device is made of a size that the shelf takes; that a volume of the group starts or stops is not built yet, and no
--- plan has it.
-abbrev pub CanRun : Stage → Type 0
-CanRun (stage.MakeImage name sectors) = (1 ≤ sectors) × (sectors ≤ 2 ^ 40)
-CanRun (stage.Start vol) = ⊥
-CanRun (stage.Stop vol) = ⊥
-CanRun other = Unit {0}
+-- a device is made of a size that the shelf takes
+abbrev pub HasSize : Stage → Type 0
+HasSize (stage.MakeImage name sectors) = (1 ≤ sectors) × (sectors ≤ 2 ^ 40)
+HasSize other = Unit {0}
 
 -- the group is there by then, and the volume whose records are shown
 abbrev pub ShowsAfter : List Stage → Finish → Type 0

@@ -4,13 +4,13 @@ use Rattle.vx_copies.specs.Lists.{AllOf}
 use Rattle.vx_script_forms.specs.declared.form.Form.{Form}
 use Rattle.vx_script_forms.specs.declared.form.Form.TheVariants as form
 use Rattle.vx_stages.specs.declared.stages.Plan.{Plan}
-use Rattle.vx_engine.specs.Fed.{AreFed, AreOrdered, CanRun, ShowsAfter}
+use Rattle.vx_engine.specs.Fed.{AreFed, AreOrdered, HasSize, ShowsAfter}
 
 -- Its stages find what they need, only the last changes the world, and what is shown is there.
 pub record IsSound (plan : Plan) : Type 0 where
   pub fed : AreFed [] plan.stages
   pub ordered : AreOrdered plan.stages plan.finish
-  pub sized : AllOf CanRun plan.stages
+  pub sized : AllOf HasSize plan.stages
   pub shows : ShowsAfter plan.stages plan.finish
 
 abbrev pub IsSoundIfAny : Option Plan → Type 0

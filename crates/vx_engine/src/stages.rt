@@ -1,5 +1,5 @@
 //! One stage of a command.
-ghost use Rattle.vx_engine.specs.Fed.{CanRun};
+ghost use Rattle.vx_engine.specs.Fed.{HasSize};
 ghost use Rattle.vx_engine.specs.Runs.{StageEnds};
 ghost use Rattle.vx_house.specs.Goes.{IsReady, StageGoes};
 ghost use Rattle.vx_house.specs.Scene.{Shelved, shelved};
@@ -16,6 +16,7 @@ use vx_stage_devices::{look_blank, look_disks, look_headed, make_image, search, 
 use vx_stage_gates::failing;
 use vx_stage_import::import;
 use vx_stage_records::make;
+use vx_stage_volumes::{start, stop};
 use vx_stages::{Stage, Test};
 
 /// Runs a stage.
@@ -28,7 +29,7 @@ pub(crate) fn run_stage<S: Shelf>(
 ) -> Result<(), Stop>
     requires keeps { Keeps S.P.seen (at (shelved S.free S.held S.counted S.faults shelf.old) house.old) }
     requires ready { IsReady S.P.seen stage.now disks.now house.old }
-    requires sized { CanRun stage.now }
+    requires sized { HasSize stage.now }
     ensures goes { StageEnds S.P.seen stage.now disks.now result (at (shelved S.free S.held S.counted S.faults shelf.old) house.old) (at (shelved S.free S.held S.counted S.faults shelf.new) house.new) }
 {
     match stage {
@@ -48,7 +49,8 @@ pub(crate) fn run_stage<S: Shelf>(
         Stage::LetGo => let_go(alloc, house, shelf, disks),
         Stage::Join => join(alloc, house, disks),
         Stage::Create(dg) => create(alloc, house, dg, disks),
-        Stage::Start(_) | Stage::Stop(_) => unreachable!(),
+        Stage::Start(vol) => start(alloc, house, *vol),
+        Stage::Stop(vol) => stop(alloc, house, vol),
     }
 }
 

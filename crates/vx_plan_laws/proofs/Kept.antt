@@ -29,6 +29,7 @@ use Rattle.vx_stages.specs.declared.stage.Stage.TheVariants as stage
 use Rattle.vx_stages.specs.declared.stages.Finish.{Finish}
 use Rattle.vx_stages.specs.declared.stages.Finish.TheVariants.{Nothing}
 use Rattle.vx_stages.specs.declared.test.Test.{Test}
+use Rattle.vx_stages.specs.declared.test.Test.TheVariants as tests
 use Rattle.vx_stages.specs.declared.stages.Plan.{Plan}
 use Rattle.vx_plans.proofs.Complete.{keeps_world, kept_world}
 use Rattle.vx_plan_laws.specs.Keeping.{IsLeftUnopened, RefusedLeaves}
@@ -122,38 +123,76 @@ abbrev pub IsPlain : Option Plan → Type 0
 IsPlain None = Unit {0}
 IsPlain (Some plan) = AreStill calls_volume plan.stages
 
-pub plan_plain : (dg : Option Word) (f : Form) → IsPlain (plan_of dg f)
+-- a stage behind gates
+abbrev pub behind : List Test → Stage → List Stage
+behind [] s = s ∷ []
+behind (test ∷ gates) s = stage.Gate test ∷ behind gates s
+
+-- the gates of a start, and those of a stop
+abbrev pub start_gates : Option Word → Word → List Test
+start_gates dg vol = tests.GroupIs dg ∷ tests.HasVolume vol ∷ tests.Stopped vol ∷ []
+
+abbrev pub stop_gates : Option Word → Word → List Test
+stop_gates dg vol = tests.GroupIs dg ∷ tests.HasVolume vol ∷ []
+
+-- the form starts or stops a volume of the group
+abbrev pub touches : Form → Bool
+touches (form.Start vol) = true
+touches (form.Stop vol) = true
+touches other = false
+
+-- the form is that of a start
+abbrev pub starts : Form → Bool
+starts (form.Start vol) = true
+starts other = false
+
+pub plan_plain : (dg : Option Word) (f : Form) → touches f ≡ false → IsPlain (plan_of dg f)
 unfolding plan_of
-plan_plain dg (form.MkImage device length) = refl
-plan_plain dg (form.Bare vol device) = (refl, refl, (refl, refl, (refl, refl, refl)))
-plan_plain dg (form.DgInit name disks) = (refl, refl, (refl, refl, (refl, refl, (refl, refl, (refl, refl, (refl, refl, refl))))))
-plan_plain dg (form.DgAddDisk name disk) = (refl, refl, (refl, refl, (refl, refl, (refl, refl, (refl, refl, refl)))))
-plan_plain dg (form.DgImport name) = refl
-plan_plain dg (form.DgDeport name) = (refl, refl, (refl, refl, refl))
-plan_plain dg (form.DiskUnsetup device) = (refl, refl, (refl, refl, refl))
-plan_plain dg (form.PrintM None) = refl
-plan_plain dg (form.PrintM (Some vol)) = (refl, refl, refl)
-plan_plain dg (form.VxMake text) = (refl, refl, refl)
-plan_plain dg (form.Rdpol vol words.Round) = (refl, refl, (refl, refl, refl))
-plan_plain dg (form.Rdpol vol words.Select) = (refl, refl, (refl, refl, refl))
-plan_plain dg (form.Rdpol vol (words.Prefer plex)) = (refl, refl, (refl, refl, (refl, refl, refl)))
-plan_plain dg (form.RemoveVolume vol) = (refl, refl, (refl, refl, (refl, refl, (refl, refl, refl))))
-plan_plain dg (form.Stop vol) = tt
-plan_plain dg (form.Start vol) = tt
-plan_plain dg (form.PrintHt vol) = tt
-plan_plain dg (form.AssistMake vol length attrs disks) = tt
-plan_plain dg (form.Mirror vol disks) = tt
-plan_plain dg (form.PlexDis plex rm) = tt
-plan_plain dg (form.Prepare vol ndcomirs region) = tt
-plan_plain dg (form.Unprepare vol) = tt
-plan_plain dg (form.AddMir vol disks) = tt
-plan_plain dg (form.Dis snap) = tt
-plan_plain dg (form.Split snap) = tt
-plan_plain dg (form.PrintSnaps vol) = tt
-plan_plain dg (form.Recover vol) = tt
-plan_plain dg (form.Acting act) = tt
-plan_plain dg (form.Calling call) = tt
-plan_plain dg (form.Sessions block) = tt
+plan_plain dg (form.MkImage device length) other = refl
+plan_plain dg (form.Bare vol device) other = (refl, refl, (refl, refl, (refl, refl, refl)))
+plan_plain dg (form.DgInit name disks) other = (refl, refl, (refl, refl, (refl, refl, (refl, refl, (refl, refl, (refl, refl, refl))))))
+plan_plain dg (form.DgAddDisk name disk) other = (refl, refl, (refl, refl, (refl, refl, (refl, refl, (refl, refl, refl)))))
+plan_plain dg (form.DgImport name) other = refl
+plan_plain dg (form.DgDeport name) other = (refl, refl, (refl, refl, refl))
+plan_plain dg (form.DiskUnsetup device) other = (refl, refl, (refl, refl, refl))
+plan_plain dg (form.PrintM None) other = refl
+plan_plain dg (form.PrintM (Some vol)) other = (refl, refl, refl)
+plan_plain dg (form.VxMake text) other = (refl, refl, refl)
+plan_plain dg (form.Rdpol vol words.Round) other = (refl, refl, (refl, refl, refl))
+plan_plain dg (form.Rdpol vol words.Select) other = (refl, refl, (refl, refl, refl))
+plan_plain dg (form.Rdpol vol (words.Prefer plex)) other = (refl, refl, (refl, refl, (refl, refl, refl)))
+plan_plain dg (form.RemoveVolume vol) other = (refl, refl, (refl, refl, (refl, refl, (refl, refl, refl))))
+plan_plain dg (form.Stop vol) other = cc
+plan_plain dg (form.Start vol) other = cc
+plan_plain dg (form.PrintHt vol) other = tt
+plan_plain dg (form.AssistMake vol length attrs disks) other = tt
+plan_plain dg (form.Mirror vol disks) other = tt
+plan_plain dg (form.PlexDis plex rm) other = tt
+plan_plain dg (form.Prepare vol ndcomirs region) other = tt
+plan_plain dg (form.Unprepare vol) other = tt
+plan_plain dg (form.AddMir vol disks) other = tt
+plan_plain dg (form.Dis snap) other = tt
+plan_plain dg (form.Split snap) other = tt
+plan_plain dg (form.PrintSnaps vol) other = tt
+plan_plain dg (form.Recover vol) other = tt
+plan_plain dg (form.Acting act) other = tt
+plan_plain dg (form.Calling call) other = tt
+plan_plain dg (form.Sessions block) other = tt
+
+-- no stage of the plan is a start, and all but the last keep the world
+abbrev pub IsStill : Option Plan → Type 0
+IsStill None = Unit {0}
+IsStill (Some plan) = AreStill is_start plan.stages
+
+still_plan : (plan : Option Plan) → IsPlain plan → IsStill plan
+still_plan None plain = tt
+still_plan (Some plan) plain = have_no_start plan.stages plain
+
+pub plan_still : (dg : Option Word) (f : Form) → starts f ≡ false → IsStill (plan_of dg f)
+unfolding plan_of
+plan_still dg (form.Stop vol) other = (refl, refl, (refl, refl, refl))
+plan_still dg (form.Start vol) other = cc
+plan_still dg f other = still_plan (plan_of dg f) (plan_plain dg f refl)
 
 -- ---- commands
 
@@ -161,17 +200,17 @@ module _ (old : Moment) (views : List View) (r : Refusal) (new : Moment) where
   not_built : IsNotBuilt old views (refused r) new → new.world ≡ old.world
   not_built (none, is, stays) = ap (λ (m : Moment). m.world) stays
 
-  plan_left : (disks : List DiskAt) (plan : Option Plan) → IsPlain plan → DoesPlan disks plan old views (refused r) new → new.world ≡ old.world
+  plan_left : (disks : List DiskAt) (plan : Option Plan) → IsStill plan → DoesPlan disks plan old views (refused r) new → new.world ≡ old.world
   plan_left disks None plain does = not_built does
-  plan_left disks (Some plan) plain does = still_kept disks plan.stages plan.finish old views r new (have_no_start plan.stages plain) does
+  plan_left disks (Some plan) plain does = still_kept disks plan.stages plan.finish old views r new plain does
 
-  -- a start behind two gates is refused: each gate leaves the moment
-  starting_left : (first second : Test) (vol : Word) → Runs [] (stage.Gate first ∷ stage.Gate second ∷ stage.Start vol ∷ []) Nothing old views (refused r) new → (new.world ≡ old.world) ⊎ IsLeftUnopened vol old r new
-  starting_left first second vol (inr (none, later, (s, fails, is, same))) = inl (ap (λ (m : Moment). m.world) same)
-  starting_left first second vol (inl (one, later, (passed, same), inr (none, on, (s, fails, is, stays)))) = inl (ap (λ (m : Moment). m.world) (stays ∙ same))
-  starting_left first second vol (inl (one, later, (passed, same), inl (two, on, (has, stays), inl (three, more, is, runs)))) = absurd is
-  starting_left first second vol (inl (one, later, (passed, same), inl (two, on, (has, stays), inr (none, more, stops)))) =
-      subst (λ (m : Moment). (new.world ≡ m.world) ⊎ IsLeftUnopened vol m r new) (stays ∙ same) (start_left two r new vol stops)
+  -- a start behind gates is refused: each gate leaves the moment
+  starting_left : (gates : List Test) (vol : Word) (m : Moment) → Runs [] (behind gates (stage.Start vol)) Nothing m views (refused r) new → (new.world ≡ m.world) ⊎ IsLeftUnopened vol m r new
+  starting_left [] vol m (inl (mid, later, is, runs)) = absurd is
+  starting_left [] vol m (inr (none, later, stops)) = start_left m r new vol stops
+  starting_left (test ∷ gates) vol m (inl (mid, later, (passed, same), runs)) =
+      subst (λ (n : Moment). (new.world ≡ n.world) ⊎ IsLeftUnopened vol n r new) same (starting_left gates vol mid runs)
+  starting_left (test ∷ gates) vol m (inr (none, later, (s, fails, is, same))) = inl (ap (λ (n : Moment). n.world) same)
 
   served_left : (place : ℕ) (call : Call) (v : Volume) (lies : Lies) → ServesOn lies place call v old (refused r) new → new.world ≡ old.world
   served_left place call v (OnDevice device) served = absurd served.cause
@@ -201,8 +240,8 @@ module _ (old : Moment) (views : List View) (r : Refusal) (new : Moment) where
   form_left : (place : ℕ) (dg : Option Word) (f : Form) → DoesForm place dg f old views (refused r) new → RefusedLeaves f old r new
   unfolding plan_of
   form_left place dg (form.Calling call) does = calling_left place call does
-  form_left place dg (form.Start vol) does = inl (not_built does)
-  form_left place dg other does = plan_left (disks_of other) (plan_of dg other) (plan_plain dg other) does
+  form_left place dg (form.Start vol) does = starting_left (start_gates dg vol) vol old does
+  form_left place dg other does = plan_left (disks_of other) (plan_of dg other) (plan_still dg other refl) does
 
   command_left : (place : ℕ) (c : Command) (cut : Option ℕ) → MatchOption cut (DoesForm place c.group c.form old views (refused r) new) (λ n. IsNotBuilt old views (refused r) new) → RefusedLeaves c.form old r new
   command_left place c None does = form_left place c.group c.form does

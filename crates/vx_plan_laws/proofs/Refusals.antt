@@ -155,6 +155,8 @@ plan_guarded dg (form.PrintM vol) w = print_guarded dg vol w
 plan_guarded dg (form.Rdpol vol how) w = policy_guarded dg vol how w
 plan_guarded dg (form.RemoveVolume vol) w = (tt, refl, λ here. (tt, refl, λ has. (tt, refl, λ stopped. (tt, refl, λ free. (group_here dg [] w here, has, free)))))
 plan_guarded dg (form.VxMake text) w = (tt, refl, λ here. group_here dg [] w here)
+plan_guarded dg (form.Start vol) w = (tt, refl, λ here. (tt, refl, λ has. (tt, refl, λ stopped. (group_here dg [] w here, has))))
+plan_guarded dg (form.Stop vol) w = (tt, refl, λ here. (tt, refl, λ has. (group_here dg [] w here, has)))
 plan_guarded dg f w = tt
 
 pub each_refusal_is_tested : (dg : Option Word) (f : Form) (plan : Plan) (old : Moment) (views : List View) (r : Refusal) (new : Moment)

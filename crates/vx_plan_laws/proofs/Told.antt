@@ -1,5 +1,5 @@
 -- What a command tells that is done: a start how many regions it has copied, and another nothing.
-use Rattle.std.proofs.Common.{◌≡◌, ◌∙◌, ℕ, Bool, true, false, List, [], ◌∷◌, ◌++◌, Option, Some, None, MatchBool, MatchOption, refl, sym, ap, subst, inl, inr}
+use Rattle.std.proofs.Common.{◌≡◌, ℕ, Bool, true, false, List, [], ◌∷◌, ◌++◌, Option, Some, None, MatchBool, MatchOption, refl, sym, ap, subst, inl, inr}
 use Rattle.vx_base.specs.Named.{Word}
 use Rattle.vx_config_parts.specs.declared.vol.Vol.{Vol}
 use Rattle.vx_objects.specs.declared.edit.Edit.{Edit}
@@ -29,7 +29,7 @@ use Rattle.vx_stages.specs.declared.stages.Finish.TheVariants.{Nothing}
 use Rattle.vx_stages.specs.declared.test.Test.{Test}
 use Rattle.vx_stages.specs.declared.stages.Plan.{Plan}
 use Rattle.vx_plan_laws.specs.Refusing.{IsDoneBy, OfGroup, OfVolume}
-use Rattle.vx_plan_laws.proofs.Kept.{AreStill, IsPlain, have_no_start, is_start, plan_plain}
+use Rattle.vx_plan_laws.proofs.Kept.{AreStill, IsStill, behind, is_start, plan_still, start_gates}
 
 -- the command was done, and so many regions were copied
 abbrev all_done : Option ℕ → End
@@ -173,22 +173,21 @@ module _ (copied : Option ℕ) where
   abbrev RunsSo : Option Plan → List DiskAt → Moment → List View → Moment → Type 0
   RunsSo plan disks old views new = MatchOption plan ⊥ (λ p. Runs disks p.stages p.finish old views (all_done copied) new)
 
-  still_plan : (disks : List DiskAt) (plan : Option Plan) (old : Moment) (views : List View) (new : Moment) → IsPlain plan → RunsSo plan disks old views new → all_done copied ≡ done
+  still_plan : (disks : List DiskAt) (plan : Option Plan) (old : Moment) (views : List View) (new : Moment) → IsStill plan → RunsSo plan disks old views new → all_done copied ≡ done
   still_plan disks None old views new still runs = absurd runs
-  still_plan disks (Some plan) old views new still runs = still_done disks plan.stages plan.finish old views new (have_no_start plan.stages still) runs
+  still_plan disks (Some plan) old views new still runs = still_done disks plan.stages plan.finish old views new still runs
 
-  -- a start behind two gates
-  start_tells : (first second : Test) (vol : Word) (old : Moment) (views : List View) (new : Moment) → Runs [] (stage.Gate first ∷ stage.Gate second ∷ stage.Start vol ∷ []) Nothing old views (all_done copied) new → Tells vol old.world
-  start_tells first second vol old views new (inr (none, later, (r, fails, is, same))) = absurd (no_refusal r is)
-  start_tells first second vol old views new (inl (one, later, (passed, same), inr (none, on, (r, fails, is, stays)))) = absurd (no_refusal r is)
-  start_tells first second vol old views new (inl (one, later, (passed, same), inl (two, on, (has, stays), inl (three, more, is, runs)))) = absurd is
-  start_tells first second vol old views new (inl (one, later, (passed, same), inl (two, on, (has, stays), inr (none, more, stops)))) =
-      subst (λ (m : Moment). Tells vol m.world) (stays ∙ same) (started vol two new stops)
+  -- a start behind gates
+  start_tells : (gates : List Test) (vol : Word) (old : Moment) (views : List View) (new : Moment) → Runs [] (behind gates (stage.Start vol)) Nothing old views (all_done copied) new → Tells vol old.world
+  start_tells [] vol old views new (inl (mid, later, is, runs)) = absurd is
+  start_tells [] vol old views new (inr (none, later, stops)) = started vol old new stops
+  start_tells (test ∷ gates) vol old views new (inl (mid, later, (passed, same), runs)) = subst (λ (m : Moment). Tells vol m.world) same (start_tells gates vol mid views new runs)
+  start_tells (test ∷ gates) vol old views new (inr (none, later, (r, fails, is, same))) = absurd (no_refusal r is)
 
   form_tells : (dg : Option Word) (f : Form) (old : Moment) (views : List View) (new : Moment) → RunsSo (plan_of dg f) (disks_of f) old views new → IsDoneBy f old.world (all_done copied)
   unfolding plan_of
-  form_tells dg (form.Start vol) old views new runs = absurd runs
-  form_tells dg other old views new runs = still_plan (disks_of other) (plan_of dg other) old views new (plan_plain dg other) runs
+  form_tells dg (form.Start vol) old views new runs = start_tells (start_gates dg vol) vol old views new runs
+  form_tells dg other old views new runs = still_plan (disks_of other) (plan_of dg other) old views new (plan_still dg other refl) runs
 
   pub tells_done : (dg : Option Word) (f : Form) (plan : Plan) (old : Moment) (views : List View) (new : Moment) → plan_of dg f ≡ Some plan → Runs (disks_of f) plan.stages plan.finish old views (all_done copied) new → IsDoneBy f old.world (all_done copied)
   tells_done dg f plan old views new is runs = form_tells dg f old views new (subst (λ (p : Option Plan). RunsSo p (disks_of f) old views new) (sym is) runs)

@@ -32,8 +32,8 @@ module _ (old : Moment) (r : Refusal) (new : Moment) where
 
   opening : (g : Group) (v : Vol) → StopsUnopened g v old (refused r) new → OpeningRefuses g v old r new
   opening g v stops = elim stops.cause [
-    | inl unread ↦ (unread.1, inl (same_refusal r (refusal.NoLog v.name) unread.0, unread.2, unread.3))
-    | inr (inl (region, is, filled, missed)) ↦ (filled, inr (region, same_refusal r (refusal.NoCurrent region) is, missed))
+    | inl unread ↦ (stops.untested, unread.1, inl (same_refusal r (refusal.NoLog v.name) unread.0, unread.2, unread.3))
+    | inr (inl (region, is, filled, missed)) ↦ (stops.untested, filled, inr (region, same_refusal r (refusal.NoCurrent region) is, missed))
     | inr (inr (inl (told, device, is, fails))) ↦ let no : refused r ≡ ends.Fault told device [] = is in cc
     | inr (inr (inr (is, cut))) ↦ let no : refused r ≡ ends.Lost [] = is in cc
   ]

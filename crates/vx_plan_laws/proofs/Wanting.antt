@@ -1,5 +1,5 @@
--- Want of memory leaves the world as the command found it.
-use Rattle.std.proofs.Common.{◌≡◌, ◌∙◌, ◌⊎◌, ℕ, List, [], ◌∷◌, Option, Some, None, MatchOption, false, inl, inr}
+-- Want of memory leaves the world as the command found it, but for the volume of a start or a stop.
+use Rattle.std.proofs.Common.{◌≡◌, ◌∙◌, ◌⊎◌, ℕ, List, [], ◌∷◌, Option, Some, None, MatchOption, false, refl, subst, inl, inr}
 use Rattle.vx_base.specs.Named.{Word}
 use Rattle.vx_script_words.specs.declared.value.DiskAt.{DiskAt}
 use Rattle.vx_script_forms.specs.declared.form.Form.{Form}
@@ -8,12 +8,16 @@ use Rattle.vx_script.specs.declared.command.Command.{Command}
 use Rattle.vx_moments.specs.Moment.{Moment}
 use Rattle.vx_plans.specs.Plans.{plan_of, disks_of}
 use Rattle.vx_stages.specs.Stages.{Wants}
+use Rattle.vx_stages.specs.Starting.{StartWants}
+use Rattle.vx_stages.specs.Stopping.{StopWants}
 use Rattle.vx_plans.specs.Steps.{LeavesOff, RunsShort, WantsForm, WantsPlan}
 use Rattle.vx_stages.specs.declared.stage.Stage.{Stage}
 use Rattle.vx_stages.specs.declared.stage.Stage.TheVariants as stage
 use Rattle.vx_stages.specs.declared.stages.Plan.{Plan}
+use Rattle.vx_stages.specs.declared.test.Test.{Test}
 use Rattle.vx_plans.proofs.Complete.{kept_world}
-use Rattle.vx_plan_laws.proofs.Kept.{AreStill, IsPlain, calls_volume, plan_plain}
+use Rattle.vx_plan_laws.specs.Keeping.{WantLeaves}
+use Rattle.vx_plan_laws.proofs.Kept.{AreStill, IsPlain, behind, calls_volume, plan_plain, start_gates, stop_gates}
 
 wanting_kept : (s : Stage) (old new : Moment) → calls_volume s ≡ false → Wants s old new → new.world ≡ old.world
 wanting_kept (stage.Start vol) old new e wants = cc
@@ -32,13 +36,37 @@ plan_kept disks None old new plain wants = wants
 plan_kept disks (Some plan) old new plain (inl same) = same
 plan_kept disks (Some plan) old new plain (inr short) = short_kept disks plan.stages old new plain short
 
-form_kept : (dg : Option Word) (f : Form) (old new : Moment) → WantsForm dg f old new → new.world ≡ old.world
-form_kept dg (form.Calling call) old new wants = wants
-form_kept dg other old new wants = plan_kept (disks_of other) (plan_of dg other) old new (plan_plain dg other) wants
+-- memory is wanting in a gate, or in the stage behind the gates
+short_behind : (gates : List Test) (s : Stage) (old new : Moment) → RunsShort [] (behind gates s) old new → (new.world ≡ old.world) ⊎ Wants s old new
+short_behind [] s old new (inl (mid, later, is, short)) = absurd short
+short_behind [] s old new (inr wants) = inr wants
+short_behind (test ∷ gates) s old new (inl (mid, later, (passed, same), short)) = subst (λ (m : Moment). (new.world ≡ m.world) ⊎ Wants s m new) same (short_behind gates s mid new short)
+short_behind (test ∷ gates) s old new (inr same) = inl same
 
-pub each_want_keeps_the_world : (c : Command) (old new : Moment) → LeavesOff c old new → new.world ≡ old.world
+start_left : (gates : List Test) (vol : Word) (old new : Moment) → (new.world ≡ old.world) ⊎ RunsShort [] (behind gates (stage.Start vol)) old new → StartWants vol old new
+start_left gates vol old new (inl same) = inl same
+start_left gates vol old new (inr short) = elim (short_behind gates (stage.Start vol) old new short) [ inl same ↦ inl same | inr wants ↦ wants ]
+
+stop_left : (gates : List Test) (vol : Word) (old new : Moment) → (new.world ≡ old.world) ⊎ RunsShort [] (behind gates (stage.Stop vol)) old new → StopWants vol old new
+stop_left gates vol old new (inl same) = inl same
+stop_left gates vol old new (inr short) = elim (short_behind gates (stage.Stop vol) old new short) [ inl same ↦ inl same | inr wants ↦ wants ]
+
+-- what leaves the world leaves as much as a start and a stop do
+all_left : (f : Form) (old new : Moment) → new.world ≡ old.world → WantLeaves f old new
+all_left (form.Start vol) old new same = inl same
+all_left (form.Stop vol) old new same = inl same
+all_left other old new same = same
+
+form_left : (dg : Option Word) (f : Form) (old new : Moment) → WantsForm dg f old new → WantLeaves f old new
+unfolding plan_of
+form_left dg (form.Calling call) old new wants = wants
+form_left dg (form.Start vol) old new wants = start_left (start_gates dg vol) vol old new wants
+form_left dg (form.Stop vol) old new wants = stop_left (stop_gates dg vol) vol old new wants
+form_left dg other old new wants = plan_kept (disks_of other) (plan_of dg other) old new (plan_plain dg other refl) wants
+
+pub each_want_keeps_the_world : (c : Command) (old new : Moment) → LeavesOff c old new → WantLeaves c.form old new
 each_want_keeps_the_world c old new wants = by c.cut wants
   where
-    by : (cut : Option ℕ) → MatchOption cut (WantsForm c.group c.form old new) (λ n. new.world ≡ old.world) → new.world ≡ old.world
-    by None kept = form_kept c.group c.form old new kept
-    by (Some n) kept = kept
+    by : (cut : Option ℕ) → MatchOption cut (WantsForm c.group c.form old new) (λ n. new.world ≡ old.world) → WantLeaves c.form old new
+    by None left = form_left c.group c.form old new left
+    by (Some n) same = all_left c.form old new same

@@ -9,7 +9,8 @@ use Rattle.vx_answers.specs.declared.answer.View.{View}
 use Rattle.vx_answers.specs.declared.refusal.Refusal.{Refusal}
 use Rattle.vx_moments.specs.Moment.{Moment}
 use Rattle.vx_stages.specs.Ends.{refused}
-use Rattle.vx_stages.specs.Starting.{may_start}
+use Rattle.vx_stages.specs.Starting.{StartWants, may_start}
+use Rattle.vx_stages.specs.Stopping.{StopWants}
 use Rattle.vx_plans.specs.Steps.{LeavesOff, Step}
 use Rattle.vx_stages.specs.Touching.{IsTouched}
 use Rattle.vx_plan_laws.specs.Refusing.{OfGroup, OfVolume, OpeningRefuses}
@@ -30,6 +31,13 @@ EachRefusalKeepsTheWorld =
     (place : ℕ) (c : Command) (old : Moment) (views : List View) (r : Refusal) (new : Moment)
     → Step place c old (One views (refused r)) new → RefusedLeaves c.form old r new
 
--- want of memory leaves the world as the command found it: no plan starts or stops a volume of the group yet
+-- What want of memory leaves of a command of this form: the world as the command found it. A start may have called the log of its volume,
+-- and a stop may have let its volume come to rest.
+abbrev pub WantLeaves : Form → Moment → Moment → Type 0
+WantLeaves (form.Start vol) old new = StartWants vol old new
+WantLeaves (form.Stop vol) old new = StopWants vol old new
+WantLeaves other old new = new.world ≡ old.world
+
+-- want of memory leaves so much of the world
 abbrev pub EachWantKeepsTheWorld : Type 0
-EachWantKeepsTheWorld = (c : Command) (old new : Moment) → LeavesOff c old new → new.world ≡ old.world
+EachWantKeepsTheWorld = (c : Command) (old new : Moment) → LeavesOff c old new → WantLeaves c.form old new

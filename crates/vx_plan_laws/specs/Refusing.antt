@@ -52,11 +52,11 @@ OfVolume name g Holds = (v : Vol) × (volume_in name g.config.volumes ≡ Some v
 
 -- ---- a start and a stop
 
--- A volume that was started before cannot be opened: no copy of its log could be read, and each that counts has failed; or in some region
--- no plex is current.
+-- Nothing refuses it at once, but a volume that was started before cannot be opened: no copy of its log could be read, and each that counts
+-- has failed; or in some region no plex is current.
 abbrev pub OpeningRefuses : Group → Vol → Moment → Refusal → Moment → Type 0
 OpeningRefuses g v old r new =
-    IsFilled v.state
+    (refusal_at_once g v ≡ None) × IsFilled v.state
     × (((r ≡ refusal.NoLog v.name) × (is_some v.dco ≡ true) × HasNoReadCopy g v old new)
     ⊎ ((region : ℕ) × (r ≡ refusal.NoCurrent region) × IsFirstMissed (image_on old.world.devices g v) region))
 

@@ -43,7 +43,8 @@ pub fn each_refusal_keeps_the_world()
     ensures { EachRefusalKeepsTheWorld }
 {}
 
-/// Want of memory leaves the world as the command found it.
+/// Want of memory leaves the world as the command found it; but a start may have called the log of its volume, which does not run then,
+/// and a stop may have let its volume come to rest.
 pub fn each_want_keeps_the_world()
     ensures { EachWantKeepsTheWorld }
 {}

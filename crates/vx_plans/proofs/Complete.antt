@@ -269,8 +269,8 @@ plan_shaped dg (form.DgAddDisk name disk) w has = let c : IsAlive w × NamesSlot
 plan_shaped dg (form.DgImport name) w has = (has.group, has.masks)
 plan_shaped dg (form.DgDeport name) w has = let c : IsAlive w × NamesSlots w = (has.group, has.masks) in (c, refl, (c, refl, c))
 plan_shaped dg (form.DiskUnsetup device) w has = let c : IsAlive w × NamesSlots w = (has.group, has.masks) in (c, refl, (c, refl, c))
-plan_shaped dg (form.Start vol) w has = tt
-plan_shaped dg (form.Stop vol) w has = tt
+plan_shaped dg (form.Start vol) w has = let c : IsAlive w × NamesSlots w = (has.group, has.masks) in (c, refl, (c, refl, (c, refl, c)))
+plan_shaped dg (form.Stop vol) w has = let c : IsAlive w × NamesSlots w = (has.group, has.masks) in (c, refl, (c, refl, c))
 plan_shaped dg (form.PrintM vol) w has = print_shaped dg vol w (has.group, has.masks)
 plan_shaped dg (form.Rdpol vol how) w has = policy_shaped dg vol how w (has.group, has.masks)
 plan_shaped dg (form.RemoveVolume vol) w has = let c : IsAlive w × NamesSlots w = (has.group, has.masks) in (c, refl, (c, refl, (c, refl, (c, refl, c))))

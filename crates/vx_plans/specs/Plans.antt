@@ -64,6 +64,15 @@ plan_remove dg vol =
     stage.Gate (tests.GroupIs dg) ∷ stage.Gate (tests.HasVolume vol) ∷ stage.Gate (tests.Stopped vol) ∷ stage.Gate (tests.Unrelated vol)
     ∷ stage.Change (changes.Remove vol) ∷ []
 
+-- `vxvol start VOL`: a volume that runs is refused by its state; the start ends the command
+abbrev pub plan_start : Option Word → Word → List Stage
+plan_start dg vol =
+    stage.Gate (tests.GroupIs dg) ∷ stage.Gate (tests.HasVolume vol) ∷ stage.Gate (tests.Stopped vol) ∷ stage.Start vol ∷ []
+
+-- `vxvol stop VOL`
+abbrev pub plan_stop : Option Word → Word → List Stage
+plan_stop dg vol = stage.Gate (tests.GroupIs dg) ∷ stage.Gate (tests.HasVolume vol) ∷ stage.Stop vol ∷ []
+
 -- `vxprint -m [VOL]`
 abbrev pub plan_print : Option Word → Option Word → List Stage
 plan_print dg None = stage.Gate (tests.GroupIs dg) ∷ []
@@ -82,6 +91,8 @@ plan_of dg (form.PrintM vol) = ending (plan_print dg vol) (Records vol)
 plan_of dg (form.VxMake text) = doing (plan_make dg text)
 plan_of dg (form.Rdpol vol words) = doing (plan_rdpol dg vol words)
 plan_of dg (form.RemoveVolume vol) = doing (plan_remove dg vol)
+plan_of dg (form.Start vol) = doing (plan_start dg vol)
+plan_of dg (form.Stop vol) = doing (plan_stop dg vol)
 plan_of dg other = None
 
 -- the disks that a form names

@@ -1,6 +1,6 @@
 //! The plan of each form.
 ghost use Rattle.std.specs.Prelude.{◌≡◌, IfOk};
-ghost use Rattle.vx_plans.specs.Plans.{doing, ending, plan_add, plan_bare, plan_deport, plan_init, plan_make, plan_of, plan_print, plan_rdpol, plan_remove, plan_unsetup};
+ghost use Rattle.vx_plans.specs.Plans.{doing, ending, plan_add, plan_bare, plan_deport, plan_init, plan_make, plan_of, plan_print, plan_rdpol, plan_remove, plan_start, plan_stop, plan_unsetup};
 ghost use Rattle.vx_stages.specs.declared.stages.Finish.TheVariants.{Records};
 ghost use Rattle.vx_stages.specs.declared.stage.Change.TheVariants as changes;
 ghost use Rattle.vx_stages.specs.declared.stage.Stage.TheVariants as stages;
@@ -34,6 +34,8 @@ pub fn plan(alloc: Global, group: Option<Name>, form: &Form) -> Result<Option<Pl
         Form::VxMake { text } => make(alloc, group, text.as_slice()),
         Form::Rdpol { vol, policy } => rdpol(alloc, group, *vol, *policy),
         Form::RemoveVolume { vol } => remove(alloc, group, *vol),
+        Form::Start { vol } => start(alloc, group, *vol),
+        Form::Stop { vol } => stop(alloc, group, *vol),
         _ => Ok(None),
     }
 }
@@ -196,6 +198,33 @@ fn remove(alloc: Global, group: Option<Name>, vol: Name) -> Result<Option<Plan>,
             Stage::Gate(Test::Stopped(vol)),
             Stage::Gate(Test::Unrelated(vol)),
             Stage::Change(Change::Remove(vol)),
+        ],
+    )
+}
+
+fn start(alloc: Global, group: Option<Name>, vol: Name) -> Result<Option<Plan>, OutOfMemory>
+    ensures { IfOk result (λ plan. plan ≡ doing (plan_start group vol)) }
+{
+    doing(
+        alloc,
+        [
+            Stage::Gate(Test::GroupIs(group)),
+            Stage::Gate(Test::HasVolume(vol)),
+            Stage::Gate(Test::Stopped(vol)),
+            Stage::Start(vol),
+        ],
+    )
+}
+
+fn stop(alloc: Global, group: Option<Name>, vol: Name) -> Result<Option<Plan>, OutOfMemory>
+    ensures { IfOk result (λ plan. plan ≡ doing (plan_stop group vol)) }
+{
+    doing(
+        alloc,
+        [
+            Stage::Gate(Test::GroupIs(group)),
+            Stage::Gate(Test::HasVolume(vol)),
+            Stage::Stop(vol),
         ],
     )
 }

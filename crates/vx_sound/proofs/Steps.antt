@@ -198,7 +198,8 @@ module _ (views : List View) (end : End) (new : Moment) where
       (λ stops. edits_end (λ g. joining_edit p mid.world g ∷ []) (λ x. IsJoining p mid.world x) mid end new s ready stops)
       runs
 
-  starting_ends : (dg : Option Word) (vol : Word) (mid : Moment) → IsStanding mid.world → AllPassed (stage.Gate (tests.GroupIs dg) ∷ stage.Gate (tests.HasVolume vol) ∷ []) [] mid.world → Runs [] (stage.Start vol ∷ []) Nothing mid views end new → Ends end new.world
+  starting_ends : (dg : Option Word) (vol : Word) (mid : Moment) → IsStanding mid.world
+      → AllPassed (stage.Gate (tests.GroupIs dg) ∷ stage.Gate (tests.HasVolume vol) ∷ stage.Gate (tests.Stopped vol) ∷ []) [] mid.world → Runs [] (stage.Start vol ∷ []) Nothing mid views end new → Ends end new.world
   starting_ends dg vol mid s passed runs = one_stage (stage.Start vol) [] Nothing mid views end new (λ m done. absurd done) (λ stops. start_ends mid end new s vol stops) runs
 
   stopping_ends : (dg : Option Word) (vol : Word) (mid : Moment) → IsStanding mid.world → AllPassed (stage.Gate (tests.GroupIs dg) ∷ stage.Gate (tests.HasVolume vol) ∷ []) [] mid.world → Runs [] (stage.Stop vol ∷ []) Nothing mid views end new → Ends end new.world
@@ -267,8 +268,12 @@ module _ (old : Moment) (views : List View) (end : End) (new : Moment) (s : IsSt
   form_ends place dg (form.PrintHt vol) does = not_built does
   form_ends place dg (form.AssistMake vol length attrs disks) does = not_built does
   form_ends place dg (form.Mirror vol disks) does = not_built does
-  form_ends place dg (form.Start vol) does = not_built does
-  form_ends place dg (form.Stop vol) does = not_built does
+  form_ends place dg (form.Start vol) does =
+      let calm = stage.Gate (tests.GroupIs dg) ∷ stage.Gate (tests.HasVolume vol) ∷ stage.Gate (tests.Stopped vol) ∷ [] in
+      at_last calm (stage.Start vol ∷ []) [] Nothing old views end new s (starting_ends views end new dg vol) (runs_through calm (stage.Start vol ∷ []) [] Nothing old views end new (refl, (refl, (refl, tt))) does)
+  form_ends place dg (form.Stop vol) does =
+      let calm = stage.Gate (tests.GroupIs dg) ∷ stage.Gate (tests.HasVolume vol) ∷ [] in
+      at_last calm (stage.Stop vol ∷ []) [] Nothing old views end new s (stopping_ends views end new dg vol) (runs_through calm (stage.Stop vol ∷ []) [] Nothing old views end new (refl, (refl, tt)) does)
   form_ends place dg (form.PlexDis plex rm) does = not_built does
   form_ends place dg (form.Prepare vol ndcomirs region) does = not_built does
   form_ends place dg (form.Unprepare vol) does = not_built does

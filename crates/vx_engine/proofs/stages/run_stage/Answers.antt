@@ -49,3 +49,9 @@ returns-in-Search g c = record { goes = rw c.in-Search.is (stage_ends g.S.P.Piec
 
 pub returns-in-Import : goal.returns-in-Import
 returns-in-Import g c = record { goes = rw c.in-Import.is (stage_ends g.S.P.Piece.seen c.args.disks.now _ _ _ _ c.import.ensures.goes) }
+
+pub returns-in-Start : goal.returns-in-Start
+returns-in-Start g c = record { goes = rw c.in-Start.is (stage_ends g.S.P.Piece.seen c.args.disks.now _ _ _ _ (c.start.ensures.goes c.args.disks.now (shelved g.S.Shelf.free g.S.Shelf.held g.S.Shelf.counted g.S.Shelf.faults c.args.shelf.now) (rw c.in-Start.is at c.requires.ready) c.requires.keeps.devices)) }
+
+pub returns-in-Stop : goal.returns-in-Stop
+returns-in-Stop g c = record { goes = rw c.in-Stop.is (stage_ends g.S.P.Piece.seen c.args.disks.now _ _ _ _ (c.stop.ensures.goes c.args.disks.now (shelved g.S.Shelf.free g.S.Shelf.held g.S.Shelf.counted g.S.Shelf.faults c.args.shelf.now) (rw c.in-Stop.is at c.requires.ready) c.requires.keeps.devices)) }

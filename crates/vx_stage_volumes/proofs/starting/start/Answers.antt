@@ -1,0 +1,37 @@
+use Rattle.vx_house.specs.View.{Keeps, at}
+use Rattle.vx_stage_volumes.proofs.Begun.{HaveStartLaws}
+use Rattle.vx_stage_volumes.proofs.RunningStage.{running_goes}
+use Rattle.vx_stage_volumes.proofs.StartStages.{start_goes}
+use Rattle.vx_stage_volumes.proofs.UnopenedStage.{unopened_goes}
+use Rattle.vx_stage_volumes.proofs.UnrecordedStage.{unrecorded_goes}
+use Rattle.vx_stage_volumes.proofs.starting.start.Goals as goal
+
+pub returns-in-Some : goal.returns-in-Some
+returns-in-Some g c =
+    let see = g.P.Piece.seen in
+    let alike = c.requires.alike in
+    let ends = c.each_piece_ends.ensures.ends in
+    let counts = c.each_piece_ends.ensures.counts in
+    let restates = c.each_change_restates.ensures.start in
+    let h = c.args.house.now in
+    let laws : HaveStartLaws g.P.Piece.seen = record {
+      restates = restates;
+      recorded = c.each_change_restates.ensures.recorded;
+      lives = record {
+        decided = c.each_image_is_sound_or_not.ensures;
+        opening = c.each_opening_runs.ensures;
+        forgets = c.each_running_forgets.ensures;
+        empty = c.each_empty_begins.ensures;
+      };
+      ends = ends;
+      counts = counts;
+    } in
+    record {
+      goes = λ disks shelf ready held.
+          let keeps : Keeps g.P.Piece.seen (at shelf c.args.house.now) = record { devices = held; house = c.requires.keeps } in
+          start_goes see c.args.name disks shelf h keeps c.in-Some.group c.in-Some.is
+          (λ g' stop is. unopened_goes see alike ends counts c.args.name disks shelf h keeps c.in-Some.group c.in-Some.is g' stop is)
+          (λ g' stop is. unrecorded_goes alike restates c.args.name disks shelf h keeps c.in-Some.group c.in-Some.is g' stop is)
+          (λ g' stop is. running_goes alike laws c.each_pass_runs_on.ensures.copied c.each_fresh_region_is_missed.ensures c.args.name disks shelf h keeps c.in-Some.group c.in-Some.is ready g' stop is)
+          c.start_in.new.group c.start_in.result c.start_in.ensures.ends;
+    }

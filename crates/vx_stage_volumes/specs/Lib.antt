@@ -1,0 +1,12 @@
+pub mod Disks
+pub mod Early
+pub mod Laying
+pub mod Naming
+pub mod Numbers
+pub mod Opening
+pub mod Parting
+pub mod Recording
+pub mod Resting
+pub mod Starting
+pub mod Stopping
+pub mod Touching

@@ -1,9 +1,10 @@
 -- What a part leaves on a device is among the candidates that its entry leaves.
-use Rattle.std.proofs.Common.{◌≡◌, ◌⊎◌, ℕ, ◌+◌, ◌-◌, ◌*◌, ◌<◌, ◌≤◌, Bool, true, false, cond, List, [], ◌∷◌, take, replicate, Option, Some, None, Result, Ok, Err, subst, sym, ap, ◌∙◌, refl, inl, inr, arith, ltb, leb}
+use Rattle.std.proofs.Common.{◌≡◌, ◌⊎◌, ℕ, ◌+◌, ◌-◌, ◌*◌, ◌<◌, ◌≤◌, Bool, true, false, cond, List, [], ◌∷◌, length, length-drop, take, drop, Option, Some, None, Result, Ok, Err, subst, sym, ap, ◌∙◌, refl, inl, inr, arith, ltb, leb}
 use Rattle.std.specs.Prelude.{OnOk}
-use Rattle.std.proofs.lemmas.List.{take-replicate, drop-replicate, length-replicate}
+use Rattle.std.proofs.lemmas.List.{length-take-le}
 use Rattle.std.proofs.lemmas.Bool.{and_parts, leb-true, ltb-true}
 use Rattle.vx_base.specs.Blocks.{Contents, block_at, blocks_in, is_in, written}
+use Rattle.vx_base.proofs.BlockLemmas.{block_at-part}
 use Rattle.vx_piece.specs.Seen.{Writes}
 use Rattle.vx_life.specs.Candidates.{Values, Any, OneOf, IsListed, IsAmong, or_also, Candidates}
 use Rattle.vx_started.specs.Stands.{IsAmongTold}
@@ -27,34 +28,39 @@ module _ (new : List ℕ) (old value : List ℕ) where
 pub is_in_bounds : (at n k : ℕ) → is_in at n k ≡ true → (at ≤ k) × (k < at + n)
 is_in_bounds at n k e = let p = and_parts (leb at k) (ltb k (at + n)) e in (leb-true at k p.0, ltb-true k (at + n) p.1)
 
--- each block of a fill is the byte
-block_at-replicate : (n byte k : ℕ) → k < n → block_at (replicate (512 * n) byte) k ≡ replicate 512 byte
-block_at-replicate n byte k lt = ap (take 512) (drop-replicate (512 * k) (512 * n) byte) ∙ take-replicate 512 (512 * n - 512 * k) byte (omega arith)
+pub few_own : (all : List ℕ) (start at n : ℕ) → start ≤ at → 512 * (at + n - start) ≤ length all → blocks_in (take (512 * n) (drop (512 * (at - start)) all)) ≡ n
+few_own all start at n from room = omega (arith, length-take-le (512 * n) (drop (512 * (at - start)) all) (omega (arith, length-drop (512 * (at - start)) all, from, room)))
 
--- the values that a fill writes
-written-fill : (at n byte : ℕ) (old : Contents) (k : ℕ) → written at (replicate (512 * n) byte) old k ≡ cond (is_in at n k) (replicate 512 byte) (old k)
-written-fill at n byte old k =
-    let few : blocks_in (replicate (512 * n) byte) ≡ n = omega (arith, length-replicate (512 * n) byte) in
-    ap (λ m. cond (is_in at m k) (block_at (replicate (512 * n) byte) (k - at)) (old k)) few ∙ within (is_in at n k) refl
+-- the values that a part of a range writes, of which these are the bytes
+pub written-part : (all : List ℕ) (start at n : ℕ) → start ≤ at → 512 * (at + n - start) ≤ length all → (old : Contents) (k : ℕ) → written at (take (512 * n) (drop (512 * (at - start)) all)) old k ≡ cond (is_in at n k) (block_at all (k - start)) (old k)
+written-part all start at n from room old k =
+    ap (λ m. cond (is_in at m k) (block_at own (k - at)) (old k)) (few_own all start at n from room) ∙ within (is_in at n k) refl
   where
-    within : (b : Bool) → is_in at n k ≡ b → cond b (block_at (replicate (512 * n) byte) (k - at)) (old k) ≡ cond b (replicate 512 byte) (old k)
-    within true e = let h = is_in_bounds at n k e in block_at-replicate n byte (k - at) (omega (arith, h.0, h.1))
+    own : List ℕ
+    own = take (512 * n) (drop (512 * (at - start)) all)
+
+    within : (b : Bool) → is_in at n k ≡ b → cond b (block_at own (k - at)) (old k) ≡ cond b (block_at all (k - start)) (old k)
+    within true e =
+        let h = is_in_bounds at n k e in
+        let there : at - start + (k - at) ≡ k - start = omega (arith, h.0, from) in
+        block_at-part all (at - start) (512 * n) (k - at) (omega (arith, h.0, h.1)) ∙ ap (block_at all) there
     within false e = refl
 
 module _ (at n m : ℕ) (c : Candidates) where
-  -- after a write that is done
-  pub wrote : {T E : Type 0} (byte : ℕ) (told after : Option Contents) (result : Result T E) → Writes at (replicate (512 * n) byte) told after result → IsAmongTold m told c → OnOk result (IsAmongTold m after (λ k. cond (is_in at n k) (OneOf (replicate 512 byte ∷ [])) (c k)))
-  wrote byte None after (Ok u) writes among = absurd among
-  wrote byte (Some old) None (Ok u) writes among = absurd writes
-  wrote byte (Some old) (Some new) (Ok u) writes among = λ k lt. exact (new k) (old k) (replicate 512 byte) (is_in at n k) (c k) (among k lt) (writes k ∙ written-fill at n byte old k)
-  wrote byte told after (Err e) writes among = tt
+  module _ (bytes : List ℕ) (values : Contents) (are : (old : Contents) (k : ℕ) → written at bytes old k ≡ cond (is_in at n k) (values k) (old k)) where
+    -- after a write that is done
+    pub wrote : {T E : Type 0} (told after : Option Contents) (result : Result T E) → Writes at bytes told after result → IsAmongTold m told c → OnOk result (IsAmongTold m after (λ k. cond (is_in at n k) (OneOf (values k ∷ [])) (c k)))
+    wrote None after (Ok u) writes among = absurd among
+    wrote (Some old) None (Ok u) writes among = absurd writes
+    wrote (Some old) (Some new) (Ok u) writes among = λ k lt. exact (new k) (old k) (values k) (is_in at n k) (c k) (among k lt) (writes k ∙ are old k)
+    wrote told after (Err e) writes among = tt
 
-  -- after a write that may have failed
-  pub tore : {T E : Type 0} (byte : ℕ) (told after : Option Contents) (result : Result T E) → Writes at (replicate (512 * n) byte) told after result → IsAmongTold m told c → IsAmongTold m after (λ k. cond (is_in at n k) (or_also (replicate 512 byte) (c k)) (c k))
-  tore byte None after result writes among = absurd among
-  tore byte (Some old) None result writes among = absurd writes
-  tore byte (Some old) (Some new) (Ok t) writes among = λ k lt. also (new k) (old k) (replicate 512 byte) (is_in at n k) (c k) (among k lt) (inr (writes k ∙ written-fill at n byte old k))
-  tore byte (Some old) (Some new) (Err e) writes among = λ k lt. also (new k) (old k) (replicate 512 byte) (is_in at n k) (c k) (among k lt) (elim (writes k) [ inl same ↦ inl same | inr there ↦ inr (there ∙ written-fill at n byte old k) ])
+    -- after a write that may have failed
+    pub tore : {T E : Type 0} (told after : Option Contents) (result : Result T E) → Writes at bytes told after result → IsAmongTold m told c → IsAmongTold m after (λ k. cond (is_in at n k) (or_also (values k) (c k)) (c k))
+    tore None after result writes among = absurd among
+    tore (Some old) None result writes among = absurd writes
+    tore (Some old) (Some new) (Ok t) writes among = λ k lt. also (new k) (old k) (values k) (is_in at n k) (c k) (among k lt) (inr (writes k ∙ are old k))
+    tore (Some old) (Some new) (Err e) writes among = λ k lt. also (new k) (old k) (values k) (is_in at n k) (c k) (among k lt) (elim (writes k) [ inl same ↦ inl same | inr there ↦ inr (there ∙ are old k) ])
 
   -- after a read of what is there
   pub read : (contents : Contents) (told after : Option Contents) → told ≡ Some contents → after ≡ told → IsAmongTold m told c → IsAmongTold m after (λ k. cond (is_in at n k) (OneOf (contents k ∷ [])) (c k))

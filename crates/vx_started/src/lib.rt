@@ -2,6 +2,7 @@
 //! one device call each, and each part draws the next number of its region.
 #![tactic(auto)]
 
+mod bytes;
 mod part;
 mod range;
 mod started;

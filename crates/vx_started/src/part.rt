@@ -1,5 +1,5 @@
 //! One part of a call: its number, and its device call.
-ghost use Rattle.std.specs.Prelude.{◌≡◌, ◌+◌, ◌-◌, ◌*◌, ◌/◌, ◌^◌, ◌<◌, ◌≤◌, ℕ, [], length, replicate, Some, OnOk, IfSome, vec_len, slice_index, slice_set};
+ghost use Rattle.std.specs.Prelude.{◌≡◌, ◌+◌, ◌-◌, ◌*◌, ◌/◌, ◌^◌, ◌<◌, ◌≤◌, ℕ, [], length, take, drop, Some, OnOk, IfSome, vec_len, slice_index, slice_set};
 ghost use Rattle.vx_base.specs.Blocks.{Contents, AreBlocks, block_at};
 ghost use Rattle.vx_block.specs.Regions.{region_count};
 ghost use Rattle.vx_piece.specs.Seen.{Keeps, IsRead, IsInside, HasCause, Writes};
@@ -27,20 +27,21 @@ fn draw(numbers: &mut Vec<u64>, region: u64) -> Part
     }
 }
 
-/// Fills a part of a region with a byte, of which `bytes` has enough.
-pub fn fill_part<P: Piece>(
+/// Writes the blocks of a part of a region, where `bytes` has those from `start` on.
+pub fn write_part<P: Piece>(
     piece: &mut P,
     numbers: &mut Vec<u64>,
     region: u64,
     span: Span,
+    start: u64,
     bytes: &[u8],
-    byte: u8,
 ) -> (Part, Result<(), PieceFault>)
     requires some { 0 < span.count }
+    requires from { start ≤ span.start }
     requires inside { span.start + span.count ≤ (P.seen piece.old).sectors }
     requires region { region < vec_len numbers.old }
     requires room { slice_index numbers.old.items region < 2 ^ 63 }
-    requires filled { bytes.now ≡ replicate (512 * span.count) byte }
+    requires holds { 512 * (span.start + span.count - start) ≤ length bytes.now }
     ensures drawn { IsDrawn region numbers.old.items result.0 numbers.new.items }
     ensures len { vec_len numbers.new ≡ vec_len numbers.old }
     ensures kept { Keeps (P.seen piece.old) (P.seen piece.new) }
@@ -48,12 +49,32 @@ pub fn fill_part<P: Piece>(
     ensures calls { CallsAtMost 0 span.count (P.seen piece.old) (P.seen piece.new) }
 
     // A write that is done is an entry of its own kind, and any write may be told as a torn one.
-    ensures written { OnOk result.1 ((n : ℕ) → PartGoes n span kinds.Write (λ _. replicate 512 byte) (P.seen piece.old) numbers.old.items (P.seen piece.new) numbers.new.items result.0) }
-    ensures torn { (n : ℕ) → PartGoes n span kinds.Torn (λ _. replicate 512 byte) (P.seen piece.old) numbers.old.items (P.seen piece.new) numbers.new.items result.0 }
+    ensures written { OnOk result.1 ((n : ℕ) → PartGoes n span kinds.Write (λ k. block_at bytes.now (k - start)) (P.seen piece.old) numbers.old.items (P.seen piece.new) numbers.new.items result.0) }
+    ensures torn { (n : ℕ) → PartGoes n span kinds.Torn (λ k. block_at bytes.now (k - start)) (P.seen piece.old) numbers.old.items (P.seen piece.new) numbers.new.items result.0 }
 {
     let part = draw(numbers, region);
-    let outcome = piece.write(span.start, bytes);
+    let outcome = write_own(piece, bytes, start, span);
     (part, outcome)
+}
+
+fn write_own<P: Piece>(
+    piece: &mut P,
+    bytes: &[u8],
+    start: u64,
+    span: Span,
+) -> Result<(), PieceFault>
+    requires some { 0 < span.count }
+    requires from { start ≤ span.start }
+    requires inside { span.start + span.count ≤ (P.seen piece.old).sectors }
+    requires holds { 512 * (span.start + span.count - start) ≤ length bytes.now }
+    ensures kept { Keeps (P.seen piece.old) (P.seen piece.new) }
+    ensures told { Writes span.start (take (512 * span.count) (drop (512 * (span.start - start)) bytes.now)) (P.seen piece.old).told (P.seen piece.new).told result }
+    ensures cause { HasCause (P.seen piece.old) (P.seen piece.new) result }
+    ensures calls { CallsAtMost 0 span.count (P.seen piece.old) (P.seen piece.new) }
+{
+    let from = 512 * (span.start - start) as usize;
+    let to = from + 512 * span.count as usize;
+    piece.write(span.start, &bytes[from..to])
 }
 
 /// Reads a part of a region behind the blocks of the range that the buffer holds already.

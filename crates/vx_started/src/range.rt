@@ -1,5 +1,5 @@
 //! A range of blocks, part by part.
-ghost use Rattle.std.specs.Prelude.{◌≡◌, ◌+◌, ◌-◌, ◌*◌, ◌^◌, ◌<◌, ◌≤◌, ℕ, [], length, replicate, Some, None, IsSome, OnOk, OnErr, vec_len, vec_capacity};
+ghost use Rattle.std.specs.Prelude.{◌≡◌, ◌+◌, ◌-◌, ◌*◌, ◌^◌, ◌<◌, ◌≤◌, ℕ, [], length, Some, None, IsSome, OnOk, OnErr, vec_len, vec_capacity};
 ghost use Rattle.vx_base.specs.Blocks.{Contents, block_at};
 ghost use Rattle.vx_block.specs.Regions.{region_count, part_at};
 ghost use Rattle.vx_piece.specs.Seen.{Keeps, IsRead, HasCause};
@@ -7,14 +7,14 @@ ghost use Rattle.vx_life.specs.declared.EntryKind.TheVariants as kinds;
 ghost use Rattle.vx_started.specs.Stands.{CallsAtMost, AreBelow, CallGoes, IsSized};
 ghost use Rattle.vx_started.specs.Buffers.{HoldsFirst};
 
-use crate::part::{fill_part, read_part};
+use crate::part::{read_part, write_part};
 use vx_block::Geometry;
 use vx_life::Part;
 use vx_piece::{Piece, PieceFault};
 
-/// Fills the `total` parts of a range with a byte, of which `bytes` has those of the longest part. Where a device call
-/// fails, the parts are those that were begun.
-pub fn fill_range<P: Piece>(
+/// Writes the `total` parts of a range, of which these are the bytes. Where a device call fails, the parts are those
+/// that were begun.
+pub fn write_range<P: Piece>(
     piece: &mut P,
     numbers: &mut Vec<u64>,
     most: u64,
@@ -22,7 +22,6 @@ pub fn fill_range<P: Piece>(
     start: u64,
     count: u64,
     bytes: &[u8],
-    byte: u8,
     total: u64,
     parts: &mut Vec<Part>,
 ) -> Result<(), PieceFault>
@@ -32,8 +31,7 @@ pub fn fill_range<P: Piece>(
     requires numbers { vec_len numbers.old ≡ region_count geometry.now.length geometry.now.region }
     requires below { AreBelow most numbers.old.items }
     requires room { most < 2 ^ 62 }
-    requires filled { bytes.now ≡ replicate (length bytes.now) byte }
-    requires enough { (n : ℕ) → n ≤ count → n ≤ geometry.now.region → 512 * n ≤ length bytes.now }
+    requires holds { length bytes.now ≡ 512 * count }
     requires each { (index : ℕ) → index < total → IsSome (part_at geometry.now.region start count index) }
     requires few { total ≤ 262144 }
     requires fresh { parts.old.items ≡ [] }
@@ -45,16 +43,15 @@ pub fn fill_range<P: Piece>(
     ensures below { AreBelow (most + 262144) numbers.new.items }
 
     // Done, all parts are written; else the parts that were begun are torn.
-    ensures done { OnOk result (CallGoes geometry.now.length geometry.now.region start count kinds.Write (λ _. replicate 512 byte) (P.seen piece.old) numbers.old.items (P.seen piece.new) numbers.new.items parts.new.items) }
+    ensures done { OnOk result (CallGoes geometry.now.length geometry.now.region start count kinds.Write (λ k. block_at bytes.now (k - start)) (P.seen piece.old) numbers.old.items (P.seen piece.new) numbers.new.items parts.new.items) }
     ensures all { OnOk result (vec_len parts.new ≡ total) }
-    ensures failed { OnErr result (CallGoes geometry.now.length geometry.now.region start count kinds.Torn (λ _. replicate 512 byte) (P.seen piece.old) numbers.old.items (P.seen piece.new) numbers.new.items parts.new.items) }
+    ensures failed { OnErr result (CallGoes geometry.now.length geometry.now.region start count kinds.Torn (λ k. block_at bytes.now (k - start)) (P.seen piece.old) numbers.old.items (P.seen piece.new) numbers.new.items parts.new.items) }
     ensures begun { OnErr result (0 < vec_len parts.new) }
 {
     for index in 0..total {
         let span = geometry.part(start, count, index).unwrap();
         let region = geometry.region_of(span.start);
-        let own = &bytes[..512 * span.count as usize];
-        let (part, outcome) = fill_part(piece, numbers, region, span, own, byte);
+        let (part, outcome) = write_part(piece, numbers, region, span, start, bytes);
         parts.push_reserved(part);
         if let Err(fault) = outcome {
             return Err(fault);

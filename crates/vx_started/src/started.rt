@@ -1,12 +1,15 @@
-ghost use Rattle.std.specs.Prelude.{◌≡◌, ◌⊎◌, ◌+◌, ◌*◌, ◌^◌, ◌<◌, ◌≤◌, ℕ, List, None, length, replicate, IfOk, OnOk, OnErr, IfErr, vec_len, slice_index};
+ghost use Rattle.std.specs.Prelude.{◌≡◌, ◌⊎◌, ◌+◌, ◌*◌, ◌/◌, ◌%◌, ◌^◌, ◌<◌, ◌≤◌, ℕ, List, None, length, replicate, IfOk, OnOk, OnErr, IfErr, vec_len, slice_index};
 ghost use Rattle.vx_block.specs.Regions.{region_count};
 ghost use Rattle.vx_piece.specs.Seen.{Seen, Keeps, HasCause};
 ghost use Rattle.vx_moments.specs.World.{Volume};
+ghost use Rattle.vx_script_forms.specs.declared.call.Call.{Call};
 ghost use Rattle.vx_script_forms.specs.declared.call.Call.TheVariants as calls;
 ghost use Rattle.vx_answers.specs.declared.answer.End.TheVariants as ends;
 ghost use Rattle.vx_started.specs.Stands.{CallsAtMost, IsSized, HasShape, Serves, EndHasCause};
+ghost use Rattle.vx_started.specs.Writes.{IsWriteOf};
 
-use crate::range::{fill_range, read_range};
+use crate::bytes::{bytes_of, filled};
+use crate::range::{read_range, write_range};
 use std::alloc::Global;
 use vx_answers::{Bytes, End, Parts};
 use vx_base::{BLOCK, OutOfMemory};
@@ -14,6 +17,7 @@ use vx_block::Geometry;
 use vx_life::Part;
 use vx_names::Name;
 use vx_piece::{Piece, PieceFault};
+use vx_script_words::Blocks;
 
 /// A whole device that is started as a volume.
 #[derive(Drop)]
@@ -114,22 +118,66 @@ impl<P: Piece> Started<P> {
         ensures most { self.new.most ≤ self.old.most + 262144 }
         ensures refused { OnErr result (self.new ≡ self.old) }
     {
+        let bytes = filled(alloc, BLOCK * count as usize, byte)?;
+        self.write_bytes(alloc, start, count, &bytes)
+    }
+
+    /// Writes 1 to 64 blocks that lie in the volume. After a refusal of memory nothing has changed.
+    pub fn write(&mut self, alloc: Global, start: u64, blocks: &Blocks) -> Result<End, OutOfMemory>
+        requires whole { length blocks.now % 512 ≡ 0 }
+        requires some { 0 < length blocks.now / 512 }
+        requires few { length blocks.now / 512 ≤ 64 }
+        requires inside { start + length blocks.now / 512 ≤ self.old.geometry.length }
+        requires sized { IsSized (P.seen self.old.piece) self.old.geometry.length }
+        requires room { self.old.most < 2 ^ 62 }
+        ensures served { IfOk result (λ end. (vol : List ℕ) (v : Volume) → HasShape self.old.device self.old.geometry v →
+            Serves (calls.Data vol start blocks.now) end (P.seen self.old.piece) self.old.numbers.items (P.seen self.new.piece) self.new.numbers.items v) }
+        ensures cause { IfOk result (λ end. EndHasCause self.old.device end (P.seen self.old.piece) (P.seen self.new.piece)) }
+        ensures calls { CallsAtMost 0 (length blocks.now / 512) (P.seen self.old.piece) (P.seen self.new.piece) }
+        ensures kept { Keeps (P.seen self.old.piece) (P.seen self.new.piece) }
+        ensures same { (self.new.device ≡ self.old.device) × (self.new.geometry ≡ self.old.geometry) }
+        ensures most { self.new.most ≤ self.old.most + 262144 }
+        ensures refused { OnErr result (self.new ≡ self.old) }
+    {
+        let bytes = bytes_of(alloc, blocks)?;
+        self.write_bytes(alloc, start, blocks.count() as u64, &bytes)
+    }
+
+    /// Writes these bytes of 1 to 2,048 blocks that lie in the volume. After a refusal of memory nothing has changed.
+    fn write_bytes(
+        &mut self,
+        alloc: Global,
+        start: u64,
+        count: u64,
+        bytes: &[u8],
+    ) -> Result<End, OutOfMemory>
+        requires some { 0 < count }
+        requires few { count ≤ 2048 }
+        requires inside { start + count ≤ self.old.geometry.length }
+        requires sized { IsSized (P.seen self.old.piece) self.old.geometry.length }
+        requires room { self.old.most < 2 ^ 62 }
+        requires holds { length bytes.now ≡ 512 * count }
+
+        // Each call that writes these bytes there is served.
+        ensures served { IfOk result (λ end. (call : Call) (v : Volume) → IsWriteOf start count bytes.now call → HasShape self.old.device self.old.geometry v →
+            Serves call end (P.seen self.old.piece) self.old.numbers.items (P.seen self.new.piece) self.new.numbers.items v) }
+        ensures cause { IfOk result (λ end. EndHasCause self.old.device end (P.seen self.old.piece) (P.seen self.new.piece)) }
+        ensures calls { CallsAtMost 0 count (P.seen self.old.piece) (P.seen self.new.piece) }
+        ensures kept { Keeps (P.seen self.old.piece) (P.seen self.new.piece) }
+        ensures same { (self.new.device ≡ self.old.device) × (self.new.geometry ≡ self.old.geometry) }
+        ensures most { self.new.most ≤ self.old.most + 262144 }
+        ensures refused { OnErr result (self.new ≡ self.old) }
+    {
         let total = self.geometry.part_count(start, count);
         let mut parts = Vec::with_capacity(alloc, total as usize)?;
-        let bytes = filled(
-            alloc,
-            BLOCK * count.min(self.geometry.region) as usize,
-            byte,
-        )?;
-        let outcome = fill_range(
+        let outcome = write_range(
             &mut self.piece,
             &mut self.numbers,
             self.most,
             &self.geometry,
             start,
             count,
-            &bytes,
-            byte,
+            bytes,
             total,
             &mut parts,
         );
@@ -143,13 +191,6 @@ fn zeros(alloc: Global, geometry: &Geometry) -> Result<Vec<u64>, OutOfMemory>
 {
     let numbers = vec![in alloc; 0u64; geometry.regions() as usize]?;
     Ok(numbers)
-}
-
-fn filled(alloc: Global, length: usize, byte: u8) -> Result<Vec<u8>, OutOfMemory>
-    ensures { IfOk result (λ bytes. bytes.items ≡ replicate length byte) }
-{
-    let bytes = vec![in alloc; byte; length]?;
-    Ok(bytes)
 }
 
 /// How a call ends that has gone through its parts.

@@ -1,11 +1,7 @@
-use Rattle.std.proofs.Common.{◌<◌, rules}
-use Rattle.vx_started.proofs.Service.{fill_served}
+use Rattle.std.proofs.Common.{◌∙◌}
+use Rattle.std.proofs.lemmas.Result.{IfOk-weaker}
+use Rattle.vx_started.proofs.Service.{fill_writes}
 use Rattle.vx_started.proofs.started.Started.fill.Goals as goal
 
 pub returns-clause-served : goal.returns-clause-served
-returns-clause-served g c = λ vol v shape.
-    let valid = c.args.self.now.geometry.valid in
-    let sized : 0 < c.args.self.now.geometry.region = search rules in
-    let some : 0 < c.args.count = search rules in
-    fill_served v c.args.self.now.device c.args.self.now.geometry.length c.args.self.now.geometry.region shape.lies shape.length_is shape.region_is sized c.end_of.result (g.P.Piece.seen c.args.self.now.piece) (g.P.Piece.seen c.fill_range-outcome.new.piece) c.args.self.now.numbers.items c.fill_range-outcome.new.numbers.items c.fill_range-outcome.new.parts.items c.part_count-total.result c.args.start c.args.count some c.part_count-total.ensures.end
-    vol c.args.byte c.new.result.items c.fill_range-outcome.result c.fill_range-outcome.ensures.done (search rules) c.new.ensures.items c.end_of.ensures.done c.fill_range-outcome.ensures.failed (search rules) c.end_of.ensures.failed
+returns-clause-served g c = IfOk-weaker c.write_bytes.result _ _ (λ end serves vol v shape. serves _ v (fill_writes vol c.args.start c.args.count c.args.byte _ (c.deref.ensures.value ∙ c.in_ok-bytes.ensures)) shape) c.write_bytes.ensures.served

@@ -1,9 +1,10 @@
-use Rattle.std.proofs.Common.{◌≡◌, ◌+◌, ◌-◌, ◌≤◌, replicate, vec_len, vec_capacity}
+use Rattle.std.proofs.Common.{◌≡◌, ◌+◌, ◌-◌, ◌≤◌, vec_len, vec_capacity}
+use Rattle.vx_base.specs.Blocks.{block_at}
 use Rattle.vx_block.specs.Parts.{reached}
 use Rattle.vx_piece.specs.Seen.{Keeps}
 use Rattle.vx_life.specs.declared.EntryKind.TheVariants.{Write, Torn}
 use Rattle.vx_started.specs.Stands.{CallsAtMost, AreBelow, CallGoes, IsSized}
-use Rattle.vx_started.proofs.range.fill_range.Given as goal
+use Rattle.vx_started.proofs.range.write_range.Given as goal
 
 -- the call has gone so far, as one that will be done and as one that will fail
 abbrev pub invariant-loop-index : goal.invariant-loop-index
@@ -16,6 +17,6 @@ invariant-loop-index g l = record {
   below : AreBelow (l.most + l.index) l.numbers.items;
   count_of : vec_len l.parts ≡ l.index;
   spare : l.total ≤ vec_capacity l.parts;
-  written : CallGoes l.geometry.length l.geometry.region l.start l.count Write (λ _. replicate 512 l.byte) (g.P.Piece.seen l.fn.piece) l.fn.numbers.items (g.P.Piece.seen l.piece) l.numbers.items l.parts.items;
-  torn : CallGoes l.geometry.length l.geometry.region l.start l.count Torn (λ _. replicate 512 l.byte) (g.P.Piece.seen l.fn.piece) l.fn.numbers.items (g.P.Piece.seen l.piece) l.numbers.items l.parts.items;
+  written : CallGoes l.geometry.length l.geometry.region l.start l.count Write (λ k. block_at l.bytes (k - l.start)) (g.P.Piece.seen l.fn.piece) l.fn.numbers.items (g.P.Piece.seen l.piece) l.numbers.items l.parts.items;
+  torn : CallGoes l.geometry.length l.geometry.region l.start l.count Torn (λ k. block_at l.bytes (k - l.start)) (g.P.Piece.seen l.fn.piece) l.fn.numbers.items (g.P.Piece.seen l.piece) l.numbers.items l.parts.items;
 }

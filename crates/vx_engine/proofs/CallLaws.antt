@@ -32,10 +32,10 @@ use Rattle.vx_house.specs.declared.house.Imported.{Imported}
 use Rattle.vx_house.proofs.Free.{at_lone}
 use Rattle.vx_house.proofs.Takes.{rests_self}
 use Rattle.vx_house_calls.proofs.Moments.{run_there}
-use Rattle.vx_engine.specs.Calling.{IsCall, IsServedAmong}
+use Rattle.vx_engine.specs.Calling.{IsServedAmong}
 use Rattle.vx_engine.specs.Grouped.{CallsGroup, CallsVolumes, IsSameHouse, IsSameIfThere, IsServedIn, ServesAny, ServesBy, ServesGroup, ServesInGroup}
 use Rattle.vx_engine.proofs.CommandEnds.{moment_end}
-use Rattle.vx_engine.proofs.Given.{Given, does_call, refused_given}
+use Rattle.vx_engine.proofs.Given.{Given, refused_given}
 use Rattle.vx_engine.proofs.RunningCalls.{grouped_given, run_length}
 use Rattle.vx_engine.proofs.Lives.{lived_keeps, lived_faults, lived_blamed, lived_moment, lived_later, lived_runs, n}
 use Rattle.vx_engine.proofs.SameHouse.{same_self}
@@ -60,7 +60,7 @@ runs_beyond place call m v there beyond =
     subst (λ o. MatchOption o ((ends.Refused Range ≡ ends.Refused (NotStarted (volume_of call))) × Rests m m) (λ u. MatchBool (nat_lt u.length (start_of call + count_of call)) ((ends.Refused Range ≡ ends.Refused Range) × Rests m m) (ServesOn u.lies place call u m (ends.Refused Range) m))) (sym there)
     (subst (λ t. MatchBool t ((ends.Refused Range ≡ ends.Refused Range) × Rests m m) (ServesOn v.lies place call v m (ends.Refused Range) m)) (sym (lt-ltb v.length (start_of call + count_of call) beyond)) (refl, rests_self m))
 
-module _ {P : Type 0} {ghosts : Ghosts P} (shelf : Shelved) (h : House P ghosts) (call : Call) (valid : IsCall call) (keeps : Keeps ghosts.seen (at shelf h)) where
+module _ {P : Type 0} {ghosts : Ghosts P} (shelf : Shelved) (h : House P ghosts) (call : Call) (keeps : Keeps ghosts.seen (at shelf h)) where
   abbrev see : P → Seen
   see = ghosts.seen
 
@@ -90,7 +90,7 @@ module _ {P : Type 0} {ghosts : Ghosts P} (shelf : Shelved) (h : House P ghosts)
         record {
           is = moment_end see end (at shelf mid) _ (lived_moment see shelf h volumes call b end found among keeps m is place);
           later = lived_later see shelf h volumes call b end found among keeps m is place;
-          does = does_call place call m end _ valid (lived_later see shelf h volumes call b end found among keeps m is place) (lived_runs see shelf h volumes call b end found among keeps m is place within);
+          does = (refl, lived_later see shelf h volumes call b end found among keeps m is place, lived_runs see shelf h volumes call b end found among keeps m is place within);
         },
       );
       faults = lived_faults see shelf h volumes call b end found among keeps;
@@ -98,7 +98,7 @@ module _ {P : Type 0} {ghosts : Ghosts P} (shelf : Shelved) (h : House P ghosts)
     }
 
     by_range : (place : ℕ) (end : End) (b : Started P) → volume_at h (volume_of call) ≡ Some b → (t : Bool) → nat_lt b.geometry.length (start_of call + count_of call) ≡ t → MatchBool t ((end ≡ ends.Refused Range) × (volumes.entries ≡ h.volumes.entries)) (IsServedAmong see call b end h.volumes volumes) → Given see shelf call place end h mid
-    by_range place end b found true e serves = subst (λ x. Given see shelf call place x h mid) (sym serves.0) (refused_given see shelf call valid h mid place Range (same_mid serves.1) keeps (past_end place b found (ltb-true b.geometry.length (start_of call + count_of call) e)))
+    by_range place end b found true e serves = subst (λ x. Given see shelf call place x h mid) (sym serves.0) (refused_given see shelf call h mid place Range (same_mid serves.1) keeps (past_end place b found (ltb-true b.geometry.length (start_of call + count_of call) e)))
     by_range place end b found false e serves = lived_given place end b found (ltb-false b.geometry.length (start_of call + count_of call) e) serves
 
   volumes_given : (place : ℕ) (end : End) (b : Started P) (new : House P ghosts) → volume_at h (volume_of call) ≡ Some b → CallsVolumes see call end b h new → Given see shelf call place end h new
@@ -107,7 +107,7 @@ module _ {P : Type 0} {ghosts : Ghosts P} (shelf : Shelved) (h : House P ghosts)
   -- ---- none
 
   unstarted_given : (place : ℕ) (new : House P ghosts) → IsSameHouse h new → volume_at h (volume_of call) ≡ None → run_in h.group (volume_of call) ≡ None → Given see shelf call place (ends.Refused (NotStarted (volume_of call))) h new
-  unstarted_given place new same bare run = refused_given see shelf call valid h new place (NotStarted (volume_of call)) same keeps (λ m is.
+  unstarted_given place new same bare run = refused_given see shelf call h new place (NotStarted (volume_of call)) same keeps (λ m is.
       runs_unstarted place call m (none_started ghosts see (fronts_in see h.group) m.world.group (volume_of call) (m.world.volumes (volume_of call))
       (subst (λ o. IsAtVolume see o (lone (m.world.volumes (volume_of call)))) bare (is.volumes_are (volume_of call)))
       (subst (λ o. IsAtRun see (fronts_in see h.group) m.world.group (volume_of call) o (grouped (m.world.volumes (volume_of call)))) run (is.runs_are (volume_of call)))))
@@ -139,8 +139,8 @@ module _ {P : Type 0} {ghosts : Ghosts P} (shelf : Shelved) (h : House P ghosts)
       run_range place end now r found true e serves =
           subst (λ x. Given see shelf call place x h (record h { group = Some now })) (sym serves.0)
           (subst (λ x. Given see shelf call place (ends.Refused Range) h (record h { group = Some x })) (sym serves.1)
-          (refused_given see shelf call valid h (record h { group = Some g }) place Range same_with keeps (beyond_run place r found (ltb-true (volume_seen see r.volume).length (start_of call + count_of call) e))))
-      run_range place end now r found false e serves = grouped_given alike shelf h g now has_group call valid end serves keeps place r found (ltb-false (volume_seen see r.volume).length (start_of call + count_of call) e)
+          (refused_given see shelf call h (record h { group = Some g }) place Range same_with keeps (beyond_run place r found (ltb-true (volume_seen see r.volume).length (start_of call + count_of call) e))))
+      run_range place end now r found false e serves = grouped_given alike shelf h g now has_group call end serves keeps place r found (ltb-false (volume_seen see r.volume).length (start_of call + count_of call) e)
 
       by_run : (place : ℕ) (end : End) (now : Imported P ghosts) → volume_at h (volume_of call) ≡ None → (o : Option (Running P ghosts)) → running_at g.public (volume_of call) ≡ o → ServesInGroup see call o g now end → Given see shelf call place end h (record h { group = Some now })
       by_run place end now bare None found serves =

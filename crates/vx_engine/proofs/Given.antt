@@ -3,12 +3,11 @@ use Rattle.std.proofs.Common.{◌≡◌, ◌∙◌, ℕ, [], refl, ap}
 use Rattle.vx_pages.specs.declared.local_piece.LocalPiece.{Ghosts}
 use Rattle.vx_piece.specs.Seen.{Seen}
 use Rattle.vx_script_forms.specs.declared.call.Call.{Call}
-use Rattle.vx_script_forms.specs.declared.call.Call.TheVariants as calls
 use Rattle.vx_answers.specs.declared.answer.Answer.TheVariants.{One}
 use Rattle.vx_answers.specs.declared.answer.End.{End}
 use Rattle.vx_answers.specs.declared.answer.End.TheVariants as ends
 use Rattle.vx_answers.specs.declared.refusal.Refusal.{Refusal}
-use Rattle.vx_moments.specs.Moment.{Moment, AreLater}
+use Rattle.vx_moments.specs.Moment.{Moment}
 use Rattle.vx_plans.specs.Serving.{CallRuns}
 use Rattle.vx_plans.specs.Steps.{DoesCall}
 use Rattle.vx_house.specs.Leaves.{IsLeft}
@@ -17,7 +16,6 @@ use Rattle.vx_house.specs.View.{View, at, scene, IsMoment, Keeps}
 use Rattle.vx_house.specs.declared.house.House.{House}
 use Rattle.vx_house.proofs.Ends.{keeps_but_group, keeps_ended}
 use Rattle.vx_house.proofs.Moments.{later_refl}
-use Rattle.vx_engine.specs.Calling.{IsCall}
 use Rattle.vx_engine.specs.Grouped.{IsSameHouse}
 use Rattle.vx_engine.specs.Serving.{CommandGoes, IsRefused}
 use Rattle.vx_engine.proofs.CommandEnds.{HasDone, over_goes}
@@ -30,13 +28,7 @@ pub record Given {P : Type 0} {ghosts : Ghosts P} (see : P → Seen) (shelf : Sh
   pub faults : FaultsGoOn (scene see (at shelf h)) (scene see (at shelf mid))
   pub blamed : IsBlamed end (scene see (at shelf h)) (scene see (at shelf mid))
 
--- a call that is built does just what it runs
-pub does_call : (place : ℕ) (call : Call) (m : Moment) (end : End) (o : Moment) → IsCall call → AreLater m.counts o.counts → CallRuns place call m end o → DoesCall place call m [] end o
-does_call place (calls.Read vol start count) m end o valid later runs = (refl, later, runs)
-does_call place (calls.Fill vol start count byte) m end o valid later runs = (refl, later, runs)
-does_call place (calls.Data vol start blocks) m end o valid later runs = absurd valid
-
-module _ {P : Type 0} {ghosts : Ghosts P} (see : P → Seen) (shelf : Shelved) (call : Call) (valid : IsCall call) (h mid : House P ghosts) where
+module _ {P : Type 0} {ghosts : Ghosts P} (see : P → Seen) (shelf : Shelved) (call : Call) (h mid : House P ghosts) where
   -- refused, and nothing has changed
   pub refused_given : (place : ℕ) (r : Refusal) → IsSameHouse h mid → Keeps see (at shelf h) → ((m : Moment) → IsMoment see (at shelf h) m → CallRuns place call m (ends.Refused r) m) → Given see shelf call place (ends.Refused r) h mid
   refused_given place r same keeps runs = record {
@@ -46,7 +38,7 @@ module _ {P : Type 0} {ghosts : Ghosts P} (see : P → Seen) (shelf : Shelved) (
       record {
         is = same_moment see shelf h mid same m is;
         later = later_refl m.counts;
-        does = does_call place call m (ends.Refused r) m valid (later_refl m.counts) (runs m is);
+        does = (refl, later_refl m.counts, runs m is);
       },
     );
     faults = same_faults see shelf h mid same;

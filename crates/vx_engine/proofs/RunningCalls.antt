@@ -63,10 +63,9 @@ use Rattle.vx_house.specs.declared.house.Imported.{Imported}
 use Rattle.vx_house_calls.specs.Passes.{GoesOnWith, IsCalledIn, IsNext, IsOneOf, RunsOn, with_group}
 use Rattle.vx_house_calls.proofs.Groups.{some}
 use Rattle.vx_house_calls.proofs.Moments.{each_call_on}
-use Rattle.vx_engine.specs.Calling.{IsCall}
 use Rattle.vx_engine.specs.Grouped.{IsNamed, IsServedIn, IsToldAs}
 use Rattle.vx_engine.proofs.CommandEnds.{moment_end}
-use Rattle.vx_engine.proofs.Given.{Given, does_call}
+use Rattle.vx_engine.proofs.Given.{Given}
 
 -- the volume of the world has the blocks of the one that runs as it
 pub run_length : {P : Type 0} {ghosts : Ghosts P} (see : P → Seen) (hs : List DiskSeen) (g : Group) (name : Word) (r : Running P ghosts) (w : Volume) → IsRunOf see hs g name r w → w.length ≡ (volume_seen see r.volume).length
@@ -114,7 +113,7 @@ may_come place epoch (e ∷ es) all =
 
 -- ---- a call
 
-module _ {P : Type 0} {ghosts : Ghosts P} (alike : (p q : P) → is_some (ghosts.seen p).told ≡ is_some (ghosts.seen q).told) (shelf : Shelved) (h : House P ghosts) (g now : Imported P ghosts) (has_group : h.group ≡ Some g) (call : Call) (valid : IsCall call) (end : End)
+module _ {P : Type 0} {ghosts : Ghosts P} (alike : (p q : P) → is_some (ghosts.seen p).told ≡ is_some (ghosts.seen q).told) (shelf : Shelved) (h : House P ghosts) (g now : Imported P ghosts) (has_group : h.group ≡ Some g) (call : Call) (end : End)
     (done : IsServedIn ghosts.seen call end g now) (keeps : Keeps ghosts.seen (at shelf h)) where
   abbrev see : P → Seen
   see = ghosts.seen
@@ -403,7 +402,7 @@ module _ {P : Type 0} {ghosts : Ghosts P} (alike : (p q : P) → is_some (ghosts
       record {
         is = moment_end see end (at shelf mid) (n place m at_m) (next place m at_m).is;
         later = (next place m at_m).later;
-        does = does_call place call m end (n place m at_m) valid (next place m at_m).later (runs place m at_m within);
+        does = (refl, (next place m at_m).later, runs place m at_m within);
       },
     );
     faults = goes.faults;

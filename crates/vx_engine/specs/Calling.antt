@@ -1,5 +1,5 @@
 -- What a call does to the started volumes.
-use Rattle.std.specs.Prelude.{◌≡◌, ◌+◌, ◌<◌, ◌≤◌, ◌^◌, nat_lt, MatchBool, Option, Some, None}
+use Rattle.std.specs.Prelude.{◌≡◌, ◌+◌, nat_lt, MatchBool, Option, Some, None}
 use Rattle.std.specs.BTreeMap.{BTreeMap, is_at, get}
 use Rattle.std.specs.Cmp.Lexicographic.{slice_cmp}
 use Rattle.std.specs.Map.{set_value}
@@ -7,7 +7,6 @@ use Rattle.std.specs.Ordering.{nat_cmp}
 use Rattle.vx_base.specs.Named.{Word, put, SameUnder}
 use Rattle.vx_piece.specs.Seen.{Seen, Keeps}
 use Rattle.vx_script_forms.specs.declared.call.Call.{Call}
-use Rattle.vx_script_forms.specs.declared.call.Call.TheVariants as calls
 use Rattle.vx_answers.specs.declared.answer.End.{End}
 use Rattle.vx_answers.specs.declared.answer.End.TheVariants.{Refused}
 use Rattle.vx_answers.specs.declared.refusal.Refusal.TheVariants.{NotStarted, Range}
@@ -15,18 +14,6 @@ use Rattle.vx_moments.specs.World.{Volume}
 use Rattle.vx_stages.specs.Calls.{volume_of, start_of, count_of, reads_of, writes_of}
 use Rattle.vx_started.specs.declared.started.Started.{Started}
 use Rattle.vx_started.specs.Stands.{HasShape, Serves, EndHasCause, CallsAtMost}
-
--- a call that is built, within the limits of the language
-abbrev pub IsCall : Call → Type 0
-IsCall (calls.Read vol start count) = (start < 2 ^ 40) × (0 < count) × (count ≤ 2048)
-IsCall (calls.Fill vol start count byte) = (start < 2 ^ 40) × (0 < count) × (count ≤ 2048)
-IsCall (calls.Data vol start blocks) = ⊥
-
--- a call within the limits of the language, where it is built
-abbrev pub IsCallIfBuilt : Call → Type 0
-IsCallIfBuilt (calls.Read vol start count) = IsCall (calls.Read vol start count)
-IsCallIfBuilt (calls.Fill vol start count byte) = IsCall (calls.Fill vol start count byte)
-IsCallIfBuilt (calls.Data vol start blocks) = Unit {0}
 
 -- the volume has lived on as the answer tells, on the same device
 pub record IsServedBy {P : Type 0} (see : P → Seen) (call : Call) (end : End) (b later : Started P) : Type 0 where

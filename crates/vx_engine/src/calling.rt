@@ -7,7 +7,8 @@ ghost use Rattle.vx_started.specs.Stands.{IsSized};
 ghost use Rattle.vx_started.specs.declared.started.Started.{Started as StartedValue};
 ghost use Rattle.vx_stages.specs.Calls.{volume_of, start_of, count_of};
 ghost use Rattle.vx_plans.specs.Steps.{DoesCall};
-ghost use Rattle.vx_engine.specs.Calling.{IsCall, IsServedBy, ServesAmong};
+ghost use Rattle.vx_group_calls.specs.Serving.{IsWithinLimits};
+ghost use Rattle.vx_engine.specs.Calling.{IsServedBy, ServesAmong};
 ghost use Rattle.vx_engine.specs.Grouped.{IsSameHouse, ServesAny};
 ghost use Rattle.vx_engine.specs.Serving.{CommandEnds};
 ghost use Rattle.vx_house.specs.Scene.{shelved};
@@ -40,7 +41,7 @@ pub fn serve_call<S: Shelf>(
 ) -> Result<Answer, Unserved>
     requires keeps { Keeps S.P.seen (at (shelved S.free S.held S.counted S.faults shelf.old) house.old) }
     requires empty { house.old.hand.items ≡ [] }
-    requires valid { IsCall call.now }
+    requires valid { IsWithinLimits call.now }
     ensures goes { (place : ℕ) → CommandEnds S.P.seen (DoesCall place call.now) (λ m n. n.world ≡ m.world) result
         (at (shelved S.free S.held S.counted S.faults shelf.old) house.old) (at (shelved S.free S.held S.counted S.faults shelf.new) house.new) }
 {
@@ -56,7 +57,7 @@ fn serve_any<P: Piece + Drop>(
     house: &mut House<P>,
     call: &Call,
 ) -> Result<End, OutOfMemory>
-    requires valid { IsCall call.now }
+    requires valid { IsWithinLimits call.now }
     requires keeps { KeepsHouse P.seen house.old }
     ensures serves { IfOk result (ServesAny P.seen call.now house.old house.new) }
     ensures refused { OnErr result (IsSameHouse house.old house.new) }
@@ -76,7 +77,7 @@ fn serve_among<P: Piece>(
     volumes: &mut BTreeMap<Name, Started<P>>,
     call: &Call,
 ) -> Result<End, OutOfMemory>
-    requires valid { IsCall call.now }
+    requires valid { IsWithinLimits call.now }
     requires sized { (b : StartedValue P) → get (slice_cmp nat_cmp) volumes.old (volume_of call.now) ≡ Some b → IsSized (P.seen b.piece) b.geometry.length }
     ensures serves { IfOk result (ServesAmong P.seen call.now (get (slice_cmp nat_cmp) volumes.old (volume_of call.now)) volumes.old volumes.new) }
     ensures refused { OnErr result (volumes.new.entries ≡ volumes.old.entries) }
@@ -93,7 +94,7 @@ fn serve_among<P: Piece>(
 
 /// Serves a call of a volume whose blocks it keeps to.
 fn serve<P: Piece>(alloc: Global, started: &mut Started<P>, call: &Call) -> Result<End, OutOfMemory>
-    requires valid { IsCall call.now }
+    requires valid { IsWithinLimits call.now }
     requires sized { IsSized (P.seen started.old.piece) started.old.geometry.length }
     requires within { start_of call.now + count_of call.now ≤ started.old.geometry.length }
     ensures served { IfOk result (λ end. IsServedBy P.seen call.now end started.old started.new) }
@@ -110,6 +111,6 @@ fn serve<P: Piece>(alloc: Global, started: &mut Started<P>, call: &Call) -> Resu
             byte,
             ..
         } => started.fill(alloc, *start, *count, *byte),
-        Call::Data { .. } => unreachable!(),
+        Call::Data { start, blocks, .. } => started.write(alloc, *start, blocks),
     }
 }

@@ -3,13 +3,12 @@ ghost use Rattle.std.specs.Prelude.{◌≡◌, ℕ, [], IsTrue, IfOk};
 ghost use Rattle.vx_answers.specs.declared.answer.Answer.TheVariants.{One};
 ghost use Rattle.vx_answers.specs.declared.answer.End.TheVariants as ends;
 ghost use Rattle.vx_answers.specs.declared.refusal.Refusal.TheVariants.{NotBuilt};
-ghost use Rattle.vx_engine.specs.Calling.{IsCallIfBuilt};
 ghost use Rattle.vx_engine.specs.Serving.{CommandEnds};
 ghost use Rattle.vx_engine.specs.Sound.{HasFormSize};
 ghost use Rattle.vx_house.specs.Scene.{shelved};
 ghost use Rattle.vx_house.specs.View.{Keeps, at};
 ghost use Rattle.vx_plans.specs.Plans.{disks_of, plan_of};
-ghost use Rattle.vx_plans.specs.Steps.{Does, DoesCall, DoesPlan, LeavesOff, WantsPlan};
+ghost use Rattle.vx_plans.specs.Steps.{Does, DoesPlan, LeavesOff, WantsPlan};
 ghost use Rattle.vx_script.specs.Kept.{is_command};
 
 use crate::calling::serve_call;
@@ -22,7 +21,7 @@ use vx_house::House;
 use vx_names::Name;
 use vx_plans::plan;
 use vx_script::Command;
-use vx_script_forms::{Call, Form, name_in};
+use vx_script_forms::{Form, name_in};
 use vx_script_words::DiskAt;
 use vx_shelf::Shelf;
 
@@ -44,27 +43,8 @@ pub fn execute<S: Shelf>(
         return Ok(not_built(alloc));
     }
     match &command.form {
-        Form::Calling(call) => serve_said(alloc, house, shelf, call),
+        Form::Calling(call) => serve_call(alloc, house, shelf, call),
         form => serve_form(alloc, house, shelf, name_in(&command.group), form),
-    }
-}
-
-/// Serves a call, where it is built.
-fn serve_said<S: Shelf>(
-    alloc: Global,
-    house: &mut House<S::P>,
-    shelf: &mut S,
-    call: &Call,
-) -> Result<Answer, Unserved>
-    requires keeps { Keeps S.P.seen (at (shelved S.free S.held S.counted S.faults shelf.old) house.old) }
-    requires empty { house.old.hand.items ≡ [] }
-    requires within { IsCallIfBuilt call.now }
-    ensures goes { (place : ℕ) → CommandEnds S.P.seen (DoesCall place call.now) (λ m n. n.world ≡ m.world) result
-        (at (shelved S.free S.held S.counted S.faults shelf.old) house.old) (at (shelved S.free S.held S.counted S.faults shelf.new) house.new) }
-{
-    match call {
-        Call::Data { .. } => Ok(not_built(alloc)),
-        call => serve_call(alloc, house, shelf, call),
     }
 }
 

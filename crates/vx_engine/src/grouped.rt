@@ -8,7 +8,7 @@ ghost use Rattle.std.specs.Ordering.{nat_cmp};
 ghost use Rattle.vx_stages.specs.Calls.{volume_of};
 ghost use Rattle.vx_lending.specs.Public.{running_at};
 ghost use Rattle.vx_house.specs.View.{IsGroupWhole};
-ghost use Rattle.vx_engine.specs.Calling.{IsCall};
+ghost use Rattle.vx_group_calls.specs.Serving.{IsWithinLimits};
 ghost use Rattle.vx_engine.specs.Grouped.{IsSameGroup, IsToldAs, MayRunCall, NamesFault, RunsCall, ServesInGroup, is_on};
 
 use crate::words::{end_of, volume_of};
@@ -30,7 +30,7 @@ pub(crate) fn serve_in_group<P: Piece + Drop>(
     group: &mut Imported<P>,
     call: &Call,
 ) -> Result<End, OutOfMemory>
-    requires valid { IsCall call.now }
+    requires valid { IsWithinLimits call.now }
     requires whole { IsGroupWhole P.seen group.old }
     ensures serves { IfOk result (ServesInGroup P.seen call.now (running_at group.old.public (volume_of call.now)) group.old group.new) }
     ensures refused { OnErr result (IsSameGroup group.old group.new) }
@@ -53,7 +53,7 @@ fn serve_running<P: Piece + Drop>(
     name: &Name,
     call: &Call,
 ) -> Result<Served, OutOfMemory>
-    requires valid { IsCall call.now }
+    requires valid { IsWithinLimits call.now }
     requires may { MayRunCall P.seen call.now (get (slice_cmp nat_cmp) running.old name.now) }
     ensures runs { IfOk result (λ served. RunsCall P.seen call.now name.now served running.old running.new) }
     ensures refused { OnErr result (running.new.entries ≡ running.old.entries) }

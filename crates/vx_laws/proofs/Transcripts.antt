@@ -164,12 +164,8 @@ module _ (Held : Holding) (Read : Reading) where
 
   -- ---- commands
 
-  calling_kept : (place : ℕ) (call : Call) (old : Moment) (views : List View) (end : End) (new : Moment) → HaveHistories Held Read old.world → DoesCall place call old views end new → HaveHistories Held Read new.world
-  calling_kept place (said.Data vol start blocks) old views end new all does = not_built old views end new all does
-  calling_kept place other old views end new all (none, later, runs) = call_kept Held Read place other old new end all runs
-
   form_kept : (place : ℕ) (dg : Option Word) (f : Form) (old : Moment) (views : List View) (end : End) (new : Moment) → AreKnown Held Read old.world → HaveHistories Held Read old.world → DoesForm place dg f old views end new → HaveHistories Held Read new.world
-  form_kept place dg (form.Calling call) old views end new there all does = calling_kept place call old views end new all does
+  form_kept place dg (form.Calling call) old views end new there all does = call_kept Held Read place call old new end all does.2
   form_kept place dg other old views end new there all does = plan_kept (disks_of other) (plan_of dg other) old views end new (plan_shaped dg other) there all does
 
   cut_kept : (place : ℕ) (c : Command) (cut : Option ℕ) (old : Moment) (views : List View) (end : End) (new : Moment) → AreKnown Held Read old.world → HaveHistories Held Read old.world → MatchOption cut (DoesForm place c.group c.form old views end new) (λ n. IsNotBuilt old views end new) → HaveHistories Held Read new.world

@@ -227,11 +227,6 @@ module _ (old : Moment) (views : List View) (r : Refusal) (new : Moment) where
       by None h = h.1.stays.world
       by (Some v) h = at_range v (nat_lt v.length (start_of call + count_of call)) h
 
-  calling_left : (place : ℕ) (call : Call) → DoesCall place call old views (refused r) new → new.world ≡ old.world
-  calling_left place (said.Data vol start blocks) does = not_built does
-  calling_left place (said.Read vol start count) does = call_left place (said.Read vol start count) does.2
-  calling_left place (said.Fill vol start count byte) does = call_left place (said.Fill vol start count byte) does.2
-
   -- what leaves the world leaves as much as a start does
   all_left : (f : Form) → new.world ≡ old.world → RefusedLeaves f old r new
   all_left (form.Start vol) same = inl same
@@ -239,7 +234,7 @@ module _ (old : Moment) (views : List View) (r : Refusal) (new : Moment) where
 
   form_left : (place : ℕ) (dg : Option Word) (f : Form) → DoesForm place dg f old views (refused r) new → RefusedLeaves f old r new
   unfolding plan_of
-  form_left place dg (form.Calling call) does = calling_left place call does
+  form_left place dg (form.Calling call) does = call_left place call does.2
   form_left place dg (form.Start vol) does = starting_left (start_gates dg vol) vol old does
   form_left place dg other does = plan_left (disks_of other) (plan_of dg other) (plan_still dg other refl) does
 

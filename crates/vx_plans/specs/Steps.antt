@@ -4,7 +4,6 @@ use Rattle.vx_base.specs.Named.{Word}
 use Rattle.vx_objects.specs.Config.{objects_of}
 use Rattle.vx_print.specs.Shown.{IsPrinted}
 use Rattle.vx_script_forms.specs.declared.call.Call.{Call}
-use Rattle.vx_script_forms.specs.declared.call.Call.TheVariants as said
 use Rattle.vx_script_forms.specs.declared.form.Form.{Form}
 use Rattle.vx_script_forms.specs.declared.form.Form.TheVariants as form
 use Rattle.vx_script.specs.declared.command.Command.{Command}
@@ -77,11 +76,9 @@ abbrev pub DoesPlan : List DiskAt → Option Plan → Moment → List View → E
 DoesPlan disks None old views end new = IsNotBuilt old views end new
 DoesPlan disks (Some plan) old views end new = Runs disks plan.stages plan.finish old views end new
 
--- the calls that are built
+-- what a call does
 abbrev pub DoesCall : ℕ → Call → Moment → List View → End → Moment → Type 0
-DoesCall place (said.Read vol start count) old views end new = (views ≡ []) × AreLater old.counts new.counts × CallRuns place (said.Read vol start count) old end new
-DoesCall place (said.Fill vol start count byte) old views end new = (views ≡ []) × AreLater old.counts new.counts × CallRuns place (said.Fill vol start count byte) old end new
-DoesCall place (said.Data vol start blocks) old views end new = IsNotBuilt old views end new
+DoesCall place call old views end new = (views ≡ []) × AreLater old.counts new.counts × CallRuns place call old end new
 
 -- what a form does
 abbrev pub DoesForm : ℕ → Option Word → Form → Moment → List View → End → Moment → Type 0

@@ -8,8 +8,6 @@ use Rattle.vx_mask.proofs.Tests.{or_neither}
 use Rattle.vx_config_parts.specs.declared.vol.PolicyName.TheVariants as policy
 use Rattle.vx_objects.specs.declared.edit.Edit.{Edit}
 use Rattle.vx_script_words.specs.declared.value.DiskAt.{DiskAt}
-use Rattle.vx_script_forms.specs.declared.call.Call.{Call}
-use Rattle.vx_script_forms.specs.declared.call.Call.TheVariants as calls
 use Rattle.vx_script_forms.specs.declared.form.Form.{Form}
 use Rattle.vx_script_forms.specs.declared.form.Form.TheVariants as form
 use Rattle.vx_script_forms.specs.declared.form.WordPolicy.{WordPolicy}
@@ -30,7 +28,7 @@ use Rattle.vx_plans.specs.Plans.{plan_of}
 use Rattle.vx_stages.specs.Records.{devices_of}
 use Rattle.vx_stages.specs.Ends.{IsChange}
 use Rattle.vx_stages.specs.Stages.{IsDone, Stops, EditsStop, edits_of, joining_edit, IsJoining, IsCreating}
-use Rattle.vx_plans.specs.Steps.{Runs, Leaves, IsNotBuilt, DoesPlan, DoesCall, DoesForm, Does, Step, IsTranscript}
+use Rattle.vx_plans.specs.Steps.{Runs, Leaves, IsNotBuilt, DoesPlan, DoesForm, Does, Step, IsTranscript}
 use Rattle.vx_stages.specs.Tests.{fails, in_use, is_here, is_volume, unless}
 use Rattle.vx_stages.specs.declared.stages.Finish.{Finish}
 use Rattle.vx_stages.specs.declared.stages.Finish.TheVariants.{Nothing, Records}
@@ -233,63 +231,58 @@ module _ (old : Moment) (views : List View) (end : End) (new : Moment) (s : IsSt
   policy_ends dg vol words.Select does = gated (stage.Gate (tests.GroupIs dg) ∷ stage.Gate (tests.HasVolume vol) ∷ []) (changes.Policy vol policy.Select) (refl, (refl, tt)) does
   policy_ends dg vol (words.Prefer plex) does = gated (stage.Gate (tests.GroupIs dg) ∷ stage.Gate (tests.HasVolume vol) ∷ stage.Gate (tests.HasPlex vol plex) ∷ []) (changes.Policy vol (policy.Prefer plex)) (refl, (refl, (refl, tt))) does
 
-  call_ends : (place : ℕ) (call : Call) → DoesCall place call old views end new → Ends end new.world
-  call_ends place (calls.Read vol start count) does = inl (standing_served place (calls.Read vol start count) old end new tt s does.2)
-  call_ends place (calls.Fill vol start count byte) does = inl (standing_served place (calls.Fill vol start count byte) old end new tt s does.2)
-  call_ends place (calls.Data vol start blocks) does = not_built does
-
-  form_ends : (place : ℕ) (dg : Option Word) (f : Form) → DoesForm place dg f old views end new → Ends end new.world
+  form_ends : (place : ℕ) (dg : Option Word) (f : Form) → FormWritesNoHeader f → DoesForm place dg f old views end new → Ends end new.world
   unfolding plan_of
-  form_ends place dg (form.Calling call) does = call_ends place call does
-  form_ends place dg (form.MkImage device length) does = image_ends device length [] Nothing old views end new s does
-  form_ends place dg (form.Bare vol device) does =
+  form_ends place dg (form.Calling call) none does = inl (standing_served place call old end new none s does.2)
+  form_ends place dg (form.MkImage device length) none does = image_ends device length [] Nothing old views end new s does
+  form_ends place dg (form.Bare vol device) none does =
       let calm = stage.Take device ∷ stage.LookBlank device ∷ stage.Gate (tests.Sized device) ∷ [] in
       at_last calm (stage.StartBare vol device ∷ []) [] Nothing old views end new s (bare_ends views end new vol device) (runs_through calm (stage.StartBare vol device ∷ []) [] Nothing old views end new (refl, (refl, (refl, tt))) does)
-  form_ends place dg (form.DgInit name disks) does =
+  form_ends place dg (form.DgInit name disks) none does =
       let calm = stage.TakeDisks ∷ stage.LookDisks ∷ stage.Gate tests.NoGroup ∷ stage.Gate (tests.GroupLimits name) ∷ stage.Search name ∷ stage.Gate (tests.GroupRecords name) ∷ [] in
       at_last calm (stage.Create name ∷ []) disks Nothing old views end new s (init_ends views end new name disks) (runs_through calm (stage.Create name ∷ []) disks Nothing old views end new (refl, (refl, (refl, (refl, (refl, (refl, tt)))))) does)
-  form_ends place dg (form.DgAddDisk name disk) does =
+  form_ends place dg (form.DgAddDisk name disk) none does =
       let calm = stage.TakeDisks ∷ stage.Gate (tests.GroupIs (Some name)) ∷ stage.LookDisks ∷ stage.Gate tests.JoinLimits ∷ stage.Search name ∷ [] in
       at_last calm (stage.Join ∷ []) (disk ∷ []) Nothing old views end new s (add_ends views end new name disk) (runs_through calm (stage.Join ∷ []) (disk ∷ []) Nothing old views end new (refl, (refl, (refl, (refl, (refl, tt))))) does)
-  form_ends place dg (form.DgImport name) does = import_ends name [] Nothing old views end new s does
-  form_ends place dg (form.DgDeport name) does =
+  form_ends place dg (form.DgImport name) none does = import_ends name [] Nothing old views end new s does
+  form_ends place dg (form.DgDeport name) none does =
       let calm = stage.Gate (tests.GroupIs (Some name)) ∷ stage.Gate tests.NoneStarted ∷ [] in
       at_last calm (stage.LetGo ∷ []) [] Nothing old views end new s (λ mid t passed runs. deport_ends views end new mid t runs) (runs_through calm (stage.LetGo ∷ []) [] Nothing old views end new (refl, (refl, tt)) does)
-  form_ends place dg (form.DiskUnsetup device) does =
+  form_ends place dg (form.DiskUnsetup device) none does =
       let calm = stage.Take device ∷ stage.LookHeaded device ∷ [] in
       at_last calm (stage.Wipe device ∷ []) [] Nothing old views end new s (wipe_ends views end new device) (runs_through calm (stage.Wipe device ∷ []) [] Nothing old views end new (refl, (refl, tt)) does)
-  form_ends place dg (form.PrintM vol) does = print_ends dg vol does
-  form_ends place dg (form.Rdpol vol how) does = policy_ends dg vol how does
-  form_ends place dg (form.RemoveVolume vol) does =
+  form_ends place dg (form.PrintM vol) none does = print_ends dg vol does
+  form_ends place dg (form.Rdpol vol how) none does = policy_ends dg vol how does
+  form_ends place dg (form.RemoveVolume vol) none does =
       gated (stage.Gate (tests.GroupIs dg) ∷ stage.Gate (tests.HasVolume vol) ∷ stage.Gate (tests.Stopped vol) ∷ stage.Gate (tests.Unrelated vol) ∷ []) (changes.Remove vol) (refl, (refl, (refl, (refl, tt)))) does
-  form_ends place dg (form.VxMake text) does =
+  form_ends place dg (form.VxMake text) none does =
       let calm = stage.Gate (tests.GroupIs dg) ∷ [] in
       at_last calm (stage.Make text ∷ []) [] Nothing old views end new s (λ mid t passed runs. make_ends text [] Nothing mid views end new t runs) (runs_through calm (stage.Make text ∷ []) [] Nothing old views end new (refl, tt) does)
-  form_ends place dg (form.PrintHt vol) does = not_built does
-  form_ends place dg (form.AssistMake vol length attrs disks) does = not_built does
-  form_ends place dg (form.Mirror vol disks) does = not_built does
-  form_ends place dg (form.Start vol) does =
+  form_ends place dg (form.PrintHt vol) none does = not_built does
+  form_ends place dg (form.AssistMake vol length attrs disks) none does = not_built does
+  form_ends place dg (form.Mirror vol disks) none does = not_built does
+  form_ends place dg (form.Start vol) none does =
       let calm = stage.Gate (tests.GroupIs dg) ∷ stage.Gate (tests.HasVolume vol) ∷ stage.Gate (tests.Stopped vol) ∷ [] in
       at_last calm (stage.Start vol ∷ []) [] Nothing old views end new s (starting_ends views end new dg vol) (runs_through calm (stage.Start vol ∷ []) [] Nothing old views end new (refl, (refl, (refl, tt))) does)
-  form_ends place dg (form.Stop vol) does =
+  form_ends place dg (form.Stop vol) none does =
       let calm = stage.Gate (tests.GroupIs dg) ∷ stage.Gate (tests.HasVolume vol) ∷ [] in
       at_last calm (stage.Stop vol ∷ []) [] Nothing old views end new s (stopping_ends views end new dg vol) (runs_through calm (stage.Stop vol ∷ []) [] Nothing old views end new (refl, (refl, tt)) does)
-  form_ends place dg (form.PlexDis plex rm) does = not_built does
-  form_ends place dg (form.Prepare vol ndcomirs region) does = not_built does
-  form_ends place dg (form.Unprepare vol) does = not_built does
-  form_ends place dg (form.AddMir vol disks) does = not_built does
-  form_ends place dg (form.Dis snap) does = not_built does
-  form_ends place dg (form.Split snap) does = not_built does
-  form_ends place dg (form.PrintSnaps vol) does = not_built does
-  form_ends place dg (form.Recover vol) does = not_built does
-  form_ends place dg (form.Acting act) does = not_built does
-  form_ends place dg (form.Sessions block) does = not_built does
+  form_ends place dg (form.PlexDis plex rm) none does = not_built does
+  form_ends place dg (form.Prepare vol ndcomirs region) none does = not_built does
+  form_ends place dg (form.Unprepare vol) none does = not_built does
+  form_ends place dg (form.AddMir vol disks) none does = not_built does
+  form_ends place dg (form.Dis snap) none does = not_built does
+  form_ends place dg (form.Split snap) none does = not_built does
+  form_ends place dg (form.PrintSnaps vol) none does = not_built does
+  form_ends place dg (form.Recover vol) none does = not_built does
+  form_ends place dg (form.Acting act) none does = not_built does
+  form_ends place dg (form.Sessions block) none does = not_built does
 
-  command_ends : (place : ℕ) (c : Command) → Does place c old views end new → Ends end new.world
-  command_ends place c does = by c.cut does
+  command_ends : (place : ℕ) (c : Command) → FormWritesNoHeader c.form → Does place c old views end new → Ends end new.world
+  command_ends place c none does = by c.cut does
     where
       by : (cut : Option ℕ) → MatchOption cut (DoesForm place c.group c.form old views end new) (λ n. IsNotBuilt old views end new) → Ends end new.world
-      by None does = form_ends place c.group c.form does
+      by None does = form_ends place c.group c.form none does
       by (Some n) does = not_built does
 
 -- ---- what is left
@@ -315,7 +308,7 @@ leaves (ends.Lost parts) w left (inr (t, must)) goes = standing_left w left goes
 pub each_step_keeps_the_world_sound : (place : ℕ) (c : Command) (old : Moment) (answer : Answer) (new : Moment)
     → FormWritesNoHeader c.form → IsStanding old.world → Step place c old answer new → IsStanding new.world
 each_step_keeps_the_world_sound place c old answer new none s step =
-    leaves step.end step.over.world new.world (command_ends old step.views step.end step.over s place c step.does) step.leaves
+    leaves step.end step.over.world new.world (command_ends old step.views step.end step.over s place c none step.does) step.leaves
 
 pub run_stands : (place : ℕ) (old : Moment) (commands : List Command) (answers : List Answer) (last : Moment)
     → WriteNoHeader commands → IsStanding old.world → IsTranscript place old commands answers last → IsStanding last.world

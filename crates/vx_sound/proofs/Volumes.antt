@@ -1,8 +1,11 @@
 -- Volumes that are started, read and written hold no header.
-use Rattle.std.proofs.Common.{◌≡◌, ◌⊎◌, ℕ, ◌+◌, nat_lt, true, false, Bool, cond, List, [], ◌∷◌, Option, Some, None, MatchOption, MatchBool, refl, sym, ◌∙◌, ap, subst, inl, inr}
-use Rattle.vx_base.specs.Blocks.{Contents, is_in}
+use Rattle.std.proofs.Common.{◌≡◌, ◌⊎◌, ℕ, ◌+◌, ◌-◌, ◌*◌, ◌/◌, ◌≤◌, max, min, nat_lt, nat_le, arith, true, false, Bool, cond, List, [], ◌∷◌, Option, Some, None, MatchOption, MatchBool, refl, sym, ◌∙◌, ap, subst, inl, inr}
+use Rattle.std.proofs.lemmas.Bool.{and_parts, leb-true}
+use Rattle.vx_base.specs.Blocks.{Contents, block_at, is_in}
 use Rattle.vx_base.specs.Named.{Word, put}
 use Rattle.vx_base.proofs.NamedLemmas.{put_same, put_other, name_cases}
+use Rattle.vx_block.specs.Regions.{part_at}
+use Rattle.vx_block.specs.declared.geometry.Span.{Span}
 use Rattle.vx_header.specs.Named.{header_of}
 use Rattle.vx_life.specs.declared.EntryKind.{EntryKind}
 use Rattle.vx_life.specs.declared.EntryKind.TheVariants as kinds
@@ -24,10 +27,11 @@ use Rattle.vx_moments.specs.Holding.{IsLent, IsMemberDevice, HasDevice, has_volu
 use Rattle.vx_moments.specs.Leaving.{lone, lone_by}
 use Rattle.vx_moments.proofs.Lone.{lone_stays}
 use Rattle.vx_mask.proofs.Tests.{not_both}
-use Rattle.vx_stages.specs.Calls.{volume_of, start_of, count_of, values_of, done_kind, failed_kind, IsOf, AreOf, Tells}
+use Rattle.vx_stages.specs.Calls.{volume_of, start_of, count_of, values_of, done_kind, failed_kind, AreParts, IsOf, AreOf, Tells}
 use Rattle.vx_stages.specs.GroupCalls.{BecomesBy, IsServedOnPlexes, is_known}
 use Rattle.vx_plans.specs.Serving.{CallRuns, ServesOn}
 use Rattle.vx_stages.specs.Stages.{IsBare, bare_volume, HasNoHeader}
+use Rattle.vx_sound.specs.Laws.{CallWritesNoHeader}
 use Rattle.vx_sound.specs.Standing.{HoldsNoHeader, HoldsNoneOn, IsStanding, NamesAreApart}
 use Rattle.vx_sound.proofs.Headers.{none_filled, never_some, some_same}
 use Rattle.vx_sound.proofs.Fewer.{HadEach, HasOrNone}
@@ -139,46 +143,61 @@ life_keeps : (es : List Entry) (old new : Life) → AllOf IsHeaderless es → Go
 life_keeps [] old new less goes was = subst (λ (l : Life). AreNoHeaders (l.candidates 0)) (sym goes) was
 life_keeps (e ∷ es) old new less goes was = life_keeps es (life_after e old) new less.1 goes.1 (entry_keeps e old.candidates less.0 goes.0.reads was)
 
--- the values of this kind are no headers
-abbrev WritesNone : EntryKind → Contents → Type 0
-WritesNone kinds.Write values = header_of (values 0) ≡ None
-WritesNone kinds.Torn values = header_of (values 0) ≡ None
-WritesNone kinds.Read values = Unit {0}
-WritesNone kinds.Missed values = Unit {0}
+-- values of this kind from a block on put no header at the front
+abbrev WritesNone : ℕ → EntryKind → Contents → Type 0
+WritesNone start kinds.Write values = start ≡ 0 → header_of (values 0) ≡ None
+WritesNone start kinds.Torn values = start ≡ 0 → header_of (values 0) ≡ None
+WritesNone start kinds.Read values = Unit {0}
+WritesNone start kinds.Missed values = Unit {0}
 
-headerless : (place : ℕ) (kind : EntryKind) (values : Contents) (e : Entry) → WritesNone kind values → IsOf place kind values e → IsHeaderless e
-headerless place kind values e none of = record {
-  written = λ is here. ap header_of (of.values_are 0 here) ∙ subst (λ (k : EntryKind). WritesNone k values) (sym of.kind_is ∙ is) none;
-  torn = λ is here. ap header_of (of.values_are 0 here) ∙ subst (λ (k : EntryKind). WritesNone k values) (sym of.kind_is ∙ is) none;
+headerless : (place start : ℕ) (kind : EntryKind) (values : Contents) (e : Entry) → WritesNone start kind values → start ≤ e.start → IsOf place kind values e → IsHeaderless e
+headerless place start kind values e none from of = record {
+  written = λ is here. ap header_of (of.values_are 0 here) ∙ subst (λ (k : EntryKind). WritesNone start k values) (sym of.kind_is ∙ is) none (front here);
+  torn = λ is here. ap header_of (of.values_are 0 here) ∙ subst (λ (k : EntryKind). WritesNone start k values) (sym of.kind_is ∙ is) none (front here);
 }
+  where
+    front : is_in e.start e.count 0 ≡ true → start ≡ 0
+    front here = omega (arith, from, leb-true e.start 0 (and_parts (nat_le e.start 0) _ here).0)
 
-all_headerless : (place : ℕ) (kind : EntryKind) (values : Contents) (es : List Entry) → WritesNone kind values → AreOf place kind values es → AllOf IsHeaderless es
-all_headerless place kind values [] none of = tt
-all_headerless place kind values (e ∷ es) none of = (headerless place kind values e none of.0, all_headerless place kind values es none of.1)
+-- a part of a range begins in it
+begins_in : (size start count index : ℕ) (span : Span) → part_at size start count index ≡ Some span → start ≤ span.start
+begins_in size start count index span is = by (nat_lt first end) is
+  where
+    first : ℕ
+    first = max start ((start / size + index) * size)
 
--- the call is one that is built
-abbrev pub IsBuilt : Call → Type 0
-IsBuilt (calls.Read vol start count) = Unit {0}
-IsBuilt (calls.Fill vol start count byte) = Unit {0}
-IsBuilt (calls.Data vol start blocks) = ⊥
+    end : ℕ
+    end = min (start + count) ((start / size + index) * size + size)
 
-done_none : (call : Call) (blocks : List ℕ) → IsBuilt call → WritesNone (done_kind call) (values_of call blocks)
-done_none (calls.Read vol start count) blocks built = tt
-done_none (calls.Fill vol start count byte) blocks built = none_filled byte
-done_none (calls.Data vol start data_blocks) blocks built = absurd built
+    by : (b : Bool) → cond b (Some (let s : Span = record { start = first; count = end - first } in s)) None ≡ Some span → start ≤ span.start
+    by true is = let here = ap (λ (s : Span). s.start) (some_same _ span is) in omega (arith, here)
+    by false is = cc
 
-failed_none : (call : Call) → IsBuilt call → WritesNone (failed_kind call) (values_of call [])
-failed_none (calls.Read vol start count) built = tt
-failed_none (calls.Fill vol start count byte) built = none_filled byte
-failed_none (calls.Data vol start blocks) built = absurd built
+all_headerless : (place size start count index : ℕ) (kind : EntryKind) (values : Contents) (es : List Entry) → WritesNone start kind values → AreParts size start count index es → AreOf place kind values es → AllOf IsHeaderless es
+all_headerless place size start count index kind values [] none parts of = tt
+all_headerless place size start count index kind values (e ∷ es) none parts of =
+    (headerless place start kind values e none (begins_in size start count index _ parts.0.range) of.0, all_headerless place size start count (index + 1) kind values es none parts.1 of.1)
 
-told_headerless : (place : ℕ) (call : Call) (v : Volume) (end : End) (es : List Entry) → IsBuilt call → Tells place call v end es → AllOf IsHeaderless es
-told_headerless place call v (ends.Done copied parts blocks) es built tells = all_headerless place (done_kind call) (values_of call blocks) es (done_none call blocks built) tells.2.each
-told_headerless place call v (ends.Fault told device parts) es built tells = all_headerless place (failed_kind call) (values_of call []) es (failed_none call built) tells.1
-told_headerless place call v (ends.Lost parts) es built tells = all_headerless place (failed_kind call) (values_of call []) es (failed_none call built) tells.1
-told_headerless place call v (ends.Refused refusal) es built tells = absurd tells
-told_headerless place call v ends.ShelfFailed es built tells = absurd tells
-told_headerless place call v ends.GroupLost es built tells = absurd tells
+front_of : (start : ℕ) (blocks : List ℕ) → start ≡ 0 → block_at blocks (0 - start) ≡ block_at blocks 0
+front_of start blocks zero = let here : 0 - start ≡ 0 = omega arith in ap (block_at blocks) here
+
+done_none : (call : Call) (printed : List ℕ) → CallWritesNoHeader call → WritesNone (start_of call) (done_kind call) (values_of call printed)
+done_none (calls.Read vol start count) printed none = tt
+done_none (calls.Fill vol start count byte) printed none = λ zero. none_filled byte
+done_none (calls.Data vol start blocks) printed none = λ zero. ap header_of (front_of start blocks zero) ∙ none zero
+
+failed_none : (call : Call) → CallWritesNoHeader call → WritesNone (start_of call) (failed_kind call) (values_of call [])
+failed_none (calls.Read vol start count) none = tt
+failed_none (calls.Fill vol start count byte) none = λ zero. none_filled byte
+failed_none (calls.Data vol start blocks) none = λ zero. ap header_of (front_of start blocks zero) ∙ none zero
+
+told_headerless : (place : ℕ) (call : Call) (v : Volume) (end : End) (es : List Entry) → CallWritesNoHeader call → AreParts v.region (start_of call) (count_of call) 0 es → Tells place call v end es → AllOf IsHeaderless es
+told_headerless place call v (ends.Done copied parts blocks) es none are tells = all_headerless place v.region (start_of call) (count_of call) 0 (done_kind call) (values_of call blocks) es (done_none call blocks none) are tells.2.each
+told_headerless place call v (ends.Fault told device parts) es none are tells = all_headerless place v.region (start_of call) (count_of call) 0 (failed_kind call) (values_of call []) es (failed_none call none) are tells.1
+told_headerless place call v (ends.Lost parts) es none are tells = all_headerless place v.region (start_of call) (count_of call) 0 (failed_kind call) (values_of call []) es (failed_none call none) are tells.1
+told_headerless place call v (ends.Refused refusal) es none are tells = absurd tells
+told_headerless place call v ends.ShelfFailed es none are tells = absurd tells
+told_headerless place call v ends.GroupLost es none are tells = absurd tells
 
 module _ (w : World) (vol : Word) (v : Volume) (life : Life) (was : w.volumes vol ≡ Some v) (holds : HoldsNoHeader (let x : Volume = record v { life = life } in x)) where
   abbrev on : World
@@ -294,12 +313,12 @@ module _ (place : ℕ) (call : Call) (plexes : List Word) (v : Volume) (old : Mo
       (λ name. behind_private done.group vol name (old.world.devices name) (new.world.devices name) (done.changes name)) s)
 
 -- a call leaves the world sound
-pub standing_served : (place : ℕ) (call : Call) (old : Moment) (end : End) (new : Moment) → IsBuilt call → IsStanding old.world → CallRuns place call old end new → IsStanding new.world
-standing_served place call old end new built s runs = by (old.world.volumes (volume_of call)) refl runs
+pub standing_served : (place : ℕ) (call : Call) (old : Moment) (end : End) (new : Moment) → CallWritesNoHeader call → IsStanding old.world → CallRuns place call old end new → IsStanding new.world
+standing_served place call old end new none s runs = by (old.world.volumes (volume_of call)) refl runs
   where
     served : (v : Volume) → old.world.volumes (volume_of call) ≡ Some v → (lies : Lies) → v.lies ≡ lies → ServesOn lies place call v old end new → IsStanding new.world
     served v is (OnDevice device) on done =
-        let less = told_headerless place call v end done.lives.entries built done.lives.told in
+        let less = told_headerless place call v end done.lives.entries none done.lives.parts done.lives.told in
         let before : AreNoHeaders (v.life.candidates 0) = subst (λ l. HoldsNoneOn l v) on (s.volumes (volume_of call) v is) in
         let after : AreNoHeaders (done.life.candidates 0) = life_keeps done.lives.entries v.life done.life less done.lives.goes_on before in
         subst IsStanding (sym done.world)

@@ -9,11 +9,11 @@ use Rattle.vx_house.specs.View.{at}
 use Rattle.vx_engine.proofs.CommandRanges.{call_within, other_form, uncut_form}
 use Rattle.vx_engine.proofs.executing.execute.Goals as goal
 
-pub serve_said-requires-clause-within : goal.serve_said-requires-clause-within
-serve_said-requires-clause-within g c κs within = call_within c.args.command.now.group c.args.command.now.form c.in-Calling.call c.in-Calling.is (and_parts _ _ (and_parts _ _ c.requires.kept).0).0
+pub serve_call-requires-clause-valid : goal.serve_call-requires-clause-valid
+serve_call-requires-clause-valid g c κs within = call_within c.args.command.now.group c.args.command.now.form c.in-Calling.call c.in-Calling.is (and_parts _ _ (and_parts _ _ c.requires.kept).0).0
 
 pub returns-in-Calling : goal.returns-in-Calling
-returns-in-Calling g c = record { goes = λ place. uncut_form (λ Do Left. CommandEnds g.S.P.Piece.seen Do Left c.serve_said.result (at (shelved g.S.Shelf.free g.S.Shelf.held g.S.Shelf.counted g.S.Shelf.faults c.args.shelf.now) c.args.house.now) (at (shelved g.S.Shelf.free g.S.Shelf.held g.S.Shelf.counted g.S.Shelf.faults c.serve_said.new.shelf) c.serve_said.new.house)) place c.args.command.now (form.Calling c.in-Calling.call) c.in-Calling.is (sym c.is_some.ensures ∙ c.if-is_some.false) (c.serve_said.ensures.goes place) }
+returns-in-Calling g c = record { goes = λ place. uncut_form (λ Do Left. CommandEnds g.S.P.Piece.seen Do Left c.serve_call.result (at (shelved g.S.Shelf.free g.S.Shelf.held g.S.Shelf.counted g.S.Shelf.faults c.args.shelf.now) c.args.house.now) (at (shelved g.S.Shelf.free g.S.Shelf.held g.S.Shelf.counted g.S.Shelf.faults c.serve_call.new.shelf) c.serve_call.new.house)) place c.args.command.now (form.Calling c.in-Calling.call) c.in-Calling.is (sym c.is_some.ensures ∙ c.if-is_some.false) (c.serve_call.ensures.goes place) }
 
 pub returns-in_default : goal.returns-in_default
 returns-in_default g c = record {

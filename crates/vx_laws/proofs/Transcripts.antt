@@ -27,7 +27,6 @@ use Rattle.vx_laws.specs.Histories.{HasHistory, IsHistoried, IsHistoriedOn, Have
 use Rattle.vx_laws.proofs.Starts.{AreRead, start_kept, stop_done, stop_kept}
 use Rattle.vx_laws.proofs.Lives.{Holding, Reading, begun_history, put_history, goes_on_history, same_volumes, without_group, from_nothing}
 use Rattle.vx_base.specs.Blocks.{Contents}
-use Rattle.vx_script_forms.specs.declared.call.Call.TheVariants as said
 use Rattle.vx_script_forms.specs.declared.form.Form.{Form}
 use Rattle.vx_script_forms.specs.declared.form.Form.TheVariants as form
 use Rattle.vx_script_forms.specs.declared.form.WordPolicy.TheVariants as words
@@ -35,7 +34,7 @@ use Rattle.vx_script.specs.declared.command.Command.{Command}
 use Rattle.vx_answers.specs.declared.answer.Answer.{Answer}
 use Rattle.vx_answers.specs.declared.answer.View.{View}
 use Rattle.vx_plans.specs.Plans.{plan_of, disks_of}
-use Rattle.vx_plans.specs.Steps.{Runs, Leaves, IsNotBuilt, DoesPlan, DoesCall, DoesForm, Step, IsTranscript}
+use Rattle.vx_plans.specs.Steps.{Runs, Leaves, IsNotBuilt, DoesPlan, DoesForm, Step, IsTranscript}
 use Rattle.vx_stages.specs.declared.stages.Finish.{Finish}
 use Rattle.vx_stages.specs.declared.stages.Plan.{Plan}
 

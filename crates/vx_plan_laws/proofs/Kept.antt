@@ -3,7 +3,6 @@ use Rattle.std.proofs.Common.{◌≡◌, ◌∙◌, ◌⊎◌, ℕ, ◌+◌, Boo
 use Rattle.vx_base.specs.Named.{Word}
 use Rattle.vx_script_words.specs.declared.value.DiskAt.{DiskAt}
 use Rattle.vx_script_forms.specs.declared.call.Call.{Call}
-use Rattle.vx_script_forms.specs.declared.call.Call.TheVariants as said
 use Rattle.vx_script_forms.specs.declared.form.Form.{Form}
 use Rattle.vx_script_forms.specs.declared.form.Form.TheVariants as form
 use Rattle.vx_script_forms.specs.declared.form.WordPolicy.TheVariants as words
@@ -23,7 +22,7 @@ use Rattle.vx_plans.specs.Plans.{plan_of, disks_of}
 use Rattle.vx_stages.specs.Records.{devices_of}
 use Rattle.vx_plans.specs.Serving.{CallRuns, ServesOn}
 use Rattle.vx_stages.specs.Stages.{Stops, TakingStops}
-use Rattle.vx_plans.specs.Steps.{DoesCall, DoesForm, DoesPlan, IsNotBuilt, Leaves, Runs, Step, done}
+use Rattle.vx_plans.specs.Steps.{DoesForm, DoesPlan, IsNotBuilt, Leaves, Runs, Step, done}
 use Rattle.vx_stages.specs.declared.stage.Stage.{Stage}
 use Rattle.vx_stages.specs.declared.stage.Stage.TheVariants as stage
 use Rattle.vx_stages.specs.declared.stages.Finish.{Finish}

@@ -1,8 +1,10 @@
 ghost use Rattle.std.specs.Prelude.{◌<◌, length, IfOk, IfErr};
 ghost use Rattle.vx_block.specs.Regions.{region_count};
 ghost use Rattle.vx_pages.specs.Sector.{KeepsPiece};
+ghost use Rattle.vx_maps.specs.Creating.{AllTell};
 ghost use Rattle.vx_maps.specs.Going.{CutCopiesGo};
 ghost use Rattle.vx_maps.specs.Loading.{IsNotLoaded};
+ghost use Rattle.vx_maps.specs.Narrowing.{AreNarrowed};
 ghost use Rattle.vx_maps.specs.Spares.{copies_seen};
 ghost use Rattle.vx_lending.specs.Going.{GoTogether};
 ghost use Rattle.vx_lending.specs.Logs.{IsLoadedLog, log_copies, log_header, log_pieces};
@@ -30,6 +32,7 @@ pub fn load_log<P: Piece + Drop>(
     ensures refused { IfErr result (λ refused. IsNotLoaded (log_header form.now.shape.geometry) refused.fault (copies_seen P.seen copies.items) (copies_seen P.seen refused.copies.items)) }
     ensures back { IfErr result (λ refused. GoTogether (copy_pieces (copies_seen P.seen copies.items)) (copy_pieces (copies_seen P.seen refused.copies.items))) }
     ensures some { IfErr result (λ refused. 0 < length copies.items) }
+    ensures narrowed { IfErr result (λ refused. AllTell (copies_seen P.seen copies.items) → AreNarrowed (log_header form.now.shape.geometry) (region_count form.now.shape.geometry.length form.now.shape.geometry.region) (copies_seen P.seen copies.items) (copies_seen P.seen refused.copies.items)) }
     ensures cut_back { IfErr result (λ refused. CutCopiesGo KeepsPiece (copies_seen P.seen copies.items) (copies_seen P.seen refused.copies.items)) }
 {
     if copies.is_empty() {

@@ -5,6 +5,7 @@ pub mod Cutness
 pub mod Going
 pub mod Heads
 pub mod Loading
+pub mod Narrowing
 pub mod Onward
 pub mod Sheets
 pub mod Slots

@@ -20,6 +20,7 @@ use Rattle.vx_maps.specs.declared.fault.StoreFault.{StoreFault}
 use Rattle.vx_maps.specs.declared.fault.StoreFault.TheVariants.{OutOfMemory, NoCopy, Failed, PowerLost}
 use Rattle.vx_maps.specs.Copies.{SameRuns}
 use Rattle.vx_maps.specs.Creating.{AllBeginWith, AllTell, BeginsWith, copies_cut, head_tells}
+use Rattle.vx_maps.specs.Narrowing.{AreNarrowed}
 use Rattle.vx_maps.specs.Slots.{row_at}
 use Rattle.vx_maps.specs.Wholes.{copy_faults}
 
@@ -181,6 +182,7 @@ pub record IsLoaded (header : List ℕ) (regions : ℕ) (old : List (List Seen))
   pub claims : RunTells (copy_at old taken.copy) → (region map : ℕ) → log.claims region map ≡ marks regions (run_contents (copy_at old taken.copy)) map region
   pub told : AllTell old → AreClaims log.copies log.claims log.told
   pub heads : AllBeginWith header new
+  pub narrowed : AllTell old → AreNarrowed header regions old new
 
 -- Why no store was loaded: `NoCopy` where each copy was passed over; `Failed` where one was taken, and then the count of that copy's
 -- pieces on that device rose; `PowerLost` only where a piece is cut; and for want of memory, with each copy the same run.

@@ -6,10 +6,11 @@ ghost use Rattle.vx_pages.specs.Pages.{grid_seen};
 ghost use Rattle.vx_pages.specs.Reading.{HasRisen};
 ghost use Rattle.vx_pages.specs.Sector.{IsOpen, KeepsPiece};
 ghost use Rattle.vx_maps.specs.Copies.{AreCopies};
-ghost use Rattle.vx_maps.specs.Creating.{AllBeginWith};
+ghost use Rattle.vx_maps.specs.Creating.{AllBeginWith, AllTell};
 ghost use Rattle.vx_maps.specs.Cutness.{store_cut};
 ghost use Rattle.vx_maps.specs.Going.{CopiesGo, CutCopiesGo, StoreGoes, places_of};
 ghost use Rattle.vx_maps.specs.Loading.{AreOpen, AreRows, FilledAt, GridSettled, IsFilledAs, IsLoaded, IsNotLoaded, IsSettledAs, IsUnfilledAs, header_of, rows_seen};
+ghost use Rattle.vx_maps.specs.Narrowing.{AreNarrowed};
 ghost use Rattle.vx_maps.specs.Sheets.{sheets_seen};
 ghost use Rattle.vx_maps.specs.Spares.{HasRoom, copies_seen};
 ghost use Rattle.vx_maps.specs.Store.{pages_cut, pages_faults, pages_seen};
@@ -171,6 +172,7 @@ impl<P: Piece + Drop> MapStore<P> {
         ensures goes { IfOk result (λ store. CutCopiesGo KeepsPiece (copies_seen P.seen copies.items) (store_copies P.seen store)) }
         ensures refused { IfErr result (λ refused. IsNotLoaded (header_of shape) refused.fault (copies_seen P.seen copies.items) (copies_seen P.seen refused.copies.items)) }
         ensures back { IfErr result (λ refused. CutCopiesGo KeepsPiece (copies_seen P.seen copies.items) (copies_seen P.seen refused.copies.items)) }
+        ensures narrowed { IfErr result (λ refused. AllTell (copies_seen P.seen copies.items) → AreNarrowed (header_of shape) shape.regions (copies_seen P.seen copies.items) (copies_seen P.seen refused.copies.items)) }
     {
         let Ok(images) = images_of(alloc, shape.pages()) else {
             return Err(StoreRefused {

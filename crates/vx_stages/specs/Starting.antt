@@ -32,7 +32,7 @@ use Rattle.vx_group_images.specs.Tracks.{volume_failed}
 use Rattle.vx_stages.specs.Ends.{EndsIn, IsChange, RefusedAsLong, StopsBy, lost, refused}
 use Rattle.vx_stages.specs.GroupCalls.{LogHasFailed, PlexHasFailed}
 use Rattle.vx_stages.specs.Tests.{volume_in, where_}
-use Rattle.vx_stages.specs.Touching.{FailsOn, IsCutOff, IsTouched, PassHasCause, VolumeGoes}
+use Rattle.vx_stages.specs.Touching.{FailsOn, IsCutOff, IsTouched, Narrows, PassHasCause, VolumeGoes}
 
 -- ---- tests
 
@@ -107,6 +107,7 @@ UnopenedBy g v old end new =
 pub record StopsUnopened (g : Group) (v : Vol) (old : Moment) (end : End) (new : Moment) : Type 0 where
   pub untested : refusal_at_once g v ≡ None
   pub touched : IsTouched g v.name old new
+  pub narrows : Narrows g v old new
   pub cause : UnopenedBy g v old end new
 
 -- ---- the volume that runs
@@ -196,6 +197,7 @@ pub record StopsAtCommit (g : Group) (v : Vol) (old : Moment) (end : End) (new :
   pub untested : refusal_at_once g v ≡ None
   pub opened : Moment
   pub touched : IsTouched g v.name old opened
+  pub narrows : Narrows g v old opened
   pub first : AreLater old.counts opened.counts
   pub rest : AreLater opened.counts new.counts
   pub stops : StopsBy (IsChange (start_edits g.config v) opened.world) opened end new
@@ -224,4 +226,4 @@ StartStops name old end new = MatchOption old.world.group (EndsIn (refusal.NoGro
 -- What want of memory leaves of it: the world as before, or with the log of the volume made or loaded, which does not run.
 abbrev pub StartWants : Word → Moment → Moment → Type 0
 StartWants name old new =
-    (new.world ≡ old.world) ⊎ ((g : Group) × (v : Vol) × (old.world.group ≡ Some g) × (volume_in name g.config.volumes ≡ Some v) × (may_start v.state ≡ true) × IsTouched g name old new)
+    (new.world ≡ old.world) ⊎ ((g : Group) × (v : Vol) × (old.world.group ≡ Some g) × (volume_in name g.config.volumes ≡ Some v) × (may_start v.state ≡ true) × IsTouched g name old new × Narrows g v old new)

@@ -13,12 +13,13 @@ use Rattle.vx_pages.specs.Arming.{armed, armed_sector, armed_sectors}
 use Rattle.vx_pages.specs.Page.{ArePairedAlike, sector_at}
 use Rattle.vx_pages.specs.Images.{images_seen}
 use Rattle.vx_pages.specs.Items.{EachItem, item_at}
-use Rattle.vx_pages.specs.Reading.{AreImages, IsMended, IsWhatIs, ReadsSector, image_at}
+use Rattle.vx_pages.specs.Reading.{AreImages, IsMended, IsSettled, IsWhatIs, MaySettle, ReadsSector, image_at}
 use Rattle.vx_pages.specs.Sector.{Copies, SectorSeen, AreSectors, IsFormed, copy_of, shown, tells}
 use Rattle.vx_pages.proofs.Bits.{no_bit}
 use Rattle.vx_pages.proofs.Items.{at_set, at_other, set_size}
 use Rattle.vx_pages.proofs.SameCopies.{copies_same}
 use Rattle.vx_pages.proofs.OpenBits.{zero_size}
+use Rattle.vx_pages.proofs.Ways.{keeps_none}
 
 -- ---- a sector
 
@@ -41,6 +42,13 @@ settled_formed c c' image sure loose sectors len is none mended =
 -- nothing is read
 pub reads_none : (s : SectorSeen) → ReadsSector s s
 reads_none s = record { copies = record { kept = copies_same s.copies; told = λ n. refl }; sure = refl; loose = refl }
+
+-- what was settled, and what was not called
+pub settled_may : (bytes : List ℕ) (a b : SectorSeen) → IsSettled bytes a b → MaySettle bytes a b
+settled_may bytes a b h = record { kept = h.kept; holds = λ t n. inr (h.holds t n) }
+
+pub settled_none : (bytes : List ℕ) (s : SectorSeen) → MaySettle bytes s s
+settled_none bytes s = record { kept = keeps_none s; holds = λ t n. inl refl }
 
 -- ---- arming
 

@@ -1,5 +1,5 @@
 -- What it is to read a sector of one copy, and to make each copy hold what was read.
-use Rattle.std.specs.Prelude.{◌≡◌, ℕ, ◌<◌, Bool, true, is_some, if◌then◌else◌, List, [], length, Result, Ok, Err}
+use Rattle.std.specs.Prelude.{◌≡◌, ◌⊎◌, ℕ, ◌<◌, Bool, true, is_some, if◌then◌else◌, List, [], length, Result, Ok, Err}
 use Rattle.vx_base.specs.Counts.{Rose}
 use Rattle.vx_sector.specs.Fields.{zeros}
 use Rattle.vx_piece.specs.Seen.{Seen}
@@ -87,10 +87,15 @@ pub record IsSettled (bytes : List ℕ) (old new : SectorSeen) : Type 0 where
   pub sure : new.sure ≡ bytes
   pub loose : new.loose ≡ zeros 512
 
+-- each copy may have been made to hold the bytes; else it holds what it held
+pub record MaySettle (bytes : List ℕ) (old new : SectorSeen) : Type 0 where
+  pub kept : KeepsSector old new
+  pub holds : tells old.copies ≡ true → (n : ℕ) → (held new.copies n ≡ held old.copies n) ⊎ (held new.copies n ≡ bytes)
+
 -- what became of a sector that was to be made so
 abbrev pub Settles : {T : Type 0} → List ℕ → SectorSeen → SectorSeen → Result T MarkFault → Type 0
 Settles bytes old new (Ok u) = IsSettled bytes old new
-Settles bytes old new (Err fault) = KeepsSector old new
+Settles bytes old new (Err fault) = MaySettle bytes old new
 
 -- the sectors of a page as they were read, by their maps
 abbrev pub image_at : List (List ℕ) → ℕ → List ℕ
@@ -109,10 +114,10 @@ abbrev pub GiveCopy : {T : Type 0} → ℕ → List (List ℕ) → List SectorSe
 GiveCopy n images sectors (Ok u) = AreOfCopy n images sectors
 GiveCopy n images sectors (Err fault) = Unit {0}
 
--- each sector was made what its image is
+-- each sector was made what its image is, or each copy of each may have been
 abbrev pub AreSettled : {T : Type 0} → List (List ℕ) → List SectorSeen → List SectorSeen → Result T MarkFault → Type 0
 AreSettled images old new (Ok u) = EachSector (λ map. IsSettled (image_at images map)) old new
-AreSettled images old new (Err fault) = EachSector (λ map. KeepsSector) old new
+AreSettled images old new (Err fault) = EachSector (λ map. MaySettle (image_at images map)) old new
 
 -- the copy is one of the sector's
 abbrev pub IsCopyOf : ℕ → Copies → Type 0

@@ -1,12 +1,11 @@
 use Rattle.std.proofs.Common.{◌<◌, ◌∙◌, sym, ap, length, arith, rules, subst, List, ℕ, Result}
 use Rattle.vx_marks.specs.declared.marker.MarkFault.{MarkFault}
 use Rattle.vx_pages.specs.Images.{images_seen}
-use Rattle.vx_pages.specs.Reading.{IsSettled, Settles, image_at}
-use Rattle.vx_pages.specs.Sector.{IsOpen, KeepsSector}
+use Rattle.vx_pages.specs.Reading.{IsSettled, MaySettle, Settles, image_at}
+use Rattle.vx_pages.specs.Sector.{IsOpen}
 use Rattle.vx_pages.specs.Sectors.{sector_seen}
 use Rattle.vx_pages.proofs.Loops.{goes_on, stops, still, inside_old, grown_on, risen_on}
-use Rattle.vx_pages.proofs.Settlement.{image_is, images_count}
-use Rattle.vx_pages.proofs.Ways.{keeps_none}
+use Rattle.vx_pages.proofs.Settlement.{image_is, images_count, settled_may, settled_none}
 use Rattle.vx_pages.proofs.sectors.settle_all.Goals as goal
 
 pub settle-requires-clause-whole : goal.settle-requires-clause-whole
@@ -25,8 +24,12 @@ settle-requires-clause-open g c =
 pub returns-in-Err-clause-settled : goal.returns-in-Err-clause-settled
 returns-in-Err-clause-settled g c =
     let lt : c.loop-map.map < length c.loop-map.sectors.items = let f = c.loop-map.invariant.size in omega (arith, f) in
-    stops (sector_seen g.P.LocalPiece.seen) (λ m. IsSettled (image_at (images_seen c.args.images.now.items) m)) (λ m. KeepsSector) _ c.loop-map.sectors.items c.loop-map.map c.index_mut-sector.result.now c.settle.new.self lt c.index_mut-sector.ensures.value
-    c.loop-map.invariant.went (λ m a b h. h.kept) (λ m a. keeps_none a) c.in-Err.ensures.settles
+    let n = images_count c.args.images.now.items c.requires.images in
+    let in' : c.loop-map.map < length c.args.images.now.items = omega (arith, n) in
+    let image = c.deref.ensures.value ∙ sym (image_is c.args.images.now.items c.loop-map.map c.index.result.now in' c.index.ensures) in
+    stops (sector_seen g.P.LocalPiece.seen) (λ m. IsSettled (image_at (images_seen c.args.images.now.items) m)) (λ m. MaySettle (image_at (images_seen c.args.images.now.items) m)) _ c.loop-map.sectors.items c.loop-map.map c.index_mut-sector.result.now c.settle.new.self lt c.index_mut-sector.ensures.value
+    c.loop-map.invariant.went (λ m. settled_may (image_at (images_seen c.args.images.now.items) m)) (λ m. settled_none (image_at (images_seen c.args.images.now.items) m))
+    (subst (λ (x : List ℕ). MaySettle x (sector_seen g.P.LocalPiece.seen c.index_mut-sector.result.now) (sector_seen g.P.LocalPiece.seen c.settle.new.self)) image c.in-Err.ensures.settles)
 
 pub returns-in-Err-clause-cause : goal.returns-in-Err-clause-cause
 returns-in-Err-clause-cause g c =

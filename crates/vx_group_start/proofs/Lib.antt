@@ -4,6 +4,7 @@ mod Fits
 mod Forms
 mod Laid
 mod Missed
+mod Nearer
 mod NoLogs
 mod OneByOne
 mod Parted

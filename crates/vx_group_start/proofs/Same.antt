@@ -57,6 +57,6 @@ module _ {P : Type 0} {ghosts : Ghosts P} (v : Vol) (numbers : List ℕ) (old wa
   not_started_from form PowerLost h = subst (λ (xs : List Seen). IsLogCut numbers form xs (still_pieces ghosts.seen new)) still h
 
 -- what came back by a form of the configuration
-pub come_from : (c : Config) (good : ℕ) (v : Vol) (numbers : List ℕ) (form : VolumeForm) (old was new : List Seen) → IsFormOf c good v (is_fresh v.state) form → was ≡ old → ComeBackFrom numbers form was new → ComeBack c good v numbers old new
+pub come_from : (c : Config) (good : ℕ) (v : Vol) (numbers : List ℕ) (form : VolumeForm) (old was new : List Seen) → IsFormOf c good v (is_fresh v.state) form → was ≡ old → ComeBackFrom numbers form (is_fresh v.state) was new → ComeBack c good v numbers old new
 come_from c good v numbers form old was new is same (inl stay) = inl (subst (λ (xs : List Seen). SameSectors xs new) same stay)
-come_from c good v numbers form old was new is same (inr go) = inr (form, is, subst (λ (xs : List Seen). GoByLog numbers form xs new) same go)
+come_from c good v numbers form old was new is same (inr go) = inr (form, is, subst (λ (xs : List Seen). GoByLog numbers form (is_fresh v.state) xs new) same go)

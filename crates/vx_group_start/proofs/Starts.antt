@@ -46,7 +46,9 @@ use Rattle.vx_group_start.specs.Logs.{AreStartCopies, IsPassedOver, IsStartLog}
 use Rattle.vx_group_start.specs.Refused.{IsNotStarted}
 use Rattle.vx_group_start.specs.Started.{IsStarted}
 use Rattle.vx_group_start.specs.Steps.{IsLogOver, IsRefusedOver, StartsOver}
-use Rattle.vx_group_start.specs.Together.{GoByLog}
+use Rattle.vx_group_start.specs.Fresh.{is_fresh}
+use Rattle.vx_group_start.specs.Together.{ComeNearer, GoByLog}
+use Rattle.vx_group_start.proofs.Nearer.{log_nearer}
 
 -- ---- the plexes of an opened volume
 
@@ -128,8 +130,9 @@ module _ {P : Type 0} {ghosts : Ghosts P} (v : Vol) (numbers : List ℕ) (old mi
     all_out = subst (λ (xs : List Seen). SameSectors (still_pieces ghosts.seen old) xs) (append_assoc (all_pieces regions) (copy_pieces copies) (still_pieces ghosts.seen mid)) all_same
 
     gone_as : length form.logs.items ≤ 2 → (running : Running P ghosts) → CutCopiesGo KeepsPiece copies (log_copies ghosts.seen (log_of running.volume)) → region_plexes (volume_seen ghosts.seen running.volume).cells ≡ regions →
-        GoByLog numbers form (still_pieces ghosts.seen old) (held_pieces ghosts.seen running.volume ++ still_pieces ghosts.seen mid)
-    gone_as few running cut plexes =
+        ComeNearer (is_fresh v.state) form.shape.geometry copies (log_copies ghosts.seen (log_of running.volume)) →
+        GoByLog numbers form (is_fresh v.state) (still_pieces ghosts.seen old) (held_pieces ghosts.seen running.volume ++ still_pieces ghosts.seen mid)
+    gone_as few running cut plexes nearer =
         record {
           copies = copies;
           are = taken.copies_are;
@@ -143,14 +146,16 @@ module _ {P : Type 0} {ghosts : Ghosts P} (v : Vol) (numbers : List ℕ) (old mi
             back = subst (λ (xs : List (List PlexSeen)). SameSectors (all_pieces regions ++ (log_pieces ghosts.seen (log_of running.volume) ++ still_pieces ghosts.seen mid)) ((all_pieces xs ++ log_pieces ghosts.seen (log_of running.volume)) ++ still_pieces ghosts.seen mid)) (sym plexes)
                 (subst (λ (xs : List Seen). SameSectors xs ((all_pieces regions ++ log_pieces ghosts.seen (log_of running.volume)) ++ still_pieces ghosts.seen mid)) (append_assoc (all_pieces regions) (log_pieces ghosts.seen (log_of running.volume)) (still_pieces ghosts.seen mid)) (same_refl _));
           };
+          nearer = nearer;
         }
 
     -- how the pieces have gone on
-    pub gone_by : length form.logs.items ≤ 2 → (running : Running P ghosts) → StartsOver ghosts.seen v form regions copies running → GoByLog numbers running.form (still_pieces ghosts.seen old) (held_pieces ghosts.seen running.volume ++ still_pieces ghosts.seen mid)
+    pub gone_by : length form.logs.items ≤ 2 → (running : Running P ghosts) → StartsOver ghosts.seen v form regions copies running → GoByLog numbers running.form (is_fresh v.state) (still_pieces ghosts.seen old) (held_pieces ghosts.seen running.volume ++ still_pieces ghosts.seen mid)
     gone_by few running starts =
         let over : IsLogOver ghosts.seen v form.shape copies (log_of running.volume) = subst (IsLogOver ghosts.seen v form.shape copies) (sym starts.runs.log_is) starts.over in
-        subst (λ (f : VolumeForm). GoByLog numbers f (still_pieces ghosts.seen old) (held_pieces ghosts.seen running.volume ++ still_pieces ghosts.seen mid)) (sym starts.runs.form_is)
-        (gone_as few running over.cut (opened_plexes form.shape (log_seen ghosts.seen starts.log) regions (volume_seen ghosts.seen running.volume) starts.runs.opened))
+        subst (λ (f : VolumeForm). GoByLog numbers f (is_fresh v.state) (still_pieces ghosts.seen old) (held_pieces ghosts.seen running.volume ++ still_pieces ghosts.seen mid)) (sym starts.runs.form_is)
+        (gone_as few running over.cut (opened_plexes form.shape (log_seen ghosts.seen starts.log) regions (volume_seen ghosts.seen running.volume) starts.runs.opened)
+        (log_nearer (is_fresh v.state) form.shape copies (log_of running.volume) over.log_is))
 
     -- why it is not started
     pub unstarted_by : (new : Public P ghosts) (fault : StartFault) → is_some v.dco ≡ nat_lt 0 (length copies) → IsRefusedOver ghosts.seen v form copies (all_pieces regions ++ copy_pieces copies) mid new fault → IsNotStarted ghosts.seen v numbers form old new fault

@@ -16,6 +16,7 @@ use Rattle.vx_cell.specs.Plexes.{PlexSeen}
 use Rattle.vx_fronts.specs.Rests.{AllTell, IsTelling, is_of, sector_in}
 use Rattle.vx_fronts.proofs.Sectors.{any_same, is_one, none_counted, once_kept, own_told, sector_from, sector_none}
 use Rattle.vx_maps.specs.Copies.{SameRuns}
+use Rattle.vx_maps.specs.Creating.{AllTell as EachTells}
 use Rattle.vx_maps.specs.Going.{CopiesGo, CutCopiesGo}
 use Rattle.vx_pages.specs.Sector.{KeepsPiece}
 use Rattle.vx_volume_pieces.specs.Pieces.{all_pieces}
@@ -99,7 +100,7 @@ tells_some : (o : Option Contents) → Tells o → is_some o ≡ true
 tells_some None tells = absurd tells
 tells_some (Some told) tells = refl
 
-holding : (c : ℕ → Contents) (p : Seen) → Holds c p → IsTelling p
+pub holding : (c : ℕ → Contents) (p : Seen) → Holds c p → IsTelling p
 holding c p holds = by p.told holds
   where
     by : (o : Option Contents) → HoldsTold c p.device p.start p.sectors o → is_some o ≡ true
@@ -109,6 +110,11 @@ holding c p holds = by p.told holds
 run_tells : (ps : List Seen) → AllTell ps → RunTells ps
 run_tells [] tells = tt
 run_tells (p ∷ ps) tells = (some_tells p.told (All-head IsTelling p ps tells), run_tells ps (All-tail IsTelling p ps tells))
+
+-- so do the copies of which all pieces do
+pub copies_told : (copies : List (List Seen)) → AllTell (copy_pieces copies) → EachTells copies
+copies_told [] tells = tt
+copies_told (x ∷ xs) tells = let both = all_parts IsTelling x (copy_pieces xs) tells in (run_tells x both.0, copies_told xs both.1)
 
 all_tell : (ps : List Seen) → RunTells ps → AllTell ps
 all_tell [] tells = All-nil IsTelling
@@ -143,7 +149,7 @@ hold_as c c' device start count None same h = h
 hold_as c c' device start count (Some told) same h = λ k lt. h k lt ∙ sym (same k lt)
 
 -- they hold a part of all contents that are the same in their sectors
-all_hold_as : (c c' : ℕ → Contents) (ps : List Seen) → ((device k : ℕ) → 1 ≤ owners device k ps → c' device k ≡ c device k) → All (Holds c) ps → All (Holds c') ps
+pub all_hold_as : (c c' : ℕ → Contents) (ps : List Seen) → ((device k : ℕ) → 1 ≤ owners device k ps → c' device k ≡ c device k) → All (Holds c) ps → All (Holds c') ps
 all_hold_as c c' [] same holds = All-nil (Holds c')
 all_hold_as c c' (p ∷ ps) same holds =
     All-cons (Holds c') p ps
@@ -218,6 +224,17 @@ module _ (copies : List (List Seen)) (old new : List Seen) (g : GoByCopies copie
         All-append (Holds (over (copy_pieces g.later) contents)) regions (copy_pieces g.later ++ g.rest) first
         (All-append (Holds (over (copy_pieces g.later) contents)) (copy_pieces g.later) g.rest own last)
 
+  -- what the copies hold, before and after
+  held_copies : (contents : ℕ → Contents) → All (Holds contents) old → All (Holds contents) (copy_pieces copies)
+  held_copies contents holds =
+      let all = all_parts (Holds contents) regions (copy_pieces copies ++ g.rest) (g.taken.contents contents holds) in
+      (all_parts (Holds contents) (copy_pieces copies) g.rest all.1).0
+
+  later_holds : AreOnce old → (contents : ℕ → Contents) → All (Holds contents) old → All (Holds (over (copy_pieces g.later) contents)) (copy_pieces g.later)
+  later_holds once contents holds =
+      let all = all_parts (Holds (over (copy_pieces g.later) contents)) regions (copy_pieces g.later ++ g.rest) (holds_after once contents holds) in
+      (all_parts (Holds (over (copy_pieces g.later) contents)) (copy_pieces g.later) g.rest all.1).0
+
 pub together : CopiesGoTogether
 together copies old new g = together_of copies old new g
 
@@ -225,6 +242,8 @@ pub contents : CopiesChangeContents
 contents copies old new g once held holds = (
   over (copy_pieces g.later) held,
   g.back.contents (over (copy_pieces g.later) held) (holds_after copies old new g once held holds),
+  held_copies copies old new g held holds,
+  later_holds copies old new g once held holds,
   λ device k none. over_other (copy_pieces g.later) held device k (later_none copies old new g device k none),
 )
 

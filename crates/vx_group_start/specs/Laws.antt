@@ -32,30 +32,30 @@ EachFreshRegionIsMissed =
 
 -- Pieces that go on by copies go on together, ..
 abbrev pub CopiesGoTogether : Type 0
-CopiesGoTogether = (becomes : List (List Seen) → List (List Seen) → Type 0) (copies : List (List Seen)) (old new : List Seen) → GoByCopies becomes copies old new → GoTogether old new
+CopiesGoTogether = (copies : List (List Seen)) (old new : List Seen) → GoByCopies copies old new → GoTogether old new
 
 -- .. and do so beside others, ..
 abbrev pub CopiesGoBeside : Type 0
-CopiesGoBeside = (becomes : List (List Seen) → List (List Seen) → Type 0) (copies : List (List Seen)) (old new others : List Seen) → GoByCopies becomes copies old new → GoByCopies becomes copies (old ++ others) (new ++ others)
+CopiesGoBeside = (copies : List (List Seen)) (old new others : List Seen) → GoByCopies copies old new → GoByCopies copies (old ++ others) (new ++ others)
 
 -- .. and however they are moved, cut and joined before and afterwards.
 abbrev pub CopiesGoAmong : Type 0
-CopiesGoAmong = (becomes : List (List Seen) → List (List Seen) → Type 0) (copies : List (List Seen)) (old new ps qs : List Seen) → SameSectors ps old → GoByCopies becomes copies old new → SameSectors new qs → GoByCopies becomes copies ps qs
+CopiesGoAmong = (copies : List (List Seen)) (old new ps qs : List Seen) → SameSectors ps old → GoByCopies copies old new → SameSectors new qs → GoByCopies copies ps qs
 
 -- Where no sector is in two pieces and all tell, all tell afterwards, and hold what they did in each sector that no copy has, ..
 abbrev pub CopiesChangeTheirOwn : Type 0
 CopiesChangeTheirOwn =
-    (becomes : List (List Seen) → List (List Seen) → Type 0) (copies : List (List Seen)) (old new : List Seen) → GoByCopies becomes copies old new → AreOnce old → AllTell old →
+    (copies : List (List Seen)) (old new : List Seen) → GoByCopies copies old new → AreOnce old → AllTell old →
     AllTell new × ((device k : ℕ) → list_any (covers device k) (copy_pieces copies) ≡ false → sector_in new device k ≡ sector_in old device k)
 
 -- .. also where they hold a part of some contents, as the copies do then and now, ..
 abbrev pub CopiesChangeContents : Type 0
 CopiesChangeContents =
-    (becomes : List (List Seen) → List (List Seen) → Type 0) (copies : List (List Seen)) (old new : List Seen) (go : GoByCopies becomes copies old new) → AreOnce old → (contents : ℕ → Contents) → All (Holds contents) old →
+    (copies : List (List Seen)) (old new : List Seen) (go : GoByCopies copies old new) → AreOnce old → (contents : ℕ → Contents) → All (Holds contents) old →
     (later : ℕ → Contents) × All (Holds later) new × All (Holds contents) (copy_pieces copies) × All (Holds later) (copy_pieces go.later) × ((device k : ℕ) → list_any (covers device k) (copy_pieces copies) ≡ false → later device k ≡ contents device k)
 
 -- .. and nothing is counted on a device of which no copy has a piece.
 abbrev pub CopiesCountTheirOwn : Type 0
 CopiesCountTheirOwn =
-    (becomes : List (List Seen) → List (List Seen) → Type 0) (copies : List (List Seen)) (old new : List Seen) → GoByCopies becomes copies old new → (device : ℕ) → list_any (is_of device) (copy_pieces copies) ≡ false →
+    (copies : List (List Seen)) (old new : List Seen) → GoByCopies copies old new → (device : ℕ) → list_any (is_of device) (copy_pieces copies) ≡ false →
     CountsStay device old new

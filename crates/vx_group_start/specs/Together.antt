@@ -21,16 +21,14 @@ use Rattle.vx_lending.specs.Taken.{AreTakenCopies, log_sectors}
 use Rattle.vx_group_start.specs.Fresh.{is_fresh}
 
 -- The plexes of regions and these copies of a log were taken out of the pieces, and the rest is left. Each copy was cut, perhaps, and then each
--- of its pieces has gone on; no other piece was called. Now the regions, the copies and the rest are together the pieces. `becomes` says what
--- the copies have become.
-pub record GoByCopies (becomes : List (List Seen) → List (List Seen) → Type 0) (copies : List (List Seen)) (old new : List Seen) : Type 0 where
+-- of its pieces has gone on; no other piece was called. Now the regions, the copies and the rest are together the pieces.
+pub record GoByCopies (copies : List (List Seen)) (old new : List Seen) : Type 0 where
   pub regions : List (List PlexSeen)
   pub later : List (List Seen)
   pub rest : List Seen
   pub some : All HasSome (copy_pieces copies)
   pub taken : SameSectors old (all_pieces regions ++ (copy_pieces copies ++ rest))
   pub cut : CutCopiesGo KeepsPiece copies later
-  pub becomes_so : becomes copies later
   pub back : SameSectors (all_pieces regions ++ (copy_pieces later ++ rest)) new
 
 -- The copies of the log of a volume that was started before have come nearer to one another, where they tell what they hold. Of those of one
@@ -38,11 +36,17 @@ pub record GoByCopies (becomes : List (List Seen) → List (List Seen) → Type 
 abbrev pub ComeNearer : Bool → Geometry → List (List Seen) → List (List Seen) → Type 0
 ComeNearer fresh geometry old new = fresh ≡ false → AllTell old → AreNarrowed (log_header geometry) (region_count geometry.length geometry.region) old new
 
--- the pieces have gone on so, by the copies that were taken for the log of a volume of the form, which was never started or was
+-- the pieces have gone on by copies that have come nearer
+pub record GoNearer (fresh : Bool) (geometry : Geometry) (copies : List (List Seen)) (old new : List Seen) : Type 0 where
+  pub go : GoByCopies copies old new
+  pub nearer : ComeNearer fresh geometry copies go.later
+
+-- so have they by the copies that were taken for the log of a volume of the form, which was never started or was
 pub record GoByLog (numbers : List ℕ) (form : VolumeForm) (fresh : Bool) (old new : List Seen) : Type 0 where
   pub copies : List (List Seen)
   pub are : AreTakenCopies numbers form.logs.items (log_sectors form.shape.geometry) copies
-  pub go : GoByCopies (ComeNearer fresh form.shape.geometry) copies old new
+  pub go : GoByCopies copies old new
+  pub nearer : ComeNearer fresh form.shape.geometry copies go.later
 
 -- no piece was called, or some were by the log of the form
 abbrev pub ComeBackFrom : List ℕ → VolumeForm → Bool → List Seen → List Seen → Type 0

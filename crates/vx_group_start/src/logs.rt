@@ -11,6 +11,7 @@ ghost use Rattle.vx_lending.specs.Pieces.{copy_pieces};
 ghost use Rattle.vx_lending.specs.Taken.{AreLogCopies, slot_of};
 ghost use Rattle.vx_group_start.specs.Fresh.{all_maps, is_fresh, is_lowest_on, maps_to_copy};
 ghost use Rattle.vx_group_start.specs.Logs.{IsLogOf};
+ghost use Rattle.vx_group_start.specs.Together.{ComeNearer};
 ghost use Rattle.vx_group_start.specs.Steps.{IsNoLog, left_fault, start_fault};
 
 use crate::fault::StartFault;
@@ -77,6 +78,7 @@ pub fn start_log<P: Piece + Drop>(
     ensures refused { IfErr result (λ refused. IsNoLog fresh (log_header form.now.shape.geometry) (copies_seen P.seen copies.items) (left_copies P.seen refused.left) refused.fault) }
     ensures back { IfErr result (λ refused. GoTogether (copy_pieces (copies_seen P.seen copies.items)) (copy_pieces (left_copies P.seen refused.left))) }
     ensures cut_back { IfErr result (λ refused. CutCopiesGo KeepsPiece (copies_seen P.seen copies.items) (left_copies P.seen refused.left)) }
+    ensures nearer { IfErr result (λ refused. ComeNearer fresh form.now.shape.geometry (copies_seen P.seen copies.items) (left_copies P.seen refused.left)) }
 {
     if fresh {
         new_log(alloc, form, copies)
@@ -121,6 +123,7 @@ fn old_log<P: Piece + Drop>(
     ensures refused { IfErr result (λ refused. IsNoLog false (log_header form.now.shape.geometry) (copies_seen P.seen copies.items) (left_copies P.seen refused.left) refused.fault) }
     ensures back { IfErr result (λ refused. GoTogether (copy_pieces (copies_seen P.seen copies.items)) (copy_pieces (left_copies P.seen refused.left))) }
     ensures cut_back { IfErr result (λ refused. CutCopiesGo KeepsPiece (copies_seen P.seen copies.items) (left_copies P.seen refused.left)) }
+    ensures nearer { IfErr result (λ refused. ComeNearer false form.now.shape.geometry (copies_seen P.seen copies.items) (left_copies P.seen refused.left)) }
 {
     match load_log(alloc, form, copies) {
         Ok(log) => Ok(log),

@@ -25,7 +25,7 @@ ghost use Rattle.vx_group_start.specs.Fresh.{is_fresh, is_lowest_on};
 ghost use Rattle.vx_group_start.specs.Refused.{IsNotStarted, IsRefused};
 ghost use Rattle.vx_group_start.specs.Started.{IsStarted};
 ghost use Rattle.vx_group_start.specs.Steps.{IsEarly, IsRefusedOver, IsUnopened, RunsOver, StartsOver, open_fault};
-ghost use Rattle.vx_group_start.specs.Together.{ComeBack, ComeBackFrom, GoByCopies, GoByLog};
+ghost use Rattle.vx_group_start.specs.Together.{ComeBack, ComeBackFrom, GoByLog, GoNearer};
 
 use crate::fault::StartFault;
 use crate::logs::{is_fresh, is_lowest_on, start_log};
@@ -60,7 +60,7 @@ pub fn open_volume<P: Piece + Drop>(
     ensures started { IfOk result (λ running. IsStarted P.seen vol.now numbers.now public.old public.new running) }
     ensures left { IfOk result (λ running. public.new.left.items ≡ public.old.left.items) }
     ensures refused { IfErr result (λ fault. IsRefused P.seen config.now good vol.now numbers.now public.old public.new fault) }
-    ensures goes { IfOk result (λ running. GoByLog numbers.now running.form (still_pieces P.seen public.old) (held_pieces P.seen running.volume ++ still_pieces P.seen public.new)) }
+    ensures goes { IfOk result (λ running. GoByLog numbers.now running.form (is_fresh vol.now.state) (still_pieces P.seen public.old) (held_pieces P.seen running.volume ++ still_pieces P.seen public.new)) }
     ensures back { OnErr result (GoTogether (still_pieces P.seen public.old) (still_pieces P.seen public.new)) }
     ensures comes_back { OnErr result (ComeBack config.now good vol.now numbers.now (still_pieces P.seen public.old) (still_pieces P.seen public.new)) }
     ensures running { public.new.running ≡ public.old.running }
@@ -122,10 +122,10 @@ fn open_form<P: Piece + Drop>(
     ensures form { IfOk result (λ running. running.form ≡ form) }
     ensures started { IfOk result (λ running. IsStarted P.seen vol.now numbers.now public.old public.new running) }
     ensures left { IfOk result (λ running. public.new.left.items ≡ public.old.left.items) }
-    ensures goes { IfOk result (λ running. GoByLog numbers.now running.form (still_pieces P.seen public.old) (held_pieces P.seen running.volume ++ still_pieces P.seen public.new)) }
+    ensures goes { IfOk result (λ running. GoByLog numbers.now running.form (is_fresh vol.now.state) (still_pieces P.seen public.old) (held_pieces P.seen running.volume ++ still_pieces P.seen public.new)) }
     ensures refused { IfErr result (λ fault. IsNotStarted P.seen vol.now numbers.now form public.old public.new fault) }
     ensures back { OnErr result (GoTogether (still_pieces P.seen public.old) (still_pieces P.seen public.new)) }
-    ensures comes_back { OnErr result (ComeBackFrom numbers.now form (still_pieces P.seen public.old) (still_pieces P.seen public.new)) }
+    ensures comes_back { OnErr result (ComeBackFrom numbers.now form (is_fresh vol.now.state) (still_pieces P.seen public.old) (still_pieces P.seen public.new)) }
     ensures running { public.new.running ≡ public.old.running }
     ensures stuck { public.new.stuck ≡ public.old.stuck }
 {
@@ -157,7 +157,7 @@ fn open_taken<P: Piece + Drop>(
     ensures same { IfOk result (λ running. public.new ≡ public.old) }
     ensures refused { IfErr result (λ fault. IsRefusedOver P.seen vol.now form (copies_seen P.seen pieces.copies.items) (volume_pieces P.seen pieces) public.old public.new fault) }
     ensures back { OnErr result (GoTogether (volume_pieces P.seen pieces ++ still_pieces P.seen public.old) (still_pieces P.seen public.new)) }
-    ensures comes_back { OnErr result (GoByCopies (copies_seen P.seen pieces.copies.items) (volume_pieces P.seen pieces ++ still_pieces P.seen public.old) (still_pieces P.seen public.new)) }
+    ensures comes_back { OnErr result (GoNearer (is_fresh vol.now.state) form.shape.geometry (copies_seen P.seen pieces.copies.items) (volume_pieces P.seen pieces ++ still_pieces P.seen public.old) (still_pieces P.seen public.new)) }
     ensures running { public.new.running ≡ public.old.running }
     ensures stuck { public.new.stuck ≡ public.old.stuck }
 {

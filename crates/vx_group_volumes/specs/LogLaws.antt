@@ -15,10 +15,9 @@ use Rattle.vx_config_parts.specs.declared.plex.Plex.{Plex}
 use Rattle.vx_config_parts.specs.declared.vol.Vol.{Vol}
 use Rattle.vx_objects.specs.declared.config.Config.{Config}
 use Rattle.vx_image.specs.Bytes.{Sectors, is_log_copy}
-use Rattle.vx_image.specs.Narrowing.{IsNarrowed}
 use Rattle.vx_image.specs.UsedPlexes.{used_logs}
 use Rattle.vx_moments.specs.World.{Device, Group}
-use Rattle.vx_group_images.specs.Group.{ChangesOnly, image_on}
+use Rattle.vx_group_images.specs.Group.{ChangesOnly}
 use Rattle.vx_volume_form.specs.declared.form.VolumeForm.{VolumeForm}
 use Rattle.vx_volume_form.specs.Form.{IsFormOf}
 use Rattle.vx_volume_form.specs.Laws.{AreNumbered, good_disks}
@@ -65,32 +64,23 @@ EachLogHasItsCopy =
 -- are as they were, but for what these copies hold.
 abbrev pub EachDiskGoesByCopies : Type 0
 EachDiskGoesByCopies =
-    (hs : List DiskSeen) (becomes : List (List Seen) → List (List Seen) → Type 0) (copies : List (List Seen)) (old new others : List Seen) → AreParted hs (old ++ others) → AllTell (old ++ others) → GoByCopies becomes copies old new →
+    (hs : List DiskSeen) (copies : List (List Seen)) (old new others : List Seen) → AreParted hs (old ++ others) → AllTell (old ++ others) → GoByCopies copies old new →
     AreParted hs (new ++ others) × Each (DiskGoesOn (copy_pieces copies)) (whole_disks (rests_of (old ++ others) []) hs) (whole_disks (rests_of (new ++ others) []) hs)
 
 -- Where the devices of a world are these whole disks, before and after, and all others stay, they change in the sectors of the volume alone.
 abbrev pub EachLogChangesOnly : Type 0
 EachLogChangesOnly =
     (g : Group) (numbers : List ℕ) (v : Vol) (fresh : Bool) (form : VolumeForm) → IsFormOf g.config g.good v fresh form → HaveNumbers numbers → AreNumbered numbers g.good g.config.disks →
-    (hs : List DiskSeen) (before after others : List Seen) → AllOf (IsMemberOn g numbers) hs → AreParted hs (before ++ others) → AllTell (before ++ others) → GoByLog numbers form fresh before after →
+    (hs : List DiskSeen) (before after others : List Seen) → AllOf (IsMemberOn g numbers) hs → AreParted hs (before ++ others) → AllTell (before ++ others) → GoByLog numbers form before after →
     (old new : Word → Option Device) →
     AreDevicesOf old (whole_disks (rests_of (before ++ others) []) hs) → AreDevicesOf new (whole_disks (rests_of (after ++ others) []) hs) →
     OtherDevicesStay hs old new → ChangesOnly g v.name old new
-
--- Of a volume that was started before, the copies of its log come nearer to one another, and nothing else of its image changes.
-abbrev pub EachLogNarrows : Type 0
-EachLogNarrows =
-    (g : Group) (numbers : List ℕ) (v : Vol) (form : VolumeForm) → IsFormOf g.config g.good v false form → HaveNumbers numbers → AreNumbered numbers g.good g.config.disks →
-    (hs : List DiskSeen) (before after others : List Seen) → AllOf (IsMemberOn g numbers) hs → AreParted hs (before ++ others) → AllTell (before ++ others) → GoByLog numbers form false before after →
-    (old new : Word → Option Device) →
-    AreDevicesOf old (whole_disks (rests_of (before ++ others) []) hs) → AreDevicesOf new (whole_disks (rests_of (after ++ others) []) hs) →
-    OtherDevicesStay hs old new → IsNarrowed (image_on old g v) (image_on new g v)
 
 -- And nothing is counted on a device that the volume does not lie on.
 abbrev pub EachLogCountsItsOwn : Type 0
 EachLogCountsItsOwn =
     (c : Config) (good : ℕ) (v : Vol) (fresh : Bool) (form : VolumeForm) → IsFormOf c good v fresh form →
-    (numbers : List ℕ) (before after others : List Seen) → GoByLog numbers form fresh before after →
+    (numbers : List ℕ) (before after others : List Seen) → GoByLog numbers form before after →
     (device : ℕ) → (IsOwnDevice c v.name (good_disks good c.disks) numbers device → ⊥) → CountsStay device (before ++ others) (after ++ others)
 
 -- ---- why there is no log

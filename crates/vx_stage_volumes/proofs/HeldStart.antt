@@ -1,6 +1,6 @@
 -- A group out of whose pieces a volume was opened that is held among those that could not be put back: copies of its log alone were called, so the
 -- house keeps what it did, and nothing but sectors of the volume has changed in the world.
-use Rattle.std.proofs.Common.{◌≡◌, ◌∙◌, ℕ, true, List, [], ◌∷◌, ◌++◌, map, Some, refl, sym, ap, subst}
+use Rattle.std.proofs.Common.{◌≡◌, ◌∙◌, ℕ, true, false, List, [], ◌∷◌, ◌++◌, map, Some, refl, sym, ap, subst}
 use Rattle.std.specs.Prelude.{IfSome, is_some}
 use Rattle.std.specs.List.{All, flat_map}
 use Rattle.vx_pages.specs.declared.local_piece.LocalPiece.{Ghosts}
@@ -15,7 +15,7 @@ use Rattle.vx_copies.specs.Lists.{AllOf}
 use Rattle.vx_confdb.specs.Groups.{members}
 use Rattle.vx_moments.specs.Moment.{Moment, AreLater}
 use Rattle.vx_moments.specs.World.{Group}
-use Rattle.vx_stages.specs.Touching.{IsTouched}
+use Rattle.vx_stages.specs.Touching.{IsTouched, Narrows}
 use Rattle.vx_volume.specs.Volume.{IsVolume, volume_seen}
 use Rattle.vx_volume_form.specs.Laws.{good_disks}
 use Rattle.vx_lending.specs.Left.{held_pieces}
@@ -25,6 +25,8 @@ use Rattle.vx_lending.specs.declared.public.Running.{Running}
 use Rattle.vx_lending.specs.Public.{lent_pieces, remaining_pieces, still_pieces}
 use Rattle.vx_group_start.specs.Fresh.{is_fresh}
 use Rattle.vx_group_start.specs.Laying.{AreStuckVolumes}
+use Rattle.vx_group_start.specs.Together.{GoByLog}
+use Rattle.vx_volume_form.specs.Form.{IsFormOf}
 use Rattle.vx_group_volumes.specs.Places.{IsSlotOf}
 use Rattle.vx_group_volumes.proofs.Taken.{sector_own}
 use Rattle.vx_house.specs.Runs.{IsNumbered}
@@ -35,6 +37,8 @@ use Rattle.vx_house.specs.declared.house.Imported.{Imported}
 use Rattle.vx_house_calls.specs.Passes.{with_group}
 use Rattle.vx_stage_volumes.specs.Opening.{OpensIn, good_of}
 use Rattle.vx_stage_volumes.specs.Touching.{AreOwnSectors, IsTouchedIn, behind_of}
+use Rattle.vx_stage_volumes.proofs.AtOnce.{new_is_fresh}
+use Rattle.vx_stage_volumes.proofs.Narrowed.{HaveNarrowing, narrows}
 use Rattle.vx_stage_volumes.proofs.Slots.{IsAtSlot, good_numbered, is_numbered, low_slots, slot_is_good}
 use Rattle.vx_stage_volumes.proofs.TouchedBy.{cut_same, cuts, one_held, own_from, touched_to}
 use Rattle.vx_stage_volumes.proofs.TouchedGroup.{disks_on, kept_now, of_disks, some}
@@ -143,3 +147,13 @@ module _ {P : Type 0} {ghosts : Ghosts P} (alike : (p q : P) → is_some (ghosts
     later = counts_are_later see shelf h g has pieces pieces' held_group on keeps v.name disks opens.numbers slots_are own some_pieces refl held.entries m is;
     touched = touched see shelf h g has pieces pieces' held_group on keeps v.name disks opens.numbers slots_are own some_pieces refl held.entries m is;
   }
+
+  -- the copies of its log have come nearer to one another
+  pub held_narrows : HaveNarrowing see → (m : Moment) (is : IsMoment see (at shelf h) m) → Narrows (world_of see g) v m (held_at m is).then
+  held_narrows laws m is old =
+      let same : is_fresh v.state ≡ false = sym (new_is_fresh v.state) ∙ old in
+      narrows see laws.ends laws.counts shelf h keeps g has public held_keeps m (held_at m is).then is (held_at m is).is v X there opens.numbers opens.are running.form
+      (subst (λ b. IsFormOf g.config (good_of see g) v b running.form) same opens.form) (subst (λ b. GoByLog opens.numbers running.form b (still_pieces see g.public) X) same opens.goes) laws.law
+    where
+      there : SameSectors (X ++ lent_pieces see g.public) (behind_of see public)
+      there = subst (λ ps. SameSectors ((held_pieces see running.volume ++ ps) ++ lent_pieces see g.public) (behind_of see public)) same_still (one_held see g public held.entries running held.stuck)

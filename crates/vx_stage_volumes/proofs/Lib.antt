@@ -18,6 +18,7 @@ pub mod Laid
 pub mod LaidHouse
 pub mod Marks
 pub mod Named
+pub mod Narrowed
 pub mod Numbers
 pub mod Openings
 pub mod Otherwise

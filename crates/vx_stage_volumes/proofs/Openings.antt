@@ -48,7 +48,7 @@ module _ {P : Type 0} {ghosts : Ghosts P} (see : P → Seen) (v : Vol) (g : Impo
     pub numbered_here : AreNumbered numbers (good_of see g) g.config.disks
     numbered_here = subst (λ n. AreNumbered numbers n g.config.disks) good_is (subst (λ (k : Config). AreNumbered numbers good k.disks) config_is numbered)
 
-    pub opens_by : (r : Running P ghosts) → IsFormOf config good v (is_fresh v.state) r.form → IsStarted see v numbers g.public public r → GoByLog numbers r.form (still_pieces see g.public) (held_pieces see r.volume ++ still_pieces see public) → public.left.items ≡ g.public.left.items → OpensIn see v g (with_public config public) r
+    pub opens_by : (r : Running P ghosts) → IsFormOf config good v (is_fresh v.state) r.form → IsStarted see v numbers g.public public r → GoByLog numbers r.form (is_fresh v.state) (still_pieces see g.public) (held_pieces see r.volume ++ still_pieces see public) → public.left.items ≡ g.public.left.items → OpensIn see v g (with_public config public) r
     opens_by r form started goes left = record {
       same = same_but public running stuck;
       left = left;

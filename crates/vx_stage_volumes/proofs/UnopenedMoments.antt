@@ -8,7 +8,13 @@ use Rattle.vx_base.specs.Blocks.{Contents}
 use Rattle.vx_base.specs.Counts.{Rose}
 use Rattle.vx_base.specs.Named.{Word}
 use Rattle.vx_piece.specs.Seen.{AreCounts, EndsThere, Seen}
-use Rattle.vx_carve.specs.Together.{HasSome, Holds, cut_on, faults_on}
+use Rattle.vx_carve.specs.Together.{HasSome, Holds, SameSectors, cut_on, faults_on}
+use Rattle.vx_carve.proofs.Same.{same_refl}
+use Rattle.std.specs.Global.{Vec}
+use Rattle.vx_image.specs.Narrowing.{IsNarrowed}
+use Rattle.vx_group_start.specs.Together.{GoByLog}
+use Rattle.vx_group_volumes.specs.LogLaws.{EachCopyNarrows}
+use Rattle.vx_lending.specs.declared.public.Running.{Running}
 use Rattle.vx_config_parts.specs.declared.disk.Disk.{Disk}
 use Rattle.vx_config_parts.specs.declared.vol.Vol.{Vol}
 use Rattle.vx_copies.specs.Disks.{DiskSeen, good_mask}
@@ -22,7 +28,7 @@ use Rattle.vx_moments.specs.World.{Group}
 use Rattle.vx_group_images.specs.Group.{image_on, sectors_of}
 use Rattle.vx_group_images.specs.Owners.{IsDeviceOfVolume}
 use Rattle.vx_stages.specs.Starting.{HasNoReadCopy, IsFirstMissed}
-use Rattle.vx_stages.specs.Touching.{FailsOn, IsCutOff, IsTouched}
+use Rattle.vx_stages.specs.Touching.{FailsOn, IsCutOff, IsTouched, Narrows}
 use Rattle.vx_volume_form.specs.Form.{IsFormOf}
 use Rattle.vx_volume_form.specs.Laws.{good_disks}
 use Rattle.vx_volume_form.specs.declared.form.VolumeForm.{VolumeForm}
@@ -48,6 +54,10 @@ use Rattle.vx_house_calls.proofs.Owners.{HasNumber, same_name}
 use Rattle.vx_stage_volumes.specs.Early.{refusal_here, refusal_of_form}
 use Rattle.vx_stage_volumes.specs.Opening.{AreSlotNumbers, IsUnopenedIn, good_of}
 use Rattle.vx_stage_volumes.proofs.AtOnce.{refused_by_form}
+use Rattle.vx_stage_volumes.proofs.AtOnce.{new_is_fresh}
+use Rattle.vx_stage_volumes.proofs.Narrowed.{narrows, stays}
+use Rattle.vx_stage_volumes.proofs.TouchedBy.{all_still}
+use Rattle.vx_stage_volumes.specs.Touching.{behind_of}
 use Rattle.vx_stage_volumes.proofs.Slots.{slot_numbered}
 use Rattle.vx_house.proofs.Ends.{keeps_but_group, moment_but_group}
 use Rattle.vx_stage_volumes.proofs.Held.{held, hold_still, public_there}
@@ -182,6 +192,26 @@ module _ {P : Type 0} {ghosts : Ghosts P} (see : P → Seen) (alike : (p q : P) 
     pub is_touched : IsTouched gm v.name m n
     is_touched =
         touched see shelf h g has t.pieces t.later now on keeps v.name t.disks t.numbers t.opened t.own some_pieces refl t.touched.running m is
+
+    -- the copies of its log have come nearer to one another, or nothing was called
+    pub narrows_to : EachCopyNarrows → Narrows gm v m n
+    narrows_to law old = elim unopened.cause [
+      | inl (wants, same) ↦ stay (subst (λ ps. SameSectors still ps) (sym same) (same_refl still))
+      | inr (fault, told, refused) ↦ elim refused.comes [
+        | inl still_same ↦ stay still_same
+        | inr (form, form_is, log) ↦ narrows see ends counts shelf h keeps g has g'.public keeps_on m n is is_next v still' lie_there refused.numbers refused.are form
+            (subst (λ b. IsFormOf g.config (good_of see g) v b form) fresh form_is) (subst (λ b. GoByLog refused.numbers form b still still') fresh log) law
+      ]
+    ]
+      where
+        fresh : is_fresh v.state ≡ false
+        fresh = sym (new_is_fresh v.state) ∙ old
+
+        lie_there : SameSectors (still' ++ lent_pieces see g.public) (behind_of see g'.public)
+        lie_there = all_still see g g'.public (λ i. (unopened.same.running i).entries) (ap (λ (s : Vec (Running P ghosts)). s.items) unopened.same.stuck)
+
+        stay : SameSectors still still' → IsNarrowed (image_on m.world.devices gm v) (image_on n.world.devices gm v)
+        stay same = stays see ends counts shelf h keeps g has g'.public keeps_on m n is is_next v still' lie_there same
 
     -- ---- a device that failed, or has no power
 

@@ -15,7 +15,8 @@ use Rattle.vx_moments.specs.World.{Group}
 use Rattle.vx_script_words.specs.declared.value.DiskAt.{DiskAt}
 use Rattle.vx_stages.specs.Starting.{UnopenedBy, refusal_at_once}
 use Rattle.vx_stages.specs.Tests.{volume_in}
-use Rattle.vx_stages.specs.Touching.{IsTouched}
+use Rattle.vx_stages.specs.Touching.{IsTouched, Narrows}
+use Rattle.vx_group_volumes.specs.LogLaws.{EachCopyNarrows}
 use Rattle.vx_stages.specs.declared.stage.Stage.TheVariants as stage
 use Rattle.vx_group_start.specs.Refused.{IsNotStarted}
 use Rattle.vx_group_start.specs.Fresh.{is_fresh}
@@ -37,11 +38,11 @@ use Rattle.vx_stage_volumes.specs.Parting.{PartsGroup}
 use Rattle.vx_stage_volumes.specs.Starting.{EndsUnopened}
 use Rattle.vx_stage_volumes.proofs.PartedHouse.{keeps_now, moment_now, same_scene}
 use Rattle.vx_stage_volumes.proofs.StartStages.{has_ended, has_wanted, here, seen_group, stops_of}
-use Rattle.vx_stage_volumes.proofs.UnopenedMoments.{blamed_by, comes_later, cut_off, failed_on, faults_on_it, is_next, is_touched, keeps_on, n, unlogged, unread}
+use Rattle.vx_stage_volumes.proofs.UnopenedMoments.{blamed_by, comes_later, cut_off, failed_on, faults_on_it, is_next, is_touched, narrows_to, keeps_on, n, unlogged, unread}
 use Rattle.vx_stage_volumes.proofs.UnopenedNames.{named_at}
 use Rattle.vx_stage_volumes.proofs.Named.{found_name, found_of}
 
-module _ {P : Type 0} {ghosts : Ghosts P} (see : P → Seen) (alike : (p q : P) → is_some (see p).told ≡ is_some (see q).told) (ends_there : (p : P) → EndsThere (see p)) (counts : (p : P) → AreCounts (see p)) (name : Word) (disks : List DiskAt)
+module _ {P : Type 0} {ghosts : Ghosts P} (see : P → Seen) (alike : (p q : P) → is_some (see p).told ≡ is_some (see q).told) (ends_there : (p : P) → EndsThere (see p)) (counts : (p : P) → AreCounts (see p)) (law : EachCopyNarrows) (name : Word) (disks : List DiskAt)
     (shelf : Shelved) (h : House P ghosts) (keeps : Keeps see (at shelf h)) (g : Imported P ghosts) (has : h.group ≡ Some g) (g' : Imported P ghosts) (stop : Stop) where
   module _ (is : EndsUnopened see name stop g g') where
     abbrev v : Vol
@@ -109,6 +110,9 @@ module _ {P : Type 0} {ghosts : Ghosts P} (see : P → Seen) (alike : (p q : P) 
       abbrev touched : IsTouched (seen_group see mid) v.name m after
       touched = is_touched see alike ends_there counts shelf h1 keeps1 mid refl v g' stop is.unopened m at_m
 
+      near : Narrows (seen_group see mid) v m after
+      near = narrows_to see alike ends_there counts shelf h1 keeps1 mid refl v g' stop is.unopened m at_m law
+
     -- it has ended the command
     ended : (end : End) → ((m : Moment) (at_m : IsMoment see (at shelf h1) m) → UnopenedBy (seen_group see mid) v m end (after m at_m)) → IsBlamed end (scene see (at shelf h1)) (scene see (at shelf k)) →
         GoesTo (stops.Ended end)
@@ -120,7 +124,7 @@ module _ {P : Type 0} {ghosts : Ghosts P} (see : P → Seen) (alike : (p q : P) 
           is_next see alike ends_there counts shelf h1 keeps1 mid refl v g' stop is.unopened m at_m,
           comes_later see alike ends_there counts shelf h1 keeps1 mid refl v g' stop is.unopened m at_m,
           stops_of see name disks shelf h1 keeps1 mid refl v found is.prepared.planned.may m (after m at_m) end at_m
-              (inr (inl (record { untested = untested; touched = touched m at_m; cause = cause m at_m }))),
+              (inr (inl (record { untested = untested; touched = touched m at_m; narrows = near m at_m; cause = cause m at_m }))),
         ))
         faults_k (subst (λ s. IsBlamed end s (scene see (at shelf k))) (same_scene see shelf h g mid has parts) blamed)
 
@@ -140,6 +144,7 @@ module _ {P : Type 0} {ghosts : Ghosts P} (see : P → Seen) (alike : (p q : P) 
             found,
             is.prepared.planned.may,
             subst (λ x. IsTouched (seen_group see mid) x m (after m at_m)) named (touched m at_m),
+            near m at_m,
           ),
         ))
         faults_k

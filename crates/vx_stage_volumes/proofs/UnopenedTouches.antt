@@ -87,7 +87,7 @@ module _ {P : Type 0} {ghosts : Ghosts P} (see : P → Seen) (old : Imported P g
     }
 
     -- copies of the log were called
-    by_log : (numbers : List ℕ) → AreSlotNumbers see old numbers → (form : VolumeForm) → IsFormOf old.config (good_of see old) v (is_fresh v.state) form → GoByLog numbers form (still_pieces see old.public) (still_pieces see new.public) → TouchesVolume see v.name old new
+    by_log : (numbers : List ℕ) → AreSlotNumbers see old numbers → (form : VolumeForm) → IsFormOf old.config (good_of see old) v (is_fresh v.state) form → GoByLog numbers form (is_fresh v.state) (still_pieces see old.public) (still_pieces see new.public) → TouchesVolume see v.name old new
     by_log numbers are form is log = record {
       pieces = cuts see old log.copies (still_pieces see new.public) log.go;
       later = copy_pieces log.go.later;

@@ -19,7 +19,7 @@ use Rattle.vx_script_words.specs.declared.value.DiskAt.{DiskAt}
 use Rattle.vx_moments.specs.Moment.{Moment, AreLater}
 use Rattle.vx_moments.specs.World.{Group}
 use Rattle.vx_stages.specs.Starting.{StartStops, StopsOf, refusal_at_once}
-use Rattle.vx_stages.specs.Touching.{IsTouched}
+use Rattle.vx_stages.specs.Touching.{IsTouched, Narrows}
 use Rattle.vx_stages.specs.declared.stage.Stage.TheVariants as stage
 use Rattle.vx_lending.specs.declared.public.Public.{Public}
 use Rattle.vx_lending.specs.declared.public.Running.{Running}
@@ -38,7 +38,8 @@ use Rattle.vx_stage_changes.specs.declared.planning.NextConfig.{NextConfig}
 use Rattle.vx_stage_volumes.specs.Opening.{OpensIn}
 use Rattle.vx_stage_volumes.specs.Starting.{EndsUnrecorded, IsPrepared}
 use Rattle.vx_stage_volumes.proofs.Commit.{IsStoppedAt, group_is_lost, power_is_lost, written_but_group, written_faults}
-use Rattle.vx_stage_volumes.proofs.HeldStart.{IsHeldPublic, IsTouchedAt, held_at, held_faults, held_group, held_keeps, held_kept, world_of}
+use Rattle.vx_stage_volumes.proofs.HeldStart.{IsHeldPublic, IsTouchedAt, held_at, held_faults, held_group, held_keeps, held_kept, held_narrows, world_of}
+use Rattle.vx_stage_volumes.proofs.Narrowed.{HaveNarrowing}
 use Rattle.vx_stage_volumes.proofs.PartedHouse.{keeps_now, moment_now, same_scene}
 use Rattle.vx_stage_volumes.proofs.StartStages.{has_wanted, here, seen_group, stops_of}
 use Rattle.vx_stage_volumes.proofs.Named.{found_name, found_recorded}
@@ -114,67 +115,72 @@ module _ {P : Type 0} {ghosts : Ghosts P} (alike : (p q : P) → is_some (ghosts
         pub at1 : (m : Moment) → IsMoment see (at shelf h) m → IsTouchedAt see shelf h1 (world_of see mid) v.name m
         at1 m is = held_at alike shelf k mid opened refl mid_keeps v running opens public held m (mid_at m is)
 
-        -- memory was wanting
-        pub wanting1 : StageGoes {T = Unit {0}} see (stage.Start name) disks (Err stops.OutOfMemory) (at shelf h) (at shelf h1)
-        wanting1 = has_wanted see name disks (at shelf h) (at shelf h1) keeps1 (λ m is.
-            let t = at1 m is in (
-              t.then,
-              t.is,
-              t.later,
-              inr (
-                seen_group see g,
-                v,
-                here see name disks shelf h keeps g has m is,
-                prepared.found,
-                prepared.planned.may,
-                subst (λ (x : Word). IsTouched (seen_group see g) x m t.then) v_name (subst (λ (w : Group). IsTouched w v.name m t.then) mid_world t.touched),
-              ),
-            )) faults1
+        module _ (laws : HaveNarrowing see) where
+          narrows1 : (m : Moment) (is : IsMoment see (at shelf h) m) → Narrows (world_of see mid) v m (at1 m is).then
+          narrows1 m is = held_narrows alike shelf k mid opened refl mid_keeps v running opens public held laws m (mid_at m is)
 
-        -- the commit is stopped
-        module _ (g' : Imported P ghosts) (public_is : g'.public ≡ public) (tried : IsTried see next.text.items mid.base g'.base) where
-          abbrev h2 : House P ghosts
-          h2 = with_group h1 g'
+          -- memory was wanting
+          pub wanting1 : StageGoes {T = Unit {0}} see (stage.Start name) disks (Err stops.OutOfMemory) (at shelf h) (at shelf h1)
+          wanting1 = has_wanted see name disks (at shelf h) (at shelf h1) keeps1 (λ m is.
+              let t = at1 m is in (
+                t.then,
+                t.is,
+                t.later,
+                inr (
+                  seen_group see g,
+                  v,
+                  here see name disks shelf h keeps g has m is,
+                  prepared.found,
+                  prepared.planned.may,
+                  subst (λ (x : Word). IsTouched (seen_group see g) x m t.then) v_name (subst (λ (w : Group). IsTouched w v.name m t.then) mid_world t.touched),
+                  subst (λ (w : Group). Narrows w v m t.then) mid_world (narrows1 m is),
+                ),
+              )) faults1
 
-          faults2 : FaultsGoOn (scene see (at shelf h)) (scene see (at shelf h2))
-          faults2 = faults_trans (scene see (at shelf h)) (scene see (at shelf h1)) (scene see (at shelf h2)) faults1 (written_faults see shelf h1 g1 g' refl keeps1 kept1 next.text.items public_is tried)
+          -- the commit is stopped
+          module _ (g' : Imported P ghosts) (public_is : g'.public ≡ public) (tried : IsTried see next.text.items mid.base g'.base) where
+            abbrev h2 : House P ghosts
+            h2 = with_group h1 g'
 
-          stopped_at : (end : End) (m : Moment) (is : IsMoment see (at shelf h) m) (t : IsTouchedAt see shelf h1 (world_of see mid) v.name m) → IsStoppedAt see shelf h2 (start_edits mid.config v) end t.then →
-              (n : Moment) × IsMomentButGroup see (at shelf h2) n × AreLater m.counts n.counts × StartStops name m end n
-          stopped_at end m is t stopped = (
-            stopped.then,
-            stopped.is,
-            later_trans m.counts t.then.counts stopped.then.counts t.later stopped.later,
-            stops_of see name disks shelf h keeps g has v prepared.found prepared.planned.may m stopped.then end is
-                (subst (λ (w : Group). StopsOf w v m end stopped.then) mid_world
-                (inr (inr (inl (record { untested = untested; opened = t.then; touched = t.touched; first = t.later; rest = stopped.later; stops = (stopped.writing, stopped.change, stopped.stopped) }))))),
-          )
+            faults2 : FaultsGoOn (scene see (at shelf h)) (scene see (at shelf h2))
+            faults2 = faults_trans (scene see (at shelf h)) (scene see (at shelf h1)) (scene see (at shelf h2)) faults1 (written_faults see shelf h1 g1 g' refl keeps1 kept1 next.text.items public_is tried)
 
-          pub group_lost : Each HasRisen (members see mid.base) (members see g'.base) → StageGoes {T = Unit {0}} see (stage.Start name) disks (Err (stops.Ended ends.GroupLost)) (at shelf h) (at shelf h2)
-          group_lost risen = record {
-            keeps = written_but_group see shelf h1 g1 g' refl keeps1 kept1 next.text.items public_is tried;
-            goes = λ m is. let t = at1 m is in
-                stopped_at ends.GroupLost m is t (group_is_lost see shelf h1 g1 g' refl keeps1 kept1 next.text.items public_is tried (start_edits mid.config v) next.config meant named t.then t.is risen);
-            gives = tt;
-            still = λ e. tt;
-            faults = faults2;
-            blamed = tt;
-          }
+            stopped_at : (end : End) (m : Moment) (is : IsMoment see (at shelf h) m) (t : IsTouchedAt see shelf h1 (world_of see mid) v.name m) → Narrows (world_of see mid) v m t.then → IsStoppedAt see shelf h2 (start_edits mid.config v) end t.then →
+                (n : Moment) × IsMomentButGroup see (at shelf h2) n × AreLater m.counts n.counts × StartStops name m end n
+            stopped_at end m is t near stopped = (
+              stopped.then,
+              stopped.is,
+              later_trans m.counts t.then.counts stopped.then.counts t.later stopped.later,
+              stops_of see name disks shelf h keeps g has v prepared.found prepared.planned.may m stopped.then end is
+                  (subst (λ (w : Group). StopsOf w v m end stopped.then) mid_world
+                  (inr (inr (inl (record { untested = untested; opened = t.then; touched = t.touched; narrows = near; first = t.later; rest = stopped.later; stops = (stopped.writing, stopped.change, stopped.stopped) }))))),
+            )
 
-          pub power_lost : AnyOf IsCut (members see g'.base) → StageGoes {T = Unit {0}} see (stage.Start name) disks (Err (stops.Ended (ends.Lost []))) (at shelf h) (at shelf h2)
-          power_lost cut = record {
-            keeps = written_but_group see shelf h1 g1 g' refl keeps1 kept1 next.text.items public_is tried;
-            goes = λ m is. let t = at1 m is in
-                stopped_at (ends.Lost []) m is t (power_is_lost see shelf h1 g1 g' refl keeps1 kept1 next.text.items public_is tried (start_edits mid.config v) next.config meant named t.then t.is cut);
-            gives = tt;
-            still = λ e. tt;
-            faults = faults2;
-            blamed = tt;
-          }
+            pub group_lost : Each HasRisen (members see mid.base) (members see g'.base) → StageGoes {T = Unit {0}} see (stage.Start name) disks (Err (stops.Ended ends.GroupLost)) (at shelf h) (at shelf h2)
+            group_lost risen = record {
+              keeps = written_but_group see shelf h1 g1 g' refl keeps1 kept1 next.text.items public_is tried;
+              goes = λ m is. let t = at1 m is in
+                  stopped_at ends.GroupLost m is t (narrows1 m is) (group_is_lost see shelf h1 g1 g' refl keeps1 kept1 next.text.items public_is tried (start_edits mid.config v) next.config meant named t.then t.is risen);
+              gives = tt;
+              still = λ e. tt;
+              faults = faults2;
+              blamed = tt;
+            }
+
+            pub power_lost : AnyOf IsCut (members see g'.base) → StageGoes {T = Unit {0}} see (stage.Start name) disks (Err (stops.Ended (ends.Lost []))) (at shelf h) (at shelf h2)
+            power_lost cut = record {
+              keeps = written_but_group see shelf h1 g1 g' refl keeps1 kept1 next.text.items public_is tried;
+              goes = λ m is. let t = at1 m is in
+                  stopped_at (ends.Lost []) m is t (narrows1 m is) (power_is_lost see shelf h1 g1 g' refl keeps1 kept1 next.text.items public_is tried (start_edits mid.config v) next.config meant named t.then t.is cut);
+              gives = tt;
+              still = λ e. tt;
+              faults = faults2;
+              blamed = tt;
+            }
 
   -- ---- the case
 
-  module _ (g' : Imported P ghosts) where
+  module _ (laws : HaveNarrowing see) (g' : Imported P ghosts) where
     abbrev Goes_ : Stop → Type 0
     Goes_ stop = StageGoes {T = Unit {0}} see (stage.Start name) disks (Err stop) (at shelf h) (at shelf (with_group h g'))
 
@@ -189,7 +195,7 @@ module _ {P : Type 0} {ghosts : Ghosts P} (alike : (p q : P) → is_some (ghosts
 
       by : (result : Stop) → CommitEnds see (Err result) e.next.text.items e.mid.base g'.base → Goes_ result
       by stops.OutOfMemory same = subst (λ (x : Imported P ghosts). StageGoes {T = Unit {0}} see (stage.Start name) disks (Err stops.OutOfMemory) (at shelf h) (at shelf (with_group h x))) (sym all_same)
-          (wanting1 e.volume e.next e.mid e.prepared e.opened e.running e.opens g'.public public_held)
+          (wanting1 e.volume e.next e.mid e.prepared e.opened e.running e.opens g'.public public_held laws)
         where
           all_same : g' ≡ record e.mid { public = g'.public }
           all_same =
@@ -199,8 +205,8 @@ module _ {P : Type 0} {ghosts : Ghosts P} (alike : (p q : P) → is_some (ghosts
       by (stops.Ended (ends.Refused r)) ends = absurd ends
       by (stops.Ended (ends.Fault told device parts)) ends = absurd ends
       by (stops.Ended ends.ShelfFailed) ends = absurd ends
-      by (stops.Ended ends.GroupLost) (tried, risen) = group_lost e.volume e.next e.mid e.prepared e.opened e.running e.opens g'.public public_held g' refl tried risen
-      by (stops.Ended (ends.Lost parts)) (none, tried, cut) = subst (λ p. Goes_ (stops.Ended (ends.Lost p))) (sym none) (power_lost e.volume e.next e.mid e.prepared e.opened e.running e.opens g'.public public_held g' refl tried cut)
+      by (stops.Ended ends.GroupLost) (tried, risen) = group_lost e.volume e.next e.mid e.prepared e.opened e.running e.opens g'.public public_held laws g' refl tried risen
+      by (stops.Ended (ends.Lost parts)) (none, tried, cut) = subst (λ p. Goes_ (stops.Ended (ends.Lost p))) (sym none) (power_lost e.volume e.next e.mid e.prepared e.opened e.running e.opens g'.public public_held laws g' refl tried cut)
 
       pub unrecorded_goes : Goes_ stop
       unrecorded_goes = by stop (subst (λ b. CommitEnds see (Err stop) e.next.text.items b g'.base) (same_base e.volume e.next e.mid e.prepared e.opened e.running e.opens) e.held.ends)

@@ -54,7 +54,7 @@ pub record OpensIn {P : Type 0} {ghosts : Ghosts P} (see : P → Seen) (v : Vol)
   pub numbered : AreNumbered numbers (good_of see old) old.config.disks
   pub form : IsFormOf old.config (good_of see old) v (is_fresh v.state) running.form
   pub started : IsStarted see v numbers old.public new.public running
-  pub goes : GoByLog numbers running.form (still_pieces see old.public) (held_pieces see running.volume ++ still_pieces see new.public)
+  pub goes : GoByLog numbers running.form (is_fresh v.state) (still_pieces see old.public) (held_pieces see running.volume ++ still_pieces see new.public)
 
 -- It was not, by this fault; its pieces lie still, perhaps with another log.
 pub record IsRefusedIn {P : Type 0} {ghosts : Ghosts P} (see : P → Seen) (v : Vol) (old new : Imported P ghosts) (fault : StartFault) : Type 0 where

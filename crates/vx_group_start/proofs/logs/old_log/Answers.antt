@@ -17,3 +17,6 @@ returns-in-Err-clause-refused g c =
     subst (IsNoLog false (log_header c.args.form.now.shape.geometry) (copies_seen g.P.Piece.seen c.args.copies.items) (copies_seen g.P.Piece.seen c.in-Err.refused.copies.items)) (sym c.start_fault.ensures)
     (not_loaded (log_header c.args.form.now.shape.geometry) (copies_seen g.P.Piece.seen c.args.copies.items) (copies_seen g.P.Piece.seen c.in-Err.refused.copies.items) (none_empty (slot_of c.args.form.now.shape.geometry) (copies_seen g.P.Piece.seen c.args.copies.items) c.requires) c.in-Err.ensures.cut_back
     c.in-Err.refused.fault some c.in-Err.ensures.refused)
+
+pub returns-in-Err-clause-nearer : goal.returns-in-Err-clause-nearer
+returns-in-Err-clause-nearer g c old tells = c.in-Err.ensures.narrowed tells

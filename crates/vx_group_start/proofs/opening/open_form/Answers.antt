@@ -14,6 +14,7 @@ use Rattle.vx_lending.specs.Pieces.{volume_pieces}
 use Rattle.vx_lending.proofs.Goings.{go_from, go_then}
 use Rattle.vx_lending.specs.Public.{remaining_pieces, still_pieces}
 use Rattle.vx_group_start.specs.Started.{IsStarted}
+use Rattle.vx_group_start.specs.Fresh.{is_fresh}
 use Rattle.vx_group_start.specs.Together.{GoByLog}
 use Rattle.vx_group_start.proofs.Starts.{AreTakenFor, gone_by, ok_both, started_over, still_taken, unstarted_by}
 use Rattle.vx_group_start.proofs.Together.{among}
@@ -51,7 +52,7 @@ returns-in-Ok-clause-goes g c =
       others = c.in-Ok.ensures.others;
     } in
     IfOk-weaker c.open_taken.result _ _
-    (λ running both. subst (λ p. GoByLog c.args.numbers.now running.form (still_pieces g.P.Piece.seen c.args.public.now) (held_pieces g.P.Piece.seen running.volume ++ still_pieces g.P.Piece.seen p)) (sym both.1)
+    (λ running both. subst (λ p. GoByLog c.args.numbers.now running.form (is_fresh c.args.vol.now.state) (still_pieces g.P.Piece.seen c.args.public.now) (held_pieces g.P.Piece.seen running.volume ++ still_pieces g.P.Piece.seen p)) (sym both.1)
     (gone_by c.args.vol.now c.args.numbers.now c.args.public.now (record c.args.public.now { pool = c.take_pieces.new.pool }) refl regions copies c.args.form taken c.requires.few running both.0))
     (ok_both c.open_taken.result _ _ c.open_taken.ensures.starts c.open_taken.ensures.same)
 
@@ -96,9 +97,10 @@ returns-in-Ok-clause-comes_back g c =
     (λ go. inr (record {
       copies = copies;
       are = c.in-Ok.ensures.copies;
+      nearer = go.nearer;
       go = among copies mid new (still_pieces g.P.Piece.seen c.args.public.now) new
           (still_taken (volume_pieces g.P.Piece.seen c.in-Ok.pieces) (map g.P.Piece.seen c.args.public.now.pool.items.items) (map g.P.Piece.seen c.take_pieces.new.pool.items.items) (flat_map (remaining_pieces g.P.Piece.seen) c.args.public.now.left.items) c.in-Ok.ensures.taken)
-          go (same_refl new);
+          go.go (same_refl new);
     }))
     c.open_taken.ensures.comes_back
 

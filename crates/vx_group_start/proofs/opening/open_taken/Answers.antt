@@ -12,8 +12,12 @@ use Rattle.vx_lending.specs.Pieces.{copy_pieces}
 use Rattle.vx_lending.specs.Taken.{slot_of}
 use Rattle.vx_lending.proofs.LogShapes.{none_empty}
 use Rattle.vx_lending.specs.Public.{still_pieces}
+use Rattle.vx_group_start.specs.Fresh.{is_fresh}
+use Rattle.vx_group_start.specs.Logs.{IsLogOf}
 use Rattle.vx_group_start.specs.Steps.{IsNoLog}
+use Rattle.vx_group_start.specs.Together.{ComeNearer}
 use Rattle.vx_group_start.proofs.Fits.{log_over}
+use Rattle.vx_group_start.proofs.Nearer.{log_nearer}
 use Rattle.vx_group_start.proofs.Together.{come_back}
 use Rattle.vx_group_start.proofs.Unstarted.{gone, no_log, not_opened}
 use Rattle.vx_group_start.proofs.opening.open_taken.Goals as goal
@@ -54,12 +58,19 @@ pub returns-in-Ok-clause-comes_back : goal.returns-in-Ok-clause-comes_back
 returns-in-Ok-clause-comes_back g c =
     let copies : List (List Seen) = copies_seen g.P.Piece.seen c.args.pieces.copies.items in
     on_err_weaker c.open_over.result
-    (λ same. come_back (regions_seen g.P.Piece.seen c.args.pieces.regions.items) copies (log_copies g.P.Piece.seen c.in-Ok.log) (still_pieces g.P.Piece.seen c.args.public.now) (still_pieces g.P.Piece.seen c.open_over.new.public)
-    (none_empty (slot_of c.args.form.shape.geometry) copies c.requires.copies) c.in-Ok.ensures.cut same)
+    (λ same. record {
+      go = come_back (regions_seen g.P.Piece.seen c.args.pieces.regions.items) copies (log_copies g.P.Piece.seen c.in-Ok.log) (still_pieces g.P.Piece.seen c.args.public.now) (still_pieces g.P.Piece.seen c.open_over.new.public)
+          (none_empty (slot_of c.args.form.shape.geometry) copies c.requires.copies) c.in-Ok.ensures.cut same;
+      nearer = log_nearer (is_fresh c.args.vol.now.state) c.args.form.shape copies c.in-Ok.log
+          (subst (λ (fresh : Bool). IsLogOf g.P.Piece.seen fresh c.args.form.shape copies c.in-Ok.log) c.is_fresh.ensures c.in-Ok.ensures.log);
+    })
     c.open_over.ensures.back
 
 pub returns-in-Err-clause-comes_back : goal.returns-in-Err-clause-comes_back
 returns-in-Err-clause-comes_back g c =
     let copies : List (List Seen) = copies_seen g.P.Piece.seen c.args.pieces.copies.items in
-    come_back (regions_seen g.P.Piece.seen c.args.pieces.regions.items) copies (left_copies g.P.Piece.seen c.in-Err.refused.left) (still_pieces g.P.Piece.seen c.args.public.now) (still_pieces g.P.Piece.seen c.put_back.new.public)
-    (none_empty (slot_of c.args.form.shape.geometry) copies c.requires.copies) c.in-Err.ensures.cut_back c.put_back.ensures.still
+    record {
+      go = come_back (regions_seen g.P.Piece.seen c.args.pieces.regions.items) copies (left_copies g.P.Piece.seen c.in-Err.refused.left) (still_pieces g.P.Piece.seen c.args.public.now) (still_pieces g.P.Piece.seen c.put_back.new.public)
+          (none_empty (slot_of c.args.form.shape.geometry) copies c.requires.copies) c.in-Err.ensures.cut_back c.put_back.ensures.still;
+      nearer = subst (λ (fresh : Bool). ComeNearer fresh c.args.form.shape.geometry copies (left_copies g.P.Piece.seen c.in-Err.refused.left)) c.is_fresh.ensures c.in-Err.ensures.nearer;
+    }

@@ -65,7 +65,7 @@ pub returns-in-None-clause-goes : goal.returns-in-None-clause-goes
 returns-in-None-clause-goes g c =
     let still : still_pieces g.P.Piece.seen (record c.args.public.now { left = c.reserve.new.self }) ≡ still_pieces g.P.Piece.seen c.args.public.now = ap (λ xs. map g.P.Piece.seen c.args.public.now.pool.items.items ++ flat_map (remaining_pieces g.P.Piece.seen) xs) c.reserve.ensures.items in
     IfOk-weaker c.open_form.result _ _
-    (λ running go. subst (λ (xs : List Seen). GoByLog c.args.numbers.now running.form xs (held_pieces g.P.Piece.seen running.volume ++ still_pieces g.P.Piece.seen c.open_form.new.public)) still go)
+    (λ running go. subst (λ (xs : List Seen). GoByLog c.args.numbers.now running.form (is_fresh c.args.vol.now.state) xs (held_pieces g.P.Piece.seen running.volume ++ still_pieces g.P.Piece.seen c.open_form.new.public)) still go)
     c.open_form.ensures.goes
 
 pub returns-in-None-clause-comes_back : goal.returns-in-None-clause-comes_back

@@ -71,7 +71,7 @@ EachDiskGoesByCopies =
 abbrev pub EachLogChangesOnly : Type 0
 EachLogChangesOnly =
     (g : Group) (numbers : List ℕ) (v : Vol) (fresh : Bool) (form : VolumeForm) → IsFormOf g.config g.good v fresh form → HaveNumbers numbers → AreNumbered numbers g.good g.config.disks →
-    (hs : List DiskSeen) (before after others : List Seen) → AllOf (IsMemberOn g numbers) hs → AreParted hs (before ++ others) → AllTell (before ++ others) → GoByLog numbers form before after →
+    (hs : List DiskSeen) (before after others : List Seen) → AllOf (IsMemberOn g numbers) hs → AreParted hs (before ++ others) → AllTell (before ++ others) → GoByLog numbers form fresh before after →
     (old new : Word → Option Device) →
     AreDevicesOf old (whole_disks (rests_of (before ++ others) []) hs) → AreDevicesOf new (whole_disks (rests_of (after ++ others) []) hs) →
     OtherDevicesStay hs old new → ChangesOnly g v.name old new
@@ -80,7 +80,7 @@ EachLogChangesOnly =
 abbrev pub EachLogCountsItsOwn : Type 0
 EachLogCountsItsOwn =
     (c : Config) (good : ℕ) (v : Vol) (fresh : Bool) (form : VolumeForm) → IsFormOf c good v fresh form →
-    (numbers : List ℕ) (before after others : List Seen) → GoByLog numbers form before after →
+    (numbers : List ℕ) (before after others : List Seen) → GoByLog numbers form fresh before after →
     (device : ℕ) → (IsOwnDevice c v.name (good_disks good c.disks) numbers device → ⊥) → CountsStay device (before ++ others) (after ++ others)
 
 -- ---- why there is no log

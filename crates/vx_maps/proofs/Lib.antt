@@ -12,12 +12,14 @@ pub mod FetchRows
 pub mod Fills
 pub mod Finds
 pub mod Firmness
+pub mod FirstSectors
 pub mod Growth
 pub mod HandCounts
 pub mod HeadPlaces
 pub mod Heads
 pub mod Loads
 pub mod Moves
+pub mod Narrowed
 pub mod PageRows
 pub mod PlaceLaws
 pub mod Places
@@ -32,3 +34,4 @@ pub mod Steps
 pub mod StoreChanges
 pub mod Together
 pub mod PieceCounts
+pub mod Writings

@@ -9,10 +9,9 @@ use Rattle.vx_pages.specs.declared.local_piece.LocalPiece.{Ghosts}
 use Rattle.vx_pages.specs.declared.page.Page.{Page}
 use Rattle.vx_pages.specs.Items.{item_at}
 use Rattle.vx_pages.specs.Sectors.{sector_seen}
-use Rattle.vx_pages.proofs.Ways.{keeps_none}
-use Rattle.vx_pages.specs.Sector.{SectorSeen, KeepsPiece, KeepsSector, faults_at, is_loose, is_sure, shown}
-use Rattle.vx_pages.specs.Reading.{IsSettled, ReadsSector, image_at}
-use Rattle.vx_pages.proofs.Settlement.{reads_none}
+use Rattle.vx_pages.specs.Sector.{SectorSeen, KeepsPiece, faults_at, is_loose, is_sure, shown}
+use Rattle.vx_pages.specs.Reading.{IsSettled, MaySettle, ReadsSector, image_at}
+use Rattle.vx_pages.proofs.Settlement.{reads_none, settled_none}
 use Rattle.vx_pages.specs.Page.{EachSector, AreAll, all_tell, cut_in, faults_in, has_region, page_log, sector_at}
 use Rattle.vx_pages.specs.Pages.{SamePage, grid_seen, page_seen, sectors_of}
 use Rattle.vx_maps.specs.Going.{GridGoes, PlaceOf, places_of}
@@ -133,8 +132,8 @@ module _ {P : Type 0} {ghosts : Ghosts P} where
 pub row_read_none : (xs : List SectorSeen) → EachSector (λ m. ReadsSector) xs xs
 row_read_none xs = record { size = refl; each = λ m lt. reads_none _ }
 
-pub row_kept_none : (xs : List SectorSeen) → EachSector (λ m. KeepsSector) xs xs
-row_kept_none xs = record { size = refl; each = λ m lt. keeps_none _ }
+pub row_settled_none : (images : List (List ℕ)) (xs : List SectorSeen) → EachSector (λ m. MaySettle (image_at images m)) xs xs
+row_settled_none images xs = record { size = refl; each = λ m lt. settled_none (image_at images m) _ }
 
 -- the counts of a page that was settled have not fallen
 pub row_grows : (images : List (List ℕ)) (xs ys : List SectorSeen) → EachSector (λ m. IsSettled (image_at images m)) xs ys → (copy device : ℕ) → faults_in xs copy device ≤ faults_in ys copy device

@@ -1,7 +1,6 @@
 -- How many pieces the copies of a store have.
 use Rattle.std.proofs.Common.{◌≡◌, ℕ, ◌+◌, List, [], ◌∷◌, length, Option, Some, None, arith}
 use Rattle.std.specs.List.{sum_by}
-use Rattle.std.specs.Option.{option_map}
 use Rattle.std.proofs.lemmas.List.Sums.{sum_by-cons}
 use Rattle.vx_piece.specs.Seen.{Seen}
 use Rattle.vx_pages.specs.Sector.{SectorSeen}

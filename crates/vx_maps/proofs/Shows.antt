@@ -46,7 +46,7 @@ told_if false a e = cc
 
 module _ {P : Type 0} {ghosts : Ghosts P} (store : MapStore P ghosts) (n : ℕ) (lt : n < copies_in (sheets_seen ghosts.seen store.base.sheets)) where
   -- the bit of a region in its page of a map
-  bit : (region map : ℕ) → region < store.base.shape.regions → map < 32 →
+  pub bit : (region map : ℕ) → region < store.base.shape.regions → map < 32 →
       shown (sector_at (row_at (grid_seen ghosts.seen store.pages.items) (region / 4096)) map).copies n region ≡ bit_in (run_contents (copy_at (store_copies ghosts.seen store) n) (page_sector (map_bytes_of store.base.shape.regions) map (region / 4096))) region
   bit region map in' low =
       let page : region / 4096 < page_count store.base.shape.regions = omega (arith, in') in

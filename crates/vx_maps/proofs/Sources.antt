@@ -1,7 +1,7 @@
 -- What a store that was loaded has of the copies that it was made of.
-use Rattle.std.proofs.Common.{◌≡◌, inl, inr, ℕ, ◌*◌, ◌/◌, ◌%◌, ◌-◌, ◌<◌, Bool, refl, sym, ◌∙◌, ap, subst, arith, List, length, true, false, Result, Ok, Err}
+use Rattle.std.proofs.Common.{◌≡◌, inl, inr, ℕ, ◌/◌, ◌<◌, Bool, refl, sym, ◌∙◌, ap, subst, arith, List, length, true, false, Result, Ok, Err}
 use Rattle.std.specs.Prelude.{is_some, nat_lt, ◌&&◌, IfOk}
-use Rattle.std.proofs.lemmas.Bool.{ltb-true, lt-ltb}
+use Rattle.std.proofs.lemmas.Bool.{ltb-true}
 use Rattle.vx_base.specs.Counts.{Rose}
 use Rattle.vx_mapfmt.specs.Bits.{bit_in, marks}
 use Rattle.vx_mapfmt.specs.Sizes.{map_bytes_of, page_count, page_sector}
@@ -20,6 +20,7 @@ use Rattle.vx_maps.specs.Copies.{SameRuns}
 use Rattle.vx_maps.specs.Creating.{AllTell}
 use Rattle.vx_maps.specs.Going.{StoreGoes}
 use Rattle.vx_maps.specs.Loading.{AreClaims, FilledAt, IsHeaded, IsLoaded, IsNotLoaded, IsPassed, IsPassedBy, IsTaken, IsUnfilledAs, TakenBy, copy_at, images_at}
+use Rattle.vx_maps.specs.Narrowing.{AreNarrowed}
 use Rattle.vx_maps.specs.Sheets.{sheets_seen}
 use Rattle.vx_maps.specs.Slots.{copies_in, row_at}
 use Rattle.vx_maps.specs.Store.{AreLogsOf, pages_seen, store_log}
@@ -27,7 +28,8 @@ use Rattle.vx_maps.specs.Stores.{store_seen}
 use Rattle.vx_maps.specs.Wholes.{copy_faults, store_copies, store_faults}
 use Rattle.vx_maps.proofs.Cells.{sector_tells}
 use Rattle.vx_maps.proofs.Claims.{claims_at, claims_told, contents_same, same_at, same_count}
-use Rattle.vx_maps.proofs.Contents.{grid_count, store_begins, store_count, store_holds, store_some, store_tells, tells_begin}
+use Rattle.vx_maps.proofs.Contents.{grid_count, store_begins, store_count, store_holds, store_some, tells_begin}
+use Rattle.vx_maps.proofs.Narrowed.{image_bit, narrowed_cut}
 use Rattle.vx_maps.proofs.PageRows.{logs_goes}
 use Rattle.vx_maps.proofs.Refusals.{runs_tell}
 use Rattle.vx_maps.proofs.Rows.{laid_holed}
@@ -37,13 +39,9 @@ guarded true true x y same = same refl refl
 guarded true false x y same = refl
 guarded false b x y same = refl
 
-and_true : (a b : Bool) → b ≡ true → (a && b) ≡ a
-and_true true b e = e
-and_true false b e = refl
-
-pub if_both : {A E : Type 0} (r : Result A E) (F G H : A → Type 0) → ((x : A) → F x → G x → H x) → IfOk r F → IfOk r G → IfOk r H
-if_both (Ok x) F G H on f g = on x f g
-if_both (Err e) F G H on f g = tt
+pub if_all : {A E : Type 0} (r : Result A E) (F G H K : A → Type 0) → ((x : A) → F x → G x → H x → K x) → IfOk r F → IfOk r G → IfOk r H → IfOk r K
+if_all (Ok x) F G H K on f g h = on x f g h
+if_all (Err e) F G H K on f g h = tt
 
 module _ {P : Type 0} {ghosts : Ghosts P} (cut : MapStore P ghosts) (old : List (List Seen)) (same : SameRuns old (store_copies ghosts.seen cut)) (counts : (copy device : ℕ) → store_faults ghosts.seen cut copy device ≡ copy_faults old copy device) where
   inside : (n : ℕ) → n < length (store_copies ghosts.seen cut) → n < copies_in (sheets_seen ghosts.seen cut.base.sheets)
@@ -79,31 +77,27 @@ module _ {P : Type 0} {ghosts : Ghosts P} (cut : MapStore P ghosts) (old : List 
   not_loaded header PowerLost copies h = h
 
   module _ (new : MapStore P ghosts) (header : List ℕ) (of : AreLogsOf cut.base.shape.regions (is_some (sheets_seen ghosts.seen cut.base.sheets).second) IsOpen (grid_seen ghosts.seen cut.pages.items) (pages_seen ghosts.seen cut.pages.items)) (go : StoreGoes ghosts.seen KeepsPiece cut new)
-      (filled : FilledAt header cut.base.shape.regions (store_faults ghosts.seen cut) (store_faults ghosts.seen new) (store_copies ghosts.seen cut) (store_copies ghosts.seen new) (grid_seen ghosts.seen cut.pages.items) (grid_seen ghosts.seen new.pages.items)) where
+      (filled : FilledAt header cut.base.shape.regions (store_faults ghosts.seen cut) (store_faults ghosts.seen new) (store_copies ghosts.seen cut) (store_copies ghosts.seen new) (grid_seen ghosts.seen cut.pages.items) (grid_seen ghosts.seen new.pages.items))
+      (narrowed : AllTell (store_copies ghosts.seen cut) → AreNarrowed header cut.base.shape.regions (store_copies ghosts.seen cut) (store_copies ghosts.seen new)) where
     logs_now : AreLogsOf cut.base.shape.regions (is_some (sheets_seen ghosts.seen cut.base.sheets).second) (λ s. Unit {0}) (grid_seen ghosts.seen new.pages.items) (pages_seen ghosts.seen new.pages.items)
     logs_now = logs_goes KeepsPiece cut.base.shape.regions _ IsOpen (λ s. Unit {0}) cut.pages.items new.pages.items go.places go.grid (λ i lt m in'. tt) of
 
     count_now : length (grid_seen ghosts.seen new.pages.items) ≡ page_count cut.base.shape.regions
     count_now = go.grid.size ∙ grid_count cut
 
-    image_bit : (region map : ℕ) → RunTells (copy_at old filled.copy) → region < cut.base.shape.regions → map < 32 →
+    read_bit : (region map : ℕ) → RunTells (copy_at old filled.copy) → region < cut.base.shape.regions → map < 32 →
         bit_in (image_at (images_at filled.rows (region / 4096)) map) region ≡ bit_in (run_contents (copy_at old filled.copy) (page_sector (map_bytes_of cut.base.shape.regions) map (region / 4096))) region
-    image_bit region map tell in' low =
+    read_bit region map tell in' low =
         let run = same_at old (store_copies ghosts.seen cut) filled.copy same in
         let at = inside filled.copy filled.found.inside in
-        let page : region / 4096 < page_count cut.base.shape.regions = omega (arith, in') in
-        let total = grid_count cut in
-        let lt : region / 4096 < length (grid_seen ghosts.seen cut.pages.items) = omega (arith, total, page) in
-        let row = of.rows (region / 4096) lt in
-        filled.found.gives (region / 4096) lt map (omega (arith, row, low)) (store_tells cut filled.copy (region / 4096) map at page low (run.tells tell)) region
-        ∙ and_true _ _ (lt-ltb (region % 4096) (cut.base.shape.regions - 4096 * (region / 4096)) (omega (arith, in')))
+        image_bit cut filled.copy filled.rows at filled.found.gives (run.tells tell) map region in' low
         ∙ ap (λ (x : List ℕ). bit_in x region)
-        (sym (store_holds cut filled.copy (region / 4096) map at page low) ∙ contents_same _ _ (page_sector cut.base.shape.map_bytes map (region / 4096)) run ∙ ap (λ (b : ℕ). run_contents (copy_at old filled.copy) (page_sector b map (region / 4096))) cut.base.shape.map_sized)
+        (sym (store_holds cut filled.copy (region / 4096) map at (omega (arith, in')) low) ∙ contents_same _ _ (page_sector cut.base.shape.map_bytes map (region / 4096)) run ∙ ap (λ (b : ℕ). run_contents (copy_at old filled.copy) (page_sector b map (region / 4096))) cut.base.shape.map_sized)
 
     claims : RunTells (copy_at old filled.copy) → (region map : ℕ) → (store_log cut.base.shape.regions (pages_seen ghosts.seen new.pages.items)).claims region map ≡ marks cut.base.shape.regions (run_contents (copy_at old filled.copy)) map region
     claims tell region map =
         claims_at cut.base.shape.regions _ (λ s. Unit {0}) filled.rows (grid_seen ghosts.seen cut.pages.items) (grid_seen ghosts.seen new.pages.items) (pages_seen ghosts.seen new.pages.items) logs_now count_now filled.settled region map
-        ∙ guarded (nat_lt region cut.base.shape.regions) (nat_lt map 32) _ _ (λ a b. image_bit region map tell (ltb-true region cut.base.shape.regions a) (ltb-true map 32 b))
+        ∙ guarded (nat_lt region cut.base.shape.regions) (nat_lt map 32) _ _ (λ a b. read_bit region map tell (ltb-true region cut.base.shape.regions a) (ltb-true map 32 b))
 
     sectors_tell : AllTell old → (i m : ℕ) → i < length (grid_seen ghosts.seen new.pages.items) → m < 32 → tells (sector_at (row_at (grid_seen ghosts.seen cut.pages.items) i) m).copies ≡ true
     sectors_tell tell i m lt low =
@@ -126,4 +120,10 @@ module _ {P : Type 0} {ghosts : Ghosts P} (cut : MapStore P ghosts) (old : List 
     pub loaded : IsLoaded header cut.base.shape.regions old (store_faults ghosts.seen new) (store_copies ghosts.seen new) (store_seen ghosts.seen new)
     loaded =
         subst (λ shape. IsLoaded header cut.base.shape.regions old (store_faults ghosts.seen new) (store_copies ghosts.seen new) (store_log shape.regions (pages_seen ghosts.seen new.pages.items))) (sym go.shape)
-        (record { taken = taken; claims = claims; told = told; heads = filled.heads })
+        (record {
+          taken = taken;
+          claims = claims;
+          told = told;
+          heads = filled.heads;
+          narrowed = λ tell. narrowed_cut header cut.base.shape.regions old (store_copies ghosts.seen cut) (store_copies ghosts.seen new) same (narrowed (runs_tell old (store_copies ghosts.seen cut) same tell));
+        })

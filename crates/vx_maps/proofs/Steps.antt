@@ -15,7 +15,7 @@ use Rattle.vx_maps.specs.Slots.{IsLaid, IsLaidOn, Moved, MovedBoth, MovedSecond,
 use Rattle.vx_maps.specs.Spares.{HasRoom, HasRoomSecond}
 use Rattle.vx_pages.specs.Pages.{PiecesGo, RowGoes}
 use Rattle.vx_maps.specs.Going.{GridGoes, ReadsPiece, SecondGoes, SheetsGo, SlotGoes, SlotsGo, StoreGoes}
-use Rattle.vx_maps.specs.Loading.{GridReads, GridSettled, IsSettledAs}
+use Rattle.vx_maps.specs.Loading.{GridMaySettle, GridReads, GridSettled, IsSettledAs}
 use Rattle.vx_marks.specs.declared.marker.MarkFault.{MarkFault}
 use Rattle.vx_maps.specs.declared.store.MapStore.{MapStore}
 use Rattle.vx_maps.specs.declared.joining.Spares.{Spares}
@@ -140,8 +140,8 @@ grid_reads = items_weaker [] (λ i. EachSector (λ m. ReadsSector)) (λ i. RowGo
 kept_pieces : (m : ℕ) (a b : SectorSeen) → KeepsSector a b → PiecesGo KeepsPiece a.copies b.copies
 kept_pieces m a b h = record { pair = h.pair; each = h.each }
 
-pub grid_keeps : (xs ys : List (List SectorSeen)) → EachItem [] (λ i. EachSector (λ m. KeepsSector)) xs ys → GridGoes KeepsPiece xs ys
-grid_keeps = items_weaker [] (λ i. EachSector (λ m. KeepsSector)) (λ i. RowGoes KeepsPiece) (λ i. items_weaker no_sector (λ m. KeepsSector) (λ m a b. PiecesGo KeepsPiece a.copies b.copies) kept_pieces)
+grid_may : (rows : List (List (List ℕ))) (xs ys : List (List SectorSeen)) → GridMaySettle rows xs ys → GridGoes KeepsPiece xs ys
+grid_may rows xs ys each = record { size = each.size; each = λ i lt. let row = each.each i lt in record { size = row.size; each = λ m inside. kept_pieces m _ _ (row.each m inside).kept } }
 
 pub grid_settled : (rows : List (List (List ℕ))) (xs ys : List (List SectorSeen)) → GridSettled rows xs ys → GridGoes KeepsPiece xs ys
 grid_settled rows xs ys each = record { size = each.size; each = λ i lt. let row = each.each i lt in record { size = row.size; each = λ m inside. kept_pieces m _ _ (row.each m inside).kept } }
@@ -221,4 +221,4 @@ store_keeps old new go = store_then ReadsPiece KeepsPiece KeepsPiece keeps_reads
 
 pub settled_as : (rows : List (List (List ℕ))) (xs ys : List (List SectorSeen)) (result : Result (Unit {0}) MarkFault) → IsSettledAs rows xs ys result → GridGoes KeepsPiece xs ys
 settled_as rows xs ys (Ok u) each = grid_settled rows xs ys each
-settled_as rows xs ys (Err fault) each = grid_keeps xs ys each
+settled_as rows xs ys (Err fault) each = grid_may rows xs ys each

@@ -14,3 +14,4 @@ pub mod Store
 pub mod Stores
 pub mod Wholes
 pub mod Writes
+pub mod Written

@@ -13,9 +13,9 @@ use Rattle.vx_marks.specs.Log.{LogSeen}
 use Rattle.vx_marks.specs.declared.marker.MarkFault.{MarkFault}
 use Rattle.vx_pages.specs.Images.{images_seen}
 use Rattle.vx_pages.specs.Items.{EachItem, item_at}
-use Rattle.vx_pages.specs.Sector.{SectorSeen, IsOpen, KeepsSector, copy_of}
+use Rattle.vx_pages.specs.Sector.{SectorSeen, IsOpen, copy_of}
 use Rattle.vx_pages.specs.Page.{AreAll, EachSector, sector_at}
-use Rattle.vx_pages.specs.Reading.{AreImages, IsCopyOf, IsSettled, ReadsSector, image_at}
+use Rattle.vx_pages.specs.Reading.{AreImages, IsCopyOf, IsSettled, MaySettle, ReadsSector, image_at}
 use Rattle.vx_maps.specs.declared.fault.StoreFault.{StoreFault}
 use Rattle.vx_maps.specs.declared.fault.StoreFault.TheVariants.{OutOfMemory, NoCopy, Failed, PowerLost}
 use Rattle.vx_maps.specs.Copies.{SameRuns}
@@ -121,10 +121,14 @@ IsFoundFrom from header regions old new cut copies rows grid (Err (Failed copy d
 abbrev pub AreOpen : List (List SectorSeen) → Type 0
 AreOpen grid = (i : ℕ) → i < length grid → AreAll IsOpen (row_at grid i)
 
--- each sector was made what its image is, or some were
+-- each copy of each sector of each page may have been made what its image is
+abbrev pub GridMaySettle : List (List (List ℕ)) → List (List SectorSeen) → List (List SectorSeen) → Type 0
+GridMaySettle rows old new = EachItem [] (λ i. EachSector (λ m. MaySettle (image_at (images_at rows i) m))) old new
+
+-- each sector was made what its image is, or each copy of each may have been
 abbrev pub IsSettledAs : {T : Type 0} → List (List (List ℕ)) → List (List SectorSeen) → List (List SectorSeen) → Result T MarkFault → Type 0
 IsSettledAs rows old new (Ok u) = GridSettled rows old new
-IsSettledAs rows old new (Err fault) = EachItem [] (λ i. EachSector (λ m. KeepsSector)) old new
+IsSettledAs rows old new (Err fault) = GridMaySettle rows old new
 
 -- ---- the whole
 

@@ -16,6 +16,7 @@ ghost use Rattle.vx_maps.specs.Spares.{HasRoom, copies_seen};
 ghost use Rattle.vx_maps.specs.Store.{pages_cut, pages_faults, pages_seen};
 ghost use Rattle.vx_maps.specs.Stores.{shape_of, store_seen};
 ghost use Rattle.vx_maps.specs.Wholes.{store_copies, store_faults};
+ghost use Rattle.vx_maps.specs.Written.{AreWrittenFrom, MayBlank, MayHold, heads_of};
 
 use crate::assembly::{CutStore, cut_store};
 use crate::fault::{StoreFault, StoreRefused, fault_of};
@@ -56,6 +57,7 @@ fn settle_store<P: LocalPiece + Drop>(
     requires open { AreOpen (grid_seen P.seen store.old.pages.items) }
     requires images { AreRows (page_count store.old.base.shape.regions) (rows_seen images.now.items) }
     ensures goes { StoreGoes P.seen KeepsPiece store.old store.new }
+    ensures base { store.new.base ≡ store.old.base }
     ensures settled { IsSettledAs (rows_seen images.now.items) (grid_seen P.seen store.old.pages.items) (grid_seen P.seen store.new.pages.items) result }
     ensures cause { HasRisen (store_faults P.seen store.old) (store_faults P.seen store.new) (store_cut P.seen store.new) result }
 {
@@ -67,6 +69,7 @@ fn mend_store<P: LocalPiece + Drop>(store: &mut MapStore<P>) -> Result<(), MarkF
     ensures goes { StoreGoes P.seen KeepsPiece store.old store.new }
     ensures pages { store.new.pages ≡ store.old.pages }
     ensures heads { OnOk result (AllBeginWith (header_of store.old.base.shape) (store_copies P.seen store.new)) }
+    ensures firsts { MayHold (header_of store.old.base.shape) (heads_of (sheets_seen P.seen store.old.base.sheets)) (heads_of (sheets_seen P.seen store.new.base.sheets)) }
     ensures cause { HasRisen (store_faults P.seen store.old) (store_faults P.seen store.new) (store_cut P.seen store.new) result }
 {
     let mut sector = [0; 512];
@@ -78,6 +81,7 @@ fn mend_store<P: LocalPiece + Drop>(store: &mut MapStore<P>) -> Result<(), MarkF
 fn blank_if<P: LocalPiece + Drop>(store: &mut MapStore<P>, asked: bool) -> Result<(), MarkFault>
     ensures goes { StoreGoes P.seen KeepsPiece store.old store.new }
     ensures pages { store.new.pages ≡ store.old.pages }
+    ensures firsts { MayBlank asked (heads_of (sheets_seen P.seen store.old.base.sheets)) (heads_of (sheets_seen P.seen store.new.base.sheets)) }
     ensures cause { HasRisen (store_faults P.seen store.old) (store_faults P.seen store.new) (store_cut P.seen store.new) result }
 {
     if asked {
@@ -99,6 +103,7 @@ fn write_copies<P: LocalPiece + Drop>(
     ensures goes { StoreGoes P.seen KeepsPiece store.old store.new }
     ensures settled { OnOk result (GridSettled (rows_seen images.now.items) (grid_seen P.seen store.old.pages.items) (grid_seen P.seen store.new.pages.items)) }
     ensures heads { OnOk result (AllBeginWith (header_of store.old.base.shape) (store_copies P.seen store.new)) }
+    ensures written { AreWrittenFrom (header_of store.old.base.shape) chosen (rows_seen images.now.items) (heads_of (sheets_seen P.seen store.old.base.sheets)) (heads_of (sheets_seen P.seen store.new.base.sheets)) (grid_seen P.seen store.old.pages.items) (grid_seen P.seen store.new.pages.items) }
     ensures cause { HasRisen (store_faults P.seen store.old) (store_faults P.seen store.new) (store_cut P.seen store.new) result }
 {
     if let Err(fault) = blank_if(store, chosen != 0) {
@@ -119,6 +124,7 @@ fn fill_store<P: LocalPiece + Drop>(
     requires images { AreRows (page_count store.old.base.shape.regions) (rows_seen images.old.items) }
     ensures goes { StoreGoes P.seen KeepsPiece store.old store.new }
     ensures filled { IsFilledAs (header_of store.old.base.shape) store.old.base.shape.regions (store_faults P.seen store.old) (store_faults P.seen store.new) (store_cut P.seen store.new) (store_copies P.seen store.old) (store_copies P.seen store.new) (grid_seen P.seen store.old.pages.items) (grid_seen P.seen store.new.pages.items) result }
+    ensures narrowed { AllTell (store_copies P.seen store.old) → AreNarrowed (header_of store.old.base.shape) store.old.base.shape.regions (store_copies P.seen store.old) (store_copies P.seen store.new) }
 {
     match find_copy(store, images) {
         Ok(chosen) => match write_copies(store, chosen, images) {
@@ -141,6 +147,8 @@ fn load_in<P: LocalPiece + Drop>(
     ensures filled { IfOk result (λ store. FilledAt (header_of cut.store.base.shape) cut.store.base.shape.regions (store_faults P.seen cut.store) (store_faults P.seen store) (store_copies P.seen cut.store) (store_copies P.seen store) (grid_seen P.seen cut.store.pages.items) (grid_seen P.seen store.pages.items)) }
     ensures refused { IfErr result (λ refused. IsUnfilledAs (header_of cut.store.base.shape) refused.fault (store_faults P.seen cut.store) (store_copies P.seen cut.store) (copies_seen P.seen refused.copies.items)) }
     ensures back { IfErr result (λ refused. CopiesGo KeepsPiece (store_copies P.seen cut.store) (copies_seen P.seen refused.copies.items)) }
+    ensures loaded { IfOk result (λ store. AllTell (store_copies P.seen cut.store) → AreNarrowed (header_of cut.store.base.shape) cut.store.base.shape.regions (store_copies P.seen cut.store) (store_copies P.seen store)) }
+    ensures narrowed { IfErr result (λ refused. AllTell (store_copies P.seen cut.store) → AreNarrowed (header_of cut.store.base.shape) cut.store.base.shape.regions (store_copies P.seen cut.store) (copies_seen P.seen refused.copies.items)) }
 {
     let CutStore { mut store, spares } = cut;
     match fill_store(&mut store, &mut images) {

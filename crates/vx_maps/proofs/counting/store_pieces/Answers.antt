@@ -1,5 +1,5 @@
 -- Each slot of a copy has a piece, its own or that of a page.
-use Rattle.std.proofs.Common.{rules, ◌≡◌, ◌+◌, ◌∙◌, ℕ, List, length, Option, Some, None, sym, subst, map, arith}
+use Rattle.std.proofs.Common.{rules, ◌≡◌, ◌+◌, ℕ, List, length, sym, subst, arith}
 use Rattle.std.specs.Prelude.{IfSome, ◌/◌}
 use Rattle.std.specs.List.{sum_by}
 use Rattle.std.specs.Option.{option_map}

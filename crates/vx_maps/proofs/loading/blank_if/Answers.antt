@@ -1,4 +1,5 @@
 use Rattle.std.proofs.Common.{refl, sym, subst, Bool, if◌then◌else◌}
+use Rattle.vx_sector.specs.Fields.{zeros}
 use Rattle.vx_pages.specs.Pages.{grid_seen}
 use Rattle.vx_pages.specs.Sector.{KeepsPiece}
 use Rattle.vx_pages.specs.Stays.{piece_same}
@@ -10,6 +11,7 @@ use Rattle.vx_maps.proofs.Beginnings.{or_left}
 use Rattle.vx_maps.proofs.HeadPlaces.{have_first, some_size}
 use Rattle.vx_maps.proofs.Heads.{changed_risen, first_risen, put_goes, risen_add}
 use Rattle.vx_maps.proofs.Steps.{grid_same, laid_goes, second_goes, store_same}
+use Rattle.vx_maps.proofs.FirstSectors.{blank_none, heads_blanked}
 use Rattle.vx_maps.proofs.loading.blank_if.Goals as goal
 
 pub put_head-requires-clause-first : goal.put_head-requires-clause-first
@@ -39,3 +41,10 @@ returns-then-asked-clause-cause g c =
 
 pub returns-else-asked-clause-goes : goal.returns-else-asked-clause-goes
 returns-else-asked-clause-goes g c = store_same c.args.store.now
+
+pub returns-then-asked-clause-firsts : goal.returns-then-asked-clause-firsts
+unfolding zeros
+returns-then-asked-clause-firsts g c = heads_blanked c.args.asked (zeros 512) _ _ c.put_head.result c.if-asked.true refl c.put_head.ensures
+
+pub returns-else-asked-clause-firsts : goal.returns-else-asked-clause-firsts
+returns-else-asked-clause-firsts g c = blank_none c.args.asked _

@@ -10,7 +10,9 @@ use Rattle.vx_maps.specs.Wholes.{store_copies, store_faults}
 use Rattle.vx_maps.proofs.Growth.{faults_grow}
 use Rattle.vx_maps.proofs.Heads.{risen_after}
 use Rattle.vx_maps.proofs.Loads.{filled_failed, filled_none, found_later, settled_on, taken_of}
-use Rattle.vx_maps.proofs.Steps.{keeps_reads, store_keeps, store_then}
+use Rattle.vx_maps.proofs.CopyLaws.{store_goes}
+use Rattle.vx_maps.proofs.Narrowed.{narrowed_filled, narrowed_read}
+use Rattle.vx_maps.proofs.Steps.{keeps_reads, reads_same, store_keeps, store_then}
 use Rattle.vx_maps.proofs.loading.fill_store.Goals as goal
 
 pub returns-in-Ok-write_copies-clause-filled : goal.returns-in-Ok-write_copies-clause-filled
@@ -38,3 +40,19 @@ returns-in-Err-clause-filled g c =
     filled_none (header_of c.args.store.now.base.shape) c.args.store.now.base.shape.regions (store_faults g.P.LocalPiece.seen c.args.store.now) (store_faults g.P.LocalPiece.seen c.find_copy.new.store) (store_cut g.P.LocalPiece.seen c.find_copy.new.store)
     (store_copies g.P.LocalPiece.seen c.args.store.now) (store_copies g.P.LocalPiece.seen c.find_copy.new.store) (grid_seen g.P.LocalPiece.seen c.args.store.now.pages.items) (grid_seen g.P.LocalPiece.seen c.find_copy.new.store.pages.items)
     (rows_seen c.find_copy.new.images.items) c.in-Err.fault c.in-Err.ensures.found
+
+pub returns-in-Ok-write_copies-clause-narrowed : goal.returns-in-Ok-write_copies-clause-narrowed
+returns-in-Ok-write_copies-clause-narrowed g c =
+    narrowed_filled c.args.store.now c.find_copy.new.store c.write_copies.new.store c.find_copy.ensures.goes c.find_copy.ensures.grid c.write_copies.ensures.goes c.in-Ok.chosen (rows_seen c.find_copy.new.images.items) c.in-Ok.ensures.found.inside c.in-Ok.ensures.found.headed
+    c.in-Ok.ensures.found.gives c.write_copies.ensures.written
+
+pub returns-in-Err-write_copies-clause-narrowed : goal.returns-in-Err-write_copies-clause-narrowed
+returns-in-Err-write_copies-clause-narrowed g c =
+    narrowed_filled c.args.store.now c.find_copy.new.store c.write_copies.new.store c.find_copy.ensures.goes c.find_copy.ensures.grid c.write_copies.ensures.goes c.in-Ok.chosen (rows_seen c.find_copy.new.images.items) c.in-Ok.ensures.found.inside c.in-Ok.ensures.found.headed
+    c.in-Ok.ensures.found.gives c.write_copies.ensures.written
+
+pub returns-in-Err-clause-narrowed : goal.returns-in-Err-clause-narrowed
+returns-in-Err-clause-narrowed g c = λ tell. narrowed_read _ _ _ _ (store_goes ReadsPiece reads_same c.args.store.now c.find_copy.new.store c.find_copy.ensures.goes)
+
+pub returns-in-Ok-write_copies-clause-goes : goal.returns-in-Ok-write_copies-clause-goes
+returns-in-Ok-write_copies-clause-goes g c = store_then ReadsPiece KeepsPiece KeepsPiece keeps_reads c.args.store.now c.find_copy.new.store c.write_copies.new.store c.find_copy.ensures.goes c.write_copies.ensures.goes

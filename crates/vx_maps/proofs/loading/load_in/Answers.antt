@@ -4,10 +4,13 @@ use Rattle.vx_maps.specs.Loading.{header_of}
 use Rattle.vx_maps.specs.Spares.{copies_seen}
 use Rattle.vx_maps.specs.Wholes.{store_copies, store_faults}
 use Rattle.vx_maps.proofs.Loads.{refused_from, unfilled}
-use Rattle.std.proofs.Common.{sym, subst}
+use Rattle.std.proofs.Common.{sym, subst, List}
+use Rattle.vx_piece.specs.Seen.{Seen}
 use Rattle.vx_pages.specs.Sector.{KeepsPiece}
 use Rattle.vx_pages.specs.Stays.{piece_same}
+use Rattle.vx_maps.specs.Creating.{AllTell}
 use Rattle.vx_maps.specs.Going.{CopiesGo}
+use Rattle.vx_maps.specs.Narrowing.{AreNarrowed}
 use Rattle.vx_maps.proofs.CopyLaws.{store_goes}
 use Rattle.vx_maps.proofs.loading.load_in.Goals as goal
 
@@ -28,3 +31,8 @@ returns-clause-refused g c =
 pub returns-clause-back : goal.returns-clause-back
 returns-clause-back g c =
     subst (CopiesGo KeepsPiece (store_copies g.P.LocalPiece.seen c.args.cut.store)) (sym c.into_copies_in.ensures.copies) (store_goes KeepsPiece piece_same c.args.cut.store c.fill_store.new.store c.fill_store.ensures.goes)
+
+pub returns-clause-narrowed : goal.returns-clause-narrowed
+returns-clause-narrowed g c =
+    subst (λ (copies : List (List Seen)). AllTell (store_copies g.P.LocalPiece.seen c.args.cut.store) → AreNarrowed (header_of c.args.cut.store.base.shape) c.args.cut.store.base.shape.regions (store_copies g.P.LocalPiece.seen c.args.cut.store) copies)
+    (sym c.into_copies_in.ensures.copies) c.fill_store.ensures.narrowed

@@ -8,7 +8,9 @@ use Rattle.vx_maps.specs.Sheets.{sheets_seen}
 use Rattle.vx_maps.specs.Slots.{grid_faults}
 use Rattle.vx_maps.specs.Store.{AreOnCopies, pages_cut, pages_seen}
 use Rattle.vx_maps.specs.Wholes.{sheet_faults, whole_copies}
+use Rattle.vx_maps.specs.Written.{MayHold, heads_of}
 use Rattle.vx_maps.proofs.Beginnings.{or_left}
+use Rattle.vx_maps.proofs.FirstSectors.{heads_mended}
 use Rattle.vx_maps.proofs.HeadPlaces.{have_first, some_size}
 use Rattle.vx_maps.proofs.Heads.{changed_risen, mended_goes, mended_heads, risen_add}
 use Rattle.vx_maps.proofs.Steps.{grid_same, laid_goes, second_goes}
@@ -43,3 +45,8 @@ returns-clause-cause g c =
     risen_add (λ copy device. sheet_faults copy device (sheets_seen g.P.LocalPiece.seen c.args.store.now.base.sheets)) (λ copy device. sheet_faults copy device (sheets_seen g.P.LocalPiece.seen c.mend_heads.new.sheets))
     (λ copy device. grid_faults copy device (grid_seen g.P.LocalPiece.seen c.args.store.now.pages.items)) _ _ _ _ c.mend_heads.result (λ copy device. refl) (λ copy device. refl)
     (λ h. or_left _ (pages_cut (pages_seen g.P.LocalPiece.seen c.args.store.now.pages.items)) h) (changed_risen p.before p.after _ p.between _ c.mend_heads.result p.out p.back p.change.cause)
+
+pub returns-clause-firsts : goal.returns-clause-firsts
+returns-clause-firsts g c =
+    subst (λ (bytes : List ℕ). MayHold bytes (heads_of (sheets_seen g.P.LocalPiece.seen c.args.store.now.base.sheets)) (heads_of (sheets_seen g.P.LocalPiece.seen c.mend_heads.new.sheets))) c.put_header.ensures
+    (heads_mended _ _ _ c.mend_heads.result c.mend_heads.ensures)

@@ -3,12 +3,13 @@ use Rattle.vx_marks.specs.declared.marker.MarkFault.{MarkFault}
 use Rattle.vx_pages.specs.Images.{images_seen}
 use Rattle.vx_pages.specs.Page.{AreAll, EachSector, no_sector}
 use Rattle.vx_pages.specs.Pages.{page_seen, sectors_of}
-use Rattle.vx_pages.specs.Reading.{AreImages, AreSettled, IsSettled, image_at}
-use Rattle.vx_pages.specs.Sector.{SectorSeen, IsOpen, KeepsSector}
+use Rattle.vx_pages.specs.Reading.{AreImages, AreSettled, IsSettled, MaySettle, image_at}
+use Rattle.vx_pages.specs.Sector.{SectorSeen, IsOpen}
 use Rattle.vx_pages.proofs.Rounds.{goes_on, inside_old, still, stops}
+use Rattle.vx_pages.proofs.Settlement.{settled_may}
 use Rattle.vx_maps.specs.Loading.{images_at, rows_seen}
 use Rattle.vx_maps.proofs.Firmness.{grown_on, risen_on}
-use Rattle.vx_maps.proofs.PageRows.{places_set, row_kept_none, row_grows}
+use Rattle.vx_maps.proofs.PageRows.{places_set, row_settled_none, row_grows}
 use Rattle.vx_maps.proofs.FetchRows.{row_is, rows_count}
 use Rattle.vx_maps.proofs.Steps.{items_weaker}
 use Rattle.vx_maps.proofs.loading.settle_pages.Goals as goal
@@ -32,9 +33,15 @@ returns-in-Err-clause-places g c = places_set c.loop-index.pages.items c.loop-in
 pub returns-in-Err-clause-settled : goal.returns-in-Err-clause-settled
 returns-in-Err-clause-settled g c =
     let lt : c.loop-index.index < length c.loop-index.pages.items = let f = c.loop-index.invariant.size in omega (arith, c.len-index-end.ensures, f, c.args.pages.now.ok.0) in
-    stops [] (sectors_of g.P.LocalPiece.seen) (λ i. EachSector (λ m. IsSettled (image_at (images_at (rows_seen c.args.images.now.items) i) m))) (λ i. EachSector (λ m. KeepsSector)) _ c.loop-index.pages.items c.loop-index.index c.index_mut-page.result.now c.settle.new.self lt
+    let n = rows_count _ c.args.images.now.items c.requires.images in
+    let at : c.loop-index.index < length c.args.pages.now.items = omega (arith, c.len-index-end.ensures, c.args.pages.now.ok.0) in
+    let in' : c.loop-index.index < length c.args.images.now.items = omega (arith, n, at) in
+    let rows = rows_seen c.args.images.now.items in
+    stops [] (sectors_of g.P.LocalPiece.seen) (λ i. EachSector (λ m. IsSettled (image_at (images_at rows i) m))) (λ i. EachSector (λ m. MaySettle (image_at (images_at rows i) m))) _ c.loop-index.pages.items c.loop-index.index c.index_mut-page.result.now c.settle.new.self lt
     c.index_mut-page.ensures.value c.loop-index.invariant.went
-    (λ i a b h. items_weaker no_sector (λ m. IsSettled (image_at (images_at (rows_seen c.args.images.now.items) i) m)) (λ m. KeepsSector) (λ m x y k. k.kept) a b h) (λ i a. row_kept_none a) c.in-Err.ensures.settled
+    (λ i. items_weaker no_sector (λ m. IsSettled (image_at (images_at rows i) m)) (λ m. MaySettle (image_at (images_at rows i) m)) (λ m. settled_may (image_at (images_at rows i) m))) (λ i. row_settled_none (images_at rows i))
+    (subst (λ (images : List (List ℕ)). EachSector (λ m. MaySettle (image_at images m)) (sectors_of g.P.LocalPiece.seen c.index_mut-page.result.now) (sectors_of g.P.LocalPiece.seen c.settle.new.self))
+    (sym (row_is c.args.images.now.items c.loop-index.index c.index.result.now in' c.index.ensures)) c.in-Err.ensures.settled)
 
 pub returns-in-Err-clause-cause : goal.returns-in-Err-clause-cause
 returns-in-Err-clause-cause g c =

@@ -7,24 +7,27 @@ use Rattle.vx_pages.specs.Sector.{IsOpen, KeepsPiece}
 use Rattle.vx_maps.specs.Sheets.{sheets_seen}
 use Rattle.vx_maps.specs.Store.{AreLogsOf, pages_seen}
 use Rattle.vx_maps.specs.Loading.{IsLoaded, IsNotLoaded, header_of}
+use Rattle.vx_maps.specs.Narrowing.{AreNarrowed}
 use Rattle.vx_maps.specs.Spares.{copies_seen}
 use Rattle.vx_maps.specs.Stores.{store_seen}
 use Rattle.vx_maps.specs.Wholes.{store_copies, store_faults}
-use Rattle.vx_maps.proofs.Sources.{if_both, loaded, not_loaded}
+use Rattle.vx_maps.proofs.Sources.{if_all, loaded, not_loaded}
 use Rattle.vx_pages.specs.Stays.{piece_same}
 use Rattle.vx_maps.proofs.CopyLaws.{store_goes}
 use Rattle.vx_maps.proofs.CopyRuns.{none_cut, only_cut}
+use Rattle.vx_maps.proofs.Narrowed.{narrowed_cut, narrowed_none}
+use Rattle.vx_maps.proofs.Refusals.{runs_tell}
 use Rattle.vx_maps.proofs.store.MapStore.load.Goals as goal
 
 pub returns-in-Ok-cut_store-clause-loaded : goal.returns-in-Ok-cut_store-clause-loaded
 returns-in-Ok-cut_store-clause-loaded g c =
-    if_both c.load_in.result _ _ _
-    (λ store filled go.
+    if_all c.load_in.result _ _ _ _
+    (λ store filled go narrowed.
     subst (λ (shape : DcoShape). IsLoaded (header_of shape) shape.regions (copies_seen g.P.Piece.seen c.args.copies.items) (store_faults g.P.Piece.seen store) (store_copies g.P.Piece.seen store) (store_seen g.P.Piece.seen store)) c.in-Ok-cut_store.ensures.shape
     (loaded c.in-Ok-cut_store.cut.store (copies_seen g.P.Piece.seen c.args.copies.items) c.in-Ok-cut_store.ensures.same c.in-Ok-cut_store.ensures.faults store (header_of c.in-Ok-cut_store.cut.store.base.shape)
     (subst (λ (shape : DcoShape). AreLogsOf shape.regions (is_some (sheets_seen g.P.Piece.seen c.in-Ok-cut_store.cut.store.base.sheets).second) IsOpen (grid_seen g.P.Piece.seen c.in-Ok-cut_store.cut.store.pages.items) (pages_seen g.P.Piece.seen c.in-Ok-cut_store.cut.store.pages.items)) (sym c.in-Ok-cut_store.ensures.shape) c.in-Ok-cut_store.ensures.open)
-    go filled))
-    c.load_in.ensures.filled c.load_in.ensures.goes
+    go filled narrowed))
+    c.load_in.ensures.filled c.load_in.ensures.goes c.load_in.ensures.loaded
 
 pub returns-in-Ok-cut_store-clause-refused : goal.returns-in-Ok-cut_store-clause-refused
 returns-in-Ok-cut_store-clause-refused g c =
@@ -50,3 +53,20 @@ returns-in-Err-clause-back g c = only_cut _ _ c.in-Err.ensures.kept
 
 pub returns-in_default-clause-back : goal.returns-in_default-clause-back
 returns-in_default-clause-back g c = none_cut _
+
+pub returns-in-Ok-cut_store-clause-narrowed : goal.returns-in-Ok-cut_store-clause-narrowed
+returns-in-Ok-cut_store-clause-narrowed g c =
+    IfErr-weaker c.load_in.result _ _
+    (λ x narrowed tell.
+    let cut = store_copies g.P.Piece.seen c.in-Ok-cut_store.cut.store in
+    let old = copies_seen g.P.Piece.seen c.args.copies.items in
+    let new = copies_seen g.P.Piece.seen x.copies.items in
+    subst (λ (shape : DcoShape). AreNarrowed (header_of shape) shape.regions old new) c.in-Ok-cut_store.ensures.shape
+    (narrowed_cut _ _ old cut new c.in-Ok-cut_store.ensures.same (narrowed (runs_tell old cut c.in-Ok-cut_store.ensures.same tell))))
+    c.load_in.ensures.narrowed
+
+pub returns-in-Err-clause-narrowed : goal.returns-in-Err-clause-narrowed
+returns-in-Err-clause-narrowed g c = λ tell. narrowed_cut _ _ _ _ _ c.in-Err.ensures.kept (narrowed_none _ _ _)
+
+pub returns-in_default-clause-narrowed : goal.returns-in_default-clause-narrowed
+returns-in_default-clause-narrowed g c = λ tell. narrowed_none _ _ _

@@ -26,4 +26,7 @@ pub mod Stands
 pub mod Commits
 pub mod Taken
 pub mod Unlogged
+pub mod NearerPlexes
+pub mod NearerCopies
+pub mod NearerImages
 pub mod CopiesRun

@@ -47,7 +47,7 @@ module _ (test : Strip → Bool) where
           record { strip = s; there = inl refl; passes = parts.0; has = subst (λ (p : Place). has_place s p ≡ true) same (place_there s sector lt) }
       by false lt rest e = let r = rest e in record { strip = r.strip; there = inr r.there; passes = r.passes; has = r.has }
 
-  in_columns : (columns : List (List Strip)) (k sector : ℕ) (place : Place) → list_all (λ strips. list_all test strips) columns ≡ true → place_in (slice_index_or columns k []) sector ≡ Some place →
+  pub in_columns : (columns : List (List Strip)) (k sector : ℕ) (place : Place) → list_all (λ strips. list_all test strips) columns ≡ true → place_in (slice_index_or columns k []) sector ≡ Some place →
       IsOnStrip test (flat_map (λ strips. strips) columns) place
   in_columns [] k sector place all e = cc
   in_columns (strips ∷ rest) zero sector place all e =

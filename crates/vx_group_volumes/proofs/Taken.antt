@@ -78,7 +78,7 @@ module _ (c : Config) (good : ℕ) (v : Vol) (fresh : Bool) (form : VolumeForm) 
     abbrev copy : List Seen
     copy = slice_index_or copies n []
 
-    at_block : (device k : ℕ) → list_any (covers device k) copy ≡ true → IsAtBlock numbers layout.unit layout.columns device k
+    pub at_block : (device k : ℕ) → list_any (covers device k) copy ≡ true → IsAtBlock numbers layout.unit layout.columns device k
     at_block device k any =
         let cut = taken.cut n d laid in
         on_block numbers layout.unit layout.columns 0 (log_sectors form.shape.geometry) copy (cut_lies numbers layout.unit layout.columns 0 (log_sectors form.shape.geometry) copy cut) (cut_long numbers layout.unit layout.columns 0 (log_sectors form.shape.geometry) copy cut)
@@ -90,11 +90,11 @@ module _ (c : Config) (good : ℕ) (v : Vol) (fresh : Bool) (form : VolumeForm) 
         let r = some_covered device copy (none_empty numbers layout.unit layout.columns cut.runs copy 0 (log_sectors form.shape.geometry) cut.are_runs cut.pieces) any in
         of_block c good v fresh form is numbers device p layout r.0 there lay (at_block device r.0 r.1)
 
-  laid_at : (n : ℕ) → n < length copies → n < length form.logs.items
+  pub laid_at : (n : ℕ) → n < length copies → n < length form.logs.items
   laid_at n lt = let long = taken.long in omega (arith, long, lt)
 
   -- the log plex of a copy
-  plex_at : (n : ℕ) → n < length copies → (d : Layout) → (p : Plex) × IsIn (used_logs v.dco c good fresh v.name) p × IsLayoutOf c p (slice_index_or form.logs.items n d)
+  pub plex_at : (n : ℕ) → n < length copies → (d : Layout) → (p : Plex) × IsIn (used_logs v.dco c good fresh v.name) p × IsLayoutOf c p (slice_index_or form.logs.items n d)
   plex_at n lt d = layout_plex c (used_logs v.dco c good fresh v.name) form.logs.items n d is.logs (laid_at n lt)
 
 pub sector_own : EachTakenCopyIsOwn

@@ -41,7 +41,7 @@ use Rattle.vx_group_volumes.proofs.Taken.{layout_of, lies_on}
 
 -- ---- it is used
 
-used_active : (s : PlexState) → is_active s ≡ true → is_used_state false s ≡ true
+pub used_active : (s : PlexState) → is_active s ≡ true → is_used_state false s ≡ true
 used_active plex.Empty h = absurd (false≢true h)
 used_active plex.Clean h = h
 used_active plex.Active h = refl
@@ -51,19 +51,19 @@ used_active plex.SnapAtt h = h
 used_active plex.SnapDone h = h
 used_active plex.DcoSnp h = h
 
-among_used : (dco : Option Word) (c : Config) (good : ℕ) (vol : Word) (p : Plex) → is_some dco ≡ true → IsIn c.plexes p → is_used_log c good false vol p ≡ true → IsIn (used_logs dco c good false vol) p
+pub among_used : (dco : Option Word) (c : Config) (good : ℕ) (vol : Word) (p : Plex) → is_some dco ≡ true → IsIn c.plexes p → is_used_log c good false vol p ≡ true → IsIn (used_logs dco c good false vol) p
 among_used None c good vol p some there used = absurd (false≢true some)
 among_used (Some dco) c good vol p some there used = kept (is_used_log c good false vol) c.plexes p there used
 
 -- ---- its first sector
 
-some_log : (regions : ℕ) → 0 < 35 * (map_bytes_of regions / 512)
+pub some_log : (regions : ℕ) → 0 < 35 * (map_bytes_of regions / 512)
 some_log regions = by (parts_of 8 regions)
   where
     by : (units : ℕ) → 0 < 35 * (parts_of 8192 (512 + units) * 8192 / 512)
     by units = omega arith
 
-header_by : (length region length' region' : ℕ) → length ≡ length' → region ≡ region' → maps_header length region 32 ≡ maps_header length' region' 32
+pub header_by : (length region length' region' : ℕ) → length ≡ length' → region ≡ region' → maps_header length region 32 ≡ maps_header length' region' 32
 header_by length region length' region' e f = ap (λ n. maps_header n region 32) e ∙ ap (λ n. maps_header length' n 32) f
 
 pub passed_failed : EachPassedLogHasFailed

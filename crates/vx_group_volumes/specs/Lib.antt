@@ -9,4 +9,5 @@ pub mod Devices
 pub mod PlexLaws
 pub mod RestLaws
 pub mod CommitLaws
+pub mod Nearer
 pub mod LogLaws

@@ -3,7 +3,11 @@ use Rattle.std.specs.Prelude.{◌≡◌, ℕ, ◌<◌, ◌++◌, Bool, true, fal
 use Rattle.std.specs.List.{All, list_any}
 use Rattle.vx_base.specs.Blocks.{Contents}
 use Rattle.vx_base.specs.Named.{Word}
+use Rattle.vx_block.specs.Regions.{region_count}
+use Rattle.vx_mask.specs.Mask.{has}
 use Rattle.vx_piece.specs.Seen.{Seen}
+use Rattle.vx_pages.specs.Sector.{KeepsPiece}
+use Rattle.vx_maps.specs.Going.{CutCopiesGo}
 use Rattle.vx_carve.specs.Carved.{HaveNumbers}
 use Rattle.vx_carve.specs.Together.{Holds, covers}
 use Rattle.vx_copies.specs.Disks.{DiskSeen}
@@ -14,13 +18,15 @@ use Rattle.vx_fronts.specs.Rests.{AllTell, is_of, rests_of}
 use Rattle.vx_config_parts.specs.declared.plex.Plex.{Plex}
 use Rattle.vx_config_parts.specs.declared.vol.Vol.{Vol}
 use Rattle.vx_objects.specs.declared.config.Config.{Config}
-use Rattle.vx_image.specs.Bytes.{Sectors, is_log_copy}
+use Rattle.vx_image.specs.Bytes.{Sectors, image_of, is_log_copy}
+use Rattle.vx_image.specs.Narrowing.{IsNarrowed}
 use Rattle.vx_image.specs.UsedPlexes.{used_logs}
 use Rattle.vx_moments.specs.World.{Device, Group}
 use Rattle.vx_group_images.specs.Group.{ChangesOnly}
 use Rattle.vx_volume_form.specs.declared.form.VolumeForm.{VolumeForm}
 use Rattle.vx_volume_form.specs.Form.{IsFormOf}
 use Rattle.vx_volume_form.specs.Laws.{AreNumbered, good_disks}
+use Rattle.vx_lending.specs.Logs.{log_header}
 use Rattle.vx_lending.specs.Pieces.{copy_pieces}
 use Rattle.vx_lending.specs.Taken.{AreTakenCopies, log_sectors}
 use Rattle.vx_volume_laws.specs.Contents.{AreSectorsOf}
@@ -28,6 +34,7 @@ use Rattle.vx_group_start.specs.Refused.{IsUnlogged}
 use Rattle.vx_group_start.specs.Together.{CountsStay, GoByCopies, GoByLog}
 use Rattle.vx_group_volumes.specs.Devices.{HasFailedOn, IsOwnDevice, LiesOnDevice}
 use Rattle.vx_group_volumes.specs.Disks.{AreDevicesOf, DiskGoesOn, IsMemberOn, OtherDevicesStay}
+use Rattle.vx_group_volumes.specs.Nearer.{AreNarrowed}
 use Rattle.vx_group_volumes.specs.Places.{IsOwnSector}
 
 -- ---- where copies lie
@@ -92,3 +99,18 @@ EachPassedLogHasFailed =
     (numbers : List ℕ) (before after : List Seen) → IsUnlogged v numbers form before after →
     (contents : ℕ → Contents) → All (Holds contents) before → (bytes : Sectors) → AreSectorsOf good numbers contents bytes →
     (p : Plex) → Contains c.plexes p → is_log_copy c good bytes v p ≡ true → HasFailedOn c (good_disks good c.disks) numbers before after p
+
+-- ---- copies that come nearer to one another
+
+-- Where the copies of the log of a volume come nearer to one another, and each sector of its disks that none of them has stays as it was, its
+-- image is the same but for the copies of its log, and these come nearer to one another too.
+abbrev pub EachCopyNarrows : Type 0
+EachCopyNarrows =
+    (c : Config) (good : ℕ) (v : Vol) (form : VolumeForm) → IsFormOf c good v false form →
+    (numbers : List ℕ) → HaveNumbers numbers → AreNumbered numbers good c.disks →
+    (copies later : List (List Seen)) → AreTakenCopies numbers form.logs.items (log_sectors form.shape.geometry) copies → CutCopiesGo KeepsPiece copies later →
+    AreNarrowed (log_header form.shape.geometry) (region_count form.shape.geometry.length form.shape.geometry.region) copies later →
+    (old new : ℕ → Contents) → All (Holds old) (copy_pieces copies) → All (Holds new) (copy_pieces later) →
+    ((device k : ℕ) → list_any (covers device k) (copy_pieces copies) ≡ false → new device k ≡ old device k) →
+    (before after : Sectors) → AreSectorsOf good numbers old before → AreSectorsOf good numbers new after → ((slot sector : ℕ) → has good slot ≡ false → after slot sector ≡ before slot sector) →
+    IsNarrowed (image_of c good before v) (image_of c good after v)

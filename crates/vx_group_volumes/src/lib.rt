@@ -5,7 +5,7 @@
 ghost use Rattle.vx_group_volumes.specs.CommitLaws.{EachCommitKeepsImages, EachCommitKeepsPublic};
 ghost use Rattle.vx_group_volumes.specs.Copies.{EachCopyMissesNothing, EachCopyStaysTight, EachCopyUnmarks, EachUnmarkedMissesNothing};
 ghost use Rattle.vx_group_volumes.specs.Laws.{CopiesGoOn, EachLeavingStandsFor, EachRecordedVolumeRuns, EachStartChangesStates, EachStopChangesStates, FreshStartForgets, FreshStartIsTight, FreshStartRuns, LoadedStartForgets, LoadedStartRuns, RestGoesOn, StartFits, StartRuns};
-ghost use Rattle.vx_group_volumes.specs.LogLaws.{EachDiskGoesByCopies, EachLogChangesOnly, EachLogCountsItsOwn, EachLogHasItsCopy, EachPassedLogHasFailed, EachTakenCopyIsOwn, EachTakenDeviceIsOwn};
+ghost use Rattle.vx_group_volumes.specs.LogLaws.{EachCopyNarrows, EachDiskGoesByCopies, EachLogChangesOnly, EachLogCountsItsOwn, EachLogHasItsCopy, EachPassedLogHasFailed, EachTakenCopyIsOwn, EachTakenDeviceIsOwn};
 ghost use Rattle.vx_group_volumes.specs.PlexLaws.{DataFailuresAreOwn, EachCutDeviceIsOwn, EachDeviceIsNamed, EachFailedDeviceIsOwn, EachHeldDeviceIsOwn, EachOwnDeviceIsNamed, LogFailuresAreOwn, PlexesFit};
 ghost use Rattle.vx_group_volumes.specs.RestLaws.{EachRestHasReason, EachRestRunsOn, EachStoppedVolumeStands};
 ghost use Rattle.vx_group_volumes.specs.SectorLaws.{AnyCutChangesItsOwn, AnyOrderChangesItsOwn, EachCallChangesOnly, EachDiskGoesOn, EachKeptPieceIsOwn, EachPieceIsOwn, HeldChangeTheirOwn, PlacesGoOn, PlacesStay, RecordedRunsInPlace, RestatedKeepPlaces, StartRunsInPlace};
@@ -173,6 +173,11 @@ pub fn each_taken_copy_is_own()
 /// Where each copy of the log of a volume was passed over as it was to be loaded, each log plex that counts has failed.
 pub fn each_passed_log_has_failed()
     ensures { EachPassedLogHasFailed }
+{}
+
+/// Where these copies come nearer to one another, and nothing else changes on its disks, so does the image of the volume.
+pub fn each_copy_narrows()
+    ensures { EachCopyNarrows }
 {}
 
 /// So what opening a volume does to the pieces of its group changes the devices of the world in the sectors of this volume alone, and

@@ -42,7 +42,7 @@ use Rattle.vx_volume_laws.proofs.Loaded.{copy_in, same_marks}
 use Rattle.vx_volume_laws.proofs.OpenedImages.{same_item, some_of}
 use Rattle.vx_volume_laws.proofs.Spots.{all_left, all_right, cut_lies, kept_lies, lies_holds, same_lies}
 use Rattle.vx_volume_laws.proofs.Stays.{copies_weaker, place_kept}
-use Rattle.vx_group_volumes.specs.Nearer.{IsCounted, is_marked_on}
+use Rattle.vx_maps.specs.Narrowing.{IsCounted, is_marked_on}
 use Rattle.vx_group_volumes.proofs.Held.{layout_plex}
 use Rattle.vx_group_volumes.proofs.Taken.{layout_of}
 use Rattle.vx_group_volumes.proofs.Unlogged.{among_used, header_by, some_log, used_active}

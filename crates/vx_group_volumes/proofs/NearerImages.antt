@@ -22,7 +22,7 @@ use Rattle.vx_lending.specs.Pieces.{copy_pieces}
 use Rattle.vx_lending.specs.Taken.{log_sectors}
 use Rattle.vx_volume_laws.specs.Contents.{AreSectorsOf}
 use Rattle.vx_group_volumes.specs.LogLaws.{EachCopyNarrows}
-use Rattle.vx_group_volumes.specs.Nearer.{AreNarrowed, IsCounted, IsMarkedByEach, IsMarkedBySome}
+use Rattle.vx_maps.specs.Narrowing.{AreNarrowed, IsCounted, IsMarkedByEach, IsMarkedBySome}
 use Rattle.vx_group_volumes.proofs.NearerCopies.{HasCopy, IsInImage, LieOnLayouts, copy_of_image, image_copy, later_lie, taken_lie}
 use Rattle.vx_group_volumes.proofs.NearerPlexes.{same_plexes}
 

@@ -9,5 +9,4 @@ pub mod Devices
 pub mod PlexLaws
 pub mod RestLaws
 pub mod CommitLaws
-pub mod Nearer
 pub mod LogLaws

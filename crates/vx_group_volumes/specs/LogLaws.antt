@@ -34,7 +34,7 @@ use Rattle.vx_group_start.specs.Refused.{IsUnlogged}
 use Rattle.vx_group_start.specs.Together.{CountsStay, GoByCopies, GoByLog}
 use Rattle.vx_group_volumes.specs.Devices.{HasFailedOn, IsOwnDevice, LiesOnDevice}
 use Rattle.vx_group_volumes.specs.Disks.{AreDevicesOf, DiskGoesOn, IsMemberOn, OtherDevicesStay}
-use Rattle.vx_group_volumes.specs.Nearer.{AreNarrowed}
+use Rattle.vx_maps.specs.Narrowing.{AreNarrowed}
 use Rattle.vx_group_volumes.specs.Places.{IsOwnSector}
 
 -- ---- where copies lie

@@ -152,7 +152,7 @@ module _ {P : Type 0} {ghosts : Ghosts P} (alike : (p q : P) → is_some (ghosts
   pub held_narrows : HaveNarrowing see → (m : Moment) (is : IsMoment see (at shelf h) m) → Narrows (world_of see g) v m (held_at m is).then
   held_narrows laws m is old =
       let same : is_fresh v.state ≡ false = sym (new_is_fresh v.state) ∙ old in
-      narrows see laws.ends laws.counts shelf h keeps g has public held_keeps m (held_at m is).then is (held_at m is).is v X there opens.numbers opens.are running.form
+      narrows see laws.ends laws.counts shelf h keeps g has public held_keeps m (held_at m is).then is (held_at m is).is v X there opens.numbers opens.are opens.numbered running.form
       (subst (λ b. IsFormOf g.config (good_of see g) v b running.form) same opens.form) (subst (λ b. GoByLog opens.numbers running.form b (still_pieces see g.public) X) same opens.goes) laws.law
     where
       there : SameSectors (X ++ lent_pieces see g.public) (behind_of see public)

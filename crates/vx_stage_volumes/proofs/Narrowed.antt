@@ -40,7 +40,7 @@ use Rattle.vx_moments.specs.World.{Device, Group, Member}
 use Rattle.vx_group_images.specs.Group.{image_on, public_of, sectors_of}
 use Rattle.vx_group_images.specs.Owners.{device_at}
 use Rattle.vx_volume_form.specs.Form.{IsFormOf}
-use Rattle.vx_volume_form.specs.Laws.{good_disks}
+use Rattle.vx_volume_form.specs.Laws.{AreNumbered, good_disks}
 use Rattle.vx_volume_form.specs.declared.form.VolumeForm.{VolumeForm}
 use Rattle.vx_volume_laws.specs.Contents.{AreSectorsOf}
 use Rattle.vx_volume_pieces.specs.Pieces.{all_pieces}
@@ -218,7 +218,7 @@ module _ {P : Type 0} {ghosts : Ghosts P} (see : P → Seen) (ends : (p : P) →
 
   -- ---- copies of its log were called
 
-  module _ (numbers : List ℕ) (are : AreSlotNumbers see g numbers) (form : VolumeForm) (form_is : IsFormOf g.config (good_of see g) v false form) (log : GoByLog numbers form false (still_pieces see g.public) X) where
+  module _ (numbers : List ℕ) (are : AreSlotNumbers see g numbers) (numbered : AreNumbered numbers (good_of see g) g.config.disks) (form : VolumeForm) (form_is : IsFormOf g.config (good_of see g) v false form) (log : GoByLog numbers form false (still_pieces see g.public) X) where
     abbrev called : List Seen
     called = copy_pieces log.copies
 
@@ -299,6 +299,6 @@ module _ {P : Type 0} {ghosts : Ghosts P} (see : P → Seen) (ends : (p : P) →
     -- the copies of the image have come nearer to one another
     pub narrows : EachCopyNarrows → IsNarrowed (image_on m.world.devices gm v) (image_on n.world.devices gm v)
     narrows law =
-        law g.config (good_of see g) v form form_is numbers log.copies go.later log.are go.cut (log.nearer refl told_copies) (sector_in olds) (sector_in news) both.2 later_hold uncovered bytes bytes'
+        law g.config (good_of see g) v form form_is numbers are.own numbered log.copies go.later log.are go.cut (log.nearer refl told_copies) (sector_in olds) (sector_in news) both.2 later_hold uncovered bytes bytes'
         (sectors_are m.world.devices hs gm.members (good_of see g) numbers (sector_in olds) were_there numbered_at) (sectors_are n.world.devices hs gm.members (good_of see g) numbers (sector_in news) are_there numbered_at)
         (λ slot sector bad. bytes_at slot sector (λ x one slot_is. uncovered x.seen.device (2048 + sector) (off_copies slot sector bad x one slot_is)))

@@ -199,7 +199,7 @@ module _ {P : Type 0} {ghosts : Ghosts P} (see : P → Seen) (alike : (p q : P) 
       | inl (wants, same) ↦ stay (subst (λ ps. SameSectors still ps) (sym same) (same_refl still))
       | inr (fault, told, refused) ↦ elim refused.comes [
         | inl still_same ↦ stay still_same
-        | inr (form, form_is, log) ↦ narrows see ends counts shelf h keeps g has g'.public keeps_on m n is is_next v still' lie_there refused.numbers refused.are form
+        | inr (form, form_is, log) ↦ narrows see ends counts shelf h keeps g has g'.public keeps_on m n is is_next v still' lie_there refused.numbers refused.are refused.numbered form
             (subst (λ b. IsFormOf g.config (good_of see g) v b form) fresh form_is) (subst (λ b. GoByLog refused.numbers form b still still') fresh log) law
       ]
     ]

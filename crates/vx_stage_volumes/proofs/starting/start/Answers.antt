@@ -1,5 +1,5 @@
 use Rattle.vx_house.specs.View.{Keeps, at}
-use Rattle.vx_group_volumes.proofs.Nearer.{copy_narrows}
+use Rattle.vx_group_volumes.proofs.NearerImages.{copy_narrows}
 use Rattle.vx_stage_volumes.proofs.Begun.{HaveStartLaws}
 use Rattle.vx_stage_volumes.proofs.RunningStage.{running_goes}
 use Rattle.vx_stage_volumes.proofs.StartStages.{start_goes}

@@ -1,5 +1,5 @@
 -- What the copies of a log that were taken hold, before and after they were called, is what its log plexes do.
-use Rattle.std.proofs.Common.{◌≡◌, ℕ, zero, suc, ◌+◌, ◌*◌, ◌/◌, ◌<◌, ◌≤◌, Bool, true, false, Option, Some, None, List, [], ◌∷◌, length, refl, sym, ap, ◌∙◌, subst, inl, inr, arith}
+use Rattle.std.proofs.Common.{◌≡◌, ℕ, zero, suc, ◌+◌, ◌*◌, ◌/◌, ◌<◌, ◌≤◌, true, false, Option, Some, None, List, [], ◌∷◌, length, refl, sym, ap, ◌∙◌, subst, arith}
 use Rattle.std.specs.Prelude.{◌&&◌, Contains, is_some, slice_index_or}
 use Rattle.std.specs.List.{All, filter}
 use Rattle.std.specs.Str.{bytes_eq}
@@ -12,7 +12,7 @@ use Rattle.vx_mapfmt.specs.Bits.{is_headed, marks}
 use Rattle.vx_mapfmt.specs.Header.{maps_header}
 use Rattle.vx_mapfmt.specs.Sizes.{map_bytes_of, parts_of, plex_bytes_of}
 use Rattle.vx_piece.specs.Seen.{Seen}
-use Rattle.vx_runs.specs.Run.{EachPiece, run_contents}
+use Rattle.vx_runs.specs.Run.{run_contents}
 use Rattle.vx_pages.specs.Items.{item_at}
 use Rattle.vx_pages.specs.Sector.{KeepsPiece}
 use Rattle.vx_maps.specs.Going.{CutCopiesGo}

@@ -1,7 +1,7 @@
 -- Where the copies of the log of a volume come nearer to one another, so does its image.
-use Rattle.std.proofs.Common.{◌≡◌, inl, inr, ℕ, suc, ◌+◌, ◌<◌, Bool, true, false, Option, Some, None, List, [], ◌∷◌, length, map, refl, sym, ap, ◌∙◌, subst, arith}
-use Rattle.std.specs.Prelude.{◌==◌, Contains, is_some}
-use Rattle.std.specs.List.{All, filter, list_all, list_any}
+use Rattle.std.proofs.Common.{◌≡◌, inl, ℕ, ◌<◌, Bool, true, false, Option, Some, None, List, [], ◌∷◌, length, refl, sym, ap, ◌∙◌, subst, arith}
+use Rattle.std.specs.Prelude.{◌==◌, is_some}
+use Rattle.std.specs.List.{All, list_all, list_any}
 use Rattle.std.proofs.lemmas.Bool.{eqb-true, false≢true}
 use Rattle.vx_base.specs.Blocks.{Contents}
 use Rattle.vx_base.specs.Named.{Word}
@@ -9,12 +9,11 @@ use Rattle.vx_block.specs.Regions.{region_count}
 use Rattle.vx_piece.specs.Seen.{Seen}
 use Rattle.vx_carve.specs.Together.{Holds}
 use Rattle.vx_config_parts.specs.declared.vol.Vol.{Vol}
-use Rattle.vx_config_parts.specs.Objects.{is_data_plex_of}
 use Rattle.vx_objects.specs.declared.config.Config.{Config}
 use Rattle.vx_plexes.proofs.Members.{IsIn}
 use Rattle.vx_image.specs.Image.{LogCopy, PlexImage}
-use Rattle.vx_image.specs.Bytes.{Sectors, log_copies, plex_image, relation_maps}
-use Rattle.vx_image.proofs.Members.{all_from_each, any_from_one, contains, each_from_all, is_in, one_from_any}
+use Rattle.vx_image.specs.Bytes.{Sectors, log_copies, relation_maps}
+use Rattle.vx_image.proofs.Members.{all_from_each, any_from_one, each_from_all, is_in, one_from_any}
 use Rattle.vx_volume_form.specs.declared.form.VolumeForm.{VolumeForm}
 use Rattle.vx_volume_form.specs.Form.{IsFormOf}
 use Rattle.vx_lending.specs.Logs.{log_header}

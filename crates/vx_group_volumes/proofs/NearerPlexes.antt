@@ -26,7 +26,6 @@ use Rattle.vx_plexes.specs.Lies.{columns_of, is_on_disk, strips_of}
 use Rattle.vx_plexes.proofs.Apart.{columns_inside, plexes_apart}
 use Rattle.vx_plexes.proofs.Members.{IsIn, any_in}
 use Rattle.vx_plexes.proofs.Plexes.{config_valid}
-use Rattle.vx_image.specs.Image.{PlexImage}
 use Rattle.vx_image.specs.Bytes.{Sectors, bytes_at, is_held, map_or_zero, plex_contents, plex_image}
 use Rattle.vx_image.specs.Own.{IsOfPlex}
 use Rattle.vx_image.proofs.Members.{contains, each_from_all, in_filtered, into_filter}

@@ -98,20 +98,23 @@ module _ (c : Config) (good : ℕ) (v : Vol) (form : VolumeForm) (is : IsFormOf 
           let i = was_image m.0 m.1 in
           (i.copy, is_in first i.copy i.there)
 
+      each_first : (k r : ℕ) → list_all (λ c. c r k) first ≡ true → IsMarkedByEach header regions copies k r
+      each_first k r all n counted = let i = was_image n counted in i.shows k r ∙ each_from_all (λ (x : LogCopy). x r k) first i.copy all i.there
+
+      all_then : (k r : ℕ) → IsMarkedByEach header regions later k r → (y : LogCopy) → IsIn then y → y r k ≡ true
+      all_then k r each y there = let h = now_copy y there in sym (h.shows k r) ∙ each h.copy h.counted
+
       all_mark : (r k : ℕ) → list_all (λ c. c r k) first ≡ true → list_all (λ c. c r k) then ≡ true
-      all_mark r k all = all_from_each (λ (x : LogCopy). x r k) then (λ y there.
-          let h = now_copy y (is_in then y there) in
-          let each : IsMarkedByEach header regions copies k r = (λ n counted. let i = was_image n counted in i.shows k r ∙ each_from_all (λ (x : LogCopy). x r k) first i.copy all i.there) in
-          sym (h.shows k r) ∙ narrow.all k r each h.copy h.counted)
+      all_mark r k all = all_from_each (λ (x : LogCopy). x r k) then (λ y there. all_then k r (narrow.all k r (each_first k r all)) y (is_in then y there))
+
+      some_then : (k r : ℕ) (y : LogCopy) → IsIn then y → y r k ≡ true → IsMarkedBySome header regions later k r
+      some_then k r y there marked = let h = now_copy y there in (h.copy, h.counted, h.shows k r ∙ marked)
+
+      any_first : (k r : ℕ) → IsMarkedBySome header regions copies k r → list_any (λ c. c r k) first ≡ true
+      any_first k r (n, counted, marked) = let i = was_image n counted in any_from_one (λ (x : LogCopy). x r k) first i.copy i.there (sym (i.shows k r) ∙ marked)
 
       some_marks : (r k : ℕ) → list_any (λ c. c r k) then ≡ true → list_any (λ c. c r k) first ≡ true
-      some_marks r k any =
-          let y = one_from_any (λ (x : LogCopy). x r k) then any in
-          let h = now_copy y.0 (is_in then y.0 y.1) in
-          let marked : IsMarkedBySome header regions later k r = (h.copy, h.counted, h.shows k r ∙ y.2) in
-          let m = narrow.some k r marked in
-          let i = was_image m.0 m.1 in
-          any_from_one (λ (x : LogCopy). x r k) first i.copy i.there (sym (i.shows k r) ∙ m.2)
+      some_marks r k any = let y = one_from_any (λ (x : LogCopy). x r k) then any in any_first k r (narrow.some k r (some_then k r y.0 (is_in then y.0 y.1) y.2))
 
   none_same : (dco : Option Word) → is_some dco ≡ false → log_copies dco c good after v ≡ log_copies dco c good before v
   none_same None none = refl

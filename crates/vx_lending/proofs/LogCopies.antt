@@ -1,5 +1,6 @@
 -- Copies of a log that were taken have room for it.
-use Rattle.std.proofs.Common.{subst, ◌≡◌, ℕ, ◌+◌, ◌*◌, ◌≤◌, List, [], ◌∷◌, length, get_or, arith}
+use Rattle.std.proofs.Common.{subst, ◌≡◌, ℕ, ◌+◌, ◌*◌, ◌≤◌, List, [], ◌∷◌, length, get_or, Result, Ok, Err, arith}
+use Rattle.std.specs.Prelude.{IfOk}
 use Rattle.std.specs.List.{All}
 use Rattle.std.proofs.lemmas.List.Elements.{All-nil, All-cons}
 use Rattle.vx_piece.specs.Seen.{Seen}
@@ -12,6 +13,11 @@ use Rattle.vx_carve.specs.Carved.{ArePieces, AreCut, StaysBeside}
 use Rattle.vx_cut.specs.Same.{HasSome}
 use Rattle.vx_maps.specs.Copies.{IsCopy}
 use Rattle.vx_lending.specs.Taken.{AreLogCopies, AreTakenCopies}
+
+-- what holds of a result by two facts of it
+pub if_both : {A E : Type 0} (r : Result A E) (F G H : A → Type 0) → ((x : A) → F x → G x → H x) → IfOk r F → IfOk r G → IfOk r H
+if_both (Ok x) F G H on f g = on x f g
+if_both (Err e) F G H on f g = tt
 
 runs_cover : (numbers : List ℕ) (unit : ℕ) (columns : List (List Strip)) (start end : ℕ) (runs : List Run) (ps : List Seen) → AreRuns unit columns start end runs → ArePieces numbers runs ps → (start + run_sectors ps ≡ end) × All HasSome ps
 runs_cover numbers unit columns start end [] [] are of = (omega (arith, are), All-nil HasSome)

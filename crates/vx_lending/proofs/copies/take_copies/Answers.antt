@@ -4,9 +4,8 @@ use Rattle.std.proofs.lemmas.List.{length-map}
 use Rattle.std.proofs.lemmas.Result.{IfOk-weaker}
 use Rattle.vx_carve.proofs.Places.{blocks_on, blocks_free, list_apart}
 use Rattle.vx_maps.specs.Spares.{copies_seen}
-use Rattle.vx_maps.proofs.Sources.{if_both}
 use Rattle.vx_lending.specs.Taken.{log_sectors, slot_of}
-use Rattle.vx_lending.proofs.LogCopies.{cut_from, log_copies, stays_from}
+use Rattle.vx_lending.proofs.LogCopies.{cut_from, if_both, log_copies, stays_from}
 use Rattle.vx_lending.proofs.copies.take_copies.Goals as goal
 
 pub carve_region-requires-clause-on : goal.carve_region-requires-clause-on

@@ -28,10 +28,10 @@ use Rattle.vx_group_start.specs.Together.{GoByCopies}
 
 -- ---- among others
 
-three : (ps qs rs ss : List Seen) → ((ps ++ (qs ++ rs)) ++ ss) ≡ ps ++ (qs ++ (rs ++ ss))
+pub three : (ps qs rs ss : List Seen) → ((ps ++ (qs ++ rs)) ++ ss) ≡ ps ++ (qs ++ (rs ++ ss))
 three ps qs rs ss = append_assoc ps (qs ++ rs) ss ∙ ap (λ (xs : List Seen). ps ++ xs) (append_assoc qs rs ss)
 
-pub beside : CopiesGoBeside
+unfoldable pub beside : CopiesGoBeside
 beside copies old new others g = record {
   regions = g.regions;
   later = g.later;
@@ -42,7 +42,7 @@ beside copies old new others g = record {
   back = subst (λ (xs : List Seen). SameSectors xs (new ++ others)) (three (all_pieces g.regions) (copy_pieces g.later) g.rest others) (same_beside others _ _ g.back);
 }
 
-pub among : CopiesGoAmong
+unfoldable pub among : CopiesGoAmong
 among copies old new ps qs before g after = record {
   regions = g.regions;
   later = g.later;
@@ -54,7 +54,7 @@ among copies old new ps qs before g after = record {
 }
 
 -- copies that were cut and called come back with the regions
-pub come_back : (regions : List (List PlexSeen)) (copies later : List (List Seen)) (rest new : List Seen) → All HasSome (copy_pieces copies) → CutCopiesGo KeepsPiece copies later → SameSectors ((all_pieces regions ++ copy_pieces later) ++ rest) new →
+unfoldable pub come_back : (regions : List (List PlexSeen)) (copies later : List (List Seen)) (rest new : List Seen) → All HasSome (copy_pieces copies) → CutCopiesGo KeepsPiece copies later → SameSectors ((all_pieces regions ++ copy_pieces later) ++ rest) new →
     GoByCopies copies ((all_pieces regions ++ copy_pieces copies) ++ rest) new
 come_back regions copies later rest new some cut same = record {
   regions = regions;

@@ -298,6 +298,7 @@ module _ {P : Type 0} {ghosts : Ghosts P} (see : P → Seen) (ends : (p : P) →
 
     -- the copies of the image have come nearer to one another
     pub narrows : EachCopyNarrows → IsNarrowed (image_on m.world.devices gm v) (image_on n.world.devices gm v)
+    unfolding go go_behind among beside
     narrows law =
         law g.config (good_of see g) v form form_is numbers are.own numbered log.copies go.later log.are go.cut (log.nearer refl told_copies) (sector_in olds) (sector_in news) both.2 later_hold uncovered bytes bytes'
         (sectors_are m.world.devices hs gm.members (good_of see g) numbers (sector_in olds) were_there numbered_at) (sectors_are n.world.devices hs gm.members (good_of see g) numbers (sector_in news) are_there numbered_at)

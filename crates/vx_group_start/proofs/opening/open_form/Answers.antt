@@ -89,6 +89,7 @@ returns-in-Err-clause-back g c =
     c.put_back.ensures.still)
 
 pub returns-in-Ok-clause-comes_back : goal.returns-in-Ok-clause-comes_back
+unfolding among
 returns-in-Ok-clause-comes_back g c =
     let copies : List (List Seen) = copies_seen g.P.Piece.seen c.in-Ok.pieces.copies.items in
     let mid : List Seen = volume_pieces g.P.Piece.seen c.in-Ok.pieces ++ still_pieces g.P.Piece.seen (record c.args.public.now { pool = c.take_pieces.new.pool }) in

@@ -55,6 +55,7 @@ returns-in-Err-clause-back g c =
     c.in-Err.ensures.back c.put_back.ensures.still
 
 pub returns-in-Ok-clause-comes_back : goal.returns-in-Ok-clause-comes_back
+unfolding come_back
 returns-in-Ok-clause-comes_back g c =
     let copies : List (List Seen) = copies_seen g.P.Piece.seen c.args.pieces.copies.items in
     on_err_weaker c.open_over.result
@@ -67,6 +68,7 @@ returns-in-Ok-clause-comes_back g c =
     c.open_over.ensures.back
 
 pub returns-in-Err-clause-comes_back : goal.returns-in-Err-clause-comes_back
+unfolding come_back
 returns-in-Err-clause-comes_back g c =
     let copies : List (List Seen) = copies_seen g.P.Piece.seen c.args.pieces.copies.items in
     record {

@@ -1,0 +1,13 @@
+mod Parts
+mod Images
+mod Commits
+mod Changes
+mod Named
+mod Lives
+mod Running
+mod Devices
+mod Joiners
+mod Stages
+mod Leavings
+mod Steps
+mod Lost

@@ -84,7 +84,7 @@ module _ {P : Type 0} {ghosts : Ghosts P} (see : P → Seen) (ends : (p : P) →
       by None e = ap is_some e ∙ some
       by (Some c) e = refl
 
-  tells : AllTell pieces
+  pub tells : AllTell pieces
   tells =
       let fronts = all_fronts IsTelling hs (each hs at_whole) in
       join (fronts_of hs) behind fronts (parted.tell fronts)

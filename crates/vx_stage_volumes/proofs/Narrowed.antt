@@ -8,13 +8,13 @@ use Rattle.std.proofs.lemmas.Bool.{eqb-true, false≢true}
 use Rattle.std.proofs.lemmas.List.{append-nil}
 use Rattle.std.proofs.lemmas.List.Elements.{All-weaker}
 use Rattle.std.proofs.lemmas.List.Sums.{sum_by-append}
-use Rattle.std.proofs.lemmas.Str.{bytes_eq_self}
+use Rattle.vx_base.proofs.NamedLemmas.{bytes_eq_self}
 use Rattle.vx_pages.specs.declared.local_piece.LocalPiece.{Ghosts}
 use Rattle.vx_base.specs.Blocks.{Contents}
 use Rattle.vx_base.specs.Named.{Word}
 use Rattle.vx_mask.specs.Mask.{has as has_slot}
 use Rattle.vx_piece.specs.Seen.{AreCounts, EndsThere, Seen}
-use Rattle.vx_carve.specs.Together.{AreOnce, Holds, SameSectors, covers, has, owners}
+use Rattle.vx_carve.specs.Together.{AreOnce, Holds, SameSectors, covers, has as has_sector, owners}
 use Rattle.vx_carve.proofs.Runs.{same_after}
 use Rattle.vx_carve.proofs.Same.{same_beside, same_refl, same_trans}
 use Rattle.vx_config_parts.specs.declared.vol.Vol.{Vol}
@@ -23,10 +23,10 @@ use Rattle.vx_copies.specs.Lists.{AllOf, AnyOf}
 use Rattle.vx_copies.specs.declared.disk.Disk.{Disk}
 use Rattle.vx_confdb.specs.Groups.{members}
 use Rattle.vx_cut.proofs.Parts.{all_parts}
-use Rattle.vx_fronts.specs.Fronts.{whole_disk}
+use Rattle.vx_fronts.specs.Fronts.{Rests, whole_disk}
 use Rattle.vx_fronts.specs.Laws.{whole_disks}
 use Rattle.vx_fronts.specs.Parted.{AreParted, fronts_of}
-use Rattle.vx_fronts.specs.Rests.{AllTell, IsTelling, Rests, sector_in}
+use Rattle.vx_fronts.specs.Rests.{AllTell, IsTelling, sector_in}
 use Rattle.vx_fronts.proofs.Behind.{turned}
 use Rattle.vx_fronts.proofs.Parted.{parted_once}
 use Rattle.vx_fronts.proofs.Sectors.{own_told, sector_from, sector_same}
@@ -49,8 +49,7 @@ use Rattle.vx_lending.specs.Public.{lent_pieces, still_pieces}
 use Rattle.vx_lending.specs.declared.public.Public.{Public}
 use Rattle.vx_group_start.specs.Together.{GoByCopies, GoByLog}
 use Rattle.vx_maps.specs.Creating.{AllTell as EachTells}
-use Rattle.vx_lending.specs.Going.{GoTogether}
-use Rattle.vx_group_start.proofs.Together.{all_hold_as, among, beside, contents as later_contents, copies_told, holding, own, together}
+use Rattle.vx_group_start.proofs.Together.{all_hold_as, among, beside, contents as later_contents, copies_told, holding, own}
 use Rattle.vx_group_volumes.specs.LogLaws.{EachCopyNarrows}
 use Rattle.vx_group_volumes.proofs.Taken.{sector_own as taken_sector}
 use Rattle.vx_house.specs.Holders.{AreApart, Holder, IsTakenFrom, group_holders, group_rests, hand_holder, holder_in, volume_holder, whole_members}
@@ -68,7 +67,7 @@ use Rattle.vx_house_calls.proofs.Houses.{whole_numbers}
 use Rattle.vx_house_calls.proofs.Owners.{HasNumber, same_name}
 use Rattle.vx_stage_volumes.specs.Opening.{AreSlotNumbers, good_of}
 use Rattle.vx_stage_volumes.specs.Touching.{behind_of}
-use Rattle.vx_stage_volumes.proofs.Held.{held, hold_still, parted, pieces, public_there, tells}
+use Rattle.vx_stage_volumes.proofs.Held.{pieces, public_there, tells}
 use Rattle.vx_stage_volumes.proofs.Slots.{IsAtSlot, good_numbered, is_numbered, low_slots, slot_is_good}
 use Rattle.vx_stage_volumes.proofs.Stands.{sectors_at}
 use Rattle.vx_stage_volumes.proofs.StillSectors.{sectors_are}
@@ -243,14 +242,11 @@ module _ {P : Type 0} {ghosts : Ghosts P} (see : P → Seen) (ends : (p : P) →
     both : (later : ℕ → Contents) × All (Holds later) news × All (Holds (sector_in olds)) called × All (Holds later) (copy_pieces go.later) × ((device k : ℕ) → list_any (covers device k) called ≡ false → later device k ≡ sector_in olds device k)
     both = later_contents log.copies olds news go once (sector_in olds) olds_hold
 
-    go_on : GoTogether olds news
-    go_on = together log.copies olds news go
-
     later_owned : (device k : ℕ) → 1 ≤ owners device k (copy_pieces go.later) → 1 ≤ owners device k news
     later_owned device k some =
         let same = go.back.sectors device k in
-        let a = sum_by-append (has device k) (all_pieces go.regions) (copy_pieces go.later ++ go.rest) in
-        let b = sum_by-append (has device k) (copy_pieces go.later) go.rest in
+        let a = sum_by-append (has_sector device k) (all_pieces go.regions) (copy_pieces go.later ++ go.rest) in
+        let b = sum_by-append (has_sector device k) (copy_pieces go.later) go.rest in
         omega (arith, some, same, a, b)
 
     later_hold : All (Holds (sector_in news)) (copy_pieces go.later)

@@ -1,5 +1,5 @@
 -- The moments of a house whose volume was not opened: what its devices have to do with that.
-use Rattle.std.proofs.Common.{◌≡◌, ◌∙◌, ◌⊎◌, inl, inr, ℕ, ◌^◌, Bool, true, false, List, ◌++◌, map, Some, None, refl, sym, subst}
+use Rattle.std.proofs.Common.{◌≡◌, ◌∙◌, ◌⊎◌, inl, inr, ℕ, ◌^◌, Bool, true, false, List, ◌++◌, map, Some, None, refl, sym, ap, subst}
 use Rattle.std.specs.Prelude.{IfSome, is_some}
 use Rattle.std.specs.List.{All, flat_map}
 use Rattle.std.proofs.lemmas.Bool.{false≢true}

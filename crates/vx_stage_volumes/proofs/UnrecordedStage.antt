@@ -117,6 +117,7 @@ module _ {P : Type 0} {ghosts : Ghosts P} (alike : (p q : P) → is_some (ghosts
 
         module _ (laws : HaveNarrowing see) where
           narrows1 : (m : Moment) (is : IsMoment see (at shelf h) m) → Narrows (world_of see mid) v m (at1 m is).then
+          unfolding at1
           narrows1 m is = held_narrows alike shelf k mid opened refl mid_keeps v running opens public held laws m (mid_at m is)
 
           -- memory was wanting

@@ -1,0 +1,6 @@
+mod Tests
+mod Runs
+mod GoodDisks
+mod Subdisks
+mod Counts
+mod Whole

@@ -1,0 +1,5 @@
+pub mod Extents
+pub mod Disks
+pub mod Free
+pub mod Gaps
+pub mod Small

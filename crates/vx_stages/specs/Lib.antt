@@ -10,3 +10,4 @@ pub mod Touching
 pub mod Starting
 pub mod Stopping
 pub mod Stages
+pub mod Logs

@@ -11,7 +11,8 @@ use Rattle.vx_config_parts.specs.declared.vol.Vol.{Vol}
 use Rattle.vx_objects.specs.declared.config.Config.{Config}
 use Rattle.vx_objects.specs.declared.edit.Edit.{Edit}
 use Rattle.vx_objects.specs.Applied.{IsEdited}
-use Rattle.vx_image.specs.Meaning.{ReadsOneList}
+use Rattle.vx_image.specs.Image.{regions_of}
+use Rattle.vx_image.specs.Meaning.{ReadsOneList, dirty_read}
 use Rattle.vx_answers.specs.declared.answer.End.{End}
 use Rattle.vx_answers.specs.declared.answer.End.TheVariants as ends
 use Rattle.vx_answers.specs.declared.refusal.Refusal.{Refusal}
@@ -25,6 +26,7 @@ use Rattle.vx_group_images.specs.Owners.{owners_of}
 use Rattle.vx_group_images.specs.Tracks.{volume_failed}
 use Rattle.vx_group_images.specs.Volumes.{StandsForVolume}
 use Rattle.vx_stages.specs.Ends.{IsChange, RefusedAsLong}
+use Rattle.vx_stages.specs.Logs.{LogIsSpared}
 use Rattle.vx_stages.specs.Tests.{recorded}
 use Rattle.vx_stages.specs.Touching.{PassHasCause, VolumeGoes}
 use Rattle.vx_state_edits.specs.Edits.{is_marked, stop_edits}
@@ -110,7 +112,7 @@ abbrev pub without_volume : Word → Moment → Moment
 without_volume name m = record m { world = record m.world { volumes = put name None m.world.volumes } }
 
 -- The bytes of the volume that was stopped stand for it as it came to rest, by the configuration that was written, and one list is read
--- from them.
+-- from them. Where no device of its log has failed in its life, no region is dirty.
 pub record StandsStopped (name : Word) (run : Volume) (w : World) : Type 0 where
   pub group : Group
   pub here : w.group ≡ Some group
@@ -120,6 +122,7 @@ pub record StandsStopped (name : Word) (run : Volume) (w : World) : Type 0 where
   pub stands : StandsForVolume (image_on w.devices group of) run
   pub list : Contents
   pub reads : ReadsOneList (image_on w.devices group of) run.life.candidates list
+  pub clear : LogIsSpared group name run.failed → (r : ℕ) → r < regions_of (image_on w.devices group of) → dirty_read (image_on w.devices group of) r ≡ false
 
 -- ---- the stage
 

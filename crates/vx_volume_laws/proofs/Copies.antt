@@ -1,5 +1,5 @@
 -- A plex that was copied.
-use Rattle.std.proofs.Common.{◌≡◌, ◌∙◌, true, false, sym}
+use Rattle.std.proofs.Common.{◌∙◌, sym}
 use Rattle.vx_volume_laws.specs.Copies.{EachCopyIsTracked, EachWholeCopyIsTracked}
 
 pub each_copy_is_tracked : EachCopyIsTracked

@@ -37,3 +37,6 @@ pub mod Armings
 pub mod Forms
 pub mod Lasting
 pub mod LeftOpenings
+mod OneCopies
+pub mod ExactLogs
+mod ExactLeft

@@ -97,7 +97,7 @@ pub record IsLeftAs (plexes : List PlexImage) (v : VolumeSeen) (w : Volume) (run
   pub region_is : image.region ≡ v.region
   pub filled : IsFilled image.state
 
-is_below : (r n : ℕ) → r < n → nat_lt r n ≡ true
+pub is_below : (r n : ℕ) → r < n → nat_lt r n ≡ true
 is_below r n lt = grind (arith, nat_tests)
 
 from_below : (r n : ℕ) → nat_lt r n ≡ true → r < n

@@ -35,6 +35,7 @@ use Rattle.vx_volume_laws.specs.Tracks.{EachCallIsTracked, GoesAt, TellOf}
 use Rattle.vx_group_images.specs.Tracks.{TrackOwner, has_failed, volume_failed, volume_goes, was_torn_in, was_unsettled, volume_lived}
 use Rattle.vx_volume_laws.specs.Running.{IsSureOfOthers, RegionRunsAs, RunsAsVolume, entries_in, state_at}
 use Rattle.vx_volume_laws.specs.RunLaws.{FailuresAreTold, MayComeNext, OwnersFit, RunsOn}
+use Rattle.vx_volume_laws.proofs.ExactLogs.{run_exact}
 use Rattle.vx_volume_laws.proofs.LivesOn.{Agrees, HasRecord, IsPlaced, life_goes, lived, record_last, torn_lived}
 use Rattle.vx_volume_laws.proofs.Marking.{KeepsRest, Within, any_front, failed_sure, goes_rest, here_in, made_front, sure_goes, torn_told, within_goes, within_same}
 
@@ -257,7 +258,13 @@ module _ (tracked : EachCallIsTracked) (plexes : List PlexImage) (old new : Volu
       ])
 
   pub runs_on : RunsOn plexes owners failed w fs old new
-  runs_on = record { life = lived fs w.life; goes_on = on.0; runs = runs_now; sure = sure_now }
+  runs_on = record {
+    life = lived fs w.life;
+    goes_on = on.0;
+    runs = runs_now;
+    sure = sure_now;
+    exact = run_exact plexes old new was is w run (λ r. with_made r made (histories w r)) goes;
+  }
 
 -- a pass makes no entry
 pub pass_runs : EachCallIsTracked → (plexes : List PlexImage) (old new : VolumeSeen) → IsVolume old → IsVolume new → (w : Volume) (run : RunsAsVolume plexes old w) →

@@ -1,5 +1,5 @@
 -- What a plex lacks once it was copied.
-use Rattle.std.specs.Prelude.{◌≡◌, ℕ, Bool, true, false, if◌then◌else◌}
+use Rattle.std.specs.Prelude.{◌≡◌, ℕ, false}
 use Rattle.vx_mask.specs.Mask.{has}
 use Rattle.vx_core_laws.specs.Exact.{IsExact}
 use Rattle.vx_moments.specs.World.{Track}

@@ -24,3 +24,5 @@ pub mod Calls
 pub mod Recorded
 pub mod Forms
 pub mod Over
+pub mod Exact
+pub mod ExactLaws

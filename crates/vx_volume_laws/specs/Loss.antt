@@ -1,5 +1,5 @@
 -- What a started volume leaves on its disks, when the power goes, or when it is stopped.
-use Rattle.std.specs.Prelude.{◌≡◌, ℕ, ◌<◌, Bool, List, Contains}
+use Rattle.std.specs.Prelude.{◌≡◌, ℕ, Bool, List, Contains}
 use Rattle.vx_base.specs.Blocks.{Contents}
 use Rattle.vx_life.specs.Life.{Life}
 use Rattle.vx_core.specs.Schedule.{Happening, AllFit, IsFresh, run}

@@ -16,6 +16,7 @@ use Rattle.vx_moments.specs.World.{Volume}
 use Rattle.vx_image.specs.Image.{PlexImage}
 use Rattle.vx_volume_laws.specs.Tracks.{HasMap}
 use Rattle.vx_group_images.specs.Tracks.{TrackOwner, has_failed, volume_failed, volume_lived}
+use Rattle.vx_volume_laws.specs.Exact.{IsExactVolume, LogIsWell}
 use Rattle.vx_volume_laws.specs.Running.{IsSureOfOthers, RunsAsVolume}
 use Rattle.vx_volume_laws.specs.Telling.{TellsEntries}
 
@@ -35,12 +36,13 @@ abbrev pub MayComeNext : Caller → Life → Type 0
 MayComeNext who life = AllOf (MayPrecede who.session who.place life.epoch) life.entries
 
 -- The volume of the code now runs as the one of the world whose life has gone on by these entries. Where nothing was sure of
--- plexes that are written to, nothing is.
+-- plexes that are written to, nothing is. Where its log was exact, and no call on it failed, it is.
 pub record RunsOn (plexes : List PlexImage) (owners : Word → TrackOwner) (failed : Word → Bool) (w : Volume) (es : List Entry) (old new : VolumeSeen) : Type 0 where
   pub life : Life
   pub goes_on : GoesOn w.life es life
   pub runs : RunsAsVolume plexes new (volume_lived owners failed es life w)
   pub sure : IsSureOfOthers plexes old w → IsSureOfOthers plexes new (volume_lived owners failed es life w)
+  pub exact : LogIsWell old new → IsExactVolume old → IsExactVolume new
 
 -- ---- calls
 

@@ -1,5 +1,6 @@
 //! Laws of started volumes, each a function whose contract states it.
 
+ghost use Rattle.vx_volume_laws.specs.ExactLaws.{EachCleanLogIsLeft, EachClearingStaysExact, EachCopyStaysExact, EachOpeningIsExact, EachSettlingStaysExact};
 ghost use Rattle.vx_volume_laws.specs.RunLaws.{EachClearingRunsOn, EachCopyRunsOn, EachReadRunsOn, EachSettlingRunsOn, EachWriteRunsOn};
 ghost use Rattle.vx_volume_laws.specs.Leaving.{EachLeavingStands, EachRunningForgets, EachSettlingSettles, EachStopStands};
 ghost use Rattle.vx_volume_laws.specs.Starting.{EachOpeningRuns};
@@ -46,4 +47,14 @@ pub fn each_running_forgets()
 /// Once a pass that settles is done all regions are settled.
 pub fn each_settling_settles()
     ensures { EachSettlingSettles }
+{}
+
+/// The log of a volume is exact as it is opened, and after each pass in which no call on it failed. Once no region is marked dirty, the
+/// image that the volume leaves has no dirty region.
+pub fn each_log_stays_exact()
+    ensures opened { EachOpeningIsExact }
+    ensures settled { EachSettlingStaysExact }
+    ensures cleared { EachClearingStaysExact }
+    ensures copied { EachCopyStaysExact }
+    ensures left { EachCleanLogIsLeft }
 {}

@@ -1,3 +1,3 @@
 mod Clearings
 mod Marks
-mod Passes
+pub mod Passes

@@ -50,7 +50,7 @@ made_volume : (map total : ℕ) (stop : Option CellFault) (old new : Copying) �
 made_volume map total None old new done is = regions_volume map total old new done is
 made_volume map total (Some fault) old new (n, mid, low, done, last) is = region_volume map n (Some fault) mid new last (regions_volume map n old mid done is)
 
-pass_volume : (map : ℕ) (old new : VolumeSeen) (result : Result ℕ IoFault) → CopyEnds map old new result → IsVolume old → IsVolume new
+pub pass_volume : (map : ℕ) (old new : VolumeSeen) (result : Result ℕ IoFault) → CopyEnds map old new result → IsVolume old → IsVolume new
 pass_volume map old new (Ok n) ends is = made_volume map (length old.cells) None (record { volume = old; copied = 0 }) (record { volume = new; copied = n }) ends is
 pass_volume map old new (Err fault) ends is = made_volume map (length old.cells) (io_stop {T = ℕ} (Err fault)) (record { volume = old; copied = 0 }) (record { volume = new; copied = ends.0 }) ends.1 is
 

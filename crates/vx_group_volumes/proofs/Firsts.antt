@@ -36,7 +36,9 @@ use Rattle.vx_lending.specs.Logs.{IsFreshLog, marked_maps}
 use Rattle.vx_volume_laws.specs.Opening.{IsOpened}
 use Rattle.vx_volume_laws.specs.Start.{EachEmptyBegins}
 use Rattle.vx_volume_laws.specs.Contents.{AreSectorsOf, ShowsCopy}
+use Rattle.vx_volume_laws.specs.Exact.{IsExactVolume}
 use Rattle.vx_volume_laws.specs.Opened.{IsFixedOf, IsOpenedBy}
+use Rattle.vx_volume_laws.proofs.ExactLogs.{opening_exact}
 use Rattle.vx_volume_laws.proofs.Held.{in_image}
 use Rattle.vx_volume_laws.proofs.Loaded.{all_tell, run_tells}
 use Rattle.vx_volume_laws.proofs.OpenedImages.{opened_is, same_item, well_formed}
@@ -212,3 +214,9 @@ module _ {P : Type 0} {ghosts : Ghosts P} (c : Config) (good : ℕ) (v : Vol) (n
       (begun_over (image_of c good bytes v) shown.others shown.first plexes)
       tt
       (begun_well (image_of c good bytes v) shown.others shown.first)
+
+  pub fresh_exact : IsExactVolume (volume_seen ghosts.seen running.volume)
+  fresh_exact =
+      let w = volume_first [] (image_of c good bytes v) in
+      opening_exact (begun_as shown.others (image_of c good bytes v).snaps (image_of c good bytes v)) (volume_seen ghosts.seen running.volume) w started.whole
+      (first_over c good bytes v running.form shown.others (volume_seen ghosts.seen running.volume) opened_by shown.told w)

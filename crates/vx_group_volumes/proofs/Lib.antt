@@ -30,3 +30,5 @@ pub mod NearerPlexes
 pub mod NearerCopies
 pub mod NearerImages
 pub mod CopiesRun
+pub mod ExactPasses
+pub mod ExactRests

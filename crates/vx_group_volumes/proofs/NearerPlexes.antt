@@ -1,7 +1,7 @@
 -- Where nothing but sectors of the copies of a log changes on the disks of a volume, its data plexes hold what they did.
 use Rattle.std.proofs.Common.{◌≡◌, ℕ, ◌+◌, ◌<◌, Bool, true, false, Option, Some, None, List, [], length, map, refl, sym, ap, ◌∙◌, subst, arith, inl, inr, ◌∷◌}
 use Rattle.std.specs.Prelude.{◌&&◌, ◌==◌, nat_le, slice_index, slice_index_or}
-use Rattle.std.specs.List.{All, filter, list_all, list_any}
+use Rattle.std.specs.List.{filter, list_all, list_any}
 use Rattle.std.proofs.lemmas.Bool.{and_parts, eqb-true, false≢true}
 use Rattle.std.proofs.lemmas.Bool.Decides.{nat_tests}
 use Rattle.std.proofs.lemmas.List.Elements.{All-contains}

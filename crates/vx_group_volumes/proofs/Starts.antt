@@ -1,5 +1,5 @@
 -- A volume that was started.
-use Rattle.std.proofs.Common.{◌≡◌, ◌∙◌, ℕ, zero, suc, ◌+◌, ◌*◌, ◌/◌, ◌<◌, ◌≤◌, Bool, true, false, List, Option, Some, None, refl, sym, ap, subst, arith}
+use Rattle.std.proofs.Common.{◌≡◌, ◌∙◌, ℕ, zero, suc, ◌+◌, ◌*◌, ◌/◌, ◌<◌, ◌≤◌, Bool, true, false, List, [], Option, Some, None, refl, sym, ap, subst, arith}
 use Rattle.std.specs.Prelude.{◌&&◌, nat_lt, is_some, Contains}
 use Rattle.std.specs.List.{All}
 use Rattle.std.proofs.lemmas.Bool.{and_parts, false≢true, ltb-true}
@@ -33,8 +33,10 @@ use Rattle.vx_volume_form.specs.declared.form.VolumeForm.{VolumeForm}
 use Rattle.vx_lending.specs.Logs.{IsLoadedLog}
 use Rattle.vx_lending.specs.Taken.{log_sectors}
 use Rattle.vx_volume_laws.specs.Contents.{AreSectorsOf, ShowsCopy}
+use Rattle.vx_volume_laws.specs.Exact.{IsExactVolume}
 use Rattle.vx_volume_laws.specs.LoadedLogs.{AreTakenCopies}
 use Rattle.vx_volume_laws.specs.Opened.{IsOpenedBy}
+use Rattle.vx_volume_laws.proofs.ExactLogs.{opening_exact}
 use Rattle.vx_volume_laws.proofs.Loaded.{absent_shows, all_tell, loaded_shows}
 use Rattle.vx_volume_laws.proofs.OpenedImages.{well_formed}
 use Rattle.vx_group_images.specs.Volumes.{volume_read}
@@ -196,3 +198,8 @@ module _ {P : Type 0} {ghosts : Ghosts P} (c : Config) (good : ℕ) (v : Vol) (n
       (record { length_is = refl; region_is = refl; life = refl; began = refl })
       filled
       (well_formed c good bytes v of)
+
+  pub loaded_exact : IsExactVolume (volume_seen ghosts.seen running.volume)
+  loaded_exact =
+      opening_exact (image_of c good bytes v) (volume_seen ghosts.seen running.volume) (volume_read [] (image_of c good bytes v)) started.whole
+      (opened_is_over c good bytes v running.form shown.copy (volume_seen ghosts.seen running.volume) opened_by shown.one shown.told (volume_read [] (image_of c good bytes v)))

@@ -38,7 +38,8 @@ use Rattle.vx_volume.specs.Volume.{VolumeSeen, cell_at, region_at, with_log}
 use Rattle.vx_volume.proofs.Entries.{dead_or}
 use Rattle.vx_volume.proofs.Volumes.{IsGone, copy_job}
 use Rattle.vx_group_start.specs.Copying.{CopiesMap}
-use Rattle.vx_group_volumes.specs.Copies.{AreTight, EachCopyStaysTight, LogIsWell}
+use Rattle.vx_volume_laws.specs.Exact.{LogIsWell}
+use Rattle.vx_group_volumes.specs.Copies.{AreTight, EachCopyStaysTight}
 
 -- ---- one event
 

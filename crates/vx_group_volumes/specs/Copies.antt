@@ -4,13 +4,14 @@ use Rattle.vx_base.specs.Named.{Word}
 use Rattle.vx_mask.specs.Mask.{has}
 use Rattle.vx_core.specs.declared.stage.Phase.TheVariants.{Settled}
 use Rattle.vx_core.specs.declared.stage.Stage.{Stage}
-use Rattle.vx_cell.specs.Region.{LogRose, marks_or}
+use Rattle.vx_cell.specs.Region.{marks_or}
 use Rattle.vx_moments.specs.World.{Volume}
 use Rattle.vx_image.specs.Image.{PlexImage}
 use Rattle.vx_volume.specs.Laws.{AreTold}
 use Rattle.vx_volume.specs.Volume.{IsVolume, VolumeSeen, cell_at}
 use Rattle.vx_group_images.specs.Lives.{volume_copied}
 use Rattle.vx_group_start.specs.Copying.{AreCopied}
+use Rattle.vx_volume_laws.specs.Exact.{LogIsWell}
 use Rattle.vx_volume_laws.specs.Running.{IsSureOfOthers, RunsAsVolume}
 
 -- ---- marks
@@ -31,10 +32,6 @@ EachCopyUnmarks = (mask n : ℕ) (old new : VolumeSeen) → AreCopied {T = ℕ} 
 -- No mark is loose: no copy of the log, where it tells what it holds, may show one that the region has not.
 abbrev pub AreTight : VolumeSeen → Type 0
 AreTight v = (r k : ℕ) → r < length v.cells → (marks_or v.log.told r).loose k ≡ false
-
--- no count of the log has risen
-abbrev pub LogIsWell : VolumeSeen → VolumeSeen → Type 0
-LogIsWell old new = LogRose old.log new.log → ⊥
 
 -- Where meanwhile no call on the log failed, they leave no mark loose if none was.
 abbrev pub EachCopyStaysTight : Type 0

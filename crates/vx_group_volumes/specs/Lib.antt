@@ -10,3 +10,4 @@ pub mod PlexLaws
 pub mod RestLaws
 pub mod CommitLaws
 pub mod LogLaws
+pub mod ExactLaws

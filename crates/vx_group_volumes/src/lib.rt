@@ -4,6 +4,7 @@
 
 ghost use Rattle.vx_group_volumes.specs.CommitLaws.{EachCommitKeepsImages, EachCommitKeepsPublic};
 ghost use Rattle.vx_group_volumes.specs.Copies.{EachCopyMissesNothing, EachCopyStaysTight, EachCopyUnmarks, EachUnmarkedMissesNothing};
+ghost use Rattle.vx_group_volumes.specs.ExactLaws.{EachCopyingStaysExact, EachRestStaysExact, EachStoppedVolumeIsClean, EachWellRestIsClean, FreshStartIsExact, LoadedStartIsExact};
 ghost use Rattle.vx_group_volumes.specs.Laws.{CopiesGoOn, EachLeavingStandsFor, EachRecordedVolumeRuns, EachStartChangesStates, EachStopChangesStates, FreshStartForgets, FreshStartIsTight, FreshStartRuns, LoadedStartForgets, LoadedStartRuns, RestGoesOn, StartFits, StartRuns};
 ghost use Rattle.vx_group_volumes.specs.LogLaws.{EachCopyNarrows, EachDiskGoesByCopies, EachLogChangesOnly, EachLogCountsItsOwn, EachLogHasItsCopy, EachPassedLogHasFailed, EachTakenCopyIsOwn, EachTakenDeviceIsOwn};
 ghost use Rattle.vx_group_volumes.specs.PlexLaws.{DataFailuresAreOwn, EachCutDeviceIsOwn, EachDeviceIsNamed, EachFailedDeviceIsOwn, EachHeldDeviceIsOwn, EachOwnDeviceIsNamed, LogFailuresAreOwn, PlexesFit};
@@ -46,7 +47,7 @@ pub fn each_started_volume_fits<P: Piece + Drop>(
 }
 
 /// Where its log was loaded it runs as the volume of the world that begins over its bytes, if these are sound, of which nothing need
-/// be sure of a plex that is written to.
+/// be sure of a plex that is written to. Its log is exact.
 pub fn each_loaded_start_runs<P: Piece + Drop>(
     old: &Public<P>,
     new: &Public<P>,
@@ -54,6 +55,7 @@ pub fn each_loaded_start_runs<P: Piece + Drop>(
 )
     ensures runs { LoadedStartRuns P.seen old.now new.now running.now }
     ensures forgets { LoadedStartForgets P.seen old.now new.now running.now }
+    ensures exact { LoadedStartIsExact P.seen old.now new.now running.now }
 {
     each_opening_runs();
     each_running_forgets();
@@ -63,7 +65,7 @@ pub fn each_loaded_start_runs<P: Piece + Drop>(
 }
 
 /// Where it was never started it runs as the volume of the world whose first life begins over its bytes, of which nothing need be sure
-/// of a plex that is written to. No mark of its log is loose.
+/// of a plex that is written to. No mark of its log is loose, and its log is exact.
 pub fn each_fresh_start_runs<P: Piece + Drop>(
     old: &Public<P>,
     new: &Public<P>,
@@ -72,6 +74,7 @@ pub fn each_fresh_start_runs<P: Piece + Drop>(
     ensures runs { FreshStartRuns P.seen old.now new.now running.now }
     ensures forgets { FreshStartForgets P.seen old.now new.now running.now }
     ensures tight { FreshStartIsTight P.seen old.now new.now running.now }
+    ensures exact { FreshStartIsExact P.seen old.now new.now running.now }
 {
     each_empty_begins();
     each_opening_runs();
@@ -234,10 +237,19 @@ pub fn each_rest_runs_on()
     each_pass_runs_on();
 }
 
+/// Where no call on its log failed, the log of a volume stays exact through copies and what brings it to rest, and then no region is
+/// marked dirty.
+pub fn each_log_stays_exact()
+    ensures copied { EachCopyingStaysExact }
+    ensures rested { EachRestStaysExact }
+    ensures clean { EachWellRestIsClean }
+{}
+
 /// Once a volume is at rest it may be recorded clean: by the configuration that its stop records its image stands for the volume of the
-/// world, and one list is read from it.
+/// world, and one list is read from it. Where its log is exact, and no region is marked dirty, no copy of the image marks one so.
 pub fn each_stopped_volume_stands<P: Piece + Drop>(running: &Running<P>)
-    ensures { EachStoppedVolumeStands P.seen running.now }
+    ensures stands { EachStoppedVolumeStands P.seen running.now }
+    ensures clean { EachStoppedVolumeIsClean P.seen running.now }
 {
     each_left_volume_stands();
     each_record_changes_states();

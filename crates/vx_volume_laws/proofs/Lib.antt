@@ -39,4 +39,4 @@ pub mod Lasting
 pub mod LeftOpenings
 mod OneCopies
 pub mod ExactLogs
-mod ExactLeft
+pub mod ExactLeft

@@ -25,3 +25,4 @@ pub mod Readings
 pub mod ReadsInHand
 pub mod Refusals
 pub mod Idle
+pub mod Logs

@@ -17,6 +17,8 @@ use Rattle.vx_group_images.specs.Owners.{device_at}
 use Rattle.vx_moments.specs.Leaving.{grouped}
 use Rattle.vx_moments.specs.World.{Member, Volume, Group, OnPlexes}
 use Rattle.vx_volume.specs.Volume.{volume_seen}
+use Rattle.vx_stages.specs.Logs.{LogIsSpared}
+use Rattle.vx_volume_laws.specs.Exact.{IsExactVolume}
 use Rattle.vx_volume_laws.specs.Leaving.{AreNamedIn}
 use Rattle.vx_volume_laws.specs.Running.{IsSureOfOthers, RunsAsVolume}
 use Rattle.vx_lending.specs.declared.public.Running.{Running}
@@ -67,7 +69,8 @@ pub record IsNumbered (numbers : List ℕ) (hs : List DiskSeen) (members : List 
 
 -- The volume of the name runs: the group records it as started, its plexes lie where they lay as it was opened, and it lies on those that it
 -- was opened with. The disks that were good then are the group's, by the numbers of their devices, and so are the good ones that its plexes
--- lie on. Where its bytes were sound as it began, it runs as the one of the world, and nothing is sure of plexes that are written to.
+-- lie on. Where its bytes were sound as it began, it runs as the one of the world, and nothing is sure of plexes that are written to; and
+-- where no device of its log has failed in its life, its log is exact.
 pub record IsRunOf {P : Type 0} {ghosts : Ghosts P} (see : P → Seen) (hs : List DiskSeen) (g : Group) (name : Word) (r : Running P ghosts) (w : Volume) : Type 0 where
   pub of : Vol
   pub named : of.name ≡ name
@@ -85,6 +88,7 @@ pub record IsRunOf {P : Type 0} {ghosts : Ghosts P} (see : P → Seen) (hs : Lis
   pub plexes_then : (bytes : Sectors) → AreNamedIn plexes (image_of placed.runs.opening.config placed.runs.opening.good bytes placed.runs.opening.vol).plexes
   pub runs_as : w.sound ≡ true → RunsAsVolume plexes (volume_seen see r.volume) w
   pub sure : w.sound ≡ true → IsSureOfOthers plexes (volume_seen see r.volume) w
+  pub exact : w.sound ≡ true → LogIsSpared g name w.failed → IsExactVolume (volume_seen see r.volume)
 
 -- no volume of the name runs, neither here nor there; or this one of an imported group does
 abbrev pub IsAtRun : {P : Type 0} {ghosts : Ghosts P} → (P → Seen) → List DiskSeen → Option Group → Word → Option (Running P ghosts) → Option Volume → Type 0

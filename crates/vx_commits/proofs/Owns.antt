@@ -1,6 +1,7 @@
 -- Running volumes of a group through a commit: they run by the configuration that was written, on the same disks.
 use Rattle.std.proofs.Common.{◌≡◌, ◌∙◌, ℕ, Bool, true, false, cond, List, [], ◌∷◌, ◌++◌, Option, Some, None, refl, sym, ap, subst, inl, inr}
 use Rattle.std.specs.Prelude.{Contains, IsSome}
+use Rattle.std.proofs.lemmas.Bool.{and_parts}
 use Rattle.std.specs.BTreeMap.{is_at}
 use Rattle.std.specs.Cmp.Lexicographic.{slice_cmp}
 use Rattle.std.specs.Ordering.{nat_cmp}
@@ -10,7 +11,9 @@ use Rattle.vx_mask.specs.Mask.{has}
 use Rattle.vx_piece.specs.Seen.{Seen}
 use Rattle.vx_copies.specs.Disks.{DiskSeen, good_mask}
 use Rattle.vx_copies.specs.Lists.{AllOf, AnyOf}
+use Rattle.vx_config_parts.specs.declared.plex.Plex.{Plex}
 use Rattle.vx_config_parts.specs.declared.vol.Vol.{Vol}
+use Rattle.vx_config_parts.specs.Objects.{is_log, is_log_plex_of, refers}
 use Rattle.vx_image.specs.Bytes.{Sectors, image_of}
 use Rattle.vx_objects.specs.declared.config.Config.{Config}
 use Rattle.vx_image.specs.Image.{PlexImage, IsFilled, WasStarted}
@@ -32,6 +35,7 @@ use Rattle.vx_group_volumes.specs.Places.{KeepsPlaces, RunsInPlace}
 use Rattle.vx_group_volumes.proofs.Places.{places_go_on}
 use Rattle.vx_house.specs.Runs.{AllInPlace, AreInPlace, AreRuns, IsAtRun, IsInPlace, IsOnDisk, IsRunOf, IsNumbered}
 use Rattle.vx_house.specs.declared.house.Imported.{Imported}
+use Rattle.vx_house.proofs.Logs.{IsLogPlexStill, spared_before}
 use Rattle.vx_house.proofs.AllLaws.{all_each, found_first, found_in}
 
 -- each of these disks is one of those, by its slot and by the name and the number of its device
@@ -158,11 +162,20 @@ module _ {P : Type 0} {ghosts : Ghosts P} (see : P → Seen) (hs ks : List DiskS
     plexes_then = is.plexes_then;
     runs_as = is.runs_as;
     sure = is.sure;
+    exact = is.exact;
   }
 
   -- and by one that keeps it
   module _ (w' : Group) (stays : StaysRecorded w.config w.good is.of w'.config w'.good)
       (devices : (slot : ℕ) (d : Word) → device_at w.members slot ≡ Some d → device_at w'.members slot ≡ Some d) where
+    -- its log plexes are those that it had
+    log_still : (p : Plex) → Contains w.config.plexes p → is_log_plex_of name p ≡ true → IsLogPlexStill w w' name p
+    log_still p there log_is =
+        let parts = and_parts (refers p.vol name) (is_log p.kind) log_is in
+        let own : refers p.vol is.of.name ≡ true = ap (refers p.vol) is.named ∙ parts.0 in
+        let q = stays.plexes p there own in
+        record { plex = p; there = q.there; log_is = log_is; columns = q.lies.columns }
+
     pub run_kept : IsRunOf see ks w' name r run
     unfolding runs_now placed_now
     run_kept = record {
@@ -185,6 +198,7 @@ module _ {P : Type 0} {ghosts : Ghosts P} (see : P → Seen) (hs ks : List DiskS
       plexes_then = is.plexes_then;
       runs_as = is.runs_as;
       sure = is.sure;
+      exact = λ sound spared. is.exact sound (spared_before w w' devices name run.failed log_still spared);
     }
 
 -- whatever was written to the disks of the group, its volumes run as they did

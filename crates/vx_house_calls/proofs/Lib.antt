@@ -5,3 +5,4 @@ pub mod Groups
 pub mod Houses
 pub mod Steps
 pub mod Moments
+pub mod Logs

@@ -27,7 +27,9 @@ use Rattle.vx_moments.specs.World.{World, Device, Group, Lies, OnDevice, OnPlexe
 use Rattle.vx_group_images.specs.Group.{ChangesOnly, IsSectorOf}
 use Rattle.vx_group_images.specs.Owners.{IsDeviceOfVolume, device_at}
 use Rattle.vx_stages.specs.GroupCalls.{CallsOnly, PlexHasFailed}
+use Rattle.vx_stages.specs.Logs.{LogIsSpared}
 use Rattle.vx_volume.specs.Volume.{volume_seen}
+use Rattle.vx_volume_laws.specs.Exact.{IsExactVolume}
 use Rattle.vx_volume_laws.specs.Running.{IsSureOfOthers, RunsAsVolume}
 use Rattle.vx_lending.specs.declared.public.Running.{Running}
 use Rattle.vx_lending.specs.Public.{running_at}
@@ -203,7 +205,8 @@ module _ {P : Type 0} {ghosts : Ghosts P} (see : P → Seen) (shelf : Shelved) (
 
     module _ (later : Volume) (alike : LiesAlike w later)
         (runs_as : later.sound ≡ true → RunsAsVolume run.plexes (volume_seen see is.after.volume) later)
-        (sure : later.sound ≡ true → IsSureOfOthers run.plexes (volume_seen see is.after.volume) later) where
+        (sure : later.sound ≡ true → IsSureOfOthers run.plexes (volume_seen see is.after.volume) later)
+        (exact : later.sound ≡ true → LogIsSpared gm name later.failed → IsExactVolume (volume_seen see is.after.volume)) where
       run_now : IsRunOf see hs gm name is.after later
       unfolding runs_after
       run_now = record {
@@ -223,6 +226,7 @@ module _ {P : Type 0} {ghosts : Ghosts P} (see : P → Seen) (shelf : Shelved) (
         plexes_then = run.plexes_then;
         runs_as = runs_as;
         sure = sure;
+        exact = exact;
       }
 
       abbrev pub after : World
@@ -335,7 +339,7 @@ module _ {P : Type 0} {ghosts : Ghosts P} (see : P → Seen) (shelf : Shelved) (
       volume = w;
       there = there.there;
       run = run;
-      next = λ later alike runs_as sure. (n later alike runs_as sure, next later alike runs_as sure);
+      next = λ later alike runs_as sure exact. (n later alike runs_as sure exact, next later alike runs_as sure exact);
       members = member_there;
       slots = slot_disk;
       own = disk_own;

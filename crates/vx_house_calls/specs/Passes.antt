@@ -24,6 +24,7 @@ use Rattle.vx_moments.specs.World.{Group, Volume}
 use Rattle.vx_group_images.specs.Group.{ChangesOnly}
 use Rattle.vx_group_images.specs.Owners.{IsDeviceOfVolume, device_at}
 use Rattle.vx_volume.specs.Volume.{IsVolume, shape_of, volume_seen}
+use Rattle.vx_volume_laws.specs.Exact.{IsExactVolume}
 use Rattle.vx_volume_laws.specs.Running.{IsSureOfOthers, RunsAsVolume}
 use Rattle.vx_lending.specs.Left.{held_pieces}
 use Rattle.vx_volume_laws.specs.Lying.{LiesIn}
@@ -33,6 +34,7 @@ use Rattle.vx_group_calls.specs.Causes.{AreCutWhereDead}
 use Rattle.vx_group_volumes.specs.Disks.{AreCalled}
 use Rattle.vx_group_volumes.specs.Places.{IsSlotOf, disks_at}
 use Rattle.vx_stages.specs.GroupCalls.{CallsOnly, PlexHasFailed}
+use Rattle.vx_stages.specs.Logs.{LogIsSpared}
 use Rattle.vx_house.specs.Runs.{IsRunOf}
 use Rattle.vx_house.specs.Scene.{Scene, Shelved, HasFailed, FaultsGoOn, counts_of}
 use Rattle.vx_house.specs.View.{View, Keeps, IsGroupWhole, IsMoment, at, member_in, scene}
@@ -114,8 +116,8 @@ pub record SlotIsCut (g : Group) (counts : Counts) (slot : ℕ) : Type 0 where
 abbrev pub IsCutOf : Group → Word → Counts → Type 0
 IsCutOf g name counts = (device : Word) × IsDeviceOfVolume g name device × (counts.cut device ≡ true)
 
--- The volume ran as one of the world, and goes on as each one that lies where that did and that it runs as now. Its pieces are on
--- devices of its plexes, the disks of which are members of the group. Where the count of its pieces on such a device rose, the device
+-- The volume ran as one of the world, and goes on as each one that lies where that did and that it runs as now, if its log is exact where
+-- no device of it has failed. Its pieces are on devices of its plexes, the disks of which are members of the group. Where the count of its pieces on such a device rose, the device
 -- has failed, and each plex on it with it; where one of them is cut, the device is.
 pub record RunsOn {P : Type 0} {ghosts : Ghosts P} (see : P → Seen) (old v : View P ghosts) (hs : List DiskSeen) (name : Word) (before after : Running P ghosts) (m : Moment) : Type 0 where
   pub group : Group
@@ -125,7 +127,8 @@ pub record RunsOn {P : Type 0} {ghosts : Ghosts P} (see : P → Seen) (old v : V
   pub run : IsRunOf see hs group name before volume
   pub next :
       (later : Volume) → LiesAlike volume later → (later.sound ≡ true → RunsAsVolume run.plexes (volume_seen see after.volume) later) →
-      (later.sound ≡ true → IsSureOfOthers run.plexes (volume_seen see after.volume) later) → (n : Moment) × IsNext see v group name later m n
+      (later.sound ≡ true → IsSureOfOthers run.plexes (volume_seen see after.volume) later) →
+      (later.sound ≡ true → LogIsSpared group name later.failed → IsExactVolume (volume_seen see after.volume)) → (n : Moment) × IsNext see v group name later m n
   pub members : (h : DiskSeen) → IsOneOf hs h → Contains group.members (member_in h)
   pub slots : (slot number : ℕ) → IsSlotOf (disks_at run.placed.runs.opening) slot → slice_index run.numbers slot ≡ number → IsSlotOfDisk hs group slot number
   pub own : (h : DiskSeen) → IsOneOf hs h → list_any (is_of h.seen.device) (held_pieces see before.volume) ≡ true → IsDeviceOfVolume group name h.device

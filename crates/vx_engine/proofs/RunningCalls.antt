@@ -7,8 +7,10 @@ use Rattle.vx_pages.specs.declared.local_piece.LocalPiece.{Ghosts}
 use Rattle.vx_base.specs.Counts.{Rose, later_count}
 use Rattle.vx_base.specs.Named.{Word}
 use Rattle.vx_mask.specs.Mask.{has}
+use Rattle.vx_mask.proofs.Tests.{or_from_left, or_from_right}
 use Rattle.vx_life.specs.declared.Part.{Part}
 use Rattle.vx_life.specs.Entry.{Entry}
+use Rattle.vx_life.specs.Life.{Life}
 use Rattle.vx_core.specs.History.{AllOf as Every, MayPrecede}
 use Rattle.vx_piece.specs.Seen.{Seen}
 use Rattle.vx_carve.specs.Together.{HasSome, faults_on}
@@ -32,9 +34,10 @@ use Rattle.vx_moments.specs.Moment.{Counts, Moment, Rests}
 use Rattle.vx_moments.specs.Moment.{HasFailed as FailsAt}
 use Rattle.vx_moments.specs.World.{Group, Volume}
 use Rattle.vx_group_images.specs.Owners.{IsDeviceOfVolume, owner_of, owners_of, devices_on}
-use Rattle.vx_group_images.specs.Tracks.{TrackOwner, has_failed, volume_failed, volume_lived}
+use Rattle.vx_group_images.specs.Tracks.{TrackOwner, has_failed, volume_after, volume_failed, volume_goes, volume_lived}
 use Rattle.vx_group_images.proofs.Tracked.{goes_length, goes_lies, goes_region}
 use Rattle.vx_volume.specs.Volume.{cell_at, volume_seen}
+use Rattle.vx_volume_laws.specs.Exact.{IsExactVolume, LogIsWell}
 use Rattle.vx_volume_laws.specs.RunLaws.{FailuresAreTold, OwnersFit}
 use Rattle.vx_lending.specs.Left.{held_pieces}
 use Rattle.vx_lending.specs.declared.public.Running.{Running}
@@ -52,6 +55,7 @@ use Rattle.vx_group_volumes.proofs.HeldDevices.{plexes_fit}
 use Rattle.vx_group_volumes.proofs.Plexes.{owner_is}
 use Rattle.vx_stages.specs.Calls.{volume_of, start_of, count_of}
 use Rattle.vx_stages.specs.GroupCalls.{BecomesBy, CurrentHaveFailed, EndHasCause, FaultHasCause, IsLastPart, IsServedOnPlexes, LogHasFailed, PlexHasFailed, TellsParts, comes_next, is_known}
+use Rattle.vx_stages.specs.Logs.{LogIsSpared}
 use Rattle.vx_plans.specs.Serving.{CallRuns, ServesOn}
 use Rattle.vx_group_volumes.specs.Places.{disks_at}
 use Rattle.vx_house.specs.Runs.{IsRunOf}
@@ -62,6 +66,7 @@ use Rattle.vx_house.specs.declared.house.House.{House}
 use Rattle.vx_house.specs.declared.house.Imported.{Imported}
 use Rattle.vx_house_calls.specs.Passes.{GoesOnWith, IsCalledIn, IsNext, IsOneOf, RunsOn, with_group}
 use Rattle.vx_house_calls.proofs.Groups.{some}
+use Rattle.vx_house_calls.proofs.Logs.{exact_still}
 use Rattle.vx_house_calls.proofs.Moments.{each_call_on}
 use Rattle.vx_engine.specs.Grouped.{IsNamed, IsServedIn, IsToldAs}
 use Rattle.vx_engine.proofs.CommandEnds.{moment_end}
@@ -97,6 +102,11 @@ in_mapped : {X Y : Type 0} (f : X → Y) (xs : List X) (x : X) → IsIn xs x →
 in_mapped f [] x there = absurd there
 in_mapped f (y ∷ ys) x (inl same) = inl (ap f same)
 in_mapped f (y ∷ ys) x (inr more) = inr (in_mapped f ys x more)
+
+-- entries tell of no failure
+goes_failed : (owners : Word → TrackOwner) (es : List Entry) (v : Volume) → (volume_goes owners es v).failed ≡ v.failed
+goes_failed owners [] v = refl
+goes_failed owners (e ∷ es) v = goes_failed owners es (volume_after owners e v)
 
 -- ---- places
 
@@ -230,6 +240,18 @@ module _ {P : Type 0} {ghosts : Ghosts P} (alike : (p q : P) → is_some (ghosts
     tells_as (served.Fault number parts) is es tells = subst (λ e. TellsParts place call w.region e es) (sym is.2) tells
     tells_as (served.Lost parts) is es tells = subst (λ e. TellsParts place call w.region e es) (sym is) tells
 
+    -- the devices that have failed in its life, with those of the call
+    failed_lived : (es : List Entry) (life : Life) → (volume_lived owners failed es life w).failed ≡ (volume_failed owners failed w).failed
+    failed_lived es life = goes_failed owners es (volume_failed owners failed w)
+
+    -- where no device of the log has failed, the log stays exact
+    exact_lived : w.sound ≡ true → (es : List Entry) (life : Life) → (LogIsWell (volume_seen see r.volume) (volume_seen see later_run.volume) → IsExactVolume (volume_seen see r.volume) → IsExactVolume (volume_seen see later_run.volume)) →
+        LogIsSpared gm vol (volume_lived owners failed es life w).failed → IsExactVolume (volume_seen see later_run.volume)
+    exact_lived sound es life stays spared =
+        exact_still (at shelf h) (at shelf mid) (members see g.base) vol r later_run m on done.runs.stays done.runs.follows all_some (volume_failed owners failed w).failed
+        (λ device up. or_from_left (failed device) (w.failed device) (is_failed device up)) (subst (LogIsSpared gm vol) (failed_lived es life) spared)
+        sound (λ device was. or_from_right (failed device) (w.failed device) was) stays
+
     known_comes : is_known place w ≡ true → (later : Volume) × Comes later
     known_comes known =
         let two = and_parts w.sound (comes_next place w.life) known in
@@ -253,7 +275,8 @@ module _ {P : Type 0} {ghosts : Ghosts P} (alike : (p q : P) → is_some (ghosts
                   length_is = goes_length owners lives.entries (volume_failed owners failed w);
                   region_is = goes_region owners lives.entries (volume_failed owners failed w);
                 })
-                (λ sound. lives.runs.runs) (λ sound. lives.runs.sure (run.sure two.0));
+                (λ sound. lives.runs.runs) (λ sound. lives.runs.sure (run.sure two.0))
+                (λ sound spared. exact_lived two.0 lives.entries lives.runs.life lives.runs.exact spared);
           },
         )
 
@@ -263,7 +286,8 @@ module _ {P : Type 0} {ghosts : Ghosts P} (alike : (p q : P) → is_some (ghosts
           later,
           record {
             becomes = subst (λ b. BecomesBy b place call gm names w m.counts counts end later) (sym unknown) refl;
-            next = on.next later (record { lies = refl; length_is = refl; region_is = refl }) (λ sound. absurd (let no : false ≡ true = sound in cc)) (λ sound. absurd (let no : false ≡ true = sound in cc));
+            next = on.next later (record { lies = refl; length_is = refl; region_is = refl }) (λ sound. absurd (let no : false ≡ true = sound in cc)) (λ sound. absurd (let no : false ≡ true = sound in cc))
+                (λ sound. absurd (let no : false ≡ true = sound in cc));
           },
         )
 

@@ -1,13 +1,15 @@
 -- The moments of a house of whose group a running volume was brought to rest, so far as its devices let it.
 use Rattle.std.proofs.Common.{◌≡◌, ◌∙◌, ℕ, Bool, true, cond, nat_le, List, [], ◌∷◌, map, Option, Some, Result, Err, refl, sym, ap, subst, inl, inr}
-use Rattle.std.specs.Prelude.{is_some}
+use Rattle.std.specs.Prelude.{IfSome, is_some}
+use Rattle.std.specs.List.{All}
 use Rattle.std.proofs.lemmas.Bool.{leb-true, le-leb}
 use Rattle.vx_pages.specs.declared.local_piece.LocalPiece.{Ghosts}
 use Rattle.vx_base.specs.Counts.{Rose, later_count}
 use Rattle.vx_base.specs.Named.{Word}
 use Rattle.vx_base.proofs.NamedLemmas.{bytes_eq_self}
 use Rattle.vx_piece.specs.Seen.{Seen}
-use Rattle.vx_carve.specs.Together.{faults_on}
+use Rattle.vx_mask.proofs.Tests.{or_from_left, or_from_right}
+use Rattle.vx_carve.specs.Together.{HasSome, faults_on}
 use Rattle.vx_cell.specs.declared.fault.Place.{Place}
 use Rattle.vx_copies.specs.Disks.{DiskSeen, disk_seen}
 use Rattle.vx_copies.specs.Lists.{AnyOf}
@@ -27,6 +29,7 @@ use Rattle.vx_group_images.specs.Tracks.{TrackOwner, has_failed, volume_failed}
 use Rattle.vx_volume.specs.declared.fault.IoFault.{IoFault}
 use Rattle.vx_volume.specs.declared.fault.IoFault.TheVariants.{Fault, PowerLost, Range}
 use Rattle.vx_volume.specs.Volume.{volume_seen}
+use Rattle.vx_volume_laws.specs.Exact.{IsExactVolume, LogIsWell}
 use Rattle.vx_volume_laws.specs.RunLaws.{FailuresAreTold, OwnersFit}
 use Rattle.vx_volume_laws.specs.Running.{IsSureOfOthers, RunsAsVolume}
 use Rattle.vx_lending.specs.Left.{held_pieces}
@@ -37,26 +40,30 @@ use Rattle.vx_group_volumes.specs.Devices.{DataHasFailed, HasFailedOn}
 use Rattle.vx_group_volumes.specs.Opened.{opened_plexes}
 use Rattle.vx_group_volumes.specs.Places.{disks_at}
 use Rattle.vx_group_volumes.specs.RestLaws.{EachRestRunsOn, RestHasReason}
+use Rattle.vx_group_volumes.proofs.ExactPasses.{rest_exact}
 use Rattle.vx_group_volumes.proofs.Failures.{data_failures}
 use Rattle.vx_group_volumes.proofs.HeldDevices.{plexes_fit}
 use Rattle.vx_group_volumes.proofs.Plexes.{owner_is}
 use Rattle.vx_stages.specs.GroupCalls.{PlexHasFailed}
+use Rattle.vx_stages.specs.Logs.{LogIsSpared}
 use Rattle.vx_stages.specs.Stopping.{ComesToRest, RestStops, rested_volume}
 use Rattle.vx_stages.specs.Touching.{PassHasCause}
 use Rattle.vx_house.specs.Runs.{IsAtRun, IsRunOf}
 use Rattle.vx_house.specs.Scene.{Shelved, IsBlamed, counts_of}
 use Rattle.vx_house.specs.Scene.{HasFailed as SceneFailed}
-use Rattle.vx_house.specs.View.{IsMoment, Keeps, at, member_in, scene}
+use Rattle.vx_house.specs.View.{IsGroupKept, IsMoment, Keeps, at, member_in, scene}
 use Rattle.vx_house.specs.declared.house.House.{House}
 use Rattle.vx_house.specs.declared.house.Imported.{Imported}
 use Rattle.vx_house.specs.declared.stop.Stop.TheVariants as stops
 use Rattle.vx_house_calls.specs.Passes.{GoesOnWith, IsNext, IsOneOf, RunsOn, with_group}
+use Rattle.vx_house_calls.proofs.Logs.{exact_still, log_well}
 use Rattle.vx_house_calls.proofs.Moments.{each_call_on, run_there}
 use Rattle.vx_stage_volumes.specs.Resting.{IsDiskOn, IsFaultTold, RestsIn}
-use Rattle.vx_stage_volumes.proofs.Rested.{rest_called, rest_goes, rest_has_reason}
+use Rattle.vx_stage_volumes.proofs.Rested.{rest_called, rest_goes, rest_has_reason, rest_some}
 
--- The moment at which the volume has come to rest, so far as its devices let it, and the volume of the world that runs then.
-pub record IsRestedAt {P : Type 0} {ghosts : Ghosts P} (see : P → Seen) (shelf : Shelved) (h : House P ghosts) (hs : List DiskSeen) (name : Word) (after : Running P ghosts) (m : Moment) : Type 0 where
+-- The moment at which the volume has come to rest, so far as its devices let it, and the volume of the world that runs then. Where no
+-- device of its log has failed in its life, no count of the log rose.
+pub record IsRestedAt {P : Type 0} {ghosts : Ghosts P} (see : P → Seen) (shelf : Shelved) (h : House P ghosts) (hs : List DiskSeen) (name : Word) (before after : Running P ghosts) (m : Moment) : Type 0 where
   pub then : Moment
   pub is : IsMoment see (at shelf h) then
   pub later : AreLater m.counts then.counts
@@ -64,6 +71,7 @@ pub record IsRestedAt {P : Type 0} {ghosts : Ghosts P} (see : P → Seen) (shelf
   pub group : then.world.group ≡ Some rest.group
   pub there : then.world.volumes name ≡ Some (rested_volume rest)
   pub run : IsRunOf see hs rest.group name after (rested_volume rest)
+  pub well : LogIsSpared rest.group name (rested_volume rest).failed → LogIsWell (volume_seen see before.volume) (volume_seen see after.volume)
 
 some_one : {X : Type 0} (x y : X) → Some x ≡ Some y → x ≡ y
 some_one x y e = cc
@@ -154,8 +162,27 @@ module _ {P : Type 0} {ghosts : Ghosts P} (alike : (p q : P) → is_some (ghosts
     runs_on : w.sound ≡ true → RunsAsVolume run.plexes (volume_seen see after.volume) later × (IsSureOfOthers run.plexes (volume_seen see r.volume) w → IsSureOfOthers run.plexes (volume_seen see after.volume) later)
     runs_on sound = law (volume_seen see r.volume) (volume_seen see after.volume) result rests.runs.rests run.placed.runs.whole rests.runs.whole run.plexes w (run.runs_as sound) owners failed fit are_told
 
+    -- ---- its log
+
+    some_pieces : All HasSome held
+    some_pieces = rest_some alike g now name result rests (subst (λ o. IfSome o (IsGroupKept see)) has_group keeps.house.group).whole
+
+    told_later : (device : Word) → FailsAt m.counts counts device → later.failed device ≡ true
+    told_later device up = or_from_left (failed device) (w.failed device) (is_failed device up)
+
+    well : LogIsSpared gm name later.failed → LogIsWell (volume_seen see r.volume) (volume_seen see after.volume)
+    well spared = log_well (at shelf h) (at shelf mid) hs name r after m on (rest_goes alike g now name result rests).together.stays rests.runs.follows some_pieces later.failed told_later spared
+
+    exact : w.sound ≡ true → LogIsSpared gm name later.failed → IsExactVolume (volume_seen see after.volume)
+    exact sound spared =
+        exact_still (at shelf h) (at shelf mid) hs name r after m on (rest_goes alike g now name result rests).together.stays rests.runs.follows some_pieces later.failed told_later spared
+        sound (λ device was. or_from_right (failed device) (w.failed device) was)
+        (rest_exact (volume_seen see r.volume) (volume_seen see after.volume) result rests.runs.rests run.placed.runs.whole rests.runs.whole run.plexes w (run.runs_as sound))
+
+    -- ---- the moment
+
     next_there : (n : Moment) × IsNext see (at shelf mid) gm name later m n
-    next_there = on.next later (record { lies = refl; length_is = refl; region_is = refl }) (λ sound. (runs_on sound).0) (λ sound. (runs_on sound).1 (run.sure sound))
+    next_there = on.next later (record { lies = refl; length_is = refl; region_is = refl }) (λ sound. (runs_on sound).0) (λ sound. (runs_on sound).1 (run.sure sound)) exact
 
     abbrev n : Moment
     n = next_there.0
@@ -192,10 +219,10 @@ module _ {P : Type 0} {ghosts : Ghosts P} (alike : (p q : P) → is_some (ghosts
         let there = run_there see hs gm name after (n.world.volumes name) (subst (λ b. IsAtRun see (members see b) (Some gm) name (Some after) (grouped (n.world.volumes name))) same_base by_run) in
         subst (IsRunOf see hs gm name after) (some_one there.volume later (sym there.there ∙ volume_now)) there.run
 
-    abbrev at_rest : IsRestedAt see shelf mid hs name after m
-    at_rest = record { then = n; is = next.is; later = next.later; rest = comes; group = group_now; there = volume_now; run = run_now }
+    abbrev at_rest : IsRestedAt see shelf mid hs name r after m
+    at_rest = record { then = n; is = next.is; later = next.later; rest = comes; group = group_now; there = volume_now; run = run_now; well = well }
 
-    pub rested_at : IsRestedAt see shelf mid hs name after m
+    pub rested_at : IsRestedAt see shelf mid hs name r after m
     rested_at = at_rest
 
     -- ---- why it was not brought to rest
@@ -232,7 +259,7 @@ module _ {P : Type 0} {ghosts : Ghosts P} (alike : (p q : P) → is_some (ghosts
           ended_one a b e = cc
       cause_by Range why told = absurd why
 
-      pub rest_stops : (r : IsRestedAt see shelf mid hs name after m) × RestStops name m end r.then
+      pub rest_stops : (r : IsRestedAt see shelf mid hs name r after m) × RestStops name m end r.then
       rest_stops = (at_rest, record { rest = comes; cause = subst (λ c. PassHasCause gm name m.counts c end) (sym next.counts) (cause_by fault reason told) })
 
   -- a fault is told of a device that has failed

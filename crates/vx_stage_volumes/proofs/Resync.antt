@@ -1,5 +1,5 @@
 -- The moments of a house of whose group a running volume was copied to, so far as its devices let it.
-use Rattle.std.proofs.Common.{◌≡◌, ◌∙◌, ◌⊎◌, ℕ, ◌-◌, ◌^◌, ◌<◌, ◌==◌, ◌&&◌, ◌||◌, min, Bool, true, false, not, cond, nat_le, List, [], ◌∷◌, map, Option, Some, None, Result, Ok, Err, refl, sym, ap, subst, inl, inr, arith}
+use Rattle.std.proofs.Common.{◌≡◌, ◌∙◌, ◌⊎◌, ℕ, ◌-◌, ◌<◌, ◌==◌, ◌&&◌, ◌||◌, Bool, true, false, not, cond, nat_le, List, [], ◌∷◌, map, Some, Result, Ok, Err, refl, sym, ap, subst, inl, inr, arith}
 use Rattle.std.specs.Prelude.{IfSome, is_some, if◌then◌else◌}
 use Rattle.std.specs.List.{All, list_any}
 use Rattle.std.specs.Str.{bytes_eq}
@@ -8,11 +8,9 @@ use Rattle.vx_pages.specs.declared.local_piece.LocalPiece.{Ghosts}
 use Rattle.vx_base.specs.Counts.{Rose, later_count}
 use Rattle.vx_base.specs.Named.{Word}
 use Rattle.vx_mask.specs.Mask.{has}
-use Rattle.vx_mask.proofs.Tests.{true_or_false}
+use Rattle.vx_mask.proofs.Tests.{or_from_left, or_from_right}
 use Rattle.vx_piece.specs.Seen.{Seen}
 use Rattle.vx_carve.specs.Together.{HasSome, faults_on}
-use Rattle.vx_cell.specs.declared.fault.CellFault.{CellFault}
-use Rattle.vx_cell.specs.Region.{LogRose}
 use Rattle.vx_copies.specs.Disks.{DiskSeen, disk_seen}
 use Rattle.vx_copies.specs.Lists.{AnyOf}
 use Rattle.vx_copies.specs.declared.disk.Disk.{Disk}
@@ -35,25 +33,17 @@ use Rattle.vx_group_images.specs.Owners.{IsDeviceOfVolume, devices_on, owner_of,
 use Rattle.vx_group_images.specs.Tracks.{TrackOwner, has_failed, volume_failed, was_unsettled}
 use Rattle.vx_volume.specs.declared.fault.IoFault.{IoFault}
 use Rattle.vx_volume.specs.declared.fault.IoFault.TheVariants.{Fault, PowerLost, Range}
-use Rattle.vx_volume.specs.Calls.{io_stop}
-use Rattle.vx_volume.specs.Loop.{AreMade}
-use Rattle.vx_volume.specs.Volume.{VolumeSeen, log_of, volume_seen}
+use Rattle.vx_volume.specs.Volume.{VolumeSeen, volume_seen}
 use Rattle.vx_volume_laws.specs.Lying.{LiesIn}
 use Rattle.vx_volume_laws.specs.RunLaws.{EachCopyRunsOn, FailuresAreTold, OwnersFit}
 use Rattle.vx_volume_laws.specs.Running.{IsSureOfOthers, RunsAsVolume}
-use Rattle.vx_lending.specs.Left.{held_pieces, region_plexes}
-use Rattle.vx_lending.specs.Logs.{log_pieces}
+use Rattle.vx_lending.specs.Left.{held_pieces}
 use Rattle.vx_lending.specs.declared.public.Running.{Running}
-use Rattle.vx_volume_pieces.specs.Pieces.{all_pieces}
-use Rattle.vx_group_calls.specs.Causes.{LogPiecesRose}
 use Rattle.vx_group_calls.specs.Ending.{device_of}
-use Rattle.vx_group_calls.proofs.Failures.{copying_gone}
-use Rattle.vx_group_calls.proofs.HeldPieces.{SumRose, cells_stay}
-use Rattle.vx_group_calls.proofs.Keeping.{HasGone, done_gone, gone_same, gone_then}
-use Rattle.vx_group_calls.proofs.LogFaults.{beside_then, log_rose}
 use Rattle.vx_group_calls.proofs.Sources.{tell_still}
-use Rattle.vx_group_start.specs.Copying.{AreCopied, CopiesMap}
-use Rattle.vx_group_volumes.specs.Copies.{AreOnIn, AreTight, LogIsWell}
+use Rattle.vx_group_start.specs.Copying.{AreCopied}
+use Rattle.vx_volume_laws.specs.Exact.{IsExactVolume, LogIsWell}
+use Rattle.vx_group_volumes.specs.Copies.{AreOnIn, AreTight}
 use Rattle.vx_group_volumes.specs.Devices.{DataHasFailed, HasFailedOn}
 use Rattle.vx_group_volumes.specs.Devices.{LogHasFailed as LogFailedOn}
 use Rattle.vx_group_volumes.specs.Laws.{GoesOn}
@@ -62,12 +52,14 @@ use Rattle.vx_group_volumes.specs.Places.{disks_at}
 use Rattle.vx_group_volumes.specs.RestLaws.{RestHasReason}
 use Rattle.vx_group_volumes.proofs.Copied.{copy_misses_nothing}
 use Rattle.vx_group_volumes.proofs.CopiesRun.{RunsAfter, copies_run_on}
+use Rattle.vx_group_volumes.proofs.ExactPasses.{copying_exact}
 use Rattle.vx_group_volumes.proofs.Failures.{data_failures, log_failures}
 use Rattle.vx_group_volumes.proofs.HeldDevices.{plexes_fit}
 use Rattle.vx_group_volumes.proofs.Passes.{copies_go_on}
 use Rattle.vx_group_volumes.proofs.Plexes.{opened_plex, owner_is, plex_now}
 use Rattle.vx_group_volumes.proofs.Reasons.{copy_reason}
 use Rattle.vx_stages.specs.GroupCalls.{LogHasFailed, PlexHasFailed}
+use Rattle.vx_stages.specs.Logs.{LogIsSpared}
 use Rattle.vx_stages.specs.Starting.{BecomesBy, CopiesTo, CopyEnds, IsCopied, is_copied, is_copied_plex, is_lowest, plexes_started, regions_copied}
 use Rattle.vx_stages.specs.Touching.{IsCutOff, VolumeGoes}
 use Rattle.vx_house.specs.Runs.{IsRunOf}
@@ -79,6 +71,7 @@ use Rattle.vx_house.specs.declared.stop.Stop.{Stop}
 use Rattle.vx_house.specs.declared.stop.Stop.TheVariants as stops
 use Rattle.vx_house_calls.specs.Passes.{GoesOnWith, IsCalledIn, IsNext, IsOneOf, RunsOn, with_group}
 use Rattle.vx_house_calls.proofs.Groups.{some}
+use Rattle.vx_house_calls.proofs.Logs.{exact_still, log_rises}
 use Rattle.vx_house_calls.proofs.Moments.{each_call_on}
 use Rattle.vx_stage_volumes.specs.Naming.{copied, fault_of, names_at}
 use Rattle.vx_stage_volumes.specs.Recording.{IsResynchronised, maps_copied}
@@ -116,25 +109,6 @@ pub record IsToCopy {P : Type 0} {ghosts : Ghosts P} (mask : ℕ) (r : Running P
   pub low : map_or_zero q.map < 64
   pub in_mask : has mask (map_or_zero q.map) ≡ true
   pub on : has r.form.shape.on (map_or_zero q.map) ≡ true
-
--- ---- copies as a whole
-
-abbrev itself : VolumeSeen → VolumeSeen
-itself v = v
-
-module _ (mask : ℕ) where
-  map_gone : (n : ℕ) (stop : Option CellFault) (old new : VolumeSeen) → CopiesMap mask n stop old new → HasGone old new
-  map_gone n stop old new copies = elim (true_or_false (has mask n)) [
-    | inl there ↦ let pass = copies.pass there in copying_gone n old new pass.result pass.ends
-    | inr away ↦ subst (HasGone old) (sym (copies.none away).1) (gone_same old)
-  ]
-
-  maps_gone : (total : ℕ) (stop : Option CellFault) (old new : VolumeSeen) → AreMade (CopiesMap mask) total stop old new → HasGone old new
-  maps_gone total None old new done = done_gone itself (CopiesMap mask) map_gone total old new done
-  maps_gone total (Some fault) old new (n, mid, low, done, last) = gone_then old mid new (done_gone itself (CopiesMap mask) map_gone n old mid done) (map_gone n (Some fault) mid new last)
-
-clipped : (a b : ℕ) → SumRose a b → Rose (min a (2 ^ 64 - 1)) (min b (2 ^ 64 - 1))
-clipped a b rose = omega (arith, rose)
 
 -- no element passes
 none_pass : {X : Type 0} (test : X → Bool) → ((x : X) → test x ≡ false) → (xs : List X) → list_any test xs ≡ false
@@ -271,18 +245,6 @@ module _ {P : Type 0} {ghosts : Ghosts P} (alike : (p q : P) → is_some (ghosts
   pub blamed : IsBlamed ended.0 (scene see (at shelf h)) (scene see (at shelf mid))
   blamed = blamed_by is.result reason ended.0 ended.2
 
-  -- a count of the log that rose is one of a device among its pieces
-  log_rises : LogRose was.log becomes.log → LogPiecesRose see r.volume after.volume
-  log_rises (copy, device, rose) =
-      let gone = maps_gone mask is.among.copied.maps (io_stop is.result) was becomes is.among.copied.made in
-      let sum = log_rose (log_of r.volume) (log_of after.volume) is.among.follows copy device rose in
-      record {
-        device = device;
-        log = clipped _ _ sum;
-        held = clipped _ _ (beside_then device (all_pieces (region_plexes was.cells)) (all_pieces (region_plexes becomes.cells)) (log_pieces see (log_of r.volume)) (log_pieces see (log_of after.volume))
-            (cells_stay was.cells becomes.cells gone.kept.count gone.kept.plexes) sum);
-      }
-
   -- ---- the moment
 
   -- v is the volume of the group before it was started, and names are the plexes that it lies on since then
@@ -361,7 +323,7 @@ module _ {P : Type 0} {ghosts : Ghosts P} (alike : (p q : P) → is_some (ghosts
     unfolding log_plex_failed
     log_is_well e rose =
         let f = subst (λ n. LogFailedOn on.group.config n (disks_at run.placed.runs.opening) run.numbers held held') of_named
-        (log_failures r after.volume on.group.config on.group.good run.numbers run.of run.placed some_pieces is.among.follows (log_rises rose)) in
+        (log_failures r after.volume on.group.config on.group.good run.numbers run.of run.placed some_pieces is.among.follows (log_rises r.volume after.volume goes.together.stays is.among.follows rose)) in
         let up = plex_fails f.plex f.failed in
         let one = in_any failed (devices_on on.group f.plex) up.0 (is_in (devices_on on.group f.plex) up.0 up.1) (is_failed up.0 up.2) in
         let yes = in_any log_plex_failed on.group.config.plexes f.plex (is_in on.group.config.plexes f.plex f.there) (and_from _ _ f.log_is one) in
@@ -374,6 +336,15 @@ module _ {P : Type 0} {ghosts : Ghosts P} (alike : (p q : P) → is_some (ghosts
       which : Word → Bool
       true_of : (device : Word) → which device ≡ true → FailsAt m.counts counts device
       runs : RunsAfter run.plexes was on.volume becomes (volume_failed owners which on.volume)
+      exact : LogIsSpared on.group name (volume_failed owners which on.volume).failed → IsExactVolume becomes
+
+    -- where no device of the log has failed, the log stays exact
+    exact_copied : on.volume.sound ≡ true → LogIsSpared on.group name (volume_failed owners failed on.volume).failed → IsExactVolume becomes
+    exact_copied sound spared =
+        exact_still (at shelf h) (at shelf mid) hs name r after m on goes.together.stays is.among.follows some_pieces (volume_failed owners failed on.volume).failed
+        (λ device up. or_from_left (failed device) (on.volume.failed device) (is_failed device up)) spared
+        sound (λ device was_failed. or_from_right (failed device) (on.volume.failed device) was_failed)
+        (copying_exact mask was becomes is.result is.among.copied run.placed.runs.whole is.among.whole run.plexes on.volume (run.runs_as sound))
 
     base : on.volume.sound ≡ true → IsBase
     base sound = by (copies_run_on law mask was becomes run.placed.runs.whole run.plexes on.volume (run.runs_as sound) owners failed fit are_told is.result is.among.copied)
@@ -384,8 +355,9 @@ module _ {P : Type 0} {ghosts : Ghosts P} (alike : (p q : P) → is_some (ghosts
           true_of = λ d e. absurd (let none : false ≡ true = e in cc);
           runs = subst (RunsAfter run.plexes was on.volume becomes) (sym (none_failed owners on.volume))
               (subst (λ (y : VolumeSeen). RunsAsVolume run.plexes y on.volume) (sym same) (run.runs_as sound), λ sure. subst (λ (y : VolumeSeen). IsSureOfOthers run.plexes y on.volume) (sym same) sure);
+          exact = λ spared. subst IsExactVolume (sym same) (run.exact sound spared);
         }
-        by (inr runs) = record { which = failed; true_of = have_failed; runs = runs }
+        by (inr runs) = record { which = failed; true_of = have_failed; runs = runs; exact = exact_copied sound }
 
     -- the plexes that were copied to have maps of the mask, and are on
     on_in : AreOnIn mask becomes run.plexes (is_copied before v)
@@ -418,7 +390,8 @@ module _ {P : Type 0} {ghosts : Ghosts P} (alike : (p q : P) → is_some (ghosts
       which = λ d. false;
       true_of = λ d e. absurd (let none : false ≡ true = e in cc);
       makes = subst (λ b. BecomesBy b before on.group v (λ d. false) m.counts counts end on.volume on.volume) (sym unknown) refl;
-      next = on.next on.volume (record { lies = refl; length_is = refl; region_is = refl }) (λ sound. absurd (let none : true ≡ false = sym sound ∙ unknown in cc)) (λ sound. absurd (let none : true ≡ false = sym sound ∙ unknown in cc));
+      next = on.next on.volume (record { lies = refl; length_is = refl; region_is = refl }) (λ sound. absurd (let none : true ≡ false = sym sound ∙ unknown in cc)) (λ sound. absurd (let none : true ≡ false = sym sound ∙ unknown in cc))
+          (λ sound. absurd (let none : true ≡ false = sym sound ∙ unknown in cc));
     }
 
     module _ (sound : on.volume.sound ≡ true) where
@@ -432,7 +405,7 @@ module _ {P : Type 0} {ghosts : Ghosts P} (alike : (p q : P) → is_some (ghosts
         which = b.which;
         true_of = b.true_of;
         makes = subst (λ x. BecomesBy x before on.group v b.which m.counts counts end on.volume (volume_failed owners b.which on.volume)) (sym sound) makes;
-        next = on.next (volume_failed owners b.which on.volume) (record { lies = refl; length_is = refl; region_is = refl }) (λ s. b.runs.0) (λ s. b.runs.1 (run.sure sound));
+        next = on.next (volume_failed owners b.which on.volume) (record { lies = refl; length_is = refl; region_is = refl }) (λ s. b.runs.0) (λ s. b.runs.1 (run.sure sound)) (λ s. b.exact);
       }
 
       done_comes : (n : ℕ) → is.result ≡ Ok n → Comes (ends.Done (Some n) [] [])
@@ -452,7 +425,7 @@ module _ {P : Type 0} {ghosts : Ghosts P} (alike : (p q : P) → is_some (ghosts
                 which = b.which;
                 true_of = b.true_of;
                 makes = subst (λ x. BecomesBy x before on.group v b.which m.counts counts (ends.Done (Some n) [] []) on.volume (volume_copied (is_copied before v) (volume_failed owners b.which on.volume))) (sym sound) (inl refl);
-                next = on.next (volume_copied (is_copied before v) (volume_failed owners b.which on.volume)) (record { lies = refl; length_is = refl; region_is = refl }) (λ s. like.runs) (λ s. like.sure (b.runs.1 (run.sure sound)));
+                next = on.next (volume_copied (is_copied before v) (volume_failed owners b.which on.volume)) (record { lies = refl; length_is = refl; region_is = refl }) (λ s. like.runs) (λ s. like.sure (b.runs.1 (run.sure sound))) (λ s. b.exact);
               }
 
       known_comes : (result : Result ℕ IoFault) → is.result ≡ result → (end : End) → IsToldAs result end → Comes end

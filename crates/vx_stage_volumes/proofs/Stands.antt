@@ -1,5 +1,5 @@
 -- The bytes of a volume that was stopped stand for it, by the configuration that was written.
-use Rattle.std.proofs.Common.{◌≡◌, ◌∙◌, ℕ, ◌+◌, ◌==◌, Bool, true, false, cond, List, [], ◌∷◌, Option, Some, refl, sym, ap, subst, inl, inr}
+use Rattle.std.proofs.Common.{◌≡◌, ◌∙◌, ℕ, ◌+◌, ◌<◌, ◌==◌, Bool, true, false, cond, List, [], ◌∷◌, Option, Some, refl, sym, ap, subst, inl, inr}
 use Rattle.std.specs.Prelude.{Contains, slice_index}
 use Rattle.std.specs.List.{flat_map}
 use Rattle.vx_pages.specs.declared.local_piece.LocalPiece.{Ghosts}
@@ -10,7 +10,7 @@ use Rattle.vx_piece.specs.Seen.{Seen}
 use Rattle.vx_config_parts.specs.declared.plex.Plex.{Plex}
 use Rattle.vx_config_parts.specs.declared.state.VolState.TheVariants as vol
 use Rattle.vx_config_parts.specs.declared.vol.Vol.{Vol}
-use Rattle.vx_config_parts.specs.Objects.{refers}
+use Rattle.vx_config_parts.specs.Objects.{is_log_plex_of, refers}
 use Rattle.vx_copies.specs.Disks.{DiskSeen}
 use Rattle.vx_copies.specs.Lists.{AllOf, AnyOf}
 use Rattle.vx_layout.specs.declared.place.Place.{Place}
@@ -19,26 +19,30 @@ use Rattle.vx_objects.specs.declared.config.Config.{Config}
 use Rattle.vx_objects.specs.Applied.{IsEdited}
 use Rattle.vx_plexes.specs.Lies.{columns_from, columns_of}
 use Rattle.vx_image.specs.Bytes.{Sectors, image_of}
+use Rattle.vx_image.specs.Image.{regions_of}
 use Rattle.vx_image.specs.Own.{IsOfVolume, SameInside}
-use Rattle.vx_image.specs.Meaning.{ReadsOneList}
+use Rattle.vx_image.specs.Meaning.{ReadsOneList, dirty_read}
 use Rattle.vx_image.proofs.Members.{contains, is_in}
 use Rattle.vx_image.proofs.Own.{image_own}
 use Rattle.vx_volume_laws.specs.Contents.{AreSectorsOf}
+use Rattle.vx_volume_laws.specs.Exact.{IsExactVolume}
 use Rattle.vx_volume_laws.specs.Keeping.{ChangesStates, IsRestated}
-use Rattle.vx_volume_laws.proofs.Plexes.{zip_right}
+use Rattle.vx_volume_laws.proofs.Plexes.{zip_left, zip_right}
 use Rattle.vx_volume_laws.proofs.Restated.{columns_same}
 use Rattle.vx_state_edits.specs.Edits.{stop_edits}
 use Rattle.vx_group_images.specs.Group.{public_of, sectors_of}
 use Rattle.vx_group_images.specs.Owners.{device_at}
 use Rattle.vx_group_images.specs.Volumes.{StandsForVolume}
-use Rattle.vx_group_stop.specs.Laws.{AreSettled}
+use Rattle.vx_group_stop.specs.Laws.{AreClean, AreSettled}
 use Rattle.vx_group_volumes.specs.Laws.{EachStopChangesStates}
-use Rattle.vx_group_volumes.proofs.Stands.{stopped_stands}
+use Rattle.vx_group_volumes.proofs.Stands.{stopped_clean, stopped_stands}
 use Rattle.vx_moments.specs.World.{Device, Group, Member, Volume}
 use Rattle.vx_lending.specs.declared.public.Running.{Running}
 use Rattle.vx_volume.specs.Volume.{volume_seen}
 use Rattle.vx_volume_laws.specs.Leaving.{EachStopStands}
+use Rattle.vx_stages.specs.Logs.{LogIsSpared}
 use Rattle.vx_house.specs.Runs.{IsRunOf}
+use Rattle.vx_house.proofs.Logs.{IsLogPlexStill, spared_before}
 use Rattle.vx_stage_volumes.proofs.Held.{HoldsAlike}
 
 -- the sectors of a slot are those of its member's device
@@ -107,3 +111,31 @@ module _ {P : Type 0} {ghosts : Ghosts P} (see : P → Seen) (law : EachStopStan
 
     pub stands_clean : StandsForVolume (image_of c' good' (sectors_of devices g.members) clean) w × (list : Contents) × ReadsOneList (image_of c' good' (sectors_of devices g.members) clean) w.life.candidates list
     stands_clean = subst (λ i. StandsForVolume i w × (list : Contents) × ReadsOneList i w.life.candidates list) (sym (image_own c' good' clean meant (sectors_of devices g.members) same_inside)) stands_by
+
+    module _ (unmarked : AreClean (volume_seen see r.volume)) (exact : IsExactVolume (volume_seen see r.volume)) where
+      clear_by : (i : ℕ) → i < regions_of (image_of c' good' meant clean) → dirty_read (image_of c' good' meant clean) i ≡ false
+      clear_by = stopped_clean see r states g.config g.good run.numbers run.of run.placed.runs settled unmarked exact marks c' edited good' fewer run.plexes w (run.runs_as sound) run.plexes_of
+          alike.held alike.hold meant meant_good
+
+      -- where no region is marked dirty, and the log is exact, no region of the image is dirty
+      pub clear_clean : (i : ℕ) → i < regions_of (image_of c' good' (sectors_of devices g.members) clean) → dirty_read (image_of c' good' (sectors_of devices g.members) clean) i ≡ false
+      clear_clean = subst (λ image. (i : ℕ) → i < regions_of image → dirty_read image i ≡ false) (sym (image_own c' good' clean meant (sectors_of devices g.members) same_inside)) clear_by
+
+  -- ---- its log
+
+  -- by the configuration that was written, on the same members, its log plexes are those that they were
+  pub spared_then : (group : Group) → group.config ≡ c' → group.members ≡ g.members → (failed : Word → Bool) → LogIsSpared group name failed → LogIsSpared g name failed
+  spared_then group config_is members_are failed =
+      spared_before g group (λ slot d at. ap (λ ms. device_at ms slot) members_are ∙ at) name failed (λ p there log_is. still p there log_is)
+    where
+      still : (p : Plex) → Contains g.config.plexes p → is_log_plex_of name p ≡ true → IsLogPlexStill g group name p
+      still p there log_is =
+          let q = zip_left (IsRestated run.of.name false) g.config.plexes c'.plexes changes.plexes p (is_in g.config.plexes p there) in
+          let same = q.2.same in
+          let columns : columns_of c' q.0 ≡ columns_of g.config p = ap (λ (x : Plex). columns_from x.ncol c' x.name 0) same ∙ columns_same g.config c' changes.disks changes.subdisks p.ncol p.name 0 in
+          record {
+            plex = q.0;
+            there = subst (λ (c : Config). Contains c.plexes q.0) (sym config_is) (contains c'.plexes q.0 q.1);
+            log_is = ap (is_log_plex_of name) same ∙ log_is;
+            columns = subst (λ (c : Config). columns_of c q.0 ≡ columns_of g.config p) (sym config_is) columns;
+          }

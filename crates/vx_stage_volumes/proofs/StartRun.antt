@@ -34,6 +34,7 @@ use Rattle.vx_volume_laws.specs.Contents.{AreSectorsOf}
 use Rattle.vx_volume_laws.specs.Keeping.{ChangesStates, KeepsVolume}
 use Rattle.vx_volume_laws.specs.Leaving.{EachRunningForgets}
 use Rattle.vx_volume_laws.specs.RunLaws.{OwnersFit}
+use Rattle.vx_volume_laws.specs.Exact.{IsExactVolume}
 use Rattle.vx_volume_laws.specs.Running.{IsSureOfOthers, RunsAsVolume}
 use Rattle.vx_volume_laws.specs.Start.{EachEmptyBegins}
 use Rattle.vx_volume_laws.specs.Starting.{EachOpeningRuns}
@@ -48,11 +49,11 @@ use Rattle.vx_group_start.specs.Started.{IsStarted}
 use Rattle.vx_group_volumes.specs.Opened.{opened_plexes}
 use Rattle.vx_group_volumes.specs.Places.{IsSlotOf, RunsInPlace}
 use Rattle.vx_group_volumes.specs.Runs.{Opening, RunsIn}
-use Rattle.vx_group_volumes.proofs.Firsts.{fresh_runs}
+use Rattle.vx_group_volumes.proofs.Firsts.{fresh_exact, fresh_runs}
 use Rattle.vx_group_volumes.proofs.Owners.{owners_fit}
 use Rattle.vx_group_volumes.proofs.Places.{restated_keep}
 use Rattle.vx_group_volumes.proofs.Plexes.{among_held, held_among, owner_is}
-use Rattle.vx_group_volumes.proofs.Starts.{loaded_runs, started_runs}
+use Rattle.vx_group_volumes.proofs.Starts.{loaded_exact, loaded_runs, started_runs}
 use Rattle.vx_stages.specs.Starting.{may_start, plexes_started, volume_started}
 use Rattle.vx_carve.specs.Carved.{HaveNumbers}
 use Rattle.vx_house.specs.Runs.{IsInPlace, IsRunOf}
@@ -152,19 +153,25 @@ module _ {P : Type 0} {ghosts : Ghosts P} (laws : HaveLifeLaws) (g : Group) (v :
     fit : OwnersFit image.plexes (volume_seen see running.volume) owners
     fit = owners_fit g.config g.good v of running.form.shape form.shape_is (log_seen see (log_of running.volume)) started.regions (volume_seen see running.volume) started.opened bytes owners owner_fits
 
+    -- it runs as this one, nothing is sure of plexes that are written to, and its log is exact
     abbrev pub Runs : Volume → Type 0
-    Runs w = RunsAsVolume image.plexes (volume_seen see running.volume) w × IsSureOfOthers image.plexes (volume_seen see running.volume) w
+    Runs w = RunsAsVolume image.plexes (volume_seen see running.volume) w × IsSureOfOthers image.plexes (volume_seen see running.volume) w × IsExactVolume (volume_seen see running.volume)
 
     module _ (contents : ℕ → Contents) (hold : All (Holds contents) (still_pieces see old)) (sectors : AreSectorsOf g.good numbers contents bytes) where
       empty_runs : v.state ≡ vol.Empty → Runs (unsure owners (volume_first names image))
       empty_runs e =
-          laws.forgets image.plexes (volume_seen see running.volume) (volume_first names image)
-          (fresh_runs g.config g.good v numbers old new running of e (subst (λ s. IsFormOf g.config g.good v (is_fresh s) running.form) e form) started contents hold bytes sectors laws.empty laws.opening names) owners fit
+          let form_is = subst (λ s. IsFormOf g.config g.good v (is_fresh s) running.form) e form in
+          let runs = laws.forgets image.plexes (volume_seen see running.volume) (volume_first names image)
+          (fresh_runs g.config g.good v numbers old new running of e form_is started contents hold bytes sectors laws.empty laws.opening names) owners fit in
+          (runs.0, runs.1, fresh_exact g.config g.good v numbers old new running of e form_is started contents hold bytes sectors)
 
       clean_runs : v.state ≡ vol.Clean → IsSoundImage image → Runs (unsure owners (volume_read names image))
       clean_runs e sound =
-          laws.forgets image.plexes (volume_seen see running.volume) (volume_read names image)
-          (loaded_runs g.config g.good v numbers old new running of (subst IsFilled_ (sym e) tt) (subst (λ s. IsFormOf g.config g.good v (is_fresh s) running.form) e form) started contents hold bytes sectors laws.opening sound names) owners fit
+          let filled = subst IsFilled_ (sym e) tt in
+          let form_is = subst (λ s. IsFormOf g.config g.good v (is_fresh s) running.form) e form in
+          let runs = laws.forgets image.plexes (volume_seen see running.volume) (volume_read names image)
+          (loaded_runs g.config g.good v numbers old new running of filled form_is started contents hold bytes sectors laws.opening sound names) owners fit in
+          (runs.0, runs.1, loaded_exact g.config g.good v numbers old new running of filled form_is started contents hold bytes sectors)
         where
           IsFilled_ : VolState → Type 0
           IsFilled_ s = IsFilled s
@@ -255,4 +262,5 @@ module _ {P : Type 0} {ghosts : Ghosts P} (laws : HaveLifeLaws) (g : Group) (v :
         plexes_then = λ other. kept_named g.config g.good v (is_fresh v.state) g.config g.good v (volume_kept g.config g.good v (is_fresh v.state)) other bytes;
         runs_as = λ sound. (begun.runs sound).0;
         sure = λ sound. (begun.runs sound).1;
+        exact = λ sound spared. (begun.runs sound).2;
       }

@@ -1,5 +1,5 @@
 -- The stop of a running volume as a stage.
-use Rattle.std.proofs.Common.{◌≡◌, ◌∙◌, ℕ, Bool, true, false, cond, List, [], ◌++◌, Option, Some, None, Result, Ok, Err, ◌||◌, map, refl, sym, ap, subst, inl, inr}
+use Rattle.std.proofs.Common.{◌≡◌, ◌∙◌, ℕ, ◌<◌, Bool, true, false, cond, List, [], ◌++◌, Option, Some, None, Result, Ok, Err, ◌||◌, map, refl, sym, ap, subst, inl, inr}
 use Rattle.std.specs.Prelude.{IfSome, IsSome, is_some}
 use Rattle.std.proofs.lemmas.List.{append-nil}
 use Rattle.vx_pages.specs.declared.local_piece.LocalPiece.{Ghosts}
@@ -22,7 +22,8 @@ use Rattle.vx_answers.specs.declared.refusal.Refusal.{Refusal}
 use Rattle.vx_answers.specs.declared.refusal.Refusal.TheVariants as refusal
 use Rattle.vx_image.specs.UsedPlexes.{IsVolOf}
 use Rattle.vx_image.specs.Bytes.{image_of}
-use Rattle.vx_image.specs.Meaning.{ReadsOneList}
+use Rattle.vx_image.specs.Image.{regions_of}
+use Rattle.vx_image.specs.Meaning.{ReadsOneList, dirty_read}
 use Rattle.vx_script_words.specs.declared.value.DiskAt.{DiskAt}
 use Rattle.vx_moments.specs.Commit.{Writing, is_slot_of, is_written_slot, parties}
 use Rattle.vx_moments.specs.Leaving.{grouped}
@@ -38,6 +39,7 @@ use Rattle.vx_group_stop.specs.Stops.{ComesToRest as Comes}
 use Rattle.vx_group_volumes.specs.Laws.{EachStopChangesStates}
 use Rattle.vx_group_volumes.specs.RestLaws.{EachRestRunsOn}
 use Rattle.vx_group_volumes.proofs.Commits.{commit_keeps_images}
+use Rattle.vx_group_volumes.proofs.ExactRests.{well_rest_clean}
 use Rattle.vx_state_edits.specs.Edits.{stop_edits, stopped}
 use Rattle.vx_state_edits.specs.Laws.{EachStopRestates, Restates, in_state}
 use Rattle.vx_stages.specs.Stages.{IsDone, Stops, Wants}
@@ -78,7 +80,7 @@ use Rattle.vx_stage_volumes.proofs.Otherwise.{otherwise_scene}
 use Rattle.vx_stage_volumes.proofs.Rested.{rest_keeps}
 use Rattle.vx_stage_volumes.proofs.RestMoments.{IsRestedAt, rest_blamed, rest_house, rest_stops, rested_at}
 use Rattle.vx_stage_volumes.proofs.Room.{room_config, room_held, room_keeps, room_kept, room_moment}
-use Rattle.vx_stage_volumes.proofs.Stands.{stands_clean}
+use Rattle.vx_stage_volumes.proofs.Stands.{clear_clean, spared_then, stands_clean}
 
 -- What the laws below promise.
 pub record HaveLaws {P : Type 0} (see : P → Seen) : Type 0 where
@@ -223,7 +225,7 @@ module _ {P : Type 0} {ghosts : Ghosts P} (old : House P ghosts) (alike : (p q :
         faults2 = subst (λ s. FaultsGoOn s (scene see (at shelf h2))) same_scene (rest_house alike laws.rest shelf h1 room mid refl name result rests keeps1).faults
 
         abbrev Rested : Moment → Type 0
-        Rested m = IsRestedAt see shelf h2 (members see room.base) name after m
+        Rested m = IsRestedAt see shelf h2 (members see room.base) name rests.runs.before after m
 
         rested2 : (m : Moment) → IsMoment see (at shelf old) m → Rested m
         rested2 m is = rested_at alike laws.rest shelf h1 room mid refl name result rests keeps1 m (moment1 m is)
@@ -395,6 +397,13 @@ module _ {P : Type 0} {ghosts : Ghosts P} (old : House P ghosts) (alike : (p q :
                   stands = subst (λ i. StandsForVolume i (rested_volume r.rest)) (sym images) clean.0;
                   list = clean.1;
                   reads = subst (λ i. ReadsOneList i (rested_volume r.rest).life.candidates clean.1) (sym images) clean.2;
+                  clear = λ spared.
+                      let members_are = ap (λ js. x.group.members ++ js) d.change.joiners ∙ append-nil x.group.members ∙ ap (λ (w : Group). w.members) group_same in
+                      let before = spared_then see laws.stands laws.states (members see room.base) r.rest.group name after (rested_volume r.rest) r.run r.then.world.devices alike_there settled marks g'.config edited c.good fewer
+                      group d.config_is members_are (rested_volume r.rest).failed spared in
+                      let unmarked = well_rest_clean (volume_seen see rests.runs.before.volume) (volume_seen see after.volume) marks at_rest (r.well before) in
+                      subst (λ image. (i : ℕ) → i < regions_of image → dirty_read image i ≡ false) (sym images)
+                      (clear_clean see laws.stands laws.states (members see room.base) r.rest.group name after (rested_volume r.rest) r.run r.then.world.devices alike_there settled marks g'.config edited c.good fewer sound unmarked (r.run.exact sound before));
                 }
 
             stopped_goes : StopGoes (Ok tt) (house g')

@@ -123,7 +123,7 @@ module _ {P : Type 0} {ghosts : Ghosts P} (see : P → Seen) (ends : (p : P) →
         each xs all.1 told.1,
       )
 
-  hold_lent : All (Holds held) (lent_pieces see g.public)
+  pub hold_lent : All (Holds held) (lent_pieces see g.public)
   hold_lent = (all_parts (Holds held) (still_pieces see g.public) (lent_pieces see g.public) (all_parts (Holds held) (fronts_of hs) behind (own_told pieces (parted_once hs behind parted) tells)).1).1
 
   -- so do those that lie still

@@ -32,6 +32,7 @@ pub mod Room
 pub mod RunningStage
 pub mod RunsSame
 pub mod Slots
+pub mod SoundAs
 pub mod Stands
 pub mod StartEnds
 pub mod StartFine

@@ -42,6 +42,8 @@ use Rattle.vx_group_volumes.proofs.Commits.{commit_keeps_images}
 use Rattle.vx_group_volumes.proofs.ExactRests.{well_rest_clean}
 use Rattle.vx_state_edits.specs.Edits.{stop_edits, stopped}
 use Rattle.vx_state_edits.specs.Laws.{EachStopRestates, Restates, in_state}
+use Rattle.vx_stages.specs.Ends.{IsChange}
+use Rattle.vx_stages.specs.Recorded.{IsSoundAs}
 use Rattle.vx_stages.specs.Stages.{IsDone, Stops, Wants}
 use Rattle.vx_stages.specs.Stopping.{IsToRecord, StandsStopped, StopIsRefused, StopStops, StopWants, refusal_by, rested_volume, runs_on_plexes, stop_refusal, without_volume}
 use Rattle.vx_stages.specs.Tests.{recorded, volume_in}
@@ -81,6 +83,7 @@ use Rattle.vx_stage_volumes.proofs.Rested.{rest_keeps}
 use Rattle.vx_stage_volumes.proofs.RestMoments.{IsRestedAt, rest_blamed, rest_house, rest_stops, rested_at}
 use Rattle.vx_stage_volumes.proofs.Room.{room_config, room_held, room_keeps, room_kept, room_moment}
 use Rattle.vx_stage_volumes.proofs.Stands.{clear_clean, spared_then, stands_clean}
+use Rattle.vx_stage_volumes.proofs.SoundAs.{stop_sound}
 
 -- What the laws below promise.
 pub record HaveLaws {P : Type 0} (see : P → Seen) : Type 0 where
@@ -291,12 +294,27 @@ module _ {P : Type 0} {ghosts : Ghosts P} (old : House P ghosts) (alike : (p q :
             abbrev h3 : House P ghosts
             h3 = with_group h2 g'
 
+            -- as the stop records it the volume is sound
+            sound_at : (m : Moment) (is : IsMoment see (at shelf old) m) (r : Rested m) (x : Writing) → IsChange edits r.then.world x → r.rest.volume.sound ≡ true → IsSoundAs r.rest.group x.config name r.then.world
+            sound_at m is r x change =
+                let own = same_group m is r in
+                let same : x.group ≡ r.rest.group = some_one x.group r.rest.group (sym change.group ∙ r.group) in
+                let run_of : of ≡ r.run.of = sym (found_one g.config name of ready.found r.run.of (subst (λ (w : Group). IsVolOf w.config r.run.of) own r.run.placed.runs.recorded) r.run.named) in
+                let edited : IsEdited (stop_edits r.rest.group.config r.run.of marks) r.rest.group.config x.config =
+                subst (λ v. IsEdited (stop_edits r.rest.group.config v marks) r.rest.group.config x.config) run_of
+                (subst (λ (w : Group). IsEdited (stop_edits w.config of marks) r.rest.group.config x.config) (sym own) (subst (λ (w : Group). IsEdited edits w.config x.config) same change.edited)) in
+                let alike_there = subst (λ b. HoldsAlike see (members see b) r.then.world.devices after) base2
+                (holds_alike see laws.ends laws.counts (at shelf h2) (keeps_but_group see (at shelf h2) keeps2) r.then (moment_but_group see (at shelf h2) r.then r.is) mid refl name after was2) in
+                let settled = (laws.settled (volume_seen see rests.runs.before.volume) (volume_seen see after.volume) marks at_rest).1 in
+                stop_sound see laws.stands laws.states (members see room.base) r.rest.group name after (rested_volume r.rest) r.run r.then.world alike_there settled marks x.config edited
+
             broken_at : (end : End) (m : Moment) (is : IsMoment see (at shelf old) m) (r : Rested m) → IsStoppedAt see shelf h3 edits end r.then → (n : Moment) × IsMomentButGroup see (at shelf h3) n × AreLater m.counts n.counts × StopStops name m end n
+            unfolding to_record
             broken_at end m is r stopped = (
               stopped.then,
               stopped.is,
               later_trans m.counts r.then.counts stopped.then.counts r.later stopped.later,
-              inr (inr (record { mid = r.then; edits = edits; record_is = to_record m is r; writing = stopped.writing; change = stopped.change; stopped = stopped.stopped; after = stopped.later })),
+              inr (inr (record { mid = r.then; edits = edits; record_is = to_record m is r; writing = stopped.writing; change = stopped.change; stopped = stopped.stopped; after = stopped.later; sound = sound_at m is r stopped.writing stopped.change })),
             )
 
             faults3 : FaultsGoOn (scene see (at shelf old)) (scene see (at shelf h3))

@@ -27,7 +27,9 @@ use vx_stage_changes::{NextConfig, planned, volume_in};
 use vx_state_edits::laws::{each_change_is_fine, each_change_restates};
 use vx_state_edits::start_edits;
 use vx_volume_laws::each_empty_begins;
-use vx_volume_laws::lives::{each_opening_runs, each_pass_runs_on, each_running_forgets};
+use vx_volume_laws::lives::{
+    each_left_volume_stands, each_opening_runs, each_pass_runs_on, each_running_forgets,
+};
 
 /// Starts the volume of the name, and so ends the command. What is to be recorded is planned before anything is touched.
 pub fn start<P: Piece + Drop>(alloc: Global, house: &mut House<P>, name: Name) -> Result<(), Stop>
@@ -40,6 +42,7 @@ pub fn start<P: Piece + Drop>(alloc: Global, house: &mut House<P>, name: Name) -
     each_image_is_sound_or_not();
     each_empty_begins();
     each_opening_runs();
+    each_left_volume_stands();
     each_running_forgets();
     each_pass_runs_on();
     each_fresh_region_is_missed();

@@ -1,5 +1,6 @@
 use Rattle.vx_house.specs.View.{Keeps, at}
 use Rattle.vx_group_volumes.proofs.NearerImages.{copy_narrows}
+use Rattle.vx_group_volumes.proofs.Recorded.{start_changes}
 use Rattle.vx_stage_volumes.proofs.Begun.{HaveStartLaws}
 use Rattle.vx_stage_volumes.proofs.RunningStage.{running_goes}
 use Rattle.vx_stage_volumes.proofs.StartStages.{start_goes}
@@ -32,7 +33,8 @@ returns-in-Some g c =
           let keeps : Keeps g.P.Piece.seen (at shelf c.args.house.now) = record { devices = held; house = c.requires.keeps } in
           start_goes see c.args.name disks shelf h keeps c.in-Some.group c.in-Some.is
           (λ g' stop is. unopened_goes see alike ends counts copy_narrows c.args.name disks shelf h keeps c.in-Some.group c.in-Some.is g' stop is)
-          (λ g' stop is. unrecorded_goes alike restates c.args.name disks shelf h keeps c.in-Some.group c.in-Some.is (record { ends = ends; counts = counts; law = copy_narrows }) g' stop is)
+          (λ g' stop is. unrecorded_goes alike restates c.args.name disks shelf h keeps c.in-Some.group c.in-Some.is (record { ends = ends; counts = counts; law = copy_narrows })
+          (record { lives = laws.lives; states = start_changes restates laws.recorded; leaving = c.each_left_volume_stands.ensures.leaving }) g' stop is)
           (λ g' stop is. running_goes alike laws c.each_pass_runs_on.ensures.copied c.each_fresh_region_is_missed.ensures c.args.name disks shelf h keeps c.in-Some.group c.in-Some.is ready g' stop is)
           c.start_in.new.group c.start_in.result c.start_in.ensures.ends;
     }

@@ -7,6 +7,7 @@ pub mod Ends
 pub mod Calls
 pub mod GroupCalls
 pub mod Touching
+pub mod Recorded
 pub mod Starting
 pub mod Stopping
 pub mod Stages

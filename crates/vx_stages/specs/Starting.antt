@@ -31,6 +31,7 @@ use Rattle.vx_group_images.specs.Owners.{owners_of}
 use Rattle.vx_group_images.specs.Tracks.{volume_failed}
 use Rattle.vx_stages.specs.Ends.{EndsIn, IsChange, RefusedAsLong, StopsBy, lost, refused}
 use Rattle.vx_stages.specs.GroupCalls.{LogHasFailed, PlexHasFailed}
+use Rattle.vx_stages.specs.Recorded.{IsSoundAs}
 use Rattle.vx_stages.specs.Tests.{volume_in, where_}
 use Rattle.vx_stages.specs.Touching.{FailsOn, IsCutOff, IsTouched, Narrows, PassHasCause, VolumeGoes}
 
@@ -201,6 +202,8 @@ pub record StopsAtCommit (g : Group) (v : Vol) (old : Moment) (end : End) (new :
   pub first : AreLater old.counts opened.counts
   pub rest : AreLater opened.counts new.counts
   pub stops : StopsBy (IsChange (start_edits g.config v) opened.world) opened end new
+  -- as the start records it the volume is sound by the bytes that its devices then have, if it was as the start began; so is one that was never started
+  pub recorded : (is_new v.state ≡ false → IsSoundImage (image_on old.world.devices g v)) → IsSoundAs g stops.0.config v.name opened.world
 
 -- it runs, and copying ends the command
 pub record StopsAfter (g : Group) (v : Vol) (old : Moment) (end : End) (new : Moment) : Type 0 where

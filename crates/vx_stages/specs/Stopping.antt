@@ -27,6 +27,7 @@ use Rattle.vx_group_images.specs.Tracks.{volume_failed}
 use Rattle.vx_group_images.specs.Volumes.{StandsForVolume}
 use Rattle.vx_stages.specs.Ends.{IsChange, RefusedAsLong}
 use Rattle.vx_stages.specs.Logs.{LogIsSpared}
+use Rattle.vx_stages.specs.Recorded.{IsSoundAs}
 use Rattle.vx_stages.specs.Tests.{recorded}
 use Rattle.vx_stages.specs.Touching.{PassHasCause, VolumeGoes}
 use Rattle.vx_state_edits.specs.Edits.{is_marked, stop_edits}
@@ -146,6 +147,8 @@ pub record IsStopBroken (name : Word) (old : Moment) (end : End) (new : Moment) 
   pub change : IsChange edits mid.world writing
   pub stopped : IsStopped writing mid end new
   pub after : AreLater mid.counts new.counts
+  -- as the stop records it the volume is sound by its bytes, if they were as it began
+  pub sound : record_is.rest.volume.sound ≡ true → IsSoundAs record_is.rest.group writing.config name mid.world
 
 -- how a stop may end the command: a test refuses it, the volume cannot be brought to rest, or the commit is stopped
 abbrev pub StopStops : Word → Moment → End → Moment → Type 0

@@ -1,0 +1,6 @@
+mod Lists
+mod Records
+mod Columns
+mod Less
+pub mod Images
+pub mod Texts

@@ -25,7 +25,6 @@ use Rattle.vx_plexes.proofs.Plexes.{config_valid, filled}
 use Rattle.vx_image.specs.Bytes.{Sectors, bytes_at, image_of, is_active, is_held, is_log_copy, log_copies, plex_contents, plex_image, plex_marks, relation_maps}
 use Rattle.vx_image.specs.Image.{Image, LogCopy, PlexImage}
 use Rattle.vx_image.specs.Own.{SameInside}
-use Rattle.vx_image.specs.Soundness.{IsSoundImage}
 use Rattle.vx_image.specs.UsedPlexes.{relation_map}
 use Rattle.vx_image.proofs.Members.{all_from_each, contains, from_filter, into_filter, is_in}
 use Rattle.vx_image.proofs.Own.{image_own}
@@ -33,7 +32,7 @@ use Rattle.vx_readings.specs.Readings.{EachReadingIsAsSound, HaveSameRecords, Is
 use Rattle.vx_readings.proofs.Lists.{picked_more, same_functions}
 use Rattle.vx_readings.proofs.Records.{plex_here, snap_here, subdisk_here, turned}
 use Rattle.vx_readings.proofs.Columns.{columns_same, good_slot, same_at, slot_same, strip_in}
-use Rattle.vx_readings.proofs.Less.{IsLessPlex, less_sound}
+use Rattle.vx_readings.proofs.Less.{IsLessImage, IsLessPlex, less_sound}
 
 -- ---- the maps of relations
 
@@ -100,7 +99,7 @@ module _ (c other : Config) (v : Vol) (good good' : ℕ) (bytes bytes' : Sectors
       ∙ ap (λ columns. λ b. bytes_at mixed (place_of p.unit columns b)) (columns_same c other same p here)
 
   is_less : (p : Plex) → IsIn c.plexes p → refers p.vol v.name ≡ true → IsLessPlex (plex_image c good mixed p) (plex_image other good' bytes' p)
-  is_less p here own = record { map = refl; available = refl; held = held_before p here own; values = same_contents p here }
+  is_less p here own = record { name = refl; map = refl; available = refl; held = held_before p here own; values = same_contents p here }
 
   before : (y : PlexImage) → Contains new.plexes y → (x : PlexImage) × Contains old.plexes x × IsLessPlex x y
   before y one =
@@ -161,19 +160,20 @@ module _ (c other : Config) (v : Vol) (good good' : ℕ) (bytes bytes' : Sectors
       subst (λ ms. IsIn ms m) (maps_picked c.snaps v.name)
       (picked_more (relation_map v.name) other.snaps c.snaps (snap_here other c (turned c other same)) m (subst (λ ms. IsIn ms m) (sym (maps_picked other.snaps v.name)) one))
 
-  pub as_sound : IsSoundImage (image_of c good bytes v) → IsSoundImage new
-  as_sound sound =
-      less_sound old new
-      (record {
-        state = refl;
-        length = refl;
-        region = refl;
-        before = before;
-        after = after;
-        snaps = λ m one. contains old.snaps m (map_before m (is_in new.snaps m one));
-        copies = λ x one. contains old.copies x (copy_before v.dco x (is_in new.copies x one));
-      })
-      (subst IsSoundImage (sym (image_own c good v bytes mixed mixed_inside)) sound)
+  pub image_less : IsLessImage (image_of c good bytes v) new
+  image_less = subst (λ (i : Image). IsLessImage i new) (image_own c good v bytes mixed mixed_inside) (record {
+    state = refl;
+    length = refl;
+    region = refl;
+    before = before;
+    after = after;
+    snaps = λ m one. contains old.snaps m (map_before m (is_in new.snaps m one));
+    copies = λ x one. contains old.copies x (copy_before v.dco x (is_in new.copies x one));
+  })
+
+-- its image says no more than that by the first configuration
+pub less_image : (c other : Config) (v : Vol) (good good' : ℕ) (bytes bytes' : Sectors) → HaveSameRecords c other → IsLess c v.name good good' bytes bytes' → IsLessImage (image_of c good bytes v) (image_of other good' bytes' v)
+less_image c other v good good' bytes bytes' same less = image_less c other v good good' bytes bytes' same less
 
 pub reading_sound : EachReadingIsAsSound
-reading_sound c other v good good' bytes bytes' of same less = as_sound c other v good good' bytes bytes' same less
+reading_sound c other v good good' bytes bytes' of same less = less_sound (image_of c good bytes v) (image_of other good' bytes' v) (less_image c other v good good' bytes bytes' same less)

@@ -10,6 +10,7 @@ use Rattle.vx_image.proofs.Members.{all_from_each, any_from_one, each_from_all, 
 
 -- the plex is the same, held no more than it was, and where it is held with what it held
 pub record IsLessPlex (old new : PlexImage) : Type 0 where
+  pub name : new.name ≡ old.name
   pub map : new.map ≡ old.map
   pub available : is_available_state new.state ≡ is_available_state old.state
   pub held : new.held ≡ true → old.held ≡ true

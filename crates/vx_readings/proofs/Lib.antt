@@ -1,6 +1,6 @@
 mod Lists
-mod Records
+pub mod Records
 mod Columns
-mod Less
+pub mod Less
 pub mod Images
 pub mod Texts

@@ -62,7 +62,7 @@ module _ (x : Writing) (last : ℕ) (old new : Moment) (c : IsCommitting x last 
   kept_after name k = headed_after x last old new c name k.slot k.before k.after k.headed k.is k.sectors k.header
 
   -- a header was there before, or is that of one that joins
-  headed_back : (name : Word) (slot : ℕ) (e : Device) → IsHeaded dg new.world name slot e → ((d : Device) × IsHeaded dg old.world name slot d) ⊎ JoinsAs x last old new name e
+  pub headed_back : (name : Word) (slot : ℕ) (e : Device) → IsHeaded dg new.world name slot e → ((d : Device) × IsHeaded dg old.world name slot d) ⊎ JoinsAs x last old new name e
   headed_back name slot e h = by (fate x last old new c r name)
     where
       joined : (j : Joins x last old new name) → (header_of (j.after.contents 0) ≡ None) ⊎ JoinsAs x last old new name j.after → ((d : Device) × IsHeaded dg old.world name slot d) ⊎ JoinsAs x last old new name e
@@ -114,7 +114,7 @@ module _ (x : Writing) (last : ℕ) (old new : Moment) (c : IsCommitting x last 
       by (inr (inr j)) = never_some (header_of (j.before.contents 0)) h.label j.blank (ap (λ (e : Device). header_of (e.contents 0)) (some_same j.before d (sym j.was ∙ h.device)) ∙ h.header)
 
   -- an offer is there still, or the commit's has come
-  offers_fore : (name : Word) (slot : ℕ) (o : Offer) → Offers dg old.world name slot o → Offers dg new.world name slot o ⊎ NewAt name
+  pub offers_fore : (name : Word) (slot : ℕ) (o : Offer) → Offers dg old.world name slot o → Offers dg new.world name slot o ⊎ NewAt name
   offers_fore name slot o h = by (fate x last old new c r name)
     where
       kept : (k : KeepsHeader x last old new name) → (offer_of k.after.contents ≡ offer_of k.before.contents) ⊎ NewAt name → Offers dg new.world name slot o ⊎ NewAt name
@@ -137,14 +137,14 @@ module _ (x : Writing) (last : ℕ) (old new : Moment) (c : IsCommitting x last 
   abbrev sequence_at : {name : Word} → NewAt name → ℕ
   sequence_at n = n.renewed.offer.sequence
 
-  new_offers : (name : Word) (n : NewAt name) → Offers dg new.world name n.member.slot n.renewed.offer
+  pub new_offers : (name : Word) (n : NewAt name) → Offers dg new.world name n.member.slot n.renewed.offer
   new_offers name n = subst (λ (d : Word). Offers dg new.world d n.member.slot n.renewed.offer) n.at n.renewed.offers
 
   -- what such a device offers is that, in its member's slot
   pub new_one : (name : Word) (n : NewAt name) (slot : ℕ) (o : Offer) → Offers dg new.world name slot o → o ≡ n.renewed.offer
   new_one name n slot o h = one_offer dg new.world name slot n.member.slot o n.renewed.offer h (new_offers name n)
 
-  new_slot : (name : Word) (n : NewAt name) (slot : ℕ) (d : Device) → IsHeaded dg new.world name slot d → slot ≡ n.member.slot
+  pub new_slot : (name : Word) (n : NewAt name) (slot : ℕ) (d : Device) → IsHeaded dg new.world name slot d → slot ≡ n.member.slot
   new_slot name n slot d h = one_slot dg dg new.world name slot n.member.slot d (new_offers name n).device h (new_offers name n).headed
 
   sequences : (name : Word) (n k : NewAt name) → sequence_at k ≡ sequence_at n
@@ -258,7 +258,7 @@ module _ (x : Writing) (last : ℕ) (old new : Moment) (c : IsCommitting x last 
   slot_joined : (slot : ℕ) (name : Word) (e : Device) (j : JoinsAs x last old new name e) → IsHeaded dg new.world name slot e → slot ≡ j.member.slot
   slot_joined slot name e j h = one_slot dg dg new.world name slot j.member.slot e e h j.headed
 
-  of_joiner : (slot : ℕ) (name : Word) (e : Device) (j : JoinsAs x last old new name e) → IsHeaded dg new.world name slot e → is_slot_of x.joiners slot ≡ true
+  pub of_joiner : (slot : ℕ) (name : Word) (e : Device) (j : JoinsAs x last old new name e) → IsHeaded dg new.world name slot e → is_slot_of x.joiners slot ≡ true
   of_joiner slot name e j h = test_any (λ m. m.slot == slot) x.joiners (any_at (λ m. (m.slot == slot) ≡ true) x.joiners j.member (eq-eqb j.member.slot slot (sym (slot_joined slot name e j h))) j.listed)
 
   -- a slot that nobody had, and an offer named, nobody has
@@ -425,7 +425,7 @@ module _ (x : Writing) (last : ℕ) (old new : Moment) (c : IsCommitting x last 
   -- ---- other groups
 
   -- the devices of another group are let alone
-  other_back : (other : Word) → (other ≡ dg → ⊥) → HadEach other old.world new.world
+  pub other_back : (other : Word) → (other ≡ dg → ⊥) → HadEach other old.world new.world
   other_back other differs name slot e h = by (fate x last old new c r name)
     where
       joined : (j : Joins x last old new name) → (header_of (j.after.contents 0) ≡ None) ⊎ JoinsAs x last old new name j.after → IsHeaded other old.world name slot e

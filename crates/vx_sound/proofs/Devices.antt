@@ -73,6 +73,11 @@ no_member w name none (Some g) l any = by g.members l.own any
         let one = one_of (IsOwn g.config.group w) (λ m. m.device ≡ name) ms own any in
         never_some (w.devices name) one.1.device none (ap (λ (n : Word). w.devices n) (sym one.2) ∙ one.1.is)
 
+pub image_back : (name : Word) (sectors : ℕ) (old new : World) → IsStanding old → old.devices name ≡ None → IsImageMade name sectors old new → (dg : Word) → HadEach dg old new
+image_back name sectors old new s none made dg =
+    subst (HadEach dg old) (sym made.is)
+    (back old name (record { sectors = sectors; contents = made.contents }) (zeros_bare sectors made.contents made.zeros) (no_member old name none old.group s.group) dg)
+
 pub standing_image : (name : Word) (sectors : ℕ) (old new : World) → IsStanding old → old.devices name ≡ None → IsImageMade name sectors old new → IsStanding new
 standing_image name sectors old new s none made =
     subst IsStanding (sym made.is)
@@ -98,6 +103,20 @@ same_put w name d e is sectors same = λ i. record w { devices = λ other. by ot
       | inl here ↦ subst (λ (n : Word). put name (Some e) w.devices n ≡ w.devices n) here (put_same name (Some e) w.devices ∙ ap (λ (x : Device). Some x) device ∙ sym is)
       | inr differ ↦ put_other name other (Some e) w.devices differ
     ]
+
+-- where the first block is wiped or is as it was, no device has a header that it had not
+pub torn_back : (name : Word) (old new : World) → (IsMemberDevice old.group name → ⊥) → HasContents name (IsTorn 0 (replicate 512 0)) old new → (dg : Word) → HadEach dg old new
+torn_back name old new idle has dg = subst (HadEach dg old) (sym has.is) (by (has.goes 0))
+  where
+    whole : has.contents 0 ≡ has.device.contents 0 → (k : ℕ) → has.contents k ≡ has.device.contents k
+    whole same zero = same
+    whole same (suc k) = behind_first has.device.contents has.contents has.goes (suc k) (omega arith)
+
+    by : (has.contents 0 ≡ has.device.contents 0) ⊎ (has.contents 0 ≡ written 0 (replicate 512 0) has.device.contents 0) → HadEach dg old (record old { devices = put name (Some (record { sectors = has.device.sectors; contents = has.contents })) old.devices })
+    by (inl same) = subst (HadEach dg old) (sym (same_put old name has.device (record { sectors = has.device.sectors; contents = has.contents }) has.was refl (whole same))) (λ other slot d h. h)
+    by (inr wiped) =
+        back old name (record { sectors = has.device.sectors; contents = has.contents })
+        (λ label header large. never_some (header_of (has.contents 0)) label (ap header_of wiped ∙ none_filled 0) header) idle dg
 
 -- the first block is wiped or is as it was
 pub standing_torn : (name : Word) (old new : World) → IsStanding old → (IsMemberDevice old.group name → ⊥) → HasContents name (IsTorn 0 (replicate 512 0)) old new → IsStanding new

@@ -99,7 +99,7 @@ pub record Joins (x : Writing) (last : ℕ) (old new : Moment) (name : Word) : T
 abbrev pub Fate : Writing → ℕ → Moment → Moment → Word → Type 0
 Fate x last old new name = (new.world.devices name ≡ old.world.devices name) ⊎ (KeepsHeader x last old new name ⊎ Joins x last old new name)
 
-same_device : (d e : Device) → e.sectors ≡ d.sectors → ((k : ℕ) → e.contents k ≡ d.contents k) → e ≡ d
+pub same_device : (d e : Device) → e.sectors ≡ d.sectors → ((k : ℕ) → e.contents k ≡ d.contents k) → e ≡ d
 same_device d e sectors same = λ i. record { sectors = sectors i; contents = λ k. same k i }
 
 pub same_or_not : (name other : Word) → (name ≡ other) ⊎ (name ≡ other → ⊥)

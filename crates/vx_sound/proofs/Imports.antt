@@ -27,7 +27,7 @@ use Rattle.vx_sound.proofs.ReadyToWrite.{IsLed}
 use Rattle.vx_sound.proofs.Ready.{IsHeadedAs}
 
 -- a mask of 32 slots has none from 32 on
-slot_in_mask : (mask slot : ℕ) → mask < 2 ^ 32 → has mask slot ≡ true → slot < 32
+pub slot_in_mask : (mask slot : ℕ) → mask < 2 ^ 32 → has mask slot ≡ true → slot < 32
 unfolding has
 slot_in_mask mask slot fits is = elim (cases_lt slot 32) [
   | inl low ↦ low
@@ -86,7 +86,7 @@ record IsThere (dg : Word) (unread : Word → Bool) (w : World) (n slot : ℕ) :
   low : (p : Offer) → offer_of candidate.device.contents ≡ Some p → p.sequence ≤ n
 
 module _ (dg : Word) (w : World) where
-  candidate_headed : (absent : Word → Bool) (c : Candidate) → IsCandidate dg absent w c → IsHeaded dg w c.name c.label.slot c.device
+  pub candidate_headed : (absent : Word → Bool) (c : Candidate) → IsCandidate dg absent w c → IsHeaded dg w c.name c.label.slot c.device
   candidate_headed absent c is = record {
     device = is.device_is;
     apart = λ lent. is.free (inl lent);
@@ -137,7 +137,7 @@ module _ (dg : Word) (w : World) (old new : Counts) (found : Found dg w old new)
       can_be_read false e = refl
 
   -- the device that offers what is taken
-  taken_from : (c : Candidate) × Offers dg w c.name c.label.slot o
+  pub taken_from : (c : Candidate) × Offers dg w c.name c.label.slot o
   taken_from =
       let one = one_of (IsCandidate dg found.absent w) (λ c. offer_in dg c.device.contents ≡ Some o) cs found.count.each (one_offers dg unread cs o by_all.highest_is) in
       let headed = candidate_headed dg w found.absent one.0 one.1 in

@@ -1,23 +1,23 @@
-mod Headers
-mod Fewer
+pub mod Headers
+pub mod Fewer
 mod Configs
-mod Lists
+pub mod Lists
 mod Names
-mod Edits
+pub mod Edits
 mod States
-mod Ready
-mod DevicesAfterCommit
-mod CommitSteps
+pub mod Ready
+pub mod DevicesAfterCommit
+pub mod CommitSteps
 mod Leaders
 mod ReadyToWrite
-mod Imports
-mod Settlement
-mod Devices
-mod Private
-mod Volumes
-mod Joiners
-mod Commits
-mod Running
-mod Runs
+pub mod Imports
+pub mod Settlement
+pub mod Devices
+pub mod Private
+pub mod Volumes
+pub mod Joiners
+pub mod Commits
+pub mod Running
+pub mod Runs
 pub mod Steps
 pub mod Wants

@@ -91,7 +91,7 @@ lies_so vol.Active plexes image = refl
 lies_so vol.NeedSync plexes image = refl
 lies_so vol.Sync plexes image = refl
 
-started_lies : (g : Group) (v : Vol) (image : Image) (sound : Bool) → (volume_started g v image sound).lies ≡ OnPlexes (plexes_started g v)
+pub started_lies : (g : Group) (v : Vol) (image : Image) (sound : Bool) → (volume_started g v image sound).lies ≡ OnPlexes (plexes_started g v)
 started_lies g v image sound = lies_so v.state (plexes_started g v) image
 
 -- copying leaves the volume where it lies
@@ -110,7 +110,7 @@ module _ (g now : Group) (v : Vol) (failed : Word → Bool) (old new : Counts) (
   becomes false end is = ap (λ (x : Volume). x.lies) is
 
 -- the volume that is found is recorded under its name
-found_recorded : (name : Word) (vs : List Vol) (v : Vol) → volume_in name vs ≡ Some v → list_any (λ u. bytes_eq u.name v.name) vs ≡ true
+pub found_recorded : (name : Word) (vs : List Vol) (v : Vol) → volume_in name vs ≡ Some v → list_any (λ u. bytes_eq u.name v.name) vs ≡ true
 found_recorded name [] v is = cc
 found_recorded name (u ∷ us) v is = by (bytes_eq u.name name) (found_recorded name us v) is
   where
@@ -127,25 +127,29 @@ module _ (old : Moment) (end : End) (new : Moment) (s : IsStanding old.world) wh
     was : lone (old.world.volumes v.name) ≡ None
     was = s.names v.name (ap (λ (o : Option Group). has_volume o v.name) here ∙ recorded)
 
-    opened_stands : (m : Moment) → IsTouched g v.name old m → IsStanding m.world
+    pub opened_stands : (m : Moment) → IsTouched g v.name old m → IsStanding m.world
     opened_stands m t = standing_touched g v.name old m t s
 
-    there_still : (m : Moment) → IsTouched g v.name old m → m.world.group ≡ Some g
+    pub there_still : (m : Moment) → IsTouched g v.name old m → m.world.group ≡ Some g
     there_still m t = ap (λ (w : World). w.group) t.world ∙ here
 
-    begun : (m : Moment) → IsStartedBy g v old m → IsStanding m.world
-    begun m b =
+    pub recorded_stands : (m : Moment) (b : IsStartedBy g v old m) → IsStanding b.recorded.world
+    recorded_stands m b =
         let opened = opened_stands b.opened b.touched in
         let group = there_still b.opened b.touched in
         let ready = start_ready b.opened.world b.writing opened g group v b.change in
-        let recorded = commit_done b.writing b.opened b.recorded opened ready (start_unnamed b.opened.world b.writing opened g group v b.change) b.committed in
+        commit_done b.writing b.opened b.recorded opened ready (start_unnamed b.opened.world b.writing opened g group v b.change) b.committed
+
+    pub begun : (m : Moment) → IsStartedBy g v old m → IsStanding m.world
+    begun m b =
+        let recorded = recorded_stands m b in
         let run = volume_started g v (image_on old.world.devices g v) b.begins.sound in
         let none : lone (b.recorded.world.volumes v.name) ≡ None =
         ap lone (ap (λ (f : Word → Option Volume). f v.name) (b.committed.committing.volumes ∙ ap (λ (w : World). w.volumes) b.touched.world)) ∙ was in
         subst IsStanding (sym b.begins.world)
         (standing_goes v.name b.recorded.world.devices (Some run) b.recorded.world none (lone_plexes run (plexes_started g v) (started_lies g v (image_on old.world.devices g v) b.begins.sound)) (λ other. front_itself (b.recorded.world.devices other)) recorded)
 
-    after : (m : Moment) → IsStartedBy g v old m → IsCopied g v m end new → IsStanding new.world
+    pub after : (m : Moment) → IsStartedBy g v old m → IsCopied g v m end new → IsStanding new.world
     after m b c =
         let run = volume_started g v (image_on old.world.devices g v) b.begins.sound in
         let same : run ≡ c.volume =
@@ -187,10 +191,10 @@ module _ (name : Word) (old : Moment) (s : IsStanding old.world) where
   pub rested : (mid : Moment) → ComesToRest name old mid → IsStanding mid.world
   rested mid rest = standing_run rest.group name (rested_volume rest) rest.plexes old mid (rested_lies mid rest) (ap lone rest.there ∙ lone_plexes rest.volume rest.plexes rest.lies) rest.goes s
 
-  rested_group : (mid : Moment) (rest : ComesToRest name old mid) → mid.world.group ≡ Some rest.group
+  pub rested_group : (mid : Moment) (rest : ComesToRest name old mid) → mid.world.group ≡ Some rest.group
   rested_group mid rest = ap (λ (w : World). w.group) rest.goes.world ∙ rest.here
 
-  gone : (mid : Moment) → ComesToRest name old mid → IsStanding (without_volume name mid).world
+  pub gone : (mid : Moment) → ComesToRest name old mid → IsStanding (without_volume name mid).world
   gone mid rest =
       let run = rested_volume rest in
       let there : mid.world.volumes name ≡ Some run = ap (λ (w : World). w.volumes name) rest.goes.world ∙ put_same name (Some run) old.world.volumes in

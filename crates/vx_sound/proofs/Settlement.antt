@@ -80,7 +80,7 @@ module _ (old new : World) (change : IsLittle old new) where
 -- ---- the group leaves
 
 module _ (w : World) where
-  gone_back : (dg : Word) → HadEach dg w (group_gone w)
+  pub gone_back : (dg : Word) → HadEach dg w (group_gone w)
   gone_back dg name slot d h = record { device = h.device; apart = λ lent. h.apart (lent_still w name lent); label = h.label; header = h.header; group = h.group; slot_is = h.slot_is; size = h.size }
 
   gone_fore : (dg : Word) → HasOrNone dg w (group_gone w)
@@ -114,7 +114,7 @@ module _ (old new : World) (goes : PowerGoes old new) (s : IsSettled old) where
   was_apart : (dg name : Word) (slot : ℕ) (d : Device) → IsHeaded dg new name slot d → IsLent old name → ⊥
   was_apart dg name slot d h (vol, v, is, lies) = stands dg name slot d v v.lies (s.volumes vol v is) lies (goes.stand vol v is) h
 
-  power_back : (dg : Word) → HadEach dg old new
+  pub power_back : (dg : Word) → HadEach dg old new
   power_back dg name slot d h =
       let apart = was_apart dg name slot d h in
       record { device = sym (goes.others name apart) ∙ h.device; apart = apart; label = h.label; header = h.header; group = h.group; slot_is = h.slot_is; size = h.size }

@@ -56,7 +56,7 @@ same_ends end w v same s = inl (subst IsStanding (sym same) s)
 
 -- ---- what tests tell
 
-no_group : (disks : List DiskAt) (w : World) → fails tests.NoGroup disks w ≡ None → w.group ≡ None
+pub no_group : (disks : List DiskAt) (w : World) → fails tests.NoGroup disks w ≡ None → w.group ≡ None
 unfolding fails
 no_group disks w passed = by w.group passed
   where
@@ -64,7 +64,7 @@ no_group disks w passed = by w.group passed
     by None e = refl
     by (Some g) e = never_some None _ refl (sym e)
 
-group_here : (dg : Word) (disks : List DiskAt) (w : World) (g : Group) → w.group ≡ Some g → fails (tests.GroupIs (Some dg)) disks w ≡ None → g.config.group ≡ dg
+pub group_here : (dg : Word) (disks : List DiskAt) (w : World) (g : Group) → w.group ≡ Some g → fails (tests.GroupIs (Some dg)) disks w ≡ None → g.config.group ≡ dg
 unfolding fails
 group_here dg disks w g here passed =
     bytes_eq_same g.config.group dg (holds (bytes_eq g.config.group dg) (subst (λ (o : Option Group). unless (is_here (Some dg) o) (refusal.NoGroup (Some dg)) ≡ None) here passed))
@@ -73,10 +73,10 @@ group_here dg disks w g here passed =
     holds true e = refl
     holds false e = never_some None (refusal.NoGroup (Some dg)) refl (sym e)
 
-not_recorded : (w : World) (vol : Word) → is_volume vol w ≡ false → has_volume w.group vol ≡ false
+pub not_recorded : (w : World) (vol : Word) → is_volume vol w ≡ false → has_volume w.group vol ≡ false
 not_recorded w vol e = (or_neither (is_some (w.volumes vol)) (has_volume w.group vol) e).1
 
-not_started : (w : World) (vol : Word) → is_volume vol w ≡ false → w.volumes vol ≡ None
+pub not_started : (w : World) (vol : Word) → is_volume vol w ≡ false → w.volumes vol ≡ None
 not_started w vol e = by (w.volumes vol) (or_neither (is_some (w.volumes vol)) (has_volume w.group vol) e).0
   where
     by : (o : Option Volume) → is_some o ≡ false → o ≡ None
@@ -278,7 +278,7 @@ module _ (old : Moment) (views : List View) (end : End) (new : Moment) (s : IsSt
   form_ends place dg (form.Acting act) none does = not_built does
   form_ends place dg (form.Sessions block) none does = not_built does
 
-  command_ends : (place : ℕ) (c : Command) → FormWritesNoHeader c.form → Does place c old views end new → Ends end new.world
+  pub command_ends : (place : ℕ) (c : Command) → FormWritesNoHeader c.form → Does place c old views end new → Ends end new.world
   command_ends place c none does = by c.cut does
     where
       by : (cut : Option ℕ) → MatchOption cut (DoesForm place c.group c.form old views end new) (λ n. IsNotBuilt old views end new) → Ends end new.world

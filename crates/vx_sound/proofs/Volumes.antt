@@ -101,6 +101,11 @@ module _ (w : World) (vol name : Word) (device : Device) (free : w.volumes vol �
     | inr differ ↦ s.volumes v volume (sym (put_other vol v (Some (bare_volume name device)) w.volumes differ) ∙ is)
   ])
 
+pub bare_back : (vol name : Word) (old new : World) → old.volumes vol ≡ None → has_volume old.group vol ≡ false → HasNoHeader old name → (IsMemberDevice old.group name → ⊥) → IsBare vol name old new → (dg : Word) → HadEach dg old new
+bare_back vol name old new free unrecorded (d, is, blank) idle made dg =
+    let same : d ≡ made.device = some_same d made.device (sym is ∙ made.was) in
+    subst (HadEach dg old) (sym made.is) (back old vol name made.device free unrecorded made.was (ap (λ (x : Device). header_of (x.contents 0)) (sym same) ∙ blank) idle dg)
+
 pub standing_bare : (vol name : Word) (old new : World) → IsStanding old → old.volumes vol ≡ None → has_volume old.group vol ≡ false → HasNoHeader old name → (IsMemberDevice old.group name → ⊥) → IsBare vol name old new → IsStanding new
 standing_bare vol name old new s free unrecorded (d, is, blank) idle made =
     let same : d ≡ made.device = some_same d made.device (sym is ∙ made.was) in
@@ -268,7 +273,7 @@ module _ (vol : Word) (there : Word → Option Device) (later : Option Volume) (
     | inr differ ↦ (u, volume, sym (put_other vol u later old.volumes differ) ∙ is, has)
   ]
 
-  lent_after_it : (other : Word) → IsLent old other → IsLent now other
+  pub lent_after_it : (other : Word) → IsLent old other → IsLent now other
   lent_after_it other (u, volume, is, has) = elim (name_cases vol u) [
     | inl same ↦ absurd (never (old.volumes vol) volume other was (ap (λ (n : Word). old.volumes n) same ∙ is) has)
     | inr differ ↦ (u, volume, put_other vol u later old.volumes differ ∙ is, has)
@@ -300,7 +305,7 @@ module _ (place : ℕ) (call : Call) (plexes : List Word) (v : Volume) (old : Mo
   vol = volume_of call
 
   -- it lies where it did
-  later_lies : done.later.lies ≡ OnPlexes plexes
+  pub later_lies : done.later.lies ≡ OnPlexes plexes
   later_lies = by (is_known place v) done.becomes
     where
       by : (known : Bool) → BecomesBy known place call done.group plexes v old.counts new.counts end done.later → done.later.lies ≡ OnPlexes plexes

@@ -36,16 +36,16 @@ wants_stand (stage.Stop vol) old new s (inr rest) = rested vol old s new rest
 wants_stand other old new s same = same_stands old.world new.world same s
 
 -- all stages but the last keep the world
-abbrev all_keep_but_last : List Stage → Bool
+abbrev pub all_keep_but_last : List Stage → Bool
 all_keep_but_last [] = true
 all_keep_but_last (s ∷ []) = true
 all_keep_but_last (s ∷ t ∷ ss) = keeps_world s && all_keep_but_last (t ∷ ss)
 
-abbrev is_shaped : Option Plan → Bool
+abbrev pub is_shaped : Option Plan → Bool
 is_shaped None = true
 is_shaped (Some plan) = all_keep_but_last plan.stages
 
-plan_shaped : (dg : Option Word) (f : Form) → is_shaped (plan_of dg f) ≡ true
+pub plan_shaped : (dg : Option Word) (f : Form) → is_shaped (plan_of dg f) ≡ true
 unfolding plan_of
 plan_shaped dg (form.PrintM None) = refl
 plan_shaped dg (form.PrintM (Some vol)) = refl

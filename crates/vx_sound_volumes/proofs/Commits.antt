@@ -55,7 +55,7 @@ few text short =
 behind : (half : ℕ) → half < 2 → (text : List ℕ) → length text ≤ 522240 → (old : Contents) (k : ℕ) → written (half_start half) (filled text) old (2048 + k) ≡ old (2048 + k)
 behind half low text short old k = written_out (half_start half) (filled text) old (2048 + k) (is_in-after (half_start half) (blocks_in (filled text)) (2048 + k) (let n = few text short in omega (arith, n, low)))
 
-text_behind : (text : List ℕ) → length text ≤ 522240 → (old : Contents) (k : ℕ) → in_both text old (2048 + k) ≡ old (2048 + k)
+pub text_behind : (text : List ℕ) → length text ≤ 522240 → (old : Contents) (k : ℕ) → in_both text old (2048 + k) ≡ old (2048 + k)
 text_behind text short old k = behind 1 (omega arith) text short (written (half_start 0) (filled text) old) k ∙ behind 0 (omega arith) text short old k
 
 same_behind : (text : List ℕ) → length text ≤ 522240 → (old new : Contents) → OldOrText text old new → (k : ℕ) → new (2048 + k) ≡ old (2048 + k)

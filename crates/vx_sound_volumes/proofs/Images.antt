@@ -26,7 +26,7 @@ use Rattle.vx_image.specs.UsedPlexes.{is_used_log, is_used_state, used_logs}
 use Rattle.vx_image.proofs.Members.{all_from_each, any_from_one, contains, each_from_all, from_filter, into_filter, is_in, one_from_any}
 use Rattle.vx_volume_laws.specs.Keeping.{KeepsPlex, KeepsVolume, LiesStill, data_plexes}
 
-used_active : (s : PlexState) → is_active s ≡ true → is_used_state false s ≡ true
+pub used_active : (s : PlexState) → is_active s ≡ true → is_used_state false s ≡ true
 used_active plex.Empty h = absurd (false≢true h)
 used_active plex.Clean h = h
 used_active plex.Active h = refl

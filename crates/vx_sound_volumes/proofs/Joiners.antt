@@ -186,7 +186,7 @@ module _ (w : World) where
   no_vol slot (p ∷ ps) v (inl same) = cc
   no_vol slot (p ∷ ps) v (inr one) = no_vol (slot + 1) ps v one
 
-  no_new_vol : (dg : Word) (ps : List DiskAt) (v : Vol) → IsIn (new_records dg w ps) (VolRecord v) → ⊥
+  pub no_new_vol : (dg : Word) (ps : List DiskAt) (v : Vol) → IsIn (new_records dg w ps) (VolRecord v) → ⊥
   no_new_vol dg ps v (inl same) = cc
   no_new_vol dg ps v (inr one) = no_vol 0 ps v one
 

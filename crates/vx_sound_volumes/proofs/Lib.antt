@@ -1,13 +1,13 @@
-mod Parts
-mod Images
-mod Commits
+pub mod Parts
+pub mod Images
+pub mod Commits
 mod Changes
-mod Named
+pub mod Named
 mod Lives
-mod Running
-mod Devices
-mod Joiners
-mod Stages
-mod Leavings
-mod Steps
+pub mod Running
+pub mod Devices
+pub mod Joiners
+pub mod Stages
+pub mod Leavings
+pub mod Steps
 mod Lost

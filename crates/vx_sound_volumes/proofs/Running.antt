@@ -53,7 +53,7 @@ use Rattle.vx_sound_volumes.proofs.Parts.{Besides, Every, Keeps, changed, groupe
 -- ---- one volume
 
 -- the volume that is found under a name is there, and has it
-found_there : (name : Word) (vs : List Vol) (w : Vol) → volume_in name vs ≡ Some w → IsIn vs w × (w.name ≡ name)
+pub found_there : (name : Word) (vs : List Vol) (w : Vol) → volume_in name vs ≡ Some w → IsIn vs w × (w.name ≡ name)
 found_there name [] w e = cc
 found_there name (v ∷ vs) w e = by (found_there name vs w) (bytes_eq v.name name) refl e
   where
@@ -218,7 +218,7 @@ start_wants place old new name g v here found touched narrows k =
 -- ---- a stop
 
 module _ (place : ℕ) (name : Word) (old : Moment) (k : Keeps place Every old.world) where
-  ran : (mid : Moment) (rest : ComesToRest name old mid) → (rest.volume.sound ≡ true) × (comes_next place rest.volume.life ≡ true)
+  pub ran : (mid : Moment) (rest : ComesToRest name old mid) → (rest.volume.sound ≡ true) × (comes_next place rest.volume.life ≡ true)
   ran mid rest = k.running name rest.volume (ap grouped rest.there ∙ grouped_runs rest.volume rest.plexes rest.lies)
 
   pub rested : (mid : Moment) → ComesToRest name old mid → Keeps place Every mid.world

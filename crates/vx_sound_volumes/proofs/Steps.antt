@@ -167,7 +167,7 @@ each_want place c old new s off = all_kept place new.world (by c.cut off)
 -- ---- runs
 
 -- before no command is anything known of volumes
-idle_sound : (place : ℕ) (w : World) → IsIdle w → IsSoundBefore place w
+pub idle_sound : (place : ℕ) (w : World) → IsIdle w → IsSoundBefore place w
 idle_sound place w idle = record {
   sound = record { stopped = λ g here. not_none g (sym idle.group ∙ here); running = λ name run is. not_none run (sym (ap grouped (idle.volumes name)) ∙ is) };
   disks = λ g here. not_none g (sym idle.group ∙ here);

@@ -1,0 +1,15 @@
+mod Fewer
+mod Slots
+mod Leading
+mod Commits
+mod Nexts
+mod Writings
+mod Found
+mod Places
+mod Stages
+mod Volumes
+mod Starts
+mod Steps
+mod Runs
+mod Alike
+mod Back

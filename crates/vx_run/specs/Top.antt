@@ -73,6 +73,6 @@ abbrev pub TellsFault : Option (List ℕ) → Option (List ℕ) → Option (List
 TellsFault left left' taken taken' before now = (place : Place) × TellsPlace place taken taken' before now × IsNoScript place left left'
 
 -- Where the source's bytes spell commands of which none puts a header at the front of a volume, and the configuration
--- copies on the shelf were sound, they are sound.
+-- copies on the shelf were sound, they are sound; where the volumes of its groups were too, they are.
 abbrev pub LeavesSound : Option (List ℕ) → Shelved → Shelved → Type 0
 LeavesSound left old new = (bytes : List ℕ) (commands : List Command) → left ≡ Some bytes → script_of bytes ≡ Ok commands → StaysSound commands old new

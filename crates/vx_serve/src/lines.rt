@@ -25,6 +25,7 @@ use vx_flow::Sink;
 use vx_house::{House, leave};
 use vx_script::Command;
 use vx_shelf::Shelf;
+use vx_sound_imports::each_run_keeps_all_devices_sound;
 
 /// Why a run ends before its last command.
 #[derive(Clone, Copy, Debug, PartialEq, Eq)]
@@ -178,6 +179,7 @@ pub fn run_commands<S: Shelf, B: Sink>(
     ensures quiet_refused { (IsErrOf result ServeFault.OutOfMemory ⊎ IsErrOf result ServeFault.HeldUp) → B.faults sink.new ≡ B.faults sink.old }
     ensures later { B.faults sink.old ≤ B.faults sink.new }
 {
+    each_run_keeps_all_devices_sound();
     let mut house = House::new(alloc);
     match all_lines(alloc, &mut house, shelf, sink, commands) {
         Ok(fine) => match close(alloc, &mut house, shelf) {

@@ -12,7 +12,7 @@ returns-in-Ok-close-clause-run g c =
 
 pub returns-in-Ok-close-clause-sound : goal.returns-in-Ok-close-clause-sound
 returns-in-Ok-close-clause-sound g c none =
-    carried_sound c.args.commands.now (shelved g.S.Shelf.free g.S.Shelf.held g.S.Shelf.counted g.S.Shelf.faults c.args.shelf.now) (g.B.Sink.taken c.args.sink.now) (shelved g.S.Shelf.free g.S.Shelf.held g.S.Shelf.counted g.S.Shelf.faults c.close.new.shelf) (g.B.Sink.taken c.all_lines.new.sink) c.in-Ok.fine
+    carried_sound c.each_run_keeps_all_devices_sound.ensures.kept c.args.commands.now (shelved g.S.Shelf.free g.S.Shelf.held g.S.Shelf.counted g.S.Shelf.faults c.args.shelf.now) (g.B.Sink.taken c.args.sink.now) (shelved g.S.Shelf.free g.S.Shelf.held g.S.Shelf.counted g.S.Shelf.faults c.close.new.shelf) (g.B.Sink.taken c.all_lines.new.sink) c.in-Ok.fine
     (returns-in-Ok-close-clause-run g c)
 
 pub returns-in-Err-HeldUp-clause-partly : goal.returns-in-Err-HeldUp-clause-partly
@@ -32,7 +32,7 @@ returns-in-Err-OutOfMemory-clause-partly g c none =
 
 pub returns-in-Err-OutOfMemory-clause-sound : goal.returns-in-Err-OutOfMemory-clause-sound
 returns-in-Err-OutOfMemory-clause-sound g c none =
-    short_sound c.args.commands.now (shelved g.S.Shelf.free g.S.Shelf.held g.S.Shelf.counted g.S.Shelf.faults c.args.shelf.now) (g.B.Sink.taken c.args.sink.now) (shelved g.S.Shelf.free g.S.Shelf.held g.S.Shelf.counted g.S.Shelf.faults c.close-in-Err-OutOfMemory.new.shelf) (g.B.Sink.taken c.all_lines.new.sink)
+    short_sound c.each_run_keeps_all_devices_sound.ensures.kept c.each_run_keeps_all_devices_sound.ensures.left_off c.args.commands.now (shelved g.S.Shelf.free g.S.Shelf.held g.S.Shelf.counted g.S.Shelf.faults c.args.shelf.now) (g.B.Sink.taken c.args.sink.now) (shelved g.S.Shelf.free g.S.Shelf.held g.S.Shelf.counted g.S.Shelf.faults c.close-in-Err-OutOfMemory.new.shelf) (g.B.Sink.taken c.all_lines.new.sink)
     (returns-in-Err-OutOfMemory-clause-partly g c none)
 
 pub returns-clause-partly : goal.returns-clause-partly
@@ -44,5 +44,5 @@ returns-clause-partly g c none =
 
 pub returns-clause-sound : goal.returns-clause-sound
 returns-clause-sound g c none =
-    short_sound c.args.commands.now (shelved g.S.Shelf.free g.S.Shelf.held g.S.Shelf.counted g.S.Shelf.faults c.args.shelf.now) (g.B.Sink.taken c.args.sink.now) (shelved g.S.Shelf.free g.S.Shelf.held g.S.Shelf.counted g.S.Shelf.faults c.close-in-Err-SinkFailed.new.shelf) (g.B.Sink.taken c.all_lines.new.sink)
+    short_sound c.each_run_keeps_all_devices_sound.ensures.kept c.each_run_keeps_all_devices_sound.ensures.left_off c.args.commands.now (shelved g.S.Shelf.free g.S.Shelf.held g.S.Shelf.counted g.S.Shelf.faults c.args.shelf.now) (g.B.Sink.taken c.args.sink.now) (shelved g.S.Shelf.free g.S.Shelf.held g.S.Shelf.counted g.S.Shelf.faults c.close-in-Err-SinkFailed.new.shelf) (g.B.Sink.taken c.all_lines.new.sink)
     (returns-clause-partly g c none)

@@ -1,0 +1,107 @@
+//! A volume of two plexes is started, written, read, stopped and imported beside a fault that is moved along all device calls. What
+//! each run leaves is read by the formats alone, and judged by the definitions.
+#![tactic(auto)]
+
+mod base;
+mod case;
+mod later;
+mod scenario;
+mod sweep;
+mod trial;
+
+use base::Bases;
+use scenario::Scenario;
+use std::rt::Files;
+use std::{env, fs, io};
+use sweep::{Part, Place, sweep};
+use vx_volume_judge::Finding;
+
+/// The kinds of faults.
+const FAULTS: [(bool, bool); 4] = [(true, false), (true, true), (false, false), (false, true)];
+
+/// Tries the images of the file that the first word names, over the records of the second, and the scenarios of the files that the
+/// others name, in order.
+fn main(rt: HostRuntime) -> io::Result<()> {
+    let mut files = env::args(&rt)?.skip(1);
+    if let (Some(cases), Some(records)) = (files.next(), files.next()) {
+        try_cases(&rt, cases.as_str(), records.as_str())?;
+    }
+    for file in files {
+        try_file(&rt, file.as_str())?;
+    }
+    Ok(())
+}
+
+fn try_cases<R: Files + AllocGlobal + Print>(rt: &R, cases: &str, records: &str) -> io::Result<()> {
+    let records = fs::read_to_string(rt, records)?;
+    let cases = fs::read_to_string(rt, cases)?;
+    let told = match Bases::make(rt.alloc(), records.as_str()) {
+        Ok(bases) => case::told(rt.alloc(), &bases, cases.as_str()),
+        Err(finding) => Err(finding),
+    };
+    match told {
+        Ok(lines) => tell_all(rt, &lines),
+        Err(finding) => println!(rt; "the images: {finding}"),
+    }
+}
+
+fn tell_all<R: Print>(rt: &R, lines: &Vec<String>) -> io::Result<()> {
+    for line in lines {
+        println!(rt; "{line}")?;
+    }
+    Ok(())
+}
+
+fn try_file<R: Files + AllocGlobal + Print>(rt: &R, file: &str) -> io::Result<()> {
+    let text = fs::read_to_string(rt, file)?;
+    let scenario = match Scenario::read(rt.alloc(), text.as_str()) {
+        Ok(scenario) => scenario,
+        Err(finding) => return println!(rt; "{file}: {finding}"),
+    };
+    let records = fs::read_to_string(rt, scenario.records.as_str())?;
+    let bases = match Bases::make(rt.alloc(), records.as_str()) {
+        Ok(bases) => bases,
+        Err(finding) => return println!(rt; "{file}: {finding}"),
+    };
+    for (on_write, lasts) in FAULTS {
+        let kind = Place {
+            device: "",
+            disk: "",
+            part: Part::Private,
+            on_write,
+            lasts,
+        };
+        try_kind(rt, &bases, &scenario, kind)?;
+    }
+    Ok(())
+}
+
+/// Tells whether all was as it has to be, or what was found first.
+fn try_kind<R: AllocGlobal + Print>(
+    rt: &R,
+    bases: &Bases,
+    scenario: &Scenario,
+    kind: Place,
+) -> io::Result<()> {
+    let title = scenario.title.as_str();
+    let name = name_of(kind);
+    match sweep(rt.alloc(), bases, scenario, kind) {
+        Ok(0) => println!(rt; "{title}, {name}: it fires at no call"),
+        Ok(_) => println!(rt; "{title}, {name}: ok"),
+        Err(found) => {
+            println!(rt;
+                "{title}, {name}: call {} of {}: {}",
+                found.call, found.place, found.finding
+            )
+        }
+    }
+}
+
+fn name_of(kind: Place) -> &'static str {
+    match (kind.on_write, kind.lasts) {
+        (true, false) => "a write that fails once",
+        (true, true) => "writes that fail for good",
+        (false, false) => "a read that fails once",
+        (false, true) => "reads that fail for good",
+    }
+}

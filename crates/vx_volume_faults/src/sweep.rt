@@ -1,0 +1,213 @@
+//! A fault that is moved along all device calls of a script.
+use crate::base::{Bases, DATA, LENGTH, LOG, LOG_SECTORS, known, slices};
+use crate::later::go_on;
+use crate::scenario::Scenario;
+use crate::trial::run_on;
+use std::alloc::Global;
+use std::fmt;
+use vx_piece::Bad;
+use vx_volume_judge::{Answer, Finding, PRIVATE, Sort, VolumeState, judge_status, take_all};
+
+/// The most calls that a fault is moved along.
+const CALLS: u64 = 2_000;
+
+/// What lies in a range of sectors of a device.
+#[derive(Clone, Copy, PartialEq, Eq)]
+pub enum Part {
+    Private,
+    Data,
+    Log,
+}
+
+/// Which calls fail, and whether once or for good, on the device of a disk.
+#[derive(Clone, Copy)]
+pub struct Place {
+    pub device: &'static str,
+    pub disk: &'static str,
+    pub part: Part,
+    pub on_write: bool,
+    pub lasts: bool,
+}
+
+impl fmt::Display for Place {
+    fn fmt<W: fmt::Write>(&self, f: &mut fmt::Formatter<W>) -> fmt::Result {
+        let part = match self.part {
+            Part::Private => "private region",
+            Part::Data => "data",
+            Part::Log => "log",
+        };
+        write!(f, "{part} of {}", self.disk)
+    }
+}
+
+impl Place {
+    /// The same on a disk and a part of it: each piece of a device counts its own calls.
+    fn at(self, device: &'static str, disk: &'static str, part: Part) -> Place {
+        Place {
+            device,
+            disk,
+            part,
+            on_write: self.on_write,
+            lasts: self.lasts,
+        }
+    }
+
+    /// Sectors whose call of this number is the first to fail.
+    fn bad(self, call: u64) -> Bad {
+        let (start, count) = match self.part {
+            Part::Private => (0, PRIVATE),
+            Part::Data => (DATA, LENGTH),
+            Part::Log => (LOG, LOG_SECTORS),
+        };
+        Bad {
+            start,
+            count,
+            on_read: !self.on_write,
+            on_write: self.on_write,
+            skip: call,
+            times: if self.lasts { u64::MAX } else { 1 },
+        }
+    }
+}
+
+/// What was found, and at which call of which place.
+#[derive(Clone, Copy)]
+pub struct Report {
+    pub finding: Finding,
+    pub place: Place,
+    pub call: u64,
+}
+
+/// Moves the fault along the calls of each place. It tells at how many of them it fired, or the first thing that is found.
+pub fn sweep(
+    alloc: Global,
+    bases: &Bases,
+    scenario: &Scenario,
+    kind: Place,
+) -> Result<u64, Report> {
+    let mut fired = 0u64;
+    for part in [Part::Private, Part::Data, Part::Log] {
+        for (device, disk) in [("i0", "disk01"), ("i1", "disk02")] {
+            let calls = sweep_place(alloc, bases, scenario, kind.at(device, disk, part))?;
+            fired = fired.saturating_add(calls);
+        }
+    }
+    Ok(fired)
+}
+
+fn sweep_place(
+    alloc: Global,
+    bases: &Bases,
+    scenario: &Scenario,
+    place: Place,
+) -> Result<u64, Report> {
+    for call in 0..CALLS {
+        match try_call(alloc, bases, scenario, place, call) {
+            Ok(true) => {}
+            Ok(false) => return Ok(call),
+            Err(finding) => return Err(Report {
+                finding,
+                place,
+                call,
+            }),
+        }
+    }
+    Err(Report {
+        finding: Finding::Endless,
+        place,
+        call: CALLS,
+    })
+}
+
+/// A trial in which the fault is at this call of its place. It tells whether the fault fired.
+fn try_call(
+    alloc: Global,
+    bases: &Bases,
+    scenario: &Scenario,
+    place: Place,
+    call: u64,
+) -> Result<bool, Finding> {
+    let images = slices(alloc, bases.of(scenario.from))?;
+    let bad = Some((place.device, place.bad(call)));
+    let ran = run_on(alloc, images.as_slice(), bad, scenario.script.as_str())?;
+    let has_failed = ran.has_failed()?;
+    judge_status(ran.answers(), ran.status)?;
+    judge_answers(scenario, place, has_failed, ran.answers())?;
+    let mut known = known(alloc, scenario.from)?;
+    known.log_failed = place.on_write && place.part == Part::Log;
+    take_all(&mut known, scenario.steps.as_slice(), ran.answers())?;
+    go_on(alloc, &ran, &mut known)?;
+    Ok(has_failed)
+}
+
+/// The answers are those that are wanted where nothing fails. Where something did, the first that is another has the fault as its
+/// cause, and none tells a fault of another disk, or a loss.
+fn judge_answers(
+    scenario: &Scenario,
+    place: Place,
+    has_failed: bool,
+    answers: &str,
+) -> Result<(), Finding> {
+    let mut wanted = scenario.wanted.lines();
+    let mut is_first = true;
+    let mut number = 0u64;
+    for line in answers.lines() {
+        number = number.saturating_add(1);
+        if wanted.next() != Some(line) {
+            if !has_failed || !may_be(scenario, place, is_first, line) {
+                return Err(Finding::Answer(number));
+            }
+            is_first = line.starts_with("ok") && is_first;
+        }
+    }
+    Ok(())
+}
+
+/// Whether an answer that is not the wanted one may be given.
+fn may_be(scenario: &Scenario, place: Place, is_first: bool, line: &str) -> bool {
+    let Some(answer) = Answer::read(line) else {
+        return false;
+    };
+    match answer.sort {
+        Sort::Ok => true,
+        Sort::Fault => answer.name == place.disk && may_fail(scenario, place),
+        Sort::Refused => !is_first || may_refuse(scenario, place, answer.rest),
+        Sort::Lost => false,
+    }
+}
+
+/// Whether an answer may tell the fault. A disk whose private region fails is dropped. A read of data has another plex, and so has a
+/// write of it; but the first start copies from one plex to the other. A write of the log is done on each copy, and a read of it has
+/// another copy, or there is no log.
+fn may_fail(scenario: &Scenario, place: Place) -> bool {
+    match place.part {
+        Part::Private => false,
+        Part::Data => scenario.from == VolumeState::Empty,
+        Part::Log => place.on_write,
+    }
+}
+
+/// Whether an answer may be refused, before which all were as wanted: an import that cannot read a private region; a start of a
+/// volume whose only log, or whose lowest plex where it is the first, lies on a disk that the import has dropped; and a start that
+/// cannot read the only log.
+fn may_refuse(scenario: &Scenario, place: Place, refusal: &str) -> bool {
+    match place.part {
+        Part::Private if place.on_write => may_lack(scenario, place, refusal),
+        Part::Private => refusal.strip_prefix("missing ") == Some(place.disk),
+        Part::Data => false,
+        Part::Log => refusal == "no log v" && !place.on_write && is_only_log(scenario, place),
+    }
+}
+
+/// Whether a start may be refused so where the import has dropped the disk.
+fn may_lack(scenario: &Scenario, place: Place, refusal: &str) -> bool {
+    match refusal {
+        "no log v" => is_only_log(scenario, place),
+        "no current 0" => scenario.from == VolumeState::Empty && place.disk == "disk01",
+        _ => false,
+    }
+}
+
+fn is_only_log(scenario: &Scenario, place: Place) -> bool {
+    scenario.only_log.as_str() == place.disk
+}

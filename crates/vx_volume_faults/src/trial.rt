@@ -1,0 +1,116 @@
+//! A run of a script over two devices in memory.
+ghost use Rattle.std.specs.Prelude.{◌≡◌, None};
+ghost use Rattle.vx_base.specs.Named.{Word};
+ghost use Rattle.vx_shelf.specs.OnShelf.{held_on};
+
+use std::alloc::{AllocError, Global};
+use std::str;
+use vx_flow::{MemSink, MemSource};
+use vx_names::Name;
+use vx_piece::{Bad, MemPiece};
+use vx_run::run;
+use vx_shelf::MemShelf;
+use vx_volume_judge::Finding;
+
+/// The room for the answers of a run.
+const ROOM: u64 = 65_536;
+
+/// The devices.
+pub const DEVICES: [&str; 2] = ["i0", "i1"];
+
+/// A run that has ended, and its devices.
+#[derive(Drop)]
+pub struct Ran {
+    shelf: MemShelf,
+    answers: Vec<u8>,
+    pub status: u8,
+}
+
+impl Ran {
+    pub fn answers(&self) -> &str {
+        str::from_utf8(self.answers.as_slice()).unwrap_or("")
+    }
+
+    /// What the devices hold now.
+    pub fn images(&self, alloc: Global) -> Result<Vec<&[u8]>, Finding> {
+        let mut images = Vec::new(alloc);
+        for name in DEVICES {
+            images.push(device(&self.shelf, name)?.bytes())?;
+        }
+        Ok(images)
+    }
+
+    /// Whether a call of some device has failed.
+    pub fn has_failed(&self) -> Result<bool, Finding> {
+        for name in DEVICES {
+            if 0 < device(&self.shelf, name)?.counts().faults {
+                return Ok(true);
+            }
+        }
+        Ok(false)
+    }
+}
+
+fn device<'s>(shelf: &'s MemShelf, name: &str) -> Result<&'s MemPiece, Finding> {
+    let name = read_name(name)?;
+    shelf.device(&name).ok_or(Finding::Images)
+}
+
+pub fn read_name(word: &str) -> Result<Name, Finding> {
+    match Name::read(word.as_bytes()) {
+        Ok(name) => Ok(name),
+        Err(_) => Err(Finding::Images),
+    }
+}
+
+/// Runs a script on devices of these bytes, of which one may have bad sectors.
+pub fn run_on(
+    alloc: Global,
+    images: &[&[u8]],
+    bad: Option<(&str, Bad)>,
+    script: &str,
+) -> Result<Ran, Finding> {
+    let mut devices = Vec::new(alloc);
+    let mut number = 0u32;
+    for (name, bytes) in DEVICES.iter().zip(images) {
+        let bads = bads_of(alloc, *name, bad)?;
+        let bytes = Vec::from_slice(alloc, *bytes)?;
+        let piece = MemPiece::new(number, bytes, bads).ok_or(Finding::Images)?;
+        devices.push((read_name(*name)?, piece))?;
+        number = number.saturating_add(1);
+    }
+    if !MemShelf::accepts(devices.as_slice()) {
+        return Err(Finding::Images);
+    }
+    run_script(alloc, MemShelf::new(devices), script)
+}
+
+/// The bad sectors of the device of a name.
+fn bads_of(alloc: Global, name: &str, bad: Option<(&str, Bad)>) -> Result<Vec<Bad>, AllocError> {
+    let mut bads = Vec::new(alloc);
+    if let Some((device, bad)) = bad {
+        if device == name {
+            bads.push(bad)?;
+        }
+    }
+    Ok(bads)
+}
+
+fn run_script(alloc: Global, shelf: MemShelf, script: &str) -> Result<Ran, Finding>
+    requires { (name : Word) → held_on shelf name ≡ None }
+{
+    let mut shelf = shelf;
+    let script = Vec::from_slice(alloc, script.as_bytes())?;
+    let mut source = MemSource::new(script, None);
+    let Ok(mut sink) = MemSink::new(alloc, ROOM) else {
+        return Err(Finding::OutOfMemory);
+    };
+    let words = ["--images", "."];
+    let status = run(alloc, words.as_slice(), &mut shelf, &mut source, &mut sink);
+    let answers = Vec::from_slice(alloc, sink.bytes())?;
+    Ok(Ran {
+        shelf,
+        answers,
+        status,
+    })
+}

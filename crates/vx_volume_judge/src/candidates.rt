@@ -1,0 +1,42 @@
+//! The values that each block of the volume may hold, by what was answered.
+use crate::bytes::{has, only};
+use std::alloc::{AllocError, Global};
+
+/// For each block the bytes of which it may be full, as a set of numbers below 64.
+#[derive(Drop)]
+pub struct Candidates {
+    blocks: Vec<u64>,
+}
+
+impl Candidates {
+    /// Each block is full of its byte.
+    pub fn new(alloc: Global, bytes: &[u8]) -> Result<Candidates, AllocError> {
+        let mut blocks = Vec::new(alloc);
+        for byte in bytes {
+            blocks.push(only(u64::from(*byte)))?;
+        }
+        Ok(Candidates { blocks })
+    }
+
+    /// Whether the block may be full of this byte. One that is not full of one byte is told by None.
+    pub fn has(&self, block: u64, byte: Option<u8>) -> bool {
+        match (self.blocks.get(block as usize), byte) {
+            (Some(bytes), Some(byte)) => has(*bytes, u64::from(byte)),
+            _ => false,
+        }
+    }
+
+    /// The block is full of this byte, and of no other.
+    pub fn set(&mut self, block: u64, byte: u8) {
+        if let Some(bytes) = self.blocks.get_mut(block as usize) {
+            *bytes = only(u64::from(byte));
+        }
+    }
+
+    /// The block may be full of this byte too.
+    pub fn add(&mut self, block: u64, byte: u8) {
+        if let Some(bytes) = self.blocks.get_mut(block as usize) {
+            *bytes |= only(u64::from(byte));
+        }
+    }
+}

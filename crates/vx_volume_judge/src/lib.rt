@@ -1,0 +1,25 @@
+//! A reader of disks with a mirror that shares nothing with the volume manager: what the bytes hold by the formats alone, and whether
+//! that is what the definitions and the answers that were given want.
+#![tactic(auto)]
+
+mod bytes;
+mod candidates;
+mod finding;
+mod known;
+mod private;
+mod record;
+mod sound;
+mod state;
+mod step;
+mod verdict;
+mod volume;
+
+pub use bytes::{cut, decimal, hexadecimal};
+pub use candidates::Candidates;
+pub use finding::Finding;
+pub use known::{Known, REGION, take_all};
+pub use private::PRIVATE;
+pub use state::VolumeState;
+pub use step::{Answer, Command, Sort, Step};
+pub use verdict::{judge, judge_start, judge_status};
+pub use volume::Volume;

@@ -1,0 +1,137 @@
+//! Whether what a run has left, and what it has answered, is as it has to be.
+use crate::bytes::has;
+use crate::finding::Finding;
+use crate::known::Known;
+use crate::sound::look;
+use crate::state::VolumeState;
+use crate::volume::{Plex, Volume, volume_on};
+use std::alloc::{AllocError, Global};
+
+/// The volume on these images, which is as it has to be by what is known.
+pub fn judge(alloc: Global, images: &[&[u8]], known: &Known) -> Result<Volume, Finding> {
+    let volume = volume_on(alloc, images)?;
+    if !known.may_be(volume.state) {
+        return Err(Finding::VolumeState);
+    }
+    look(&volume, &known.candidates, known.log_failed)?;
+    Ok(volume)
+}
+
+/// The status is 0 where each answer is ok, else 5.
+pub fn judge_status(answers: &str, status: u8) -> Result<(), Finding> {
+    let mut wanted = 0u8;
+    for line in answers.lines() {
+        if !is_ok(line) {
+            wanted = 5;
+        }
+    }
+    if status == wanted {
+        Ok(())
+    } else {
+        Err(Finding::Status)
+    }
+}
+
+fn is_ok(line: &str) -> bool {
+    line.starts_with("ok")
+}
+
+/// The import is done, the start is answered as what the disks hold wants it, and where it is done so is all behind it.
+pub fn judge_start(alloc: Global, volume: &Volume, answers: &str) -> Result<(), Finding> {
+    let wanted = start_of(alloc, volume)?;
+    let mut number = 0u64;
+    for line in answers.lines() {
+        number = number.saturating_add(1);
+        let fits = match number {
+            1 => line == "ok",
+            2 => line == wanted.as_str(),
+            _ => is_ok(line) || !is_ok(wanted.as_str()),
+        };
+        if !fits {
+            return Err(Finding::Answer(number));
+        }
+    }
+    Ok(())
+}
+
+/// The answer of a start of the volume as its disks hold it, once its group was imported.
+fn start_of(alloc: Global, volume: &Volume) -> Result<String, AllocError> {
+    match volume.state {
+        VolumeState::Empty => first_start_of(alloc, volume),
+        VolumeState::Clean => later_start_of(alloc, volume),
+        _ => String::from_str(alloc, "refused state NEEDSYNC"),
+    }
+}
+
+/// Of one that was never started: a log has to lie on good disks, and the lowest plex; then each other available plex is copied to.
+fn first_start_of(alloc: Global, volume: &Volume) -> Result<String, AllocError> {
+    if !has_held_log(volume) {
+        return String::from_str(alloc, "refused no log v");
+    }
+    if !is_lowest_available(volume) {
+        return String::from_str(alloc, "refused no current 0");
+    }
+    if volume.available() == 1 {
+        return String::from_str(alloc, "ok copied 0");
+    }
+    format!(in alloc; "ok copied {}", volume.regions())
+}
+
+fn has_held_log(volume: &Volume) -> bool {
+    for log in &volume.logs {
+        if log.held {
+            return true;
+        }
+    }
+    false
+}
+
+fn is_lowest_available(volume: &Volume) -> bool {
+    for plex in &volume.plexes {
+        if plex.is_available() && volume.is_lowest(plex) {
+            return true;
+        }
+    }
+    false
+}
+
+/// Of one that was stopped: the first copy of the log that counts has to leave an available plex unmarked in each region.
+fn later_start_of(alloc: Global, volume: &Volume) -> Result<String, AllocError> {
+    let Some(log) = first_copy(volume) else {
+        return String::from_str(alloc, "refused no log v");
+    };
+    match first_not_current(volume, log) {
+        Some(region) => format!(in alloc; "refused no current {region}"),
+        None => String::from_str(alloc, "ok copied 0"),
+    }
+}
+
+/// The first copy of the log that counts.
+fn first_copy(volume: &Volume) -> Option<&Plex> {
+    for log in &volume.logs {
+        if volume.counts(log) {
+            return Some(log);
+        }
+    }
+    None
+}
+
+/// The first region in which a copy of the log marks each available plex.
+fn first_not_current(volume: &Volume, log: &Plex) -> Option<u64> {
+    for region in 0..volume.regions() {
+        if !is_current(volume, volume.marks(log, region)) {
+            return Some(region);
+        }
+    }
+    None
+}
+
+/// Whether some available plex is not among these marks.
+fn is_current(volume: &Volume, marks: u64) -> bool {
+    for plex in &volume.plexes {
+        if plex.is_available() && !has(marks, plex.map) {
+            return true;
+        }
+    }
+    false
+}

@@ -1,15 +1,20 @@
-//! A volume of two plexes is started, written, read, stopped and imported beside a fault that is moved along all device calls. What
-//! each run leaves is read by the formats alone, and judged by the definitions.
+//! A volume of two plexes is started, written, read, stopped and imported beside a fault that is moved along all device calls, and
+//! while the power goes at each of them. What each run leaves is read by the formats alone, and judged by the definitions.
 #![tactic(auto)]
 
 mod base;
 mod case;
+mod clock;
+mod cut_piece;
+mod cut_shelf;
 mod later;
+mod power;
 mod scenario;
 mod sweep;
 mod trial;
 
 use base::Bases;
+use power::lose_power;
 use scenario::Scenario;
 use std::rt::Files;
 use std::{env, fs, io};
@@ -73,7 +78,7 @@ fn try_file<R: Files + AllocGlobal + Print>(rt: &R, file: &str) -> io::Result<()
         };
         try_kind(rt, &bases, &scenario, kind)?;
     }
-    Ok(())
+    try_power(rt, &bases, &scenario)
 }
 
 /// Tells whether all was as it has to be, or what was found first.
@@ -103,5 +108,20 @@ fn name_of(kind: Place) -> &'static str {
         (true, true) => "writes that fail for good",
         (false, false) => "a read that fails once",
         (false, true) => "reads that fail for good",
+    }
+}
+
+/// The same where the power goes.
+fn try_power<R: AllocGlobal + Print>(rt: &R, bases: &Bases, scenario: &Scenario) -> io::Result<()> {
+    let title = scenario.title.as_str();
+    match lose_power(rt.alloc(), bases, scenario) {
+        Ok(0) => println!(rt; "{title}, the power goes: it goes at no call"),
+        Ok(_) => println!(rt; "{title}, the power goes: ok"),
+        Err(found) => {
+            println!(rt;
+                "{title}, the power goes: call {}, which leaves {}: {}",
+                found.call, found.leaves, found.finding
+            )
+        }
     }
 }

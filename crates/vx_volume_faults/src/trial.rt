@@ -1,15 +1,16 @@
 //! A run of a script over two devices in memory.
 ghost use Rattle.std.specs.Prelude.{◌≡◌, None};
 ghost use Rattle.vx_base.specs.Named.{Word};
-ghost use Rattle.vx_shelf.specs.OnShelf.{held_on};
 
+use crate::clock::Clock;
+use crate::cut_shelf::CutShelf;
 use std::alloc::{AllocError, Global};
 use std::str;
 use vx_flow::{MemSink, MemSource};
 use vx_names::Name;
 use vx_piece::{Bad, MemPiece};
 use vx_run::run;
-use vx_shelf::MemShelf;
+use vx_shelf::{MemShelf, Shelf};
 use vx_volume_judge::Finding;
 
 /// The room for the answers of a run.
@@ -70,6 +71,45 @@ pub fn run_on(
     bad: Option<(&str, Bad)>,
     script: &str,
 ) -> Result<Ran, Finding> {
+    let devices = devices_of(alloc, images, bad)?;
+    if !MemShelf::accepts(devices.as_slice()) {
+        return Err(Finding::Images);
+    }
+    let mut shelf = MemShelf::new(devices);
+    let (answers, status) = run_script(alloc, &mut shelf, script)?;
+    Ok(Ran {
+        shelf,
+        answers,
+        status,
+    })
+}
+
+/// Runs a script on devices of these bytes, whose power goes where the clock says so.
+pub fn run_until(
+    alloc: Global,
+    images: &[&[u8]],
+    clock: &Clock,
+    script: &str,
+) -> Result<Ran, Finding> {
+    let devices = devices_of(alloc, images, None)?;
+    if !MemShelf::accepts(devices.as_slice()) {
+        return Err(Finding::Images);
+    }
+    let mut shelf = CutShelf::new(MemShelf::new(devices), clock);
+    let (answers, status) = run_script(alloc, &mut shelf, script)?;
+    Ok(Ran {
+        shelf: shelf.devices,
+        answers,
+        status,
+    })
+}
+
+/// Devices of these bytes, with their names.
+fn devices_of(
+    alloc: Global,
+    images: &[&[u8]],
+    bad: Option<(&str, Bad)>,
+) -> Result<Vec<(Name, MemPiece)>, Finding> {
     let mut devices = Vec::new(alloc);
     let mut number = 0u32;
     for (name, bytes) in DEVICES.iter().zip(images) {
@@ -79,10 +119,7 @@ pub fn run_on(
         devices.push((read_name(*name)?, piece))?;
         number = number.saturating_add(1);
     }
-    if !MemShelf::accepts(devices.as_slice()) {
-        return Err(Finding::Images);
-    }
-    run_script(alloc, MemShelf::new(devices), script)
+    Ok(devices)
 }
 
 /// The bad sectors of the device of a name.
@@ -96,21 +133,20 @@ fn bads_of(alloc: Global, name: &str, bad: Option<(&str, Bad)>) -> Result<Vec<Ba
     Ok(bads)
 }
 
-fn run_script(alloc: Global, shelf: MemShelf, script: &str) -> Result<Ran, Finding>
-    requires { (name : Word) → held_on shelf name ≡ None }
+/// Runs a script, and tells its answers and its status.
+fn run_script<S: Shelf>(
+    alloc: Global,
+    shelf: &mut S,
+    script: &str,
+) -> Result<(Vec<u8>, u8), Finding>
+    requires { (name : Word) → S.held shelf.old name ≡ None }
 {
-    let mut shelf = shelf;
     let script = Vec::from_slice(alloc, script.as_bytes())?;
     let mut source = MemSource::new(script, None);
     let Ok(mut sink) = MemSink::new(alloc, ROOM) else {
         return Err(Finding::OutOfMemory);
     };
     let words = ["--images", "."];
-    let status = run(alloc, words.as_slice(), &mut shelf, &mut source, &mut sink);
-    let answers = Vec::from_slice(alloc, sink.bytes())?;
-    Ok(Ran {
-        shelf,
-        answers,
-        status,
-    })
+    let status = run(alloc, words.as_slice(), shelf, &mut source, &mut sink);
+    Ok((Vec::from_slice(alloc, sink.bytes())?, status))
 }

@@ -4,3 +4,5 @@ mod GoodDisks
 mod Subdisks
 mod Counts
 mod Whole
+mod Sectors
+mod OneList

@@ -26,3 +26,7 @@ is_free c good disk x = list_any (λ d. is_good good d && has_public disk x d) c
 pub record AreFree (c : Config) (good : ℕ) (free : List Extent) : Type 0 where
   pub sectors : (disk : Word) (x : ℕ) → is_listed free disk x ≡ is_free c good disk x
   pub order : are_in_order free ≡ true
+
+-- a configuration and a mask have one list of free extents
+abbrev pub EachHasOneFreeList : Type 0
+EachHasOneFreeList = (c : Config) (good : ℕ) (es fs : List Extent) → AreFree c good es → AreFree c good fs → es ≡ fs

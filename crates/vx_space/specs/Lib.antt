@@ -3,3 +3,4 @@ pub mod Disks
 pub mod Free
 pub mod Gaps
 pub mod Small
+pub mod Taking

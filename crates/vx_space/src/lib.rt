@@ -6,6 +6,7 @@ mod extent;
 mod fault;
 mod free;
 mod gaps;
+pub mod laws;
 mod taking;
 
 pub use disks::good_disks;

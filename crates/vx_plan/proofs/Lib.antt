@@ -1,0 +1,4 @@
+mod Repeats
+mod Numbers
+mod Spreads
+mod OneAnswer

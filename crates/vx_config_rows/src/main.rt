@@ -6,6 +6,10 @@
 //! - `back`: whether a configuration that is read gives the records and the text back;
 //! - `view`: whether what is printed of the volume EDIT is the text of the file WANTED;
 //! - `lies`: where the plexes of the edited text lie: the strips of each column, each as `SLOT:FIRST+COUNT`;
+//! - `plan`: where plexes and logs go on the edited text. Before its edits EDIT has the request, parted from them by ` ;; `: the
+//!   mask of the good slots, the sectors of the volume and of its regions, how many columns, the stripe unit, how many
+//!   plexes, how many logs, and the names of disks, those to be avoided behind a `-`. The answer has the extents of each
+//!   column, each as `DISK:FIRST+COUNT`, or the refusal;
 //! - `apply`: what becomes of the configuration by edits: the text of BASE under the edits WANTED, or the refusal;
 //! - `fronts`: each front of the text is read or refused at its last line;
 //! - `bytes`: the text with each byte in turn replaced by that of EDIT is read or refused at the line of that byte.
@@ -15,6 +19,7 @@
 mod answer;
 mod edits;
 mod lies;
+mod plans;
 mod row;
 mod text;
 mod torn;

@@ -2,8 +2,9 @@
 use crate::answer::{joined, named, refusal, unprinted};
 use crate::edits::edits_of;
 use crate::lies::lies;
+use crate::plans::planned;
 use crate::row::Row;
-use crate::text::{edited, is};
+use crate::text::{edited, is, parted};
 use crate::torn::{bytes, fronts};
 use std::alloc::Global;
 use vx_base::OutOfMemory;
@@ -24,6 +25,9 @@ pub fn answer_to(alloc: Global, row: &Row, base: &[u8]) -> Result<Vec<u8>, OutOf
             Err(said) => said,
         };
     }
+    if is(row.kind, b"plan") {
+        return plan(alloc, row, base);
+    }
     if is(row.kind, b"fronts") {
         return fronts(alloc, base);
     }
@@ -32,6 +36,19 @@ pub fn answer_to(alloc: Global, row: &Row, base: &[u8]) -> Result<Vec<u8>, OutOf
     }
     match config_of(alloc, base) {
         Ok(mut config) => answer_of(alloc, row, base, &mut config),
+        Err(said) => said,
+    }
+}
+
+/// Where plexes and logs go on the text after the edits, which stand behind the words of the request.
+fn plan(alloc: Global, row: &Row, base: &[u8]) -> Result<Vec<u8>, OutOfMemory> {
+    let (words, edits) = match parted(row.edit, b" ;; ") {
+        Some(parts) => parts,
+        None => (row.edit, b"".as_slice()),
+    };
+    let text = edited(alloc, base, edits)?;
+    match config_of(alloc, &text) {
+        Ok(config) => planned(alloc, words, &config),
         Err(said) => said,
     }
 }

@@ -1,0 +1,6 @@
+mod Lookups
+mod FreeNames
+mod Nexts
+mod Pairs
+mod Steps
+mod InOrder

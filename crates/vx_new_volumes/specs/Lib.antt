@@ -1,0 +1,4 @@
+pub mod Naming
+pub mod Laying
+pub mod Records
+pub mod Tests

@@ -1,6 +1,6 @@
 -- Records that are added.
 use Rattle.std.proofs.Common.{◌≡◌, Bool, true, false, cond, Option, Some, None, List, [], ◌∷◌, ◌++◌, refl, sym, ◌∙◌, ap, subst, inl, inr}
-use Rattle.std.specs.List.{filter, filter_map, cons_option}
+use Rattle.std.specs.List.{filter, filter_map}
 use Rattle.std.specs.Str.{bytes_eq}
 use Rattle.std.proofs.lemmas.Bool.{false≢true, false_from_ne_true}
 use Rattle.std.proofs.lemmas.List.{append-nil}
@@ -28,12 +28,13 @@ use Rattle.vx_objects.proofs.OneGroup.{first_none, second_none}
 use Rattle.vx_plexes.proofs.Members.{IsIn, first_of_in, one_in, plex_in}
 use Rattle.vx_plexes.proofs.Plexes.{config_valid}
 use Rattle.vx_answers.specs.declared.refusal.Refusal.{Refusal}
-use Rattle.vx_stages.specs.Making.{adding_refusal, broken, limit_rules, made, reference_rules, space_rules, started_name}
+use Rattle.vx_stages.specs.Making.{adding_refusal, broken, limit_rules, reference_rules, space_rules, started_name}
 use Rattle.vx_stages.specs.Refusals.{refusal_from}
 use Rattle.vx_image.specs.UsedPlexes.{IsVolOf}
 use Rattle.vx_volume_form.proofs.Distinct.{AreDistinct, distinct_names, filtered}
 use Rattle.vx_group_edits.specs.Laws.{EachJoiningKeeps, EachMakingKeeps, EachRewritingKeeps}
 use Rattle.vx_group_edits.proofs.ByKind.{Leaves, untouched}
+use Rattle.vx_group_edits.proofs.Fresh.{each_fresh, is_fresh}
 use Rattle.vx_group_edits.proofs.Lists.{none_seen, not_picked, picked}
 use Rattle.vx_group_edits.proofs.Untouched.{plexes_of, stays}
 
@@ -86,7 +87,7 @@ joining_keeps c c' disk edits v of other good good' fewer =
     (untouched c v of c' stay (DiskRecord disk ∷ []) (edits ∙ ap (λ os. in_kinds os) (joining_edited disk (objects_of c)))
     (added_leaves c v (DiskRecord disk ∷ []) (record { no_plex = refl; no_subdisk = λ p own. refl; no_snap = refl })))
 
--- ---- the records of a text
+-- ---- records of a source
 
 making_edited : (more os : List Object) → edited (Make more) os ≡ filter_map (λ o. Some o) os ++ more
 unfolding change added
@@ -132,35 +133,22 @@ module _ (c : Config) (v : Vol) (of : IsVolOf c v) (more : List Object) (none : 
   no_subdisk_of p own (SubdiskRecord s) e = not_picked (λ s. refers s.plex p.name) as_subdisk s (not_had (objects_of c) s.plex p.name e (plex_had c p (filtered (λ p. refers p.vol v.name) c.plexes p own).0))
   no_subdisk_of p own o e = refl
 
-  text_others : ((o : Object) → IsIn more o → picked (λ s. true) as_snap (as_snap o) ≡ []) → AreOthers c v more
-  text_others no_snaps = record {
+  are_others : ((o : Object) → IsIn more o → picked (λ s. true) as_snap (as_snap o) ≡ []) → AreOthers c v more
+  are_others no_snaps = record {
     no_plex = none_seen (λ p. refers p.vol v.name) as_plex more (λ o there. no_plex_of o (first_of_in (had_fault (objects_of c)) more o none there));
     no_subdisk = λ p own. none_seen (λ s. refers s.plex p.name) as_subdisk more (λ o there. no_subdisk_of p own o (first_of_in (had_fault (objects_of c)) more o none there));
     no_snap = none_seen (λ s. true) as_snap more no_snaps;
   }
 
--- no relation is made of a text
-abbrev snap_seen : Option Object → List Snap
-snap_seen None = []
-snap_seen (Some o) = picked (λ s. true) as_snap (as_snap o)
-
-none_of_made : (o : Object) → snap_seen (made o) ≡ []
-none_of_made (GroupRecord x) = refl
-none_of_made (DiskRecord x) = refl
-none_of_made (SubdiskRecord x) = refl
-none_of_made (PlexRecord x) = refl
-none_of_made (VolRecord x) = refl
-none_of_made (DcoRecord x) = refl
-none_of_made (SnapRecord x) = refl
-
-none_made : (all : List Object) (o : Object) → IsIn (filter_map made all) o → picked (λ s. true) as_snap (as_snap o) ≡ []
-none_made [] o there = absurd there
-none_made (x ∷ all) o there = by (λ m. none_made all o m) (made x) (none_of_made x) there
-  where
-    by : (IsIn (filter_map made all) o → picked (λ s. true) as_snap (as_snap o) ≡ []) → (m : Option Object) → snap_seen m ≡ [] → IsIn (cons_option m (filter_map made all)) o → picked (λ s. true) as_snap (as_snap o) ≡ []
-    by on None e there = on there
-    by on (Some y) e (inl same) = subst (λ z. picked (λ s. true) as_snap (as_snap z) ≡ []) (sym same) e
-    by on (Some y) e (inr there) = on there
+-- a fresh record is of no relation
+no_relation : (o : Object) → is_fresh o ≡ true → picked (λ s. true) as_snap (as_snap o) ≡ []
+no_relation (SnapRecord x) e = cc
+no_relation (GroupRecord x) e = cc
+no_relation (DiskRecord x) e = cc
+no_relation (SubdiskRecord x) e = refl
+no_relation (PlexRecord x) e = refl
+no_relation (VolRecord x) e = refl
+no_relation (DcoRecord x) e = refl
 
 -- ---- the tests of added records let none through that refers to a plex or a volume of the group
 
@@ -202,10 +190,8 @@ none_had is_started group more e =
     each_answered group more (first_none (refusal_from (first_of (had_fault group) more)) tests rest)
 
 pub making_keeps : EachMakingKeeps
-making_keeps c c' text more is_started adds fine edits v of other good good' fewer =
-    let all = adds.1 in
-    let same : more ≡ filter_map made all = adds.4 in
-    let no_snaps : (o : Object) → IsIn more o → picked (λ s. true) as_snap (as_snap o) ≡ [] = λ o there. none_made all o (subst (λ os. IsIn os o) same there) in
+making_keeps c c' from g more is_started adds fine edits v of other good good' fewer =
+    let no_snaps : (o : Object) → IsIn more o → picked (λ s. true) as_snap (as_snap o) ≡ [] = λ o there. no_relation o (each_fresh from is_started g more adds o there) in
     stays c v c' good good' fewer
     (untouched c v of c' stay more (edits ∙ ap (λ os. in_kinds os) (making_edited more (objects_of c)))
-    (added_leaves c v more (text_others c v of more (none_had is_started (objects_of c) more fine) no_snaps)))
+    (added_leaves c v more (are_others c v of more (none_had is_started (objects_of c) more fine) no_snaps)))

@@ -3,6 +3,8 @@ pub mod Columns
 pub mod Untouched
 pub mod ByKind
 pub mod Changed
+pub mod Fresh
+pub mod NewNames
 pub mod Added
 pub mod Restated
 pub mod Commands

@@ -13,10 +13,12 @@ use Rattle.vx_objects.specs.Config.{objects_of}
 use Rattle.vx_state_edits.specs.Edits.{start_edits, stop_edits}
 use Rattle.vx_image.specs.UsedPlexes.{IsVolOf}
 use Rattle.vx_moments.specs.World.{Group}
-use Rattle.vx_stages.specs.Making.{Adds, adding_refusal}
+use Rattle.vx_stages.specs.Making.{adding_refusal}
+use Rattle.vx_stages.specs.Sources.{AddsFrom}
 use Rattle.vx_stages.specs.Stages.{edits_of}
 use Rattle.vx_stages.specs.declared.stage.Change.{Change}
 use Rattle.vx_stages.specs.declared.stage.Change.TheVariants as changes
+use Rattle.vx_stages.specs.declared.stage.Source.{Source}
 use Rattle.vx_group_edits.specs.Stays.{EachStays}
 
 -- Another policy of a volume keeps every volume, and the volume itself where it has the state that the edit gives it.
@@ -42,11 +44,11 @@ EachChangeKeeps = (g : Group) (change : Change) (c' : Config) → IsEdited (edit
 abbrev pub EachJoiningKeeps : Type 0
 EachJoiningKeeps = (c c' : Config) (disk : Disk) → IsEdited (AddDisk disk ∷ []) c c' → EachStays (λ v. Unit {0}) c c'
 
--- So do the records of a text that are added, where the tests of added records let them through: no record of theirs refers to a plex
--- or a volume of the group.
+-- So do records that are added, of a text or of a new volume, where the tests of added records let them through: no record of theirs
+-- refers to a plex or a volume of the group.
 abbrev pub EachMakingKeeps : Type 0
 EachMakingKeeps =
-    (c c' : Config) (text : List ℕ) (added : List Object) (is_started : Word → Bool) → Adds text added → adding_refusal is_started (objects_of c) added ≡ None →
+    (c c' : Config) (from : Source) (g : Group) (added : List Object) (is_started : Word → Bool) → AddsFrom from is_started g added → adding_refusal is_started (objects_of c) added ≡ None →
     IsEdited (Make added ∷ []) c c' → EachStays (λ v. Unit {0}) c c'
 
 -- What the start of a volume records keeps every other one, ..

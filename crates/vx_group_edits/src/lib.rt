@@ -25,7 +25,7 @@ pub fn each_joining_keeps()
     ensures { EachJoiningKeeps }
 {}
 
-/// The records of a text that are added keep every volume.
+/// Records that are added, of a text or of a new volume, keep every volume.
 pub fn each_making_keeps()
     ensures { EachMakingKeeps }
 {}

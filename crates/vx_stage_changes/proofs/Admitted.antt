@@ -4,7 +4,6 @@ use Rattle.std.specs.Prelude.{IfSome, MatchOption}
 use Rattle.std.proofs.lemmas.List.{append-nil, take-append-drop}
 use Rattle.vx_pages.specs.declared.local_piece.LocalPiece.{Ghosts}
 use Rattle.vx_base.specs.Blocks.{Contents}
-use Rattle.vx_base.specs.Named.{Word}
 use Rattle.vx_piece.specs.Seen.{Seen}
 use Rattle.vx_copies.specs.Disks.{DiskSeen, disk_seen, CommitGoes, IsReady}
 use Rattle.vx_copies.specs.Lists.{AllOf, Each}
@@ -39,8 +38,6 @@ use Rattle.vx_house.proofs.Returns.{apart_back, apart_front}
 use Rattle.vx_copies.proofs.ToggleOrder.{each_all}
 use Rattle.vx_stage_changes.specs.Joining.{disk_for, IsJoin, IsInHand}
 use Rattle.vx_stage_changes.proofs.Entry.{held_long, holders_before}
-use Rattle.vx_house.specs.Runs.{run_in}
-use Rattle.vx_house.specs.View.{IsGroupIdle}
 use Rattle.vx_group_start.specs.Laying.{AreRunningVolumes, AreStuckVolumes}
 
 -- ---- disks with their whole devices

@@ -36,9 +36,9 @@ use Rattle.vx_house.specs.declared.stop.Stop.TheVariants as stops
 use Rattle.vx_house.proofs.Takes.{rests_self}
 use Rattle.vx_commits.proofs.Holders.{world_group, group_before}
 use Rattle.vx_stage_changes.specs.Changing.{ChangeEnds}
-use Rattle.vx_stage_changes.specs.Planning.{change_edits}
+use Rattle.vx_stage_changes.specs.Planning.{change_edits, IsUnplanned}
 use Rattle.vx_stage_changes.proofs.Configs.{disks_kept, group_kept}
-use Rattle.vx_stage_changes.proofs.EditStage.{IsStage, refused_here, house, edits_go}
+use Rattle.vx_stage_changes.proofs.EditStage.{IsStage, unplanned_refused, refused_here, house, edits_go}
 
 -- the edits of a change go by the configuration alone
 edits_same : (c : Change) (w : Group) → edits_of c (Some w) ≡ change_edits c w.config
@@ -78,7 +78,7 @@ module _ {P : Type 0} {ghosts : Ghosts P} (see : P → Seen) (c : Change) (disks
     is_change : (m : Moment) (x : Writing) → IsMoment see (at shelf old) m → IsChange (change_edits c g.config) m.world x → IsChange (edits_of c m.world.group) m.world x
     is_change m x is change = subst (λ es. IsChange es m.world x) (sym (edits_here m is)) change
 
-    is_stage : IsStage see (stage.Change c) disks shelf old g (change_edits c g.config)
+    is_stage : IsStage see (stage.Change c) disks shelf old g (change_edits c g.config) (IsUnplanned (change_edits c g.config) g.config)
     is_stage = record {
       writes = refl;
       wants = λ m. refl;
@@ -89,8 +89,9 @@ module _ {P : Type 0} {ghosts : Ghosts P} (see : P → Seen) (c : Change) (disks
           change_keeps (world_group see g) c next (subst (λ es. IsEdited es g.config next) (sym (edits_same c (world_group see g))) edited) v of (stays_by see c disks old g has ready v runs) good good' fewer;
       done = λ m n x is change committed. (x, is_change m x is change, committed);
       stops = λ m n end x is change stopped. inr (inr (x, is_change m x is change, stopped));
-      refuses = λ m w r is here same refused. inr (inl ((w, here, subst (λ es. EditsRefused es w (ends.Refused r)) (sym (edits_same c w ∙ ap (change_edits c) same)) refused), rests_self m));
+      refused = unplanned_refused (change_edits c g.config) g.config;
+      refuses = λ m r is refused. inr (inl ((world_group see g, group_before see shelf old g has m is, subst (λ es. EditsRefused es (world_group see g) (ends.Refused r)) (sym (edits_same c (world_group see g))) refused), rests_self m));
     }
 
     pub change_goes : (result : Result (Unit {0}) Stop) (g' : Imported P ghosts) → ChangeEnds see (change_edits c g.config) result g g' → StageGoes see (stage.Change c) disks result (at shelf old) (at shelf (house see (stage.Change c) disks shelf old keeps are_held g has g'))
-    change_goes result g' ends = edits_go see (stage.Change c) disks shelf old keeps are_held g has (change_edits c g.config) is_stage result g' ends
+    change_goes result g' ends = edits_go see (stage.Change c) disks shelf old keeps are_held g has (change_edits c g.config) (IsUnplanned (change_edits c g.config) g.config) is_stage result g' ends

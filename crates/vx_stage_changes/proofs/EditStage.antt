@@ -35,9 +35,9 @@ use Rattle.vx_commits.proofs.Alone.{IsWrittenIn, alone, sized_after, x_alone, lo
 use Rattle.vx_commits.proofs.Holders.{group_before}
 use Rattle.vx_commits.proofs.Stillness.{slots_now, recorded_now, whole_now}
 use Rattle.vx_commits.proofs.CommitStage.{done_stage, group_lost_stage, power_lost_stage}
-use Rattle.vx_stage_changes.specs.Changing.{IsMeant, SamePublic, ChangeEnds}
+use Rattle.vx_stage_changes.specs.Changing.{IsMeant, SamePublic, ChangeEndsBy}
 use Rattle.vx_commits.specs.Committing.{IsTried, IsFinished, CommitEnds}
-use Rattle.vx_stage_changes.specs.Planning.{IsUnplanned}
+use Rattle.vx_stage_changes.specs.Planning.{IsUnplanned, IsUnplannedBy}
 use Rattle.vx_group_edits.specs.Stays.{EachStays}
 use Rattle.vx_commits.proofs.Owns.{Runs}
 use Rattle.vx_commits.proofs.Runners.{places_done, runs_done, runs_lost}
@@ -47,37 +47,62 @@ pub refused_so : (edits : List Edit) (w : Group) (end : End) → IsUnplanned edi
 refused_so edits w end (inl broken) = (broken.0, broken.2, inl broken)
 refused_so edits w end (inr long) = (refusal.TooLong (length long.2.0), long.2.3, inr long)
 
--- the edits are refused, and nothing is done
-pub unplanned_ends : {P : Type 0} {ghosts : Ghosts P} (see : P → Seen) (edits : List Edit) (g : Imported P ghosts) (stop : Stop) → IsUnplanned edits g.config stop → ChangeEnds see edits (Err stop) g g
-unplanned_ends see edits g stops.OutOfMemory is = refl
-unplanned_ends see edits g (stops.Ended (ends.Done copied parts blocks)) is = (refl, is)
-unplanned_ends see edits g (stops.Ended (ends.Refused r)) is = (refl, is)
-unplanned_ends see edits g (stops.Ended (ends.Fault told device parts)) is = (refl, is)
-unplanned_ends see edits g (stops.Ended ends.ShelfFailed) is = (refl, is)
-unplanned_ends see edits g (stops.Ended ends.GroupLost) is = let why = refused_so edits (record { config = g.config; good = 0; members = []; sequence = 0 }) ends.GroupLost is in let e = why.1 in cc
-unplanned_ends see edits g (stops.Ended (ends.Lost parts)) is = let why = refused_so edits (record { config = g.config; good = 0; members = []; sequence = 0 }) (ends.Lost parts) is in let e = why.1 in cc
+-- a command that is stopped for such a cause is refused
+abbrev pub AreRefusals : (Stop → Type 0) → Type 0
+AreRefusals IsCause = (end : End) → IsCause (stops.Ended end) → (r : Refusal) × (end ≡ ends.Refused r)
 
--- the commit is not done
-pub stopped_ends : {P : Type 0} {ghosts : Ghosts P} (see : P → Seen) (edits : List Edit) (g g' : Imported P ghosts) (next : Config) (text : List ℕ) (stop : Stop) → g'.config ≡ g.config → SamePublic g g' → IsMeant edits g.config next text → CommitEnds see (Err stop) text g.base g'.base → ChangeEnds see edits (Err stop) g g'
-stopped_ends {P = P} {ghosts = ghosts} see edits g g' next text stops.OutOfMemory same public meant is = ap (λ k. (let h : Imported P ghosts = record { config = k; base = g'.base; public = g'.public } in h)) same ∙ ap (λ b. (let h : Imported P ghosts = record { config = g.config; base = b; public = g'.public } in h)) is ∙ ap (λ p. (let h : Imported P ghosts = record { config = g.config; base = g.base; public = p } in h)) public
-stopped_ends see edits g g' next text (stops.Ended (ends.Done copied parts blocks)) same public meant is = absurd is
-stopped_ends see edits g g' next text (stops.Ended (ends.Refused r)) same public meant is = absurd is
-stopped_ends see edits g g' next text (stops.Ended (ends.Fault told device parts)) same public meant is = absurd is
-stopped_ends see edits g g' next text (stops.Ended ends.ShelfFailed) same public meant is = absurd is
-stopped_ends see edits g g' next text (stops.Ended ends.GroupLost) same public meant is = (public, (next, text, meant, is.0, is.1))
-stopped_ends see edits g g' next text (stops.Ended (ends.Lost parts)) same public meant is = (is.0, public, (next, text, meant, is.1, is.2))
+pub unplanned_refused : (edits : List Edit) (config : Config) → AreRefusals (IsUnplanned edits config)
+unplanned_refused edits config end (inl broken) = (broken.0, broken.2)
+unplanned_refused edits config end (inr long) = (refusal.TooLong (length long.2.0), long.2.3)
 
--- What a stage of these edits is, over the house with this group.
-pub record IsStage {P : Type 0} {ghosts : Ghosts P} (see : P → Seen) (s : Stage) (disks : List DiskAt) (shelf : Shelved) (old : House P ghosts) (g : Imported P ghosts) (edits : List Edit) : Type 0 where
+pub grown_refused : (more : ℕ) (edits : List Edit) (config : Config) → AreRefusals (IsUnplannedBy more edits config)
+grown_refused more edits config end (inl broken) = (broken.0, broken.2)
+grown_refused more edits config end (inr long) = (refusal.TooLong (length long.2.0 + more), long.2.3)
+
+module _ {P : Type 0} {ghosts : Ghosts P} (see : P → Seen) (IsCause : Stop → Type 0) (edits : List Edit) where
+  -- the edits are refused, and nothing is done
+  pub unplanned_ends : AreRefusals IsCause → (g : Imported P ghosts) (stop : Stop) → IsCause stop → ChangeEndsBy see IsCause edits (Err stop) g g
+  unplanned_ends refused g stops.OutOfMemory is = refl
+  unplanned_ends refused g (stops.Ended (ends.Done copied parts blocks)) is = (refl, is)
+  unplanned_ends refused g (stops.Ended (ends.Refused r)) is = (refl, is)
+  unplanned_ends refused g (stops.Ended (ends.Fault told device parts)) is = (refl, is)
+  unplanned_ends refused g (stops.Ended ends.ShelfFailed) is = (refl, is)
+  unplanned_ends refused g (stops.Ended ends.GroupLost) is = let why = refused ends.GroupLost is in let e = why.1 in cc
+  unplanned_ends refused g (stops.Ended (ends.Lost parts)) is = let why = refused (ends.Lost parts) is in let e = why.1 in cc
+
+  -- the commit is not done
+  pub stopped_ends : (g g' : Imported P ghosts) (next : Config) (text : List ℕ) (stop : Stop) → g'.config ≡ g.config → SamePublic g g' → IsMeant edits g.config next text → CommitEnds see (Err stop) text g.base g'.base → ChangeEndsBy see IsCause edits (Err stop) g g'
+  stopped_ends g g' next text stops.OutOfMemory same public meant is = ap (λ k. (let h : Imported P ghosts = record { config = k; base = g'.base; public = g'.public } in h)) same ∙ ap (λ b. (let h : Imported P ghosts = record { config = g.config; base = b; public = g'.public } in h)) is ∙ ap (λ p. (let h : Imported P ghosts = record { config = g.config; base = g.base; public = p } in h)) public
+  stopped_ends g g' next text (stops.Ended (ends.Done copied parts blocks)) same public meant is = absurd is
+  stopped_ends g g' next text (stops.Ended (ends.Refused r)) same public meant is = absurd is
+  stopped_ends g g' next text (stops.Ended (ends.Fault told device parts)) same public meant is = absurd is
+  stopped_ends g g' next text (stops.Ended ends.ShelfFailed) same public meant is = absurd is
+  stopped_ends g g' next text (stops.Ended ends.GroupLost) same public meant is = (public, (next, text, meant, is.0, is.1))
+  stopped_ends g g' next text (stops.Ended (ends.Lost parts)) same public meant is = (is.0, public, (next, text, meant, is.1, is.2))
+
+  -- a cause that is another one too
+  pub ends_weaker : (IsOther : Stop → Type 0) → ((stop : Stop) → IsCause stop → IsOther stop) → (g g' : Imported P ghosts) (result : Result (Unit {0}) Stop) → ChangeEndsBy see IsCause edits result g g' → ChangeEndsBy see IsOther edits result g g'
+  ends_weaker IsOther to g g' (Ok u) is = is
+  ends_weaker IsOther to g g' (Err stops.OutOfMemory) is = is
+  ends_weaker IsOther to g g' (Err (stops.Ended ends.GroupLost)) is = is
+  ends_weaker IsOther to g g' (Err (stops.Ended (ends.Lost parts))) is = is
+  ends_weaker IsOther to g g' (Err (stops.Ended (ends.Done copied parts blocks))) is = (is.0, to (stops.Ended (ends.Done copied parts blocks)) is.1)
+  ends_weaker IsOther to g g' (Err (stops.Ended (ends.Refused r))) is = (is.0, to (stops.Ended (ends.Refused r)) is.1)
+  ends_weaker IsOther to g g' (Err (stops.Ended (ends.Fault told device parts))) is = (is.0, to (stops.Ended (ends.Fault told device parts)) is.1)
+  ends_weaker IsOther to g g' (Err (stops.Ended ends.ShelfFailed)) is = (is.0, to (stops.Ended ends.ShelfFailed) is.1)
+
+-- What a stage of these edits is, over the house with this group, where it is refused for such causes.
+pub record IsStage {P : Type 0} {ghosts : Ghosts P} (see : P → Seen) (s : Stage) (disks : List DiskAt) (shelf : Shelved) (old : House P ghosts) (g : Imported P ghosts) (edits : List Edit) (IsCause : Stop → Type 0) : Type 0 where
   pub writes : only_reads s ≡ false
   pub wants : (m : Moment) → Wants s m m
   pub gives : (h : House P ghosts) → Gives see s disks h
   pub group : (next : Config) → IsEdited edits g.config next → next.group ≡ g.config.group
   pub keeps_disks : (next : Config) → IsEdited edits g.config next → next.disks ≡ g.config.disks
   pub stays : (next : Config) → IsEdited edits g.config next → EachStays (λ v. Runs g v.name) g.config next
+  pub refused : AreRefusals IsCause
+  pub refuses : (m : Moment) (r : Refusal) → IsMoment see (at shelf old) m → IsCause (stops.Ended (ends.Refused r)) → Stops s disks m (ends.Refused r) m
   pub done : (m n : Moment) (x : Writing) → IsMoment see (at shelf old) m → IsChange edits m.world x → IsCommitted x m n → IsDone s disks m n
   pub stops : (m n : Moment) (end : End) (x : Writing) → IsMoment see (at shelf old) m → IsChange edits m.world x → IsStopped x m end n → Stops s disks m end n
-  pub refuses : (m : Moment) (w : Group) (r : Refusal) → IsMoment see (at shelf old) m → m.world.group ≡ Some w → w.config ≡ g.config → EditsRefused edits w (ends.Refused r) → Stops s disks m (ends.Refused r) m
 
 module _ {P : Type 0} {ghosts : Ghosts P} (see : P → Seen) (s : Stage) (disks : List DiskAt) (shelf : Shelved) (old : House P ghosts) (keeps : KeepsHouse see old) (are_held : AreHeld shelf.held (holders see old)) where
   -- want of memory
@@ -121,16 +146,12 @@ module _ {P : Type 0} {ghosts : Ghosts P} (see : P → Seen) (s : Stage) (disks 
     whole_after : (g' : Imported P ghosts) (text : List ℕ) → SamePublic g g' → IsTried see text g.base g'.base → IsGroupWhole see g'
     whole_after g' text public tried = whole_now see g g' (g.base.sequence + 1) g'.base.sequence text tried.committed.goes public kept.whole
 
-    module _ (edits : List Edit) (is_stage : IsStage see s disks shelf old g edits) where
-      refused_by : (end : End) → IsUnplanned edits g.config (stops.Ended end) → StageGoes {T = Unit {0}} see s disks (Err (stops.Ended end)) (at shelf old) (at shelf old)
+    module _ (edits : List Edit) (IsCause : Stop → Type 0) (is_stage : IsStage see s disks shelf old g edits IsCause) where
+      refused_by : (end : End) → IsCause (stops.Ended end) → StageGoes {T = Unit {0}} see s disks (Err (stops.Ended end)) (at shelf old) (at shelf old)
       refused_by end is =
-          let w : Group = record { config = g.config; good = 0; members = []; sequence = 0 } in
-          let why = refused_so edits w end is in
+          let why = is_stage.refused end is in
           subst (λ e. StageGoes {T = Unit {0}} see s disks (Err (stops.Ended e)) (at shelf old) (at shelf old)) (sym why.1)
-          (refused_here why.0 (λ m at_m.
-          let here = group_at m at_m in
-          is_stage.refuses m here.0 why.0 at_m here.1 here.2
-          (subst (λ k. EditsRefused edits (record { config = k; good = here.0.good; members = here.0.members; sequence = here.0.sequence }) (ends.Refused why.0)) (sym here.2) (subst (EditsRefused edits w) why.1 why.2))))
+          (refused_here why.0 (λ m at_m. is_stage.refuses m why.0 at_m (subst (λ e. IsCause (stops.Ended e)) why.1 is)))
 
       same_name : (next : Config) → IsEdited edits g.config next → next.group ≡ g.base.name
       same_name next edited = is_stage.group next edited ∙ sym kept.named
@@ -151,7 +172,7 @@ module _ {P : Type 0} {ghosts : Ghosts P} (see : P → Seen) (s : Stage) (disks 
       is_change : (m : Moment) → IsMoment see (at shelf old) m → (g' : Imported P ghosts) (text : List ℕ) (public : SamePublic g g') (tried : IsTried see text g.base g'.base) (next : Config) → IsEdited edits g.config next → IsChange edits m.world (x_alone (written g' text public tried) next)
       is_change m is g' text public tried next edited = record { group = group_before see shelf old g has m is; edited = edited; joiners = refl; carriers = refl }
 
-      pub edits_go : (result : Result (Unit {0}) Stop) (g' : Imported P ghosts) → ChangeEnds see edits result g g' → StageGoes see s disks result (at shelf old) (at shelf (house g'))
+      pub edits_go : (result : Result (Unit {0}) Stop) (g' : Imported P ghosts) → ChangeEndsBy see IsCause edits result g g' → StageGoes see s disks result (at shelf old) (at shelf (house g'))
       edits_go (Ok u) g' (public, (text, meant, finished)) =
           let w = written g' text public finished.tried in
           done_stage (alone w) s disks keeps (record { ordered = keeps.ordered; hand = keeps.hand; volumes = keeps.volumes; group = kept_after g' text public meant finished }) (runs_done w (is_stage.stays g'.config meant.edited)) (is_stage.gives (house g')) is_stage.writes (λ m is.

@@ -50,8 +50,6 @@ use Rattle.vx_moments.specs.Leaving.{lone}
 use Rattle.vx_house.specs.Runs.{AllInPlace, AreRuns}
 use Rattle.vx_commits.proofs.Owns.{AreDisksOf, runs_moved}
 use Rattle.vx_commits.proofs.Runners.{disks_same}
-use Rattle.vx_house.proofs.Ends.{whole_kept}
-use Rattle.vx_house.specs.View.{IsGroupIdle}
 use Rattle.vx_group_start.specs.Laying.{AreRunningVolumes, AreStuckVolumes}
 
 -- the device of a name has the sectors that are seen

@@ -1,5 +1,5 @@
 -- A configuration that is planned, and why one is not.
-use Rattle.std.proofs.Common.{◌≡◌, ◌∙◌, List, Option, Some, None, inl, inr, refl, sym, ap, subst}
+use Rattle.std.proofs.Common.{◌≡◌, ◌∙◌, ℕ, ◌+◌, ◌<◌, List, Option, Some, None, inl, inr, length, refl, sym, ap, subst, arith}
 use Rattle.vx_config_parts.specs.declared.fault.ObjectFault.{ObjectFault}
 use Rattle.vx_config_parts.specs.declared.object.Object.{Object}
 use Rattle.vx_objects.specs.declared.config.Config.{Config}
@@ -9,11 +9,13 @@ use Rattle.vx_objects.specs.Config.{objects_of, IsMadeOf}
 use Rattle.vx_objects.specs.Edits.{edited_by, refusal_of}
 use Rattle.vx_objects.specs.Parts.{in_kinds}
 use Rattle.vx_objects.proofs.InKinds.{are_sorted}
+use Rattle.vx_answers.specs.declared.answer.End.TheVariants as ends
 use Rattle.vx_answers.specs.declared.refusal.Refusal.{Refusal}
+use Rattle.vx_answers.specs.declared.refusal.Refusal.TheVariants as refusal
 use Rattle.vx_stages.specs.Refusals.{refusal_by, refusal_from}
 use Rattle.vx_house.specs.declared.stop.Stop.{Stop}
 use Rattle.vx_house.specs.declared.stop.Stop.TheVariants as stops
-use Rattle.vx_stage_changes.specs.Planning.{broken_stop, stop_by, IsUnedited, IsLong, IsUnplanned}
+use Rattle.vx_stage_changes.specs.Planning.{broken_stop, stop_by, IsUnedited, IsLongBy, IsUnplanned, IsUnplannedBy}
 
 pub sorted : (config : Config) → in_kinds (objects_of config) ≡ objects_of config
 sorted c = are_sorted c.disks c.subdisks c.plexes c.volumes c.dcos c.snaps c.group c.version
@@ -36,10 +38,14 @@ pub unedited : (edits : List Edit) (config copy : Config) (f : ObjectFault) → 
 unedited edits config copy f same (inl wants) = subst (λ x. IsUnedited edits config (broken_stop x)) (sym wants) tt
 unedited edits config copy f same (inr broken) = broken_by edits config f (ap (refusal_of edits) (sym same) ∙ broken)
 
-pub unedited_unplanned : (edits : List Edit) (config : Config) (stop : Stop) → IsUnedited edits config stop → IsUnplanned edits config stop
-unedited_unplanned edits config (stops.Ended end) is = inl is
-unedited_unplanned edits config stops.OutOfMemory is = tt
+pub long_unplanned : (more : ℕ) (edits : List Edit) (config next : Config) (stop : Stop) → IsEdited edits config next → IsLongBy more next stop → IsUnplannedBy more edits config stop
+long_unplanned more edits config next (stops.Ended end) edited is = inr (next, edited, is)
+long_unplanned more edits config next stops.OutOfMemory edited is = tt
 
-pub long_unplanned : (edits : List Edit) (config next : Config) (stop : Stop) → IsEdited edits config next → IsLong next stop → IsUnplanned edits config stop
-long_unplanned edits config next (stops.Ended end) edited is = inr (next, edited, is)
-long_unplanned edits config next stops.OutOfMemory edited is = tt
+-- where the text does not grow
+pub plain_unplanned : (edits : List Edit) (config : Config) (stop : Stop) → IsUnplannedBy 0 edits config stop → IsUnplanned edits config stop
+plain_unplanned edits config stops.OutOfMemory is = tt
+plain_unplanned edits config (stops.Ended end) (inl broken) = inl broken
+plain_unplanned edits config (stops.Ended end) (inr (next, edited, (text, printed, long, same))) =
+    let none : length text + 0 ≡ length text = omega arith in
+    inr (next, edited, (text, printed, subst (λ n. 522240 < n) none long, same ∙ ap (λ n. ends.Refused (refusal.TooLong n)) none))

@@ -25,10 +25,14 @@ pub record IsMeant (edits : List Edit) (config next : Config) (text : List ℕ) 
 abbrev pub SamePublic : {P : Type 0} {ghosts : Ghosts P} → Imported P ghosts → Imported P ghosts → Type 0
 SamePublic old new = new.public ≡ old.public
 
--- the change is done; or it is refused, and the group is as before; or the group or the power is lost
+-- the change is done; or it is refused for such a cause, and the group is as before; or the group or the power is lost
+abbrev pub ChangeEndsBy : {P : Type 0} {ghosts : Ghosts P} → (P → Seen) → (Stop → Type 0) → List Edit → Result (Unit {0}) Stop → Imported P ghosts → Imported P ghosts → Type 0
+ChangeEndsBy see IsCause edits (Ok u) old new = SamePublic old new × ((text : List ℕ) × IsMeant edits old.config new.config text × IsFinished see text old.base new.base)
+ChangeEndsBy see IsCause edits (Err stops.OutOfMemory) old new = new ≡ old
+ChangeEndsBy see IsCause edits (Err (stops.Ended ends.GroupLost)) old new = SamePublic old new × ((next : Config) × (text : List ℕ) × IsMeant edits old.config next text × IsTried see text old.base new.base × Each HasRisen (members see old.base) (members see new.base))
+ChangeEndsBy see IsCause edits (Err (stops.Ended (ends.Lost parts))) old new = (parts ≡ []) × SamePublic old new × ((next : Config) × (text : List ℕ) × IsMeant edits old.config next text × IsTried see text old.base new.base × AnyOf IsCut (members see new.base))
+ChangeEndsBy see IsCause edits (Err (stops.Ended end)) old new = (new ≡ old) × IsCause (stops.Ended end)
+
+-- so, where it is refused because the edits break a rule or their text is too long
 abbrev pub ChangeEnds : {P : Type 0} {ghosts : Ghosts P} → (P → Seen) → List Edit → Result (Unit {0}) Stop → Imported P ghosts → Imported P ghosts → Type 0
-ChangeEnds see edits (Ok u) old new = SamePublic old new × ((text : List ℕ) × IsMeant edits old.config new.config text × IsFinished see text old.base new.base)
-ChangeEnds see edits (Err stops.OutOfMemory) old new = new ≡ old
-ChangeEnds see edits (Err (stops.Ended ends.GroupLost)) old new = SamePublic old new × ((next : Config) × (text : List ℕ) × IsMeant edits old.config next text × IsTried see text old.base new.base × Each HasRisen (members see old.base) (members see new.base))
-ChangeEnds see edits (Err (stops.Ended (ends.Lost parts))) old new = (parts ≡ []) × SamePublic old new × ((next : Config) × (text : List ℕ) × IsMeant edits old.config next text × IsTried see text old.base new.base × AnyOf IsCut (members see new.base))
-ChangeEnds see edits (Err (stops.Ended end)) old new = (new ≡ old) × IsUnplanned edits old.config (stops.Ended end)
+ChangeEnds see edits result old new = ChangeEndsBy see (IsUnplanned edits old.config) edits result old new

@@ -13,7 +13,7 @@ use Rattle.vx_answers.specs.declared.refusal.Refusal.{Refusal}
 use Rattle.vx_answers.specs.declared.refusal.Refusal.TheVariants as refusal
 use Rattle.vx_moments.specs.Copies.{IsTextOf}
 use Rattle.vx_stages.specs.Refusals.{refusal_by, refusal_from}
-use Rattle.vx_stages.specs.Ends.{RefusedAsLong}
+use Rattle.vx_stages.specs.Ends.{RefusedAsGrown, RefusedAsLong}
 use Rattle.vx_stages.specs.Stages.{policy_edit}
 use Rattle.vx_stages.specs.Tests.{volume_in}
 use Rattle.vx_stages.specs.declared.stage.Change.{Change}
@@ -39,10 +39,10 @@ abbrev pub IsUnedited : List Edit → Config → Stop → Type 0
 IsUnedited edits config (stops.Ended end) = IsBroken edits config end
 IsUnedited edits config stops.OutOfMemory = Unit {0}
 
--- the text of the configuration is too long
-abbrev pub IsLong : Config → Stop → Type 0
-IsLong config (stops.Ended end) = RefusedAsLong config end
-IsLong config stops.OutOfMemory = Unit {0}
+-- the text of the configuration, and so many bytes more, are too long
+abbrev pub IsLongBy : ℕ → Config → Stop → Type 0
+IsLongBy more config (stops.Ended end) = RefusedAsGrown more config end
+IsLongBy more config stops.OutOfMemory = Unit {0}
 
 -- a text of so many bytes is too long
 abbrev pub IsTooLong : ℕ → Stop → Type 0
@@ -60,6 +60,11 @@ IsPlanned edits config p = IsEdited edits config p.config × IsShortText p.confi
 abbrev pub IsUnplanned : List Edit → Config → Stop → Type 0
 IsUnplanned edits config (stops.Ended end) = IsBroken edits config end ⊎ ((next : Config) × IsEdited edits config next × RefusedAsLong next end)
 IsUnplanned edits config stops.OutOfMemory = Unit {0}
+
+-- the edits break a rule, or their text, and so many bytes more, are too long
+abbrev pub IsUnplannedBy : ℕ → List Edit → Config → Stop → Type 0
+IsUnplannedBy more edits config (stops.Ended end) = IsBroken edits config end ⊎ ((next : Config) × IsEdited edits config next × RefusedAsGrown more next end)
+IsUnplannedBy more edits config stops.OutOfMemory = Unit {0}
 
 -- the edits of a change, by the configuration
 abbrev pub change_edits : Change → Config → List Edit

@@ -3,13 +3,14 @@ ghost use Rattle.vx_house.specs.Goes.{IsReady, StageGoes};
 ghost use Rattle.vx_house.specs.Holders.{holders, AreHeld};
 ghost use Rattle.vx_house.specs.Scene.{Shelved};
 ghost use Rattle.vx_house.specs.View.{KeepsHouse, IsGroupKept, at};
-ghost use Rattle.std.specs.Prelude.{List, IfOk, IfErr};
+ghost use Rattle.std.specs.Prelude.{◌+◌, ◌^◌, ◌<◌, ◌≤◌, List, length, OnOk};
 ghost use Rattle.vx_stages.specs.declared.stage.Stage.TheVariants as stages;
 ghost use Rattle.vx_script_words.specs.declared.value.DiskAt.{DiskAt};
-ghost use Rattle.vx_stage_changes.specs.Changing.{ChangeEnds};
-ghost use Rattle.vx_stage_changes.specs.Planning.{change_edits, IsPlanned, IsUnplanned};
+ghost use Rattle.vx_stage_changes.specs.Changing.{ChangeEnds, ChangeEndsBy};
+ghost use Rattle.vx_confdb.specs.Texts.{text_of};
+ghost use Rattle.vx_stage_changes.specs.Planning.{change_edits, IsUnplannedBy};
 
-use crate::planning::{NextConfig, edits_of, planned};
+use crate::planning::{NextConfig, edits_of, planned_growing};
 use std::alloc::Global;
 use vx_answers::Refusal;
 use vx_commits::commit;
@@ -48,7 +49,23 @@ pub fn commit_edits<P: Piece>(
     requires kept { IsGroupKept P.seen group.old }
     ensures ends { ChangeEnds P.seen edits.now result group.old group.new }
 {
-    let NextConfig { config, text } = planned(alloc, &group.config, edits)?;
+    commit_growing(alloc, group, edits, 0)
+}
+
+/// Applies the edits to the configuration of a group, and commits it, where its text has room for so many bytes, by which later commits
+/// of the command make it longer.
+pub fn commit_growing<P: Piece>(
+    alloc: Global,
+    group: &mut Imported<P>,
+    edits: &[Edit],
+    more: u64,
+) -> Result<(), Stop>
+    requires kept { IsGroupKept P.seen group.old }
+    requires few { more < 2 ^ 63 }
+    ensures ends { ChangeEndsBy P.seen (IsUnplannedBy more edits.now group.old.config) edits.now result group.old group.new }
+    ensures fits { OnOk result (length (text_of group.new.base.text) + more ≤ 522240) }
+{
+    let NextConfig { config, text } = planned_growing(alloc, &group.config, edits, more)?;
     commit(alloc, &mut group.base, &text)?;
     group.config = config;
     Ok(())

@@ -60,7 +60,7 @@ fn drawn<P>(alloc: Global, dg: &Name, disks: &[Disk<P>]) -> Result<NextConfig, O
     let Ok(config) = Config::from_objects(alloc, &records) else {
         return Err(OutOfMemory);
     };
-    let Ok(text) = text_of(alloc, &config) else {
+    let Ok(text) = text_of(alloc, &config, 0) else {
         return Err(OutOfMemory);
     };
     Ok(NextConfig { config, text })

@@ -9,7 +9,7 @@ mod joining;
 mod planning;
 mod slots;
 
-pub use changing::{change, commit_edits};
+pub use changing::{change, commit_edits, commit_growing};
 pub use creating::create;
 pub use joining::join;
-pub use planning::{NextConfig, planned, volume_in};
+pub use planning::{NextConfig, broken, planned, volume_in};

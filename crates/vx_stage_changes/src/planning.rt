@@ -1,10 +1,10 @@
 //! Edits of a configuration, and the text that is to be committed.
-ghost use Rattle.std.specs.Prelude.{◌≡◌, ◌≤◌, ◌∷◌, [], length, IfOk, IfErr, Err};
+ghost use Rattle.std.specs.Prelude.{◌≡◌, ◌+◌, ◌^◌, ◌<◌, ◌≤◌, ◌∷◌, [], length, IfOk, IfErr, Err};
 ghost use Rattle.vx_moments.specs.Copies.{IsTextOf};
 ghost use Rattle.vx_objects.specs.Applied.{IsEdited};
 ghost use Rattle.vx_objects.specs.Config.{objects_of};
 ghost use Rattle.vx_stages.specs.Tests.{volume_in};
-ghost use Rattle.vx_stage_changes.specs.Planning.{broken_stop, change_edits, IsUnedited, IsLong, IsTooLong, IsShortText, IsPlanned, IsUnplanned};
+ghost use Rattle.vx_stage_changes.specs.Planning.{broken_stop, change_edits, IsUnedited, IsLongBy, IsTooLong, IsShortText, IsPlanned, IsUnplanned, IsUnplannedBy};
 
 use std::alloc::Global;
 use vx_answers::Refusal;
@@ -25,7 +25,7 @@ pub struct NextConfig {
 }
 
 /// A rule is broken.
-pub(crate) fn broken<T>(fault: &ObjectFault) -> Result<T, Stop>
+pub fn broken<T>(fault: &ObjectFault) -> Result<T, Stop>
     ensures { result ≡ Err (broken_stop fault.now) }
 {
     match refusal_by(fault) {
@@ -59,25 +59,29 @@ fn edited(alloc: Global, config: &Config, edits: &[Edit]) -> Result<Config, Stop
     }
 }
 
-/// The text of the configuration, if it is short enough.
-pub(crate) fn text_of(alloc: Global, config: &Config) -> Result<Vec<u8>, Stop>
+/// The text of the configuration, if with so many bytes more it is short enough.
+pub(crate) fn text_of(alloc: Global, config: &Config, more: u64) -> Result<Vec<u8>, Stop>
+    requires few { more < 2 ^ 63 }
     ensures text { IfOk result (λ text. IsShortText config.now text.items) }
-    ensures long { IfErr result (IsLong config.now) }
+    ensures fits { IfOk result (λ text. length text.items + more ≤ 522240) }
+    ensures long { IfErr result (IsLongBy more config.now) }
 {
     let mut text = Vec::new(alloc);
     match print_m(alloc, config, None, &mut text) {
-        Ok(_) => within(text),
+        Ok(_) => within(text, more),
         Err(_) => Err(Stop::OutOfMemory),
     }
 }
 
-/// The text, if it is short enough.
-fn within(text: Vec<u8>) -> Result<Vec<u8>, Stop>
-    ensures short { IfOk result (λ same. (same ≡ text) × (length text.items ≤ 522240)) }
-    ensures long { IfErr result (IsTooLong (length text.items)) }
+/// The text, if with so many bytes more it is short enough.
+fn within(text: Vec<u8>, more: u64) -> Result<Vec<u8>, Stop>
+    requires few { more < 2 ^ 63 }
+    ensures short { IfOk result (λ same. (same ≡ text) × (length text.items + more ≤ 522240)) }
+    ensures long { IfErr result (IsTooLong (length text.items + more)) }
 {
-    if text.len() > MOST_TEXT as usize {
-        return refused(Refusal::TooLong(text.len() as u64));
+    let bytes = text.len() as u64 + more;
+    if bytes > MOST_TEXT as u64 {
+        return refused(Refusal::TooLong(bytes));
     }
     Ok(text)
 }
@@ -87,8 +91,23 @@ pub fn planned(alloc: Global, config: &Config, edits: &[Edit]) -> Result<NextCon
     ensures planned { IfOk result (IsPlanned edits.now config.now) }
     ensures unplanned { IfErr result (IsUnplanned edits.now config.now) }
 {
+    planned_growing(alloc, config, edits, 0)
+}
+
+/// What is to be committed, where later commits of the command make the text longer by so many bytes.
+pub(crate) fn planned_growing(
+    alloc: Global,
+    config: &Config,
+    edits: &[Edit],
+    more: u64,
+) -> Result<NextConfig, Stop>
+    requires few { more < 2 ^ 63 }
+    ensures planned { IfOk result (IsPlanned edits.now config.now) }
+    ensures fits { IfOk result (λ next. length next.text.items + more ≤ 522240) }
+    ensures unplanned { IfErr result (IsUnplannedBy more edits.now config.now) }
+{
     let config = edited(alloc, config, edits)?;
-    let text = text_of(alloc, &config)?;
+    let text = text_of(alloc, &config, more)?;
     Ok(NextConfig { config, text })
 }
 

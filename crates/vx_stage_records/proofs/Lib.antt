@@ -1,1 +1,3 @@
+mod Own
 mod MakeStage
+mod Verdicts

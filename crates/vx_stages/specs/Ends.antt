@@ -1,5 +1,5 @@
 -- What stages have in common: what a commit writes, and how a test or a commit may end the command.
-use Rattle.std.specs.Prelude.{◌≡◌, ℕ, ◌<◌, Some, List, [], length}
+use Rattle.std.specs.Prelude.{◌≡◌, ℕ, ◌+◌, ◌<◌, Some, List, [], length}
 use Rattle.vx_base.specs.Named.{Word}
 use Rattle.vx_objects.specs.declared.config.Config.{Config}
 use Rattle.vx_objects.specs.declared.edit.Edit.{Edit}
@@ -34,6 +34,10 @@ pub record IsChange (edits : List Edit) (w : World) (x : Writing) : Type 0 where
 -- the text of the configuration is too long by so many bytes
 abbrev pub RefusedAsLong : Config → End → Type 0
 RefusedAsLong config end = (text : List ℕ) × IsTextOf config text × (522240 < length text) × (end ≡ refused (refusal.TooLong (length text)))
+
+-- the text of the configuration, and so many bytes by which a later commit of the command makes it longer, are too many
+abbrev pub RefusedAsGrown : ℕ → Config → End → Type 0
+RefusedAsGrown more config end = (text : List ℕ) × IsTextOf config text × (522240 < length text + more) × (end ≡ refused (refusal.TooLong (length text + more)))
 
 -- the writing of a commit
 abbrev pub CommitsBy : (Writing → Type 0) → Moment → Moment → Type 0

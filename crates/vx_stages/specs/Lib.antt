@@ -2,6 +2,7 @@ pub mod Refusals
 pub mod Records
 pub mod Tests
 pub mod Making
+pub mod Sources
 pub mod Finding
 pub mod Ends
 pub mod Calls

@@ -1,4 +1,4 @@
--- `vxmake -d`: records of a text that are added to a group.
+-- Records that are added to a group: which of a text, and the tests of all.
 use Rattle.std.specs.Prelude.{◌≡◌, ℕ, Bool, if◌then◌else◌, is_some, Option, Some, None, List, [], ◌∷◌, ◌++◌}
 use Rattle.std.specs.List.{filter_map}
 use Rattle.vx_base.specs.Named.{Word}

@@ -10,7 +10,6 @@ use Rattle.vx_life.specs.Life.{begun}
 use Rattle.vx_copies.specs.Image.{names_group}
 use Rattle.vx_config_parts.specs.declared.object.Object.{Object}
 use Rattle.vx_config_parts.specs.declared.vol.Vol.{Vol}
-use Rattle.vx_record.specs.Grammar.{IsBadLine}
 use Rattle.vx_rules.specs.Rules.{first_broken}
 use Rattle.vx_objects.specs.declared.config.Config.{Config}
 use Rattle.vx_objects.specs.declared.edit.Edit.{Edit}
@@ -28,16 +27,18 @@ use Rattle.vx_moments.specs.Moment.{Moment, Counts, AreLater, Rests, HasFailed, 
 use Rattle.vx_moments.specs.Holding.{IsHeld, is_among}
 use Rattle.vx_moments.specs.Leaving.{group_gone}
 use Rattle.vx_moments.specs.Commit.{Writing}
-use Rattle.vx_stages.specs.Ends.{fault_of, lost, refused, IsChange, RefusedAsLong, CommitsBy, EndsIn, StopsBy}
+use Rattle.vx_stages.specs.Ends.{fault_of, lost, refused, IsChange, RefusedAsGrown, RefusedAsLong, CommitsBy, EndsIn, StopsBy}
 use Rattle.vx_stages.specs.Finding.{Found, Finds, group_found, import_records, import_sectors}
-use Rattle.vx_stages.specs.Making.{Adds, adding_refusal, is_started}
+use Rattle.vx_stages.specs.Making.{adding_refusal, is_started}
 use Rattle.vx_stages.specs.Records.{devices_of, sectors_at, disk_record, member_at, next_slot, new_records, new_members}
 use Rattle.vx_stages.specs.Refusals.{refusal_from}
+use Rattle.vx_stages.specs.Sources.{AddsFrom, Denies, growth}
 use Rattle.vx_stages.specs.Starting.{StartStops, StartWants}
 use Rattle.vx_stages.specs.Stopping.{IsStopDone, StopStops, StopWants}
 use Rattle.vx_stages.specs.Tests.{fails, is_volume, recorded}
 use Rattle.vx_stages.specs.declared.stage.Change.{Change}
 use Rattle.vx_stages.specs.declared.stage.Change.TheVariants as changes
+use Rattle.vx_stages.specs.declared.stage.Source.{Source}
 use Rattle.vx_stages.specs.declared.stage.Stage.{Stage}
 use Rattle.vx_stages.specs.declared.stage.Stage.TheVariants as stage
 
@@ -157,20 +158,26 @@ EditsRefused edits g end =
     ((r : Refusal) × (refusal_from (refusal_of edits (objects_of g.config)) ≡ Some r) × (end ≡ refused r))
     ⊎ ((config : Config) × IsEdited edits g.config config × RefusedAsLong config end)
 
--- the imported group, and what is to be written to it once the records of the text are added, which no test refuses
-pub record IsMaking (text : List ℕ) (w : World) (x : Writing) : Type 0 where
+-- the imported group, and what is to be written to it once the records of the source are added, which no test refuses
+pub record IsMaking (from : Source) (w : World) (x : Writing) : Type 0 where
   pub added : List Object
-  pub adds : Adds text added
+  pub adds : AddsFrom from (is_started w) x.group added
   pub fine : adding_refusal (is_started w) (objects_of x.group.config) added ≡ None
   pub change : IsChange (Make added ∷ []) w x
 
--- the records of the text are refused: a line is none, or a test refuses them, or their text would be too long
-abbrev pub MakingRefused : List ℕ → World → Group → End → Type 0
-MakingRefused text w g end =
-    ((line : ℕ) × IsBadLine text line × (end ≡ refused (refusal.BadRecord line)))
-    ⊎ ((added : List Object) × Adds text added × (
+-- the records break a rule, or their text would be too long as the command ends
+abbrev pub AddingRefused : ℕ → List Object → Group → End → Type 0
+AddingRefused more added g end =
+    ((r : Refusal) × (refusal_from (refusal_of (Make added ∷ []) (objects_of g.config)) ≡ Some r) × (end ≡ refused r))
+    ⊎ ((config : Config) × IsEdited (Make added ∷ []) g.config config × RefusedAsGrown more config end)
+
+-- the records of the source are refused: there are none, or a test refuses them, or their text would be too long
+abbrev pub MakingRefused : Source → World → Group → End → Type 0
+MakingRefused from w g end =
+    ((r : Refusal) × Denies from (is_started w) g r × (end ≡ refused r))
+    ⊎ ((added : List Object) × AddsFrom from (is_started w) g added × (
     ((r : Refusal) × (adding_refusal (is_started w) (objects_of g.config) added ≡ Some r) × (end ≡ refused r))
-    ⊎ ((adding_refusal (is_started w) (objects_of g.config) added ≡ None) × EditsRefused (Make added ∷ []) g end)))
+    ⊎ ((adding_refusal (is_started w) (objects_of g.config) added ≡ None) × AddingRefused (growth from added) added g end)))
 
 -- the edit by which a disk joins
 abbrev pub joining_edit : DiskAt → World → Group → Edit
@@ -240,7 +247,7 @@ IsDone (stage.MakeImage name sectors) disks old new = (old.world.devices name �
 IsDone (stage.Wipe name) disks old new = HasContents name (λ c d. (k : ℕ) → d k ≡ written 0 (replicate 512 0) c k) old.world new.world × WritesOne name old.counts new.counts
 IsDone (stage.StartBare vol name) disks old new = (is_volume vol old.world ≡ false) × IsBare vol name old.world new.world × (new.counts ≡ old.counts)
 IsDone (stage.Change change) disks old new = CommitsBy (λ x. IsChange (edits_of change old.world.group) old.world x) old new
-IsDone (stage.Make text) disks old new = CommitsBy (λ x. IsMaking text old.world x) old new
+IsDone (stage.Make from) disks old new = CommitsBy (λ x. IsMaking from old.world x) old new
 IsDone stage.Join disks old new = OnlyDisk disks (λ p. CommitsBy (λ x. IsJoining p old.world x) old new)
 IsDone (stage.Create dg) disks old new = (old.world.group ≡ None) × CommitsBy (λ x. IsCreating dg disks old.world x) old new
 IsDone (stage.Import dg) disks old new = (old.world.group ≡ None) × (mid : Moment) × IsBetween dg old mid new × CommitsBy (λ x. IsImporting dg old.world x old.counts mid.counts) mid new
@@ -308,9 +315,9 @@ Stops (stage.MakeImage name sectors) disks old end new = (IsSome (old.world.devi
 Stops (stage.Wipe name) disks old end new = HasContents name (IsTorn 0 (replicate 512 0)) old.world new.world × WritesAtMost name old.counts new.counts × DeviceEnds name old end new
 Stops (stage.StartBare vol name) disks old end new = (is_volume vol old.world ≡ true) × EndsIn (refusal.Exists vol) old end new
 Stops (stage.Change change) disks old end new = EditsStop (λ g. edits_of change (Some g)) (λ x. IsChange (edits_of change old.world.group) old.world x) old end new
-Stops (stage.Make text) disks old end new =
+Stops (stage.Make from) disks old end new =
     ((old.world.group ≡ None) × EndsIn (refusal.NoGroup None) old end new)
-    ⊎ ((((g : Group) × (old.world.group ≡ Some g) × MakingRefused text old.world g end) × Rests old new) ⊎ StopsBy (λ x. IsMaking text old.world x) old end new)
+    ⊎ ((((g : Group) × (old.world.group ≡ Some g) × MakingRefused from old.world g end) × Rests old new) ⊎ StopsBy (λ x. IsMaking from old.world x) old end new)
 Stops stage.Join disks old end new = OnlyDisk disks (λ p. EditsStop (λ g. joining_edit p old.world g ∷ []) (λ x. IsJoining p old.world x) old end new)
 Stops (stage.Create dg) disks old end new = GroupStops old end new ⊎ StopsBy (λ x. IsCreating dg disks old.world x) old end new
 Stops (stage.Import dg) disks old end new =

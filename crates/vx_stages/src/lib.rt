@@ -8,6 +8,6 @@ mod stages;
 mod test;
 
 pub use refusals::{refusal_by, refusal_from};
-pub use stage::{Change, Stage};
+pub use stage::{Change, Source, Stage};
 pub use stages::{Finish, Plan, Stages};
 pub use test::Test;

@@ -1,6 +1,7 @@
 use crate::Test;
 use vx_config_parts::PolicyName;
 use vx_names::Name;
+use vx_new_volumes::NewVolume;
 use vx_script_words::Bytes;
 
 /// A change of the group's configuration.
@@ -10,6 +11,15 @@ pub enum Change {
     Policy { vol: Name, policy: PolicyName },
     /// The volume goes, with its plexes, their subdisks and its DCO.
     Remove(Name),
+}
+
+/// Records that are to be added to a group.
+#[derive(Drop)]
+pub enum Source {
+    /// Those of a text, as none of its volumes was ever started.
+    Text(Bytes),
+    /// Those of a new volume, which are planned.
+    Volume(NewVolume),
 }
 
 /// A stage of a command. Disks and devices of a list are those of the command's words.
@@ -36,8 +46,8 @@ pub enum Stage {
     StartBare { vol: Name, device: Name },
     /// The configuration of the imported group is changed, and committed.
     Change(Change),
-    /// The records of the text are added to the configuration of the imported group, and this is committed.
-    Make(Bytes),
+    /// The records are added to the configuration of the imported group, and this is committed.
+    Make(Source),
     /// The only disk of the list joins the group.
     Join,
     /// No group is imported, and one of the name is made of the disks of the list.

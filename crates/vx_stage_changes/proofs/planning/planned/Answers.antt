@@ -1,8 +1,8 @@
-use Rattle.std.proofs.lemmas.Result.{err_from_is_err_and}
-use Rattle.vx_stage_changes.proofs.Texts.{long_unplanned}
+use Rattle.std.proofs.lemmas.Result.{IfErr-weaker}
+use Rattle.vx_stage_changes.specs.Planning.{IsUnplanned, IsUnplannedBy}
+use Rattle.vx_stage_changes.proofs.Texts.{plain_unplanned}
 use Rattle.vx_stage_changes.proofs.planning.planned.Goals as goal
 
-pub returns-in_err-text-clause-unplanned : goal.returns-in_err-text-clause-unplanned
-returns-in_err-text-clause-unplanned c =
-    let p = err_from_is_err_and c.from_residual-in_err-text.result c.from_residual-in_err-text.ensures.1 in
-    rw (p.1, p.2) (long_unplanned c.args.edits.now c.args.config.now c.in_ok-config.config c.in_err-text.field-0.0 c.in_ok-config.ensures.edited c.in_err-text.ensures.long)
+pub returns-clause-unplanned : goal.returns-clause-unplanned
+returns-clause-unplanned c =
+    IfErr-weaker c.planned_growing.result (IsUnplannedBy 0 c.args.edits.now c.args.config.now) (IsUnplanned c.args.edits.now c.args.config.now) (plain_unplanned c.args.edits.now c.args.config.now) c.planned_growing.ensures.unplanned

@@ -45,18 +45,17 @@ use Rattle.vx_house.proofs.AfterLoss.{left as left_world}
 use Rattle.vx_house.proofs.AllLaws.{found_in}
 use Rattle.vx_house.proofs.Moments.{faults_trans, faults_moved, moment_moved}
 use Rattle.vx_house.proofs.Ends.{keeps_but_group, moment_but_group}
-use Rattle.vx_engine.specs.Fed.{AreOrdered}
-use Rattle.vx_engine.specs.Runs.{StagesGo, KeepWorld, HasRun, IsMomentBy, HasEnded, HasRested}
+use Rattle.vx_engine.specs.Fed.{KeepToShow, KeepWorld, ShowsAfter, recent}
+use Rattle.vx_engine.specs.Runs.{StagesGo, HasRun, IsMomentBy, HasEnded, HasRested}
 use Rattle.vx_engine.specs.Serving.{CommandEnds, CommandGoes, IsHeldUp, IsRefused}
 use Rattle.vx_engine.specs.declared.unserved.Unserved.{Unserved}
 use Rattle.vx_engine.specs.declared.unserved.Unserved.TheVariants as unserved
-use Rattle.vx_engine.specs.Fed.{ShowsAfter}
 use Rattle.vx_engine.specs.Shows.{CanShow, ShowsRecords}
 use Rattle.vx_stages.specs.Tests.{fails, unless, is_here}
 use Rattle.vx_stages.specs.declared.test.Test.TheVariants as tests
 use Rattle.vx_stages.specs.declared.stage.Stage.TheVariants as stage
 use Rattle.vx_answers.specs.declared.refusal.Refusal.TheVariants as refusal
-use Rattle.vx_engine.proofs.StageChains.{ordered_all, given_one}
+use Rattle.vx_engine.proofs.StageChains.{given_one}
 
 rose_more : (a b c : ℕ) → Rose a b → b ≤ c → Rose a c
 rose_more a b c rose le = omega (arith, rose, le)
@@ -251,10 +250,10 @@ here_some {P = P} {ghosts = ghosts} see dg disks h is = by h.group is
     by None is = cc
     by (Some g) is = tt
 
-pub can_show : {P : Type 0} {ghosts : Ghosts P} (see : P → Seen) (disks : List DiskAt) (stages : List Stage) (finish : Finish) (old now : View P ghosts) → AreOrdered stages finish → ShowsAfter stages finish → HasRun see disks stages old now → CanShow finish now.house
-can_show see disks stages Nothing old now ordered shows run = tt
-can_show see disks stages (Records None) old now ordered shows run = here_some see shows.0 disks now.house (given_one see disks now.house stages (stage.Gate (tests.GroupIs shows.0)) (run.gives (ordered_all stages None ordered)) shows.1)
-can_show see disks stages (Records (Some vol)) old now ordered shows run = here_some see shows.0.0 disks now.house (given_one see disks now.house stages (stage.Gate (tests.GroupIs shows.0.0)) (run.gives (ordered_all stages (Some vol) ordered)) shows.0.1)
+pub can_show : {P : Type 0} {ghosts : Ghosts P} (see : P → Seen) (disks : List DiskAt) (stages : List Stage) (finish : Finish) (old now : View P ghosts) → ShowsAfter (recent stages) finish → HasRun see disks stages old now → CanShow finish now.house
+can_show see disks stages Nothing old now shows run = tt
+can_show see disks stages (Records None) old now shows run = here_some see shows.0 disks now.house (given_one see disks now.house (recent stages) (stage.Gate (tests.GroupIs shows.0)) run.gives shows.1)
+can_show see disks stages (Records (Some vol)) old now shows run = here_some see shows.0.0 disks now.house (given_one see disks now.house (recent stages) (stage.Gate (tests.GroupIs shows.0.0)) run.gives shows.0.1)
 
 module _ {P : Type 0} {ghosts : Ghosts P} (see : P → Seen) (disks : List DiskAt) (stages ss : List Stage) (same : ss ≡ stages) (old mid : View P ghosts) where
   pub ended_from : (stop : Stop) (end : End) → stop ≡ stops.Ended end → StagesGo see disks ss (Err stop) old mid → HasEnded see disks stages end old mid
@@ -269,5 +268,5 @@ module _ {P : Type 0} {ghosts : Ghosts P} (see : P → Seen) (disks : List DiskA
       }
 
 -- where records are to be shown, the stages keep the world
-pub records_kept : (stages : List Stage) (finish : Finish) → ShowsRecords finish → AreOrdered stages finish → KeepWorld stages
-records_kept stages finish shows ordered = ordered_all stages shows.0 (subst (AreOrdered stages) shows.1 ordered)
+pub records_kept : (stages : List Stage) (finish : Finish) → ShowsRecords finish → KeepToShow stages finish → KeepWorld stages
+records_kept stages finish shows kept = subst (KeepToShow stages) shows.1 kept

@@ -1,9 +1,9 @@
 -- One stage more, and a stage that ends the command.
-use Rattle.std.proofs.Common.{◌≡◌, ◌∙◌, true, List, [], ◌∷◌, ◌++◌, ◌+◌, ℕ, take, drop, Option, refl, sym, ap, subst, inl, inr, append_assoc}
+use Rattle.std.proofs.Common.{◌≡◌, ◌∙◌, Bool, true, false, if◌then◌else◌, List, [], ◌∷◌, ◌++◌, ◌+◌, ℕ, take, drop, refl, sym, ap, subst, inl, inr, append_assoc}
 use Rattle.std.specs.Prelude.{Result, Ok, Err}
 use Rattle.std.proofs.lemmas.List.{append-nil, take-append-drop}
+use Rattle.std.proofs.lemmas.List.Sums.{fold-append}
 use Rattle.vx_pages.specs.declared.local_piece.LocalPiece.{Ghosts}
-use Rattle.vx_base.specs.Named.{Word}
 use Rattle.vx_piece.specs.Seen.{Seen}
 use Rattle.vx_copies.specs.Lists.{AllOf}
 use Rattle.vx_script_words.specs.declared.value.DiskAt.{DiskAt}
@@ -14,8 +14,6 @@ use Rattle.vx_stages.specs.Stages.{IsDone, Stops, Wants}
 use Rattle.vx_plans.specs.Steps.{Runs, RunsShort}
 use Rattle.vx_stages.specs.declared.stage.Stage.{Stage}
 use Rattle.vx_stages.specs.declared.stage.Stage.TheVariants as stage
-use Rattle.vx_stages.specs.declared.stages.Finish.{Finish}
-use Rattle.vx_stages.specs.declared.stages.Finish.TheVariants.{Records}
 use Rattle.vx_house.specs.Goes.{Gives, GoesBy, StageGoes, Still, IsReady, wanted, is_first, only_reads}
 use Rattle.vx_house.specs.View.{View, Keeps, IsMoment, scene}
 use Rattle.vx_house.specs.declared.house.House.{House}
@@ -25,26 +23,15 @@ use Rattle.vx_house.proofs.AllLaws.{all_append, all_front, all_back}
 use Rattle.vx_house.proofs.Ends.{keeps_but_group}
 use Rattle.vx_house.proofs.Moments.{later_refl, later_trans, faults_refl, faults_trans}
 use Rattle.vx_house.proofs.Takes.{blamed_later}
-use Rattle.vx_engine.specs.Fed.{IsAmong, AreFed, AreOrdered, keeps_world}
-use Rattle.vx_engine.specs.Runs.{KeepWorld, HasRun, IsMomentBy, HasEnded, HasRested, StageEnds, StagesGo}
+use Rattle.vx_engine.specs.Fed.{IsAmong, AreFed, behind, keeps_world, recent}
+use Rattle.vx_engine.specs.Runs.{HasRun, IsMomentBy, HasEnded, HasRested, StageEnds, StagesGo}
 use Rattle.vx_engine.proofs.Tests.{gives_still}
 use Rattle.vx_engine.proofs.WorldLaws.{world_kept}
 
 -- what is fed to a stage behind others
-pub fed_at : (done xs : List Stage) (s : Stage) (ss : List Stage) → AreFed done (xs ++ s ∷ ss) → (is_first s ≡ true → done ++ xs ≡ []) × AllOf (IsAmong (done ++ xs)) (wanted s)
-fed_at done [] s ss fed = subst (λ d. (is_first s ≡ true → d ≡ []) × AllOf (IsAmong d) (wanted s)) (sym (append-nil done)) fed.0
-fed_at done (x ∷ xs) s ss fed = subst (λ d. (is_first s ≡ true → d ≡ []) × AllOf (IsAmong d) (wanted s)) (append_assoc done (x ∷ []) xs) (fed_at (done ++ x ∷ []) xs s ss fed.1)
-
--- the stages before one keep the world
-pub ordered_front : (xs : List Stage) (s : Stage) (ss : List Stage) (finish : Finish) → AreOrdered (xs ++ s ∷ ss) finish → KeepWorld xs
-ordered_front [] s ss finish ordered = tt
-ordered_front (x ∷ []) s ss finish ordered = (ordered.0, tt)
-ordered_front (x ∷ y ∷ xs) s ss finish ordered = (ordered.0, ordered_front (y ∷ xs) s ss finish ordered.1)
-
-pub ordered_all : (xs : List Stage) (vol : Option Word) → AreOrdered xs (Records vol) → KeepWorld xs
-ordered_all [] vol ordered = tt
-ordered_all (x ∷ []) vol ordered = (ordered, tt)
-ordered_all (x ∷ y ∷ xs) vol ordered = (ordered.0, ordered_all (y ∷ xs) vol ordered.1)
+pub fed_at : (done xs : List Stage) (s : Stage) (ss : List Stage) → AreFed done (xs ++ s ∷ ss) → (is_first s ≡ true → done ++ xs ≡ []) × AllOf (IsAmong (recent (done ++ xs))) (wanted s)
+fed_at done [] s ss fed = subst (λ d. (is_first s ≡ true → d ≡ []) × AllOf (IsAmong (recent d)) (wanted s)) (sym (append-nil done)) fed.0
+fed_at done (x ∷ xs) s ss fed = subst (λ d. (is_first s ≡ true → d ≡ []) × AllOf (IsAmong (recent d)) (wanted s)) (append_assoc done (x ∷ []) xs) (fed_at (done ++ x ∷ []) xs s ss fed.1)
 
 not_empty : (done : List Stage) (s : Stage) → done ++ s ∷ [] ≡ [] → ⊥
 not_empty [] s e = cc
@@ -55,7 +42,7 @@ module _ {P : Type 0} {ghosts : Ghosts P} (see : P → Seen) (disks : List DiskA
   none_run v keeps empty = record {
     keeps = keeps;
     empty = λ is. empty;
-    gives = λ kept. tt;
+    gives = tt;
     goes = λ m is. (m, record { is = is; later = later_refl m.counts; kept = λ kept. refl; runs = λ rest finish views end o runs. runs; short = λ rest o short. short });
     faults = faults_refl (scene see v);
   }
@@ -70,36 +57,36 @@ module _ {P : Type 0} {ghosts : Ghosts P} (see : P → Seen) (disks : List DiskA
   given_all h done (t ∷ ts) all among = (given_one h done t all among.0, given_all h done ts all among.1)
 
   -- the house has what the stage needs
-  pub stage_ready : (done : List Stage) (s : Stage) (old now : View P ghosts) → HasRun see disks done old now → KeepWorld done → (is_first s ≡ true → done ≡ []) × AllOf (IsAmong done) (wanted s) → IsReady see s disks now.house
-  stage_ready done s old now run kept fed = record {
-    wants = given_all now.house done (wanted s) (run.gives kept) fed.1;
+  pub stage_ready : (done : List Stage) (s : Stage) (old now : View P ghosts) → HasRun see disks done old now → (is_first s ≡ true → done ≡ []) × AllOf (IsAmong (recent done)) (wanted s) → IsReady see s disks now.house
+  stage_ready done s old now run fed = record {
+    wants = given_all now.house (recent done) (wanted s) run.gives fed.1;
     empty = λ is. run.empty (fed.0 is);
   }
 
   -- what was given before a stage that keeps the world is given behind it
-  kept_gives : (s : Stage) (done : List Stage) (mid new : View P ghosts) → keeps_world s ≡ true → (is_first s ≡ true → done ≡ []) → (only_reads s ≡ true → Still see mid.house new.house) → AllOf (λ t. Gives see t disks mid.house) done → AllOf (λ t. Gives see t disks new.house) done
-  kept_gives s done mid new keeps first still all = by s keeps first still
+  kept_gives : (s : Stage) (late : List Stage) (mid new : View P ghosts) → keeps_world s ≡ true → (is_first s ≡ true → late ≡ []) → (only_reads s ≡ true → Still see mid.house new.house) → AllOf (λ t. Gives see t disks mid.house) late → AllOf (λ t. Gives see t disks new.house) late
+  kept_gives s late mid new keeps first still all = by s keeps first still
     where
       on : Still see mid.house new.house → (xs : List Stage) → AllOf (λ t. Gives see t disks mid.house) xs → AllOf (λ t. Gives see t disks new.house) xs
       on still [] xs_all = tt
       on still (x ∷ xs) xs_all = (gives_still see mid.house new.house still x disks xs_all.0, on still xs xs_all.1)
 
-      none : done ≡ [] → AllOf (λ t. Gives see t disks new.house) done
+      none : late ≡ [] → AllOf (λ t. Gives see t disks new.house) late
       none e = subst (λ d. AllOf (λ t. Gives see t disks new.house) d) (sym e) tt
 
-      by : (s : Stage) → keeps_world s ≡ true → (is_first s ≡ true → done ≡ []) → (only_reads s ≡ true → Still see mid.house new.house) → AllOf (λ t. Gives see t disks new.house) done
-      by (stage.Gate test) keeps first still = on (still refl) done all
+      by : (s : Stage) → keeps_world s ≡ true → (is_first s ≡ true → late ≡ []) → (only_reads s ≡ true → Still see mid.house new.house) → AllOf (λ t. Gives see t disks new.house) late
+      by (stage.Gate test) keeps first still = on (still refl) late all
       by (stage.Take name) keeps first still = none (first refl)
       by stage.TakeDisks keeps first still = none (first refl)
-      by (stage.LookBlank name) keeps first still = on (still refl) done all
-      by stage.LookDisks keeps first still = on (still refl) done all
-      by (stage.LookHeaded name) keeps first still = on (still refl) done all
-      by (stage.Search dg) keeps first still = on (still refl) done all
+      by (stage.LookBlank name) keeps first still = on (still refl) late all
+      by stage.LookDisks keeps first still = on (still refl) late all
+      by (stage.LookHeaded name) keeps first still = on (still refl) late all
+      by (stage.Search dg) keeps first still = on (still refl) late all
       by (stage.MakeImage name sectors) keeps first still = cc
       by (stage.Wipe name) keeps first still = cc
       by (stage.StartBare vol name) keeps first still = cc
       by (stage.Change change) keeps first still = cc
-      by (stage.Make text) keeps first still = cc
+      by (stage.Make from) keeps first still = cc
       by stage.Join keeps first still = cc
       by (stage.Create dg) keeps first still = cc
       by (stage.Import dg) keeps first still = cc
@@ -107,14 +94,21 @@ module _ {P : Type 0} {ghosts : Ghosts P} (see : P → Seen) (disks : List DiskA
       by (stage.Start vol) keeps first still = cc
       by (stage.Stop vol) keeps first still = cc
 
+  -- what is given behind a stage: all that was, or where it changed the world, nothing
+  gives_behind : (s : Stage) (late : List Stage) (mid new : View P ghosts) → (is_first s ≡ true → late ≡ []) → (only_reads s ≡ true → Still see mid.house new.house) → AllOf (λ t. Gives see t disks mid.house) late → Gives see s disks new.house → AllOf (λ t. Gives see t disks new.house) (behind late s)
+  gives_behind s late mid new first still all own = by (keeps_world s) refl
+    where
+      by : (b : Bool) → keeps_world s ≡ b → AllOf (λ t. Gives see t disks new.house) (if b then late ++ s ∷ [] else [])
+      by true keeps = all_append (λ t. Gives see t disks new.house) late (s ∷ []) (kept_gives s late mid new keeps first still all) (own, tt)
+      by false changes = tt
+
   -- one stage more is done
   pub run_then : (done : List Stage) (s : Stage) (old mid new : View P ghosts) → HasRun see disks done old mid → (is_first s ≡ true → done ≡ []) → StageGoes {T = Unit {0}} see s disks (Ok tt) mid new → HasRun see disks (done ++ s ∷ []) old new
   run_then done s old mid new run first goes = record {
     keeps = goes.keeps;
     empty = λ e. absurd (not_empty done s e);
-    gives = λ kept. all_append (λ t. Gives see t disks new.house) done (s ∷ [])
-        (kept_gives s done mid new (all_back (λ t. keeps_world t ≡ true) done (s ∷ []) kept).0 first goes.still (run.gives (all_front (λ t. keeps_world t ≡ true) done (s ∷ []) kept)))
-        (goes.gives, tt);
+    gives = subst (AllOf (λ t. Gives see t disks new.house)) (sym (fold-append behind [] done (s ∷ [])))
+        (gives_behind s (recent done) mid new (λ is. ap recent (first is)) goes.still run.gives goes.gives);
     goes = λ m is.
         let before = run.goes m is in
         let after = goes.goes before.0 before.1.is in (
@@ -183,8 +177,5 @@ module _ {P : Type 0} {ghosts : Ghosts P} (see : P → Seen) (disks : List DiskA
 pub split_stages : (stages : List Stage) (i : ℕ) (s : Stage) → take (i + 1) stages ≡ take i stages ++ s ∷ [] → stages ≡ take i stages ++ s ∷ drop (i + 1) stages
 split_stages stages i s more = sym (take-append-drop (i + 1) stages) ∙ ap (λ xs. xs ++ drop (i + 1) stages) more ∙ append_assoc (take i stages) (s ∷ []) (drop (i + 1) stages)
 
-pub fed_behind : (stages : List Stage) (i : ℕ) (s : Stage) → stages ≡ take i stages ++ s ∷ drop (i + 1) stages → AreFed [] stages → (is_first s ≡ true → take i stages ≡ []) × AllOf (IsAmong (take i stages)) (wanted s)
+pub fed_behind : (stages : List Stage) (i : ℕ) (s : Stage) → stages ≡ take i stages ++ s ∷ drop (i + 1) stages → AreFed [] stages → (is_first s ≡ true → take i stages ≡ []) × AllOf (IsAmong (recent (take i stages))) (wanted s)
 fed_behind stages i s split fed = fed_at [] (take i stages) s (drop (i + 1) stages) (subst (AreFed []) split fed)
-
-pub front_kept : (stages : List Stage) (i : ℕ) (s : Stage) → stages ≡ take i stages ++ s ∷ drop (i + 1) stages → (finish : Finish) → AreOrdered stages finish → KeepWorld (take i stages)
-front_kept stages i s split finish ordered = ordered_front (take i stages) s (drop (i + 1) stages) finish (subst (λ xs. AreOrdered xs finish) split ordered)

@@ -125,7 +125,7 @@ module _ {P : Type 0} {ghosts : Ghosts P} (see : P → Seen) (h k : House P ghos
   gives_still (stage.Wipe name) disks gives = tt
   gives_still (stage.StartBare vol name) disks gives = tt
   gives_still (stage.Change change) disks gives = tt
-  gives_still (stage.Make text) disks gives = tt
+  gives_still (stage.Make from) disks gives = tt
   gives_still stage.Join disks gives = tt
   gives_still (stage.Create dg) disks gives = tt
   gives_still (stage.Import dg) disks gives = tt

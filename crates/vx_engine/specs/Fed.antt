@@ -1,5 +1,6 @@
 -- Plans whose stages find what they need.
-use Rattle.std.specs.Prelude.{◌≡◌, ◌≤◌, ◌^◌, Bool, true, false, Option, Some, None, List, [], ◌∷◌, ◌++◌}
+use Rattle.std.specs.Prelude.{◌≡◌, ◌≤◌, ◌^◌, Bool, true, false, if◌then◌else◌, Option, Some, None, List, [], ◌∷◌, ◌++◌}
+use Rattle.std.specs.List.{fold}
 use Rattle.vx_base.specs.Named.{Word}
 use Rattle.vx_copies.specs.Lists.{AllOf, AnyOf}
 use Rattle.vx_stages.specs.declared.stage.Stage.{Stage}
@@ -13,11 +14,6 @@ use Rattle.vx_house.specs.Goes.{wanted, is_first}
 abbrev pub IsAmong : List Stage → Stage → Type 0
 IsAmong done s = AnyOf (λ d. d ≡ s) done
 
--- each stage finds those done that it needs, and those that begin with an empty hand come first
-abbrev pub AreFed : List Stage → List Stage → Type 0
-AreFed done [] = Unit {0}
-AreFed done (s ∷ ss) = ((is_first s ≡ true → done ≡ []) × AllOf (IsAmong done) (wanted s)) × AreFed (done ++ s ∷ []) ss
-
 -- the stage changes nothing of the world
 abbrev pub keeps_world : Stage → Bool
 keeps_world (stage.Gate test) = true
@@ -29,12 +25,27 @@ keeps_world (stage.LookHeaded name) = true
 keeps_world (stage.Search dg) = true
 keeps_world other = false
 
--- each stage but the last keeps the world; where something is shown at the end, the last does too
-abbrev pub AreOrdered : List Stage → Finish → Type 0
-AreOrdered [] finish = Unit {0}
-AreOrdered (s ∷ []) Nothing = Unit {0}
-AreOrdered (s ∷ []) (Records vol) = keeps_world s ≡ true
-AreOrdered (s ∷ t ∷ ss) finish = (keeps_world s ≡ true) × AreOrdered (t ∷ ss) finish
+-- each of the stages keeps the world
+abbrev pub KeepWorld : List Stage → Type 0
+KeepWorld stages = AllOf (λ s. keeps_world s ≡ true) stages
+
+-- the stages behind the last that changed the world, once this one is done too
+abbrev pub behind : List Stage → Stage → List Stage
+behind late s = if keeps_world s then late ++ s ∷ [] else []
+
+-- of the stages that are done, those behind the last that changed the world
+abbrev pub recent : List Stage → List Stage
+recent done = fold behind [] done
+
+-- each stage finds those done that it needs, since the world was changed last, and those that begin with an empty hand come first
+abbrev pub AreFed : List Stage → List Stage → Type 0
+AreFed done [] = Unit {0}
+AreFed done (s ∷ ss) = ((is_first s ≡ true → done ≡ []) × AllOf (IsAmong (recent done)) (wanted s)) × AreFed (done ++ s ∷ []) ss
+
+-- where records are shown at the end, each stage keeps the world
+abbrev pub KeepToShow : List Stage → Finish → Type 0
+KeepToShow stages Nothing = Unit {0}
+KeepToShow stages (Records vol) = KeepWorld stages
 
 -- a device is made of a size that the shelf takes
 abbrev pub HasSize : Stage → Type 0

@@ -1,5 +1,5 @@
 -- Stages that are done one after the other.
-use Rattle.std.specs.Prelude.{◌≡◌, true, List, [], ◌++◌, Result, Ok, Err}
+use Rattle.std.specs.Prelude.{◌≡◌, List, [], ◌++◌, Result, Ok, Err}
 use Rattle.vx_pages.specs.declared.local_piece.LocalPiece.{Ghosts}
 use Rattle.vx_piece.specs.Seen.{Seen}
 use Rattle.vx_copies.specs.Lists.{AllOf}
@@ -17,11 +17,7 @@ use Rattle.vx_house.specs.Scene.{FaultsGoOn, IsBlamed}
 use Rattle.vx_house.specs.View.{View, Keeps, KeepsButGroup, IsMoment, IsMomentButGroup, scene}
 use Rattle.vx_house.specs.declared.stop.Stop.{Stop}
 use Rattle.vx_house.specs.declared.stop.Stop.TheVariants as stops
-use Rattle.vx_engine.specs.Fed.{keeps_world}
-
--- each of the stages keeps the world
-abbrev pub KeepWorld : List Stage → Type 0
-KeepWorld done = AllOf (λ s. keeps_world s ≡ true) done
+use Rattle.vx_engine.specs.Fed.{KeepWorld, recent}
 
 -- The moment is reached from another by these stages: what follows them follows all.
 pub record IsReached {P : Type 0} {ghosts : Ghosts P} (see : P → Seen) (disks : List DiskAt) (done : List Stage) (now : View P ghosts) (m n : Moment) : Type 0 where
@@ -31,11 +27,11 @@ pub record IsReached {P : Type 0} {ghosts : Ghosts P} (see : P → Seen) (disks 
   pub runs : (rest : List Stage) (finish : Finish) (views : List Shown) (end : End) (o : Moment) → Runs disks rest finish n views end o → Runs disks (done ++ rest) finish m views end o
   pub short : (rest : List Stage) (o : Moment) → RunsShort disks rest n o → RunsShort disks (done ++ rest) m o
 
--- these stages are done
+-- these stages are done, and what the recent ones gave is there
 pub record HasRun {P : Type 0} {ghosts : Ghosts P} (see : P → Seen) (disks : List DiskAt) (done : List Stage) (old now : View P ghosts) : Type 0 where
   pub keeps : Keeps see now
   pub empty : done ≡ [] → now.house.hand.items ≡ []
-  pub gives : KeepWorld done → AllOf (λ s. Gives see s disks now.house) done
+  pub gives : AllOf (λ s. Gives see s disks now.house) (recent done)
   pub goes : (m : Moment) → IsMoment see old m → (n : Moment) × IsReached see disks done now m n
   pub faults : FaultsGoOn (scene see old) (scene see now)
 

@@ -4,14 +4,14 @@ use Rattle.vx_copies.specs.Lists.{AllOf}
 use Rattle.vx_script_forms.specs.declared.form.Form.{Form}
 use Rattle.vx_script_forms.specs.declared.form.Form.TheVariants as form
 use Rattle.vx_stages.specs.declared.stages.Plan.{Plan}
-use Rattle.vx_engine.specs.Fed.{AreFed, AreOrdered, HasSize, ShowsAfter}
+use Rattle.vx_engine.specs.Fed.{AreFed, HasSize, KeepToShow, ShowsAfter, recent}
 
--- Its stages find what they need, only the last changes the world, and what is shown is there.
+-- Its stages find what they need, what is shown is there, and a plan that shows it changes nothing of the world.
 pub record IsSound (plan : Plan) : Type 0 where
   pub fed : AreFed [] plan.stages
-  pub ordered : AreOrdered plan.stages plan.finish
+  pub kept : KeepToShow plan.stages plan.finish
   pub sized : AllOf HasSize plan.stages
-  pub shows : ShowsAfter plan.stages plan.finish
+  pub shows : ShowsAfter (recent plan.stages) plan.finish
 
 abbrev pub IsSoundIfAny : Option Plan → Type 0
 IsSoundIfAny None = Unit {0}

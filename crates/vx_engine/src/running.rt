@@ -1,8 +1,7 @@
 //! The stages of a plan, one after the other.
 ghost use Rattle.std.specs.Prelude.{◌≡◌, []};
 ghost use Rattle.vx_copies.specs.Lists.{AllOf};
-ghost use Rattle.vx_stages.specs.declared.stages.Finish.{Finish};
-ghost use Rattle.vx_engine.specs.Fed.{AreFed, AreOrdered, HasSize};
+ghost use Rattle.vx_engine.specs.Fed.{AreFed, HasSize};
 ghost use Rattle.vx_engine.specs.Runs.{StagesGo};
 ghost use Rattle.vx_house.specs.Scene.{shelved};
 ghost use Rattle.vx_house.specs.View.{Keeps, at};
@@ -25,7 +24,6 @@ pub(crate) fn run_stages<S: Shelf>(
     requires keeps { Keeps S.P.seen (at (shelved S.free S.held S.counted S.faults shelf.old) house.old) }
     requires empty { house.old.hand.items ≡ [] }
     requires fed { AreFed [] stages.now }
-    requires ordered { (finish : Finish) × AreOrdered stages.now finish }
     requires sized { AllOf HasSize stages.now }
     ensures go { StagesGo S.P.seen disks.now stages.now result (at (shelved S.free S.held S.counted S.faults shelf.old) house.old) (at (shelved S.free S.held S.counted S.faults shelf.new) house.new) }
 {

@@ -44,7 +44,7 @@ pub(crate) fn run_stage<S: Shelf>(
         Stage::Wipe(device) => wipe(alloc, house, device, disks),
         Stage::StartBare { vol, device } => start_bare(alloc, house, vol, device, disks),
         Stage::Change(edit) => change(alloc, house, *edit),
-        Stage::Make(text) => make(alloc, house, text.as_slice()),
+        Stage::Make(source) => make(alloc, house, source),
         Stage::Import(dg) => import(alloc, house, shelf, dg, disks),
         Stage::LetGo => let_go(alloc, house, shelf, disks),
         Stage::Join => join(alloc, house, disks),

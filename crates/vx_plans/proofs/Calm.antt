@@ -1,5 +1,5 @@
 -- Counts that are as they were: never stage can have failed.
-use Rattle.std.proofs.Common.{◌≡◌, ℕ, ◌≤◌, true, false, List, [], ◌∷◌, inl, inr, arith}
+use Rattle.std.proofs.Common.{◌≡◌, ℕ, ◌≤◌, true, false, List, [], ◌∷◌, ◌++◌, inl, inr, arith}
 use Rattle.vx_base.specs.Counts.{Rose}
 use Rattle.vx_base.specs.Named.{Word}
 use Rattle.vx_copies.specs.Lists.{AllOf, AnyOf}
@@ -57,6 +57,11 @@ pub any_map : {X : Type 0} → (P Q : X → Type 0) → (xs : List X) → ((x : 
 any_map P Q [] f any = any
 any_map P Q (x ∷ xs) f (inl here) = inl (f x here)
 any_map P Q (x ∷ xs) f (inr there) = inr (any_map P Q xs f there)
+
+pub any_front : {X : Type 0} → (P : X → Type 0) → (xs ys : List X) → AnyOf P xs → AnyOf P (xs ++ ys)
+any_front P [] ys any = absurd any
+any_front P (x ∷ xs) ys (inl here) = inl here
+any_front P (x ∷ xs) ys (inr there) = inr (any_front P xs ys there)
 
 pub nowhere : {X : Type 0} → (P : X → Type 0) → (xs : List X) → ((x : X) → P x → ⊥) → AnyOf P xs → ⊥
 nowhere P [] never any = any

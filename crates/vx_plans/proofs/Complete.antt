@@ -16,7 +16,7 @@ use Rattle.vx_mask.specs.Mask.{has}
 use Rattle.vx_answers.specs.declared.answer.View.{View}
 use Rattle.vx_moments.specs.Commit.{Writing, IsStopped, is_written_slot, parties}
 use Rattle.vx_moments.specs.Moment.{Moment, AreLater, Counts, HasFailed}
-use Rattle.vx_moments.specs.World.{Group, World}
+use Rattle.vx_moments.specs.World.{Group, Member, World}
 use Rattle.vx_stages.specs.Ends.{EndsIn}
 use Rattle.vx_plans.specs.Laws.{WentWell, IsDoneOrRefused, HasCarriers}
 use Rattle.vx_plans.specs.Plans.{plan_of, disks_of}
@@ -29,9 +29,10 @@ use Rattle.vx_stages.specs.Tests.{volume_in}
 use Rattle.vx_stages.specs.Touching.{PassHasCause}
 use Rattle.vx_stages.specs.declared.stages.Finish.{Finish}
 use Rattle.vx_stages.specs.declared.stages.Plan.{Plan}
+use Rattle.vx_stages.specs.declared.stage.Source.{Source}
 use Rattle.vx_stages.specs.declared.stage.Stage.{Stage}
 use Rattle.vx_stages.specs.declared.stage.Stage.TheVariants as stage
-use Rattle.vx_plans.proofs.Calm.{calm, shelf_calm, powered, none_of, nowhere, later_self, later_on, well_after}
+use Rattle.vx_plans.proofs.Calm.{any_front, calm, shelf_calm, powered, none_of, nowhere, later_self, later_on, well_after}
 use Rattle.vx_plans.proofs.Carriers.{HasCarrier, IsAlive, NamesSlots, by_group, by_words, by_devices}
 
 tells : (copied : Option ℕ) (parts : List Part) (blocks : List ℕ) → parts ≡ [] → blocks ≡ [] → ends.Done copied parts blocks ≡ ends.Done copied [] []
@@ -40,23 +41,13 @@ tells copied parts blocks none bare = cc
 -- there is a disk to be written at this stage
 abbrev IsCarried : Stage → List DiskAt → World → Type 0
 IsCarried (stage.Create dg) disks w = disks ≢ []
-IsCarried (stage.Gate test) disks w = IsAlive w × NamesSlots w
-IsCarried (stage.Take name) disks w = IsAlive w × NamesSlots w
-IsCarried stage.TakeDisks disks w = IsAlive w × NamesSlots w
-IsCarried (stage.LookBlank name) disks w = IsAlive w × NamesSlots w
-IsCarried stage.LookDisks disks w = IsAlive w × NamesSlots w
-IsCarried (stage.LookHeaded name) disks w = IsAlive w × NamesSlots w
-IsCarried (stage.Search dg) disks w = IsAlive w × NamesSlots w
-IsCarried (stage.MakeImage name sectors) disks w = IsAlive w × NamesSlots w
-IsCarried (stage.Wipe name) disks w = IsAlive w × NamesSlots w
-IsCarried (stage.StartBare vol name) disks w = IsAlive w × NamesSlots w
-IsCarried (stage.Change change) disks w = IsAlive w × NamesSlots w
-IsCarried (stage.Make text) disks w = IsAlive w × NamesSlots w
-IsCarried stage.Join disks w = IsAlive w × NamesSlots w
-IsCarried (stage.Import dg) disks w = IsAlive w × NamesSlots w
-IsCarried stage.LetGo disks w = IsAlive w × NamesSlots w
-IsCarried (stage.Start vol) disks w = IsAlive w × NamesSlots w
-IsCarried (stage.Stop vol) disks w = IsAlive w × NamesSlots w
+IsCarried (stage.Import dg) disks w = NamesSlots w
+IsCarried (stage.Change change) disks w = IsAlive w
+IsCarried (stage.Make from) disks w = IsAlive w
+IsCarried stage.Join disks w = IsAlive w
+IsCarried (stage.Start vol) disks w = IsAlive w
+IsCarried (stage.Stop vol) disks w = IsAlive w
+IsCarried other disks w = Unit {0}
 
 module _ (old new : Moment) (well : WentWell old new) where
   at_device : (name : Word) (end : End) → FailsAt name old end new → IsDoneOrRefused end
@@ -164,19 +155,19 @@ stops_well (stage.StartBare vol name) disks old new end well carried (is, ends) 
 stops_well (stage.Change change) disks old new end well carried (inl (none, ends)) = inr (_, ends.0)
 stops_well (stage.Change change) disks old new end well carried (inr (inl ((g, here, inl (r, e, is)), rests))) = inr (r, is)
 stops_well (stage.Change change) disks old new end well carried (inr (inl ((g, here, inr (config, edited, (text, printed, long, is))), rests))) = inr (_, is)
-stops_well (stage.Change change) disks old new end well carried (inr (inr (x, writing, stopped))) = stopping old new well x end (by_group old.world x writing.group writing.carriers carried.0) stopped
-stops_well (stage.Make text) disks old new end well carried (inl (none, ends)) = inr (_, ends.0)
-stops_well (stage.Make text) disks old new end well carried (inr (inl ((g, here, inl (line, bad, is)), rests))) = inr (_, is)
-stops_well (stage.Make text) disks old new end well carried (inr (inl ((g, here, inr (added, adds, inl (r, e, is))), rests))) = inr (r, is)
-stops_well (stage.Make text) disks old new end well carried (inr (inl ((g, here, inr (added, adds, inr (fine, inl (r, e, is)))), rests))) = inr (r, is)
-stops_well (stage.Make text) disks old new end well carried (inr (inl ((g, here, inr (added, adds, inr (fine, inr (config, edited, (printed, text_is, long, is))))), rests))) = inr (_, is)
-stops_well (stage.Make text) disks old new end well carried (inr (inr (x, making, stopped))) = stopping old new well x end (by_group old.world x making.change.group making.change.carriers carried.0) stopped
+stops_well (stage.Change change) disks old new end well carried (inr (inr (x, writing, stopped))) = stopping old new well x end (by_group old.world x writing.group writing.carriers carried) stopped
+stops_well (stage.Make from) disks old new end well carried (inl (none, ends)) = inr (_, ends.0)
+stops_well (stage.Make from) disks old new end well carried (inr (inl ((g, here, inl (r, denied, is)), rests))) = inr (r, is)
+stops_well (stage.Make from) disks old new end well carried (inr (inl ((g, here, inr (added, adds, inl (r, e, is))), rests))) = inr (r, is)
+stops_well (stage.Make from) disks old new end well carried (inr (inl ((g, here, inr (added, adds, inr (fine, inl (r, e, is)))), rests))) = inr (r, is)
+stops_well (stage.Make from) disks old new end well carried (inr (inl ((g, here, inr (added, adds, inr (fine, inr (config, edited, (printed, text_is, long, is))))), rests))) = inr (_, is)
+stops_well (stage.Make from) disks old new end well carried (inr (inr (x, making, stopped))) = stopping old new well x end (by_group old.world x making.change.group making.change.carriers carried) stopped
 stops_well stage.Join [] old new end well carried stops = absurd stops
 stops_well stage.Join (p ∷ q ∷ ps) old new end well carried stops = absurd stops
 stops_well stage.Join (p ∷ []) old new end well carried (inl (none, ends)) = inr (_, ends.0)
 stops_well stage.Join (p ∷ []) old new end well carried (inr (inl ((g, here, inl (r, e, is)), rests))) = inr (r, is)
 stops_well stage.Join (p ∷ []) old new end well carried (inr (inl ((g, here, inr (config, edited, (text, printed, long, is))), rests))) = inr (_, is)
-stops_well stage.Join (p ∷ []) old new end well carried (inr (inr (x, writing, stopped))) = stopping old new well x end (by_group old.world x writing.group writing.carriers carried.0) stopped
+stops_well stage.Join (p ∷ []) old new end well carried (inr (inr (x, writing, stopped))) = stopping old new well x end (by_group old.world x writing.group writing.carriers carried) stopped
 stops_well (stage.Create dg) disks old new end well carried (inl (g, here, ends)) = inr (_, ends.0)
 stops_well (stage.Create dg) disks old new end well carried (inr (x, writing, stopped)) = stopping old new well x end (by_words dg disks old.world x writing carried) stopped
 stops_well (stage.Import dg) disks old new end well carried (inl (g, here, ends)) = inr (_, ends.0)
@@ -184,10 +175,10 @@ stops_well (stage.Import dg) disks old new end well carried (inr (inl (reads, in
 stops_well (stage.Import dg) disks old new end well carried (inr (inl (reads, inr (inl shelf)))) = absurd (shelf_calm old new well shelf.1)
 stops_well (stage.Import dg) disks old new end well carried (inr (inl (reads, inr (inr (is, (name, cut)))))) = absurd (powered old new well name cut)
 stops_well (stage.Import dg) disks old new end well carried (inr (inr (mid, between, (x, writing, stopped)))) =
-    stopping mid new (well_after old mid new between.first between.rest well) x end (by_devices dg old.world x old.counts mid.counts writing carried.1) stopped
+    stopping mid new (well_after old mid new between.first between.rest well) x end (by_devices dg old.world x old.counts mid.counts writing carried) stopped
 stops_well stage.LetGo disks old new end well carried stops = absurd stops
-stops_well (stage.Start vol) disks old new end well carried stops = starts old new well carried.0 vol end old.world.group stops
-stops_well (stage.Stop vol) disks old new end well carried stops = ends_stop old new well carried.0 vol end stops
+stops_well (stage.Start vol) disks old new end well carried stops = starts old new well carried vol end old.world.group stops
+stops_well (stage.Stop vol) disks old new end well carried stops = ends_stop old new well carried vol end stops
 
 -- the stage changes nothing of the world
 abbrev pub keeps_world : Stage → Bool
@@ -212,7 +203,7 @@ kept_world (stage.MakeImage name sectors) disks old mid keeps done = cc
 kept_world (stage.Wipe name) disks old mid keeps done = cc
 kept_world (stage.StartBare vol name) disks old mid keeps done = cc
 kept_world (stage.Change change) disks old mid keeps done = cc
-kept_world (stage.Make text) disks old mid keeps done = cc
+kept_world (stage.Make from) disks old mid keeps done = cc
 kept_world stage.Join disks old mid keeps done = cc
 kept_world (stage.Create dg) disks old mid keeps done = cc
 kept_world (stage.Import dg) disks old mid keeps done = cc
@@ -220,11 +211,43 @@ kept_world stage.LetGo disks old mid keeps done = cc
 kept_world (stage.Start vol) disks old mid keeps done = cc
 kept_world (stage.Stop vol) disks old mid keeps done = cc
 
--- all stages but the last keep the world, and each finds a disk to be written
+-- behind a stage this holds of the world: one that adds records leaves any in which the group has a good disk, each other one keeps the world
+abbrev IsBehind : Stage → World → (World → Type 0) → Type 0
+IsBehind (stage.Make from) w Holds = (v : World) → IsAlive v → Holds v
+IsBehind s w Holds = (keeps_world s ≡ true) × Holds w
+
+-- each stage finds a disk to be written
 abbrev IsShaped : List Stage → List DiskAt → World → Type 0
 IsShaped [] disks w = Unit {0}
 IsShaped (s ∷ []) disks w = IsCarried s disks w
-IsShaped (s ∷ t ∷ ss) disks w = IsCarried s disks w × (keeps_world s ≡ true) × IsShaped (t ∷ ss) disks w
+IsShaped (s ∷ t ∷ ss) disks w = IsCarried s disks w × IsBehind s w (λ v. IsShaped (t ∷ ss) disks v)
+
+-- a group to which records were added has a good disk
+made_alive : (from : Source) (disks : List DiskAt) (old mid : Moment) → IsDone (stage.Make from) disks old mid → IsAlive mid.world
+made_alive from disks old mid (x, making, committed) =
+    let some : AnyOf (λ m. has committed.good m.slot ≡ true) x.group.members = subst (λ (ms : List Member). AnyOf (λ m. has committed.good m.slot ≡ true) ms) making.change.carriers committed.some in
+    subst (λ (o : Option Group). MatchOption o (Unit {0}) (λ g. AnyOf (λ m. has g.good m.slot ≡ true) g.members)) (sym committed.group)
+    (any_front (λ m. has committed.good m.slot ≡ true) x.group.members x.joiners some)
+
+behind : (s : Stage) (disks : List DiskAt) (old mid : Moment) (Holds : World → Type 0) → IsBehind s old.world Holds → IsDone s disks old mid → Holds mid.world
+behind (stage.Make from) disks old mid Holds is done = is mid.world (made_alive from disks old mid done)
+behind (stage.Gate test) disks old mid Holds is done = subst Holds (sym (kept_world (stage.Gate test) disks old mid is.0 done)) is.1
+behind (stage.Take name) disks old mid Holds is done = subst Holds (sym (kept_world (stage.Take name) disks old mid is.0 done)) is.1
+behind stage.TakeDisks disks old mid Holds is done = subst Holds (sym (kept_world stage.TakeDisks disks old mid is.0 done)) is.1
+behind (stage.LookBlank name) disks old mid Holds is done = subst Holds (sym (kept_world (stage.LookBlank name) disks old mid is.0 done)) is.1
+behind stage.LookDisks disks old mid Holds is done = subst Holds (sym (kept_world stage.LookDisks disks old mid is.0 done)) is.1
+behind (stage.LookHeaded name) disks old mid Holds is done = subst Holds (sym (kept_world (stage.LookHeaded name) disks old mid is.0 done)) is.1
+behind (stage.Search dg) disks old mid Holds is done = subst Holds (sym (kept_world (stage.Search dg) disks old mid is.0 done)) is.1
+behind (stage.MakeImage name sectors) disks old mid Holds is done = cc
+behind (stage.Wipe name) disks old mid Holds is done = cc
+behind (stage.StartBare vol name) disks old mid Holds is done = cc
+behind (stage.Change change) disks old mid Holds is done = cc
+behind stage.Join disks old mid Holds is done = cc
+behind (stage.Create dg) disks old mid Holds is done = cc
+behind (stage.Import dg) disks old mid Holds is done = cc
+behind stage.LetGo disks old mid Holds is done = cc
+behind (stage.Start vol) disks old mid Holds is done = cc
+behind (stage.Stop vol) disks old mid Holds is done = cc
 
 pub runs_later : (disks : List DiskAt) (stages : List Stage) (finish : Finish) (old : Moment) (views : List View) (end : End) (new : Moment) → Runs disks stages finish old views end new → AreLater old.counts new.counts
 runs_later disks [] finish old views end new (shows, is, same) = subst (λ (m : Moment). AreLater old.counts m.counts) (sym same) (later_self old.counts)
@@ -237,9 +260,8 @@ runs_well disks [] finish old views end new shaped (shows, is, same) well = inl 
 runs_well disks (s ∷ []) finish old views end new shaped (inl (mid, later, is, (shows, over, same))) well = inl (None, over)
 runs_well disks (s ∷ []) finish old views end new shaped (inr (none, later, stops)) well = stops_well s disks old new end well shaped stops
 runs_well disks (s ∷ t ∷ ss) finish old views end new shaped (inl (mid, later, is, rest)) well =
-    let same = kept_world s disks old mid shaped.1 is in
     runs_well disks (t ∷ ss) finish mid views end new
-    (subst (λ (w : World). IsShaped (t ∷ ss) disks w) (sym same) shaped.2)
+    (behind s disks old mid (λ v. IsShaped (t ∷ ss) disks v) shaped.1 is)
     rest
     (well_after old mid new later (runs_later disks (t ∷ ss) finish mid views end new rest) well)
 runs_well disks (s ∷ t ∷ ss) finish old views end new shaped (inr (none, later, stops)) well = stops_well s disks old new end well shaped.0 stops
@@ -249,34 +271,34 @@ abbrev IsPlanShaped : Option Plan → List DiskAt → World → Type 0
 IsPlanShaped None disks w = Unit {0}
 IsPlanShaped (Some plan) disks w = IsShaped plan.stages disks w
 
-policy_shaped : (dg : Option Word) (vol : Word) (how : WordPolicy) (w : World) → IsAlive w × NamesSlots w → IsPlanShaped (plan_of dg (form.Rdpol vol how)) [] w
+policy_shaped : (dg : Option Word) (vol : Word) (how : WordPolicy) (w : World) → IsAlive w → IsPlanShaped (plan_of dg (form.Rdpol vol how)) [] w
 unfolding plan_of
-policy_shaped dg vol words.Round w c = (c, refl, (c, refl, c))
-policy_shaped dg vol words.Select w c = (c, refl, (c, refl, c))
-policy_shaped dg vol (words.Prefer plex) w c = (c, refl, (c, refl, (c, refl, c)))
+policy_shaped dg vol words.Round w c = (tt, (refl, (tt, (refl, c))))
+policy_shaped dg vol words.Select w c = (tt, (refl, (tt, (refl, c))))
+policy_shaped dg vol (words.Prefer plex) w c = (tt, (refl, (tt, (refl, (tt, (refl, c))))))
 
-print_shaped : (dg vol : Option Word) (w : World) → IsAlive w × NamesSlots w → IsPlanShaped (plan_of dg (form.PrintM vol)) [] w
+print_shaped : (dg vol : Option Word) (w : World) → IsPlanShaped (plan_of dg (form.PrintM vol)) [] w
 unfolding plan_of
-print_shaped dg None w c = c
-print_shaped dg (Some vol) w c = (c, refl, c)
+print_shaped dg None w = tt
+print_shaped dg (Some vol) w = (tt, (refl, tt))
 
 plan_shaped : (dg : Option Word) (f : Form) (w : World) → HasCarriers f w → IsPlanShaped (plan_of dg f) (disks_of f) w
 unfolding plan_of
-plan_shaped dg (form.MkImage device length) w has = (has.group, has.masks)
-plan_shaped dg (form.Bare vol device) w has = let c : IsAlive w × NamesSlots w = (has.group, has.masks) in (c, refl, (c, refl, (c, refl, c)))
-plan_shaped dg (form.DgInit name disks) w has = let c : IsAlive w × NamesSlots w = (has.group, has.masks) in (c, refl, (c, refl, (c, refl, (c, refl, (c, refl, (c, refl, has.named))))))
-plan_shaped dg (form.DgAddDisk name disk) w has = let c : IsAlive w × NamesSlots w = (has.group, has.masks) in (c, refl, (c, refl, (c, refl, (c, refl, (c, refl, c)))))
-plan_shaped dg (form.DgImport name) w has = (has.group, has.masks)
-plan_shaped dg (form.DgDeport name) w has = let c : IsAlive w × NamesSlots w = (has.group, has.masks) in (c, refl, (c, refl, c))
-plan_shaped dg (form.DiskUnsetup device) w has = let c : IsAlive w × NamesSlots w = (has.group, has.masks) in (c, refl, (c, refl, c))
-plan_shaped dg (form.Start vol) w has = let c : IsAlive w × NamesSlots w = (has.group, has.masks) in (c, refl, (c, refl, (c, refl, c)))
-plan_shaped dg (form.Stop vol) w has = let c : IsAlive w × NamesSlots w = (has.group, has.masks) in (c, refl, (c, refl, c))
-plan_shaped dg (form.PrintM vol) w has = print_shaped dg vol w (has.group, has.masks)
-plan_shaped dg (form.Rdpol vol how) w has = policy_shaped dg vol how w (has.group, has.masks)
-plan_shaped dg (form.RemoveVolume vol) w has = let c : IsAlive w × NamesSlots w = (has.group, has.masks) in (c, refl, (c, refl, (c, refl, (c, refl, c))))
-plan_shaped dg (form.VxMake text) w has = let c : IsAlive w × NamesSlots w = (has.group, has.masks) in (c, refl, c)
+plan_shaped dg (form.MkImage device length) w has = tt
+plan_shaped dg (form.Bare vol device) w has = (tt, (refl, (tt, (refl, (tt, (refl, tt))))))
+plan_shaped dg (form.DgInit name disks) w has = (tt, (refl, (tt, (refl, (tt, (refl, (tt, (refl, (tt, (refl, (tt, (refl, has.named))))))))))))
+plan_shaped dg (form.DgAddDisk name disk) w has = (tt, (refl, (tt, (refl, (tt, (refl, (tt, (refl, (tt, (refl, has.group))))))))))
+plan_shaped dg (form.DgImport name) w has = has.masks
+plan_shaped dg (form.DgDeport name) w has = (tt, (refl, (tt, (refl, tt))))
+plan_shaped dg (form.DiskUnsetup device) w has = (tt, (refl, (tt, (refl, tt))))
+plan_shaped dg (form.Start vol) w has = (tt, (refl, (tt, (refl, (tt, (refl, has.group))))))
+plan_shaped dg (form.Stop vol) w has = (tt, (refl, (tt, (refl, has.group))))
+plan_shaped dg (form.PrintM vol) w has = print_shaped dg vol w
+plan_shaped dg (form.Rdpol vol how) w has = policy_shaped dg vol how w has.group
+plan_shaped dg (form.RemoveVolume vol) w has = (tt, (refl, (tt, (refl, (tt, (refl, (tt, (refl, has.group))))))))
+plan_shaped dg (form.VxMake text) w has = (tt, (refl, has.group))
 plan_shaped dg (form.PrintHt vol) w has = tt
-plan_shaped dg (form.AssistMake vol length attrs disks) w has = tt
+plan_shaped dg (form.AssistMake vol length attrs disks) w has = (tt, (refl, (has.group, λ v alive. (tt, (refl, alive)))))
 plan_shaped dg (form.Mirror vol disks) w has = tt
 plan_shaped dg (form.PlexDis plex rm) w has = tt
 plan_shaped dg (form.Prepare vol ndcomirs region) w has = tt

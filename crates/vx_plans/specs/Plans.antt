@@ -1,16 +1,21 @@
 -- The plan of each command: its stages in order, and what it shows at the end.
-use Rattle.std.specs.Prelude.{ℕ, Option, Some, None, List, [], ◌∷◌}
+use Rattle.std.specs.Prelude.{ℕ, nat_lt, if◌then◌else◌, Option, Some, None, List, [], ◌∷◌}
 use Rattle.vx_base.specs.Named.{Word}
 use Rattle.vx_config_parts.specs.declared.vol.PolicyName.TheVariants as policy
 use Rattle.vx_script_words.specs.declared.value.DiskAt.{DiskAt}
 use Rattle.vx_script_forms.specs.declared.form.Form.{Form}
 use Rattle.vx_script_forms.specs.declared.form.Form.TheVariants as form
+use Rattle.vx_script_forms.specs.declared.form.MakeAttrs.{MakeAttrs}
+use Rattle.vx_script_forms.specs.declared.form.WordLayout.{WordLayout}
+use Rattle.vx_script_forms.specs.declared.form.WordLayout.TheVariants as layout
 use Rattle.vx_script_forms.specs.declared.form.WordPolicy.{WordPolicy}
 use Rattle.vx_script_forms.specs.declared.form.WordPolicy.TheVariants as words
 use Rattle.vx_stages.specs.declared.stages.Finish.{Finish}
 use Rattle.vx_stages.specs.declared.stages.Finish.TheVariants.{Nothing, Records}
 use Rattle.vx_stages.specs.declared.stages.Plan.{Plan}
+use Rattle.vx_new_volumes.specs.declared.volume.NewVolume.{NewVolume}
 use Rattle.vx_stages.specs.declared.stage.Change.TheVariants as changes
+use Rattle.vx_stages.specs.declared.stage.Source.TheVariants as source
 use Rattle.vx_stages.specs.declared.stage.Stage.{Stage}
 use Rattle.vx_stages.specs.declared.stage.Stage.TheVariants as stage
 use Rattle.vx_stages.specs.declared.test.Test.TheVariants as tests
@@ -56,7 +61,47 @@ plan_rdpol dg vol (words.Prefer plex) =
 
 -- `vxmake -d`
 abbrev pub plan_make : Option Word → List ℕ → List Stage
-plan_make dg text = stage.Gate (tests.GroupIs dg) ∷ stage.Make text ∷ []
+plan_make dg text = stage.Gate (tests.GroupIs dg) ∷ stage.Make (source.Text text) ∷ []
+
+-- ---- `vxassist make VOL LENGTH ATTR* DM*`
+
+-- the number of an attribute, or what it is where it is left out
+abbrev pub or_else : Option ℕ → ℕ → ℕ
+or_else None other = other
+or_else (Some n) other = n
+
+-- the columns of each plex
+abbrev pub columns_of : Option WordLayout → Option ℕ → ℕ
+columns_of None ncol = 1
+columns_of (Some layout.Concat) ncol = 1
+columns_of (Some layout.Stripe) ncol = or_else ncol 2
+
+-- a volume of several plexes has two logs, unless it is said how many
+abbrev pub logs_of : ℕ → Option ℕ → ℕ
+logs_of mirrors logs = or_else logs (if nat_lt 1 mirrors then 2 else 0)
+
+-- what is asked for
+abbrev pub new_volume : Word → ℕ → MakeAttrs → List Word → NewVolume
+new_volume vol length attrs disks = record {
+  vol = vol;
+  request = record {
+    length = length;
+    region = or_else attrs.region 128;
+    ncol = columns_of attrs.layout attrs.ncol;
+    unit = or_else attrs.unit 128;
+    mirrors = or_else attrs.nmirror 1;
+    logs = logs_of (or_else attrs.nmirror 1) attrs.ndcomirror;
+    disks = disks;
+    avoid = [];
+  };
+}
+
+-- the new volume is planned and its records are added; by then no volume of the name is started, and the start ends the command
+abbrev pub plan_new : Option Word → NewVolume → List Stage
+plan_new dg n =
+    stage.Gate (tests.GroupIs dg) ∷ stage.Make (source.Volume n) ∷ stage.Gate (tests.Stopped n.vol) ∷ stage.Start n.vol ∷ []
+
+-- ---- other commands
 
 -- `vxassist remove volume VOL`
 abbrev pub plan_remove : Option Word → Word → List Stage
@@ -89,6 +134,7 @@ plan_of dg (form.DgDeport name) = doing (plan_deport name)
 plan_of dg (form.DiskUnsetup device) = doing (plan_unsetup device)
 plan_of dg (form.PrintM vol) = ending (plan_print dg vol) (Records vol)
 plan_of dg (form.VxMake text) = doing (plan_make dg text)
+plan_of dg (form.AssistMake vol length attrs disks) = doing (plan_new dg (new_volume vol length attrs disks))
 plan_of dg (form.Rdpol vol words) = doing (plan_rdpol dg vol words)
 plan_of dg (form.RemoveVolume vol) = doing (plan_remove dg vol)
 plan_of dg (form.Start vol) = doing (plan_start dg vol)

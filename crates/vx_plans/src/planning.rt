@@ -1,6 +1,6 @@
 //! The plan of each form.
 ghost use Rattle.std.specs.Prelude.{◌≡◌, IfOk};
-ghost use Rattle.vx_plans.specs.Plans.{doing, ending, plan_add, plan_bare, plan_deport, plan_init, plan_make, plan_of, plan_print, plan_rdpol, plan_remove, plan_start, plan_stop, plan_unsetup};
+ghost use Rattle.vx_plans.specs.Plans.{columns_of, doing, ending, logs_of, new_volume, or_else, plan_add, plan_bare, plan_deport, plan_init, plan_make, plan_new, plan_of, plan_print, plan_rdpol, plan_remove, plan_start, plan_stop, plan_unsetup};
 ghost use Rattle.vx_stages.specs.declared.stages.Finish.TheVariants.{Records};
 ghost use Rattle.vx_stages.specs.declared.stage.Change.TheVariants as changes;
 ghost use Rattle.vx_stages.specs.declared.stage.Stage.TheVariants as stages;
@@ -9,9 +9,12 @@ use std::alloc::Global;
 use vx_base::OutOfMemory;
 use vx_config_parts::PolicyName;
 use vx_names::Name;
-use vx_script_forms::{Form, WordPolicy};
-use vx_script_words::Bytes;
-use vx_stages::{Change, Finish, Plan, Stage, Stages, Test};
+use vx_new_volumes::NewVolume;
+use vx_objects::Listed;
+use vx_plan::Request;
+use vx_script_forms::{Form, MakeAttrs, WordLayout, WordPolicy};
+use vx_script_words::{Bytes, Names};
+use vx_stages::{Change, Finish, Plan, Source, Stage, Stages, Test};
 
 /// The plan of a form, where it is built as one. The group is the word of `-g`.
 #[tactic(auto, unfolding(crate::specs::Plans::plan_of))]
@@ -32,6 +35,16 @@ pub fn plan(alloc: Global, group: Option<Name>, form: &Form) -> Result<Option<Pl
         Form::DiskUnsetup { device } => unsetup(alloc, *device),
         Form::PrintM { vol } => print(alloc, group, vol),
         Form::VxMake { text } => make(alloc, group, text.as_slice()),
+        Form::AssistMake {
+            vol,
+            length,
+            attrs,
+            disks,
+        } => make_new(
+            alloc,
+            group,
+            new_volume(alloc, *vol, *length, attrs.get(), disks)?,
+        ),
         Form::Rdpol { vol, policy } => rdpol(alloc, group, *vol, *policy),
         Form::RemoveVolume { vol } => remove(alloc, group, *vol),
         Form::Start { vol } => start(alloc, group, *vol),
@@ -183,7 +196,71 @@ fn make(alloc: Global, group: Option<Name>, text: &[u8]) -> Result<Option<Plan>,
     let text = Bytes::from_vec(Vec::from_slice(alloc, text)?);
     doing(
         alloc,
-        [Stage::Gate(Test::GroupIs(group)), Stage::Make(text)],
+        [
+            Stage::Gate(Test::GroupIs(group)),
+            Stage::Make(Source::Text(text)),
+        ],
+    )
+}
+
+/// The volume that is asked for, with what the attributes are where they are left out.
+fn new_volume(
+    alloc: Global,
+    vol: Name,
+    length: u64,
+    attrs: &MakeAttrs,
+    disks: &Names,
+) -> Result<NewVolume, OutOfMemory>
+    ensures { IfOk result (λ new. new ≡ new_volume vol length attrs.now disks.now) }
+{
+    let disks = Listed::from_vec(disks.to_vec(alloc)?);
+    let avoid = Listed::from_vec(Vec::new(alloc));
+    let mirrors = attrs.nmirror.unwrap_or(1);
+    let request = Request {
+        length,
+        region: attrs.region.unwrap_or(128),
+        ncol: columns_of(attrs.layout, attrs.ncol),
+        unit: attrs.unit.unwrap_or(128),
+        mirrors,
+        logs: logs_of(mirrors, attrs.ndcomirror),
+        disks,
+        avoid,
+    };
+    Ok(NewVolume { vol, request })
+}
+
+/// The columns of each plex.
+fn columns_of(layout: Option<WordLayout>, ncol: Option<u32>) -> u32
+    ensures { result ≡ columns_of layout ncol }
+{
+    match layout {
+        None | Some(WordLayout::Concat) => 1,
+        Some(WordLayout::Stripe) => ncol.unwrap_or(2),
+    }
+}
+
+/// A volume of several plexes has two logs, unless it is said how many.
+fn logs_of(mirrors: u32, logs: Option<u32>) -> u32
+    ensures { result ≡ logs_of mirrors logs }
+{
+    match logs {
+        Some(logs) => logs,
+        None => { if mirrors > 1 { 2 } else { 0 } }
+    }
+}
+
+fn make_new(alloc: Global, group: Option<Name>, new: NewVolume) -> Result<Option<Plan>, OutOfMemory>
+    ensures { IfOk result (λ plan. plan ≡ doing (plan_new group new)) }
+{
+    let vol = new.vol;
+    doing(
+        alloc,
+        [
+            Stage::Gate(Test::GroupIs(group)),
+            Stage::Make(Source::Volume(new)),
+            Stage::Gate(Test::Stopped(vol)),
+            Stage::Start(vol),
+        ],
     )
 }
 

@@ -4,7 +4,7 @@ use Rattle.vx_engine.proofs.CommandEnds.{can_show, done_goes, ended_goes, ended_
 use Rattle.vx_engine.proofs.planning.serve_plan.Goals as goal
 
 pub show-requires-after_bounds : goal.show-requires-after_bounds
-show-requires-after_bounds g c κs within = can_show g.S.P.Piece.seen c.args.disks.now c.args.plan.now.stages c.args.plan.now.finish _ _ c.requires.sound.ordered c.requires.sound.shows (rw c.as_slice.ensures at c.in-Ok.ensures.go)
+show-requires-after_bounds g c κs within = can_show g.S.P.Piece.seen c.args.disks.now c.args.plan.now.stages c.args.plan.now.finish _ _ c.requires.sound.shows (rw c.as_slice.ensures at c.in-Ok.ensures.go)
 
 pub returns-in-Ok-show : goal.returns-in-Ok-show
 returns-in-Ok-show g c = record {
@@ -15,7 +15,7 @@ returns-in-Ok-show g c = record {
 pub returns-in-Err : goal.returns-in-Err
 returns-in-Err g c = record {
   goes = rw c.rest.ensures.refused
-      (unshown_goes g.S.P.Piece.seen c.args.disks.now c.args.plan.now.stages c.args.plan.now.finish _ _ _ (rw c.as_slice.ensures at c.in-Ok.ensures.go) (records_kept c.args.plan.now.stages c.args.plan.now.finish c.in-Err.ensures.wants c.requires.sound.ordered) c.rest.ensures.left);
+      (unshown_goes g.S.P.Piece.seen c.args.disks.now c.args.plan.now.stages c.args.plan.now.finish _ _ _ (rw c.as_slice.ensures at c.in-Ok.ensures.go) (records_kept c.args.plan.now.stages c.args.plan.now.finish c.in-Err.ensures.wants c.requires.sound.kept) c.rest.ensures.left);
 }
 
 pub returns-in-Err-Ended : goal.returns-in-Err-Ended

@@ -4,7 +4,7 @@ use Rattle.std.specs.Prelude.{Err}
 use Rattle.vx_engine.specs.Runs.{StagesGo}
 use Rattle.vx_house.specs.Scene.{shelved}
 use Rattle.vx_house.specs.View.{at}
-use Rattle.vx_engine.proofs.StageChains.{none_run, run_then, run_stops, stage_ready, fed_behind, front_kept, split_stages}
+use Rattle.vx_engine.proofs.StageChains.{none_run, run_then, run_stops, stage_ready, fed_behind, split_stages}
 use Rattle.vx_engine.proofs.running.run_stages.Goals as goal
 
 pub loop-stage-init : goal.loop-stage-init
@@ -18,7 +18,6 @@ run_stage-requires-clause-ready g c κs within =
     let i : ℕ = c.loop-stage.stage-index in
     let split = split_stages c.args.stages.now i c.stage-item.result (take_more c.args.stages.now i c.stage-item.result c.loop-stage-test.true ∙ ap (λ x. take i c.args.stages.now ++ x ∷ []) (sym c.stage-item.is)) in
     stage_ready g.S.P.Piece.seen c.args.disks.now (take i c.args.stages.now) c.stage-item.result _ _ c.loop-stage.invariant.run
-    (front_kept c.args.stages.now i c.stage-item.result split c.requires.ordered.0 c.requires.ordered.1)
     (fed_behind c.args.stages.now i c.stage-item.result split c.requires.fed)
 
 pub returns-in-Err : goal.returns-in-Err

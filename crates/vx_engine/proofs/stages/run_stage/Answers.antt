@@ -24,7 +24,7 @@ pub returns-in-Change : goal.returns-in-Change
 returns-in-Change g c = record { goes = rw c.in-Change.is (stage_ends g.S.P.Piece.seen c.args.disks.now _ _ _ _ (c.change.ensures.goes c.args.disks.now (shelved g.S.Shelf.free g.S.Shelf.held g.S.Shelf.counted g.S.Shelf.faults c.args.shelf.now) (rw c.in-Change.is at c.requires.ready) c.requires.keeps.devices)) }
 
 pub returns-in-Make : goal.returns-in-Make
-returns-in-Make g c = record { goes = rw (c.in-Make.is, ← c.as_slice.ensures) (stage_ends g.S.P.Piece.seen c.args.disks.now _ _ _ _ (c.make.ensures.goes c.args.disks.now (shelved g.S.Shelf.free g.S.Shelf.held g.S.Shelf.counted g.S.Shelf.faults c.args.shelf.now) c.requires.keeps.devices)) }
+returns-in-Make g c = record { goes = rw c.in-Make.is (stage_ends g.S.P.Piece.seen c.args.disks.now _ _ _ _ (c.make.ensures.goes c.args.disks.now (shelved g.S.Shelf.free g.S.Shelf.held g.S.Shelf.counted g.S.Shelf.faults c.args.shelf.now) c.requires.keeps.devices)) }
 
 pub returns-in-Gate : goal.returns-in-Gate
 returns-in-Gate g c = record { goes = rw c.in-Gate.is (stage_ends g.S.P.Piece.seen c.args.disks.now _ _ _ _ (c.pass.ensures.goes (shelved g.S.Shelf.free g.S.Shelf.held g.S.Shelf.counted g.S.Shelf.faults c.args.shelf.now) c.requires.keeps)) }

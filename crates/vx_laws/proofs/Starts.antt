@@ -58,9 +58,13 @@ found_named name (u ∷ us) v is = by (bytes_eq u.name name) refl (found_named n
     by true e further found = let same : u ≡ v = cc in subst (λ (x : Vol). x.name ≡ name) same (bytes_eq_same u.name name e)
     by false e further found = further found
 
--- what the bytes of each volume that may be started are read as
+-- what the bytes of the volume of this name are read as, where it may be started
+abbrev pub IsRead : Reading → Word → World → Type 0
+IsRead Read name w = (g : Group) → w.group ≡ Some g → (v : Vol) → volume_in name g.config.volumes ≡ Some v → may_start v.state ≡ true → Read name v.len (candidates_read (image_on w.devices g v))
+
+-- so it is of each volume
 abbrev pub AreRead : Reading → World → Type 0
-AreRead Read w = (g : Group) → w.group ≡ Some g → (name : Word) (v : Vol) → volume_in name g.config.volumes ≡ Some v → may_start v.state ≡ true → Read name v.len (candidates_read (image_on w.devices g v))
+AreRead Read w = (name : Word) → IsRead Read name w
 
 module _ (Held : Holding) (Read : Reading) where
   started_history : (g : Group) (v : Vol) (image : Image) (sound : Bool) → Read v.name image.length (candidates_read image) → IsHistoried Held Read v.name (volume_started g v image sound)
@@ -97,17 +101,17 @@ module _ (Held : Holding) (Read : Reading) where
 
   -- ---- a start
 
-  module _ (old new : Moment) (end : End) (all : HaveHistories Held Read old.world) (read : AreRead Read old.world) where
+  module _ (old new : Moment) (end : End) (all : HaveHistories Held Read old.world) where
     still : new.world.volumes ≡ old.world.volumes → HaveHistories Held Read new.world
     still e = same_volumes Held Read old.world new.world e all
 
-    module _ (g : Group) (here : old.world.group ≡ Some g) (v : Vol) (named : volume_in v.name g.config.volumes ≡ Some v) (may : may_start v.state ≡ true) where
+    module _ (g : Group) (here : old.world.group ≡ Some g) (v : Vol) (named : volume_in v.name g.config.volumes ≡ Some v) (may : may_start v.state ≡ true) (read : IsRead Read v.name old.world) where
       begun : (m : Moment) → IsStartedBy g v old m → HaveHistories Held Read m.world
       begun m s =
           let image = image_on old.world.devices g v in
           let recorded : HaveHistories Held Read s.recorded.world = same_volumes Held Read old.world s.recorded.world (s.committed.committing.volumes ∙ ap (λ (w : World). w.volumes) s.touched.world) all in
           same_volumes Held Read (record s.recorded.world { volumes = put v.name (Some (volume_started g v image s.begins.sound)) s.recorded.world.volumes }) m.world (ap (λ (w : World). w.volumes) s.begins.world)
-          (put_history Held Read s.recorded.world v.name (volume_started g v image s.begins.sound) (started_history g v image s.begins.sound (read g here v.name v named may)) recorded)
+          (put_history Held Read s.recorded.world v.name (volume_started g v image s.begins.sound) (started_history g v image s.begins.sound (read g here v named may)) recorded)
 
       copied : (m : Moment) → HaveHistories Held Read m.world → IsCopied g v m end new → HaveHistories Held Read new.world
       copied m have c =
@@ -120,21 +124,22 @@ module _ (Held : Holding) (Read : Reading) where
       of_volume (inr (inr (inl c))) = still (c.stops.2.committing.volumes ∙ ap (λ (w : World). w.volumes) c.touched.world)
       of_volume (inr (inr (inr a))) = copied a.begun (begun a.begun a.started) a.copied
 
-    of_state : (g : Group) (v : Vol) (may : Bool) → may_start v.state ≡ may → old.world.group ≡ Some g → volume_in v.name g.config.volumes ≡ Some v → MatchBool may (StopsOf g v old end new) (EndsIn (refusal.VolState v.state) old end new) → HaveHistories Held Read new.world
-    of_state g v true may here is stops = of_volume g here v is may stops
-    of_state g v false may here is ends = still (volumes_of old.world new.world ends.1.stays.world)
+    of_state : (g : Group) (v : Vol) → IsRead Read v.name old.world → (may : Bool) → may_start v.state ≡ may → old.world.group ≡ Some g → volume_in v.name g.config.volumes ≡ Some v → MatchBool may (StopsOf g v old end new) (EndsIn (refusal.VolState v.state) old end new) → HaveHistories Held Read new.world
+    of_state g v read true may here is stops = of_volume g here v is may read stops
+    of_state g v read false may here is ends = still (volumes_of old.world new.world ends.1.stays.world)
 
-    in_group : (g : Group) (name : Word) (o : Option Vol) → old.world.group ≡ Some g → volume_in name g.config.volumes ≡ o → MatchOption o (EndsIn (refusal.NoObject name) old end new) (λ v. MatchBool (may_start v.state) (StopsOf g v old end new) (EndsIn (refusal.VolState v.state) old end new)) → HaveHistories Held Read new.world
-    in_group g name None here is ends = still (volumes_of old.world new.world ends.1.stays.world)
-    in_group g name (Some v) here is stops =
-        of_state g v (may_start v.state) refl here (subst (λ (n : Word). volume_in n g.config.volumes ≡ Some v) (sym (found_named name g.config.volumes v is)) is) stops
+    in_group : (g : Group) (name : Word) → IsRead Read name old.world → (o : Option Vol) → old.world.group ≡ Some g → volume_in name g.config.volumes ≡ o → MatchOption o (EndsIn (refusal.NoObject name) old end new) (λ v. MatchBool (may_start v.state) (StopsOf g v old end new) (EndsIn (refusal.VolState v.state) old end new)) → HaveHistories Held Read new.world
+    in_group g name read None here is ends = still (volumes_of old.world new.world ends.1.stays.world)
+    in_group g name read (Some v) here is stops =
+        let same : name ≡ v.name = sym (found_named name g.config.volumes v is) in
+        of_state g v (subst (λ n. IsRead Read n old.world) same read) (may_start v.state) refl here (subst (λ (n : Word). volume_in n g.config.volumes ≡ Some v) same is) stops
 
-    in_world : (name : Word) (o : Option Group) → old.world.group ≡ o → MatchOption o (EndsIn (refusal.NoGroup None) old end new) (λ g. StopsIn g name old end new) → HaveHistories Held Read new.world
-    in_world name None here ends = still (volumes_of old.world new.world ends.1.stays.world)
-    in_world name (Some g) here stops = in_group g name (volume_in name g.config.volumes) here refl stops
+    in_world : (name : Word) → IsRead Read name old.world → (o : Option Group) → old.world.group ≡ o → MatchOption o (EndsIn (refusal.NoGroup None) old end new) (λ g. StopsIn g name old end new) → HaveHistories Held Read new.world
+    in_world name read None here ends = still (volumes_of old.world new.world ends.1.stays.world)
+    in_world name read (Some g) here stops = in_group g name read (volume_in name g.config.volumes) here refl stops
 
-    pub start_kept : (name : Word) → StartStops name old end new → HaveHistories Held Read new.world
-    start_kept name stops = in_world name old.world.group refl stops
+    pub start_kept : (name : Word) → IsRead Read name old.world → StartStops name old end new → HaveHistories Held Read new.world
+    start_kept name read stops = in_world name read old.world.group refl stops
 
   -- ---- a stop
 

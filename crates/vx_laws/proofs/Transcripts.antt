@@ -1,5 +1,5 @@
 -- Each transcript keeps the histories of all volumes: each stage does, and each call, and each command.
-use Rattle.std.proofs.Common.{◌≡◌, ◌&&◌, ℕ, ◌+◌, Bool, true, false, List, [], ◌∷◌, Option, Some, None, MatchOption, MatchBool, nat_lt, refl, sym, ◌∙◌, ap, subst, inl, inr}
+use Rattle.std.proofs.Common.{◌≡◌, ◌⊎◌, ◌&&◌, ℕ, ◌+◌, Bool, true, false, List, [], ◌∷◌, Option, Some, None, MatchOption, MatchBool, nat_lt, refl, sym, ◌∙◌, ap, subst, inl, inr}
 use Rattle.std.proofs.lemmas.Bool.{and_parts}
 use Rattle.vx_laws.proofs.Runs.{has_stopped, volumes_of}
 use Rattle.vx_base.specs.Named.{Word, put}
@@ -23,8 +23,8 @@ use Rattle.vx_plans.proofs.Complete.{kept_world, keeps_world}
 use Rattle.vx_life.specs.Candidates.{Candidates, known}
 use Rattle.vx_image.specs.Meaning.{candidates_read}
 use Rattle.vx_group_images.specs.Group.{image_on}
-use Rattle.vx_laws.specs.Histories.{HasHistory, IsHistoried, IsHistoriedOn, HaveHistories, NoneStarted, WasRead, WasThere}
-use Rattle.vx_laws.proofs.Starts.{AreRead, start_kept, stop_done, stop_kept}
+use Rattle.vx_laws.specs.Histories.{FirstHasAdded, HasAdded, HasHistory, IsHistoried, IsHistoriedOn, HaveHistories, NoneStarted, WasRead, WasThere}
+use Rattle.vx_laws.proofs.Starts.{AreRead, IsRead, start_kept, stop_done, stop_kept}
 use Rattle.vx_laws.proofs.Lives.{Holding, Reading, begun_history, put_history, goes_on_history, same_volumes, without_group, from_nothing}
 use Rattle.vx_base.specs.Blocks.{Contents}
 use Rattle.vx_script_forms.specs.declared.form.Form.{Form}
@@ -33,9 +33,13 @@ use Rattle.vx_script_forms.specs.declared.form.WordPolicy.TheVariants as words
 use Rattle.vx_script.specs.declared.command.Command.{Command}
 use Rattle.vx_answers.specs.declared.answer.Answer.{Answer}
 use Rattle.vx_answers.specs.declared.answer.View.{View}
-use Rattle.vx_plans.specs.Plans.{plan_of, disks_of}
+use Rattle.vx_plans.specs.Plans.{new_volume, plan_of, disks_of}
 use Rattle.vx_plans.specs.Steps.{Runs, Leaves, IsNotBuilt, DoesPlan, DoesForm, Step, IsTranscript}
+use Rattle.vx_stages.specs.declared.stage.Source.{Source}
+use Rattle.vx_stages.specs.declared.stage.Source.TheVariants as source
 use Rattle.vx_stages.specs.declared.stages.Finish.{Finish}
+use Rattle.vx_stages.specs.declared.stages.Finish.TheVariants.{Nothing}
+use Rattle.vx_stages.specs.declared.test.Test.TheVariants as tests
 use Rattle.vx_stages.specs.declared.stages.Plan.{Plan}
 
 -- what holds on each device may have been held
@@ -62,7 +66,7 @@ module _ (Held : Holding) (Read : Reading) (old new : Moment) (all : HaveHistori
       let d = bare.device in
       subst (HaveHistories Held Read) (sym bare.is) (put_history Held Read old.world vol (bare_volume name d) (d.contents, there.0 name d bare.was, begun_history (known d.contents)) all)
   stage_kept (stage.Change change) disks there (x, writing, committed) = as_was committed.committing.volumes
-  stage_kept (stage.Make text) disks there (x, writing, committed) = as_was committed.committing.volumes
+  stage_kept (stage.Make from) disks there (x, writing, committed) = as_was committed.committing.volumes
   stage_kept stage.Join [] there is = absurd is
   stage_kept stage.Join (p ∷ q ∷ ps) there is = absurd is
   stage_kept stage.Join (p ∷ []) there (x, writing, committed) = as_was committed.committing.volumes
@@ -75,7 +79,7 @@ module _ (Held : Holding) (Read : Reading) (old new : Moment) (all : HaveHistori
 
   -- a stage that ends the command keeps them too
   ending_kept : (s : Stage) (disks : List DiskAt) (end : End) → AreKnown Held Read old.world → Stops s disks old end new → HaveHistories Held Read new.world
-  ending_kept (stage.Start vol) disks end there stops = start_kept Held Read old new end all there.1 vol stops
+  ending_kept (stage.Start vol) disks end there stops = start_kept Held Read old new end all vol (there.1 vol) stops
   ending_kept (stage.Stop vol) disks end there stops = stop_kept Held Read vol old all end new stops
   ending_kept other disks end there stops = as_was (has_stopped old new end other disks refl stops).volumes
 
@@ -134,14 +138,24 @@ abbrev is_shaped : Option Plan → Bool
 is_shaped None = true
 is_shaped (Some plan) = all_keep_but_last plan.stages
 
-plan_shaped : (dg : Option Word) (f : Form) → is_shaped (plan_of dg f) ≡ true
+-- the form makes a new volume
+abbrev makes_volume : Form → Bool
+makes_volume (form.AssistMake vol length attrs disks) = true
+makes_volume other = false
+
+plan_shaped : (dg : Option Word) (f : Form) → makes_volume f ≡ false → is_shaped (plan_of dg f) ≡ true
 unfolding plan_of
-plan_shaped dg (form.PrintM None) = refl
-plan_shaped dg (form.PrintM (Some vol)) = refl
-plan_shaped dg (form.Rdpol vol words.Round) = refl
-plan_shaped dg (form.Rdpol vol words.Select) = refl
-plan_shaped dg (form.Rdpol vol (words.Prefer plex)) = refl
-plan_shaped dg other = refl
+plan_shaped dg (form.AssistMake vol length attrs disks) other = cc
+plan_shaped dg (form.PrintM None) other = refl
+plan_shaped dg (form.PrintM (Some vol)) other = refl
+plan_shaped dg (form.Rdpol vol words.Round) other = refl
+plan_shaped dg (form.Rdpol vol words.Select) other = refl
+plan_shaped dg (form.Rdpol vol (words.Prefer plex)) other = refl
+plan_shaped dg f other = refl
+
+-- what is read of a volume whose records a command of this form has added
+abbrev AreReadIn : Reading → Form → Moment → Type 0
+AreReadIn Read f old = (name : Word) (mid : Moment) → HasAdded f name old mid → IsRead Read name mid.world
 
 module _ (Held : Holding) (Read : Reading) where
   runs_kept : (disks : List DiskAt) (stages : List Stage) (finish : Finish) (old : Moment) (views : List View) (end : End) (new : Moment) → all_keep_but_last stages ≡ true → AreKnown Held Read old.world → HaveHistories Held Read old.world → Runs disks stages finish old views end new → HaveHistories Held Read new.world
@@ -161,15 +175,41 @@ module _ (Held : Holding) (Read : Reading) where
   plan_kept disks None old views end new shaped there all does = not_built old views end new all does
   plan_kept disks (Some plan) old views end new shaped there all does = runs_kept disks plan.stages plan.finish old views end new shaped there all does
 
+  -- ---- a new volume
+
+  at_moment : (old new : Moment) → new ≡ old → HaveHistories Held Read old.world → HaveHistories Held Read new.world
+  at_moment old new stays all = same Held Read old new all (ap (λ (m : Moment). m.world) stays)
+
+  module _ (from : Source) (vol : Word) (views : List View) (end : End) (new : Moment) where
+    starting_kept : (old : Moment) → IsRead Read vol old.world → HaveHistories Held Read old.world → Runs [] (stage.Gate (tests.Stopped vol) ∷ stage.Start vol ∷ []) Nothing old views end new → HaveHistories Held Read new.world
+    starting_kept old read all (inl (mid, later, (passed, stays), inl (m, after, is, rest))) = absurd is
+    starting_kept old read all (inl (mid, later, (passed, stays), inr (none, after, stops))) =
+        start_kept Held Read mid new end (at_moment old mid stays all) vol (subst (λ (m : Moment). IsRead Read vol m.world) (sym stays) read) stops
+    starting_kept old read all (inr (none, later, (r, fails, is, stays))) = at_moment old new stays all
+
+    adding_kept : (old : Moment) → ((mid : Moment) → IsDone (stage.Make from) [] old mid → IsRead Read vol mid.world) → HaveHistories Held Read old.world
+        → Runs [] (stage.Make from ∷ stage.Gate (tests.Stopped vol) ∷ stage.Start vol ∷ []) Nothing old views end new → HaveHistories Held Read new.world
+    adding_kept old read all (inl (mid, later, is, rest)) = starting_kept mid (read mid is) (as_was Held Read old mid all is.2.committing.volumes) rest
+    adding_kept old read all (inr (none, later, stops)) = as_was Held Read old new all (has_stopped old new end (stage.Make from) [] refl stops).volumes
+
+    new_kept : (dg : Option Word) (old : Moment) → ((mid : Moment) → IsDone (stage.Make from) [] old mid → IsRead Read vol mid.world) → HaveHistories Held Read old.world
+        → Runs [] (stage.Gate (tests.GroupIs dg) ∷ stage.Make from ∷ stage.Gate (tests.Stopped vol) ∷ stage.Start vol ∷ []) Nothing old views end new → HaveHistories Held Read new.world
+    new_kept dg old read all (inl (mid, later, (passed, stays), rest)) =
+        adding_kept mid (λ m is. read m (subst (λ (o : Moment). IsDone (stage.Make from) [] o m) stays is)) (at_moment old mid stays all) rest
+    new_kept dg old read all (inr (none, later, (r, fails, is, stays))) = at_moment old new stays all
+
   -- ---- commands
 
-  form_kept : (place : ℕ) (dg : Option Word) (f : Form) (old : Moment) (views : List View) (end : End) (new : Moment) → AreKnown Held Read old.world → HaveHistories Held Read old.world → DoesForm place dg f old views end new → HaveHistories Held Read new.world
-  form_kept place dg (form.Calling call) old views end new there all does = call_kept Held Read place call old new end all does.2
-  form_kept place dg other old views end new there all does = plan_kept (disks_of other) (plan_of dg other) old views end new (plan_shaped dg other) there all does
+  form_kept : (place : ℕ) (dg : Option Word) (f : Form) (old : Moment) (views : List View) (end : End) (new : Moment) → AreKnown Held Read old.world → AreReadIn Read f old → HaveHistories Held Read old.world → DoesForm place dg f old views end new → HaveHistories Held Read new.world
+  unfolding plan_of
+  form_kept place dg (form.Calling call) old views end new there added all does = call_kept Held Read place call old new end all does.2
+  form_kept place dg (form.AssistMake vol length attrs disks) old views end new there added all does =
+      new_kept (source.Volume (new_volume vol length attrs disks)) vol views end new dg old (λ mid is. added vol mid (refl, is)) all does
+  form_kept place dg other old views end new there added all does = plan_kept (disks_of other) (plan_of dg other) old views end new (plan_shaped dg other refl) there all does
 
-  cut_kept : (place : ℕ) (c : Command) (cut : Option ℕ) (old : Moment) (views : List View) (end : End) (new : Moment) → AreKnown Held Read old.world → HaveHistories Held Read old.world → MatchOption cut (DoesForm place c.group c.form old views end new) (λ n. IsNotBuilt old views end new) → HaveHistories Held Read new.world
-  cut_kept place c None old views end new there all does = form_kept place c.group c.form old views end new there all does
-  cut_kept place c (Some n) old views end new there all does = not_built old views end new all does
+  cut_kept : (place : ℕ) (c : Command) (cut : Option ℕ) (old : Moment) (views : List View) (end : End) (new : Moment) → AreKnown Held Read old.world → (cut ≡ None → AreReadIn Read c.form old) → HaveHistories Held Read old.world → MatchOption cut (DoesForm place c.group c.form old views end new) (λ n. IsNotBuilt old views end new) → HaveHistories Held Read new.world
+  cut_kept place c None old views end new there added all does = form_kept place c.group c.form old views end new there (added refl) all does
+  cut_kept place c (Some n) old views end new there added all does = not_built old views end new all does
 
   left_kept : (end : End) (over left : World) → HaveHistories Held Read over → Leaves end over left → HaveHistories Held Read left
   left_kept ends.GroupLost over left all is = subst (HaveHistories Held Read) (sym is.1) (without_group Held Read over all)
@@ -179,8 +219,8 @@ module _ (Held : Holding) (Read : Reading) where
   left_kept (ends.Fault told device parts) over left all is = subst (HaveHistories Held Read) (sym is) all
   left_kept ends.ShelfFailed over left all is = subst (HaveHistories Held Read) (sym is) all
 
-  step_kept : (place : ℕ) (c : Command) (old : Moment) (answer : Answer) (new : Moment) → AreKnown Held Read old.world → HaveHistories Held Read old.world → Step place c old answer new → HaveHistories Held Read new.world
-  step_kept place c old answer new there all step = left_kept step.end step.over.world new.world (cut_kept place c c.cut old step.views step.end step.over there all step.does) step.leaves
+  step_kept : (place : ℕ) (c : Command) (old : Moment) (answer : Answer) (new : Moment) → AreKnown Held Read old.world → (c.cut ≡ None → AreReadIn Read c.form old) → HaveHistories Held Read old.world → Step place c old answer new → HaveHistories Held Read new.world
+  step_kept place c old answer new there added all step = left_kept step.end step.over.world new.world (cut_kept place c c.cut old step.views step.end step.over there added all step.does) step.leaves
 
 -- ---- transcripts
 
@@ -209,6 +249,8 @@ module _ (place : ℕ) (old mid : Moment) (c : Command) (cs : List Command) (a :
     answers_are = ap (λ l. a ∷ l) was.answers_are;
     moment = was.moment;
     transcript = (mid, step, was.transcript);
+    at = was.at;
+    reached = was.reached;
     group = was.group;
     imported = was.imported;
     of = was.of;
@@ -233,8 +275,8 @@ module _ (place : ℕ) (old : Moment) (commands : List Command) (answers : List 
     here = is;
   }
 
-  read_first : AreRead (WasRead place old commands answers) old.world
-  read_first g here name v is may = record {
+  read_first : (name : Word) (at : Moment) → (at ≡ old) ⊎ FirstHasAdded commands name old at → IsRead (WasRead place old commands answers) name at.world
+  read_first name at reached g here v is may = record {
     before = [];
     others = commands;
     commands_are = refl;
@@ -243,6 +285,8 @@ module _ (place : ℕ) (old : Moment) (commands : List Command) (answers : List 
     answers_are = refl;
     moment = old;
     transcript = refl;
+    at = at;
+    reached = reached;
     group = g;
     imported = here;
     of = v;
@@ -264,13 +308,14 @@ module _ (Held : Holding) (Read : Reading) where
   transcript_kept place old new (c ∷ cs) [] known all h = absurd h
   transcript_kept place old new (c ∷ cs) (a ∷ rest) known all (mid, step, more) =
       let there : AreThere Held old.world = λ name d is. known.held name d.sectors d.contents (was_first place old (c ∷ cs) (a ∷ rest) name d is) in
-      let reads : AreRead Read old.world = λ g here name v is may. known.read name v.len (candidates_read (image_on old.world.devices g v)) (read_first place old (c ∷ cs) (a ∷ rest) g here name v is may) in
+      let read : (name : Word) (at : Moment) → (at ≡ old) ⊎ FirstHasAdded (c ∷ cs) name old at → IsRead Read name at.world =
+      λ name at reached g here v is may. known.read name v.len (candidates_read (image_on at.world.devices g v)) (read_first place old (c ∷ cs) (a ∷ rest) name at reached g here v is may) in
       transcript_kept (place + 1) mid new cs rest
       (record {
         held = λ name sectors blocks was. known.held name sectors blocks (was_later place old mid c cs a rest step name sectors blocks was);
         read = λ name sectors first was. known.read name sectors first (read_later place old mid c cs a rest step name sectors first was);
       })
-      (step_kept Held Read place c old a mid (there, reads) all step) more
+      (step_kept Held Read place c old a mid (there, λ name. read name old (inl refl)) (λ uncut name at has. read name at (inr (uncut, has))) all step) more
 
 pub each_volume_has_a_history : (place : ℕ) (old new : Moment) (commands : List Command) (answers : List Answer) → NoneStarted old.world → IsTranscript place old commands answers new → HaveHistories (WasThere place old commands answers) (WasRead place old commands answers) new.world
 each_volume_has_a_history place old new commands answers none transcript =

@@ -1,5 +1,5 @@
 -- The history of each volume of a transcript.
-use Rattle.std.specs.Prelude.{◌≡◌, ℕ, ◌-◌, ◌<◌, ◌==◌, true, MatchBool, List, [], ◌∷◌, ◌++◌, Some, None}
+use Rattle.std.specs.Prelude.{◌≡◌, ◌⊎◌, ℕ, ◌-◌, ◌<◌, ◌==◌, true, MatchBool, List, [], ◌∷◌, ◌++◌, Some, None}
 use Rattle.vx_base.specs.Blocks.{Contents}
 use Rattle.vx_base.specs.Named.{Word}
 use Rattle.vx_life.specs.Candidates.{Candidates, known}
@@ -7,13 +7,19 @@ use Rattle.vx_life.specs.Entry.{Entry, candidates_of, IsHistory}
 use Rattle.vx_life.specs.Life.{Life}
 use Rattle.vx_config_parts.specs.declared.vol.Vol.{Vol}
 use Rattle.vx_image.specs.Meaning.{candidates_read}
+use Rattle.vx_script_forms.specs.declared.form.Form.{Form}
+use Rattle.vx_script_forms.specs.declared.form.Form.TheVariants.{AssistMake}
 use Rattle.vx_script.specs.declared.command.Command.{Command}
 use Rattle.vx_answers.specs.declared.answer.Answer.{Answer}
 use Rattle.vx_moments.specs.World.{Group, World, Volume, Lies, OnDevice, OnPlexes}
 use Rattle.vx_moments.specs.Moment.{Moment}
 use Rattle.vx_group_images.specs.Group.{image_on}
+use Rattle.vx_stages.specs.Stages.{IsDone}
 use Rattle.vx_stages.specs.Starting.{may_start}
 use Rattle.vx_stages.specs.Tests.{volume_in}
+use Rattle.vx_stages.specs.declared.stage.Source.TheVariants as source
+use Rattle.vx_stages.specs.declared.stage.Stage.TheVariants as stage
+use Rattle.vx_plans.specs.Plans.{new_volume}
 use Rattle.vx_plans.specs.Steps.{IsTranscript}
 
 -- the numbers of the region's entries, the newest first, are n down to 1
@@ -39,8 +45,18 @@ pub record WasThere (place : ℕ) (old : Moment) (commands : List Command) (answ
   pub transcript : IsTranscript place old before told moment
   pub here : moment.world.devices name ≡ Some (record { sectors = sectors; contents = blocks })
 
--- before some command of the transcript a group was imported that recorded a volume of this name and size, in a state from which it can be
--- started, and these candidates are read from the bytes that it had then
+-- a command of this form has added the records of a new volume of this name, which it starts next
+abbrev pub HasAdded : Form → Word → Moment → Moment → Type 0
+HasAdded (AssistMake vol length attrs disks) name old new = (name ≡ vol) × IsDone (stage.Make (source.Volume (new_volume vol length attrs disks))) [] old new
+HasAdded other name old new = ⊥
+
+-- the first of these commands has
+abbrev pub FirstHasAdded : List Command → Word → Moment → Moment → Type 0
+FirstHasAdded [] name old new = ⊥
+FirstHasAdded (c ∷ cs) name old new = (c.cut ≡ None) × HasAdded c.form name old new
+
+-- before some command of the transcript, or in one as it has added the records of the volume, a group was imported that recorded a volume of
+-- this name and size, in a state from which it can be started, and these candidates are read from the bytes that it had then
 pub record WasRead (place : ℕ) (old : Moment) (commands : List Command) (answers : List Answer) (name : Word) (sectors : ℕ) (first : Candidates) : Type 0 where
   pub before : List Command
   pub others : List Command
@@ -50,13 +66,15 @@ pub record WasRead (place : ℕ) (old : Moment) (commands : List Command) (answe
   pub answers_are : answers ≡ told ++ later
   pub moment : Moment
   pub transcript : IsTranscript place old before told moment
+  pub at : Moment
+  pub reached : (at ≡ moment) ⊎ FirstHasAdded others name moment at
   pub group : Group
-  pub imported : moment.world.group ≡ Some group
+  pub imported : at.world.group ≡ Some group
   pub of : Vol
   pub recorded : volume_in name group.config.volumes ≡ Some of
   pub size : of.len ≡ sectors
   pub state : may_start of.state ≡ true
-  pub candidates : first ≡ candidates_read (image_on moment.world.devices group of)
+  pub candidates : first ≡ candidates_read (image_on at.world.devices group of)
 
 -- A volume on a device has a history from blocks that the device held. One on plexes of the group has one where its bytes were sound as
 -- it began, from the candidates that they were read as.

@@ -1,5 +1,5 @@
 -- A stage that refuses its command leaves the world, but for a start that cannot open its volume.
-use Rattle.std.proofs.Common.{◌≡◌, ◌∙◌, ◌⊎◌, ℕ, ◌+◌, Bool, true, false, nat_lt, List, [], ◌∷◌, ◌++◌, Option, Some, None, MatchBool, MatchOption, refl, sym, ap, subst, inl, inr}
+use Rattle.std.proofs.Common.{◌≡◌, ◌∙◌, ◌⊎◌, ℕ, ◌+◌, Bool, true, false, is_some, nat_lt, List, [], ◌∷◌, ◌++◌, Option, Some, None, MatchBool, MatchOption, refl, sym, ap, subst, inl, inr}
 use Rattle.vx_base.specs.Named.{Word}
 use Rattle.vx_script_words.specs.declared.value.DiskAt.{DiskAt}
 use Rattle.vx_script_forms.specs.declared.call.Call.{Call}
@@ -15,14 +15,18 @@ use Rattle.vx_answers.specs.declared.refusal.Refusal.{Refusal}
 use Rattle.vx_answers.specs.declared.refusal.Refusal.TheVariants.{NotStarted, Range}
 use Rattle.vx_moments.specs.Commit.{Writing}
 use Rattle.vx_moments.specs.Moment.{Moment, Rests}
-use Rattle.vx_moments.specs.World.{Lies, OnDevice, OnPlexes, Volume}
+use Rattle.vx_moments.specs.World.{Group, Lies, OnDevice, OnPlexes, Volume}
+use Rattle.vx_new_volumes.specs.declared.volume.NewVolume.{NewVolume}
 use Rattle.vx_stages.specs.Calls.{count_of, start_of, volume_of}
 use Rattle.vx_stages.specs.Ends.{StopsBy, refused}
-use Rattle.vx_plans.specs.Plans.{plan_of, disks_of}
+use Rattle.vx_plans.specs.Plans.{disks_of, new_volume, plan_of}
 use Rattle.vx_stages.specs.Records.{devices_of}
 use Rattle.vx_plans.specs.Serving.{CallRuns, ServesOn}
-use Rattle.vx_stages.specs.Stages.{Stops, TakingStops}
+use Rattle.vx_stages.specs.Stages.{IsDone, Stops, TakingStops}
+use Rattle.vx_stages.specs.Starting.{StartStops}
+use Rattle.vx_stages.specs.Tests.{volume_in}
 use Rattle.vx_plans.specs.Steps.{DoesForm, DoesPlan, IsNotBuilt, Leaves, Runs, Step, done}
+use Rattle.vx_stages.specs.declared.stage.Source.TheVariants as source
 use Rattle.vx_stages.specs.declared.stage.Stage.{Stage}
 use Rattle.vx_stages.specs.declared.stage.Stage.TheVariants as stage
 use Rattle.vx_stages.specs.declared.stages.Finish.{Finish}
@@ -31,8 +35,9 @@ use Rattle.vx_stages.specs.declared.test.Test.{Test}
 use Rattle.vx_stages.specs.declared.test.Test.TheVariants as tests
 use Rattle.vx_stages.specs.declared.stages.Plan.{Plan}
 use Rattle.vx_plans.proofs.Complete.{keeps_world, kept_world}
-use Rattle.vx_plan_laws.specs.Keeping.{IsLeftUnopened, RefusedLeaves}
-use Rattle.vx_plan_laws.proofs.Volumes.{not_stopped, start_left, stop_left}
+use Rattle.vx_plan_laws.specs.Keeping.{IsLeftAdded, IsLeftUnopened, RefusedLeaves}
+use Rattle.vx_plan_laws.proofs.NewVolumes.{added_there, is_opened, no_gate}
+use Rattle.vx_plan_laws.proofs.Volumes.{not_stopped, start_left, start_refuses, stop_left}
 
 -- ---- stages
 
@@ -67,9 +72,9 @@ refused_kept (stage.StartBare vol name) disks m r n other (is, ends) = ends.1.st
 refused_kept (stage.Change change) disks m r n other (inl (none, ends)) = ends.1.stays.world
 refused_kept (stage.Change change) disks m r n other (inr (inl (why, rests))) = rests.stays.world
 refused_kept (stage.Change change) disks m r n other (inr (inr stops)) = absurd (no_refusal _ m r n stops)
-refused_kept (stage.Make text) disks m r n other (inl (none, ends)) = ends.1.stays.world
-refused_kept (stage.Make text) disks m r n other (inr (inl (why, rests))) = rests.stays.world
-refused_kept (stage.Make text) disks m r n other (inr (inr stops)) = absurd (no_refusal _ m r n stops)
+refused_kept (stage.Make from) disks m r n other (inl (none, ends)) = ends.1.stays.world
+refused_kept (stage.Make from) disks m r n other (inr (inl (why, rests))) = rests.stays.world
+refused_kept (stage.Make from) disks m r n other (inr (inr stops)) = absurd (no_refusal _ m r n stops)
 refused_kept stage.Join [] m r n other stops = absurd stops
 refused_kept stage.Join (p ∷ q ∷ ps) m r n other stops = absurd stops
 refused_kept stage.Join (p ∷ []) m r n other (inl (none, ends)) = ends.1.stays.world
@@ -138,11 +143,13 @@ stop_gates dg vol = tests.GroupIs dg ∷ tests.HasVolume vol ∷ []
 abbrev pub touches : Form → Bool
 touches (form.Start vol) = true
 touches (form.Stop vol) = true
+touches (form.AssistMake vol length attrs disks) = true
 touches other = false
 
--- the form is that of a start
+-- the form is that of a start, or makes a volume and starts it
 abbrev pub starts : Form → Bool
 starts (form.Start vol) = true
+starts (form.AssistMake vol length attrs disks) = true
 starts other = false
 
 pub plan_plain : (dg : Option Word) (f : Form) → touches f ≡ false → IsPlain (plan_of dg f)
@@ -164,7 +171,7 @@ plan_plain dg (form.RemoveVolume vol) other = (refl, refl, (refl, refl, (refl, r
 plan_plain dg (form.Stop vol) other = cc
 plan_plain dg (form.Start vol) other = cc
 plan_plain dg (form.PrintHt vol) other = tt
-plan_plain dg (form.AssistMake vol length attrs disks) other = tt
+plan_plain dg (form.AssistMake vol length attrs disks) other = cc
 plan_plain dg (form.Mirror vol disks) other = tt
 plan_plain dg (form.PlexDis plex rm) other = tt
 plan_plain dg (form.Prepare vol ndcomirs region) other = tt
@@ -191,6 +198,7 @@ pub plan_still : (dg : Option Word) (f : Form) → starts f ≡ false → IsStil
 unfolding plan_of
 plan_still dg (form.Stop vol) other = (refl, refl, (refl, refl, refl))
 plan_still dg (form.Start vol) other = cc
+plan_still dg (form.AssistMake vol length attrs disks) other = cc
 plan_still dg f other = still_plan (plan_of dg f) (plan_plain dg f refl)
 
 -- ---- commands
@@ -211,6 +219,30 @@ module _ (old : Moment) (views : List View) (r : Refusal) (new : Moment) where
       subst (λ (n : Moment). (new.world ≡ n.world) ⊎ IsLeftUnopened vol n r new) same (starting_left gates vol mid runs)
   starting_left (test ∷ gates) vol m (inr (none, later, (s, fails, is, same))) = inl (ap (λ (n : Moment). n.world) same)
 
+  -- a new volume: its records are refused, or it cannot be started
+  abbrev Left : NewVolume → Moment → Type 0
+  Left n m = (new.world ≡ m.world) ⊎ IsLeftAdded n m r new
+
+  -- nothing of the name is started, as the records are added: so the last stage alone can refuse
+  starting_refused : (n : NewVolume) (m mid : Moment) → IsDone (stage.Make (source.Volume n)) [] m mid → Runs [] (stage.Gate (tests.Stopped n.vol) ∷ stage.Start n.vol ∷ []) Nothing mid views (refused r) new → StartStops n.vol mid (refused r) new
+  starting_refused n m mid is (inl (last, later, (passed, same), inl (x, after, done, runs))) = absurd done
+  starting_refused n m mid is (inl (last, later, (passed, same), inr (none, after, stops))) = subst (λ (x : Moment). StartStops n.vol x (refused r) new) same stops
+  starting_refused n m mid is (inr (none, later, (s, fails, e, same))) = absurd (no_gate n m mid is s fails)
+
+  adding_left : (n : NewVolume) (m : Moment) → Runs [] (stage.Make (source.Volume n) ∷ stage.Gate (tests.Stopped n.vol) ∷ stage.Start n.vol ∷ []) Nothing m views (refused r) new → Left n m
+  adding_left n m (inl (mid, later, is, runs)) = inr (mid, is, start_refuses mid r new n.vol there.0 there.1 there.2 stops, elim (start_left mid r new n.vol stops) [ inl same ↦ same | inr left ↦ absurd (is_opened n m mid is r new left) ])
+    where
+      stops : StartStops n.vol mid (refused r) new
+      stops = starting_refused n m mid is runs
+
+      there : (g : Group) × (mid.world.group ≡ Some g) × (is_some (volume_in n.vol g.config.volumes) ≡ true)
+      there = added_there n m mid is
+  adding_left n m (inr (none, later, stops)) = inl (refused_kept (stage.Make (source.Volume n)) [] m r new refl stops)
+
+  new_left : (dg : Option Word) (n : NewVolume) → Runs [] (stage.Gate (tests.GroupIs dg) ∷ stage.Make (source.Volume n) ∷ stage.Gate (tests.Stopped n.vol) ∷ stage.Start n.vol ∷ []) Nothing old views (refused r) new → Left n old
+  new_left dg n (inl (mid, later, (passed, same), runs)) = subst (Left n) same (adding_left n mid runs)
+  new_left dg n (inr (none, later, (s, fails, is, same))) = inl (ap (λ (m : Moment). m.world) same)
+
   served_left : (place : ℕ) (call : Call) (v : Volume) (lies : Lies) → ServesOn lies place call v old (refused r) new → new.world ≡ old.world
   served_left place call v (OnDevice device) served = absurd served.cause
   served_left place call v (OnPlexes plexes) served = absurd served.cause
@@ -229,12 +261,14 @@ module _ (old : Moment) (views : List View) (r : Refusal) (new : Moment) where
   -- what leaves the world leaves as much as a start does
   all_left : (f : Form) → new.world ≡ old.world → RefusedLeaves f old r new
   all_left (form.Start vol) same = inl same
+  all_left (form.AssistMake vol length attrs disks) same = inl same
   all_left other same = same
 
   form_left : (place : ℕ) (dg : Option Word) (f : Form) → DoesForm place dg f old views (refused r) new → RefusedLeaves f old r new
   unfolding plan_of
   form_left place dg (form.Calling call) does = call_left place call does.2
   form_left place dg (form.Start vol) does = starting_left (start_gates dg vol) vol old does
+  form_left place dg (form.AssistMake vol length attrs disks) does = new_left dg (new_volume vol length attrs disks) does
   form_left place dg other does = plan_left (disks_of other) (plan_of dg other) (plan_still dg other refl) does
 
   command_left : (place : ℕ) (c : Command) (cut : Option ℕ) → MatchOption cut (DoesForm place c.group c.form old views (refused r) new) (λ n. IsNotBuilt old views (refused r) new) → RefusedLeaves c.form old r new

@@ -11,6 +11,7 @@ mod Joins
 mod Makings
 mod Tests
 mod Volumes
+mod NewVolumes
 mod Kept
 mod Wanting
 mod Told

@@ -57,13 +57,13 @@ module _ (c : Config) where
   pub any_plex : (test : Plex → Bool) → list_any (λ o. is_plex test o) (objects_of c) ≡ list_any test c.plexes
   any_plex test = plex_among test (objects_of c) ∙ ap (λ (ps : List Plex). list_any test ps) (plexes_below c.disks c.subdisks c.plexes c.volumes c.dcos c.snaps)
 
-  any_vol : (test : Vol → Bool) → list_any (λ o. is_vol test o) (objects_of c) ≡ list_any test c.volumes
+  pub any_vol : (test : Vol → Bool) → list_any (λ o. is_vol test o) (objects_of c) ≡ list_any test c.volumes
   any_vol test = vol_among test (objects_of c) ∙ ap (λ (vs : List Vol). list_any test vs) (volumes_below c.disks c.subdisks c.plexes c.volumes c.dcos c.snaps)
 
   pub any_snap : (test : Snap → Bool) → list_any (λ o. is_snap test o) (objects_of c) ≡ list_any test c.snaps
   any_snap test = snap_among test (objects_of c) ∙ ap (λ (ss : List Snap). list_any test ss) (snaps_below c.disks c.subdisks c.plexes c.volumes c.dcos c.snaps)
 
-named_in : (vol : Word) (vs : List Vol) → list_any (λ v. bytes_eq v.name vol) vs ≡ is_some (volume_in vol vs)
+pub named_in : (vol : Word) (vs : List Vol) → list_any (λ v. bytes_eq v.name vol) vs ≡ is_some (volume_in vol vs)
 named_in vol [] = refl
 named_in vol (v ∷ vs) = by (bytes_eq v.name vol) (named_in vol vs)
   where

@@ -8,7 +8,9 @@ use Rattle.vx_objects.specs.declared.edit.Edit.{Edit}
 use Rattle.vx_objects.specs.declared.edit.Edit.TheVariants.{Make}
 use Rattle.vx_objects.specs.Config.{objects_of}
 use Rattle.vx_stages.specs.Making.{is_started}
+use Rattle.vx_stages.specs.Sources.{Denies}
 use Rattle.vx_objects.specs.Edits.{refusal_of}
+use Rattle.vx_new_volumes.specs.declared.volume.NewVolume.{NewVolume}
 use Rattle.vx_script_words.specs.declared.value.DiskAt.{DiskAt}
 use Rattle.vx_script_forms.specs.declared.form.Form.{Form}
 use Rattle.vx_script_forms.specs.declared.form.Form.TheVariants as form
@@ -22,23 +24,25 @@ use Rattle.vx_moments.specs.Commit.{Writing}
 use Rattle.vx_moments.specs.Moment.{Moment}
 use Rattle.vx_moments.specs.World.{World, Group}
 use Rattle.vx_plans.specs.Laws.{WentWell, IsDoneOrRefused, HasCarriers}
-use Rattle.vx_plans.specs.Plans.{plan_of, disks_of}
+use Rattle.vx_plans.specs.Plans.{disks_of, new_volume, plan_of}
 use Rattle.vx_stages.specs.Refusals.{refusal_from}
 use Rattle.vx_stages.specs.Ends.{IsChange, refused}
 use Rattle.vx_stages.specs.Stages.{IsDone, Stops, EditsStop, edits_of, joining_edit}
 use Rattle.vx_plans.specs.Steps.{Runs, done}
 use Rattle.vx_stages.specs.declared.stage.Change.TheVariants as changes
+use Rattle.vx_stages.specs.declared.stage.Source.TheVariants as source
 use Rattle.vx_stages.specs.declared.stage.Stage.{Stage}
 use Rattle.vx_stages.specs.declared.stage.Stage.TheVariants as stage
 use Rattle.vx_stages.specs.declared.stages.Finish.{Finish}
 use Rattle.vx_stages.specs.declared.stages.Plan.{Plan}
 use Rattle.vx_stages.specs.declared.test.Test.TheVariants as tests
 use Rattle.vx_plans.proofs.Complete.{keeps_world, kept_world, each_plan_is_complete}
-use Rattle.vx_plan_laws.specs.Refusing.{IsDoneBy, IsTooLong, OfGroup, Refuses, OneRefuses}
+use Rattle.vx_plan_laws.specs.Refusing.{IsDoneBy, IsPassed, IsTooLong, OfGroup, OneRefuses, Refuses}
+use Rattle.vx_plan_laws.proofs.NewVolumes.{added_there}
 use Rattle.vx_plan_laws.proofs.Told.{tells_done}
 use Rattle.vx_plan_laws.specs.Unbroken.{LetsThrough, PrefersItsPlex}
 use Rattle.vx_plan_laws.proofs.Makings.{making_kept}
-use Rattle.vx_plan_laws.proofs.Tests.{group_here, policy_law, removal_law, joining_law, volume_there}
+use Rattle.vx_plan_laws.proofs.Tests.{group_here, let_through, policy_law, removal_law, joining_law, volume_there}
 use Rattle.vx_plan_laws.proofs.Volumes.{not_stopped, same_refusal, start_refuses, stop_refuses}
 
 -- ---- what a stage needs of those before it
@@ -50,7 +54,7 @@ HasGroup w = (g : Group) × (w.group ≡ Some g)
 abbrev Finds : Stage → List DiskAt → World → Type 0
 Finds (stage.Change (changes.Policy vol how)) disks w = HasGroup w × LetsThrough (tests.HasVolume vol) [] w × PrefersItsPlex vol how w
 Finds (stage.Change (changes.Remove vol)) disks w = HasGroup w × LetsThrough (tests.HasVolume vol) [] w × LetsThrough (tests.Unrelated vol) [] w
-Finds (stage.Make text) disks w = HasGroup w
+Finds (stage.Make from) disks w = HasGroup w
 Finds stage.Join disks w = HasGroup w × LetsThrough tests.JoinLimits disks w
 Finds (stage.Start vol) disks w = HasGroup w × LetsThrough (tests.HasVolume vol) [] w
 Finds (stage.Stop vol) disks w = HasGroup w × LetsThrough (tests.HasVolume vol) [] w
@@ -84,12 +88,12 @@ module _ (old : Moment) (r : Refusal) (new : Moment) where
       too_long (λ g. edits_of (changes.Policy vol how) (Some g)) (λ x. IsChange (edits_of (changes.Policy vol how) old.world.group) old.world x) has (λ g here. policy_law old.world g here vol how there prefers) stops
   refuses (stage.Change (changes.Remove vol)) disks (has, there, free) stops =
       too_long (λ g. edits_of (changes.Remove vol) (Some g)) (λ x. IsChange (edits_of (changes.Remove vol) old.world.group) old.world x) has (λ g here. removal_law old.world g here vol there free) stops
-  refuses (stage.Make text) disks (g, here) (inl (gone, ends)) = absurd (cc)
-  refuses (stage.Make text) disks has (inr (inl ((g, here, inl (line, bad, is)), rests))) = inl (line, bad, same_refusal r (refusal.BadRecord line) is)
-  refuses (stage.Make text) disks has (inr (inl ((g, here, inr (added, adds, inl (s, e, is))), rests))) = inr (g, here, (added, adds, inl (e ∙ ap (λ (s : Refusal). Some s) (sym (same_refusal r s is)))))
-  refuses (stage.Make text) disks has (inr (inl ((g, here, inr (added, adds, inr (fine, inl (s, e, is)))), rests))) = absurd (no_refusal (refusal_of (Make added ∷ []) (objects_of g.config)) s (making_kept (is_started old.world) (objects_of g.config) added fine) e)
-  refuses (stage.Make text) disks has (inr (inl ((g, here, inr (added, adds, inr (fine, inr long))), rests))) = inr (g, here, (added, adds, inr long))
-  refuses (stage.Make text) disks has (inr (inr (x, making, stopped))) = absurd (not_stopped x old r new stopped)
+  refuses (stage.Make from) disks (g, here) (inl (gone, ends)) = absurd (cc)
+  refuses (stage.Make from) disks has (inr (inl ((g, here, inl (s, denied, is)), rests))) = (g, here, inl (subst (λ (x : Refusal). Denies from (is_started old.world) g x) (sym (same_refusal r s is)) denied))
+  refuses (stage.Make from) disks has (inr (inl ((g, here, inr (added, adds, inl (s, e, is))), rests))) = (g, here, inr (added, adds, inl (e ∙ ap (λ (s : Refusal). Some s) (sym (same_refusal r s is)))))
+  refuses (stage.Make from) disks has (inr (inl ((g, here, inr (added, adds, inr (fine, inl (s, e, is)))), rests))) = absurd (no_refusal (refusal_of (Make added ∷ []) (objects_of g.config)) s (making_kept (is_started old.world) (objects_of g.config) added fine) e)
+  refuses (stage.Make from) disks has (inr (inl ((g, here, inr (added, adds, inr (fine, inr long))), rests))) = (g, here, inr (added, adds, inr long))
+  refuses (stage.Make from) disks has (inr (inr (x, making, stopped))) = absurd (not_stopped x old r new stopped)
   refuses stage.Join [] finds stops = absurd stops
   refuses stage.Join (p ∷ q ∷ ps) finds stops = absurd stops
   refuses stage.Join (p ∷ []) ((g, here), limits) (inl (gone, ends)) = absurd (cc)
@@ -113,20 +117,30 @@ passed : (s : Stage) (disks : List DiskAt) (old mid : Moment) → IsDone s disks
 passed (stage.Gate test) disks old mid is = is.0
 passed s disks old mid is = tt
 
--- each stage finds what it needs, once those before it are done and have kept the world
+-- a stage before others: one that adds records is done, and any other keeps the world and has let something through
+abbrev GoesBefore : Stage → List DiskAt → World → (World → Type 0) → Type 0
+GoesBefore (stage.Make from) disks w AreNext = (old mid : Moment) → IsDone (stage.Make from) disks old mid → AreNext mid.world
+GoesBefore other disks w AreNext = (keeps_world other ≡ true) × (Passed other disks w → AreNext w)
+
+going : (s : Stage) (disks : List DiskAt) (AreNext : World → Type 0) (old mid : Moment) → GoesBefore s disks old.world AreNext → IsDone s disks old mid → IsPassed s disks old mid × AreNext mid.world
+going (stage.Make from) disks AreNext old mid goes is = (is, goes old mid is)
+going other disks AreNext old mid goes is = let same = kept_world other disks old mid goes.0 is in (same, subst AreNext (sym same) (goes.1 (passed other disks old mid is)))
+
+-- each stage finds what it needs, once those before it are done
 abbrev AreGuarded : List Stage → List DiskAt → World → Type 0
 AreGuarded [] disks w = Unit {0}
 AreGuarded (s ∷ []) disks w = Finds s disks w
-AreGuarded (s ∷ t ∷ ss) disks w = Finds s disks w × (keeps_world s ≡ true) × (Passed s disks w → AreGuarded (t ∷ ss) disks w)
+AreGuarded (s ∷ t ∷ ss) disks w = Finds s disks w × GoesBefore s disks w (λ x. AreGuarded (t ∷ ss) disks x)
 
-one_refuses : (disks : List DiskAt) (stages : List Stage) (finish : Finish) (w : World) (old : Moment) (views : List View) (r : Refusal) (new : Moment)
-    → old.world ≡ w → AreGuarded stages disks w → Runs disks stages finish old views (refused r) new → OneRefuses stages disks w r new
-one_refuses disks [] finish w old views r new same guarded (shows, is, stays) = absurd (not_done r is)
-one_refuses disks (s ∷ []) finish w old views r new same guarded (inl (mid, later, is, (shows, over, stays))) = absurd (not_done r over)
-one_refuses disks (s ∷ []) finish w old views r new same guarded (inr (none, later, stops)) = inl (old, same, refuses old r new s disks (subst (λ (x : World). Finds s disks x) (sym same) guarded) stops)
-one_refuses disks (s ∷ t ∷ ss) finish w old views r new same guarded (inl (mid, later, is, rest)) =
-    inr (one_refuses disks (t ∷ ss) finish w mid views r new (kept_world s disks old mid guarded.1 is ∙ same) (guarded.2 (subst (λ (x : World). Passed s disks x) same (passed s disks old mid is))) rest)
-one_refuses disks (s ∷ t ∷ ss) finish w old views r new same guarded (inr (none, later, stops)) = inl (old, same, refuses old r new s disks (subst (λ (x : World). Finds s disks x) (sym same) guarded.0) stops)
+one_refuses : (disks : List DiskAt) (stages : List Stage) (finish : Finish) (old : Moment) (views : List View) (r : Refusal) (new : Moment)
+    → AreGuarded stages disks old.world → Runs disks stages finish old views (refused r) new → OneRefuses stages disks old r new
+one_refuses disks [] finish old views r new guarded (shows, is, stays) = absurd (not_done r is)
+one_refuses disks (s ∷ []) finish old views r new guarded (inl (mid, later, is, (shows, over, stays))) = absurd (not_done r over)
+one_refuses disks (s ∷ []) finish old views r new guarded (inr (none, later, stops)) = inl (refuses old r new s disks guarded stops)
+one_refuses disks (s ∷ t ∷ ss) finish old views r new guarded (inl (mid, later, is, rest)) =
+    let next = going s disks (λ x. AreGuarded (t ∷ ss) disks x) old mid guarded.1 is in
+    inr (mid, next.0, one_refuses disks (t ∷ ss) finish mid views r new next.1 rest)
+one_refuses disks (s ∷ t ∷ ss) finish old views r new guarded (inr (none, later, stops)) = inl (refuses old r new s disks guarded.0 stops)
 
 -- each plan is guarded so
 abbrev IsGuarded : Option Plan → List DiskAt → World → Type 0
@@ -135,43 +149,47 @@ IsGuarded (Some plan) disks w = AreGuarded plan.stages disks w
 
 policy_guarded : (dg : Option Word) (vol : Word) (how : WordPolicy) (w : World) → IsGuarded (plan_of dg (form.Rdpol vol how)) [] w
 unfolding plan_of
-policy_guarded dg vol words.Round w = (tt, refl, λ here. (tt, refl, λ has. (group_here dg [] w here, has, tt)))
-policy_guarded dg vol words.Select w = (tt, refl, λ here. (tt, refl, λ has. (group_here dg [] w here, has, tt)))
-policy_guarded dg vol (words.Prefer plex) w = (tt, refl, λ here. (tt, refl, λ has. (tt, refl, λ there. (group_here dg [] w here, has, there))))
+policy_guarded dg vol words.Round w = (tt, (refl, λ here. (tt, (refl, λ has. (group_here dg [] w here, has, tt)))))
+policy_guarded dg vol words.Select w = (tt, (refl, λ here. (tt, (refl, λ has. (group_here dg [] w here, has, tt)))))
+policy_guarded dg vol (words.Prefer plex) w = (tt, (refl, λ here. (tt, (refl, λ has. (tt, (refl, λ there. (group_here dg [] w here, has, there)))))))
 
 print_guarded : (dg vol : Option Word) (w : World) → IsGuarded (plan_of dg (form.PrintM vol)) [] w
 unfolding plan_of
 print_guarded dg None w = tt
-print_guarded dg (Some vol) w = (tt, refl, λ here. tt)
+print_guarded dg (Some vol) w = (tt, (refl, λ here. tt))
+
+new_found : (n : NewVolume) (old mid : Moment) → IsDone (stage.Make (source.Volume n)) [] old mid → HasGroup mid.world × LetsThrough (tests.HasVolume n.vol) [] mid.world
+new_found n old mid is = let there = added_there n old mid is in ((there.0, there.1), let_through mid.world there.0 there.1 n.vol [] there.2)
 
 plan_guarded : (dg : Option Word) (f : Form) (w : World) → IsGuarded (plan_of dg f) (disks_of f) w
 unfolding plan_of
-plan_guarded dg (form.Bare vol device) w = (tt, refl, λ a. (tt, refl, λ b. (tt, refl, λ c. tt)))
-plan_guarded dg (form.DgInit name disks) w = (tt, refl, λ a. (tt, refl, λ b. (tt, refl, λ c. (tt, refl, λ d. (tt, refl, λ e. (tt, refl, λ f. tt))))))
-plan_guarded dg (form.DgAddDisk name disk) w = (tt, refl, λ a. (tt, refl, λ here. (tt, refl, λ c. (tt, refl, λ limits. (tt, refl, λ e. (group_here (Some name) (disk ∷ []) w here, limits))))))
-plan_guarded dg (form.DgDeport name) w = (tt, refl, λ a. (tt, refl, λ b. tt))
-plan_guarded dg (form.DiskUnsetup device) w = (tt, refl, λ a. (tt, refl, λ b. tt))
+plan_guarded dg (form.Bare vol device) w = (tt, (refl, λ a. (tt, (refl, λ b. (tt, (refl, λ c. tt))))))
+plan_guarded dg (form.DgInit name disks) w = (tt, (refl, λ a. (tt, (refl, λ b. (tt, (refl, λ c. (tt, (refl, λ d. (tt, (refl, λ e. (tt, (refl, λ f. tt))))))))))))
+plan_guarded dg (form.DgAddDisk name disk) w = (tt, (refl, λ a. (tt, (refl, λ here. (tt, (refl, λ c. (tt, (refl, λ limits. (tt, (refl, λ e. (group_here (Some name) (disk ∷ []) w here, limits)))))))))))
+plan_guarded dg (form.DgDeport name) w = (tt, (refl, λ a. (tt, (refl, λ b. tt))))
+plan_guarded dg (form.DiskUnsetup device) w = (tt, (refl, λ a. (tt, (refl, λ b. tt))))
 plan_guarded dg (form.PrintM vol) w = print_guarded dg vol w
 plan_guarded dg (form.Rdpol vol how) w = policy_guarded dg vol how w
-plan_guarded dg (form.RemoveVolume vol) w = (tt, refl, λ here. (tt, refl, λ has. (tt, refl, λ stopped. (tt, refl, λ free. (group_here dg [] w here, has, free)))))
-plan_guarded dg (form.VxMake text) w = (tt, refl, λ here. group_here dg [] w here)
-plan_guarded dg (form.Start vol) w = (tt, refl, λ here. (tt, refl, λ has. (tt, refl, λ stopped. (group_here dg [] w here, has))))
-plan_guarded dg (form.Stop vol) w = (tt, refl, λ here. (tt, refl, λ has. (group_here dg [] w here, has)))
+plan_guarded dg (form.RemoveVolume vol) w = (tt, (refl, λ here. (tt, (refl, λ has. (tt, (refl, λ stopped. (tt, (refl, λ free. (group_here dg [] w here, has, free)))))))))
+plan_guarded dg (form.VxMake text) w = (tt, (refl, λ here. group_here dg [] w here))
+plan_guarded dg (form.AssistMake vol length attrs disks) w = (tt, (refl, λ here. (group_here dg [] w here, λ old mid is. (tt, (refl, λ stopped. new_found (new_volume vol length attrs disks) old mid is)))))
+plan_guarded dg (form.Start vol) w = (tt, (refl, λ here. (tt, (refl, λ has. (tt, (refl, λ stopped. (group_here dg [] w here, has)))))))
+plan_guarded dg (form.Stop vol) w = (tt, (refl, λ here. (tt, (refl, λ has. (group_here dg [] w here, has)))))
 plan_guarded dg f w = tt
 
 pub each_refusal_is_tested : (dg : Option Word) (f : Form) (plan : Plan) (old : Moment) (views : List View) (r : Refusal) (new : Moment)
     → plan_of dg f ≡ Some plan → Runs (disks_of f) plan.stages plan.finish old views (refused r) new
-    → OneRefuses plan.stages (disks_of f) old.world r new
+    → OneRefuses plan.stages (disks_of f) old r new
 each_refusal_is_tested dg f plan old views r new is runs =
-    one_refuses (disks_of f) plan.stages plan.finish old.world old views r new refl (subst (λ (o : Option Plan). IsGuarded o (disks_of f) old.world) is (plan_guarded dg f old.world)) runs
+    one_refuses (disks_of f) plan.stages plan.finish old views r new (subst (λ (o : Option Plan). IsGuarded o (disks_of f) old.world) is (plan_guarded dg f old.world)) runs
 
 pub done_or_tested : (dg : Option Word) (f : Form) (plan : Plan) (old : Moment) (views : List View) (end : End) (new : Moment)
     → plan_of dg f ≡ Some plan → Runs (disks_of f) plan.stages plan.finish old views end new
     → WentWell old new → HasCarriers f old.world
-    → IsDoneBy f old.world end ⊎ ((r : Refusal) × (end ≡ refused r) × OneRefuses plan.stages (disks_of f) old.world r new)
+    → IsDoneBy f old end ⊎ ((r : Refusal) × (end ≡ refused r) × OneRefuses plan.stages (disks_of f) old r new)
 done_or_tested dg f plan old views end new is runs well has = by (each_plan_is_complete dg f plan old views end new is runs well has)
   where
-    by : IsDoneOrRefused end → IsDoneBy f old.world end ⊎ ((r : Refusal) × (end ≡ refused r) × OneRefuses plan.stages (disks_of f) old.world r new)
+    by : IsDoneOrRefused end → IsDoneBy f old end ⊎ ((r : Refusal) × (end ≡ refused r) × OneRefuses plan.stages (disks_of f) old r new)
     by (inl (copied, e)) =
-        inl (subst (λ (x : End). IsDoneBy f old.world x) (sym e) (tells_done copied dg f plan old views new is (subst (λ (x : End). Runs (disks_of f) plan.stages plan.finish old views x new) e runs)))
+        inl (subst (λ (x : End). IsDoneBy f old x) (sym e) (tells_done copied dg f plan old views new is (subst (λ (x : End). Runs (disks_of f) plan.stages plan.finish old views x new) e runs)))
     by (inr (r, e)) = inr (r, e, each_refusal_is_tested dg f plan old views r new is (subst (λ (x : End). Runs (disks_of f) plan.stages plan.finish old views x new) e runs))

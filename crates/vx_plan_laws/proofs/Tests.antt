@@ -1,5 +1,5 @@
 -- What the tests of a command let through.
-use Rattle.std.proofs.Common.{◌≡◌, ℕ, zero, suc, ◌+◌, ◌-◌, ◌^◌, ◌<◌, Bool, true, false, not, ◌||◌, ◌&&◌, ◌==◌, nat_lt, nat_le, is_some, length, Option, Some, None, List, [], ◌∷◌, refl, ◌∙◌, ap, subst, arith, if◌then◌else◌}
+use Rattle.std.proofs.Common.{◌≡◌, ℕ, zero, suc, ◌+◌, ◌-◌, ◌^◌, ◌<◌, Bool, true, false, not, ◌||◌, ◌&&◌, ◌==◌, nat_lt, nat_le, is_some, length, Option, Some, None, List, [], ◌∷◌, refl, sym, ◌∙◌, ap, subst, arith, if◌then◌else◌}
 use Rattle.std.specs.List.{list_any, list_all}
 use Rattle.std.specs.Str.{bytes_eq}
 use Rattle.std.proofs.lemmas.Bool.{and_from, not-false}
@@ -63,6 +63,10 @@ module _ (w : World) (g : Group) (here : w.group ≡ Some g) where
   pub volume_there : (vol : Word) (disks : List DiskAt) → LetsThrough (tests.HasVolume vol) disks w → is_some (volume_in vol g.config.volumes) ≡ true
   unfolding fails
   volume_there vol disks e = subst (λ (o : Option Group). is_some (recorded vol o) ≡ true) here (holds_so (is_some (recorded vol w.group)) (refusal.NoObject vol) e)
+
+  pub let_through : (vol : Word) (disks : List DiskAt) → is_some (volume_in vol g.config.volumes) ≡ true → LetsThrough (tests.HasVolume vol) disks w
+  unfolding fails
+  let_through vol disks there = subst (λ (o : Option Group). unless (is_some (recorded vol o)) (refusal.NoObject vol) ≡ None) (sym here) (ap (λ b. unless b (refusal.NoObject vol)) there)
 
   same_kind : (k : PlexKind) → holds_data k ≡ is_data k
   same_kind Data = refl

@@ -15,20 +15,23 @@ use Rattle.vx_moments.specs.Commit.{Writing, IsStopped}
 use Rattle.vx_moments.specs.Moment.{Moment}
 use Rattle.vx_moments.specs.World.{Group, World}
 use Rattle.vx_stages.specs.Ends.{EndsIn, IsChange, fault_of, lost, refused}
-use Rattle.vx_plans.specs.Plans.{plan_of, disks_of}
+use Rattle.vx_plans.specs.Plans.{disks_of, new_volume, plan_of}
 use Rattle.vx_stages.specs.Records.{devices_of}
-use Rattle.vx_stages.specs.Stages.{DeviceEnds, EditsStop, FailsAt, IsJoining, LookingStops, Stops, TakingStops, edits_of, joining_edit}
+use Rattle.vx_stages.specs.Stages.{DeviceEnds, EditsStop, FailsAt, IsDone, IsJoining, LookingStops, Stops, TakingStops, edits_of, joining_edit}
 use Rattle.vx_stages.specs.Starting.{StartStops, StopsIn, StopsOf, may_start, regions_copied}
 use Rattle.vx_stages.specs.Stopping.{StopStops}
 use Rattle.vx_plans.specs.Steps.{Runs, done}
 use Rattle.vx_stages.specs.Tests.{volume_in}
+use Rattle.vx_stages.specs.declared.stage.Source.{Source}
+use Rattle.vx_stages.specs.declared.stage.Source.TheVariants as source
 use Rattle.vx_stages.specs.declared.stage.Stage.{Stage}
 use Rattle.vx_stages.specs.declared.stage.Stage.TheVariants as stage
 use Rattle.vx_stages.specs.declared.stages.Finish.{Finish}
 use Rattle.vx_stages.specs.declared.stages.Finish.TheVariants.{Nothing}
 use Rattle.vx_stages.specs.declared.test.Test.{Test}
+use Rattle.vx_stages.specs.declared.test.Test.TheVariants as tests
 use Rattle.vx_stages.specs.declared.stages.Plan.{Plan}
-use Rattle.vx_plan_laws.specs.Refusing.{IsDoneBy, OfGroup, OfVolume}
+use Rattle.vx_plan_laws.specs.Refusing.{IsDoneBy, TellsCopied}
 use Rattle.vx_plan_laws.proofs.Kept.{AreStill, IsStill, behind, is_start, plan_still, start_gates}
 
 -- the command was done, and so many regions were copied
@@ -107,12 +110,12 @@ module _ (copied : Option ℕ) where
   not_done (stage.Wipe name) disks old new other (has, calls, ends) = at_hand old new name ends
   not_done (stage.StartBare vol name) disks old new other (is, ends) = denied old new _ ends
   not_done (stage.Change change) disks old new other stops = editing old new (λ g. edits_of change (Some g)) (λ x. IsChange (edits_of change old.world.group) old.world x) stops
-  not_done (stage.Make text) disks old new other (inl (none, ends)) = denied old new _ ends
-  not_done (stage.Make text) disks old new other (inr (inl ((g, here, inl (line, bad, is)), rests))) = no_refusal _ is
-  not_done (stage.Make text) disks old new other (inr (inl ((g, here, inr (added, adds, inl (r, e, is))), rests))) = no_refusal r is
-  not_done (stage.Make text) disks old new other (inr (inl ((g, here, inr (added, adds, inr (fine, inl (r, e, is)))), rests))) = no_refusal r is
-  not_done (stage.Make text) disks old new other (inr (inl ((g, here, inr (added, adds, inr (fine, inr (config, edited, (printed, text_is, long, is))))), rests))) = no_refusal _ is
-  not_done (stage.Make text) disks old new other (inr (inr (x, making, stopped))) = not_stopped old new x stopped
+  not_done (stage.Make from) disks old new other (inl (none, ends)) = denied old new _ ends
+  not_done (stage.Make from) disks old new other (inr (inl ((g, here, inl (r, why, is)), rests))) = no_refusal r is
+  not_done (stage.Make from) disks old new other (inr (inl ((g, here, inr (added, adds, inl (r, e, is))), rests))) = no_refusal r is
+  not_done (stage.Make from) disks old new other (inr (inl ((g, here, inr (added, adds, inr (fine, inl (r, e, is)))), rests))) = no_refusal r is
+  not_done (stage.Make from) disks old new other (inr (inl ((g, here, inr (added, adds, inr (fine, inr (config, edited, (printed, text_is, long, is))))), rests))) = no_refusal _ is
+  not_done (stage.Make from) disks old new other (inr (inr (x, making, stopped))) = not_stopped old new x stopped
   not_done stage.Join [] old new other stops = stops
   not_done stage.Join (p ∷ q ∷ ps) old new other stops = stops
   not_done stage.Join (p ∷ []) old new other stops = editing old new (λ g. joining_edit p old.world g ∷ []) (λ x. IsJoining p old.world x) stops
@@ -131,7 +134,7 @@ module _ (copied : Option ℕ) where
 
   -- the start tells of the regions of this volume
   abbrev Tells : Word → World → Type 0
-  Tells name w = OfGroup w (λ g. OfVolume name g (λ v. all_done copied ≡ ends.Done (Some (regions_copied g v)) [] []))
+  Tells name w = TellsCopied name w (all_done copied)
 
   started : (name : Word) (old new : Moment) → StartStops name old (all_done copied) new → Tells name old.world
   started name old new stops = in_world old.world.group refl stops
@@ -184,10 +187,24 @@ module _ (copied : Option ℕ) where
   start_tells (test ∷ gates) vol old views new (inl (mid, later, (passed, same), runs)) = subst (λ (m : Moment). Tells vol m.world) same (start_tells gates vol mid views new runs)
   start_tells (test ∷ gates) vol old views new (inr (none, later, (r, fails, is, same))) = absurd (no_refusal r is)
 
-  form_tells : (dg : Option Word) (f : Form) (old : Moment) (views : List View) (new : Moment) → RunsSo (plan_of dg f) (disks_of f) old views new → IsDoneBy f old.world (all_done copied)
+  -- that of a new volume, behind the moment in which its records were added
+  abbrev TellsAdded : Source → Word → Moment → Type 0
+  TellsAdded from vol old = (mid : Moment) × IsDone (stage.Make from) [] old mid × Tells vol mid.world
+
+  adding_tells : (from : Source) (vol : Word) (old : Moment) (views : List View) (new : Moment) → Runs [] (stage.Make from ∷ stage.Gate (tests.Stopped vol) ∷ stage.Start vol ∷ []) Nothing old views (all_done copied) new → TellsAdded from vol old
+  adding_tells from vol old views new (inl (mid, later, is, runs)) = (mid, is, start_tells (tests.Stopped vol ∷ []) vol mid views new runs)
+  adding_tells from vol old views new (inr (none, later, stops)) = absurd (not_done (stage.Make from) [] old new refl stops)
+
+  new_tells : (dg : Option Word) (from : Source) (vol : Word) (old : Moment) (views : List View) (new : Moment)
+      → Runs [] (stage.Gate (tests.GroupIs dg) ∷ stage.Make from ∷ stage.Gate (tests.Stopped vol) ∷ stage.Start vol ∷ []) Nothing old views (all_done copied) new → TellsAdded from vol old
+  new_tells dg from vol old views new (inl (mid, later, (passed, same), runs)) = subst (TellsAdded from vol) same (adding_tells from vol mid views new runs)
+  new_tells dg from vol old views new (inr (none, later, (r, fails, is, same))) = absurd (no_refusal r is)
+
+  form_tells : (dg : Option Word) (f : Form) (old : Moment) (views : List View) (new : Moment) → RunsSo (plan_of dg f) (disks_of f) old views new → IsDoneBy f old (all_done copied)
   unfolding plan_of
   form_tells dg (form.Start vol) old views new runs = start_tells (start_gates dg vol) vol old views new runs
+  form_tells dg (form.AssistMake vol length attrs disks) old views new runs = new_tells dg (source.Volume (new_volume vol length attrs disks)) vol old views new runs
   form_tells dg other old views new runs = still_plan (disks_of other) (plan_of dg other) old views new (plan_still dg other refl) runs
 
-  pub tells_done : (dg : Option Word) (f : Form) (plan : Plan) (old : Moment) (views : List View) (new : Moment) → plan_of dg f ≡ Some plan → Runs (disks_of f) plan.stages plan.finish old views (all_done copied) new → IsDoneBy f old.world (all_done copied)
+  pub tells_done : (dg : Option Word) (f : Form) (plan : Plan) (old : Moment) (views : List View) (new : Moment) → plan_of dg f ≡ Some plan → Runs (disks_of f) plan.stages plan.finish old views (all_done copied) new → IsDoneBy f old (all_done copied)
   tells_done dg f plan old views new is runs = form_tells dg f old views new (subst (λ (p : Option Plan). RunsSo p (disks_of f) old views new) (sym is) runs)

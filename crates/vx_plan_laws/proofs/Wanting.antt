@@ -1,22 +1,25 @@
--- Want of memory leaves the world as the command found it, but for the volume of a start or a stop.
+-- Want of memory leaves the world as the command found it, but for the volume of a start or a stop, and the records of a new volume.
 use Rattle.std.proofs.Common.{◌≡◌, ◌∙◌, ◌⊎◌, ℕ, List, [], ◌∷◌, Option, Some, None, MatchOption, false, refl, subst, inl, inr}
 use Rattle.vx_base.specs.Named.{Word}
 use Rattle.vx_script_words.specs.declared.value.DiskAt.{DiskAt}
+use Rattle.vx_new_volumes.specs.declared.volume.NewVolume.{NewVolume}
 use Rattle.vx_script_forms.specs.declared.form.Form.{Form}
 use Rattle.vx_script_forms.specs.declared.form.Form.TheVariants as form
 use Rattle.vx_script.specs.declared.command.Command.{Command}
 use Rattle.vx_moments.specs.Moment.{Moment}
-use Rattle.vx_plans.specs.Plans.{plan_of, disks_of}
+use Rattle.vx_plans.specs.Plans.{disks_of, new_volume, plan_of}
 use Rattle.vx_stages.specs.Stages.{Wants}
 use Rattle.vx_stages.specs.Starting.{StartWants}
 use Rattle.vx_stages.specs.Stopping.{StopWants}
 use Rattle.vx_plans.specs.Steps.{LeavesOff, RunsShort, WantsForm, WantsPlan}
+use Rattle.vx_stages.specs.declared.stage.Source.TheVariants as source
 use Rattle.vx_stages.specs.declared.stage.Stage.{Stage}
 use Rattle.vx_stages.specs.declared.stage.Stage.TheVariants as stage
 use Rattle.vx_stages.specs.declared.stages.Plan.{Plan}
 use Rattle.vx_stages.specs.declared.test.Test.{Test}
+use Rattle.vx_stages.specs.declared.test.Test.TheVariants as tests
 use Rattle.vx_plans.proofs.Complete.{kept_world}
-use Rattle.vx_plan_laws.specs.Keeping.{WantLeaves}
+use Rattle.vx_plan_laws.specs.Keeping.{AddedWants, WantLeaves}
 use Rattle.vx_plan_laws.proofs.Kept.{AreStill, IsPlain, behind, calls_volume, plan_plain, start_gates, stop_gates}
 
 wanting_kept : (s : Stage) (old new : Moment) → calls_volume s ≡ false → Wants s old new → new.world ≡ old.world
@@ -51,10 +54,22 @@ stop_left : (gates : List Test) (vol : Word) (old new : Moment) → (new.world �
 stop_left gates vol old new (inl same) = inl same
 stop_left gates vol old new (inr short) = elim (short_behind gates (stage.Stop vol) old new short) [ inl same ↦ inl same | inr wants ↦ wants ]
 
+-- a new volume: memory is wanting before its records are added, or behind that
+adding_left : (n : NewVolume) (old new : Moment) → RunsShort [] (stage.Make (source.Volume n) ∷ stage.Gate (tests.Stopped n.vol) ∷ stage.Start n.vol ∷ []) old new → (new.world ≡ old.world) ⊎ AddedWants n old new
+adding_left n old new (inl (mid, later, is, short)) = inr (mid, is, start_left (tests.Stopped n.vol ∷ []) n.vol mid new (inr short))
+adding_left n old new (inr wants) = inl wants
+
+new_left : (dg : Option Word) (n : NewVolume) (old new : Moment) → (new.world ≡ old.world) ⊎ RunsShort [] (stage.Gate (tests.GroupIs dg) ∷ stage.Make (source.Volume n) ∷ stage.Gate (tests.Stopped n.vol) ∷ stage.Start n.vol ∷ []) old new
+    → (new.world ≡ old.world) ⊎ AddedWants n old new
+new_left dg n old new (inl same) = inl same
+new_left dg n old new (inr (inl (mid, later, (passed, same), short))) = subst (λ (m : Moment). (new.world ≡ m.world) ⊎ AddedWants n m new) same (adding_left n mid new short)
+new_left dg n old new (inr (inr wants)) = inl wants
+
 -- what leaves the world leaves as much as a start and a stop do
 all_left : (f : Form) (old new : Moment) → new.world ≡ old.world → WantLeaves f old new
 all_left (form.Start vol) old new same = inl same
 all_left (form.Stop vol) old new same = inl same
+all_left (form.AssistMake vol length attrs disks) old new same = inl same
 all_left other old new same = same
 
 form_left : (dg : Option Word) (f : Form) (old new : Moment) → WantsForm dg f old new → WantLeaves f old new
@@ -62,6 +77,7 @@ unfolding plan_of
 form_left dg (form.Calling call) old new wants = wants
 form_left dg (form.Start vol) old new wants = start_left (start_gates dg vol) vol old new wants
 form_left dg (form.Stop vol) old new wants = stop_left (stop_gates dg vol) vol old new wants
+form_left dg (form.AssistMake vol length attrs disks) old new wants = new_left dg (new_volume vol length attrs disks) old new wants
 form_left dg other old new wants = plan_kept (disks_of other) (plan_of dg other) old new (plan_plain dg other refl) wants
 
 pub each_want_keeps_the_world : (c : Command) (old new : Moment) → LeavesOff c old new → WantLeaves c.form old new

@@ -1,6 +1,7 @@
 -- What a command that is refused, or left off for want of memory, leaves of the world.
-use Rattle.std.specs.Prelude.{◌≡◌, ◌⊎◌, ℕ, true, List}
+use Rattle.std.specs.Prelude.{◌≡◌, ◌⊎◌, ℕ, true, List, []}
 use Rattle.vx_base.specs.Named.{Word}
+use Rattle.vx_new_volumes.specs.declared.volume.NewVolume.{NewVolume}
 use Rattle.vx_script_forms.specs.declared.form.Form.{Form}
 use Rattle.vx_script_forms.specs.declared.form.Form.TheVariants as form
 use Rattle.vx_script.specs.declared.command.Command.{Command}
@@ -9,20 +10,31 @@ use Rattle.vx_answers.specs.declared.answer.View.{View}
 use Rattle.vx_answers.specs.declared.refusal.Refusal.{Refusal}
 use Rattle.vx_moments.specs.Moment.{Moment}
 use Rattle.vx_stages.specs.Ends.{refused}
+use Rattle.vx_stages.specs.Stages.{IsDone}
 use Rattle.vx_stages.specs.Starting.{StartWants, may_start}
 use Rattle.vx_stages.specs.Stopping.{StopWants}
+use Rattle.vx_stages.specs.declared.stage.Source.TheVariants as source
+use Rattle.vx_stages.specs.declared.stage.Stage.TheVariants as stage
+use Rattle.vx_plans.specs.Plans.{new_volume}
 use Rattle.vx_plans.specs.Steps.{LeavesOff, Step}
 use Rattle.vx_stages.specs.Touching.{IsTouched}
-use Rattle.vx_plan_laws.specs.Refusing.{OfGroup, OfVolume, OpeningRefuses}
+use Rattle.vx_plan_laws.specs.Refusing.{OfGroup, OfVolume, OpeningRefuses, StartRefuses}
 
 -- The volume cannot be opened. Its log was called: the devices have changed in sectors of the volume alone, and nothing else of the world
 -- has changed.
 abbrev pub IsLeftUnopened : Word → Moment → Refusal → Moment → Type 0
 IsLeftUnopened name old r new = OfGroup old.world (λ g. OfVolume name g (λ v. (may_start v.state ≡ true) × IsTouched g v.name old new × OpeningRefuses g v old r new))
 
--- what a refused command of this form leaves: the world as it began; a start may have called the log of its volume, where it cannot be opened
+-- The start of the new volume is refused. Its records were added, and the world is as it then was.
+abbrev pub IsLeftAdded : NewVolume → Moment → Refusal → Moment → Type 0
+IsLeftAdded n old r new =
+    (mid : Moment) × IsDone (stage.Make (source.Volume n)) [] old mid × OfGroup mid.world (λ g. OfVolume n.vol g (λ v. StartRefuses g v mid r new)) × (new.world ≡ mid.world)
+
+-- What a refused command of this form leaves: the world as it began. A start may have called the log of its volume, where it cannot be opened;
+-- and where a new volume cannot be started its records stay.
 abbrev pub RefusedLeaves : Form → Moment → Refusal → Moment → Type 0
 RefusedLeaves (form.Start vol) old r new = (new.world ≡ old.world) ⊎ IsLeftUnopened vol old r new
+RefusedLeaves (form.AssistMake vol length attrs disks) old r new = (new.world ≡ old.world) ⊎ IsLeftAdded (new_volume vol length attrs disks) old r new
 RefusedLeaves other old r new = new.world ≡ old.world
 
 -- each command that is refused leaves so much of the world
@@ -31,11 +43,16 @@ EachRefusalKeepsTheWorld =
     (place : ℕ) (c : Command) (old : Moment) (views : List View) (r : Refusal) (new : Moment)
     → Step place c old (One views (refused r)) new → RefusedLeaves c.form old r new
 
+-- the records of the new volume were added, and the start left so much of that world
+abbrev pub AddedWants : NewVolume → Moment → Moment → Type 0
+AddedWants n old new = (mid : Moment) × IsDone (stage.Make (source.Volume n)) [] old mid × StartWants n.vol mid new
+
 -- What want of memory leaves of a command of this form: the world as the command found it. A start may have called the log of its volume,
--- and a stop may have let its volume come to rest.
+-- also of a new one whose records were added, and a stop may have let its volume come to rest.
 abbrev pub WantLeaves : Form → Moment → Moment → Type 0
 WantLeaves (form.Start vol) old new = StartWants vol old new
 WantLeaves (form.Stop vol) old new = StopWants vol old new
+WantLeaves (form.AssistMake vol length attrs disks) old new = (new.world ≡ old.world) ⊎ AddedWants (new_volume vol length attrs disks) old new
 WantLeaves other old new = new.world ≡ old.world
 
 -- want of memory leaves so much of the world

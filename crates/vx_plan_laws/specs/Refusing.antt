@@ -1,8 +1,6 @@
--- Why a command of a plan is refused: by a test, as its text is too long, or as the name of a disk is taken.
+-- Why a command of a plan is refused: by a test, as its text is too long, as a new volume has no plan, or as the name of a disk is taken.
 use Rattle.std.specs.Prelude.{◌≡◌, ◌⊎◌, ℕ, ◌&&◌, true, false, is_some, Option, Some, None, List, [], ◌∷◌}
 use Rattle.vx_base.specs.Named.{Word}
-use Rattle.vx_copies.specs.Lists.{AnyOf}
-use Rattle.vx_record.specs.Grammar.{IsBadLine}
 use Rattle.vx_config_parts.specs.declared.object.Object.{Object}
 use Rattle.vx_config_parts.specs.declared.vol.Vol.{Vol}
 use Rattle.vx_rules.specs.References.{has_name}
@@ -26,14 +24,16 @@ use Rattle.vx_group_images.specs.Group.{image_on}
 use Rattle.vx_state_edits.specs.Edits.{start_edits, stop_edits}
 use Rattle.vx_state_texts.specs.Texts.{all_maps}
 use Rattle.vx_plans.specs.Laws.{WentWell, HasCarriers}
-use Rattle.vx_stages.specs.Making.{Adds, adding_refusal, is_started}
-use Rattle.vx_plans.specs.Plans.{plan_of, disks_of}
-use Rattle.vx_stages.specs.Ends.{RefusedAsLong, refused}
-use Rattle.vx_stages.specs.Stages.{OnlyDisk, Stops, edits_of, joining_edit}
+use Rattle.vx_stages.specs.Making.{adding_refusal, is_started}
+use Rattle.vx_stages.specs.Sources.{AddsFrom, Denies, growth}
+use Rattle.vx_plans.specs.Plans.{disks_of, new_volume, plan_of}
+use Rattle.vx_stages.specs.Ends.{RefusedAsGrown, RefusedAsLong, refused}
+use Rattle.vx_stages.specs.Stages.{IsDone, OnlyDisk, Stops, edits_of, joining_edit}
 use Rattle.vx_stages.specs.Starting.{HasNoReadCopy, IsFirstMissed, may_start, refusal_at_once, regions_copied}
 use Rattle.vx_plans.specs.Steps.{Runs, done}
 use Rattle.vx_stages.specs.Stopping.{is_active, runs_on_plexes}
 use Rattle.vx_stages.specs.Tests.{volume_in}
+use Rattle.vx_stages.specs.declared.stage.Source.TheVariants as source
 use Rattle.vx_stages.specs.declared.stage.Stage.{Stage}
 use Rattle.vx_stages.specs.declared.stage.Stage.TheVariants as stage
 use Rattle.vx_stages.specs.declared.stages.Plan.{Plan}
@@ -45,6 +45,10 @@ OfGroup w Holds = (g : Group) × (w.group ≡ Some g) × Holds g
 -- the group's text is too long after these edits
 abbrev pub IsTooLong : List Edit → Group → Refusal → Type 0
 IsTooLong edits g r = (config : Config) × IsEdited edits g.config config × RefusedAsLong config (refused r)
+
+-- so it is of the text as it has grown by so many bytes until the command is over
+abbrev pub IsTooLongGrown : ℕ → List Edit → Group → Refusal → Type 0
+IsTooLongGrown more edits g r = (config : Config) × IsEdited edits g.config config × RefusedAsGrown more config (refused r)
 
 -- the group records such a volume under the name
 abbrev pub OfVolume : Word → Group → (Vol → Type 0) → Type 0
@@ -76,34 +80,48 @@ StopRefuses name g v w r =
 -- ---- each stage
 
 -- A stage of a plan refuses its command. One that changes a configuration does so where the text would be too long; one that
--- adds records, where a line is none or a test of the records refuses them, too; one by which a disk joins, where the
+-- adds records, where there are none or a test of the records refuses them, too; one by which a disk joins, where the
 -- disk's name is taken; and a start and a stop by what they find of their volume. Any other stage has tests alone.
 abbrev pub Refuses : Stage → List DiskAt → Moment → Refusal → Moment → Type 0
 Refuses (stage.Change change) disks old r new = OfGroup old.world (λ g. IsTooLong (edits_of change (Some g)) g r)
-Refuses (stage.Make text) disks old r new =
-    ((line : ℕ) × IsBadLine text line × (r ≡ refusal.BadRecord line))
-    ⊎ OfGroup old.world (λ g. (added : List Object) × Adds text added × ((adding_refusal (is_started old.world) (objects_of g.config) added ≡ Some r) ⊎ IsTooLong (Make added ∷ []) g r))
+Refuses (stage.Make from) disks old r new =
+    OfGroup old.world (λ g. Denies from (is_started old.world) g r
+    ⊎ ((added : List Object) × AddsFrom from (is_started old.world) g added
+    × ((adding_refusal (is_started old.world) (objects_of g.config) added ≡ Some r) ⊎ IsTooLongGrown (growth from added) (Make added ∷ []) g r)))
 Refuses stage.Join disks old r new =
     OnlyDisk disks (λ p. OfGroup old.world (λ g. ((has_name p.disk (objects_of g.config) ≡ true) × (r ≡ refusal.Exists p.disk)) ⊎ IsTooLong (joining_edit p old.world g ∷ []) g r))
 Refuses (stage.Start vol) disks old r new = OfGroup old.world (λ g. OfVolume vol g (λ v. StartRefuses g v old r new))
 Refuses (stage.Stop vol) disks old r new = OfGroup old.world (λ g. OfVolume vol g (λ v. StopRefuses vol g v old.world r))
 Refuses other disks old r new = Stops other disks old (refused r) new
 
--- one of the stages refuses, in the world in which the command began
-abbrev pub OneRefuses : List Stage → List DiskAt → World → Refusal → Moment → Type 0
-OneRefuses stages disks w r new = AnyOf (λ s. (reached : Moment) × (reached.world ≡ w) × Refuses s disks reached r new) stages
+-- the command goes on behind the stage: one that adds records is done, and any other leaves the world
+abbrev pub IsPassed : Stage → List DiskAt → Moment → Moment → Type 0
+IsPassed (stage.Make from) disks old mid = IsDone (stage.Make from) disks old mid
+IsPassed other disks old mid = mid.world ≡ old.world
+
+-- one of the stages refuses, at the moment to which those before it have led
+abbrev pub OneRefuses : List Stage → List DiskAt → Moment → Refusal → Moment → Type 0
+OneRefuses [] disks old r new = ⊥
+OneRefuses (s ∷ ss) disks old r new = Refuses s disks old r new ⊎ ((mid : Moment) × IsPassed s disks old mid × OneRefuses ss disks mid r new)
 
 -- no command of a plan is refused by a rule of a configuration behind its tests, but adddisk for a name
 abbrev pub EachRefusalIsTested : Type 0
 EachRefusalIsTested =
     (dg : Option Word) (f : Form) (plan : Plan) (old : Moment) (views : List View) (r : Refusal) (new : Moment)
     → plan_of dg f ≡ Some plan → Runs (disks_of f) plan.stages plan.finish old views (refused r) new
-    → OneRefuses plan.stages (disks_of f) old.world r new
+    → OneRefuses plan.stages (disks_of f) old r new
 
--- all is done: a start tells how many regions it has copied, and nothing else is told
-abbrev pub IsDoneBy : Form → World → End → Type 0
-IsDoneBy (form.Start vol) w end = OfGroup w (λ g. OfVolume vol g (λ v. end ≡ ends.Done (Some (regions_copied g v)) [] []))
-IsDoneBy other w end = end ≡ done
+-- a start tells how many regions it has copied of the volume, as the group recorded it before
+abbrev pub TellsCopied : Word → World → End → Type 0
+TellsCopied vol w end = OfGroup w (λ g. OfVolume vol g (λ v. end ≡ ends.Done (Some (regions_copied g v)) [] []))
+
+-- all is done: a start tells how many regions it has copied, also that of a new volume, behind the moment in which its records are added;
+-- and nothing else is told
+abbrev pub IsDoneBy : Form → Moment → End → Type 0
+IsDoneBy (form.Start vol) old end = TellsCopied vol old.world end
+IsDoneBy (form.AssistMake vol length attrs disks) old end =
+    (mid : Moment) × IsDone (stage.Make (source.Volume (new_volume vol length attrs disks))) [] old mid × TellsCopied vol mid.world end
+IsDoneBy other old end = end ≡ done
 
 -- where nothing failed and the power stayed, all is done, or a stage has refused so
 abbrev pub EachCommandIsDoneOrTested : Type 0
@@ -111,4 +129,4 @@ EachCommandIsDoneOrTested =
     (dg : Option Word) (f : Form) (plan : Plan) (old : Moment) (views : List View) (end : End) (new : Moment)
     → plan_of dg f ≡ Some plan → Runs (disks_of f) plan.stages plan.finish old views end new
     → WentWell old new → HasCarriers f old.world
-    → IsDoneBy f old.world end ⊎ ((r : Refusal) × (end ≡ refused r) × OneRefuses plan.stages (disks_of f) old.world r new)
+    → IsDoneBy f old end ⊎ ((r : Refusal) × (end ≡ refused r) × OneRefuses plan.stages (disks_of f) old r new)

@@ -26,8 +26,9 @@ pub fn only_a_name_refuses_a_disk()
     ensures { OnlyANameRefusesADisk }
 {}
 
-/// A command of a plan that is refused was refused by a test, as its text would be too long, or as the name of the disk
-/// that is to join is taken; a start and a stop by what they find of their volume, and a start as it cannot be opened.
+/// A command of a plan that is refused was refused by a test, as its text would be too long, as a source has no records to be
+/// added, or as the name of the disk that is to join is taken; a start and a stop by what they find of their volume, and a
+/// start as it cannot be opened.
 pub fn each_refusal_is_tested()
     ensures { EachRefusalIsTested }
 {}
@@ -38,13 +39,13 @@ pub fn each_command_is_done_or_tested()
 {}
 
 /// A command that is refused leaves the world as it began; but a start whose volume cannot be opened may have called its log,
-/// and then the devices have changed in sectors of that volume alone.
+/// and then the devices have changed in sectors of that volume alone; and where a new volume cannot be started its records stay.
 pub fn each_refusal_keeps_the_world()
     ensures { EachRefusalKeepsTheWorld }
 {}
 
 /// Want of memory leaves the world as the command found it; but a start may have called the log of its volume, which does not run then,
-/// and a stop may have let its volume come to rest.
+/// also that of a new volume whose records were added before, and a stop may have let its volume come to rest.
 pub fn each_want_keeps_the_world()
     ensures { EachWantKeepsTheWorld }
 {}

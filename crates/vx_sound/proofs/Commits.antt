@@ -1,5 +1,5 @@
 -- What each commit of a command leaves.
-use Rattle.std.proofs.Common.{◌≡◌, ◌⊎◌, ℕ, [], Option, Some, MatchOption, sym, ◌∙◌, ap, subst, inl, inr, List}
+use Rattle.std.proofs.Common.{◌≡◌, ◌⊎◌, ℕ, [], Option, Some, MatchOption, sym, ◌∙◌, ap, subst, inl, inr}
 use Rattle.vx_base.specs.Named.{Word}
 use Rattle.vx_base.proofs.NamedLemmas.{bytes_eq_same}
 use Rattle.vx_copies.specs.Image.{Offer}
@@ -14,6 +14,7 @@ use Rattle.vx_stages.specs.Finding.{group_found, import_records}
 use Rattle.vx_stages.specs.Ends.{IsChange}
 use Rattle.vx_stages.specs.Stages.{IsImporting, IsJoining, edits_of, IsMaking}
 use Rattle.vx_stages.specs.declared.stage.Change.{Change}
+use Rattle.vx_stages.specs.declared.stage.Source.{Source}
 use Rattle.vx_plans.proofs.Carriers.{FoundBy, found_by}
 use Rattle.vx_sound.specs.Standing.{HoldsNoHeader, IsLeading, IsStanding}
 use Rattle.vx_script_words.specs.declared.value.DiskAt.{DiskAt}
@@ -71,8 +72,8 @@ group_apart w g s here vol h = s.names vol (ap (λ (o : Option Group). has_volum
 pub change_unnamed : (change : Change) (w : World) (x : Writing) → IsStanding w → IsChange (edits_of change w.group) w x → IsApart x.config w
 change_unnamed change w x s is = change_apart w change w.group x.group.config x.config is.edited (group_apart w x.group s is.group)
 
-pub make_unnamed : (text : List ℕ) (w : World) (x : Writing) → IsStanding w → IsMaking text w x → IsApart x.config w
-make_unnamed text w x s is = make_apart w is.added x.group.config x.config is.change.edited is.fine (group_apart w x.group s is.change.group)
+pub make_unnamed : (from : Source) (w : World) (x : Writing) → IsStanding w → IsMaking from w x → IsApart x.config w
+make_unnamed from w x s is = make_apart w is.added x.group.config x.config is.change.edited is.fine (group_apart w x.group s is.change.group)
 
 pub join_unnamed : (p : DiskAt) (w : World) (x : Writing) → IsStanding w → IsJoining p w x → IsApart x.config w
 join_unnamed p w x s is = join_apart w (disk_record p (next_slot x.group.config) (sectors_at w p.device)) x.group.config x.config is.edited (group_apart w x.group s is.group)
@@ -86,8 +87,8 @@ import_unnamed dg w x old new is =
 pub change_ready : (change : Change) (w : World) (x : Writing) → IsStanding w → IsChange (edits_of change w.group) w x → IsReady x w
 change_ready change w x s is = ready_alone x w (imported_led w x.group s is.group) (change_grown change w.group x.group.config x.config is.edited) is.joiners is.carriers
 
-pub make_ready : (text : List ℕ) (w : World) (x : Writing) → IsStanding w → IsMaking text w x → IsReady x w
-make_ready text w x s is = ready_alone x w (imported_led w x.group s is.change.group) (make_grown is.added x.group.config x.config is.change.edited) is.change.joiners is.change.carriers
+pub make_ready : (from : Source) (w : World) (x : Writing) → IsStanding w → IsMaking from w x → IsReady x w
+make_ready from w x s is = ready_alone x w (imported_led w x.group s is.change.group) (make_grown is.added x.group.config x.config is.change.edited) is.change.joiners is.change.carriers
 
 pub import_ready : (dg : Word) (w : World) (x : Writing) (old new : Counts) → IsStanding w → IsImporting dg w x old new → IsReady x w
 import_ready dg w x old new s is = by (found_by dg w is.found.unread is.found.counted F is.finds)

@@ -1,4 +1,4 @@
--- The stages of a command: all but the last leave the world as it is, and tell the last what they have found.
+-- The stages of a command: those before the last that leave the world as it is, and tell what they have found.
 use Rattle.std.proofs.Common.{◌≡◌, ◌⊎◌, true, false, Bool, List, [], ◌∷◌, ◌++◌, None, refl, ◌∙◌, ap, subst, inl, inr}
 use Rattle.vx_base.specs.Named.{Word}
 use Rattle.vx_script_words.specs.declared.value.DiskAt.{DiskAt}
@@ -28,7 +28,7 @@ Passed (stage.MakeImage name sectors) disks w = ⊥
 Passed (stage.Wipe name) disks w = ⊥
 Passed (stage.StartBare vol name) disks w = ⊥
 Passed (stage.Change change) disks w = ⊥
-Passed (stage.Make text) disks w = ⊥
+Passed (stage.Make from) disks w = ⊥
 Passed stage.Join disks w = ⊥
 Passed (stage.Create dg) disks w = ⊥
 Passed (stage.Import dg) disks w = ⊥
@@ -49,7 +49,7 @@ leaves_world (stage.MakeImage name sectors) = false
 leaves_world (stage.Wipe name) = false
 leaves_world (stage.StartBare vol name) = false
 leaves_world (stage.Change change) = false
-leaves_world (stage.Make text) = false
+leaves_world (stage.Make from) = false
 leaves_world stage.Join = false
 leaves_world (stage.Create dg) = false
 leaves_world (stage.Import dg) = false
@@ -70,7 +70,7 @@ calm_done (stage.MakeImage name sectors) disks old new calm done = cc
 calm_done (stage.Wipe name) disks old new calm done = cc
 calm_done (stage.StartBare vol name) disks old new calm done = cc
 calm_done (stage.Change change) disks old new calm done = cc
-calm_done (stage.Make text) disks old new calm done = cc
+calm_done (stage.Make from) disks old new calm done = cc
 calm_done stage.Join disks old new calm done = cc
 calm_done (stage.Create dg) disks old new calm done = cc
 calm_done (stage.Import dg) disks old new calm done = cc
@@ -97,7 +97,7 @@ calm_stops (stage.MakeImage name sectors) disks old end new calm stops = cc
 calm_stops (stage.Wipe name) disks old end new calm stops = cc
 calm_stops (stage.StartBare vol name) disks old end new calm stops = cc
 calm_stops (stage.Change change) disks old end new calm stops = cc
-calm_stops (stage.Make text) disks old end new calm stops = cc
+calm_stops (stage.Make from) disks old end new calm stops = cc
 calm_stops stage.Join disks old end new calm stops = cc
 calm_stops (stage.Create dg) disks old end new calm stops = cc
 calm_stops (stage.Import dg) disks old end new calm stops = cc

@@ -24,7 +24,7 @@ use Rattle.vx_moments.specs.Leaving.{PowerGoes}
 use Rattle.vx_moments.specs.Holding.{has_volume}
 use Rattle.vx_moments.proofs.Lone.{none_lone}
 use Rattle.vx_moments.specs.Commit.{Writing}
-use Rattle.vx_plans.specs.Plans.{plan_of}
+use Rattle.vx_plans.specs.Plans.{new_volume, plan_of}
 use Rattle.vx_stages.specs.Records.{devices_of}
 use Rattle.vx_stages.specs.Ends.{IsChange}
 use Rattle.vx_stages.specs.Stages.{IsDone, Stops, EditsStop, edits_of, joining_edit, IsJoining, IsCreating}
@@ -34,6 +34,8 @@ use Rattle.vx_stages.specs.declared.stages.Finish.{Finish}
 use Rattle.vx_stages.specs.declared.stages.Finish.TheVariants.{Nothing, Records}
 use Rattle.vx_stages.specs.declared.stage.Change.{Change}
 use Rattle.vx_stages.specs.declared.stage.Change.TheVariants as changes
+use Rattle.vx_stages.specs.declared.stage.Source.{Source}
+use Rattle.vx_stages.specs.declared.stage.Source.TheVariants as source
 use Rattle.vx_stages.specs.declared.stage.Stage.{Stage}
 use Rattle.vx_stages.specs.declared.stage.Stage.TheVariants as stage
 use Rattle.vx_stages.specs.declared.test.Test.TheVariants as tests
@@ -104,16 +106,16 @@ change_ends change disks finish old views end new s runs =
     (λ stops. edits_end (λ g. edits_of change (Some g)) (λ x. IsChange (edits_of change old.world.group) old.world x) old end new s (λ x is. change_ready change old.world x s is) stops)
     runs
 
-make_ends : (text : List ℕ) (disks : List DiskAt) (finish : Finish) (old : Moment) (views : List View) (end : End) (new : Moment) → IsStanding old.world → Runs disks (stage.Make text ∷ []) finish old views end new → Ends end new.world
-make_ends text disks finish old views end new s runs =
-    one_stage (stage.Make text) disks finish old views end new
-    (λ m done. commit_done done.0 old m s (make_ready text old.world done.0 s done.1) (make_unnamed text old.world done.0 s done.1) done.2)
-    stops runs
-  where
-    stops : Stops (stage.Make text) disks old end new → Ends end new.world
-    stops (inl (none, ends)) = same_ends end old.world new.world ends.1.stays.world s
-    stops (inr (inl (why, rests))) = same_ends end old.world new.world rests.stays.world s
-    stops (inr (inr (x, is, stopped))) = commit_stopped x old end new s (make_ready text old.world x s is) stopped
+pub make_stands : (from : Source) (disks : List DiskAt) (old m : Moment) → IsStanding old.world → IsDone (stage.Make from) disks old m → IsStanding m.world
+make_stands from disks old m s done = commit_done done.0 old m s (make_ready from old.world done.0 s done.1) (make_unnamed from old.world done.0 s done.1) done.2
+
+make_stops : (from : Source) (disks : List DiskAt) (old : Moment) (end : End) (new : Moment) → IsStanding old.world → Stops (stage.Make from) disks old end new → Ends end new.world
+make_stops from disks old end new s (inl (none, ends)) = same_ends end old.world new.world ends.1.stays.world s
+make_stops from disks old end new s (inr (inl (why, rests))) = same_ends end old.world new.world rests.stays.world s
+make_stops from disks old end new s (inr (inr (x, is, stopped))) = commit_stopped x old end new s (make_ready from old.world x s is) stopped
+
+make_ends : (from : Source) (disks : List DiskAt) (finish : Finish) (old : Moment) (views : List View) (end : End) (new : Moment) → IsStanding old.world → Runs disks (stage.Make from ∷ []) finish old views end new → Ends end new.world
+make_ends from disks finish old views end new s runs = one_stage (stage.Make from) disks finish old views end new (λ m done. make_stands from disks old m s done) (λ stops. make_stops from disks old end new s stops) runs
 
 image_ends : (name : Word) (sectors : ℕ) (disks : List DiskAt) (finish : Finish) (old : Moment) (views : List View) (end : End) (new : Moment) → IsStanding old.world → Runs disks (stage.MakeImage name sectors ∷ []) finish old views end new → Ends end new.world
 image_ends name sectors disks finish old views end new s runs =
@@ -196,9 +198,15 @@ module _ (views : List View) (end : End) (new : Moment) where
       (λ stops. edits_end (λ g. joining_edit p mid.world g ∷ []) (λ x. IsJoining p mid.world x) mid end new s ready stops)
       runs
 
-  starting_ends : (dg : Option Word) (vol : Word) (mid : Moment) → IsStanding mid.world
-      → AllPassed (stage.Gate (tests.GroupIs dg) ∷ stage.Gate (tests.HasVolume vol) ∷ stage.Gate (tests.Stopped vol) ∷ []) [] mid.world → Runs [] (stage.Start vol ∷ []) Nothing mid views end new → Ends end new.world
-  starting_ends dg vol mid s passed runs = one_stage (stage.Start vol) [] Nothing mid views end new (λ m done. absurd done) (λ stops. start_ends mid end new s vol stops) runs
+  starting_ends : (vol : Word) (mid : Moment) → IsStanding mid.world → Runs [] (stage.Start vol ∷ []) Nothing mid views end new → Ends end new.world
+  starting_ends vol mid s runs = one_stage (stage.Start vol) [] Nothing mid views end new (λ m done. absurd done) (λ stops. start_ends mid end new s vol stops) runs
+
+  -- records are added, and a volume is started
+  new_ends : (from : Source) (vol : Word) (mid : Moment) → IsStanding mid.world → Runs [] (stage.Make from ∷ stage.Gate (tests.Stopped vol) ∷ stage.Start vol ∷ []) Nothing mid views end new → Ends end new.world
+  new_ends from vol mid s (inl (m, later, is, runs)) =
+      at_last (stage.Gate (tests.Stopped vol) ∷ []) (stage.Start vol ∷ []) [] Nothing m views end new (make_stands from [] mid m s is) (λ last t passed more. starting_ends vol last t more)
+      (runs_through (stage.Gate (tests.Stopped vol) ∷ []) (stage.Start vol ∷ []) [] Nothing m views end new (refl, tt) runs)
+  new_ends from vol mid s (inr (none, later, stops)) = make_stops from [] mid end new s stops
 
   stopping_ends : (dg : Option Word) (vol : Word) (mid : Moment) → IsStanding mid.world → AllPassed (stage.Gate (tests.GroupIs dg) ∷ stage.Gate (tests.HasVolume vol) ∷ []) [] mid.world → Runs [] (stage.Stop vol ∷ []) Nothing mid views end new → Ends end new.world
   stopping_ends dg vol mid s passed runs = one_stage (stage.Stop vol) [] Nothing mid views end new (λ m done. stop_done vol mid s m done) (λ stops. stop_ends vol mid s end new stops) runs
@@ -257,13 +265,18 @@ module _ (old : Moment) (views : List View) (end : End) (new : Moment) (s : IsSt
       gated (stage.Gate (tests.GroupIs dg) ∷ stage.Gate (tests.HasVolume vol) ∷ stage.Gate (tests.Stopped vol) ∷ stage.Gate (tests.Unrelated vol) ∷ []) (changes.Remove vol) (refl, (refl, (refl, (refl, tt)))) does
   form_ends place dg (form.VxMake text) none does =
       let calm = stage.Gate (tests.GroupIs dg) ∷ [] in
-      at_last calm (stage.Make text ∷ []) [] Nothing old views end new s (λ mid t passed runs. make_ends text [] Nothing mid views end new t runs) (runs_through calm (stage.Make text ∷ []) [] Nothing old views end new (refl, tt) does)
+      let from = source.Text text in
+      at_last calm (stage.Make from ∷ []) [] Nothing old views end new s (λ mid t passed runs. make_ends from [] Nothing mid views end new t runs) (runs_through calm (stage.Make from ∷ []) [] Nothing old views end new (refl, tt) does)
   form_ends place dg (form.PrintHt vol) none does = not_built does
-  form_ends place dg (form.AssistMake vol length attrs disks) none does = not_built does
+  form_ends place dg (form.AssistMake vol length attrs disks) none does =
+      let from = source.Volume (new_volume vol length attrs disks) in
+      let calm = stage.Gate (tests.GroupIs dg) ∷ [] in
+      let rest = stage.Make from ∷ stage.Gate (tests.Stopped vol) ∷ stage.Start vol ∷ [] in
+      at_last calm rest [] Nothing old views end new s (λ mid t passed runs. new_ends views end new from vol mid t runs) (runs_through calm rest [] Nothing old views end new (refl, tt) does)
   form_ends place dg (form.Mirror vol disks) none does = not_built does
   form_ends place dg (form.Start vol) none does =
       let calm = stage.Gate (tests.GroupIs dg) ∷ stage.Gate (tests.HasVolume vol) ∷ stage.Gate (tests.Stopped vol) ∷ [] in
-      at_last calm (stage.Start vol ∷ []) [] Nothing old views end new s (starting_ends views end new dg vol) (runs_through calm (stage.Start vol ∷ []) [] Nothing old views end new (refl, (refl, (refl, tt))) does)
+      at_last calm (stage.Start vol ∷ []) [] Nothing old views end new s (λ mid t passed runs. starting_ends views end new vol mid t runs) (runs_through calm (stage.Start vol ∷ []) [] Nothing old views end new (refl, (refl, (refl, tt))) does)
   form_ends place dg (form.Stop vol) none does =
       let calm = stage.Gate (tests.GroupIs dg) ∷ stage.Gate (tests.HasVolume vol) ∷ [] in
       at_last calm (stage.Stop vol ∷ []) [] Nothing old views end new s (stopping_ends views end new dg vol) (runs_through calm (stage.Stop vol ∷ []) [] Nothing old views end new (refl, (refl, tt)) does)

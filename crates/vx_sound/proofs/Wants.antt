@@ -12,7 +12,7 @@ use Rattle.vx_moments.specs.Leaving.{PowerGoes}
 use Rattle.vx_moments.specs.Moment.{Moment}
 use Rattle.vx_moments.specs.World.{World}
 use Rattle.vx_plans.specs.Plans.{disks_of, plan_of}
-use Rattle.vx_stages.specs.Stages.{Wants}
+use Rattle.vx_stages.specs.Stages.{IsDone, Wants}
 use Rattle.vx_plans.specs.Steps.{IsTranscript, LeavesOff, RunsShort, WantsForm, WantsPlan}
 use Rattle.vx_stages.specs.declared.stage.Stage.{Stage}
 use Rattle.vx_stages.specs.declared.stage.Stage.TheVariants as stage
@@ -23,7 +23,7 @@ use Rattle.vx_sound.specs.Sound.{AreSound}
 use Rattle.vx_sound.specs.Standing.{IsStanding}
 use Rattle.vx_sound.proofs.Running.{rested, standing_touched}
 use Rattle.vx_sound.proofs.Settlement.{settled, standing_left}
-use Rattle.vx_sound.proofs.Steps.{run_stands, sound_stands}
+use Rattle.vx_sound.proofs.Steps.{make_stands, run_stands, sound_stands}
 
 same_stands : (w v : World) → v ≡ w → IsStanding w → IsStanding v
 same_stands w v same s = subst IsStanding (sym same) s
@@ -35,11 +35,21 @@ wants_stand (stage.Stop vol) old new s (inl same) = same_stands old.world new.wo
 wants_stand (stage.Stop vol) old new s (inr rest) = rested vol old s new rest
 wants_stand other old new s same = same_stands old.world new.world same s
 
--- all stages but the last keep the world
+-- the stage keeps the world, or adds records
+abbrev pub keeps_or_adds : Stage → Bool
+keeps_or_adds (stage.Make from) = true
+keeps_or_adds other = keeps_world other
+
+-- such a stage that is done
+done_stands : (s : Stage) (disks : List DiskAt) (old mid : Moment) → keeps_or_adds s ≡ true → IsStanding old.world → IsDone s disks old mid → IsStanding mid.world
+done_stands (stage.Make from) disks old mid keeps s is = make_stands from disks old mid s is
+done_stands other disks old mid keeps s is = same_stands old.world mid.world (kept_world other disks old mid keeps is) s
+
+-- all stages but the last keep the world, or add records
 abbrev pub all_keep_but_last : List Stage → Bool
 all_keep_but_last [] = true
 all_keep_but_last (s ∷ []) = true
-all_keep_but_last (s ∷ t ∷ ss) = keeps_world s && all_keep_but_last (t ∷ ss)
+all_keep_but_last (s ∷ t ∷ ss) = keeps_or_adds s && all_keep_but_last (t ∷ ss)
 
 abbrev pub is_shaped : Option Plan → Bool
 is_shaped None = true
@@ -59,8 +69,8 @@ short_stands disks [] old new shaped s short = absurd short
 short_stands disks (one ∷ []) old new shaped s (inl (mid, later, is, short)) = absurd short
 short_stands disks (one ∷ []) old new shaped s (inr wants) = wants_stand one old new s wants
 short_stands disks (one ∷ t ∷ ss) old new shaped s (inl (mid, later, is, short)) =
-    let shapes = and_parts (keeps_world one) (all_keep_but_last (t ∷ ss)) shaped in
-    short_stands disks (t ∷ ss) mid new shapes.1 (same_stands old.world mid.world (kept_world one disks old mid shapes.0 is) s) short
+    let shapes = and_parts (keeps_or_adds one) (all_keep_but_last (t ∷ ss)) shaped in
+    short_stands disks (t ∷ ss) mid new shapes.1 (done_stands one disks old mid shapes.0 s is) short
 short_stands disks (one ∷ t ∷ ss) old new shaped s (inr wants) = wants_stand one old new s wants
 
 plan_stands : (disks : List DiskAt) (plan : Option Plan) (old new : Moment) → is_shaped plan ≡ true → IsStanding old.world → WantsPlan disks plan old new → IsStanding new.world

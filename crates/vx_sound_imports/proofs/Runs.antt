@@ -25,7 +25,7 @@ use Rattle.vx_group_images.specs.Group.{image_on, public_of, sectors_of}
 use Rattle.vx_group_images.specs.Lives.{GroupStands}
 use Rattle.vx_plans.specs.Plans.{disks_of, plan_of}
 use Rattle.vx_plans.specs.Steps.{DoesForm, IsNotBuilt, IsTranscript, Leaves, Runs, RunsShort, WantsForm, WantsPlan, done}
-use Rattle.vx_plans.proofs.Complete.{kept_world, keeps_world}
+use Rattle.vx_plans.proofs.Complete.{kept_world}
 use Rattle.vx_stages.specs.Stages.{IsDone, Stops}
 use Rattle.vx_stages.specs.declared.stage.Stage.{Stage}
 use Rattle.vx_stages.specs.declared.stage.Stage.TheVariants as stage
@@ -36,12 +36,12 @@ use Rattle.vx_sound.proofs.Commits.{Ends}
 use Rattle.vx_sound.proofs.Fewer.{HadEach}
 use Rattle.vx_sound.proofs.Settlement.{IsSettled, gone_back, power_back, settled, standing_left}
 use Rattle.vx_sound.proofs.Steps.{command_ends, each_step_keeps_the_world_sound, sound_stands}
-use Rattle.vx_sound.proofs.Wants.{all_keep_but_last, each_want_keeps_the_world_sound, is_shaped, plan_shaped}
+use Rattle.vx_sound.proofs.Wants.{all_keep_but_last, keeps_or_adds, each_want_keeps_the_world_sound, is_shaped, plan_shaped}
 use Rattle.vx_sound_volumes.specs.Laws.{EachStepKeepsVolumesSound, EachWantKeepsVolumesSound}
 use Rattle.vx_sound_volumes.specs.Volumes.{AreSoundOn, BringsSound, IsSoundBefore}
 use Rattle.vx_sound_volumes.proofs.Leavings.{each_leaving}
 use Rattle.vx_sound_volumes.proofs.Parts.{all_kept, image_same, keeps_all, not_none, some_same}
-use Rattle.vx_sound_volumes.proofs.Stages.{StateLaws}
+use Rattle.vx_sound_volumes.proofs.Stages.{StateLaws, make_done}
 use Rattle.vx_sound_volumes.proofs.Steps.{cut_kept, idle_sound}
 use Rattle.vx_sound_imports.specs.Laws.{AreDevicesSound, EachImportBringsSound, EachRunKeepsDevicesSound, EachRunLeftOffKeepsDevicesSound, EachStepKeepsAllSound, EachWantKeepsAllSound}
 use Rattle.vx_sound_imports.specs.Offered.{AreAllSound, HasSoundOffer, HaveSoundOffers}
@@ -51,7 +51,7 @@ use Rattle.vx_sound_imports.proofs.Found.{found_sound, import_safe}
 use Rattle.vx_sound_imports.proofs.Writings.{HasWhole}
 use Rattle.vx_sound_imports.proofs.Stages.{Settles, standing_settles}
 use Rattle.vx_sound_imports.proofs.Starts.{wants_known}
-use Rattle.vx_sound_imports.proofs.Steps.{command_settles}
+use Rattle.vx_sound_imports.proofs.Steps.{command_settles, make_known}
 use Rattle.vx_sound_imports.proofs.Volumes.{IsKnown}
 
 known : (place : ℕ) (w : World) → AreAllSound place w → IsKnown w
@@ -176,14 +176,21 @@ each_step laws volumes place c old answer new none s step =
 -- ---- want of memory
 
 module _ (laws : StateLaws) (place : ℕ) where
+  -- a stage that is done and keeps the world, or has added records
+  done_known : (s : Stage) (disks : List DiskAt) (old mid : Moment) → keeps_or_adds s ≡ true → IsKnown old.world → IsSoundBefore place old.world → IsDone s disks old mid → IsKnown mid.world × IsSoundBefore place mid.world
+  done_known (stage.Make from) disks old mid keeps k sound is = (make_known from disks old mid k is, all_kept place mid.world (make_done place from disks old mid (keeps_all place old.world sound) is))
+  done_known other disks old mid keeps k sound is =
+      let same = sym (kept_world other disks old mid keeps is) in
+      (subst IsKnown same k, subst (IsSoundBefore place) same sound)
+
   short_known : (disks : List DiskAt) (stages : List Stage) (old new : Moment) → all_keep_but_last stages ≡ true → IsKnown old.world → IsSoundBefore place old.world → RunsShort disks stages old new → IsKnown new.world
   short_known disks [] old new shaped k sound short = absurd short
   short_known disks (one ∷ []) old new shaped k sound (inl (mid, later, is, short)) = absurd short
   short_known disks (one ∷ []) old new shaped k sound (inr wants) = wants_known laws place one old new k sound wants
   short_known disks (one ∷ t ∷ ss) old new shaped k sound (inl (mid, later, is, short)) =
-      let shapes = and_parts (keeps_world one) (all_keep_but_last (t ∷ ss)) shaped in
-      let same = kept_world one disks old mid shapes.0 is in
-      short_known disks (t ∷ ss) mid new shapes.1 (subst IsKnown (sym same) k) (subst (IsSoundBefore place) (sym same) sound) short
+      let shapes = and_parts (keeps_or_adds one) (all_keep_but_last (t ∷ ss)) shaped in
+      let both = done_known one disks old mid shapes.0 k sound is in
+      short_known disks (t ∷ ss) mid new shapes.1 both.0 both.1 short
   short_known disks (one ∷ t ∷ ss) old new shaped k sound (inr wants) = wants_known laws place one old new k sound wants
 
   plan_known : (disks : List DiskAt) (plan : Option Plan) (old new : Moment) → is_shaped plan ≡ true → IsKnown old.world → IsSoundBefore place old.world → WantsPlan disks plan old new → IsKnown new.world

@@ -10,6 +10,7 @@ use Rattle.vx_image.specs.Soundness.{IsSoundImage}
 use Rattle.vx_config_parts.specs.declared.vol.PolicyName.TheVariants as policy
 use Rattle.vx_config_parts.specs.declared.vol.Vol.{Vol}
 use Rattle.vx_objects.specs.declared.edit.Edit.{Edit}
+use Rattle.vx_new_volumes.specs.declared.volume.NewVolume.{NewVolume}
 use Rattle.vx_script_words.specs.declared.value.DiskAt.{DiskAt}
 use Rattle.vx_script_forms.specs.declared.form.Form.{Form}
 use Rattle.vx_script_forms.specs.declared.form.Form.TheVariants as form
@@ -23,7 +24,7 @@ use Rattle.vx_moments.specs.Holding.{IsMemberDevice}
 use Rattle.vx_moments.specs.Leaving.{group_gone}
 use Rattle.vx_moments.specs.Moment.{Moment}
 use Rattle.vx_moments.specs.World.{Group, Volume, World}
-use Rattle.vx_plans.specs.Plans.{plan_of}
+use Rattle.vx_plans.specs.Plans.{new_volume, plan_of}
 use Rattle.vx_plans.specs.Steps.{DoesForm, DoesPlan, IsNotBuilt, Runs, done}
 use Rattle.vx_stages.specs.Ends.{IsChange}
 use Rattle.vx_stages.specs.Records.{devices_of}
@@ -31,23 +32,26 @@ use Rattle.vx_stages.specs.Stages.{EditsStop, HasContents, IsCreating, IsDone, I
 use Rattle.vx_stages.specs.Tests.{fails, recorded, state_of, unless}
 use Rattle.vx_stages.specs.declared.stage.Change.{Change}
 use Rattle.vx_stages.specs.declared.stage.Change.TheVariants as changes
+use Rattle.vx_stages.specs.declared.stage.Source.{Source}
+use Rattle.vx_stages.specs.declared.stage.Source.TheVariants as source
 use Rattle.vx_stages.specs.declared.stage.Stage.{Stage}
 use Rattle.vx_stages.specs.declared.stage.Stage.TheVariants as stage
 use Rattle.vx_stages.specs.declared.stages.Finish.{Finish}
 use Rattle.vx_stages.specs.declared.stages.Finish.TheVariants.{Nothing, Records}
 use Rattle.vx_stages.specs.declared.test.Test.TheVariants as tests
+use Rattle.vx_group_edits.proofs.NewNames.{unstarted}
 use Rattle.vx_sound.specs.Laws.{FormWritesNoHeader}
 use Rattle.vx_sound.proofs.Commits.{imported_led}
 use Rattle.vx_sound.proofs.Devices.{image_back, standing_torn, torn_back}
 use Rattle.vx_sound.proofs.Joiners.{all_blank, all_unheld, ready_create, ready_join, room_for}
 use Rattle.vx_sound.proofs.Runs.{AllPassed, AreCalm, Through, runs_through}
 use Rattle.vx_sound.proofs.Settlement.{gone_back}
-use Rattle.vx_sound.proofs.Steps.{group_here, no_group, not_recorded, not_started}
+use Rattle.vx_sound.proofs.Steps.{group_here, make_stands, no_group, not_recorded, not_started}
 use Rattle.vx_sound.proofs.Volumes.{bare_back}
 use Rattle.vx_sound_volumes.specs.Volumes.{AreSoundOn, IsSoundBefore}
 use Rattle.vx_sound_volumes.proofs.Leavings.{each_leaving}
-use Rattle.vx_sound_volumes.proofs.Parts.{image_same, not_none, some_same}
-use Rattle.vx_sound_volumes.proofs.Stages.{StateLaws}
+use Rattle.vx_sound_volumes.proofs.Parts.{all_kept, image_same, keeps_all, not_none, some_same}
+use Rattle.vx_sound_volumes.proofs.Stages.{StateLaws, make_done}
 use Rattle.vx_sound_imports.specs.Offered.{HasSoundOffer, HaveSoundOffers, IsElsewhere}
 use Rattle.vx_sound_imports.proofs.Commits.{public_stays}
 use Rattle.vx_sound_imports.proofs.Fewer.{fewer_sound}
@@ -99,16 +103,20 @@ change_settles change disks finish old views end new k runs =
     (λ stops. edits_settle (λ g. edits_of change (Some g)) (λ x. IsChange (edits_of change old.world.group) old.world x) old end new k (λ x is. (change_safe change old.world x k.standing k.whole is, is.group)) stops)
     runs
 
-make_settles : (text : List ℕ) (disks : List DiskAt) (finish : Finish) (old : Moment) (views : List View) (end : End) (new : Moment) → IsKnown old.world → Runs disks (stage.Make text ∷ []) finish old views end new → Settles end new.world
-make_settles text disks finish old views end new k runs =
-    one_stage (stage.Make text) disks finish old views end new
-    (λ m is. imported_done is.0 old end new k (make_safe text old.world is.0 k.standing k.whole is.1) m is.1.change.group is.2)
-    stops runs
-  where
-    stops : Stops (stage.Make text) disks old end new → Settles end new.world
-    stops (inl (none, ends)) = still_settles end old.world new.world ends.1.stays.world k
-    stops (inr (inl (why, rests))) = still_settles end old.world new.world rests.stays.world k
-    stops (inr (inr (x, is, stopped))) = stopped_settles x old k.standing (make_safe text old.world x k.standing k.whole is) end new stopped is.change.group k.whole k.offers
+make_whole : (from : Source) (disks : List DiskAt) (old m : Moment) → IsKnown old.world → IsDone (stage.Make from) disks old m → HaveSoundOffers m.world × HasWhole m.world
+make_whole from disks old m k is = imported_done is.0 old done m k (make_safe from old.world is.0 k.standing k.whole is.1) m is.1.change.group is.2
+
+pub make_known : (from : Source) (disks : List DiskAt) (old m : Moment) → IsKnown old.world → IsDone (stage.Make from) disks old m → IsKnown m.world
+make_known from disks old m k is = let all = make_whole from disks old m k is in record { standing = make_stands from disks old m k.standing is; whole = all.1; offers = all.0 }
+
+make_stops : (from : Source) (disks : List DiskAt) (old : Moment) (end : End) (new : Moment) → IsKnown old.world → Stops (stage.Make from) disks old end new → Settles end new.world
+make_stops from disks old end new k (inl (none, ends)) = still_settles end old.world new.world ends.1.stays.world k
+make_stops from disks old end new k (inr (inl (why, rests))) = still_settles end old.world new.world rests.stays.world k
+make_stops from disks old end new k (inr (inr (x, is, stopped))) = stopped_settles x old k.standing (make_safe from old.world x k.standing k.whole is) end new stopped is.change.group k.whole k.offers
+
+make_settles : (from : Source) (disks : List DiskAt) (finish : Finish) (old : Moment) (views : List View) (end : End) (new : Moment) → IsKnown old.world → Runs disks (stage.Make from ∷ []) finish old views end new → Settles end new.world
+make_settles from disks finish old views end new k runs =
+    one_stage (stage.Make from) disks finish old views end new (λ m is. make_whole from disks old m k is) (λ stops. make_stops from disks old end new k stops) runs
 
 image_settles : (name : Word) (sectors : ℕ) (disks : List DiskAt) (finish : Finish) (old : Moment) (views : List View) (end : End) (new : Moment) → IsKnown old.world → Runs disks (stage.MakeImage name sectors ∷ []) finish old views end new → Settles end new.world
 image_settles name sectors disks finish old views end new k runs =
@@ -235,11 +243,24 @@ module _ (laws : StateLaws) (place : ℕ) (views : List View) (end : End) (new :
       (λ stops. edits_settle (λ g. joining_edit p mid.world g ∷ []) (λ x. IsJoining p mid.world x) mid end new k (λ x is. (safe x is, is.group)) stops)
       runs
 
-  starting_settles : (dg : Option Word) (vol : Word) (mid : Moment) → IsKnown mid.world → IsSoundBefore place mid.world
-      → AllPassed (stage.Gate (tests.GroupIs dg) ∷ stage.Gate (tests.HasVolume vol) ∷ stage.Gate (tests.Stopped vol) ∷ []) [] mid.world → Runs [] (stage.Start vol ∷ []) Nothing mid views end new → Settles end new.world
-  starting_settles dg vol mid k sound passed runs =
-      one_stage (stage.Start vol) [] Nothing mid views end new (λ m is. absurd is)
-      (λ stops. start_settles laws place mid end new k sound vol (not_running vol mid.world passed.1.0 passed.1.1.0) stops) runs
+  starting_settles : (vol : Word) (mid : Moment) → IsKnown mid.world → IsSoundBefore place mid.world → mid.world.volumes vol ≡ None → Runs [] (stage.Start vol ∷ []) Nothing mid views end new → Settles end new.world
+  starting_settles vol mid k sound idle runs =
+      one_stage (stage.Start vol) [] Nothing mid views end new (λ m is. absurd is) (λ stops. start_settles laws place mid end new k sound vol idle stops) runs
+
+  -- the records of a new volume are added, and it is started
+  new_settles : (n : NewVolume) (mid : Moment) → IsKnown mid.world → IsSoundBefore place mid.world
+      → Runs [] (stage.Make (source.Volume n) ∷ stage.Gate (tests.Stopped n.vol) ∷ stage.Start n.vol ∷ []) Nothing mid views end new → Settles end new.world
+  new_settles n mid k sound (inl (m, later, is, runs)) =
+      at_last calm (stage.Start n.vol ∷ []) [] Nothing m views end new (make_known (source.Volume n) [] mid m k is)
+      (λ last same t passed more. starting_settles n.vol last t (subst (IsSoundBefore place) (sym same) added) (subst (λ (w : World). w.volumes n.vol ≡ None) (sym same) (unstarted n mid m is)) more)
+      (runs_through calm (stage.Start n.vol ∷ []) [] Nothing m views end new (refl, tt) runs)
+    where
+      calm : List Stage
+      calm = stage.Gate (tests.Stopped n.vol) ∷ []
+
+      added : IsSoundBefore place m.world
+      added = all_kept place m.world (make_done place (source.Volume n) [] mid m (keeps_all place mid.world sound) is)
+  new_settles n mid k sound (inr (none, later, stops)) = make_stops (source.Volume n) [] mid end new k stops
 
   stopping_settles : (vol : Word) (mid : Moment) → IsKnown mid.world → IsSoundBefore place mid.world → Runs [] (stage.Stop vol ∷ []) Nothing mid views end new → Settles end new.world
   stopping_settles vol mid k sound runs =
@@ -302,10 +323,16 @@ module _ (laws : StateLaws) (place : ℕ) (old : Moment) (views : List View) (en
       gated (stage.Gate (tests.GroupIs dg) ∷ stage.Gate (tests.HasVolume vol) ∷ stage.Gate (tests.Stopped vol) ∷ stage.Gate (tests.Unrelated vol) ∷ []) (changes.Remove vol) (refl, (refl, (refl, (refl, tt)))) does
   form_settles dg (form.VxMake text) none does =
       let calm = stage.Gate (tests.GroupIs dg) ∷ [] in
-      at_last calm (stage.Make text ∷ []) [] Nothing old views end new k (λ mid same t passed runs. make_settles text [] Nothing mid views end new t runs) (runs_through calm (stage.Make text ∷ []) [] Nothing old views end new (refl, tt) does)
+      let from = source.Text text in
+      at_last calm (stage.Make from ∷ []) [] Nothing old views end new k (λ mid same t passed runs. make_settles from [] Nothing mid views end new t runs) (runs_through calm (stage.Make from ∷ []) [] Nothing old views end new (refl, tt) does)
+  form_settles dg (form.AssistMake vol length attrs disks) none does =
+      let n = new_volume vol length attrs disks in
+      let calm = stage.Gate (tests.GroupIs dg) ∷ [] in
+      let rest = stage.Make (source.Volume n) ∷ stage.Gate (tests.Stopped vol) ∷ stage.Start vol ∷ [] in
+      at_last calm rest [] Nothing old views end new k (λ mid same t passed runs. new_settles laws place views end new n mid t (sound_still mid same) runs) (runs_through calm rest [] Nothing old views end new (refl, tt) does)
   form_settles dg (form.Start vol) none does =
       let calm = stage.Gate (tests.GroupIs dg) ∷ stage.Gate (tests.HasVolume vol) ∷ stage.Gate (tests.Stopped vol) ∷ [] in
-      at_last calm (stage.Start vol ∷ []) [] Nothing old views end new k (λ mid same t passed runs. starting_settles laws place views end new dg vol mid t (sound_still mid same) passed runs) (runs_through calm (stage.Start vol ∷ []) [] Nothing old views end new (refl, (refl, (refl, tt))) does)
+      at_last calm (stage.Start vol ∷ []) [] Nothing old views end new k (λ mid same t passed runs. starting_settles laws place views end new vol mid t (sound_still mid same) (not_running vol mid.world passed.1.0 passed.1.1.0) runs) (runs_through calm (stage.Start vol ∷ []) [] Nothing old views end new (refl, (refl, (refl, tt))) does)
   form_settles dg (form.Stop vol) none does =
       let calm = stage.Gate (tests.GroupIs dg) ∷ stage.Gate (tests.HasVolume vol) ∷ [] in
       at_last calm (stage.Stop vol ∷ []) [] Nothing old views end new k (λ mid same t passed runs. stopping_settles laws place views end new vol mid t (sound_still mid same) runs) (runs_through calm (stage.Stop vol ∷ []) [] Nothing old views end new (refl, (refl, tt)) does)

@@ -1,4 +1,4 @@
--- What changes, texts, disks that join, and new groups write has sound volumes.
+-- What changes, records that are added, disks that join, and new groups write has sound volumes.
 use Rattle.std.proofs.Common.{◌≡◌, ◌∙◌, ◌≢◌, ℕ, ◌<◌, false, List, Option, Some, refl, sym, ap, subst, inl, inr, arith}
 use Rattle.std.specs.Prelude.{Contains}
 use Rattle.vx_base.specs.Named.{Word}
@@ -29,6 +29,7 @@ use Rattle.vx_stages.specs.Records.{disk_record, new_records, next_slot, sectors
 use Rattle.vx_stages.specs.Recorded.{IsSoundAs}
 use Rattle.vx_stages.specs.Stages.{IsCreating, IsJoining, IsMaking, edits_of}
 use Rattle.vx_stages.specs.declared.stage.Change.{Change}
+use Rattle.vx_stages.specs.declared.stage.Source.{Source}
 use Rattle.vx_sound.specs.Standing.{IsStanding}
 use Rattle.vx_sound.proofs.Commits.{change_ready, make_ready}
 use Rattle.vx_sound.proofs.Joiners.{next_free}
@@ -54,12 +55,12 @@ change_safe change w x s whole is =
     let ready = change_ready change w x s is in
     kept_safe x w ready (whole x.group is.group) (StaysBy change) (change_keeps x.group change x.config edited) (none_vacant x is.joiners) (λ v one started. change_back x.group change x.config v edited one)
 
-pub make_safe : (text : List ℕ) (w : World) (x : Writing) → IsStanding w → HasWhole w → IsMaking text w x → IsSafe x w
-make_safe text w x s whole is =
-    let ready = make_ready text w x s is in
+pub make_safe : (from : Source) (w : World) (x : Writing) → IsStanding w → HasWhole w → IsMaking from w x → IsSafe x w
+make_safe from w x s whole is =
+    let ready = make_ready from w x s is in
     let all = whole x.group is.change.group in
-    kept_safe x w ready all (λ u. Unit {0}) (making_keeps x.group.config x.config text is.added (is_started w) is.adds is.fine is.change.edited) (none_vacant x is.change.joiners)
-    (λ v one started. (v, make_back x.group.config x.config v text is.added is.adds is.change.edited started one, refl, tt))
+    kept_safe x w ready all (λ u. Unit {0}) (making_keeps x.group.config x.config from x.group is.added (is_started w) is.adds is.fine is.change.edited) (none_vacant x is.change.joiners)
+    (λ v one started. (v, make_back x.group.config x.config v from x.group is.added (is_started w) is.adds is.change.edited started one, refl, tt))
 
 -- ---- a disk joins
 

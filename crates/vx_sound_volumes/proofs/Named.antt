@@ -1,5 +1,5 @@
 -- Where the volumes of an edited configuration come from.
-use Rattle.std.proofs.Common.{◌≡◌, ◌≢◌, ◌∙◌, ◌⊎◌, inl, inr, ℕ, Bool, true, false, not, Option, Some, None, List, [], ◌∷◌, ◌++◌, map, refl, sym, ap, subst}
+use Rattle.std.proofs.Common.{◌≡◌, ◌≢◌, ◌∙◌, ◌⊎◌, inl, inr, Bool, true, false, not, Option, Some, None, List, [], ◌∷◌, ◌++◌, map, refl, sym, ap, subst}
 use Rattle.std.specs.Prelude.{if◌then◌else◌}
 use Rattle.std.specs.List.{cons_option, filter_map}
 use Rattle.std.specs.Str.{bytes_eq}
@@ -13,7 +13,6 @@ use Rattle.vx_config_parts.specs.declared.object.Object.TheVariants.{GroupRecord
 use Rattle.vx_config_parts.specs.declared.plex.Plex.{Plex}
 use Rattle.vx_config_parts.specs.declared.state.PlexState.{PlexState}
 use Rattle.vx_config_parts.specs.declared.state.VolState.{VolState}
-use Rattle.vx_config_parts.specs.declared.state.VolState.TheVariants as states
 use Rattle.vx_config_parts.specs.declared.vol.PolicyName.{PolicyName}
 use Rattle.vx_config_parts.specs.declared.vol.Vol.{Vol}
 use Rattle.vx_objects.specs.declared.config.Config.{Config}
@@ -28,13 +27,15 @@ use Rattle.vx_plexes.proofs.Members.{IsIn, from_map, in_either, in_one}
 use Rattle.vx_state_edits.specs.Edits.{is_new}
 use Rattle.vx_state_edits.specs.Laws.{Restates, in_state}
 use Rattle.vx_moments.specs.World.{Group}
-use Rattle.vx_stages.specs.Making.{Adds, made}
+use Rattle.vx_stages.specs.Sources.{AddsFrom}
 use Rattle.vx_stages.specs.Stages.{edits_of, policy_edit}
 use Rattle.vx_stages.specs.Tests.{recorded}
 use Rattle.vx_stages.specs.declared.stage.Change.{Change}
 use Rattle.vx_stages.specs.declared.stage.Change.TheVariants as changes
+use Rattle.vx_stages.specs.declared.stage.Source.{Source}
 use Rattle.vx_group_edits.specs.Laws.{StaysBy}
 use Rattle.vx_group_edits.proofs.ByKind.{vol_recorded}
+use Rattle.vx_group_edits.proofs.Fresh.{each_fresh}
 
 back_in : {A B : Type 0} (h : A → Option B) (xs : List A) (y : B) → IsIn (filter_map h xs) y → (x : A) × IsIn xs x × (h x ≡ Some y)
 back_in {B = B} h [] y there = absurd there
@@ -94,22 +95,13 @@ module _ (c c' : Config) (v : Vol) where
     | inr (inr never) ↦ absurd never
   ]
 
-  -- records of a text bring volumes alone that were never started
-  pub make_back : (text : List ℕ) (more : List Object) → Adds text more → IsEdited (Make more ∷ []) c c' → is_new v.state ≡ false → IsIn c'.volumes v → IsIn c.volumes v
+  -- records that are added bring volumes alone that were never started
+  pub make_back : (from : Source) (g : Group) (more : List Object) (is_started : Word → Bool) → AddsFrom from is_started g more → IsEdited (Make more ∷ []) c c' → is_new v.state ≡ false → IsIn c'.volumes v → IsIn c.volumes v
   unfolding change added
-  make_back text more (rs, all, spells, read, is_made) is started there = elim (edit_back (Make more) is there) [
+  make_back from g more is_started adds is started there = elim (edit_back (Make more) is there) [
     | inl (o, one, same) ↦ own (subst (IsIn (objects_of c)) (let e : o ≡ VolRecord v = cc in e) one)
-    | inr new ↦ let r = back_in made all (VolRecord v) (subst (λ os. IsIn os (VolRecord v)) is_made new) in absurd (false≢true (sym started ∙ is_empty r.0 r.2))
+    | inr new ↦ absurd (false≢true (sym started ∙ each_fresh from is_started g more adds (VolRecord v) new))
   ]
-    where
-      is_empty : (o : Object) → made o ≡ Some (VolRecord v) → is_new v.state ≡ true
-      is_empty (VolRecord w) e = let same : record w { state = states.Empty } ≡ v = cc in ap (λ (u : Vol). is_new u.state) (sym same)
-      is_empty (GroupRecord g) e = cc
-      is_empty (DiskRecord d) e = cc
-      is_empty (SubdiskRecord s) e = cc
-      is_empty (PlexRecord p) e = cc
-      is_empty (DcoRecord d) e = cc
-      is_empty (SnapRecord s) e = cc
 
   -- the volume was there under its name
   abbrev pub WasNamed : (Vol → Type 0) → Type 0

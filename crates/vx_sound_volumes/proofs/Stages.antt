@@ -13,9 +13,10 @@ use Rattle.vx_moments.specs.World.{Group, World}
 use Rattle.vx_stages.specs.Ends.{IsChange}
 use Rattle.vx_stages.specs.Making.{is_started}
 use Rattle.vx_stages.specs.Records.{devices_of}
-use Rattle.vx_stages.specs.Stages.{AreFree, EditsStop, IsDone, IsFree, IsJoining, IsMaking, Stops, TakingStops, Wants, edits_of, joining_edit}
+use Rattle.vx_stages.specs.Stages.{AreFree, EditsStop, IsDone, IsFree, IsJoining, Stops, TakingStops, Wants, edits_of, joining_edit}
 use Rattle.vx_stages.specs.Tests.{fails}
 use Rattle.vx_stages.specs.declared.stage.Change.{Change}
+use Rattle.vx_stages.specs.declared.stage.Source.{Source}
 use Rattle.vx_stages.specs.declared.stage.Stage.{Stage}
 use Rattle.vx_stages.specs.declared.stage.Stage.TheVariants as stage
 use Rattle.vx_stages.specs.declared.test.Test.TheVariants as tests
@@ -52,6 +53,12 @@ abbrev pub StageBrings : Stage → World → World → Type 0
 StageBrings (stage.Import dg) old new = old.group ≡ None → (g : Group) → new.group ≡ Some g → AreSoundOn new.devices g
 StageBrings other old new = Unit {0}
 
+-- records that are added
+pub make_done : (place : ℕ) (from : Source) (disks : List DiskAt) (old new : Moment) → Keeps place Every old.world → IsDone (stage.Make from) disks old new → Keeps place Every new.world
+make_done place from disks old new k (x, is, committed) =
+    change_kept place Every (Make is.added ∷ []) x old is.change k (λ u. Unit {0}) new committed (making_keeps x.group.config x.config from x.group is.added (is_started old.world) is.adds is.fine is.change.edited)
+    (λ v one of started. (v, make_back x.group.config x.config v from x.group is.added (is_started old.world) is.adds is.change.edited started one, refl, tt))
+
 module _ (laws : StateLaws) (place : ℕ) (old new : Moment) (k : Keeps place Every old.world) where
   pub same_kept : new.world ≡ old.world → Keeps place Every new.world
   same_kept same = subst (Keeps place Every) (sym same) k
@@ -64,11 +71,6 @@ module _ (laws : StateLaws) (place : ℕ) (old new : Moment) (k : Keeps place Ev
       change_kept place Every (edits_of change old.world.group) x old is k (StaysBy change) new committed (change_keeps x.group change x.config edited)
       (λ v one of started. change_back x.group change x.config v edited one)
 
-  make_done : (text : List ℕ) (x : Writing) → IsMaking text old.world x → IsCommitted x old new → Keeps place Every new.world
-  make_done text x is committed =
-      change_kept place Every (Make is.added ∷ []) x old is.change k (λ u. Unit {0}) new committed (making_keeps x.group.config x.config text is.added (is_started old.world) is.adds is.fine is.change.edited)
-      (λ v one of started. (v, make_back x.group.config x.config v text is.added is.adds is.change.edited started one, refl, tt))
-
   -- ---- a stage that is done
 
   pub stage_done : (s : Stage) (disks : List DiskAt) → Needs s disks old.world → StageBrings s old.world new.world → IsDone s disks old new → Keeps place Every new.world
@@ -76,7 +78,7 @@ module _ (laws : StateLaws) (place : ℕ) (old new : Moment) (k : Keeps place Ev
   stage_done (stage.Wipe name) disks needs brings (has, calls) = wipe_kept place old.world k name _ new.world needs.1.0 has
   stage_done (stage.StartBare vol name) disks needs brings (fresh, bare, counts) = bare_kept place old.world k vol name new.world needs.1.0 fresh bare
   stage_done (stage.Change change) disks needs brings (x, is, committed) = change_done change x is committed
-  stage_done (stage.Make text) disks needs brings (x, is, committed) = make_done text x is committed
+  stage_done (stage.Make from) disks needs brings is = make_done place from disks old new k is
   stage_done stage.Join [] needs brings is = absurd is
   stage_done stage.Join (p ∷ q ∷ ps) needs brings is = absurd is
   stage_done stage.Join (p ∷ []) needs brings (x, is, committed) = join_done place p old new k needs.0 needs.1 x is committed
@@ -120,9 +122,9 @@ module _ (laws : StateLaws) (place : ℕ) (old new : Moment) (k : Keeps place Ev
   stage_stops (stage.Wipe name) disks end needs (has, calls, ends) = wipe_kept place old.world k name _ new.world needs.1.0 has
   stage_stops (stage.StartBare vol name) disks end needs (is, ends) = same_kept ends.1.stays.world
   stage_stops (stage.Change change) disks end needs stops = edits_stop (λ g. edits_of change (Some g)) (λ x. IsChange (edits_of change old.world.group) old.world x) end (λ x is. is.group) stops
-  stage_stops (stage.Make text) disks end needs (inl (none, ends)) = same_kept ends.1.stays.world
-  stage_stops (stage.Make text) disks end needs (inr (inl (why, rests))) = same_kept rests.stays.world
-  stage_stops (stage.Make text) disks end needs (inr (inr (x, is, stopped))) = change_stops place Every (Make is.added ∷ []) x old is.change k end new stopped
+  stage_stops (stage.Make from) disks end needs (inl (none, ends)) = same_kept ends.1.stays.world
+  stage_stops (stage.Make from) disks end needs (inr (inl (why, rests))) = same_kept rests.stays.world
+  stage_stops (stage.Make from) disks end needs (inr (inr (x, is, stopped))) = change_stops place Every (Make is.added ∷ []) x old is.change k end new stopped
   stage_stops stage.Join [] end needs stops = absurd stops
   stage_stops stage.Join (p ∷ q ∷ ps) end needs stops = absurd stops
   stage_stops stage.Join (p ∷ []) end needs stops = edits_stop (λ g. joining_edit p old.world g ∷ []) (λ x. IsJoining p old.world x) end (λ x is. is.group) stops

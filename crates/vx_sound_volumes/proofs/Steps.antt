@@ -17,7 +17,7 @@ use Rattle.vx_moments.specs.Leaving.{grouped}
 use Rattle.vx_plans.specs.Plans.{disks_of, plan_of}
 use Rattle.vx_plans.specs.Steps.{DoesForm, DoesPlan, IsNotBuilt, IsTranscript, Leaves, Runs, RunsShort, WantsForm, WantsPlan, done}
 use Rattle.vx_stages.specs.Records.{devices_of}
-use Rattle.vx_stages.specs.Stages.{AreFree, IsDone, IsFree}
+use Rattle.vx_stages.specs.Stages.{AreFree, IsDone, IsFree, Stops}
 use Rattle.vx_stages.specs.Tests.{fails}
 use Rattle.vx_stages.specs.declared.stages.Finish.{Finish}
 use Rattle.vx_stages.specs.declared.stages.Plan.{Plan}
@@ -30,7 +30,7 @@ use Rattle.vx_sound_volumes.proofs.Leavings.{each_leaving}
 use Rattle.vx_sound_volumes.proofs.Lives.{next_running}
 use Rattle.vx_sound_volumes.proofs.Parts.{Every, Keeps, all_kept, group_goes, keeps_all, not_none, power_goes}
 use Rattle.vx_sound_volumes.proofs.Running.{call_kept}
-use Rattle.vx_sound_volumes.proofs.Stages.{Needs, StageBrings, StateLaws, calm_ends, same_kept, stage_done, stage_stops, stage_wants}
+use Rattle.vx_sound_volumes.proofs.Stages.{Needs, StageBrings, StateLaws, calm_ends, make_done, same_kept, stage_done, stage_stops, stage_wants}
 
 -- ---- the stages of a plan
 
@@ -47,11 +47,23 @@ telling (stage.Take name) disks old new is = is.0
 telling stage.TakeDisks disks old new is = is.0
 telling other disks old new is = tt
 
--- All stages but the last keep the world, and tell the last what it needs; an import that is done brings what is sound.
+-- A stage before others keeps the world and tells them what they need, or it adds records and they need nothing of it.
+abbrev GoesBefore : Stage → List DiskAt → World → (World → Type 0) → Type 0
+GoesBefore (stage.Make from) disks w AreNext = (mid : World) → AreNext mid
+GoesBefore other disks w AreNext = (keeps_world other ≡ true) × (Tells other disks w → AreNext w)
+
+-- All stages but the last go before the others, and the last has what it needs; an import that is done brings what is sound.
 abbrev AreReady : List Stage → List DiskAt → World → End → World → Type 0
 AreReady [] disks w end new = Unit {0}
 AreReady (s ∷ []) disks w end new = Needs s disks w × (end ≡ done → StageBrings s w new)
-AreReady (s ∷ t ∷ ss) disks w end new = (keeps_world s ≡ true) × (Tells s disks w → AreReady (t ∷ ss) disks w end new)
+AreReady (s ∷ t ∷ ss) disks w end new = GoesBefore s disks w (λ mid. AreReady (t ∷ ss) disks mid end new)
+
+-- such a stage is done, and the others go on from there
+going : (place : ℕ) (s : Stage) (disks : List DiskAt) (AreNext : World → Type 0) (old mid : Moment) → GoesBefore s disks old.world AreNext → Keeps place Every old.world → IsDone s disks old mid → AreNext mid.world × Keeps place Every mid.world
+going place (stage.Make from) disks AreNext old mid goes k is = (goes mid.world, make_done place from disks old mid k is)
+going place other disks AreNext old mid goes k is =
+    let same = sym (kept_world other disks old mid goes.0 is) in
+    (subst AreNext same (goes.1 (telling other disks old mid is)), subst (Keeps place Every) same k)
 
 abbrev IsReady : Option Plan → List DiskAt → World → End → World → Type 0
 IsReady None disks w end new = Unit {0}
@@ -84,9 +96,15 @@ module _ (dg : Option Word) (w : World) (end : End) (new : World) where
   plan_ready (form.Rdpol vol how) brings = policy_ready vol how
   plan_ready (form.RemoveVolume vol) brings = (refl, λ t. (refl, λ t. (refl, λ t. (refl, λ t. (tt, λ e. tt)))))
   plan_ready (form.VxMake text) brings = (refl, λ t. (tt, λ e. tt))
+  plan_ready (form.AssistMake vol length attrs disks) brings = (refl, λ t mid. (refl, λ u. (tt, λ e. tt)))
   plan_ready other brings = tt
 
 module _ (laws : StateLaws) (place : ℕ) where
+  -- a stage before others that ends the command
+  going_ends : (s : Stage) (disks : List DiskAt) (AreNext : World → Type 0) (old : Moment) (end : End) (new : Moment) → GoesBefore s disks old.world AreNext → Keeps place Every old.world → Stops s disks old end new → Keeps place Every new.world
+  going_ends (stage.Make from) disks AreNext old end new goes k stops = stage_stops laws place old new k (stage.Make from) disks end tt stops
+  going_ends other disks AreNext old end new goes k stops = calm_ends laws place old new k other disks end goes.0 stops
+
   runs_kept : (disks : List DiskAt) (stages : List Stage) (finish : Finish) (old : Moment) (views : List View) (end : End) (new : Moment)
       → AreReady stages disks old.world end new.world → Keeps place Every old.world → Runs disks stages finish old views end new → Keeps place Every new.world
   runs_kept disks [] finish old views end new ready k (shows, is, stays) = same_kept laws place old new k (ap (λ (m : Moment). m.world) stays)
@@ -94,9 +112,9 @@ module _ (laws : StateLaws) (place : ℕ) where
       subst (λ (m : Moment). Keeps place Every m.world) (sym stays) (stage_done laws place old mid k s disks ready.0 (subst (λ (m : Moment). StageBrings s old.world m.world) stays (ready.1 over)) is)
   runs_kept disks (s ∷ []) finish old views end new ready k (inr (none, later, stops)) = stage_stops laws place old new k s disks end ready.0 stops
   runs_kept disks (s ∷ t ∷ ss) finish old views end new ready k (inl (mid, later, is, rest)) =
-      let same = kept_world s disks old mid ready.0 is in
-      runs_kept disks (t ∷ ss) finish mid views end new (subst (λ (w : World). AreReady (t ∷ ss) disks w end new.world) (sym same) (ready.1 (telling s disks old mid is))) (same_kept laws place old mid k same) rest
-  runs_kept disks (s ∷ t ∷ ss) finish old views end new ready k (inr (none, later, stops)) = calm_ends laws place old new k s disks end ready.0 stops
+      let next = going place s disks (λ w. AreReady (t ∷ ss) disks w end new.world) old mid ready k is in
+      runs_kept disks (t ∷ ss) finish mid views end new next.0 next.1 rest
+  runs_kept disks (s ∷ t ∷ ss) finish old views end new ready k (inr (none, later, stops)) = going_ends s disks (λ w. AreReady (t ∷ ss) disks w end new.world) old end new ready k stops
 
   not_built : (old : Moment) (views : List View) (end : End) (new : Moment) → Keeps place Every old.world → IsNotBuilt old views end new → Keeps place Every new.world
   not_built old views end new k (none, is, stays) = same_kept laws place old new k (ap (λ (m : Moment). m.world) stays)
@@ -143,8 +161,8 @@ module _ (place : ℕ) where
   short_kept disks (s ∷ []) end w old new ready k (inl (mid, later, is, short)) = absurd short
   short_kept disks (s ∷ []) end w old new ready k (inr wants) = stage_wants place s old new k wants
   short_kept disks (s ∷ t ∷ ss) end w old new ready k (inl (mid, later, is, short)) =
-      let same = kept_world s disks old mid ready.0 is in
-      short_kept disks (t ∷ ss) end w mid new (subst (λ (x : World). AreReady (t ∷ ss) disks x end w) (sym same) (ready.1 (telling s disks old mid is))) (still old mid k same) short
+      let next = going place s disks (λ x. AreReady (t ∷ ss) disks x end w) old mid ready k is in
+      short_kept disks (t ∷ ss) end w mid new next.0 next.1 short
   short_kept disks (s ∷ t ∷ ss) end w old new ready k (inr wants) = stage_wants place s old new k wants
 
   plan_wants : (disks : List DiskAt) (plan : Option Plan) (end : End) (w : World) (old new : Moment) → IsReady plan disks old.world end w → Keeps place Every old.world → WantsPlan disks plan old new → Keeps place Every new.world

@@ -13,7 +13,8 @@ pub const LOG: u64 = DATA + LENGTH;
 
 pub const LOG_SECTORS: u64 = 560;
 
-/// What the blocks of a region are full of on each plex before anything was done: this, and the number of the region.
+/// What the blocks of a region are full of on the plex of each disk before anything was done: this, and the number of the region. The
+/// lowest of two plexes is on disk01.
 const LOWEST: u8 = 0x10;
 
 const OTHER: u8 = 0x20;
@@ -21,10 +22,17 @@ const OTHER: u8 = 0x20;
 /// What a log is full of before it is made.
 const OLD_LOG: u8 = 0xff;
 
-/// What leaves the volume CLEAN, and the answers.
+/// What leaves the group without a volume, and the answers.
+const TO_GROUP: &str = "vxdg init dg disk01=i0 disk02=i1\nvxdg deport dg\n";
+
+const GROUPED: &str = "ok\nok\n";
+
+/// What leaves the volume CLEAN, and the answers with several plexes and with one.
 const TO_CLEAN: &str = "vxdg import dg\nvxvol start v\nvxvol stop v\nvxdg deport dg\n";
 
 const CLEANED: &str = "ok\nok copied 3\nok\nok\n";
+
+const CLEANED_ALONE: &str = "ok\nok copied 0\nok\nok\n";
 
 /// What leaves a CLEAN volume ACTIVE, and the answers.
 const TO_ACTIVE: &str = "vxdg import dg\nvxvol start v\nwrite v 127 130 fill 31\n";
@@ -34,52 +42,102 @@ const STARTED: &str = "ok\nok copied 0\nok 0:0.1 1:0.1 2:0.1\n";
 /// The bytes of the two devices.
 pub type Images = Vec<Vec<u8>>;
 
-/// The volume EMPTY, with other bytes on each plex; CLEAN, started and stopped once; and ACTIVE, started, written and left.
+/// How the devices are as a trial begins.
+#[derive(Clone, Copy, PartialEq, Eq)]
+pub enum Base {
+    NoVolume,
+    Empty,
+    Clean,
+    Active,
+}
+
+impl Base {
+    pub fn read(word: &str) -> Option<Base> {
+        match word {
+            "NONE" => Some(Base::NoVolume),
+            "EMPTY" => Some(Base::Empty),
+            "CLEAN" => Some(Base::Clean),
+            "ACTIVE" => Some(Base::Active),
+            _ => None,
+        }
+    }
+
+    /// Whether the volume was never started.
+    pub fn is_first(self) -> bool {
+        self == Base::NoVolume || self == Base::Empty
+    }
+}
+
+/// The group without a volume, with other bytes on each plex and in the log; the volume EMPTY, with the same bytes; CLEAN, started and
+/// stopped once; and ACTIVE, started, written and left.
 #[derive(Drop)]
 pub struct Bases {
-    pub empty: Images,
-    pub clean: Images,
-    pub active: Images,
+    /// The records of the volume.
+    pub records: String,
+    none: Images,
+    empty: Images,
+    clean: Images,
+    active: Images,
 }
 
 impl Bases {
     /// The bases of a group with these records.
-    pub fn make(alloc: Global, records: &str) -> Result<Bases, Finding> {
+    pub fn make(alloc: Global, records: String) -> Result<Bases, Finding> {
+        let none = after(alloc, &blank(alloc)?, TO_GROUP, GROUPED)?;
         let script = format!(in alloc;
-            "vxdg init dg disk01=i0 disk02=i1\nvxmake -d\n{records}end\nvxdg deport dg\n"
+            "vxdg import dg\nvxmake -d\n{records}end\nvxdg deport dg\n"
         )?;
-        let blank = blank(alloc)?;
-        let empty = after(alloc, &blank, script.as_str(), "ok\nok\nok\n")?;
-        let clean = after(alloc, &empty, TO_CLEAN, CLEANED)?;
+        let empty = after(alloc, &none, script.as_str(), "ok\nok\nok\n")?;
+        let clean = after(alloc, &empty, TO_CLEAN, cleaned(records.as_str()))?;
         let active = after(alloc, &clean, TO_ACTIVE, STARTED)?;
         Ok(Bases {
+            records,
+            none,
             empty,
             clean,
             active,
         })
     }
 
-    /// The images of the volume in this state.
-    pub fn of(&self, state: VolumeState) -> &Images {
-        match state {
-            VolumeState::Empty => &self.empty,
-            VolumeState::Clean => &self.clean,
-            _ => &self.active,
+    /// The images that a trial begins with.
+    pub fn of(&self, from: Base) -> &Images {
+        match from {
+            Base::NoVolume => &self.none,
+            Base::Empty => &self.empty,
+            Base::Clean => &self.clean,
+            Base::Active => &self.active,
         }
     }
 }
 
-/// What is known of the volume as a trial begins: it holds what its lowest plex was full of, and what was written to it.
-pub fn known(alloc: Global, state: VolumeState) -> Result<Known, Finding> {
+fn cleaned(records: &str) -> &'static str {
+    if records.contains("plex v-02") {
+        CLEANED
+    } else {
+        CLEANED_ALONE
+    }
+}
+
+/// What is known of the volume as a trial begins: it holds what its lowest plex was full of, which is on the disk, and what was written
+/// to it. One that is not recorded will hold the same.
+pub fn known(alloc: Global, from: Base, disk: &str) -> Result<Known, Finding> {
+    let lowest = if disk == "disk02" { OTHER } else { LOWEST };
     let mut bytes = Vec::new(alloc);
     for block in 0..LENGTH {
-        bytes.push(fill(LOWEST, block))?;
+        bytes.push(fill(lowest, block))?;
     }
     let candidates = Candidates::new(alloc, bytes.as_slice())?;
-    if state != VolumeState::Active {
-        return Ok(Known::new(state, candidates));
+    match from {
+        Base::NoVolume => Ok(Known::new(None, candidates)),
+        Base::Empty => Ok(Known::new(Some(VolumeState::Empty), candidates)),
+        Base::Clean => Ok(Known::new(Some(VolumeState::Clean), candidates)),
+        Base::Active => started(alloc, candidates),
     }
-    let mut known = Known::new(VolumeState::Clean, candidates);
+}
+
+/// What is known of the volume once it was started, written and left.
+fn started(alloc: Global, candidates: Candidates) -> Result<Known, Finding> {
+    let mut known = Known::new(Some(VolumeState::Clean), candidates);
     let steps = steps_of(alloc, TO_ACTIVE)?;
     take_all(&mut known, steps.as_slice(), STARTED)?;
     known.end();

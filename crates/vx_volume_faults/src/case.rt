@@ -1,7 +1,7 @@
 //! Images that are changed by hand: wrong ones, of which each has to be found, and right ones beside them.
-use crate::base::{Bases, Images, LOG, copy, known, slices};
+use crate::base::{Base, Bases, Images, LOG, copy, known, slices};
 use std::alloc::{AllocError, Global};
-use vx_volume_judge::{Finding, Known, PRIVATE, VolumeState, cut, decimal, hexadecimal, judge};
+use vx_volume_judge::{Finding, Known, PRIVATE, cut, decimal, hexadecimal, judge};
 
 /// Images in a state, with what is known of them.
 #[derive(Drop)]
@@ -12,7 +12,8 @@ struct Case {
 }
 
 /// The lines that tell of each case of a file whether the judge finds of it what it has to. The file has for each case a line
-/// `case STATE TITLE`, then its changes, and a line `wanted TEXT`: what is found, or `nothing`.
+/// `case STATE TITLE`, then its changes, or a line `known STATE` where another state is known, and a line `wanted TEXT`: what is found, or
+/// `nothing`.
 pub fn told(alloc: Global, bases: &Bases, text: &str) -> Result<Vec<String>, Finding> {
     let mut told = Vec::new(alloc);
     let mut case = begun(alloc, bases, "CLEAN ")?;
@@ -22,7 +23,8 @@ pub fn told(alloc: Global, bases: &Bases, text: &str) -> Result<Vec<String>, Fin
         let (word, rest) = cut(line, ' ').ok_or(Finding::Answer(number))?;
         match word {
             "case" => case = begun(alloc, bases, rest)?,
-            "wanted" => told.push(case.told(alloc, rest)?)?,
+            "wanted" => told.push(case.told(alloc, bases, rest)?)?,
+            "known" => case.known = known_in(alloc, rest)?,
             _ => {
                 if case.change(alloc, word, rest)?.is_none() {
                     return Err(Finding::Answer(number));
@@ -36,19 +38,26 @@ pub fn told(alloc: Global, bases: &Bases, text: &str) -> Result<Vec<String>, Fin
 /// The case of these words, before its changes.
 fn begun(alloc: Global, bases: &Bases, words: &str) -> Result<Case, Finding> {
     let (state, title) = cut(words, ' ').ok_or(Finding::Records)?;
-    let state = VolumeState::read(state).ok_or(Finding::Records)?;
+    let from = Base::read(state).ok_or(Finding::Records)?;
     Ok(Case {
         title: String::from_str(alloc, title)?,
-        images: copy(alloc, bases.of(state))?,
-        known: known(alloc, state)?,
+        images: copy(alloc, bases.of(from))?,
+        known: known_in(alloc, state)?,
     })
+}
+
+/// What is known of the volume in this state.
+fn known_in(alloc: Global, state: &str) -> Result<Known, Finding> {
+    let from = Base::read(state).ok_or(Finding::Records)?;
+    known(alloc, from, "disk01")
 }
 
 impl Case {
     /// The line of the case.
-    fn told(&self, alloc: Global, wanted: &str) -> Result<String, Finding> {
+    fn told(&self, alloc: Global, bases: &Bases, wanted: &str) -> Result<String, Finding> {
         let images = slices(alloc, &self.images)?;
-        let found = match judge(alloc, images.as_slice(), &self.known) {
+        let records = bases.records.as_str();
+        let found = match judge(alloc, images.as_slice(), records, &self.known) {
             Ok(_) => String::from_str(alloc, "nothing")?,
             Err(finding) => format!(in alloc; "{finding}")?,
         };

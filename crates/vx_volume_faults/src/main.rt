@@ -40,7 +40,7 @@ fn main(rt: HostRuntime) -> io::Result<()> {
 fn try_cases<R: Files + AllocGlobal + Print>(rt: &R, cases: &str, records: &str) -> io::Result<()> {
     let records = fs::read_to_string(rt, records)?;
     let cases = fs::read_to_string(rt, cases)?;
-    let told = match Bases::make(rt.alloc(), records.as_str()) {
+    let told = match Bases::make(rt.alloc(), records) {
         Ok(bases) => case::told(rt.alloc(), &bases, cases.as_str()),
         Err(finding) => Err(finding),
     };
@@ -64,7 +64,7 @@ fn try_file<R: Files + AllocGlobal + Print>(rt: &R, file: &str) -> io::Result<()
         Err(finding) => return println!(rt; "{file}: {finding}"),
     };
     let records = fs::read_to_string(rt, scenario.records.as_str())?;
-    let bases = match Bases::make(rt.alloc(), records.as_str()) {
+    let bases = match Bases::make(rt.alloc(), records) {
         Ok(bases) => bases,
         Err(finding) => return println!(rt; "{file}: {finding}"),
     };

@@ -1,33 +1,40 @@
 //! A script and the answers that it has where nothing fails.
+use crate::base::Base;
 use std::alloc::{AllocError, Global};
-use vx_volume_judge::{Finding, Step, VolumeState, cut, decimal};
+use vx_volume_judge::{Command, Finding, Step, cut, decimal};
 
 #[derive(Drop)]
 pub struct Scenario {
     pub title: String,
     /// The file of the volume's records.
     pub records: String,
-    /// The disk of the only copy of the log; with two copies it is empty.
+    /// The disk of the only copy of the log; with two copies or none it is empty.
     pub only_log: String,
-    /// EMPTY, CLEAN or ACTIVE: the state in which the volume is recorded as the script begins.
-    pub from: VolumeState,
+    /// The disk of the only plex; with two plexes it is empty.
+    pub only_plex: String,
+    /// How the devices are as the script begins.
+    pub from: Base,
     pub steps: Vec<Step>,
     pub script: String,
+    /// The line that makes the volume; where it is recorded first it is empty.
+    pub making: String,
     /// The answers where nothing fails.
     pub wanted: String,
 }
 
 impl Scenario {
-    /// The scenario of a file: `title TEXT`, `records FILE`, `from STATE`, where the log has one copy `log DISK`, and for each step a
-    /// line `> COMMAND` and a line `< ANSWER`. In an answer `=XX*N` stands for N blocks.
+    /// The scenario of a file: `title TEXT`, `records FILE`, `from STATE` or `from NONE`, where the log has one copy `log DISK`, where
+    /// there is one plex `plex DISK`, and for each step a line `> COMMAND` and a line `< ANSWER`. In an answer `=XX*N` stands for N blocks.
     pub fn read(alloc: Global, text: &str) -> Result<Scenario, Finding> {
         let mut scenario = Scenario {
             title: String::new(alloc),
             records: String::new(alloc),
             only_log: String::new(alloc),
-            from: VolumeState::Empty,
+            only_plex: String::new(alloc),
+            from: Base::Empty,
             steps: Vec::new(alloc),
             script: String::new(alloc),
+            making: String::new(alloc),
             wanted: String::new(alloc),
         };
         let mut number = 0u64;
@@ -43,14 +50,24 @@ impl Scenario {
         Ok(scenario)
     }
 
+    /// The disk of the lowest plex.
+    pub fn lowest(&self) -> &str {
+        if self.only_plex.is_empty() {
+            "disk01"
+        } else {
+            self.only_plex.as_str()
+        }
+    }
+
     /// Takes a line. It tells whether it is one.
     fn take(&mut self, alloc: Global, word: &str, rest: &str) -> Result<bool, AllocError> {
         match word {
             "title" => self.title = String::from_str(alloc, rest)?,
             "records" => self.records = String::from_str(alloc, rest)?,
             "log" => self.only_log = String::from_str(alloc, rest)?,
+            "plex" => self.only_plex = String::from_str(alloc, rest)?,
             "from" => return Ok(self.begin(rest)),
-            ">" => return self.command(rest),
+            ">" => return self.command(alloc, rest),
             "<" => self.answer(rest)?,
             _ => return Ok(false),
         }
@@ -58,9 +75,9 @@ impl Scenario {
     }
 
     fn begin(&mut self, state: &str) -> bool {
-        match VolumeState::read(state) {
-            Some(state) => {
-                self.from = state;
+        match Base::read(state) {
+            Some(from) => {
+                self.from = from;
                 true
             }
             None => false,
@@ -68,10 +85,13 @@ impl Scenario {
     }
 
     /// Adds a step.
-    fn command(&mut self, line: &str) -> Result<bool, AllocError> {
+    fn command(&mut self, alloc: Global, line: &str) -> Result<bool, AllocError> {
         let Some(step) = Step::read(line) else {
             return Ok(false);
         };
+        if step.command == Command::Make {
+            self.making = String::from_str(alloc, line)?;
+        }
         self.steps.push(step)?;
         self.script.push_str(line)?;
         self.script.push('\n')?;

@@ -1,12 +1,12 @@
 //! A fault that is moved along all device calls of a script.
-use crate::base::{Bases, DATA, LENGTH, LOG, LOG_SECTORS, known, slices};
+use crate::base::{Base, Bases, DATA, LENGTH, LOG, LOG_SECTORS, known, slices};
 use crate::later::go_on;
 use crate::scenario::Scenario;
 use crate::trial::run_on;
 use std::alloc::Global;
 use std::fmt;
 use vx_piece::Bad;
-use vx_volume_judge::{Answer, Finding, PRIVATE, Sort, VolumeState, judge_status, take_all};
+use vx_volume_judge::{Answer, Finding, PRIVATE, Sort, judge_status, take_all};
 
 /// The most calls that a fault is moved along.
 const CALLS: u64 = 2_000;
@@ -133,10 +133,10 @@ fn try_call(
     let has_failed = ran.has_failed()?;
     judge_status(ran.answers(), ran.status)?;
     judge_answers(scenario, place, has_failed, ran.answers())?;
-    let mut known = known(alloc, scenario.from)?;
+    let mut known = known(alloc, scenario.from, scenario.lowest())?;
     known.log_failed = place.on_write && place.part == Part::Log;
     take_all(&mut known, scenario.steps.as_slice(), ran.answers())?;
-    go_on(alloc, &ran, &mut known)?;
+    go_on(alloc, bases, scenario, &ran, &mut known)?;
     Ok(has_failed)
 }
 
@@ -177,19 +177,19 @@ fn may_be(scenario: &Scenario, place: Place, is_first: bool, line: &str) -> bool
 }
 
 /// Whether an answer may tell the fault. A disk whose private region fails is dropped. A read of data has another plex, and so has a
-/// write of it; but the first start copies from one plex to the other. A write of the log is done on each copy, and a read of it has
-/// another copy, or there is no log.
+/// write of it, unless there is one plex; but the first start copies from one plex to the other. A write of the log is done on each copy,
+/// and a read of it has another copy, or there is no log.
 fn may_fail(scenario: &Scenario, place: Place) -> bool {
     match place.part {
         Part::Private => false,
-        Part::Data => scenario.from == VolumeState::Empty,
+        Part::Data => scenario.from.is_first() || is_only_plex(scenario, place),
         Part::Log => place.on_write,
     }
 }
 
 /// Whether an answer may be refused, before which all were as wanted: an import that cannot read a private region; a start of a
-/// volume whose only log, or whose lowest plex where it is the first, lies on a disk that the import has dropped; and a start that
-/// cannot read the only log.
+/// volume whose only log, or whose lowest plex where it is the first, lies on a disk that the import has dropped, or the commit that made
+/// the volume; the making of one that would need a disk which the import has dropped; and a start that cannot read the only log.
 fn may_refuse(scenario: &Scenario, place: Place, refusal: &str) -> bool {
     match place.part {
         Part::Private if place.on_write => may_lack(scenario, place, refusal),
@@ -199,15 +199,21 @@ fn may_refuse(scenario: &Scenario, place: Place, refusal: &str) -> bool {
     }
 }
 
-/// Whether a start may be refused so where the import has dropped the disk.
+/// Whether a start or a making may be refused so where a commit has dropped the disk.
 fn may_lack(scenario: &Scenario, place: Place, refusal: &str) -> bool {
     match refusal {
         "no log v" => is_only_log(scenario, place),
-        "no current 0" => scenario.from == VolumeState::Empty && place.disk == "disk01",
+        "no current 0" => scenario.from.is_first() && place.disk == scenario.lowest(),
+        "too few disks 1" => scenario.from == Base::NoVolume && is_only_plex(scenario, place),
+        "too few disks 2" => scenario.from == Base::NoVolume && scenario.only_plex.is_empty(),
         _ => false,
     }
 }
 
 fn is_only_log(scenario: &Scenario, place: Place) -> bool {
     scenario.only_log.as_str() == place.disk
+}
+
+fn is_only_plex(scenario: &Scenario, place: Place) -> bool {
+    scenario.only_plex.as_str() == place.disk
 }

@@ -13,8 +13,12 @@ pub enum Finding {
     Copies,
     /// No image has a configuration, or its text is none of records.
     Configuration,
-    /// The records do not describe a volume of plexes of one column, with a log.
+    /// The records do not describe a volume of plexes of one column, or are not those that it was made with.
     Records,
+    /// The volume is recorded, and must not be.
+    Recorded,
+    /// The volume is not recorded, and has to be.
+    NotRecorded,
     /// The volume is recorded in a state in which it cannot be.
     VolumeState,
     /// A plex is recorded in a state in which it cannot be.
@@ -41,6 +45,8 @@ impl Finding {
             Finding::Copies => "a copy of the configuration is damaged",
             Finding::Configuration => "there is no configuration",
             Finding::Records => "the records are others",
+            Finding::Recorded => "the volume is recorded",
+            Finding::NotRecorded => "the volume is not recorded",
             Finding::VolumeState => "the volume is in another state",
             Finding::PlexState => "a plex is in another state",
             Finding::NoUnmarked(_) => "no plex is unmarked in region",

@@ -27,15 +27,29 @@ pub struct Known {
 }
 
 impl Known {
-    /// Of a volume in this state, whose group is not imported.
-    pub fn new(state: VolumeState, candidates: Candidates) -> Known {
+    /// Of a volume in this state, or one that is not recorded, whose group is not imported.
+    pub fn new(state: Option<VolumeState>, candidates: Candidates) -> Known {
+        let states = match state {
+            Some(state) => States::none().and(state),
+            None => States::unrecorded(),
+        };
         Known {
             candidates,
             log_failed: false,
-            states: States::none().and(state),
+            states,
             imported: Is::Not,
             runs: Is::Not,
         }
+    }
+
+    /// Whether the volume may be recorded.
+    pub fn may_be_recorded(&self) -> bool {
+        self.states.may_be_recorded()
+    }
+
+    /// Whether the volume may not be recorded.
+    pub fn may_be_unrecorded(&self) -> bool {
+        self.states.may_be_unrecorded()
     }
 
     /// Whether the volume may be recorded so.
@@ -54,6 +68,7 @@ impl Known {
         match step.command {
             Command::Import => self.import(answer),
             Command::Deport => self.deport(answer),
+            Command::Make => self.make(answer),
             Command::Start => self.start(answer),
             Command::Stop => self.stop(answer),
             Command::Read => self.read(step, answer),
@@ -105,12 +120,51 @@ impl Known {
         }
     }
 
+    // ---- the volume is made
+
+    /// Its records are added by a commit, EMPTY, and then it is started.
+    fn make(&mut self, answer: Answer<'_>) -> bool {
+        let may_be = self.imported == Is::So && self.states.may_be_unrecorded();
+        match answer.sort {
+            Sort::Ok => {
+                self.states = States::none().and(VolumeState::Active);
+                self.runs = Is::So;
+                may_be
+            }
+            Sort::Refused => self.refuses_make(may_be, answer.rest),
+            Sort::Fault if answer.name != "group" => {
+                self.states = States::none()
+                    .and(VolumeState::Empty)
+                    .and(VolumeState::Active);
+                self.runs = Is::Unsure;
+                may_be
+            }
+            Sort::Fault | Sort::Lost => {
+                self.states = self.states.and(VolumeState::Empty).and(VolumeState::Active);
+                self.end();
+                may_be
+            }
+        }
+    }
+
+    /// Whether a volume that may be made may be refused so, or the group is not there. What the start refuses is recorded.
+    fn refuses_make(&mut self, may_be: bool, refusal: &str) -> bool {
+        match refusal {
+            "no log v" | "no current 0" => {
+                self.states = States::none().and(VolumeState::Empty);
+                may_be
+            }
+            "no group -" => self.imported != Is::So,
+            _ => may_be && refusal.starts_with("too few disks "),
+        }
+    }
+
     // ---- the volume's start and stop
 
     fn start(&mut self, answer: Answer<'_>) -> bool {
         match answer.sort {
             Sort::Ok => {
-                let may_be = self.imported == Is::So && self.runs != Is::So;
+                let may_be = self.is_there() && self.runs != Is::So;
                 self.states = States::none().and(VolumeState::Active);
                 self.runs = Is::So;
                 may_be
@@ -119,7 +173,7 @@ impl Known {
             Sort::Fault if answer.name != "group" => {
                 self.runs = Is::Unsure;
                 self.states = self.states.and(VolumeState::Active);
-                self.imported == Is::So
+                self.is_there()
             }
             Sort::Fault | Sort::Lost => {
                 self.end();
@@ -151,11 +205,19 @@ impl Known {
         }
     }
 
+    /// Whether the group is imported and the volume may be recorded.
+    fn is_there(&self) -> bool {
+        self.imported == Is::So && self.states.may_be_recorded()
+    }
+
     /// Whether a start or a stop may be refused so.
     fn refuses(&self, refusal: &str) -> bool {
+        if refusal == "no object v" {
+            return self.imported == Is::So && self.states.may_be_unrecorded();
+        }
         match refusal.strip_prefix("state ") {
             Some(word) => self.may_be_called(word),
-            None => self.imported == Is::So || refusal.starts_with("no group"),
+            None => self.is_there() || refusal.starts_with("no group"),
         }
     }
 

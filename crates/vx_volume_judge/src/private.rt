@@ -38,10 +38,15 @@ pub fn is_disk(image: &[u8]) -> bool {
         && are_zero(part(header, 96, 416))
 }
 
+/// The slot in the header of an image.
+pub fn slot_of(image: &[u8]) -> u64 {
+    field(image, 72, 1)
+}
+
 /// Whether the header of an image has this name and this slot.
 pub fn is_named(image: &[u8], name: &str, slot: u64) -> bool {
     match sectors(image, 0, 1) {
-        Some(header) => field(header, 72, 1) == slot && spells(part(header, 40, 32), name),
+        Some(header) => slot_of(header) == slot && spells(part(header, 40, 32), name),
         None => false,
     }
 }

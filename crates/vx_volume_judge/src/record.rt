@@ -19,6 +19,21 @@ impl<'a> Attribute<'a> {
         self.kind == kind && self.name == name && self.attribute == attribute
     }
 
+    /// Whether it is one of a volume, or of what belongs to a volume.
+    pub fn is_volume(&self) -> bool {
+        self.kind != "dg" && self.kind != "dm"
+    }
+
+    /// Whether no command changes it that a volume knows.
+    fn is_lasting(&self) -> bool {
+        self.is_volume() && self.attribute != "state"
+    }
+
+    /// Whether it says the same of the same record.
+    fn is_same(&self, other: &Attribute<'_>) -> bool {
+        self.is(other.kind, other.name, other.attribute) && self.value == other.value
+    }
+
     /// Whether it says this of a record of this kind.
     pub fn says(&self, kind: &str, attribute: &str, value: &str) -> bool {
         self.kind == kind && self.attribute == attribute && self.value == value
@@ -47,6 +62,20 @@ pub fn read(alloc: Global, text: &[u8]) -> Result<Vec<Attribute<'_>>, Finding> {
         }
     }
     Ok(attributes)
+}
+
+/// Whether the records of volumes are those of another text, but for the states.
+pub fn are_alike(attributes: &[Attribute<'_>], others: &[Attribute<'_>]) -> bool {
+    let mut rest = others.iter().filter(|other| other.is_lasting());
+    for one in attributes {
+        if one.is_lasting() {
+            match rest.next() {
+                Some(other) if one.is_same(other) => {}
+                _ => return false,
+            }
+        }
+    }
+    rest.next().is_none()
 }
 
 /// The value of an attribute of a record.

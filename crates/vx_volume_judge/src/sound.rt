@@ -71,10 +71,10 @@ fn is_surely_marked(volume: &Volume, plex: &Plex) -> bool {
     false
 }
 
-/// Whether some copy marks the plex in some region, or there is none that would tell.
+/// Whether some copy marks the plex in some region, or the log has none that would tell.
 fn may_be_marked(volume: &Volume, plex: &Plex) -> bool {
     if volume.copies() == 0 {
-        return true;
+        return volume.is_logged();
     }
     for region in 0..volume.regions() {
         if has(volume.possible(region), plex.map) {
@@ -198,7 +198,7 @@ fn is_read(volume: &Volume, plex: &Plex, region: u64) -> bool {
     if volume.state == VolumeState::Empty {
         return volume.is_lowest(plex);
     }
-    let is_alone = volume.copies() == 0 && volume.plexes.len() == 1;
+    let is_alone = !volume.is_logged() && volume.plexes.len() == 1;
     plex.is_available() && (is_alone || !has(volume.sure(region), plex.map))
 }
 

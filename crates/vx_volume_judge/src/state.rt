@@ -50,9 +50,10 @@ impl PlexState {
     }
 }
 
-/// A set of states in which a volume may be recorded.
+/// A set of states in which a volume may be recorded. It may have that the volume is not recorded.
 #[derive(Clone, Copy)]
 pub struct States {
+    unrecorded: bool,
     empty: bool,
     clean: bool,
     active: bool,
@@ -63,10 +64,19 @@ impl States {
     /// No state.
     pub fn none() -> States {
         States {
+            unrecorded: false,
             empty: false,
             clean: false,
             active: false,
             need_sync: false,
+        }
+    }
+
+    /// The volume is not recorded.
+    pub fn unrecorded() -> States {
+        States {
+            unrecorded: true,
+            ..States::none()
         }
     }
 
@@ -93,6 +103,16 @@ impl States {
         }
     }
 
+    /// Whether the volume may be recorded.
+    pub fn may_be_recorded(self) -> bool {
+        self.empty || self.clean || self.may_be_started()
+    }
+
+    /// Whether the volume may not be recorded.
+    pub fn may_be_unrecorded(self) -> bool {
+        self.unrecorded
+    }
+
     /// Whether some state is one of a volume that was started as its bytes were left.
     pub fn may_be_started(self) -> bool {
         self.active || self.need_sync
@@ -101,10 +121,9 @@ impl States {
     /// The states that an import leaves: what was started is recorded as one that has to be made equal.
     pub fn imported(self) -> States {
         States {
-            empty: self.empty,
-            clean: self.clean,
             active: false,
             need_sync: self.may_be_started(),
+            ..self
         }
     }
 }

@@ -1,11 +1,13 @@
 //! What a line of a script does, and what its answer says.
 use crate::bytes::{cut, decimal, hexadecimal};
+use crate::making::Making;
 
 /// What is done to the volume `v` or the group `dg`.
 #[derive(Clone, Copy, PartialEq, Eq)]
 pub enum Command {
     Import,
     Deport,
+    Make,
     Start,
     Stop,
     Read,
@@ -29,6 +31,7 @@ impl Step {
             "vxdg deport dg" => Some(Step::plain(Command::Deport)),
             "vxvol start v" => Some(Step::plain(Command::Start)),
             "vxvol stop v" => Some(Step::plain(Command::Stop)),
+            _ if Making::read(line).is_some() => Some(Step::plain(Command::Make)),
             _ => Step::read_call(line),
         }
     }

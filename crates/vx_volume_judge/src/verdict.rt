@@ -2,19 +2,41 @@
 use crate::bytes::has;
 use crate::finding::Finding;
 use crate::known::Known;
+use crate::making::Making;
+use crate::private::newest;
 use crate::sound::look;
 use crate::state::VolumeState;
 use crate::volume::{Plex, Volume, volume_on};
 use std::alloc::{AllocError, Global};
 
-/// The volume on these images, which is as it has to be by what is known.
-pub fn judge(alloc: Global, images: &[&[u8]], known: &Known) -> Result<Volume, Finding> {
-    let volume = volume_on(alloc, images)?;
+/// The volume on these images, which is as it has to be by what is known. It is None where it is not recorded, and need not be. Its
+/// records are these, but for the states.
+pub fn judge(
+    alloc: Global,
+    images: &[&[u8]],
+    records: &str,
+    known: &Known,
+) -> Result<Option<Volume>, Finding> {
+    let Some(volume) = volume_on(alloc, images, records)? else {
+        return unrecorded(known);
+    };
+    if !known.may_be_recorded() {
+        return Err(Finding::Recorded);
+    }
     if !known.may_be(volume.state) {
         return Err(Finding::VolumeState);
     }
     look(&volume, &known.candidates, known.log_failed)?;
-    Ok(volume)
+    Ok(Some(volume))
+}
+
+/// No volume is recorded.
+fn unrecorded(known: &Known) -> Result<Option<Volume>, Finding> {
+    if known.may_be_unrecorded() {
+        Ok(None)
+    } else {
+        Err(Finding::NotRecorded)
+    }
 }
 
 /// The status is 0 where each answer is ok, else 5.
@@ -36,16 +58,15 @@ fn is_ok(line: &str) -> bool {
     line.starts_with("ok")
 }
 
-/// The import is done, the start is answered as what the disks hold wants it, and where it is done so is all behind it.
-pub fn judge_start(alloc: Global, volume: &Volume, answers: &str) -> Result<(), Finding> {
-    let wanted = start_of(alloc, volume)?;
+/// The import is done, what starts the volume is answered so, and where that is done so is all behind it.
+pub fn judge_next(wanted: &str, answers: &str) -> Result<(), Finding> {
     let mut number = 0u64;
     for line in answers.lines() {
         number = number.saturating_add(1);
         let fits = match number {
             1 => line == "ok",
-            2 => line == wanted.as_str(),
-            _ => is_ok(line) || !is_ok(wanted.as_str()),
+            2 => line == wanted,
+            _ => is_ok(line) || !is_ok(wanted),
         };
         if !fits {
             return Err(Finding::Answer(number));
@@ -54,7 +75,25 @@ pub fn judge_start(alloc: Global, volume: &Volume, answers: &str) -> Result<(), 
     Ok(())
 }
 
-/// The answer of a start of the volume as its disks hold it, once its group was imported.
+/// The answer of what starts the volume, once its group was imported: of its start as its disks hold it, or where it is not recorded of
+/// the line that makes it.
+pub fn answer_of(
+    alloc: Global,
+    images: &[&[u8]],
+    volume: &Option<Volume>,
+    line: &str,
+) -> Result<String, Finding> {
+    if let Some(volume) = volume {
+        return Ok(start_of(alloc, volume)?);
+    }
+    let good = newest(images)?.good;
+    match Making::read(line) {
+        Some(making) => Ok(making.answer(alloc, images, good)?),
+        None => Err(Finding::NotRecorded),
+    }
+}
+
+/// The answer of a start of the volume as its disks hold it.
 fn start_of(alloc: Global, volume: &Volume) -> Result<String, AllocError> {
     match volume.state {
         VolumeState::Empty => first_start_of(alloc, volume),
@@ -63,9 +102,10 @@ fn start_of(alloc: Global, volume: &Volume) -> Result<String, AllocError> {
     }
 }
 
-/// Of one that was never started: a log has to lie on good disks, and the lowest plex; then each other available plex is copied to.
+/// Of one that was never started: where it has a log one has to lie on good disks, and so has the lowest plex; then each other available
+/// plex is copied to.
 fn first_start_of(alloc: Global, volume: &Volume) -> Result<String, AllocError> {
-    if !has_held_log(volume) {
+    if volume.is_logged() && !has_held_log(volume) {
         return String::from_str(alloc, "refused no log v");
     }
     if !is_lowest_available(volume) {
@@ -95,14 +135,26 @@ fn is_lowest_available(volume: &Volume) -> bool {
     false
 }
 
-/// Of one that was stopped: the first copy of the log that counts has to leave an available plex unmarked in each region.
+/// Of one that was stopped: the first copy of the log that counts has to leave an available plex unmarked in each region. Without a log
+/// a plex has to be available.
 fn later_start_of(alloc: Global, volume: &Volume) -> Result<String, AllocError> {
+    if !volume.is_logged() {
+        return unlogged_start_of(alloc, volume);
+    }
     let Some(log) = first_copy(volume) else {
         return String::from_str(alloc, "refused no log v");
     };
     match first_not_current(volume, log) {
         Some(region) => format!(in alloc; "refused no current {region}"),
         None => String::from_str(alloc, "ok copied 0"),
+    }
+}
+
+fn unlogged_start_of(alloc: Global, volume: &Volume) -> Result<String, AllocError> {
+    if volume.available() == 0 {
+        String::from_str(alloc, "refused no current 0")
+    } else {
+        String::from_str(alloc, "ok copied 0")
     }
 }
 

@@ -1,9 +1,9 @@
 //! The volume as the bytes of its disks are: its plexes with what they hold, and the copies of its log that count. It is read by
 //! the formats alone.
-use crate::bytes::{are_zero, field, has, only, part, sectors};
+use crate::bytes::{are_zero, decimal, field, has, only, part, sectors};
 use crate::finding::Finding;
 use crate::private::{PRIVATE, is_disk, is_named, newest};
-use crate::record::{Attribute, figure, read, value};
+use crate::record::{Attribute, are_alike, figure, read, value};
 use crate::state::{PlexState, VolumeState};
 use std::alloc::Global;
 
@@ -16,7 +16,7 @@ const MAPS: u64 = 32;
 /// A plex, of data or of the log.
 #[derive(Drop)]
 pub struct Plex {
-    /// The map that marks it: of a log none, and a number behind all.
+    /// The map that marks it: of a log, and where there is no log, none, and a number behind all.
     pub map: u64,
     pub state: PlexState,
     /// Whether all its disks are good.
@@ -38,8 +38,13 @@ pub struct Volume {
 
 // ---- from the records and the disks
 
-/// The volume `v` of the group that these images are the disks of.
-pub fn volume_on(alloc: Global, images: &[&[u8]]) -> Result<Volume, Finding> {
+/// The volume `v` of the group that these images are the disks of, where it is recorded. Its records are these, but for the states, and
+/// there are no others.
+pub fn volume_on(
+    alloc: Global,
+    images: &[&[u8]],
+    records: &str,
+) -> Result<Option<Volume>, Finding> {
     let offer = newest(images)?;
     for image in images {
         if !is_disk(image) {
@@ -47,12 +52,29 @@ pub fn volume_on(alloc: Global, images: &[&[u8]]) -> Result<Volume, Finding> {
         }
     }
     let attributes = read(alloc, offer.text)?;
+    if !has_volume(attributes.as_slice()) {
+        return Ok(None);
+    }
+    let wanted = read(alloc, records.as_bytes())?;
+    if !are_alike(attributes.as_slice(), wanted.as_slice()) {
+        return Err(Finding::Records);
+    }
     let group = Group {
         attributes: attributes.as_slice(),
         images,
         good: offer.good,
     };
-    group.volume(alloc)
+    Ok(Some(group.volume(alloc)?))
+}
+
+/// Whether something is recorded beside the group and its disks.
+fn has_volume(attributes: &[Attribute<'_>]) -> bool {
+    for one in attributes {
+        if one.is_volume() {
+            return true;
+        }
+    }
+    false
 }
 
 /// A configuration with the disks that it lies on.
@@ -94,10 +116,18 @@ impl<'g, 'a> Group<'g, 'a> {
         if self.value("plex", name, "kind")? == "log" {
             volume.logs.push(self.plex(alloc, name, u64::MAX)?)?;
         } else {
-            let map = self.number("plex", name, "map")?;
+            let map = self.map(name)?;
             volume.plexes.push(self.plex(alloc, name, map)?)?;
         }
         Ok(())
+    }
+
+    /// The map of a data plex.
+    fn map(&self, name: &str) -> Result<u64, Finding> {
+        match self.value("plex", name, "map")? {
+            "-" => Ok(u64::MAX),
+            word => decimal(word).ok_or(Finding::Records),
+        }
     }
 
     /// A plex of one column: its subdisks lie in it one behind the other.
@@ -216,6 +246,11 @@ impl Volume {
             return false;
         }
         field(header, 24, 4) == MAPS && are_zero(part(header, 28, 484))
+    }
+
+    /// Whether it has a log, be it on good disks or not.
+    pub fn is_logged(&self) -> bool {
+        !self.logs.is_empty()
     }
 
     /// How many copies of the log count.

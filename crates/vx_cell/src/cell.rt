@@ -109,6 +109,14 @@ impl<P: Piece> Cell<P> {
         self.epoch = epoch;
     }
 
+    /// Makes the marks of the region these, as the log claims them once one of its maps was set. For use between calls.
+    pub fn set_marks(&mut self, bits: u64)
+        ensures marks { cell_seen P.seen self.new ≡ record (cell_seen P.seen self.old) { stage = record (cell_seen P.seen self.old).stage { bits = bits } } }
+        ensures room { HasRoom self.old → HasRoom self.new }
+    {
+        self.stage.bits = bits;
+    }
+
     /// Kills the cell, as the event of a cut does without a device call: each later call answers that the power is gone.
     pub fn kill(&mut self)
         ensures cut { cell_seen P.seen self.new ≡ record (cell_seen P.seen self.old) { stage = (next_of (cell_seen P.seen self.old).stage Cut).0 } }

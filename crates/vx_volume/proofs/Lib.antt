@@ -1,5 +1,6 @@
 pub mod Arms
 pub mod Buffers
+pub mod Downwards
 pub mod Entries
 pub mod Histories
 pub mod Loops
@@ -9,8 +10,10 @@ pub mod Openings
 pub mod PartEntries
 pub mod Parts
 pub mod PassHistories
+pub mod Puttings
 pub mod Ranges
 pub mod Regions
+pub mod Remarks
 pub mod Retellings
 pub mod Schedules
 pub mod Steps

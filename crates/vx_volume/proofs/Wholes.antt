@@ -56,19 +56,19 @@ not_lent seen (Maps store) = refl
 
 -- ---- a phase in which no job is under way
 
-idle_form : (s : Stage) (phase : Phase) → IsIdle phase → FormIn s phase
+pub idle_form : (s : Stage) (phase : Phase) → IsIdle phase → FormIn s phase
 idle_form s Settled idle = tt
 idle_form s Unsettled idle = tt
 idle_form s Dead idle = tt
 idle_form s (Busy w) idle = absurd idle
 
-idle_marked : (s : Stage) (phase : Phase) → IsIdle phase → MarkedIn s phase
+pub idle_marked : (s : Stage) (phase : Phase) → IsIdle phase → MarkedIn s phase
 idle_marked s Settled idle = tt
 idle_marked s Unsettled idle = tt
 idle_marked s Dead idle = tt
 idle_marked s (Busy w) idle = absurd idle
 
-idle_freeing : (phase : Phase) (k : ℕ) → IsIdle phase → freeing phase k ≡ false
+pub idle_freeing : (phase : Phase) (k : ℕ) → IsIdle phase → freeing phase k ≡ false
 idle_freeing Settled k idle = refl
 idle_freeing Unsettled k idle = refl
 idle_freeing Dead k idle = refl

@@ -1,5 +1,5 @@
 -- What calls on a volume mean for the histories of its regions.
-use Rattle.std.specs.Prelude.{◌≡◌, ◌≢◌, ◌⊎◌, ℕ, ◌+◌, ◌/◌, ◌<◌, ◌≤◌, ◌==◌, Bool, true, false, if◌then◌else◌, List, [], ◌∷◌, ◌++◌, length, map, Option, Some, None, Result, Err}
+use Rattle.std.specs.Prelude.{◌≡◌, ◌≢◌, ◌⊎◌, ◌||◌, ℕ, ◌+◌, ◌/◌, ◌<◌, ◌≤◌, ◌==◌, Bool, true, false, if◌then◌else◌, List, [], ◌∷◌, ◌++◌, length, map, Option, Some, None, Result, Ok, Err, OnErr}
 use Rattle.vx_base.specs.Blocks.{Contents}
 use Rattle.vx_block.specs.declared.geometry.Span.{Span}
 use Rattle.vx_block.specs.Regions.{part_at}
@@ -17,6 +17,11 @@ use Rattle.vx_core.specs.Table.{next_of}
 use Rattle.vx_core_laws.specs.Course.{EachFits}
 use Rattle.vx_core_laws.specs.Tracking.{Notes, no_notes, notes_of, was_torn, was_written}
 use Rattle.vx_marks.specs.Log.{KeepsLog, LogSeen, OnMarks}
+use Rattle.vx_marks.specs.declared.marker.MarkFault.{MarkFault}
+use Rattle.vx_mask.specs.Mask.{has, only}
+use Rattle.vx_pages.specs.Items.{item_at}
+use Rattle.vx_piece.specs.Seen.{Seen}
+use Rattle.vx_runs.specs.Run.{RunTells}
 use Rattle.vx_cell.specs.declared.fault.CellFault.{CellFault}
 use Rattle.vx_cell.specs.declared.fault.CellFault.TheVariants.{Fault, PowerLost, Held, Only}
 use Rattle.vx_cell.specs.Region.{IsTold, RegionSeen, StandsFor, Tells, TidiesOthers, state_of}
@@ -26,6 +31,7 @@ use Rattle.vx_volume.specs.declared.fault.IoFault.{IoFault}
 use Rattle.vx_volume.specs.declared.fault.IoFault.TheVariants as io
 use Rattle.vx_volume.specs.declared.receipt.Receipt.{Receipt}
 use Rattle.vx_volume.specs.Calls.{ChangesRegion, ReadEnds, WriteEndsAll, bytes_of, io_stop, parts_in}
+use Rattle.vx_volume.specs.Changing.{IsFreeIn, IsKnownMap, IsPlexFor, PutsPlex, SetsMap}
 use Rattle.vx_volume.specs.Loop.{AreMade}
 use Rattle.vx_volume.specs.Passes.{CopyEnds, IsClearedAt, IsCopiedAt, IsSettledAt, PassEnds}
 use Rattle.vx_volume.specs.Volume.{IsVolume, VolumeSeen, cell_at, region_at}
@@ -264,3 +270,41 @@ EachGoingIsScheduled =
     (old new : VolumeSeen) (fixed : ℕ → Fixed) (entries entries' : ℕ → List Entry) → RegionsGoOn old new fixed entries entries' →
     (states : ℕ → RegionState) → AreStatesOf old fixed entries states →
     (schedule : List (ℕ × Happening)) × AllFit schedule states × AreStatesOf new fixed entries' (run schedule states) × ((r : ℕ) → length old.cells ≤ r → run schedule states r ≡ states r)
+
+-- ---- what is done between calls
+
+-- What the regions stand for they stand for when a free map was set. Where that failed, it was known what the log claims of it.
+abbrev pub EachSettingStands : Type 0
+EachSettingStands =
+    (map : ℕ) (bits : ℕ → Bool) (result : Result (Unit {0}) MarkFault) (old new : VolumeSeen) → SetsMap map bits result old new →
+    IsVolume old → IsFreeIn map old → AreTold old → OnErr result (IsKnownMap map old) →
+    (fixed : ℕ → Fixed) (entries : ℕ → List Entry) → StandFor old fixed entries → StandFor new fixed entries
+
+-- What is told stays told then, ..
+abbrev pub EachSettingTells : Type 0
+EachSettingTells = (map : ℕ) (bits : ℕ → Bool) (result : Result (Unit {0}) MarkFault) (old new : VolumeSeen) → SetsMap map bits result old new → AreTold old → AreTold new
+
+-- .. and after Ok each region has the mark that was asked for.
+abbrev pub EachSettingMarks : Type 0
+EachSettingMarks =
+    (map : ℕ) (bits : ℕ → Bool) (old new : VolumeSeen) → SetsMap map bits (Ok tt) old new → IsVolume old → IsFreeIn map old →
+    (r : ℕ) → r < length new.cells → has (cell_at new r).stage.bits map ≡ bits r
+
+-- Whatever the answer, each region's mark of the map is what the log claims then.
+abbrev pub EachSettingKnows : Type 0
+EachSettingKnows = (map : ℕ) (bits : ℕ → Bool) (result : Result (Unit {0}) MarkFault) (old new : VolumeSeen) → SetsMap map bits result old new → IsFreeIn map old → IsKnownMap map new
+
+-- what is fixed, with the plex
+abbrev pub with_plex : ℕ → Fixed → Fixed
+with_plex map fixed = record fixed { held = λ k. fixed.held k || has (only map) k }
+
+-- What the regions stand for they stand for with a marked plex that was put in.
+abbrev pub EachPuttingStands : Type 0
+EachPuttingStands =
+    (map : ℕ) (runs : List (List Seen)) (old new : VolumeSeen) → PutsPlex map runs old new → IsVolume old → IsFreeIn map old → IsPlexFor map runs old →
+    (fixed : ℕ → Fixed) (entries : ℕ → List Entry) → StandFor old fixed entries → StandFor new (λ r. with_plex map (fixed r)) entries
+
+-- What is told stays told where the pieces of the plex tell.
+abbrev pub EachPuttingTells : Type 0
+EachPuttingTells =
+    (map : ℕ) (runs : List (List Seen)) (old new : VolumeSeen) → PutsPlex map runs old new → ((r : ℕ) → r < length old.cells → RunTells (item_at [] runs r)) → AreTold old → AreTold new

@@ -6,5 +6,6 @@ pub mod Calls
 pub mod Passes
 pub mod Opening
 pub mod Arming
+pub mod Changing
 pub mod Laws
 pub mod Retelling

@@ -1,7 +1,7 @@
 //! Laws of calls on volumes, each a function with an empty body whose contract states it.
 
 ghost use Rattle.vx_volume.specs.Calls.{IsRead, IsWritten};
-ghost use Rattle.vx_volume.specs.Laws.{CallOfRegionGoesOn, CalledGoesOn, CopyPassGoesOn, EachClearingGoesOn, EachClearingOfRegionGoesOn, EachCopyGoesOn, EachCopyOfRegionGoesOn, EachCourseIsNoted, EachGoingGoesOn, EachGoingIsScheduled, EachGoingStands, EachOtherGoesOn, EachReadOfVolumeGoesOn, EachSettlingGoesOn, EachSettlingOfRegionGoesOn, EachWriteOfVolumeGoesOn, MayTellRead, MayTellWrite, PassGoesOn};
+ghost use Rattle.vx_volume.specs.Laws.{CallOfRegionGoesOn, CalledGoesOn, CopyPassGoesOn, EachClearingGoesOn, EachClearingOfRegionGoesOn, EachCopyGoesOn, EachCopyOfRegionGoesOn, EachCourseIsNoted, EachGoingGoesOn, EachGoingIsScheduled, EachGoingStands, EachOtherGoesOn, EachPuttingStands, EachPuttingTells, EachReadOfVolumeGoesOn, EachSettingKnows, EachSettingMarks, EachSettingStands, EachSettingTells, EachSettlingGoesOn, EachSettlingOfRegionGoesOn, EachWriteOfVolumeGoesOn, MayTellRead, MayTellWrite, PassGoesOn};
 ghost use Rattle.vx_volume.specs.Passes.{Clears, Settles};
 ghost use Rattle.vx_volume.specs.Retelling.{EachHistoryIsRetold};
 
@@ -60,4 +60,19 @@ pub fn each_course_is_noted()
 /// What a region stands for it stands for with its history told coarser: a write that was done as torn, and a read as missed.
 pub fn each_history_is_retold()
     ensures { EachHistoryIsRetold }
+{}
+
+/// What the regions stand for they stand for when a free map of the log was set, and what is told stays told. Each region's
+/// mark of the map is what the log claims then, and after Ok what was asked for.
+pub fn each_setting_stands()
+    ensures stands { EachSettingStands }
+    ensures told { EachSettingTells }
+    ensures known { EachSettingKnows }
+    ensures marks { EachSettingMarks }
+{}
+
+/// What the regions stand for they stand for with a marked plex that was put in.
+pub fn each_putting_stands()
+    ensures stands { EachPuttingStands }
+    ensures told { EachPuttingTells }
 {}

@@ -4,6 +4,7 @@
 
 mod calls;
 mod cells;
+mod changing;
 mod fault;
 pub mod laws;
 mod log;

@@ -1,6 +1,7 @@
 use vx_maps::MapStore;
 use vx_marks::{MarkFault, Marker};
 use vx_pages::LocalPiece;
+use vx_whole_maps::WholeMaps;
 
 /// The log of a volume: its change maps on one or two copies, or none. Without maps nothing is marked.
 #[derive(Drop)]
@@ -43,8 +44,11 @@ impl<P: LocalPiece> Marker for VolumeLog<P> {
 }
 
 impl<P: LocalPiece> VolumeLog<P> {
-    ghost use Rattle.std.specs.Prelude.{◌≡◌};
-    ghost use Rattle.vx_volume.specs.Log.{log_seen};
+    ghost use Rattle.std.specs.Prelude.{◌≡◌, ◌<◌, true};
+    ghost use Rattle.vx_marks.specs.Log.{KeepsLog, MarkHasCause};
+    ghost use Rattle.vx_pages.specs.Setting.{IsMapSet};
+    ghost use Rattle.vx_whole_maps.specs.Bytes.{map_bit};
+    ghost use Rattle.vx_volume.specs.Log.{LogGoes, log_seen};
     ghost use Rattle.vx_volume.specs.Arming.{LogArmed};
 
     /// Whether there are maps.
@@ -54,6 +58,21 @@ impl<P: LocalPiece> VolumeLog<P> {
         match self {
             VolumeLog::Absent => false,
             VolumeLog::Maps(_) => true,
+        }
+    }
+
+    /// Makes the marks of a map these, page by page, and stops at the first page that fails.
+    pub(crate) fn set_map(&mut self, map: u32, bits: &[u8]) -> Result<(), MarkFault>
+        requires there { (log_seen P.seen self.old).there ≡ true }
+        requires low { map < 32 }
+        ensures kept { KeepsLog (log_seen P.seen self.old) (log_seen P.seen self.new) }
+        ensures set { IsMapSet map (map_bit bits.now) result (log_seen P.seen self.old) (log_seen P.seen self.new) }
+        ensures cause { MarkHasCause (log_seen P.seen self.old) (log_seen P.seen self.new) result }
+        ensures goes { LogGoes P.seen self.old self.new }
+    {
+        match self {
+            VolumeLog::Absent => Ok(()),
+            VolumeLog::Maps(store) => store.set_from(map, bits),
         }
     }
 

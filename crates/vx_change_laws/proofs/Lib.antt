@@ -1,0 +1,6 @@
+pub mod Masks
+pub mod Failures
+pub mod Settings
+pub mod Joinings
+pub mod Exactness
+pub mod Places

@@ -10,8 +10,8 @@ use Rattle.vx_volume.specs.Changing.{IsFreeIn}
 use Rattle.vx_volume.specs.Volume.{IsVolume, VolumeSeen, cell_at}
 use Rattle.vx_moments.specs.World.{Track, Volume}
 use Rattle.vx_image.specs.Image.{PlexImage}
-use Rattle.vx_group_images.specs.Tracks.{TrackOwner, has_failed, volume_failed, was_unsettled}
-use Rattle.vx_group_images.proofs.Blocks.{below_count}
+use Rattle.vx_moments.specs.Tracks.{TrackOwner, has_failed, volume_failed, was_unsettled}
+use Rattle.vx_moments.proofs.Blocks.{below_count}
 use Rattle.vx_volume_laws.specs.RunLaws.{OwnersFit}
 use Rattle.vx_volume_laws.specs.Running.{RegionRunsAs, RunsAsVolume, state_at}
 use Rattle.vx_volume_laws.specs.Tracks.{GoesAt}

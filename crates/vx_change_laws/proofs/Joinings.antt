@@ -28,7 +28,7 @@ use Rattle.vx_volume.specs.Laws.{EachPuttingStands, EachPuttingTells, with_plex}
 use Rattle.vx_volume.specs.Volume.{IsVolume, VolumeSeen, cell_at, no_cell, with_log}
 use Rattle.vx_moments.specs.World.{Track, Volume}
 use Rattle.vx_image.specs.Image.{PlexImage}
-use Rattle.vx_group_images.specs.Tracks.{TrackOwner}
+use Rattle.vx_moments.specs.Tracks.{TrackOwner}
 use Rattle.vx_volume_laws.specs.Exact.{IsExactVolume, ShowsExactly}
 use Rattle.vx_volume_laws.specs.RunLaws.{OwnersFit}
 use Rattle.vx_volume_laws.specs.Running.{IsSureOfOthers, RegionRunsAs, RunsAsVolume, entries_in}

@@ -28,7 +28,7 @@ use Rattle.vx_volume.proofs.Remarks.{known_region}
 use Rattle.vx_volume.proofs.Wholes.{idle_freeing}
 use Rattle.vx_moments.specs.World.{Track, Volume}
 use Rattle.vx_image.specs.Image.{PlexImage}
-use Rattle.vx_group_images.specs.Tracks.{was_unsettled}
+use Rattle.vx_moments.specs.Tracks.{was_unsettled}
 use Rattle.vx_volume_laws.specs.RunLaws.{OwnersFit}
 use Rattle.vx_volume_laws.specs.Running.{IsSureOfOthers, RegionRunsAs, RunsAsVolume, entries_in}
 use Rattle.vx_volume_laws.specs.Tracks.{GoesAt, HasMap}

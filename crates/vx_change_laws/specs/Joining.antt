@@ -3,7 +3,7 @@ use Rattle.std.specs.Prelude.{◌≡◌, ◌≢◌, ◌⊎◌, ℕ, true, false,
 use Rattle.std.specs.Str.{bytes_eq}
 use Rattle.vx_base.specs.Named.{Word}
 use Rattle.vx_image.specs.Image.{PlexImage}
-use Rattle.vx_group_images.specs.Tracks.{TrackOwner}
+use Rattle.vx_moments.specs.Tracks.{TrackOwner}
 use Rattle.vx_moments.specs.World.{OnPlexes, Track, Volume}
 
 -- the track of a plex that has joined: it may differ everywhere, and nothing is sure

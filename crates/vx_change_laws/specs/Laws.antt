@@ -12,7 +12,7 @@ use Rattle.vx_volume.specs.Laws.{AreTold}
 use Rattle.vx_volume.specs.Volume.{IsVolume, VolumeSeen, cell_at, region_at}
 use Rattle.vx_moments.specs.World.{Volume}
 use Rattle.vx_image.specs.Image.{PlexImage}
-use Rattle.vx_group_images.specs.Tracks.{TrackOwner, volume_failed}
+use Rattle.vx_moments.specs.Tracks.{TrackOwner, volume_failed}
 use Rattle.vx_volume_laws.specs.Calls.{KeepsPlaces}
 use Rattle.vx_volume_laws.specs.Exact.{IsExactVolume, LogIsWell}
 use Rattle.vx_volume_laws.specs.RunLaws.{OwnersFit}

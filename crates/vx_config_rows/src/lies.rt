@@ -1,10 +1,10 @@
 //! Where plexes lie, in words.
 use std::alloc::Global;
 use vx_base::OutOfMemory;
+use vx_image::layout_of;
 use vx_layout::{Layout, Strip};
 use vx_names::Name;
 use vx_objects::Config;
-use vx_plexes::layout_of;
 
 /// For each plex its name, and for each of its columns the strips in their order, each as `SLOT:FIRST+COUNT`.
 pub fn lies(alloc: Global, config: &Config) -> Result<Vec<u8>, OutOfMemory> {

@@ -3,8 +3,8 @@ use crate::answer::{joined, named};
 use std::alloc::Global;
 use vx_base::OutOfMemory;
 use vx_names::{Name, read_number};
+use vx_new_volumes::{Plan, PlanFault, Request, plan};
 use vx_objects::{Config, Listed};
-use vx_plan::{Plan, PlanFault, Request, plan};
 use vx_space::Extent;
 
 /// The plan for the request that the words say.

@@ -22,7 +22,7 @@ use Rattle.vx_volume.specs.declared.log.VolumeLog.{VolumeLog}
 use Rattle.vx_volume.specs.declared.log.VolumeLog.TheVariants.{Absent, Maps}
 use Rattle.vx_volume.specs.Log.{LogGoes}
 use Rattle.vx_volume.specs.Volume.{no_cell}
-use Rattle.vx_volume_pieces.specs.Pieces.{all_pieces, pieces_of}
+use Rattle.vx_lending.specs.RegionPieces.{all_pieces, pieces_of}
 use Rattle.vx_lending.specs.Left.{region_plexes}
 use Rattle.vx_lending.specs.Logs.{log_pieces}
 use Rattle.vx_lending.specs.Pieces.{copy_pieces}

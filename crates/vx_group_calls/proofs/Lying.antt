@@ -5,7 +5,7 @@ use Rattle.vx_pages.specs.declared.local_piece.LocalPiece.{Ghosts}
 use Rattle.vx_volume.specs.declared.volume.Volume.{Volume}
 use Rattle.vx_volume.specs.Log.{LogGoes}
 use Rattle.vx_volume.specs.Volume.{log_of, volume_seen}
-use Rattle.vx_volume_form.specs.declared.form.VolumeForm.{VolumeForm}
+use Rattle.vx_lending.specs.declared.form.VolumeForm.{VolumeForm}
 use Rattle.vx_volume_laws.specs.Lying.{LiesIn}
 use Rattle.vx_volume_laws.proofs.Keepings.{each_read_keeps, each_write_keeps}
 use Rattle.vx_volume_laws.proofs.Lasting.{lies_on}

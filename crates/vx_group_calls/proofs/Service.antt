@@ -35,7 +35,7 @@ use Rattle.vx_volume.specs.Calls.{CallsParts, IsRead, IsWritten, ReadEnds, Write
 use Rattle.vx_volume.specs.Log.{LogGoes, log_kept}
 use Rattle.vx_volume.specs.Receipts.{part_of}
 use Rattle.vx_volume.specs.Volume.{IsVolume, VolumeSeen, cell_at, log_of, region_at, volume_seen}
-use Rattle.vx_volume_pieces.specs.Pieces.{all_pieces}
+use Rattle.vx_lending.specs.RegionPieces.{all_pieces}
 use Rattle.vx_lending.specs.Going.{GoTogether}
 use Rattle.vx_lending.specs.Left.{held_pieces, region_plexes}
 use Rattle.vx_lending.specs.Logs.{log_pieces}

@@ -25,7 +25,7 @@ use Rattle.vx_volume.specs.declared.log.VolumeLog.{VolumeLog}
 use Rattle.vx_volume.specs.declared.log.VolumeLog.TheVariants.{Absent, Maps}
 use Rattle.vx_volume.specs.declared.volume.Volume.{Volume}
 use Rattle.vx_volume.specs.Volume.{cells_seen, log_of}
-use Rattle.vx_volume_pieces.specs.Pieces.{all_pieces, pieces_of}
+use Rattle.vx_lending.specs.RegionPieces.{all_pieces, pieces_of}
 use Rattle.vx_fronts.specs.Rests.{AllTell, IsTelling}
 use Rattle.vx_lending.specs.Left.{held_pieces, region_plexes}
 use Rattle.vx_lending.specs.Logs.{log_pieces}

@@ -9,7 +9,7 @@ use Rattle.vx_script_forms.specs.declared.call.Call.TheVariants as calls
 use Rattle.vx_stages.specs.Calls.{AreOf, AreParts, IsDoneBy, count_of, failed_kind, start_of, values_of}
 use Rattle.vx_moments.specs.World.{Volume}
 use Rattle.vx_image.specs.Image.{PlexImage}
-use Rattle.vx_group_images.specs.Tracks.{TrackOwner}
+use Rattle.vx_moments.specs.Tracks.{TrackOwner}
 use Rattle.vx_volume.specs.Volume.{VolumeSeen, volume_seen}
 use Rattle.vx_volume_laws.specs.RunLaws.{FailuresAreTold, MayComeNext, OwnersFit, RunsOn}
 use Rattle.vx_volume_laws.specs.Running.{RunsAsVolume}

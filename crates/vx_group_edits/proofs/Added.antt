@@ -25,13 +25,13 @@ use Rattle.vx_objects.specs.Config.{objects_of}
 use Rattle.vx_objects.specs.Edits.{added, change, edited}
 use Rattle.vx_objects.specs.Parts.{as_plex, as_snap, as_subdisk, in_kinds}
 use Rattle.vx_objects.proofs.OneGroup.{first_none, second_none}
-use Rattle.vx_plexes.proofs.Members.{IsIn, first_of_in, one_in, plex_in}
-use Rattle.vx_plexes.proofs.Plexes.{config_valid}
+use Rattle.vx_image.proofs.PlexMembers.{IsIn, first_of_in, one_in, plex_in}
+use Rattle.vx_image.proofs.Plexes.{config_valid}
 use Rattle.vx_answers.specs.declared.refusal.Refusal.{Refusal}
 use Rattle.vx_stages.specs.Making.{adding_refusal, broken, limit_rules, reference_rules, space_rules, started_name}
 use Rattle.vx_stages.specs.Refusals.{refusal_from}
 use Rattle.vx_image.specs.UsedPlexes.{IsVolOf}
-use Rattle.vx_volume_form.proofs.Distinct.{AreDistinct, distinct_names, filtered}
+use Rattle.vx_lending.proofs.Distinct.{AreDistinct, distinct_names, filtered}
 use Rattle.vx_group_edits.specs.Laws.{EachJoiningKeeps, EachMakingKeeps, EachRewritingKeeps}
 use Rattle.vx_group_edits.proofs.ByKind.{Leaves, untouched}
 use Rattle.vx_group_edits.proofs.Fresh.{each_fresh, is_fresh}

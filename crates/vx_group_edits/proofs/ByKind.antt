@@ -13,7 +13,7 @@ use Rattle.vx_objects.specs.declared.config.Config.{Config}
 use Rattle.vx_objects.specs.Config.{objects_of}
 use Rattle.vx_objects.specs.Parts.{as_group, as_disk, as_subdisk, as_plex, as_vol, as_dco, as_snap, in_kinds, sorted_below}
 use Rattle.vx_objects.proofs.InKinds.{disks_below, subdisks_below, plexes_below, volumes_below, snaps_below}
-use Rattle.vx_plexes.proofs.Members.{IsIn, in_left, in_map, in_one, in_right, one_in}
+use Rattle.vx_image.proofs.PlexMembers.{IsIn, in_left, in_map, in_one, in_right, one_in}
 use Rattle.vx_image.specs.UsedPlexes.{IsVolOf}
 use Rattle.vx_group_edits.proofs.Lists.{filter_all, in_filter_map, picked, same_seen, same_with, seen}
 use Rattle.vx_group_edits.proofs.Untouched.{Untouched, plexes_of}

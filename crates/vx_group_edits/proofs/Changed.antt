@@ -19,9 +19,9 @@ use Rattle.vx_objects.specs.declared.edit.Edit.TheVariants.{SetVol, RemoveVol}
 use Rattle.vx_objects.specs.Config.{objects_of}
 use Rattle.vx_objects.specs.Edits.{added, change, edited, kept, names_plex_of, policy_kind, policy_plex, set_vol, stays_without_vol}
 use Rattle.vx_objects.specs.Parts.{as_disk, as_plex, as_snap, as_subdisk, in_kinds}
-use Rattle.vx_plexes.proofs.Members.{IsIn, any_in}
-use Rattle.vx_volume_form.proofs.Distinct.{filtered}
-use Rattle.vx_volume_form.proofs.Rules.{one_plex}
+use Rattle.vx_image.proofs.PlexMembers.{IsIn, any_in}
+use Rattle.vx_lending.proofs.Distinct.{filtered}
+use Rattle.vx_lending.proofs.Rules.{one_plex}
 use Rattle.vx_group_edits.specs.Laws.{EachPolicyKeeps, EachRemovalKeeps}
 use Rattle.vx_group_edits.proofs.ByKind.{Leaves, plex_recorded, untouched}
 use Rattle.vx_group_edits.proofs.Lists.{kept_seen, not_picked, picked, seen}

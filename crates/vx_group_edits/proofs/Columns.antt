@@ -12,14 +12,14 @@ use Rattle.vx_config_parts.specs.declared.disk.Disk.{Disk}
 use Rattle.vx_config_parts.specs.declared.plex.Plex.{Plex}
 use Rattle.vx_config_parts.specs.declared.subdisk.Subdisk.{Subdisk}
 use Rattle.vx_config_parts.specs.Objects.{refers}
-use Rattle.vx_extents.specs.Columns.{is_in_column}
+use Rattle.vx_rules.specs.Columns.{is_in_column}
 use Rattle.vx_objects.specs.declared.config.Config.{Config}
-use Rattle.vx_plexes.specs.Lies.{columns_from, slot_of, strip_of, strip_then, strips_from}
-use Rattle.vx_plexes.proofs.Members.{IsIn, all_in, count_some}
-use Rattle.vx_plexes.proofs.Plexes.{config_valid, filled, on_disk}
+use Rattle.vx_image.specs.Lies.{columns_from, slot_of, strip_of, strip_then, strips_from}
+use Rattle.vx_image.proofs.PlexMembers.{IsIn, all_in, count_some}
+use Rattle.vx_image.proofs.Plexes.{config_valid, filled, on_disk}
 use Rattle.vx_image.specs.Bytes.{is_held}
-use Rattle.vx_volume_form.proofs.Bits.{kept}
-use Rattle.vx_volume_form.proofs.Distinct.{filtered}
+use Rattle.vx_lending.proofs.Bits.{kept}
+use Rattle.vx_lending.proofs.Distinct.{filtered}
 use Rattle.vx_group_edits.proofs.Lists.{all_each, count_less, filter_short, find_narrow, found_in}
 
 -- the subdisks of a plex

@@ -11,8 +11,8 @@ use Rattle.vx_objects.specs.declared.config.Config.{Config}
 use Rattle.vx_objects.specs.declared.edit.Edit.TheVariants.{SetVol}
 use Rattle.vx_objects.specs.Applied.{IsEdited}
 use Rattle.vx_objects.specs.Config.{objects_of}
-use Rattle.vx_plexes.proofs.Members.{IsIn, one_in, one_named}
-use Rattle.vx_plexes.proofs.Plexes.{config_valid}
+use Rattle.vx_image.proofs.PlexMembers.{IsIn, one_in, one_named}
+use Rattle.vx_image.proofs.Plexes.{config_valid}
 use Rattle.vx_image.specs.UsedPlexes.{IsVolOf}
 use Rattle.vx_stages.specs.Stages.{policy_edit}
 use Rattle.vx_stages.specs.Tests.{volume_in}

@@ -5,13 +5,13 @@ use Rattle.vx_base.specs.Named.{Word}
 use Rattle.vx_config_parts.specs.declared.object.Object.{Object}
 use Rattle.vx_config_parts.specs.declared.object.Object.TheVariants.{GroupRecord, DiskRecord, SubdiskRecord, PlexRecord, VolRecord, DcoRecord, SnapRecord}
 use Rattle.vx_space.specs.declared.extent.Extent.{Extent}
-use Rattle.vx_plan.specs.declared.parts.Plan.{Plan}
+use Rattle.vx_new_volumes.specs.declared.parts.Plan.{Plan}
 use Rattle.vx_new_volumes.specs.Laying.{Laid, next_on, put_column, put_columns, put_extent, put_logs, put_plexes, subdisk, with_next}
 use Rattle.vx_new_volumes.specs.Naming.{Numbered, and_then, names_behind, next_name}
 use Rattle.vx_new_volumes.specs.Records.{data_plex, data_plexes, dco_name, dco_of, has_logs, log_plex, log_stem, names_known, records_of, subdisks, vol_of}
 use Rattle.vx_new_volumes.specs.declared.volume.NewVolume.{NewVolume}
 use Rattle.vx_objects.specs.Config.{objects_of}
-use Rattle.vx_plexes.proofs.Members.{IsIn, from_map, in_either}
+use Rattle.vx_image.proofs.PlexMembers.{IsIn, from_map, in_either}
 use Rattle.vx_state_edits.specs.Edits.{is_new}
 use Rattle.vx_moments.specs.World.{Group}
 use Rattle.vx_stages.specs.Making.{made}

@@ -5,9 +5,9 @@ use Rattle.std.proofs.lemmas.Bool.{false≢true}
 use Rattle.std.proofs.lemmas.List.Elements.{filter_map-append}
 use Rattle.std.proofs.lemmas.List.{append-nil}
 use Rattle.std.proofs.lemmas.List.Sums.{length-filter, count_by-le-length}
-use Rattle.vx_extents.proofs.ListTests.{count_more}
+use Rattle.vx_rules.proofs.ListTests.{count_more}
 use Rattle.vx_state_edits.specs.Laws.{IsAmong}
-use Rattle.vx_plexes.proofs.Members.{IsIn}
+use Rattle.vx_image.proofs.PlexMembers.{IsIn}
 
 same_some : {A : Type 0} (a b : A) → Some a ≡ Some b → b ≡ a
 same_some a b e = cc

@@ -16,7 +16,7 @@ use Rattle.vx_config_parts.specs.declared.vol.Vol.{Vol}
 use Rattle.vx_config_parts.specs.Objects.{refers}
 use Rattle.vx_objects.specs.declared.config.Config.{Config}
 use Rattle.vx_objects.specs.Config.{objects_of}
-use Rattle.vx_plexes.proofs.Members.{IsIn, in_map, in_one, one_in}
+use Rattle.vx_image.proofs.PlexMembers.{IsIn, in_map, in_one, one_in}
 use Rattle.vx_state_edits.specs.Edits.{is_new, started, stopped}
 use Rattle.vx_state_edits.specs.Laws.{EachStartRestates, EachStopRestates, IsPlexAfter, Restates, in_state}
 use Rattle.vx_image.specs.UsedPlexes.{IsVolOf}

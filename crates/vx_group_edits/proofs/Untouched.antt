@@ -11,19 +11,19 @@ use Rattle.vx_config_parts.specs.declared.subdisk.Subdisk.{Subdisk}
 use Rattle.vx_config_parts.specs.declared.vol.Vol.{Vol}
 use Rattle.vx_config_parts.specs.Objects.{is_data, is_data_plex_of, is_log, is_log_plex_of, refers}
 use Rattle.vx_objects.specs.declared.config.Config.{Config}
-use Rattle.vx_extents.specs.Columns.{is_in_column}
+use Rattle.vx_rules.specs.Columns.{is_in_column}
 use Rattle.vx_layout.specs.Columns.{has_place}
 use Rattle.vx_layout.specs.declared.place.Place.{Place}
 use Rattle.vx_layout.specs.declared.strip.Strip.{Strip}
 use Rattle.vx_image.specs.Own.{IsOfVolume}
-use Rattle.vx_plexes.specs.Lies.{columns_from, slot_of, strip_of, strip_then, strips_from, strips_of}
-use Rattle.vx_plexes.proofs.Members.{IsIn, in_any, in_either}
-use Rattle.vx_plexes.proofs.Plexes.{config_valid, on_disk}
+use Rattle.vx_image.specs.Lies.{columns_from, slot_of, strip_of, strip_then, strips_from, strips_of}
+use Rattle.vx_image.proofs.PlexMembers.{IsIn, in_any, in_either}
+use Rattle.vx_image.proofs.Plexes.{config_valid, on_disk}
 use Rattle.vx_image.specs.Bytes.{is_held, relation_maps}
 use Rattle.vx_image.proofs.Members.{contains, is_in}
 use Rattle.vx_image.specs.UsedPlexes.{IsVolOf, is_used_log, is_used_state, used_logs}
-use Rattle.vx_volume_form.proofs.Bits.{kept}
-use Rattle.vx_volume_form.proofs.Distinct.{filtered}
+use Rattle.vx_lending.proofs.Bits.{kept}
+use Rattle.vx_lending.proofs.Distinct.{filtered}
 use Rattle.vx_volume_laws.specs.Keeping.{KeepsPlex, KeepsVolume, LiesStill, data_plexes}
 use Rattle.vx_group_edits.specs.Stays.{AreFewer, StaysPlex, StaysRecorded}
 use Rattle.vx_group_edits.proofs.Columns.{columns_same, held_before, subdisks_of}

@@ -18,12 +18,12 @@ use Rattle.vx_volume.specs.declared.log.VolumeLog.TheVariants.{Absent}
 use Rattle.vx_volume.specs.declared.volume.VolumeShape.{VolumeShape}
 use Rattle.vx_volume.specs.Log.{absent_log}
 use Rattle.vx_volume.specs.Opening.{IsFirstUnread}
-use Rattle.vx_volume_form.specs.declared.form.VolumeForm.{VolumeForm}
-use Rattle.vx_volume_form.specs.Form.{IsFormOf}
-use Rattle.vx_volume_form.specs.Laws.{IsLogFor}
+use Rattle.vx_lending.specs.declared.form.VolumeForm.{VolumeForm}
+use Rattle.vx_lending.specs.Form.{IsFormOf}
+use Rattle.vx_lending.specs.FormLaws.{IsLogFor}
 use Rattle.vx_image.specs.UsedPlexes.{IsVolOf}
-use Rattle.vx_volume_form.proofs.Rules.{vol_geometry}
-use Rattle.vx_volume_form.proofs.Rooms.{logs_are}
+use Rattle.vx_lending.proofs.Rules.{vol_geometry}
+use Rattle.vx_lending.proofs.Rooms.{logs_are}
 use Rattle.vx_maps.proofs.CopyRuns.{none_cut}
 use Rattle.vx_lending.specs.Taken.{AreTakenCopies}
 use Rattle.vx_lending.specs.declared.public.Public.{Public}

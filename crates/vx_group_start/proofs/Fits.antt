@@ -18,7 +18,7 @@ use Rattle.vx_volume.specs.declared.log.VolumeLog.{VolumeLog}
 use Rattle.vx_volume.specs.declared.log.VolumeLog.TheVariants.{Absent, Maps}
 use Rattle.vx_volume.specs.declared.volume.VolumeShape.{VolumeShape}
 use Rattle.vx_volume.specs.Log.{log_seen}
-use Rattle.vx_volume_form.specs.Laws.{IsLogFor}
+use Rattle.vx_lending.specs.FormLaws.{IsLogFor}
 use Rattle.vx_lending.specs.Going.{GoTogether}
 use Rattle.vx_lending.specs.Logs.{log_copies, log_pieces}
 use Rattle.vx_lending.specs.Pieces.{copy_pieces}

@@ -15,13 +15,13 @@ use Rattle.vx_config_parts.specs.declared.vol.Vol.{Vol}
 use Rattle.vx_objects.specs.declared.config.Config.{Config}
 use Rattle.vx_volume.specs.declared.volume.VolumeShape.{VolumeShape}
 use Rattle.vx_volume.specs.Opening.{AreOpenable, count_of}
-use Rattle.vx_volume_form.specs.declared.form.VolumeForm.{VolumeForm}
-use Rattle.vx_volume_form.specs.Form.{IsFormOf}
-use Rattle.vx_volume_form.specs.Laws.{HasLogs, HasOn, IsLogFor}
+use Rattle.vx_lending.specs.declared.form.VolumeForm.{VolumeForm}
+use Rattle.vx_lending.specs.Form.{IsFormOf}
+use Rattle.vx_lending.specs.FormLaws.{HasLogs, HasOn, IsLogFor}
 use Rattle.vx_image.specs.UsedPlexes.{IsVolOf}
-use Rattle.vx_volume_form.proofs.Bits.{maps, masks}
-use Rattle.vx_volume_pieces.specs.Taken.{AreTakenRegions}
-use Rattle.vx_volume_pieces.proofs.Openable.{regions_open}
+use Rattle.vx_lending.proofs.Bits.{maps, masks}
+use Rattle.vx_lending.specs.RegionsTaken.{AreTakenRegions}
+use Rattle.vx_lending.proofs.Openable.{regions_open}
 use Rattle.vx_lending.specs.Taken.{HaveBlocks, log_sectors}
 
 -- ---- room for the log

@@ -11,9 +11,9 @@ use Rattle.vx_copies.specs.Lists.{AllOf, AnyOf}
 use Rattle.vx_fronts.specs.Parted.{IsCutShort, IsFront, fronts_of}
 use Rattle.vx_fronts.proofs.Parted.{free_parted, parted_once}
 use Rattle.vx_fronts.proofs.Joined.{parts_once}
-use Rattle.vx_plexes.specs.Room.{public_of}
-use Rattle.vx_volume_form.specs.Laws.{good_disks}
-use Rattle.vx_volume_form.proofs.Places.{form_free}
+use Rattle.vx_image.specs.Room.{public_of}
+use Rattle.vx_lending.specs.FormLaws.{good_disks}
+use Rattle.vx_lending.proofs.Places.{form_free}
 use Rattle.vx_group_start.specs.GroupDisks.{BehindAreOnce, GroupDisksAreNumbered, IsDiskOn, VolumesAreFree}
 
 has_slot : (numbers : List ℕ) (d : Disk) (hs : List DiskSeen) → AnyOf (IsDiskOn numbers d) hs → d.slot < length numbers

@@ -25,10 +25,10 @@ use Rattle.vx_volume.specs.Log.{log_seen}
 use Rattle.vx_marks.specs.Log.{LogSeen}
 use Rattle.vx_volume.specs.Opening.{IsOpened, count_of}
 use Rattle.vx_volume.specs.Volume.{VolumeSeen, log_of, no_cell, volume_seen}
-use Rattle.vx_volume_form.specs.declared.form.VolumeForm.{VolumeForm}
-use Rattle.vx_volume_form.specs.Laws.{all_layouts}
-use Rattle.vx_volume_pieces.specs.Pieces.{all_pieces}
-use Rattle.vx_volume_pieces.specs.Taken.{AreTakenRegions}
+use Rattle.vx_lending.specs.declared.form.VolumeForm.{VolumeForm}
+use Rattle.vx_lending.specs.FormLaws.{all_layouts}
+use Rattle.vx_lending.specs.RegionPieces.{all_pieces}
+use Rattle.vx_lending.specs.RegionsTaken.{AreTakenRegions}
 use Rattle.vx_lending.specs.Going.{GoTogether}
 use Rattle.vx_lending.specs.Left.{held_pieces, region_plexes}
 use Rattle.vx_lending.specs.Logs.{log_copies, log_header, log_pieces}

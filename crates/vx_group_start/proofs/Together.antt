@@ -19,7 +19,7 @@ use Rattle.vx_maps.specs.Copies.{SameRuns}
 use Rattle.vx_maps.specs.Creating.{AllTell as EachTells}
 use Rattle.vx_maps.specs.Going.{CopiesGo, CutCopiesGo}
 use Rattle.vx_pages.specs.Sector.{KeepsPiece}
-use Rattle.vx_volume_pieces.specs.Pieces.{all_pieces}
+use Rattle.vx_lending.specs.RegionPieces.{all_pieces}
 use Rattle.vx_lending.specs.Going.{GoTogether}
 use Rattle.vx_lending.specs.Pieces.{copy_pieces}
 use Rattle.vx_lending.proofs.Goings.{cut_go, go_beside, go_from, go_same, go_then}

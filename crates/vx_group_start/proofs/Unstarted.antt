@@ -7,7 +7,7 @@ use Rattle.vx_maps.specs.Loading.{copy_at}
 use Rattle.vx_config_parts.specs.declared.vol.Vol.{Vol}
 use Rattle.vx_volume.specs.declared.log.VolumeLog.{VolumeLog}
 use Rattle.vx_volume.specs.Log.{log_seen}
-use Rattle.vx_volume_form.specs.declared.form.VolumeForm.{VolumeForm}
+use Rattle.vx_lending.specs.declared.form.VolumeForm.{VolumeForm}
 use Rattle.vx_lending.specs.Going.{GoTogether}
 use Rattle.vx_lending.specs.Logs.{log_header}
 use Rattle.vx_lending.specs.Pieces.{copy_pieces}

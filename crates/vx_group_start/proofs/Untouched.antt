@@ -14,8 +14,8 @@ use Rattle.vx_volume.specs.declared.log.VolumeLog.TheVariants.{Absent, Maps}
 use Rattle.vx_volume.specs.declared.volume.VolumeShape.{VolumeShape}
 use Rattle.vx_volume.specs.Log.{log_seen}
 use Rattle.vx_objects.specs.declared.config.Config.{Config}
-use Rattle.vx_volume_form.specs.declared.form.VolumeForm.{VolumeForm}
-use Rattle.vx_volume_form.specs.Form.{IsFormOf}
+use Rattle.vx_lending.specs.declared.form.VolumeForm.{VolumeForm}
+use Rattle.vx_lending.specs.Form.{IsFormOf}
 use Rattle.vx_lending.specs.Logs.{marked_maps}
 use Rattle.vx_lending.specs.declared.public.Public.{Public}
 use Rattle.vx_group_start.specs.declared.fault.StartFault.{StartFault}

@@ -9,9 +9,9 @@ use Rattle.vx_objects.specs.declared.config.Config.{Config}
 use Rattle.vx_copies.specs.Disks.{DiskSeen}
 use Rattle.vx_copies.specs.Lists.{AllOf, AnyOf}
 use Rattle.vx_fronts.specs.Parted.{AreParted, IsCutShort}
-use Rattle.vx_volume_form.specs.Form.{IsFormOf}
-use Rattle.vx_volume_form.specs.Laws.{AreFree, AreNumbered, all_layouts, good_disks}
-use Rattle.vx_volume_form.specs.declared.form.VolumeForm.{VolumeForm}
+use Rattle.vx_lending.specs.Form.{IsFormOf}
+use Rattle.vx_lending.specs.FormLaws.{AreFree, AreNumbered, all_layouts, good_disks}
+use Rattle.vx_lending.specs.declared.form.VolumeForm.{VolumeForm}
 
 -- the disk of a configuration is this one of its group: its slot has the number of the device, which has room for its public region
 pub record IsDiskOn (numbers : List ℕ) (d : Disk) (h : DiskSeen) : Type 0 where

@@ -10,9 +10,9 @@ use Rattle.vx_config_parts.specs.declared.vol.Vol.{Vol}
 use Rattle.vx_volume.specs.Log.{log_seen}
 use Rattle.vx_volume.specs.Opening.{IsOpened, count_of}
 use Rattle.vx_volume.specs.Volume.{IsVolume, log_of, shape_of, volume_seen}
-use Rattle.vx_volume_form.specs.Laws.{all_layouts}
-use Rattle.vx_volume_pieces.specs.Pieces.{all_pieces}
-use Rattle.vx_volume_pieces.specs.Taken.{AreTakenRegions}
+use Rattle.vx_lending.specs.FormLaws.{all_layouts}
+use Rattle.vx_lending.specs.RegionPieces.{all_pieces}
+use Rattle.vx_lending.specs.RegionsTaken.{AreTakenRegions}
 use Rattle.vx_lending.specs.Going.{GoTogether}
 use Rattle.vx_lending.specs.Left.{held_pieces}
 use Rattle.vx_lending.specs.Pieces.{copy_pieces}

@@ -19,8 +19,8 @@ use Rattle.vx_volume.specs.declared.volume.VolumeShape.{VolumeShape}
 use Rattle.vx_volume.specs.Log.{log_seen}
 use Rattle.vx_volume.specs.Opening.{IsFirstUnread, IsOpened}
 use Rattle.vx_volume.specs.Volume.{IsVolume, log_of, shape_of, volume_seen}
-use Rattle.vx_volume_form.specs.declared.form.VolumeForm.{VolumeForm}
-use Rattle.vx_volume_form.specs.Laws.{IsLogFor}
+use Rattle.vx_lending.specs.declared.form.VolumeForm.{VolumeForm}
+use Rattle.vx_lending.specs.FormLaws.{IsLogFor}
 use Rattle.vx_lending.specs.Going.{GoTogether}
 use Rattle.vx_lending.specs.Logs.{log_copies, log_header, log_pieces}
 use Rattle.vx_lending.specs.declared.left.LogLeft.{LogLeft}

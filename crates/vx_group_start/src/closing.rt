@@ -3,7 +3,7 @@
 ghost use Rattle.std.specs.Prelude.{◌≡◌, ◌+◌, ◌≤◌, ◌++◌, length, map, vec_len, vec_capacity, IfOk, IfErr, IfSome, OnErr, OnOk};
 ghost use Rattle.vx_carve.specs.Together.{SameSectors};
 ghost use Rattle.vx_volume.specs.Volume.{IsVolume, volume_seen};
-ghost use Rattle.vx_volume_pieces.specs.Pieces.{all_pieces, cell_plexes};
+ghost use Rattle.vx_lending.specs.RegionPieces.{all_pieces, cell_plexes};
 ghost use Rattle.vx_lending.specs.Left.{held_pieces};
 ghost use Rattle.vx_lending.specs.Logs.{log_pieces};
 ghost use Rattle.vx_lending.specs.Public.{still_pieces};
@@ -13,11 +13,10 @@ use std::alloc::Global;
 use vx_base::OutOfMemory;
 use vx_carve::Pool;
 use vx_cell::Cell;
-use vx_lending::{Public, Running, VolumeLeft, put_volume};
+use vx_lending::{Public, Running, VolumeLeft, pieces_in, put_volume};
 use vx_maps::store_pieces;
 use vx_piece::Piece;
 use vx_volume::{Volume, VolumeLog};
-use vx_volume_pieces::pieces_in;
 
 /// Puts the pieces of a volume that ran back into the pool, which gets room for all of them first. Where there is no memory
 /// the volume comes back as it was.

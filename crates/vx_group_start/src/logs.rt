@@ -17,12 +17,11 @@ ghost use Rattle.vx_group_start.specs.Steps.{IsNoLog, left_fault, start_fault};
 use crate::fault::StartFault;
 use std::alloc::Global;
 use vx_config_parts::VolState;
-use vx_lending::{LogLeft, fresh_log, load_log};
+use vx_lending::{LogLeft, VolumeForm, fresh_log, load_log};
 use vx_maps::StoreFault;
 use vx_pages::LocalPiece;
 use vx_piece::Piece;
 use vx_volume::VolumeLog;
-use vx_volume_form::VolumeForm;
 
 /// Why there is no log, and what is left of its copies.
 #[derive(Drop)]

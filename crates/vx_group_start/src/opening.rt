@@ -9,12 +9,12 @@ ghost use Rattle.vx_maps.specs.Spares.{copies_seen};
 ghost use Rattle.vx_piece.specs.Seen.{Seen};
 ghost use Rattle.vx_volume.specs.Log.{log_seen};
 ghost use Rattle.vx_volume.specs.Opening.{AreOpenable, count_of, regions_seen};
-ghost use Rattle.vx_volume_form.specs.Form.{IsFormOf};
-ghost use Rattle.vx_volume_form.specs.Laws.{AreFree, AreNumbered, CanBeTaken, HasLogs, HasOn, IsLogFor, all_layouts};
+ghost use Rattle.vx_lending.specs.Form.{IsFormOf};
+ghost use Rattle.vx_lending.specs.FormLaws.{AreFree, AreNumbered, CanBeTaken, HasLogs, HasOn, IsLogFor, all_layouts};
 ghost use Rattle.vx_image.specs.UsedPlexes.{IsVolOf};
-ghost use Rattle.vx_volume_form.specs.declared.form.VolumeForm.{VolumeForm};
-ghost use Rattle.vx_volume_pieces.specs.Pieces.{all_pieces};
-ghost use Rattle.vx_volume_pieces.specs.Taken.{AreTakenRegions};
+ghost use Rattle.vx_lending.specs.declared.form.VolumeForm.{VolumeForm};
+ghost use Rattle.vx_lending.specs.RegionPieces.{all_pieces};
+ghost use Rattle.vx_lending.specs.RegionsTaken.{AreTakenRegions};
 ghost use Rattle.vx_lending.specs.Going.{GoTogether};
 ghost use Rattle.vx_lending.specs.Left.{held_pieces};
 ghost use Rattle.vx_lending.specs.Logs.{log_pieces};
@@ -32,11 +32,10 @@ use crate::logs::{is_fresh, is_lowest_on, start_log};
 use crate::remains::{log_left, put_back};
 use std::alloc::Global;
 use vx_cell::Plex;
-use vx_lending::{LogLeft, Public, Running, VolumePieces, take_pieces};
+use vx_lending::{LogLeft, Public, Running, VolumeForm, VolumePieces, form_of, take_pieces};
 use vx_objects::{Config, Vol};
 use vx_piece::Piece;
 use vx_volume::{OpenFault, OpenRefused, Volume, VolumeLog};
-use vx_volume_form::{VolumeForm, form_of};
 
 /// Takes the pieces of a volume of the configuration out of the pool, makes its log (of a volume that is EMPTY nothing is
 /// marked but the map of each data plex save the lowest one, whether its disks are good or not) or loads it, and opens it. `good` are the slots whose

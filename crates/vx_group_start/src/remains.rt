@@ -3,7 +3,7 @@
 ghost use Rattle.std.specs.Prelude.{◌≡◌, ◌<◌, ◌++◌, map, vec_len, vec_capacity, IfErr, OnOk};
 ghost use Rattle.vx_carve.specs.Together.{SameSectors};
 ghost use Rattle.vx_volume.specs.Opening.{regions_seen};
-ghost use Rattle.vx_volume_pieces.specs.Pieces.{all_pieces};
+ghost use Rattle.vx_lending.specs.RegionPieces.{all_pieces};
 ghost use Rattle.vx_lending.specs.Left.{left_copies};
 ghost use Rattle.vx_lending.specs.Logs.{log_copies};
 ghost use Rattle.vx_lending.specs.Pieces.{copy_pieces};
@@ -12,10 +12,9 @@ ghost use Rattle.vx_lending.specs.Public.{remaining_pieces, still_pieces};
 use std::alloc::Global;
 use vx_carve::Pool;
 use vx_cell::Plex;
-use vx_lending::{LogLeft, Public, Remains, VolumePieces, put_pieces};
+use vx_lending::{LogLeft, Public, Remains, VolumePieces, put_pieces, put_regions};
 use vx_piece::Piece;
 use vx_volume::VolumeLog;
-use vx_volume_pieces::put_regions;
 
 /// The copies of a log; where there is no memory for the lists of their pieces, the log.
 pub fn log_left<P: Piece + Drop>(alloc: Global, log: VolumeLog<P>) -> LogLeft<P>

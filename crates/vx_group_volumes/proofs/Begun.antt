@@ -14,8 +14,8 @@ use Rattle.vx_image.specs.Image.{PlexImage, LogCopy, Image, is_marked_by_all, is
 use Rattle.vx_image.specs.Meaning.{lowest_of}
 use Rattle.vx_image.specs.Soundness.{IsSoundBy, IsSoundImage, PlexesAgree}
 use Rattle.vx_image.proofs.Members.{is_in, any_from_one, from_filter, into_filter, one_from_any}
-use Rattle.vx_group_images.specs.Lives.{no_track, volume_first, whole_track}
-use Rattle.vx_group_images.specs.Volumes.{StandsForVolume, is_named}
+use Rattle.vx_moments.specs.Lives.{no_track, volume_first, whole_track}
+use Rattle.vx_moments.specs.Volumes.{StandsForVolume, is_named}
 use Rattle.vx_volume_laws.specs.Opening.{IsOpened, IsWellFormed}
 use Rattle.vx_volume_laws.specs.Start.{EachEmptyBegins, IsStartOf}
 use Rattle.vx_volume_laws.specs.Starting.{BeginsOver}

@@ -19,7 +19,7 @@ use Rattle.vx_image.specs.Bytes.{image_of}
 use Rattle.vx_moments.specs.Commit.{IsCommitting, MemberGoes, Writing}
 use Rattle.vx_moments.specs.Moment.{Moment}
 use Rattle.vx_moments.specs.World.{Group, Member}
-use Rattle.vx_group_images.specs.Group.{image_on, public_of, sectors_of}
+use Rattle.vx_moments.specs.Group.{image_on, public_of, sectors_of}
 use Rattle.vx_group_volumes.specs.CommitLaws.{EachCommitKeepsImages, EachCommitKeepsPublic}
 
 -- ---- one disk

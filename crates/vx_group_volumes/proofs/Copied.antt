@@ -23,7 +23,7 @@ use Rattle.vx_volume.specs.Loop.{AreDone}
 use Rattle.vx_volume.specs.Passes.{CopiesTo, Copying, IsCopiedAt}
 use Rattle.vx_volume.specs.Volume.{IsVolume, VolumeSeen, cell_at, region_at}
 use Rattle.vx_volume_laws.specs.Tracks.{GoesAt}
-use Rattle.vx_group_images.specs.Lives.{no_track, volume_copied}
+use Rattle.vx_moments.specs.Lives.{no_track, volume_copied}
 use Rattle.vx_group_start.specs.Copying.{CopiesMap}
 use Rattle.vx_volume_laws.specs.Running.{RegionRunsAs, RunsAsVolume, state_at}
 use Rattle.vx_group_volumes.specs.Copies.{AreOnIn, AreTight, AreUnmarked, EachCopyMissesNothing, EachCopyUnmarks, EachUnmarkedMissesNothing, IsUnmarkedAt, RunsLike}

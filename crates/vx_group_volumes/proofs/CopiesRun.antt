@@ -9,7 +9,7 @@ use Rattle.vx_cell.specs.declared.fault.CellFault.{CellFault}
 use Rattle.vx_cell.proofs.Changes.{rose_now, rose_still}
 use Rattle.vx_image.specs.Image.{PlexImage}
 use Rattle.vx_moments.specs.World.{Volume}
-use Rattle.vx_group_images.specs.Tracks.{TrackOwner, volume_failed}
+use Rattle.vx_moments.specs.Tracks.{TrackOwner, volume_failed}
 use Rattle.vx_volume.specs.declared.fault.IoFault.{IoFault}
 use Rattle.vx_volume.specs.Calls.{io_stop}
 use Rattle.vx_volume.specs.Loop.{AreDone, AreMade}

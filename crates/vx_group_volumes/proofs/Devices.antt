@@ -12,11 +12,11 @@ use Rattle.vx_pages.specs.declared.local_piece.LocalPiece.{Ghosts}
 use Rattle.vx_config_parts.specs.declared.disk.Disk.{Disk}
 use Rattle.vx_config_parts.specs.declared.plex.Plex.{Plex}
 use Rattle.vx_objects.specs.declared.config.Config.{Config}
-use Rattle.vx_plexes.specs.Lies.{columns_of, strips_of}
-use Rattle.vx_plexes.proofs.Members.{IsIn, in_left, in_right}
+use Rattle.vx_image.specs.Lies.{columns_of, strips_of}
+use Rattle.vx_image.proofs.PlexMembers.{IsIn, in_left, in_right}
 use Rattle.vx_image.specs.Own.{IsOfPlex}
 use Rattle.vx_image.proofs.Members.{contains, is_in}
-use Rattle.vx_group_images.specs.Owners.{device_at, devices_on, listed}
+use Rattle.vx_moments.specs.Owners.{device_at, devices_on, listed}
 use Rattle.vx_volume.specs.Volume.{log_of, volume_seen}
 use Rattle.vx_lending.specs.Left.{held_pieces}
 use Rattle.vx_lending.specs.Logs.{log_copies}

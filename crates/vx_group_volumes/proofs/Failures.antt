@@ -19,20 +19,20 @@ use Rattle.vx_config_parts.specs.declared.plex.Plex.{Plex}
 use Rattle.vx_config_parts.specs.declared.vol.Vol.{Vol}
 use Rattle.vx_config_parts.specs.Objects.{is_data_plex_of, is_log, is_log_plex_of, refers}
 use Rattle.vx_objects.specs.declared.config.Config.{Config}
-use Rattle.vx_plexes.specs.Lies.{columns_of}
-use Rattle.vx_plexes.proofs.Members.{IsIn, in_any}
+use Rattle.vx_image.specs.Lies.{columns_of}
+use Rattle.vx_image.proofs.PlexMembers.{IsIn, in_any}
 use Rattle.vx_image.specs.Bytes.{map_or_zero}
 use Rattle.vx_image.proofs.Members.{contains, is_in}
 use Rattle.vx_volume.specs.Volume.{VolumeSeen, cell_at, log_of, volume_seen}
-use Rattle.vx_volume_pieces.specs.Pieces.{all_pieces, own_pieces}
-use Rattle.vx_volume_pieces.specs.Taken.{own_map}
-use Rattle.vx_volume_form.specs.declared.form.VolumeForm.{VolumeForm}
-use Rattle.vx_volume_form.specs.Form.{AreLayouts, IsFormOf, IsLayoutOf}
-use Rattle.vx_volume_form.specs.Laws.{good_disks}
+use Rattle.vx_lending.specs.RegionPieces.{all_pieces, own_pieces}
+use Rattle.vx_lending.specs.RegionsTaken.{own_map}
+use Rattle.vx_lending.specs.declared.form.VolumeForm.{VolumeForm}
+use Rattle.vx_lending.specs.Form.{AreLayouts, IsFormOf, IsLayoutOf}
+use Rattle.vx_lending.specs.FormLaws.{good_disks}
 use Rattle.vx_image.specs.UsedPlexes.{held_plexes, maps_of, used_logs}
-use Rattle.vx_volume_form.proofs.Maps.{one_of_map}
-use Rattle.vx_volume_form.proofs.Places.{IsTaken, columns_lie, held_taken, log_taken}
-use Rattle.vx_volume_form.proofs.Zips.{zip_length}
+use Rattle.vx_lending.proofs.Maps.{one_of_map}
+use Rattle.vx_lending.proofs.Places.{IsTaken, columns_lie, held_taken, log_taken}
+use Rattle.vx_lending.proofs.Zips.{zip_length}
 use Rattle.vx_lending.specs.Left.{region_plexes}
 use Rattle.vx_lending.specs.Logs.{log_copies, log_pieces}
 use Rattle.vx_lending.specs.Pieces.{copy_pieces}

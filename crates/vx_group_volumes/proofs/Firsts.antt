@@ -26,12 +26,12 @@ use Rattle.vx_volume.specs.declared.log.VolumeLog.TheVariants.{Absent, Maps}
 use Rattle.vx_volume.specs.Log.{log_seen}
 use Rattle.vx_volume.specs.Opening.{count_of}
 use Rattle.vx_volume.specs.Volume.{VolumeSeen, cell_at, log_of, region_at, volume_seen}
-use Rattle.vx_volume_pieces.specs.Pieces.{all_pieces, pieces_of}
-use Rattle.vx_volume_form.specs.declared.form.VolumeForm.{VolumeForm}
+use Rattle.vx_lending.specs.RegionPieces.{all_pieces, pieces_of}
+use Rattle.vx_lending.specs.declared.form.VolumeForm.{VolumeForm}
 use Rattle.vx_image.specs.UsedPlexes.{IsVolOf}
-use Rattle.vx_volume_form.specs.Form.{IsFormOf}
-use Rattle.vx_volume_form.proofs.Bits.{on_plex}
-use Rattle.vx_volume_form.proofs.Rules.{vol_geometry}
+use Rattle.vx_lending.specs.Form.{IsFormOf}
+use Rattle.vx_lending.proofs.Bits.{on_plex}
+use Rattle.vx_lending.proofs.Rules.{vol_geometry}
 use Rattle.vx_lending.specs.Logs.{IsFreshLog, marked_maps}
 use Rattle.vx_volume_laws.specs.Opening.{IsOpened}
 use Rattle.vx_volume_laws.specs.Start.{EachEmptyBegins}
@@ -43,7 +43,7 @@ use Rattle.vx_volume_laws.proofs.Held.{in_image}
 use Rattle.vx_volume_laws.proofs.Loaded.{all_tell, run_tells}
 use Rattle.vx_volume_laws.proofs.OpenedImages.{opened_is, same_item, well_formed}
 use Rattle.vx_moments.specs.World.{Volume}
-use Rattle.vx_group_images.specs.Lives.{volume_first}
+use Rattle.vx_moments.specs.Lives.{volume_first}
 use Rattle.vx_volume_laws.specs.Running.{RunsAsVolume}
 use Rattle.vx_volume_laws.specs.Starting.{EachOpeningRuns, IsOpenedOver}
 use Rattle.vx_volume_laws.proofs.LeftLogs.{log_new}

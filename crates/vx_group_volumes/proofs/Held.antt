@@ -17,20 +17,20 @@ use Rattle.vx_config_parts.specs.declared.plex.Plex.{Plex}
 use Rattle.vx_config_parts.specs.declared.vol.Vol.{Vol}
 use Rattle.vx_config_parts.specs.Objects.{refers}
 use Rattle.vx_objects.specs.declared.config.Config.{Config}
-use Rattle.vx_plexes.specs.Lies.{columns_of}
-use Rattle.vx_plexes.proofs.Members.{IsIn}
+use Rattle.vx_image.specs.Lies.{columns_of}
+use Rattle.vx_image.proofs.PlexMembers.{IsIn}
 use Rattle.vx_image.specs.Bytes.{map_or_zero}
 use Rattle.vx_image.specs.Own.{IsOfPlex}
 use Rattle.vx_image.proofs.Members.{contains}
 use Rattle.vx_volume.specs.Volume.{VolumeSeen}
-use Rattle.vx_volume_pieces.specs.Pieces.{all_pieces, own_pieces, pieces_of}
-use Rattle.vx_volume_pieces.specs.Taken.{own_map}
-use Rattle.vx_volume_form.specs.declared.form.VolumeForm.{VolumeForm}
-use Rattle.vx_volume_form.specs.Form.{AreLayouts, IsFormOf, IsLayoutOf}
-use Rattle.vx_volume_form.specs.Laws.{good_disks}
+use Rattle.vx_lending.specs.RegionPieces.{all_pieces, own_pieces, pieces_of}
+use Rattle.vx_lending.specs.RegionsTaken.{own_map}
+use Rattle.vx_lending.specs.declared.form.VolumeForm.{VolumeForm}
+use Rattle.vx_lending.specs.Form.{AreLayouts, IsFormOf, IsLayoutOf}
+use Rattle.vx_lending.specs.FormLaws.{good_disks}
 use Rattle.vx_image.specs.UsedPlexes.{held_plexes, used_logs}
-use Rattle.vx_volume_form.proofs.Places.{IsTaken, columns_lie, held_taken, log_taken}
-use Rattle.vx_volume_form.proofs.Zips.{zip_length}
+use Rattle.vx_lending.proofs.Places.{IsTaken, columns_lie, held_taken, log_taken}
+use Rattle.vx_lending.proofs.Zips.{zip_length}
 use Rattle.vx_lending.specs.Left.{region_plexes}
 use Rattle.vx_lending.specs.Pieces.{copy_pieces}
 use Rattle.vx_lending.specs.Pieces.{own_pieces as own_copy}

@@ -10,21 +10,21 @@ use Rattle.vx_config_parts.specs.declared.plex.Plex.{Plex}
 use Rattle.vx_config_parts.specs.Objects.{is_data_plex_of}
 use Rattle.vx_config_parts.specs.declared.vol.Vol.{Vol}
 use Rattle.vx_objects.specs.declared.config.Config.{Config}
-use Rattle.vx_plexes.proofs.Members.{IsIn}
+use Rattle.vx_image.proofs.PlexMembers.{IsIn}
 use Rattle.vx_image.specs.Bytes.{is_held, map_or_zero}
 use Rattle.vx_image.specs.Image.{is_available_state}
 use Rattle.vx_moments.specs.Holding.{is_among}
 use Rattle.vx_moments.specs.World.{Group}
-use Rattle.vx_group_images.specs.Owners.{owner_of, owners_of}
-use Rattle.vx_group_images.specs.Tracks.{TrackOwner}
+use Rattle.vx_moments.specs.Owners.{owner_of, owners_of}
+use Rattle.vx_moments.specs.Tracks.{TrackOwner}
 use Rattle.vx_volume.specs.declared.volume.VolumeShape.{VolumeShape}
 use Rattle.vx_volume.specs.Volume.{cell_at, volume_seen}
 use Rattle.vx_volume_laws.specs.Tracks.{HasMap}
-use Rattle.vx_volume_form.specs.Form.{IsShapeOf}
+use Rattle.vx_lending.specs.Form.{IsShapeOf}
 use Rattle.vx_image.specs.UsedPlexes.{IsVolOf, is_on}
-use Rattle.vx_volume_form.proofs.Bits.{into_off, into_on, on_plex}
-use Rattle.vx_volume_form.proofs.Maps.{one_of_map}
-use Rattle.vx_volume_form.proofs.Rules.{plex_low}
+use Rattle.vx_lending.proofs.Bits.{into_off, into_on, on_plex}
+use Rattle.vx_lending.proofs.Maps.{one_of_map}
+use Rattle.vx_lending.proofs.Rules.{plex_low}
 use Rattle.vx_volume_laws.specs.Lying.{HasMasksOf}
 use Rattle.vx_lending.specs.declared.public.Running.{Running}
 use Rattle.vx_group_volumes.specs.Runs.{Opening}

@@ -15,7 +15,7 @@ use Rattle.vx_image.specs.UsedPlexes.{IsVolOf}
 use Rattle.vx_lending.specs.Left.{held_pieces}
 use Rattle.vx_lending.specs.Logs.{log_copies}
 use Rattle.vx_volume_laws.specs.Contents.{AreSectorsOf}
-use Rattle.vx_group_images.specs.Volumes.{StandsForVolume}
+use Rattle.vx_moments.specs.Volumes.{StandsForVolume}
 use Rattle.vx_volume_laws.specs.Leaving.{AreNamedIn, EachLeavingStands}
 use Rattle.vx_volume_laws.specs.Running.{IsSureOfOthers, RunsAsVolume}
 use Rattle.vx_volume_laws.specs.Keeping.{ChangesStates}

@@ -14,17 +14,17 @@ use Rattle.vx_config_parts.specs.declared.plex.Plex.{Plex}
 use Rattle.vx_config_parts.specs.declared.vol.Vol.{Vol}
 use Rattle.vx_config_parts.specs.Objects.{is_data_plex_of}
 use Rattle.vx_objects.specs.declared.config.Config.{Config}
-use Rattle.vx_plexes.proofs.Members.{IsIn}
+use Rattle.vx_image.proofs.PlexMembers.{IsIn}
 use Rattle.vx_image.specs.Image.{PlexImage}
 use Rattle.vx_image.specs.Bytes.{Sectors, image_of, map_or_zero, plex_image}
 use Rattle.vx_image.proofs.Members.{all_from_each, contains, each_from_all, is_in}
 use Rattle.vx_volume.specs.declared.volume.VolumeShape.{VolumeShape}
 use Rattle.vx_image.specs.UsedPlexes.{IsVolOf, is_on}
-use Rattle.vx_volume_form.specs.Form.{IsShapeOf}
-use Rattle.vx_volume_form.proofs.Bits.{held_on, kept, low, off_plex, on_plex}
-use Rattle.vx_volume_form.proofs.Distinct.{filtered}
-use Rattle.vx_volume_form.proofs.Maps.{one_without}
-use Rattle.vx_volume_form.proofs.Rules.{one_plex, plex_low}
+use Rattle.vx_lending.specs.Form.{IsShapeOf}
+use Rattle.vx_lending.proofs.Bits.{held_on, kept, low, off_plex, on_plex}
+use Rattle.vx_lending.proofs.Distinct.{filtered}
+use Rattle.vx_lending.proofs.Maps.{one_without}
+use Rattle.vx_lending.proofs.Rules.{one_plex, plex_low}
 use Rattle.vx_lending.specs.Logs.{marked_maps}
 use Rattle.vx_volume_laws.proofs.Held.{of_image}
 use Rattle.vx_volume_laws.specs.Keeping.{data_plexes}

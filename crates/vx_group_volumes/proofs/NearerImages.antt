@@ -10,12 +10,12 @@ use Rattle.vx_piece.specs.Seen.{Seen}
 use Rattle.vx_carve.specs.Together.{Holds}
 use Rattle.vx_config_parts.specs.declared.vol.Vol.{Vol}
 use Rattle.vx_objects.specs.declared.config.Config.{Config}
-use Rattle.vx_plexes.proofs.Members.{IsIn}
+use Rattle.vx_image.proofs.PlexMembers.{IsIn}
 use Rattle.vx_image.specs.Image.{LogCopy, PlexImage}
 use Rattle.vx_image.specs.Bytes.{Sectors, log_copies, relation_maps}
 use Rattle.vx_image.proofs.Members.{all_from_each, any_from_one, each_from_all, is_in, one_from_any}
-use Rattle.vx_volume_form.specs.declared.form.VolumeForm.{VolumeForm}
-use Rattle.vx_volume_form.specs.Form.{IsFormOf}
+use Rattle.vx_lending.specs.declared.form.VolumeForm.{VolumeForm}
+use Rattle.vx_lending.specs.Form.{IsFormOf}
 use Rattle.vx_lending.specs.Logs.{log_header}
 use Rattle.vx_lending.specs.Pieces.{copy_pieces}
 use Rattle.vx_lending.specs.Taken.{log_sectors}

@@ -22,18 +22,18 @@ use Rattle.vx_config_parts.specs.declared.plex.PlexKind.TheVariants.{Data, Log}
 use Rattle.vx_config_parts.specs.declared.vol.Vol.{Vol}
 use Rattle.vx_config_parts.specs.Objects.{is_data, is_data_plex_of, is_log, is_log_plex_of, refers}
 use Rattle.vx_objects.specs.declared.config.Config.{Config}
-use Rattle.vx_plexes.specs.Lies.{columns_of, is_on_disk, strips_of}
-use Rattle.vx_plexes.proofs.Apart.{columns_inside, plexes_apart}
-use Rattle.vx_plexes.proofs.Members.{IsIn, any_in}
-use Rattle.vx_plexes.proofs.Plexes.{config_valid}
+use Rattle.vx_image.specs.Lies.{columns_of, is_on_disk, strips_of}
+use Rattle.vx_image.proofs.Apart.{columns_inside, plexes_apart}
+use Rattle.vx_image.proofs.PlexMembers.{IsIn, any_in}
+use Rattle.vx_image.proofs.Plexes.{config_valid}
 use Rattle.vx_image.specs.Bytes.{Sectors, bytes_at, is_held, map_or_zero, plex_contents, plex_image}
 use Rattle.vx_image.specs.Own.{IsOfPlex}
 use Rattle.vx_image.proofs.Members.{contains, each_from_all, in_filtered, into_filter}
-use Rattle.vx_volume_form.specs.declared.form.VolumeForm.{VolumeForm}
-use Rattle.vx_volume_form.specs.Form.{IsFormOf}
-use Rattle.vx_volume_form.specs.Laws.{AreNumbered, good_disks}
-use Rattle.vx_volume_form.proofs.Places.{columns_lie, log_taken}
-use Rattle.vx_volume_form.proofs.Rules.{one_plex}
+use Rattle.vx_lending.specs.declared.form.VolumeForm.{VolumeForm}
+use Rattle.vx_lending.specs.Form.{IsFormOf}
+use Rattle.vx_lending.specs.FormLaws.{AreNumbered, good_disks}
+use Rattle.vx_lending.proofs.Places.{columns_lie, log_taken}
+use Rattle.vx_lending.proofs.Rules.{one_plex}
 use Rattle.vx_lending.specs.Pieces.{copy_pieces}
 use Rattle.vx_lending.specs.Pieces.{own_pieces as own_copy}
 use Rattle.vx_lending.specs.Taken.{AreTakenCopies, log_sectors}

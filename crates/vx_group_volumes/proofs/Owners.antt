@@ -12,20 +12,20 @@ use Rattle.vx_config_parts.specs.declared.plex.Plex.{Plex}
 use Rattle.vx_config_parts.specs.declared.vol.Vol.{Vol}
 use Rattle.vx_config_parts.specs.Objects.{is_data_plex_of}
 use Rattle.vx_objects.specs.declared.config.Config.{Config}
-use Rattle.vx_plexes.proofs.Members.{IsIn}
+use Rattle.vx_image.proofs.PlexMembers.{IsIn}
 use Rattle.vx_image.specs.Image.{PlexImage, is_available}
 use Rattle.vx_image.specs.Bytes.{Sectors, image_of, map_or_zero}
 use Rattle.vx_volume.specs.declared.volume.VolumeShape.{VolumeShape}
 use Rattle.vx_volume.specs.Opening.{IsOpened, stage_of}
 use Rattle.vx_volume.specs.Volume.{VolumeSeen}
 use Rattle.vx_image.specs.UsedPlexes.{IsVolOf, is_on}
-use Rattle.vx_volume_form.specs.Form.{IsShapeOf}
-use Rattle.vx_volume_form.proofs.Bits.{held_on, into_on, on_plex}
-use Rattle.vx_volume_form.proofs.Maps.{one_of_map}
-use Rattle.vx_volume_form.proofs.Rules.{plex_low}
+use Rattle.vx_lending.specs.Form.{IsShapeOf}
+use Rattle.vx_lending.proofs.Bits.{held_on, into_on, on_plex}
+use Rattle.vx_lending.proofs.Maps.{one_of_map}
+use Rattle.vx_lending.proofs.Rules.{plex_low}
 use Rattle.vx_volume_laws.proofs.Held.{of_image}
 use Rattle.vx_volume_laws.specs.Tracks.{HasMap}
-use Rattle.vx_group_images.specs.Tracks.{TrackOwner}
+use Rattle.vx_moments.specs.Tracks.{TrackOwner}
 use Rattle.vx_volume_laws.specs.RunLaws.{OwnersFit}
 
 module _ (c : Config) (good : ℕ) (v : Vol) (of : IsVolOf c v) (shape : VolumeShape) (is : IsShapeOf c good v shape) where

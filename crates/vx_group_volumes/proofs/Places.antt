@@ -5,11 +5,11 @@ use Rattle.vx_config_parts.specs.declared.plex.Plex.{Plex}
 use Rattle.vx_config_parts.specs.declared.vol.Vol.{Vol}
 use Rattle.vx_config_parts.specs.Objects.{refers}
 use Rattle.vx_objects.specs.declared.config.Config.{Config}
-use Rattle.vx_plexes.specs.Lies.{columns_from}
+use Rattle.vx_image.specs.Lies.{columns_from}
 use Rattle.vx_image.specs.Image.{IsFilled}
 use Rattle.vx_image.proofs.Members.{contains, is_in}
-use Rattle.vx_volume_form.specs.Form.{IsFormOf}
-use Rattle.vx_volume_form.specs.Laws.{AreNumbered}
+use Rattle.vx_lending.specs.Form.{IsFormOf}
+use Rattle.vx_lending.specs.FormLaws.{AreNumbered}
 use Rattle.vx_image.specs.UsedPlexes.{IsVolOf}
 use Rattle.vx_volume_laws.specs.Keeping.{ChangesStates, IsRestated}
 use Rattle.vx_volume_laws.proofs.Plexes.{zip_left}

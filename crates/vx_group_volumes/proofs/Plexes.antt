@@ -12,18 +12,18 @@ use Rattle.vx_config_parts.specs.declared.plex.PlexKind.TheVariants.{Data, Log}
 use Rattle.vx_config_parts.specs.declared.vol.Vol.{Vol}
 use Rattle.vx_config_parts.specs.Objects.{is_data, is_data_plex_of, is_log, is_log_plex_of, refers}
 use Rattle.vx_objects.specs.declared.config.Config.{Config}
-use Rattle.vx_plexes.proofs.Members.{IsIn, any_in, from_map, in_any, in_either, in_left, in_map}
+use Rattle.vx_image.proofs.PlexMembers.{IsIn, any_in, from_map, in_any, in_either, in_left, in_map}
 use Rattle.vx_image.specs.Bytes.{Sectors, is_held, map_or_zero, plex_image}
 use Rattle.vx_image.specs.Image.{PlexImage}
 use Rattle.vx_image.proofs.Members.{is_in}
 use Rattle.vx_moments.specs.Holding.{is_among}
 use Rattle.vx_moments.specs.World.{Group}
-use Rattle.vx_group_images.specs.Owners.{owner_in, owner_of}
+use Rattle.vx_moments.specs.Owners.{owner_in, owner_of}
 use Rattle.vx_image.specs.UsedPlexes.{held_plexes, used_logs}
-use Rattle.vx_volume_form.proofs.Bits.{kept}
-use Rattle.vx_volume_form.proofs.Distinct.{filtered}
-use Rattle.vx_volume_form.proofs.Places.{held_taken, log_taken}
-use Rattle.vx_volume_form.proofs.Rules.{one_plex}
+use Rattle.vx_lending.proofs.Bits.{kept}
+use Rattle.vx_lending.proofs.Distinct.{filtered}
+use Rattle.vx_lending.proofs.Places.{held_taken, log_taken}
+use Rattle.vx_lending.proofs.Rules.{one_plex}
 use Rattle.vx_volume_laws.specs.Keeping.{KeepsPlex, KeepsVolume, data_plexes}
 use Rattle.vx_volume_laws.proofs.Plexes.{zip_left, zip_right}
 use Rattle.vx_group_volumes.specs.Runs.{Opening}

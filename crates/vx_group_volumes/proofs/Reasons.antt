@@ -29,7 +29,7 @@ use Rattle.vx_volume.specs.Passes.{Clears, CopiesTo, CopyEnds, Copying, IsCleare
 use Rattle.vx_volume.specs.Volume.{VolumeSeen, cell_at, log_of, region_at, volume_seen}
 use Rattle.vx_volume.proofs.Entries.{dead_or}
 use Rattle.vx_volume.proofs.Volumes.{clear_job, copy_job, settle_job}
-use Rattle.vx_volume_pieces.specs.Pieces.{all_pieces}
+use Rattle.vx_lending.specs.RegionPieces.{all_pieces}
 use Rattle.vx_lending.specs.Left.{held_pieces, region_plexes}
 use Rattle.vx_lending.specs.Logs.{log_pieces}
 use Rattle.vx_group_calls.specs.Causes.{AreCutWhereDead}

@@ -15,7 +15,7 @@ use Rattle.vx_config_parts.specs.declared.vol.Vol.{Vol}
 use Rattle.vx_config_parts.specs.Objects.{is_data, is_log, refers}
 use Rattle.vx_objects.specs.declared.config.Config.{Config}
 use Rattle.vx_objects.specs.Config.{objects_of}
-use Rattle.vx_plexes.specs.Once.{IsOneOf}
+use Rattle.vx_image.specs.Once.{IsOneOf}
 use Rattle.vx_image.specs.Image.{is_available_state}
 use Rattle.vx_image.specs.Bytes.{is_active}
 use Rattle.vx_states.specs.Table.{plex_started, plex_stopped}

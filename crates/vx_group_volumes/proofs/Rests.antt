@@ -10,7 +10,7 @@ use Rattle.vx_cell.specs.Region.{RegionSeen}
 use Rattle.vx_cell.proofs.Changes.{rose_now, rose_still}
 use Rattle.vx_image.specs.Image.{PlexImage}
 use Rattle.vx_moments.specs.World.{Track, Volume}
-use Rattle.vx_group_images.specs.Tracks.{TrackOwner, has_failed, volume_failed, was_unsettled}
+use Rattle.vx_moments.specs.Tracks.{TrackOwner, has_failed, volume_failed, was_unsettled}
 use Rattle.vx_volume.specs.declared.fault.IoFault.{IoFault}
 use Rattle.vx_volume.specs.declared.fault.IoFault.TheVariants.{PowerLost}
 use Rattle.vx_volume.specs.Calls.{ChangesRegion, IsReady}

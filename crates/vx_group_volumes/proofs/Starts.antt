@@ -18,8 +18,8 @@ use Rattle.vx_volume.specs.declared.volume.VolumeShape.{VolumeShape}
 use Rattle.vx_volume.specs.Opening.{count_of}
 use Rattle.vx_volume.specs.Volume.{log_of, volume_seen}
 use Rattle.vx_image.specs.UsedPlexes.{IsVolOf}
-use Rattle.vx_volume_form.specs.Form.{IsFormOf}
-use Rattle.vx_volume_form.proofs.Rules.{vol_geometry}
+use Rattle.vx_lending.specs.Form.{IsFormOf}
+use Rattle.vx_lending.proofs.Rules.{vol_geometry}
 use Rattle.vx_config_parts.specs.declared.state.VolState.{VolState}
 use Rattle.vx_config_parts.specs.declared.state.VolState.TheVariants as vol
 use Rattle.vx_image.specs.Image.{IsFilled, LogCopy}
@@ -29,7 +29,7 @@ use Rattle.vx_mask.specs.Marks.{Marks}
 use Rattle.vx_maps.specs.Loading.{AreClaims}
 use Rattle.vx_volume.specs.declared.log.VolumeLog.TheVariants.{Absent, Maps}
 use Rattle.vx_volume.specs.Log.{log_seen}
-use Rattle.vx_volume_form.specs.declared.form.VolumeForm.{VolumeForm}
+use Rattle.vx_lending.specs.declared.form.VolumeForm.{VolumeForm}
 use Rattle.vx_lending.specs.Logs.{IsLoadedLog}
 use Rattle.vx_lending.specs.Taken.{log_sectors}
 use Rattle.vx_volume_laws.specs.Contents.{AreSectorsOf, ShowsCopy}
@@ -39,8 +39,8 @@ use Rattle.vx_volume_laws.specs.Opened.{IsOpenedBy}
 use Rattle.vx_volume_laws.proofs.ExactLogs.{opening_exact}
 use Rattle.vx_volume_laws.proofs.Loaded.{absent_shows, all_tell, loaded_shows}
 use Rattle.vx_volume_laws.proofs.OpenedImages.{well_formed}
-use Rattle.vx_group_images.specs.Volumes.{volume_read}
-use Rattle.vx_group_images.proofs.VolumesRead.{each_volume_read_stands}
+use Rattle.vx_moments.specs.Volumes.{volume_read}
+use Rattle.vx_moments.proofs.VolumesRead.{each_volume_read_stands}
 use Rattle.vx_volume_laws.specs.Running.{RunsAsVolume}
 use Rattle.vx_volume_laws.specs.Starting.{EachOpeningRuns}
 use Rattle.vx_mapfmt.specs.Sizes.{map_bytes_of, parts_of, plex_bytes_of}

@@ -11,9 +11,9 @@ use Rattle.vx_carve.specs.Strips.{all_lie_in, lies_in}
 use Rattle.vx_config_parts.specs.declared.disk.Disk.{Disk}
 use Rattle.vx_config_parts.specs.declared.plex.Plex.{Plex}
 use Rattle.vx_objects.specs.declared.config.Config.{Config}
-use Rattle.vx_plexes.specs.Lies.{columns_of, strips_of}
-use Rattle.vx_plexes.specs.Room.{public_of}
-use Rattle.vx_plexes.proofs.Members.{IsIn, any_in, from_map, in_left, in_right}
+use Rattle.vx_image.specs.Lies.{columns_of, strips_of}
+use Rattle.vx_image.specs.Room.{public_of}
+use Rattle.vx_image.proofs.PlexMembers.{IsIn, any_in, from_map, in_left, in_right}
 use Rattle.vx_image.specs.Own.{IsOfPlex}
 use Rattle.vx_image.proofs.Members.{contains}
 use Rattle.vx_group_volumes.specs.Places.{IsSlotOf}

@@ -24,13 +24,13 @@ use Rattle.vx_fronts.proofs.Sectors.{any_same}
 use Rattle.vx_config_parts.specs.declared.plex.Plex.{Plex}
 use Rattle.vx_config_parts.specs.declared.vol.Vol.{Vol}
 use Rattle.vx_objects.specs.declared.config.Config.{Config}
-use Rattle.vx_plexes.proofs.Members.{IsIn}
+use Rattle.vx_image.proofs.PlexMembers.{IsIn}
 use Rattle.vx_image.specs.UsedPlexes.{used_logs}
 use Rattle.vx_image.proofs.Members.{contains, is_in}
-use Rattle.vx_volume_form.specs.declared.form.VolumeForm.{VolumeForm}
-use Rattle.vx_volume_form.specs.Form.{AreLayouts, IsFormOf, IsLayoutOf}
-use Rattle.vx_volume_form.specs.Laws.{good_disks}
-use Rattle.vx_volume_form.proofs.Places.{IsTaken, log_taken}
+use Rattle.vx_lending.specs.declared.form.VolumeForm.{VolumeForm}
+use Rattle.vx_lending.specs.Form.{AreLayouts, IsFormOf, IsLayoutOf}
+use Rattle.vx_lending.specs.FormLaws.{good_disks}
+use Rattle.vx_lending.proofs.Places.{IsTaken, log_taken}
 use Rattle.vx_lending.specs.Going.{GoTogether}
 use Rattle.vx_lending.specs.Pieces.{copy_pieces}
 use Rattle.vx_lending.specs.Pieces.{own_pieces as own_copy}

@@ -21,14 +21,14 @@ use Rattle.vx_config_parts.specs.declared.state.PlexState.{PlexState}
 use Rattle.vx_config_parts.specs.declared.state.PlexState.TheVariants as plex
 use Rattle.vx_config_parts.specs.Objects.{is_log_plex_of}
 use Rattle.vx_objects.specs.declared.config.Config.{Config}
-use Rattle.vx_plexes.specs.Lies.{columns_of}
-use Rattle.vx_plexes.proofs.Members.{IsIn}
+use Rattle.vx_image.specs.Lies.{columns_of}
+use Rattle.vx_image.proofs.PlexMembers.{IsIn}
 use Rattle.vx_image.specs.Bytes.{is_active, is_held, plex_contents}
 use Rattle.vx_image.specs.UsedPlexes.{is_used_log, is_used_state, used_logs}
 use Rattle.vx_image.proofs.Members.{is_in}
-use Rattle.vx_volume_form.specs.Laws.{good_disks}
-use Rattle.vx_volume_form.proofs.Bits.{kept}
-use Rattle.vx_volume_form.proofs.Places.{columns_lie, log_taken}
+use Rattle.vx_lending.specs.FormLaws.{good_disks}
+use Rattle.vx_lending.proofs.Bits.{kept}
+use Rattle.vx_lending.proofs.Places.{columns_lie, log_taken}
 use Rattle.vx_lending.specs.Logs.{log_header}
 use Rattle.vx_lending.specs.Taken.{log_sectors}
 use Rattle.vx_volume_laws.proofs.Loaded.{run_tells}

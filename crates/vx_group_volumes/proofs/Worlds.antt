@@ -10,7 +10,7 @@ use Rattle.vx_piece.specs.Seen.{Seen}
 use Rattle.vx_carve.specs.Carved.{HaveNumbers}
 use Rattle.vx_carve.specs.Together.{covers}
 use Rattle.vx_config_parts.specs.declared.disk.Disk.{Disk}
-use Rattle.vx_plexes.proofs.Members.{IsIn}
+use Rattle.vx_image.proofs.PlexMembers.{IsIn}
 use Rattle.vx_image.specs.Own.{IsOfVolume}
 use Rattle.vx_image.proofs.Members.{is_in}
 use Rattle.vx_copies.specs.Disks.{DiskSeen}
@@ -18,7 +18,7 @@ use Rattle.vx_copies.specs.Lists.{AllOf, AnyOf, Each}
 use Rattle.vx_fronts.specs.Fronts.{Rest, Rests, with_device}
 use Rattle.vx_fronts.specs.Laws.{whole_disks}
 use Rattle.vx_moments.specs.World.{Device, Group}
-use Rattle.vx_group_images.specs.Group.{ChangesOnly, DeviceStaysBut, IsSectorOf}
+use Rattle.vx_moments.specs.Group.{ChangesOnly, DeviceStaysBut, IsSectorOf}
 use Rattle.vx_group_volumes.specs.Places.{IsOwnSector, IsSlotOf}
 use Rattle.vx_group_volumes.specs.Disks.{AreDevicesOf, DiskGoesOn, IsDeviceOf, IsMemberOn, OtherDevicesStay}
 

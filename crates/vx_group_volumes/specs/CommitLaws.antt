@@ -5,7 +5,7 @@ use Rattle.vx_config_parts.specs.declared.vol.Vol.{Vol}
 use Rattle.vx_moments.specs.Commit.{Writing, IsCommitting}
 use Rattle.vx_moments.specs.Moment.{Moment}
 use Rattle.vx_moments.specs.World.{Group}
-use Rattle.vx_group_images.specs.Group.{image_on, public_of}
+use Rattle.vx_moments.specs.Group.{image_on, public_of}
 
 -- Whatever a commit leaves of the disks, by which none joins: each sector behind their private regions is as it was, ..
 abbrev pub EachCommitKeepsPublic : Type 0

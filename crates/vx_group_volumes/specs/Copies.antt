@@ -9,7 +9,7 @@ use Rattle.vx_moments.specs.World.{Volume}
 use Rattle.vx_image.specs.Image.{PlexImage}
 use Rattle.vx_volume.specs.Laws.{AreTold}
 use Rattle.vx_volume.specs.Volume.{IsVolume, VolumeSeen, cell_at}
-use Rattle.vx_group_images.specs.Lives.{volume_copied}
+use Rattle.vx_moments.specs.Lives.{volume_copied}
 use Rattle.vx_group_start.specs.Copying.{AreCopied}
 use Rattle.vx_volume_laws.specs.Exact.{LogIsWell}
 use Rattle.vx_volume_laws.specs.Running.{IsSureOfOthers, RunsAsVolume}

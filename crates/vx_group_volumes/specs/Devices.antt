@@ -9,7 +9,7 @@ use Rattle.vx_config_parts.specs.declared.disk.Disk.{Disk}
 use Rattle.vx_config_parts.specs.declared.plex.Plex.{Plex}
 use Rattle.vx_config_parts.specs.Objects.{refers, is_data_plex_of, is_log_plex_of}
 use Rattle.vx_objects.specs.declared.config.Config.{Config}
-use Rattle.vx_plexes.specs.Lies.{strips_of}
+use Rattle.vx_image.specs.Lies.{strips_of}
 use Rattle.vx_group_volumes.specs.Places.{IsSlotOf}
 
 -- a strip of the plex lies in the slot of one of these disks, and the device of the slot has this number

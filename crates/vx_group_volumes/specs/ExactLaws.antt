@@ -17,7 +17,7 @@ use Rattle.vx_image.specs.Image.{IsFilled, PlexImage, regions_of}
 use Rattle.vx_image.specs.Meaning.{dirty_read}
 use Rattle.vx_image.specs.UsedPlexes.{IsVolOf}
 use Rattle.vx_volume.specs.Volume.{VolumeSeen, volume_seen}
-use Rattle.vx_volume_form.specs.Form.{IsFormOf}
+use Rattle.vx_lending.specs.Form.{IsFormOf}
 use Rattle.vx_lending.specs.Left.{held_pieces}
 use Rattle.vx_lending.specs.Public.{still_pieces}
 use Rattle.vx_lending.specs.declared.public.Public.{Public}

@@ -19,14 +19,14 @@ use Rattle.vx_volume.specs.declared.fault.IoFault.{IoFault}
 use Rattle.vx_volume.specs.declared.volume.Volume.{Volume as Code}
 use Rattle.vx_volume.specs.Log.{LogGoes}
 use Rattle.vx_volume.specs.Volume.{log_of, volume_seen}
-use Rattle.vx_volume_form.specs.declared.form.VolumeForm.{VolumeForm}
+use Rattle.vx_lending.specs.declared.form.VolumeForm.{VolumeForm}
 use Rattle.vx_image.specs.UsedPlexes.{IsVolOf}
-use Rattle.vx_volume_form.specs.Form.{IsFormOf}
+use Rattle.vx_lending.specs.Form.{IsFormOf}
 use Rattle.vx_lending.specs.Left.{held_pieces}
 use Rattle.vx_volume_laws.specs.Contents.{AreSectorsOf}
-use Rattle.vx_group_images.specs.Lives.{volume_first}
-use Rattle.vx_group_images.specs.Tracks.{TrackOwner, unsure}
-use Rattle.vx_group_images.specs.Volumes.{StandsForVolume, volume_read}
+use Rattle.vx_moments.specs.Lives.{volume_first}
+use Rattle.vx_moments.specs.Tracks.{TrackOwner, unsure}
+use Rattle.vx_moments.specs.Volumes.{StandsForVolume, volume_read}
 use Rattle.vx_volume_laws.specs.RunLaws.{OwnersFit}
 use Rattle.vx_volume_laws.specs.Leaving.{AreNamedIn}
 use Rattle.vx_volume_laws.specs.Running.{IsSureOfOthers, RunsAsVolume}

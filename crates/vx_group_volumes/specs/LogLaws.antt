@@ -22,10 +22,10 @@ use Rattle.vx_image.specs.Bytes.{Sectors, image_of, is_log_copy}
 use Rattle.vx_image.specs.Narrowing.{IsNarrowed}
 use Rattle.vx_image.specs.UsedPlexes.{used_logs}
 use Rattle.vx_moments.specs.World.{Device, Group}
-use Rattle.vx_group_images.specs.Group.{ChangesOnly}
-use Rattle.vx_volume_form.specs.declared.form.VolumeForm.{VolumeForm}
-use Rattle.vx_volume_form.specs.Form.{IsFormOf}
-use Rattle.vx_volume_form.specs.Laws.{AreNumbered, good_disks}
+use Rattle.vx_moments.specs.Group.{ChangesOnly}
+use Rattle.vx_lending.specs.declared.form.VolumeForm.{VolumeForm}
+use Rattle.vx_lending.specs.Form.{IsFormOf}
+use Rattle.vx_lending.specs.FormLaws.{AreNumbered, good_disks}
 use Rattle.vx_lending.specs.Logs.{log_header}
 use Rattle.vx_lending.specs.Pieces.{copy_pieces}
 use Rattle.vx_lending.specs.Taken.{AreTakenCopies, log_sectors}

@@ -9,7 +9,7 @@ use Rattle.vx_config_parts.specs.declared.vol.Vol.{Vol}
 use Rattle.vx_config_parts.specs.Objects.{refers}
 use Rattle.vx_objects.specs.declared.config.Config.{Config}
 use Rattle.vx_image.specs.Own.{IsOfVolume}
-use Rattle.vx_volume_form.specs.Laws.{AreNumbered, good_disks}
+use Rattle.vx_lending.specs.FormLaws.{AreNumbered, good_disks}
 use Rattle.vx_volume_laws.specs.Keeping.{LiesStill}
 use Rattle.vx_lending.specs.declared.public.Running.{Running}
 use Rattle.vx_group_volumes.specs.Runs.{Opening, RunsIn}

@@ -15,7 +15,7 @@ use Rattle.vx_config_parts.specs.declared.vol.Vol.{Vol}
 use Rattle.vx_objects.specs.declared.config.Config.{Config}
 use Rattle.vx_image.specs.Image.{PlexImage}
 use Rattle.vx_moments.specs.World.{Group}
-use Rattle.vx_group_images.specs.Owners.{IsDeviceOfVolume, device_at, devices_on, owners_of}
+use Rattle.vx_moments.specs.Owners.{IsDeviceOfVolume, device_at, devices_on, owners_of}
 use Rattle.vx_volume.specs.declared.volume.Volume.{Volume}
 use Rattle.vx_volume.specs.Log.{LogGoes}
 use Rattle.vx_volume.specs.Volume.{cell_at, log_of, volume_seen}

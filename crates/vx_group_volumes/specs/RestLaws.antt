@@ -24,8 +24,8 @@ use Rattle.vx_volume.specs.Log.{LogGoes}
 use Rattle.vx_volume.specs.Volume.{IsVolume, VolumeSeen, log_of, volume_seen}
 use Rattle.vx_lending.specs.Left.{held_pieces}
 use Rattle.vx_volume_laws.specs.Contents.{AreSectorsOf}
-use Rattle.vx_group_images.specs.Tracks.{TrackOwner, volume_failed}
-use Rattle.vx_group_images.specs.Volumes.{StandsForVolume}
+use Rattle.vx_moments.specs.Tracks.{TrackOwner, volume_failed}
+use Rattle.vx_moments.specs.Volumes.{StandsForVolume}
 use Rattle.vx_image.specs.Meaning.{ReadsOneList}
 use Rattle.vx_volume_laws.specs.RunLaws.{FailuresAreTold, OwnersFit}
 use Rattle.vx_volume_laws.specs.Leaving.{AreNamedIn}

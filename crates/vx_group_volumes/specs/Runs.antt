@@ -7,7 +7,7 @@ use Rattle.vx_objects.specs.declared.config.Config.{Config}
 use Rattle.vx_image.specs.Image.{IsFilled}
 use Rattle.vx_volume.specs.Volume.{IsVolume, shape_of, volume_seen}
 use Rattle.vx_image.specs.UsedPlexes.{IsVolOf}
-use Rattle.vx_volume_form.specs.Form.{IsFormOf}
+use Rattle.vx_lending.specs.Form.{IsFormOf}
 use Rattle.vx_lending.specs.declared.public.Running.{Running}
 use Rattle.vx_volume_laws.specs.Keeping.{KeepsVolume}
 use Rattle.vx_volume_laws.specs.Lying.{LiesIn}

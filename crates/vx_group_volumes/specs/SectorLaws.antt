@@ -17,9 +17,9 @@ use Rattle.vx_fronts.specs.Laws.{whole_disks}
 use Rattle.vx_fronts.specs.Parted.{AreParted}
 use Rattle.vx_fronts.specs.Rests.{AllTell, rests_of, sector_in}
 use Rattle.vx_moments.specs.World.{Device, Group}
-use Rattle.vx_group_images.specs.Group.{ChangesOnly}
-use Rattle.vx_volume_form.specs.Form.{IsFormOf}
-use Rattle.vx_volume_form.specs.Laws.{AreNumbered}
+use Rattle.vx_moments.specs.Group.{ChangesOnly}
+use Rattle.vx_lending.specs.Form.{IsFormOf}
+use Rattle.vx_lending.specs.FormLaws.{AreNumbered}
 use Rattle.vx_image.specs.UsedPlexes.{IsVolOf}
 use Rattle.vx_lending.specs.Left.{held_pieces}
 use Rattle.vx_volume_laws.specs.Keeping.{ChangesStates}

@@ -26,10 +26,10 @@ use Rattle.vx_config_parts.specs.declared.plex.Plex.{Plex}
 use Rattle.vx_config_parts.specs.declared.vol.Vol.{Vol}
 use Rattle.vx_config_parts.specs.Objects.{refers}
 use Rattle.vx_objects.specs.declared.config.Config.{Config}
-use Rattle.vx_plexes.specs.Lies.{columns_of, strips_of}
-use Rattle.vx_plexes.specs.Room.{public_of}
-use Rattle.vx_plexes.proofs.Apart.{one_name, plexes_apart}
-use Rattle.vx_plexes.proofs.Members.{IsIn, any_in, from_map, in_left, in_right}
+use Rattle.vx_image.specs.Lies.{columns_of, strips_of}
+use Rattle.vx_image.specs.Room.{public_of}
+use Rattle.vx_image.proofs.Apart.{one_name, plexes_apart}
+use Rattle.vx_image.proofs.PlexMembers.{IsIn, any_in, from_map, in_left, in_right}
 use Rattle.vx_image.specs.Own.{IsOfVolume}
 use Rattle.vx_image.proofs.Members.{contains, each_from_all, is_in}
 use Rattle.vx_copies.specs.Disks.{DiskSeen, good_mask}
@@ -41,13 +41,13 @@ use Rattle.vx_fronts.proofs.Parted.{IsIn as IsDisk}
 use Rattle.vx_volume.specs.Volume.{log_of, volume_seen}
 use Rattle.vx_lending.specs.Left.{held_pieces}
 use Rattle.vx_lending.specs.Logs.{log_copies}
-use Rattle.vx_volume_form.specs.declared.form.VolumeForm.{VolumeForm}
-use Rattle.vx_volume_form.specs.Form.{IsFormOf, IsLayoutOf}
-use Rattle.vx_volume_form.specs.Laws.{AreFree, all_layouts, good_disks}
+use Rattle.vx_lending.specs.declared.form.VolumeForm.{VolumeForm}
+use Rattle.vx_lending.specs.Form.{IsFormOf, IsLayoutOf}
+use Rattle.vx_lending.specs.FormLaws.{AreFree, all_layouts, good_disks}
 use Rattle.vx_image.specs.UsedPlexes.{held_plexes, used_logs}
-use Rattle.vx_volume_form.proofs.Places.{IsTaken, all_are, columns_lie, each_taken}
-use Rattle.vx_volume_form.proofs.Rules.{one_plex}
-use Rattle.vx_volume_form.proofs.Zips.{zip_all}
+use Rattle.vx_lending.proofs.Places.{IsTaken, all_are, columns_lie, each_taken}
+use Rattle.vx_lending.proofs.Rules.{one_plex}
+use Rattle.vx_lending.proofs.Zips.{zip_all}
 use Rattle.vx_layout.specs.declared.layout.Layout.{Layout}
 use Rattle.vx_lending.specs.declared.public.Running.{Running}
 use Rattle.vx_lending.specs.Public.{lent_pieces, remaining_pieces, running_at, running_pieces, still_pieces, stuck_pieces}

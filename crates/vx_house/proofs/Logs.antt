@@ -6,11 +6,11 @@ use Rattle.vx_base.specs.Named.{Word}
 use Rattle.vx_config_parts.specs.declared.plex.Plex.{Plex}
 use Rattle.vx_config_parts.specs.Objects.{is_log_plex_of}
 use Rattle.vx_layout.specs.declared.strip.Strip.{Strip}
-use Rattle.vx_plexes.specs.Lies.{columns_of}
-use Rattle.vx_plexes.proofs.Members.{IsIn, in_either, in_left, in_right}
+use Rattle.vx_image.specs.Lies.{columns_of}
+use Rattle.vx_image.proofs.PlexMembers.{IsIn, in_either, in_left, in_right}
 use Rattle.vx_image.proofs.Members.{contains, is_in}
 use Rattle.vx_moments.specs.World.{Group}
-use Rattle.vx_group_images.specs.Owners.{device_at, devices_on, listed}
+use Rattle.vx_moments.specs.Owners.{device_at, devices_on, listed}
 use Rattle.vx_stages.specs.Logs.{LogIsSpared}
 
 -- what each of some lists has, each of the others has

@@ -9,7 +9,7 @@ use Rattle.vx_base.proofs.NamedLemmas.{bytes_eq_self}
 use Rattle.vx_piece.specs.Seen.{Seen}
 use Rattle.vx_config_parts.specs.declared.vol.Vol.{Vol}
 use Rattle.vx_copies.specs.Disks.{DiskSeen}
-use Rattle.vx_plexes.proofs.Members.{IsIn}
+use Rattle.vx_image.proofs.PlexMembers.{IsIn}
 use Rattle.vx_group_edits.proofs.ByKind.{vol_recorded}
 use Rattle.vx_moments.specs.Holding.{has_volume}
 use Rattle.vx_moments.specs.World.{Group, Volume}

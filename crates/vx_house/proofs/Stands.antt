@@ -14,8 +14,8 @@ use Rattle.vx_config_parts.specs.declared.object.Object.{Object}
 use Rattle.vx_config_parts.specs.declared.object.Object.TheVariants.{GroupRecord, DiskRecord, SubdiskRecord, PlexRecord, VolRecord, DcoRecord, SnapRecord}
 use Rattle.vx_objects.specs.declared.config.Config.{Config}
 use Rattle.vx_objects.specs.Config.{objects_of}
-use Rattle.vx_plexes.specs.Once.{IsOneOf}
-use Rattle.vx_plexes.proofs.Members.{IsIn, from_map, in_either, one_in}
+use Rattle.vx_image.specs.Once.{IsOneOf}
+use Rattle.vx_image.proofs.PlexMembers.{IsIn, from_map, in_either, one_in}
 use Rattle.vx_image.proofs.Members.{contains}
 use Rattle.vx_carve.specs.Together.{AreOnce, Holds}
 use Rattle.vx_copies.specs.Disks.{DiskSeen, disk_seen}
@@ -38,16 +38,16 @@ use Rattle.vx_lending.specs.Left.{held_pieces}
 use Rattle.vx_lending.specs.declared.public.Running.{Running}
 use Rattle.vx_lending.specs.Public.{lent_pieces, running_pieces, still_pieces, stuck_pieces}
 use Rattle.vx_volume_laws.specs.Leaving.{EachLeavingStands}
-use Rattle.vx_group_images.specs.Group.{image_on, public_of, sectors_of}
-use Rattle.vx_group_images.specs.Lives.{GroupStands, StandForEach, StandsFor}
-use Rattle.vx_group_images.specs.Volumes.{StandsForVolume}
+use Rattle.vx_moments.specs.Group.{image_on, public_of, sectors_of}
+use Rattle.vx_moments.specs.Lives.{GroupStands, StandForEach, StandsFor}
+use Rattle.vx_moments.specs.Volumes.{StandsForVolume}
 use Rattle.vx_group_volumes.proofs.Leavings.{leaving_stands}
 use Rattle.vx_moments.specs.Leaving.{grouped}
 use Rattle.vx_moments.specs.Moment.{Moment}
 use Rattle.vx_moments.specs.World.{Device, Group, Member, Volume, World}
 use Rattle.vx_house.specs.Holders.{Holder, group_holders, group_rests, hand_holder, held_as, holder_in, holders, volume_holder, whole_members}
 use Rattle.vx_house.specs.Leaves.{StandsAt}
-use Rattle.vx_group_images.specs.Owners.{device_at}
+use Rattle.vx_moments.specs.Owners.{device_at}
 use Rattle.vx_house.specs.Runs.{IsAtRun, IsRunOf, fronts_in, run_in}
 use Rattle.vx_house.specs.Scene.{seen_in, seen_at}
 use Rattle.vx_house.specs.View.{View, scene, is_lent, IsDeviceOf, IsGroupWhole, IsMomentButGroup, KeepsButGroup}

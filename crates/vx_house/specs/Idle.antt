@@ -8,9 +8,9 @@ use Rattle.vx_copies.specs.Disks.{DiskSeen, good_mask}
 use Rattle.vx_copies.specs.Lists.{AllOf}
 use Rattle.vx_confdb.specs.Groups.{members}
 use Rattle.vx_fronts.specs.Parted.{IsCutShort}
-use Rattle.vx_volume_form.specs.Form.{IsFormOf}
-use Rattle.vx_volume_form.specs.Laws.{AreFree, all_layouts, good_disks}
-use Rattle.vx_volume_form.specs.declared.form.VolumeForm.{VolumeForm}
+use Rattle.vx_lending.specs.Form.{IsFormOf}
+use Rattle.vx_lending.specs.FormLaws.{AreFree, all_layouts, good_disks}
+use Rattle.vx_lending.specs.declared.form.VolumeForm.{VolumeForm}
 use Rattle.vx_lending.specs.Public.{running_at}
 use Rattle.vx_house.specs.Runs.{IsOnDisk}
 use Rattle.vx_house.specs.View.{IsGroupKept}

@@ -4,7 +4,7 @@ use Rattle.vx_pages.specs.declared.local_piece.LocalPiece.{Ghosts}
 use Rattle.vx_piece.specs.Seen.{Seen}
 use Rattle.vx_answers.specs.declared.answer.End.{End}
 use Rattle.vx_answers.specs.declared.answer.End.TheVariants as ends
-use Rattle.vx_group_images.specs.Lives.{GroupStands}
+use Rattle.vx_moments.specs.Lives.{GroupStands}
 use Rattle.vx_moments.specs.Moment.{Moment}
 use Rattle.vx_house.specs.Holders.{AreHeld, holders}
 use Rattle.vx_house.specs.Unmoved.{Unmoved}

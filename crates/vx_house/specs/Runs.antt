@@ -13,7 +13,7 @@ use Rattle.vx_image.specs.Own.{IsOfVolume}
 use Rattle.vx_confdb.specs.Groups.{members}
 use Rattle.vx_image.specs.Bytes.{Sectors, image_of}
 use Rattle.vx_image.specs.Image.{PlexImage, WasStarted}
-use Rattle.vx_group_images.specs.Owners.{device_at}
+use Rattle.vx_moments.specs.Owners.{device_at}
 use Rattle.vx_moments.specs.Leaving.{grouped}
 use Rattle.vx_moments.specs.World.{Member, Volume, Group, OnPlexes}
 use Rattle.vx_volume.specs.Volume.{volume_seen}

@@ -4,7 +4,7 @@ use Rattle.std.specs.List.{flat_map}
 use Rattle.std.specs.Map.{lookup, set_value}
 use Rattle.std.proofs.lemmas.Grind.{flat_map-append}
 use Rattle.vx_base.specs.Named.{Word}
-use Rattle.vx_plexes.proofs.Members.{IsIn, in_left, in_right}
+use Rattle.vx_image.proofs.PlexMembers.{IsIn, in_left, in_right}
 use Rattle.vx_copies.specs.Lists.{AllOf, AnyOf, Each}
 
 -- the entry of a key that was found, once it has another value

@@ -15,7 +15,7 @@ use Rattle.vx_moments.specs.World.{Volume as WorldVolume}
 use Rattle.vx_volume.specs.declared.volume.Volume.{Volume}
 use Rattle.vx_volume.specs.Log.{LogGoes}
 use Rattle.vx_volume.specs.Volume.{VolumeSeen, log_of, volume_seen}
-use Rattle.vx_volume_pieces.specs.Pieces.{all_pieces}
+use Rattle.vx_lending.specs.RegionPieces.{all_pieces}
 use Rattle.vx_lending.specs.Left.{held_pieces, region_plexes}
 use Rattle.vx_lending.specs.Logs.{log_pieces}
 use Rattle.vx_lending.specs.declared.public.Running.{Running}

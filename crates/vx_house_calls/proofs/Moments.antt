@@ -12,7 +12,7 @@ use Rattle.vx_piece.specs.Seen.{Seen}
 use Rattle.vx_runs.specs.Run.{SomeCut}
 use Rattle.vx_carve.specs.Together.{HasSome, covers, cut_on, faults_on}
 use Rattle.vx_config_parts.specs.declared.plex.Plex.{Plex}
-use Rattle.vx_plexes.proofs.Members.{IsIn, in_map}
+use Rattle.vx_image.proofs.PlexMembers.{IsIn, in_map}
 use Rattle.vx_image.proofs.Members.{contains}
 use Rattle.vx_copies.specs.Disks.{DiskSeen, good_mask}
 use Rattle.vx_copies.specs.Lists.{AllOf, Each}
@@ -24,8 +24,8 @@ use Rattle.vx_moments.specs.Leaving.{lone, lone_by, grouped, grouped_by}
 use Rattle.vx_moments.specs.Moment.{Moment, AreLater}
 use Rattle.vx_moments.specs.Moment.{HasFailed as FailsAt}
 use Rattle.vx_moments.specs.World.{World, Device, Group, Lies, OnDevice, OnPlexes, Volume}
-use Rattle.vx_group_images.specs.Group.{ChangesOnly, IsSectorOf}
-use Rattle.vx_group_images.specs.Owners.{IsDeviceOfVolume, device_at}
+use Rattle.vx_moments.specs.Group.{ChangesOnly, IsSectorOf}
+use Rattle.vx_moments.specs.Owners.{IsDeviceOfVolume, device_at}
 use Rattle.vx_stages.specs.GroupCalls.{CallsOnly, PlexHasFailed}
 use Rattle.vx_stages.specs.Logs.{LogIsSpared}
 use Rattle.vx_volume.specs.Volume.{volume_seen}

@@ -11,8 +11,8 @@ use Rattle.vx_carve.specs.Together.{HasSome, covers}
 use Rattle.vx_layout.specs.declared.strip.Strip.{Strip}
 use Rattle.vx_config_parts.specs.declared.plex.Plex.{Plex}
 use Rattle.vx_config_parts.specs.Objects.{refers}
-use Rattle.vx_plexes.specs.Lies.{strips_of}
-use Rattle.vx_plexes.proofs.Members.{IsIn}
+use Rattle.vx_image.specs.Lies.{strips_of}
+use Rattle.vx_image.proofs.PlexMembers.{IsIn}
 use Rattle.vx_image.specs.Own.{IsOfVolume}
 use Rattle.vx_image.proofs.Members.{contains, is_in}
 use Rattle.vx_copies.specs.Disks.{DiskSeen}
@@ -22,8 +22,8 @@ use Rattle.vx_fronts.specs.Rests.{is_of}
 use Rattle.vx_lending.specs.Left.{held_pieces}
 use Rattle.vx_lending.specs.Logs.{log_copies}
 use Rattle.vx_moments.specs.World.{Group, Member, Volume}
-use Rattle.vx_group_images.specs.Group.{IsSectorOf}
-use Rattle.vx_group_images.specs.Owners.{IsDeviceOfVolume, device_at, devices_on, listed}
+use Rattle.vx_moments.specs.Group.{IsSectorOf}
+use Rattle.vx_moments.specs.Owners.{IsDeviceOfVolume, device_at, devices_on, listed}
 use Rattle.vx_volume.specs.Volume.{log_of, volume_seen}
 use Rattle.vx_lending.specs.declared.public.Running.{Running}
 use Rattle.vx_group_volumes.specs.Places.{IsOwnSector, IsSlotOf, disks_at}

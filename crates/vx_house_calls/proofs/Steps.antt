@@ -6,8 +6,8 @@ use Rattle.vx_base.specs.Named.{Word}
 use Rattle.vx_piece.specs.Seen.{Seen, Keeps}
 use Rattle.vx_fronts.specs.Rests.{told_at}
 use Rattle.vx_moments.specs.World.{Device, Group}
-use Rattle.vx_group_images.specs.Group.{DeviceStaysBut, IsSectorOf}
-use Rattle.vx_group_images.specs.Owners.{IsDeviceOfVolume}
+use Rattle.vx_moments.specs.Group.{DeviceStaysBut, IsSectorOf}
+use Rattle.vx_moments.specs.Owners.{IsDeviceOfVolume}
 use Rattle.vx_house.specs.Scene.{count_in}
 use Rattle.vx_house.specs.View.{IsDeviceOf}
 use Rattle.vx_house.proofs.Steps.{HeldStep}

@@ -13,7 +13,7 @@ use Rattle.vx_runs.specs.Run.{SomeCut}
 use Rattle.vx_carve.specs.Together.{cut_on, faults_on}
 use Rattle.vx_layout.specs.declared.strip.Strip.{Strip}
 use Rattle.vx_config_parts.specs.declared.plex.Plex.{Plex}
-use Rattle.vx_plexes.specs.Lies.{strips_of}
+use Rattle.vx_image.specs.Lies.{strips_of}
 use Rattle.vx_copies.specs.Disks.{DiskSeen}
 use Rattle.vx_copies.specs.Lists.{AnyOf}
 use Rattle.vx_confdb.specs.Groups.{members}
@@ -21,8 +21,8 @@ use Rattle.vx_fronts.specs.Rests.{AllTell, is_of}
 use Rattle.vx_moments.specs.Moment.{Counts, Moment, AreLater}
 use Rattle.vx_moments.specs.Moment.{HasFailed as FailsAt}
 use Rattle.vx_moments.specs.World.{Group, Volume}
-use Rattle.vx_group_images.specs.Group.{ChangesOnly}
-use Rattle.vx_group_images.specs.Owners.{IsDeviceOfVolume, device_at}
+use Rattle.vx_moments.specs.Group.{ChangesOnly}
+use Rattle.vx_moments.specs.Owners.{IsDeviceOfVolume, device_at}
 use Rattle.vx_volume.specs.Volume.{IsVolume, shape_of, volume_seen}
 use Rattle.vx_volume_laws.specs.Exact.{IsExactVolume}
 use Rattle.vx_volume_laws.specs.Running.{IsSureOfOthers, RunsAsVolume}

@@ -5,7 +5,7 @@ use Rattle.std.specs.Prelude.{◌==◌, Contains, Decides}
 use Rattle.std.specs.List.{list_all, list_any}
 use Rattle.std.proofs.lemmas.Bool.{false≢true}
 use Rattle.std.proofs.lemmas.Bool.Decides.{Decides-eqb}
-use Rattle.vx_plexes.proofs.Members.{IsIn}
+use Rattle.vx_image.proofs.PlexMembers.{IsIn}
 use Rattle.vx_image.specs.Image.{LogCopy, Image, is_marked_by_all, is_marked_by_some}
 use Rattle.vx_image.specs.Soundness.{IsChoiceOfMarks}
 use Rattle.vx_image.proofs.Members.{contains, any_from_one, each_from_all}

@@ -4,7 +4,7 @@ use Rattle.std.specs.Prelude.{Contains, Decides}
 use Rattle.std.specs.Str.{bytes_eq}
 use Rattle.std.proofs.lemmas.Bool.{cases_eq, cases_order, false≢true, true≢false}
 use Rattle.std.proofs.lemmas.Slice.Eq.{bytes_eq-Decides}
-use Rattle.vx_plexes.proofs.Members.{IsIn}
+use Rattle.vx_image.proofs.PlexMembers.{IsIn}
 use Rattle.vx_image.proofs.Members.{is_in, contains}
 
 abbrev pub Decided : Type 0 → Type 0

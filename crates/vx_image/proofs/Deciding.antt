@@ -3,7 +3,7 @@ use Rattle.std.proofs.Common.{◌≡◌, inl, inr, ℕ, ◌/◌, ◌<◌, ◌++�
 use Rattle.std.specs.Prelude.{Contains}
 use Rattle.vx_config_parts.specs.declared.state.VolState.{VolState}
 use Rattle.vx_config_parts.specs.declared.state.VolState.TheVariants as vol
-use Rattle.vx_plexes.proofs.Members.{IsIn, in_left, in_map, in_right}
+use Rattle.vx_image.proofs.PlexMembers.{IsIn, in_left, in_map, in_right}
 use Rattle.vx_image.specs.Image.{PlexImage, Image, regions_of, is_stale}
 use Rattle.vx_image.specs.Soundness.{IsChoiceOfMarks, IsDirtyBy, IsSoundBy, IsUnmarkedPlex, MayDiffer, PlexesAgree}
 use Rattle.vx_image.specs.Deciding.{EachImageIsSoundOrNot}

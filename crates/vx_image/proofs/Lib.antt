@@ -1,3 +1,12 @@
+pub mod PlexMembers
+pub mod Valid
+mod Once
+mod Chain
+mod Walks
+pub mod Plexes
+pub mod Apart
+pub mod Shapes
+pub mod Room
 pub mod Choices
 mod Counts
 pub mod Decided

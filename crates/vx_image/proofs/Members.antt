@@ -3,7 +3,7 @@ use Rattle.std.proofs.Common.{◌≡◌, ◌⊎◌, inl, inr, ℕ, zero, suc, Bo
 use Rattle.std.specs.Prelude.{◌==◌, Contains}
 use Rattle.std.specs.List.{list_all, list_any, filter}
 use Rattle.std.proofs.lemmas.Bool.Decides.{nat_tests}
-use Rattle.vx_plexes.proofs.Members.{IsIn, any_in, in_any, all_in}
+use Rattle.vx_image.proofs.PlexMembers.{IsIn, any_in, in_any, all_in}
 
 pub is_in : {X : Type 0} (xs : List X) (x : X) → Contains xs x → IsIn xs x
 is_in [] x (k, lt, at) = absurd (omega (arith, lt))

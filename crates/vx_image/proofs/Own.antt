@@ -15,8 +15,8 @@ use Rattle.vx_config_parts.specs.declared.plex.Plex.{Plex}
 use Rattle.vx_config_parts.specs.declared.vol.Vol.{Vol}
 use Rattle.vx_config_parts.specs.Objects.{refers, is_data, is_log, is_data_plex_of, is_log_plex_of}
 use Rattle.vx_objects.specs.declared.config.Config.{Config}
-use Rattle.vx_plexes.specs.Lies.{columns_of, strips_of}
-use Rattle.vx_plexes.proofs.Members.{IsIn, in_left, in_right}
+use Rattle.vx_image.specs.Lies.{columns_of, strips_of}
+use Rattle.vx_image.proofs.PlexMembers.{IsIn, in_left, in_right}
 use Rattle.vx_image.specs.Image.{PlexImage, LogCopy}
 use Rattle.vx_image.specs.Bytes.{Sectors, bytes_at, plex_contents, is_held, map_or_zero, plex_image, is_active, is_log_copy, plex_marks, log_copies, relation_maps, image_of}
 use Rattle.vx_image.specs.Own.{IsOfPlex, IsOfVolume, SameInside, EachImageIsItsOwn}

@@ -2,7 +2,7 @@
 use Rattle.std.proofs.Common.{◌≡◌, inl, inr, ℕ, ◌/◌, refl, sym, subst, ap, List, [], ◌∷◌}
 use Rattle.std.specs.Prelude.{Contains}
 use Rattle.vx_life.specs.Candidates.{IsAmong, IsListed}
-use Rattle.vx_plexes.proofs.Members.{IsIn}
+use Rattle.vx_image.proofs.PlexMembers.{IsIn}
 use Rattle.vx_image.specs.Image.{PlexImage}
 use Rattle.vx_image.specs.Meaning.{plex_values, plexes_read, EachImageStandsForItself, EachReadingIsWithin}
 use Rattle.vx_image.proofs.Members.{is_in, contains}

@@ -16,7 +16,7 @@ use Rattle.vx_config_parts.specs.declared.state.PlexState.{PlexState}
 use Rattle.vx_config_parts.specs.declared.state.PlexState.TheVariants as plex
 use Rattle.vx_config_parts.specs.Objects.{refers, is_data_plex_of, is_log_plex_of}
 use Rattle.vx_objects.specs.declared.config.Config.{Config}
-use Rattle.vx_plexes.specs.Lies.{slot_of, columns_of}
+use Rattle.vx_image.specs.Lies.{slot_of, columns_of}
 use Rattle.vx_image.specs.Image.{PlexImage, LogCopy, Image}
 
 -- the sectors of the public regions of a group's disks, by slot and sector

@@ -1,3 +1,6 @@
+pub mod Lies
+pub mod Once
+pub mod Room
 pub mod Bytes
 pub mod Counts
 pub mod Deciding

@@ -8,7 +8,7 @@ use Rattle.vx_config_parts.specs.declared.plex.Plex.{Plex}
 use Rattle.vx_config_parts.specs.declared.vol.Vol.{Vol}
 use Rattle.vx_config_parts.specs.Objects.{refers}
 use Rattle.vx_objects.specs.declared.config.Config.{Config}
-use Rattle.vx_plexes.specs.Lies.{strips_of}
+use Rattle.vx_image.specs.Lies.{strips_of}
 use Rattle.vx_image.specs.Bytes.{Sectors, image_of}
 
 -- a strip of the plex has the sector

@@ -12,7 +12,7 @@ use Rattle.vx_config_parts.specs.declared.object.Object.TheVariants.{VolRecord}
 use Rattle.vx_config_parts.specs.Objects.{is_data_plex_of, is_log_plex_of}
 use Rattle.vx_objects.specs.declared.config.Config.{Config}
 use Rattle.vx_objects.specs.Config.{objects_of}
-use Rattle.vx_plexes.specs.Once.{IsOneOf}
+use Rattle.vx_image.specs.Once.{IsOneOf}
 use Rattle.vx_image.specs.Image.{is_available_state}
 use Rattle.vx_image.specs.Bytes.{is_held, map_or_zero}
 

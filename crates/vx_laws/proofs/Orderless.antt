@@ -17,7 +17,7 @@ use Rattle.vx_config_parts.specs.declared.fault.Limit.TheVariants as limit
 use Rattle.vx_config_parts.specs.declared.fault.ObjectFault.{ObjectFault}
 use Rattle.vx_config_parts.specs.declared.fault.ObjectFault.TheVariants.{Limit, Exists}
 use Rattle.vx_config_parts.specs.Objects.{name_of, is_group, is_disk, is_vol}
-use Rattle.vx_extents.specs.Overlap.{first_overlap_with, overlap_of}
+use Rattle.vx_rules.specs.Overlap.{first_overlap_with, overlap_of}
 use Rattle.vx_rules.specs.declared.rule.Rule.{Rule}
 use Rattle.vx_rules.specs.declared.rule.Rule.TheVariants as rule
 use Rattle.vx_rules.specs.Faults.{first_some, unless, first_of}

@@ -14,10 +14,10 @@ use Rattle.vx_answers.specs.declared.answer.End.TheVariants as ends
 use Rattle.vx_answers.specs.declared.refusal.Refusal.TheVariants as refusal
 use Rattle.vx_moments.specs.Moment.{Counts, Moment}
 use Rattle.vx_moments.specs.World.{Group, OnPlexes, Volume, World}
-use Rattle.vx_group_images.specs.Group.{image_on}
-use Rattle.vx_group_images.specs.Lives.{volume_by, volume_copied}
-use Rattle.vx_group_images.specs.Owners.{owners_of}
-use Rattle.vx_group_images.specs.Tracks.{volume_failed}
+use Rattle.vx_moments.specs.Group.{image_on}
+use Rattle.vx_moments.specs.Lives.{volume_by, volume_copied}
+use Rattle.vx_moments.specs.Owners.{owners_of}
+use Rattle.vx_moments.specs.Tracks.{volume_failed}
 use Rattle.vx_stages.specs.Ends.{EndsIn}
 use Rattle.vx_stages.specs.Starting.{BecomesBy, CopiesTo, IsCopied, IsStartedBy, StartStops, StopsIn, StopsOf, is_copied, may_start, plexes_started, volume_started}
 use Rattle.vx_stages.specs.Stopping.{ComesToRest, IsStopDone, StopStops, rested_volume, without_volume}

@@ -9,9 +9,9 @@ use Rattle.vx_answers.specs.declared.answer.End.{End}
 use Rattle.vx_answers.specs.declared.answer.End.TheVariants as ends
 use Rattle.vx_answers.specs.declared.refusal.Refusal.TheVariants.{NotStarted, Range}
 use Rattle.vx_moments.specs.World.{World, Device, Volume, Lies, OnDevice, OnPlexes}
-use Rattle.vx_group_images.specs.Owners.{owners_of}
-use Rattle.vx_group_images.specs.Tracks.{volume_failed}
-use Rattle.vx_group_images.proofs.Tracked.{goes_length, goes_lies}
+use Rattle.vx_moments.specs.Owners.{owners_of}
+use Rattle.vx_moments.specs.Tracks.{volume_failed}
+use Rattle.vx_moments.proofs.Tracked.{goes_length, goes_lies}
 use Rattle.vx_moments.specs.Moment.{Moment, Rests}
 use Rattle.vx_stages.specs.Calls.{volume_of, start_of, count_of}
 use Rattle.vx_stages.specs.GroupCalls.{BecomesBy, IsServedOnPlexes, comes_next, is_known}
@@ -22,7 +22,7 @@ use Rattle.vx_stages.specs.declared.stage.Stage.TheVariants as stage
 use Rattle.vx_plans.proofs.Complete.{kept_world, keeps_world}
 use Rattle.vx_life.specs.Candidates.{Candidates, known}
 use Rattle.vx_image.specs.Meaning.{candidates_read}
-use Rattle.vx_group_images.specs.Group.{image_on}
+use Rattle.vx_moments.specs.Group.{image_on}
 use Rattle.vx_laws.specs.Histories.{FirstHasAdded, HasAdded, HasHistory, IsHistoried, IsHistoriedOn, HaveHistories, NoneStarted, WasRead, WasThere}
 use Rattle.vx_laws.proofs.Starts.{AreRead, IsRead, start_kept, stop_done, stop_kept}
 use Rattle.vx_laws.proofs.Lives.{Holding, Reading, begun_history, put_history, goes_on_history, same_volumes, without_group, from_nothing}

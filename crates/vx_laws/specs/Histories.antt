@@ -13,7 +13,7 @@ use Rattle.vx_script.specs.declared.command.Command.{Command}
 use Rattle.vx_answers.specs.declared.answer.Answer.{Answer}
 use Rattle.vx_moments.specs.World.{Group, World, Volume, Lies, OnDevice, OnPlexes}
 use Rattle.vx_moments.specs.Moment.{Moment}
-use Rattle.vx_group_images.specs.Group.{image_on}
+use Rattle.vx_moments.specs.Group.{image_on}
 use Rattle.vx_stages.specs.Stages.{IsDone}
 use Rattle.vx_stages.specs.Starting.{may_start}
 use Rattle.vx_stages.specs.Tests.{volume_in}

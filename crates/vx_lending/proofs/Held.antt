@@ -8,7 +8,7 @@ use Rattle.vx_cell.specs.Changes.{cell_seen}
 use Rattle.vx_cell.specs.Plexes.{PlexSeen}
 use Rattle.vx_volume.specs.declared.volume.Volume.{Volume}
 use Rattle.vx_volume.specs.Volume.{cells_seen, log_of, volume_seen}
-use Rattle.vx_volume_pieces.specs.Pieces.{all_pieces, cell_plexes}
+use Rattle.vx_lending.specs.RegionPieces.{all_pieces, cell_plexes}
 use Rattle.vx_lending.specs.Left.{held_pieces, region_plexes}
 use Rattle.vx_lending.specs.Logs.{log_copies}
 use Rattle.vx_lending.specs.Pieces.{copy_pieces}

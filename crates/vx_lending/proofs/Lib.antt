@@ -1,3 +1,15 @@
+pub mod RegionLists
+pub mod Regions
+pub mod Openable
+pub mod Distinct
+pub mod Zips
+pub mod Rules
+pub mod Maps
+pub mod Bits
+pub mod Places
+pub mod Rooms
+pub mod Unions
+pub mod Lists
 pub mod Counts
 pub mod NewLogs
 pub mod Goings

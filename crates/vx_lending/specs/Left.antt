@@ -15,7 +15,7 @@ use Rattle.vx_maps.specs.Spares.{copies_seen}
 use Rattle.vx_maps.specs.Wholes.{copy_faults, store_copies, store_faults}
 use Rattle.vx_volume.specs.declared.volume.Volume.{Volume}
 use Rattle.vx_volume.specs.Volume.{log_of, shape_of, volume_seen}
-use Rattle.vx_volume_pieces.specs.Pieces.{all_pieces, cell_plexes}
+use Rattle.vx_lending.specs.RegionPieces.{all_pieces, cell_plexes}
 use Rattle.vx_lending.specs.declared.left.VolumeLeft.{VolumeLeft}
 use Rattle.vx_lending.specs.declared.left.VolumeLeft.TheVariants.{Parts, Whole}
 use Rattle.vx_lending.specs.declared.left.LogLeft.{LogLeft}

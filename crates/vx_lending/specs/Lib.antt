@@ -1,3 +1,8 @@
+pub mod RegionPieces
+pub mod RegionsTaken
+pub mod RegionLaws
+pub mod Form
+pub mod FormLaws
 pub mod Pieces
 pub mod Taken
 pub mod Going

@@ -4,7 +4,7 @@ use Rattle.std.specs.List.{flat_map}
 use Rattle.vx_piece.specs.Seen.{Seen}
 use Rattle.vx_maps.specs.Spares.{copies_seen}
 use Rattle.vx_volume.specs.Opening.{regions_seen}
-use Rattle.vx_volume_pieces.specs.Pieces.{all_pieces}
+use Rattle.vx_lending.specs.RegionPieces.{all_pieces}
 use Rattle.vx_lending.specs.declared.pieces.VolumePieces.{VolumePieces}
 
 -- the pieces of a copy

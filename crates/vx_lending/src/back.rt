@@ -4,10 +4,10 @@ ghost use Rattle.vx_maps.specs.Spares.{copies_seen};
 ghost use Rattle.vx_lending.specs.Pieces.{copy_pieces, volume_pieces};
 
 use crate::pieces::VolumePieces;
+use crate::put_regions;
 use std::alloc::Global;
 use vx_carve::{Pool, uncarve};
 use vx_piece::Piece;
-use vx_volume_pieces::put_regions;
 
 /// Puts the copies of a log back, the last copy first. It takes no memory but what the joins take, and is done where the pool
 /// has room for all pieces; what it has no room for comes back.

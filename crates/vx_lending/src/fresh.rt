@@ -16,6 +16,7 @@ ghost use Rattle.vx_lending.specs.Marking.{IsMarkRefused, IsMarkedAll, IsMarkedO
 ghost use Rattle.vx_lending.specs.Pieces.{copy_pieces};
 ghost use Rattle.vx_lending.specs.Taken.{AreLogCopies, slot_of};
 
+use crate::VolumeForm;
 use crate::copies::log_shape;
 use crate::left::{FreshRefused, LogLeft};
 use std::alloc::Global;
@@ -26,7 +27,6 @@ use vx_mask::contains;
 use vx_pages::LocalPiece;
 use vx_piece::Piece;
 use vx_volume::VolumeLog;
-use vx_volume_form::VolumeForm;
 use vx_whole_maps::WholeMaps;
 
 /// A log of a volume that was never started: nothing is marked but each of these maps in all regions; without copies there is

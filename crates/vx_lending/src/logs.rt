@@ -11,12 +11,12 @@ ghost use Rattle.vx_lending.specs.Logs.{IsLoadedLog, log_copies, log_header, log
 ghost use Rattle.vx_lending.specs.Pieces.{copy_pieces};
 ghost use Rattle.vx_lending.specs.Taken.{AreLogCopies, slot_of};
 
+use crate::VolumeForm;
 use crate::copies::log_shape;
 use std::alloc::Global;
 use vx_maps::{MapStore, StoreRefused};
 use vx_piece::Piece;
 use vx_volume::VolumeLog;
-use vx_volume_form::VolumeForm;
 
 /// The log of a volume, loaded from its copies; without copies there is none. After a refusal the copies come back, perhaps of
 /// more pieces.

@@ -1,7 +1,7 @@
 //! What a group has beside the fronts of its disks.
 ghost use Rattle.std.specs.Prelude.{◌≡◌, []};
 
-use crate::LogLeft;
+use crate::{LogLeft, VolumeForm};
 use std::alloc::Global;
 use std::collections::BTreeMap;
 use vx_carve::Pool;
@@ -10,7 +10,6 @@ use vx_names::Name;
 use vx_pages::LocalPiece;
 use vx_piece::Piece;
 use vx_volume::Volume;
-use vx_volume_form::VolumeForm;
 
 /// A started volume of a group, with the form that it was opened with.
 #[derive(Drop)]

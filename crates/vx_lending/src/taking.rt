@@ -7,19 +7,18 @@ ghost use Rattle.vx_carve.specs.Carved.{HaveNumbers};
 ghost use Rattle.vx_carve.specs.Strips.{ArePlexes, EachStrip, IsFreeStrip};
 ghost use Rattle.vx_maps.specs.Spares.{copies_seen};
 ghost use Rattle.vx_volume.specs.Opening.{regions_seen};
-ghost use Rattle.vx_volume_pieces.specs.Taken.{AreDifferent, AreTakenRegions};
+ghost use Rattle.vx_lending.specs.RegionsTaken.{AreDifferent, AreTakenRegions};
 ghost use Rattle.vx_lending.specs.Pieces.{volume_pieces};
 ghost use Rattle.vx_lending.specs.Taken.{AreLogCopies, AreTakenCopies, HaveBlocks, OthersStay, log_sectors, slot_of};
 
 use crate::back::put_pieces;
 use crate::copies::take_copies;
 use crate::pieces::VolumePieces;
+use crate::{VolumeForm, take_regions};
 use std::alloc::Global;
 use vx_base::OutOfMemory;
 use vx_carve::Pool;
 use vx_piece::Piece;
-use vx_volume_form::VolumeForm;
-use vx_volume_pieces::take_regions;
 
 /// Takes the pieces of a volume out of the pool: a plex of each layout in each region, and of each log plex as many of its
 /// first blocks as the log has. After a refusal what was taken is put back, and what the pool has no room for comes back.

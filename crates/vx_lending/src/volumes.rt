@@ -2,19 +2,19 @@ ghost use Rattle.std.specs.Prelude.{◌≡◌, ◌+◌, ◌≤◌, ◌++◌, len
 ghost use Rattle.vx_carve.specs.Together.{SameSectors};
 ghost use Rattle.vx_maps.specs.Spares.{copies_seen};
 ghost use Rattle.vx_volume.specs.Volume.{IsVolume, volume_seen};
-ghost use Rattle.vx_volume_pieces.specs.Pieces.{all_pieces, cell_plexes};
+ghost use Rattle.vx_lending.specs.RegionPieces.{all_pieces, cell_plexes};
 ghost use Rattle.vx_lending.specs.Left.{AreParts, IsLeftOf, IsWholeLeft, StaysWhole, held_pieces, left_pieces};
 ghost use Rattle.vx_lending.specs.Logs.{log_copies};
 ghost use Rattle.vx_lending.specs.Pieces.{copy_pieces};
 
 use crate::back::put_copies;
 use crate::left::VolumeLeft;
+use crate::put_cells;
 use std::alloc::Global;
 use vx_carve::Pool;
 use vx_cell::Cell;
 use vx_piece::Piece;
 use vx_volume::{Volume, VolumeLog};
-use vx_volume_pieces::put_cells;
 
 /// Puts all pieces of a volume back. It takes no memory but the lists of its log's pieces and what the joins take; where there
 /// is none for the lists the volume comes back as it was, and else what the pool has no room for.

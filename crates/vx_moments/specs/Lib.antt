@@ -4,3 +4,10 @@ pub mod Holding
 pub mod Leaving
 pub mod Copies
 pub mod Commit
+pub mod Group
+pub mod Laws
+pub mod Lives
+pub mod Volumes
+pub mod Drops
+pub mod Tracks
+pub mod Owners

@@ -1,3 +1,5 @@
-//! The world that a script runs in, moment by moment: devices with their bytes, started volumes, the imported group, and
-//! the counts of device calls. Definitions alone; no code of the project is named.
+//! The moments of a world of devices, groups and volumes, and what the bytes of a group's disks say of its volumes from one moment to
+//! another. Definitions, and laws as functions that do nothing and promise them.
 #![tactic(auto)]
+
+pub mod laws;

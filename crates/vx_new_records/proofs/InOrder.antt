@@ -9,7 +9,7 @@ use Rattle.vx_config_parts.specs.declared.fault.ObjectFault.TheVariants.{Limit}
 use Rattle.vx_rules.specs.Faults.{first_some, unless}
 use Rattle.vx_rules.specs.Limits.{is_short_name}
 use Rattle.vx_rules.proofs.Lookups.{first_none, second_none}
-use Rattle.vx_plan.specs.Rule.{has_small_numbers, is_request}
+use Rattle.vx_new_volumes.specs.Rule.{has_small_numbers, is_request}
 use Rattle.vx_new_volumes.specs.declared.volume.NewVolume.{NewVolume}
 use Rattle.vx_new_volumes.specs.Tests.{absent_disk, has_room, limit_fault, name_fault, log_fault, new_fault}
 

@@ -2,7 +2,7 @@
 use Rattle.std.proofs.Common.{◌≡◌, Option, Some, None, List, sym, ap, ◌∙◌}
 use Rattle.vx_base.specs.Named.{Word}
 use Rattle.vx_config_parts.specs.declared.object.Object.{Object}
-use Rattle.vx_plan.specs.declared.parts.Plan.{Plan}
+use Rattle.vx_new_volumes.specs.declared.parts.Plan.{Plan}
 use Rattle.vx_new_volumes.specs.declared.volume.NewVolume.{NewVolume}
 use Rattle.vx_new_volumes.specs.Naming.{and_then}
 use Rattle.vx_new_volumes.specs.Records.{dco_name, names_known, records_named, records_of}

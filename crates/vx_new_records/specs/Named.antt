@@ -1,7 +1,7 @@
 -- The new names of plexes and logs, where these names are known.
 use Rattle.std.specs.Prelude.{Option, List, [], length}
 use Rattle.vx_base.specs.Named.{Word}
-use Rattle.vx_plan.specs.declared.parts.Plan.{Plan}
+use Rattle.vx_new_volumes.specs.declared.parts.Plan.{Plan}
 use Rattle.vx_new_volumes.specs.declared.volume.NewVolume.{NewVolume}
 use Rattle.vx_new_volumes.specs.Naming.{names_behind}
 use Rattle.vx_new_volumes.specs.Records.{log_stem}

@@ -11,8 +11,7 @@ use std::alloc::Global;
 use vx_base::OutOfMemory;
 use vx_config_parts::Object;
 use vx_names::Name;
-use vx_new_volumes::NewVolume;
-use vx_plan::Plan;
+use vx_new_volumes::{NewVolume, Plan};
 
 /// The records of the volume in a group of these records, whose plexes and logs lie as is planned; None where a name would be too long.
 pub fn records_of(

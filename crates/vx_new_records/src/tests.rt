@@ -2,7 +2,7 @@ ghost use Rattle.std.specs.Prelude.{◌≡◌, ℕ, List, IfOk, true, None};
 ghost use Rattle.vx_block.specs.Geometry.{is_region_size};
 ghost use Rattle.vx_config_parts.specs.Objects.{is_vol};
 ghost use Rattle.vx_rules.specs.References.{has_disk, has_name};
-ghost use Rattle.vx_plan.specs.Rule.{is_request};
+ghost use Rattle.vx_new_volumes.specs.Rule.{is_request};
 ghost use Rattle.vx_new_volumes.specs.Naming.{is_known};
 ghost use Rattle.vx_new_volumes.specs.Tests.{absent_disk, has_room, limit_fault, dco_fault_named, name_fault, log_fault, new_fault};
 

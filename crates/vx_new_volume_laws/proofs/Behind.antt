@@ -4,7 +4,7 @@ use Rattle.std.proofs.lemmas.Bool.{leb-true}
 use Rattle.vx_base.specs.Named.{Word}
 use Rattle.vx_names.specs.Form.{is_name}
 use Rattle.vx_new_volumes.specs.Naming.{Numbered, as_name, free_name, is_known, name_at, names_behind, next_name, numbered}
-use Rattle.vx_plexes.proofs.Members.{IsIn}
+use Rattle.vx_image.proofs.PlexMembers.{IsIn}
 use Rattle.vx_new_volume_laws.proofs.Parts.{then_some}
 use Rattle.vx_new_volume_laws.proofs.Stems.{numbered_one}
 

@@ -14,7 +14,7 @@ use Rattle.vx_config_parts.specs.declared.object.Object.TheVariants.{PlexRecord,
 use Rattle.vx_config_parts.specs.Objects.{is_disk, is_group, is_plex, is_snap, is_subdisk, refers}
 use Rattle.vx_rules.specs.References.{has_name}
 use Rattle.vx_objects.specs.Config.{objects_of}
-use Rattle.vx_plexes.proofs.Members.{IsIn, in_either, in_left, in_map, in_right}
+use Rattle.vx_image.proofs.PlexMembers.{IsIn, in_either, in_left, in_map, in_right}
 use Rattle.vx_space.specs.declared.extent.Extent.{Extent}
 use Rattle.vx_new_volumes.specs.Records.{data_plex, data_plexes, dco_of, has_logs, log_plex, names_known, vol_of}
 use Rattle.vx_new_volumes.specs.declared.volume.NewVolume.{NewVolume}

@@ -6,11 +6,11 @@ use Rattle.vx_base.specs.Named.{Word}
 use Rattle.vx_base.proofs.NamedLemmas.{bytes_eq_self, bytes_eq_same}
 use Rattle.vx_config_parts.specs.declared.object.Object.{Object}
 use Rattle.vx_config_parts.specs.Objects.{refers}
-use Rattle.vx_extents.proofs.ColumnRuns.{runs_in}
-use Rattle.vx_extents.proofs.Runs.{Run}
+use Rattle.vx_rules.proofs.ColumnRuns.{runs_in}
+use Rattle.vx_rules.proofs.Runs.{Run}
 use Rattle.vx_rules.specs.References.{has_name}
 use Rattle.vx_objects.specs.Config.{objects_of}
-use Rattle.vx_plexes.proofs.Members.{IsIn, in_either}
+use Rattle.vx_image.proofs.PlexMembers.{IsIn, in_either}
 use Rattle.vx_space.specs.declared.extent.Extent.{Extent}
 use Rattle.vx_new_volumes.specs.Records.{data_plexes, dco_of, log_plex}
 use Rattle.vx_new_volumes.specs.declared.volume.NewVolume.{NewVolume}

@@ -12,15 +12,15 @@ use Rattle.vx_config_parts.specs.declared.plex.Plex.{Plex}
 use Rattle.vx_config_parts.specs.declared.snap.Snap.{Snap}
 use Rattle.vx_config_parts.specs.declared.subdisk.Subdisk.{Subdisk}
 use Rattle.vx_config_parts.specs.Objects.{is_plex, is_subdisk, is_vol, name_of, refers}
-use Rattle.vx_extents.proofs.ListTests.{any_weaker, count_more, count_none}
+use Rattle.vx_rules.proofs.ListTests.{any_weaker, count_more, count_none}
 use Rattle.vx_rules.specs.declared.rule.Rule.TheVariants as rule
 use Rattle.vx_rules.specs.Faults.{unless}
 use Rattle.vx_rules.specs.References.{has_disk, has_name, has_plex, has_vol, missing, reference_fault}
 use Rattle.vx_rules.specs.Rules.{fault_in}
 use Rattle.vx_objects.proofs.OneGroup.{first_none, second_none, unless_none}
 use Rattle.vx_objects.specs.Config.{objects_of}
-use Rattle.vx_plexes.proofs.Members.{IsIn, in_any}
-use Rattle.vx_plexes.proofs.Plexes.{config_valid}
+use Rattle.vx_image.proofs.PlexMembers.{IsIn, in_any}
+use Rattle.vx_image.proofs.Plexes.{config_valid}
 use Rattle.vx_new_volumes.specs.Records.{data_plex, data_plexes, dco_of, has_logs, log_plex, vol_of}
 use Rattle.vx_new_volumes.specs.declared.volume.NewVolume.{NewVolume}
 use Rattle.vx_moments.specs.World.{Group}

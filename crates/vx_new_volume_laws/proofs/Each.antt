@@ -12,8 +12,8 @@ use Rattle.vx_rules.specs.References.{repeated_after}
 use Rattle.vx_rules.specs.Rules.{fault_in, fault_over}
 use Rattle.vx_rules.proofs.InOrder.{names_differ}
 use Rattle.vx_objects.specs.Config.{objects_of}
-use Rattle.vx_plexes.proofs.Members.{IsIn}
-use Rattle.vx_plexes.proofs.Plexes.{config_valid}
+use Rattle.vx_image.proofs.PlexMembers.{IsIn}
+use Rattle.vx_image.proofs.Plexes.{config_valid}
 use Rattle.vx_new_volumes.specs.Records.{vol_of}
 use Rattle.vx_new_volumes.specs.declared.volume.NewVolume.{NewVolume}
 use Rattle.vx_moments.specs.World.{Group}

@@ -5,9 +5,9 @@ use Rattle.std.proofs.lemmas.Bool.{false≢true, and_from, and_parts, false_from
 use Rattle.vx_base.specs.Named.{Word}
 use Rattle.vx_base.proofs.NamedLemmas.{bytes_eq_self, bytes_eq_same}
 use Rattle.vx_config_parts.specs.Objects.{comes_before}
-use Rattle.vx_extents.proofs.ListTests.{any_count, count_none}
-use Rattle.vx_extents.proofs.NameOrder.{before_itself, before_later}
-use Rattle.vx_plexes.proofs.Members.{IsIn}
+use Rattle.vx_rules.proofs.ListTests.{any_count, count_none}
+use Rattle.vx_rules.proofs.NameOrder.{before_itself, before_later}
+use Rattle.vx_image.proofs.PlexMembers.{IsIn}
 use Rattle.vx_space.specs.declared.extent.Extent.{Extent}
 use Rattle.vx_space.specs.Extents.{are_in_order, comes_behind, has_sector, is_listed, next_is_behind}
 use Rattle.vx_new_volume_laws.proofs.Lists.{none_any}

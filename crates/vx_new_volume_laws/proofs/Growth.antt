@@ -25,13 +25,13 @@ use Rattle.vx_config_parts.specs.declared.state.VolState.TheVariants as vol
 use Rattle.vx_config_parts.specs.declared.vol.Vol.{Vol}
 use Rattle.vx_config_parts.specs.Objects.{is_plex, is_vol, name_of, refers}
 use Rattle.vx_config_parts.specs.Words.{layout_word, plex_kind_word, plex_state_word, policy_word, vol_state_word}
-use Rattle.vx_extents.proofs.ListTests.{count_none}
+use Rattle.vx_rules.proofs.ListTests.{count_none}
 use Rattle.vx_objects.specs.declared.config.Config.{Config}
 use Rattle.vx_objects.specs.declared.edit.Edit.TheVariants.{Make}
 use Rattle.vx_objects.specs.Applied.{IsEdited}
 use Rattle.vx_objects.specs.Config.{objects_of}
 use Rattle.vx_objects.specs.Printed.{attr, numeral, numeral_or_none}
-use Rattle.vx_plexes.proofs.Members.{IsIn, count_some, in_any}
+use Rattle.vx_image.proofs.PlexMembers.{IsIn, count_some, in_any}
 use Rattle.vx_new_volumes.specs.Records.{data_plex, log_plex, vol_of}
 use Rattle.vx_new_volumes.specs.declared.volume.NewVolume.{NewVolume}
 use Rattle.vx_moments.specs.World.{Group}

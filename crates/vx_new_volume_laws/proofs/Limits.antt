@@ -14,7 +14,7 @@ use Rattle.vx_config_parts.specs.declared.snap.Snap.{Snap}
 use Rattle.vx_config_parts.specs.declared.subdisk.Subdisk.{Subdisk}
 use Rattle.vx_config_parts.specs.declared.vol.Vol.{Vol}
 use Rattle.vx_config_parts.specs.Objects.{is_data_plex_of, is_disk, is_group, is_plex, is_snap, is_vol, refers}
-use Rattle.vx_extents.proofs.ListTests.{any_weaker}
+use Rattle.vx_rules.proofs.ListTests.{any_weaker}
 use Rattle.vx_rules.specs.declared.rule.Rule.{Rule}
 use Rattle.vx_rules.specs.declared.rule.Rule.TheVariants as rule
 use Rattle.vx_rules.specs.Adding.{fault_by}
@@ -24,9 +24,9 @@ use Rattle.vx_rules.specs.Relations.{has_shape, relation_fault, relation_is_alon
 use Rattle.vx_rules.specs.Rules.{fault_in, fault_over}
 use Rattle.vx_objects.proofs.OneGroup.{group_holds, unless_none}
 use Rattle.vx_objects.specs.Config.{objects_of}
-use Rattle.vx_plexes.proofs.Members.{IsIn, in_any, in_right}
-use Rattle.vx_plexes.proofs.Plexes.{config_valid}
-use Rattle.vx_plexes.proofs.Valid.{slot_own}
+use Rattle.vx_image.proofs.PlexMembers.{IsIn, in_any, in_right}
+use Rattle.vx_image.proofs.Plexes.{config_valid}
+use Rattle.vx_image.proofs.Valid.{slot_own}
 use Rattle.vx_new_volumes.specs.Records.{data_plex, log_plex, vol_of}
 use Rattle.vx_new_volumes.specs.declared.volume.NewVolume.{NewVolume}
 use Rattle.vx_moments.specs.World.{Group}

@@ -2,8 +2,8 @@
 use Rattle.std.proofs.Common.{◌≡◌, ℕ, zero, suc, ◌<◌, ◌≤◌, Bool, true, false, List, [], ◌∷◌, length, refl, inl, inr, arith}
 use Rattle.std.specs.List.{list_all, list_any}
 use Rattle.std.proofs.lemmas.Bool.{and_from, or_from}
-use Rattle.vx_extents.specs.Below.{all_below}
-use Rattle.vx_plexes.proofs.Members.{IsIn}
+use Rattle.vx_rules.specs.Below.{all_below}
+use Rattle.vx_image.proofs.PlexMembers.{IsIn}
 
 pub none_any : {A : Type 0} (test : A → Bool) (xs : List A) → ((x : A) → IsIn xs x → test x ≡ false) → list_any test xs ≡ false
 none_any test [] each = refl

@@ -8,13 +8,13 @@ use Rattle.vx_base.proofs.NamedLemmas.{bytes_eq_same}
 use Rattle.vx_block.specs.Geometry.{is_geometry, is_region_size}
 use Rattle.vx_config_parts.specs.declared.object.Object.TheVariants.{DiskRecord}
 use Rattle.vx_config_parts.specs.Objects.{comes_before}
-use Rattle.vx_extents.proofs.NameOrder.{before_itself}
+use Rattle.vx_rules.proofs.NameOrder.{before_itself}
 use Rattle.vx_rules.specs.Limits.{fits_byte, is_short}
 use Rattle.vx_objects.specs.declared.config.Config.{Config}
 use Rattle.vx_objects.specs.Config.{objects_of}
-use Rattle.vx_plexes.proofs.Members.{IsIn, any_in, disk_in, in_any}
-use Rattle.vx_plexes.proofs.Plexes.{config_valid}
-use Rattle.vx_plexes.proofs.Valid.{numbers_are}
+use Rattle.vx_image.proofs.PlexMembers.{IsIn, any_in, disk_in, in_any}
+use Rattle.vx_image.proofs.Plexes.{config_valid}
+use Rattle.vx_image.proofs.Valid.{numbers_are}
 use Rattle.vx_space.specs.declared.extent.Extent.{Extent}
 use Rattle.vx_space.specs.Disks.{is_good}
 use Rattle.vx_space.specs.Extents.{are_in_order, comes_behind, has_sector, next_is_behind, total}

@@ -9,14 +9,14 @@ use Rattle.vx_base.proofs.NamedLemmas.{bytes_eq_self, bytes_eq_same}
 use Rattle.vx_config_parts.specs.declared.disk.Disk.{Disk}
 use Rattle.vx_config_parts.specs.declared.object.Object.{Object}
 use Rattle.vx_config_parts.specs.Objects.{is_subdisk}
-use Rattle.vx_extents.proofs.ListTests.{count_more}
+use Rattle.vx_rules.proofs.ListTests.{count_more}
 use Rattle.vx_objects.specs.Config.{objects_of}
-use Rattle.vx_plexes.proofs.Members.{IsIn, any_in, count_some, in_map}
+use Rattle.vx_image.proofs.PlexMembers.{IsIn, any_in, count_some, in_map}
 use Rattle.vx_space.specs.declared.extent.Extent.{Extent}
 use Rattle.vx_space.specs.Disks.{is_good}
 use Rattle.vx_space.specs.Extents.{has_sector}
 use Rattle.vx_space.specs.Free.{AreFree, covers, has_public, is_free}
-use Rattle.vx_plan.specs.declared.parts.Plan.{Plan}
+use Rattle.vx_new_volumes.specs.declared.parts.Plan.{Plan}
 use Rattle.vx_new_volumes.specs.declared.volume.NewVolume.{NewVolume}
 use Rattle.vx_moments.specs.World.{Group}
 use Rattle.vx_stages.specs.Sources.{IsLaid}

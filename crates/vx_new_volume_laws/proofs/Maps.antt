@@ -14,15 +14,15 @@ use Rattle.vx_config_parts.specs.declared.plex.PlexKind.TheVariants.{Data, Log}
 use Rattle.vx_config_parts.specs.declared.snap.Snap.{Snap}
 use Rattle.vx_config_parts.specs.declared.vol.Vol.{Vol}
 use Rattle.vx_config_parts.specs.Objects.{is_data_plex_of, is_plex, is_snap, refers}
-use Rattle.vx_extents.specs.Below.{all_below}
-use Rattle.vx_extents.proofs.ListTests.{count_more, count_none}
+use Rattle.vx_rules.specs.Below.{all_below}
+use Rattle.vx_rules.proofs.ListTests.{count_more, count_none}
 use Rattle.vx_rules.specs.declared.rule.Rule.TheVariants as rule
 use Rattle.vx_rules.specs.Maps.{has_map, map_fault, map_uses, maps_are_good, maps_differ, maps_fit, plex_map_fits}
 use Rattle.vx_rules.specs.References.{has_name}
 use Rattle.vx_rules.specs.Rules.{fault_in, fault_over}
 use Rattle.vx_objects.specs.Config.{objects_of}
-use Rattle.vx_plexes.proofs.Members.{IsIn, in_any}
-use Rattle.vx_plexes.proofs.Plexes.{config_valid}
+use Rattle.vx_image.proofs.PlexMembers.{IsIn, in_any}
+use Rattle.vx_image.proofs.Plexes.{config_valid}
 use Rattle.vx_new_volumes.specs.Records.{data_plex, data_plexes, has_logs, log_plex, vol_of}
 use Rattle.vx_new_volumes.specs.declared.volume.NewVolume.{NewVolume}
 use Rattle.vx_moments.specs.World.{Group}

@@ -6,8 +6,8 @@ use Rattle.vx_config_parts.specs.declared.object.Object.{Object}
 use Rattle.vx_config_parts.specs.declared.object.Object.TheVariants.{DcoRecord}
 use Rattle.vx_config_parts.specs.Objects.{name_of}
 use Rattle.vx_rules.specs.References.{repeated_after}
-use Rattle.vx_plexes.proofs.Members.{IsIn, in_either, in_left, in_right}
-use Rattle.vx_plan.specs.declared.parts.Plan.{Plan}
+use Rattle.vx_image.proofs.PlexMembers.{IsIn, in_either, in_left, in_right}
+use Rattle.vx_new_volumes.specs.declared.parts.Plan.{Plan}
 use Rattle.vx_new_volumes.specs.Records.{data_plexes, dco_of, has_logs, log_plex, log_stem, names_known}
 use Rattle.vx_new_volumes.specs.declared.volume.NewVolume.{NewVolume}
 use Rattle.vx_new_volume_laws.proofs.Parts.{IsMade}

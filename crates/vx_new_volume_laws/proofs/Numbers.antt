@@ -11,9 +11,9 @@ use Rattle.vx_rules.specs.Faults.{unless}
 use Rattle.vx_rules.specs.Limits.{fits_byte, fits_word, is_short, map_fits, numbers_fit}
 use Rattle.vx_rules.specs.Rules.{fault_in, fault_over}
 use Rattle.vx_objects.specs.Config.{objects_of}
-use Rattle.vx_plexes.proofs.Members.{IsIn, disk_in, in_either}
-use Rattle.vx_plexes.proofs.Plexes.{config_valid}
-use Rattle.vx_plexes.proofs.Valid.{numbers_are}
+use Rattle.vx_image.proofs.PlexMembers.{IsIn, disk_in, in_either}
+use Rattle.vx_image.proofs.Plexes.{config_valid}
+use Rattle.vx_image.proofs.Valid.{numbers_are}
 use Rattle.vx_new_volumes.specs.Records.{data_plex, has_logs, vol_of}
 use Rattle.vx_new_volumes.specs.declared.volume.NewVolume.{NewVolume}
 use Rattle.vx_moments.specs.World.{Group}

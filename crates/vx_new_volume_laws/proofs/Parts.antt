@@ -3,12 +3,12 @@ use Rattle.std.proofs.Common.{◌≡◌, ℕ, Bool, true, false, Option, Some, N
 use Rattle.vx_base.specs.Named.{Word}
 use Rattle.vx_config_parts.specs.declared.object.Object.{Object}
 use Rattle.vx_config_parts.specs.declared.object.Object.TheVariants.{PlexRecord, VolRecord, DcoRecord}
-use Rattle.vx_plan.specs.declared.parts.Plan.{Plan}
+use Rattle.vx_new_volumes.specs.declared.parts.Plan.{Plan}
 use Rattle.vx_new_volumes.specs.Laying.{Laid}
 use Rattle.vx_new_volumes.specs.Naming.{and_then, names_behind}
 use Rattle.vx_new_volumes.specs.Records.{data_plex, data_plexes, dco_name, dco_of, has_logs, log_plex, log_stem, names_known, records_of, subdisks, vol_of}
 use Rattle.vx_new_volumes.specs.declared.volume.NewVolume.{NewVolume}
-use Rattle.vx_plexes.proofs.Members.{IsIn, from_map, in_either}
+use Rattle.vx_image.proofs.PlexMembers.{IsIn, from_map, in_either}
 
 pub then_some : {A B : Type 0} (a : Option A) (next : A → Option B) (b : B) → and_then a next ≡ Some b → (x : A) × (a ≡ Some x) × (next x ≡ Some b)
 then_some None next b is = cc

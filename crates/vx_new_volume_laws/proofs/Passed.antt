@@ -10,7 +10,7 @@ use Rattle.vx_rules.specs.Faults.{first_some, unless}
 use Rattle.vx_rules.specs.Limits.{is_short_name}
 use Rattle.vx_rules.specs.References.{has_name}
 use Rattle.vx_objects.proofs.OneGroup.{first_none, second_none, unless_none}
-use Rattle.vx_plan.specs.Rule.{has_small_numbers}
+use Rattle.vx_new_volumes.specs.Rule.{has_small_numbers}
 use Rattle.vx_new_volumes.specs.Records.{dco_name, has_logs}
 use Rattle.vx_new_volumes.specs.Tests.{absent_disk, dco_fault_named, has_room, limit_fault, log_fault, name_fault, new_fault}
 use Rattle.vx_new_volumes.specs.declared.volume.NewVolume.{NewVolume}

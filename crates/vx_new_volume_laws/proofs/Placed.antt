@@ -6,7 +6,7 @@ use Rattle.vx_base.specs.Named.{Word}
 use Rattle.vx_base.proofs.NamedLemmas.{bytes_eq_self, bytes_eq_same}
 use Rattle.vx_config_parts.specs.declared.object.Object.{Object}
 use Rattle.vx_config_parts.specs.Objects.{name_of}
-use Rattle.vx_plexes.proofs.Members.{IsIn, in_either}
+use Rattle.vx_image.proofs.PlexMembers.{IsIn, in_either}
 use Rattle.vx_new_volumes.specs.declared.next.Next.{Next}
 use Rattle.vx_new_volumes.specs.Laying.{Laid, next_on, subdisk, with_next}
 use Rattle.vx_new_volumes.specs.Naming.{Numbered, is_known, next_name, numbered}

@@ -2,7 +2,7 @@
 use Rattle.std.proofs.Common.{◌≡◌, ℕ, ◌+◌, min, Option, Some, None, List, [], ◌∷◌, ◌++◌, refl, sym, ap, ◌∙◌}
 use Rattle.vx_base.specs.Named.{Word}
 use Rattle.vx_space.specs.declared.extent.Extent.{Extent}
-use Rattle.vx_plan.specs.declared.parts.Plan.{Plan}
+use Rattle.vx_new_volumes.specs.declared.parts.Plan.{Plan}
 use Rattle.vx_new_volumes.specs.Laying.{Laid, put_column, put_columns, put_extent, put_logs, put_plexes}
 use Rattle.vx_new_volumes.specs.Naming.{and_then}
 use Rattle.vx_new_volumes.specs.Records.{subdisks}

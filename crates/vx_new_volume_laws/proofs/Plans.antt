@@ -4,18 +4,18 @@ use Rattle.std.proofs.lemmas.Bool.{and_parts, eqb-true, false≢true}
 use Rattle.vx_base.specs.Named.{Word}
 use Rattle.vx_config_parts.specs.declared.disk.Disk.{Disk}
 use Rattle.vx_config_parts.specs.Objects.{comes_before}
-use Rattle.vx_extents.specs.Sizes.{log_length}
-use Rattle.vx_extents.proofs.NameOrder.{before_itself, before_later}
-use Rattle.vx_plexes.proofs.Members.{IsIn}
+use Rattle.vx_rules.specs.Sizes.{log_length}
+use Rattle.vx_rules.proofs.NameOrder.{before_itself, before_later}
+use Rattle.vx_image.proofs.PlexMembers.{IsIn}
 use Rattle.vx_space.specs.declared.extent.Extent.{Extent}
 use Rattle.vx_space.specs.Disks.{names_rise, next_is_later}
-use Rattle.vx_plan.specs.declared.fault.PlanFault.{PlanFault}
-use Rattle.vx_plan.specs.declared.fault.PlanFault.TheVariants.{TooFewDisks}
-use Rattle.vx_plan.specs.declared.parts.Plan.{Plan}
-use Rattle.vx_plan.specs.declared.request.Request.{Request}
-use Rattle.vx_plan.specs.Disks.{candidates, is_among, names_of, without}
-use Rattle.vx_plan.specs.Rule.{as_column, column_length, mirror, plan_over, rule, then_logs}
-use Rattle.vx_plan.specs.Steps.{Step, Taken, and_then, place, repeated, spread}
+use Rattle.vx_new_volumes.specs.declared.fault.PlanFault.{PlanFault}
+use Rattle.vx_new_volumes.specs.declared.fault.PlanFault.TheVariants.{TooFewDisks}
+use Rattle.vx_new_volumes.specs.declared.parts.Plan.{Plan}
+use Rattle.vx_new_volumes.specs.declared.request.Request.{Request}
+use Rattle.vx_new_volumes.specs.Disks.{candidates, is_among, names_of, without}
+use Rattle.vx_new_volumes.specs.Rule.{as_column, column_length, mirror, plan_over, rule, then_logs}
+use Rattle.vx_new_volumes.specs.Steps.{Step, Taken, and_then, place, repeated, spread}
 use Rattle.vx_new_volume_laws.proofs.Behind.{AreOnce}
 use Rattle.vx_new_volume_laws.proofs.Taking.{IsSmall, Low, Splits, Steps, filtered_once, place_takes, same_taken, size, splits_none, splits_then, spread_takes}
 

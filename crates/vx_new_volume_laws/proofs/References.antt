@@ -18,8 +18,8 @@ use Rattle.vx_rules.specs.References.{has_dco_of, has_disk, has_name, has_plex, 
 use Rattle.vx_rules.specs.Rules.{fault_in, fault_over}
 use Rattle.vx_rules.proofs.FirstNames.{none_named}
 use Rattle.vx_objects.specs.Config.{objects_of}
-use Rattle.vx_plexes.proofs.Members.{IsIn, disk_in, in_any, in_right}
-use Rattle.vx_plexes.proofs.Plexes.{config_valid}
+use Rattle.vx_image.proofs.PlexMembers.{IsIn, disk_in, in_any, in_right}
+use Rattle.vx_image.proofs.Plexes.{config_valid}
 use Rattle.vx_new_volumes.specs.Records.{data_plex, has_logs, log_plex, vol_of}
 use Rattle.vx_new_volumes.specs.declared.volume.NewVolume.{NewVolume}
 use Rattle.vx_moments.specs.World.{Group}

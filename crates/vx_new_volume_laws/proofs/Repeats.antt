@@ -13,7 +13,7 @@ use Rattle.vx_rules.specs.Adding.{firsts, firsts_after}
 use Rattle.vx_rules.specs.Faults.{first_of, first_some, unless}
 use Rattle.vx_rules.specs.References.{has_name, repeated_after}
 use Rattle.vx_objects.proofs.OneGroup.{first_none, second_none, unless_none}
-use Rattle.vx_plexes.proofs.Members.{IsIn, any_in, in_any, in_map, from_map, in_either}
+use Rattle.vx_image.proofs.PlexMembers.{IsIn, any_in, in_any, in_map, from_map, in_either}
 use Rattle.vx_new_volumes.specs.Naming.{is_known}
 use Rattle.vx_new_volume_laws.proofs.Behind.{AreOnce}
 

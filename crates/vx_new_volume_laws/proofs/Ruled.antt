@@ -10,9 +10,9 @@ use Rattle.vx_rules.specs.declared.rule.Rule.TheVariants as rule
 use Rattle.vx_rules.specs.Adding.{fault_by}
 use Rattle.vx_rules.specs.Faults.{first_of, first_some, unless}
 use Rattle.vx_rules.specs.Rules.{fault_in, fault_of, fault_over, first_broken, rules}
-use Rattle.vx_extents.proofs.ListTests.{count_none}
-use Rattle.vx_plexes.proofs.Members.{IsIn, in_either}
-use Rattle.vx_plexes.proofs.Valid.{in_rule, one_rule, over_rule}
+use Rattle.vx_rules.proofs.ListTests.{count_none}
+use Rattle.vx_image.proofs.PlexMembers.{IsIn, in_either}
+use Rattle.vx_image.proofs.Valid.{in_rule, one_rule, over_rule}
 use Rattle.vx_new_volume_laws.proofs.Repeats.{both_none, none_found, unless_true}
 
 -- where no rule is broken, each holds

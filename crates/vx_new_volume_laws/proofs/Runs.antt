@@ -7,10 +7,10 @@ use Rattle.vx_base.specs.Named.{Word}
 use Rattle.vx_config_parts.specs.declared.object.Object.{Object}
 use Rattle.vx_config_parts.specs.declared.object.Object.TheVariants.{SubdiskRecord, DcoRecord}
 use Rattle.vx_config_parts.specs.Objects.{is_subdisk, refers}
-use Rattle.vx_extents.specs.Columns.{is_in_column}
-use Rattle.vx_extents.proofs.ColumnRuns.{last_end, runs_in}
-use Rattle.vx_extents.proofs.Runs.{Run, chain, chain_follows, follows, full, good}
-use Rattle.vx_plexes.proofs.Members.{IsIn}
+use Rattle.vx_rules.specs.Columns.{is_in_column}
+use Rattle.vx_rules.proofs.ColumnRuns.{last_end, runs_in}
+use Rattle.vx_rules.proofs.Runs.{Run, chain, chain_follows, follows, full, good}
+use Rattle.vx_image.proofs.PlexMembers.{IsIn}
 use Rattle.vx_space.specs.declared.extent.Extent.{Extent}
 use Rattle.vx_new_volumes.specs.Records.{data_plexes, dco_of, has_logs, log_plex}
 use Rattle.vx_new_volumes.specs.declared.volume.NewVolume.{NewVolume}

@@ -5,9 +5,9 @@ use Rattle.std.proofs.lemmas.Bool.{cases_lt, eqb-false}
 use Rattle.std.proofs.lemmas.Nat.{mul-le}
 use Rattle.vx_block.specs.Regions.{region_count}
 use Rattle.vx_mapfmt.specs.Sizes.{map_bytes_of, parts_of, plex_bytes_of}
-use Rattle.vx_extents.specs.Sizes.{log_length}
-use Rattle.vx_plan.specs.declared.request.Request.{Request}
-use Rattle.vx_plan.specs.Rule.{column_length}
+use Rattle.vx_rules.specs.Sizes.{log_length}
+use Rattle.vx_new_volumes.specs.declared.request.Request.{Request}
+use Rattle.vx_new_volumes.specs.Rule.{column_length}
 use Rattle.vx_new_volume_laws.proofs.Plans.{column_size}
 
 -- the parts hold all

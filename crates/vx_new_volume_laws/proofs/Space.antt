@@ -10,15 +10,15 @@ use Rattle.vx_config_parts.specs.declared.object.Object.{Object}
 use Rattle.vx_config_parts.specs.declared.object.Object.TheVariants.{GroupRecord, DiskRecord, SubdiskRecord, PlexRecord, VolRecord, DcoRecord, SnapRecord}
 use Rattle.vx_config_parts.specs.declared.subdisk.Subdisk.{Subdisk}
 use Rattle.vx_config_parts.specs.Objects.{comes_before, is_disk, is_subdisk, name_of}
-use Rattle.vx_extents.specs.Overlap.{first_overlap, first_overlap_with, lesser, overlap_fault, overlap_of, overlaps_earlier, shares_sector}
-use Rattle.vx_extents.proofs.NameOrder.{before_itself}
+use Rattle.vx_rules.specs.Overlap.{first_overlap, first_overlap_with, lesser, overlap_fault, overlap_of, overlaps_earlier, shares_sector}
+use Rattle.vx_rules.proofs.NameOrder.{before_itself}
 use Rattle.vx_rules.specs.declared.rule.Rule.TheVariants as rule
 use Rattle.vx_rules.specs.Rules.{fault_in, fault_over}
 use Rattle.vx_rules.specs.Space.{has_room, lies_inside, outside_fault}
 use Rattle.vx_objects.specs.Config.{objects_of}
-use Rattle.vx_plexes.proofs.Members.{IsIn, count_one, disk_in, in_any, in_either, same_subdisk, subdisk_of}
-use Rattle.vx_plexes.proofs.Plexes.{config_valid}
-use Rattle.vx_plexes.proofs.Valid.{is_inside}
+use Rattle.vx_image.proofs.PlexMembers.{IsIn, count_one, disk_in, in_any, in_either, same_subdisk, subdisk_of}
+use Rattle.vx_image.proofs.Plexes.{config_valid}
+use Rattle.vx_image.proofs.Valid.{is_inside}
 use Rattle.vx_space.specs.Free.{covers}
 use Rattle.vx_new_volumes.specs.declared.volume.NewVolume.{NewVolume}
 use Rattle.vx_moments.specs.World.{Group}

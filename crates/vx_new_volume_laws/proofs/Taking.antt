@@ -5,13 +5,13 @@ use Rattle.std.specs.Str.{bytes_eq}
 use Rattle.std.proofs.lemmas.Bool.{eqb-true, false_from_ne_true, leb-true, ltb-false}
 use Rattle.vx_base.specs.Named.{Word}
 use Rattle.vx_base.proofs.NamedLemmas.{bytes_eq_same}
-use Rattle.vx_plexes.proofs.Members.{IsIn, in_either}
+use Rattle.vx_image.proofs.PlexMembers.{IsIn, in_either}
 use Rattle.vx_space.specs.declared.extent.Extent.{Extent}
 use Rattle.vx_space.specs.Extents.{between, left, taken, total}
-use Rattle.vx_plan.specs.declared.fault.PlanFault.{PlanFault}
-use Rattle.vx_plan.specs.declared.fault.PlanFault.TheVariants.{NoSpace}
-use Rattle.vx_plan.specs.Disks.{first_with, others, total_on}
-use Rattle.vx_plan.specs.Steps.{Taken, behind, gather, kept, place, place_on, spread}
+use Rattle.vx_new_volumes.specs.declared.fault.PlanFault.{PlanFault}
+use Rattle.vx_new_volumes.specs.declared.fault.PlanFault.TheVariants.{NoSpace}
+use Rattle.vx_new_volumes.specs.Disks.{first_with, others, total_on}
+use Rattle.vx_new_volumes.specs.Steps.{Taken, behind, gather, kept, place, place_on, spread}
 use Rattle.vx_new_volume_laws.proofs.Behind.{AreOnce}
 use Rattle.vx_new_volume_laws.proofs.Hits.{hits, hits_both, taken_filled, taken_left}
 

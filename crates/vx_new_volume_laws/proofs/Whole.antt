@@ -14,19 +14,19 @@ use Rattle.vx_config_parts.specs.declared.plex.PlexKind.TheVariants.{Data, Log}
 use Rattle.vx_config_parts.specs.declared.plex.PlexLayout.TheVariants.{Concat, Stripe}
 use Rattle.vx_config_parts.specs.declared.state.PlexState.TheVariants as plex_state
 use Rattle.vx_config_parts.specs.Objects.{is_subdisk, is_vol, refers}
-use Rattle.vx_extents.specs.Columns.{column_length, columns_are_good, layout_is_good}
-use Rattle.vx_extents.specs.Indexed.{column_is_whole, has_piece_from}
-use Rattle.vx_extents.specs.Sizes.{holds, log_length}
-use Rattle.vx_extents.proofs.ColumnRuns.{last_end, length_run, runs_in, whole_run}
-use Rattle.vx_extents.proofs.Good.{passes_whole}
-use Rattle.vx_extents.proofs.Runs.{Run, good}
+use Rattle.vx_rules.specs.Columns.{column_length, columns_are_good, layout_is_good}
+use Rattle.vx_rules.specs.Indexed.{column_is_whole, has_piece_from}
+use Rattle.vx_rules.specs.Sizes.{holds, log_length}
+use Rattle.vx_rules.proofs.ColumnRuns.{last_end, length_run, runs_in, whole_run}
+use Rattle.vx_rules.proofs.Good.{passes_whole}
+use Rattle.vx_rules.proofs.Runs.{Run, good}
 use Rattle.vx_rules.specs.declared.rule.Rule.TheVariants as rule
 use Rattle.vx_rules.specs.References.{has_name}
 use Rattle.vx_rules.specs.Rules.{fault_in, fault_over}
 use Rattle.vx_rules.specs.Whole.{has_volume_within, is_whole, whole_fault}
 use Rattle.vx_objects.specs.Config.{objects_of}
-use Rattle.vx_plexes.proofs.Members.{IsIn, in_any, in_either, in_left, in_right}
-use Rattle.vx_plexes.proofs.Plexes.{config_valid}
+use Rattle.vx_image.proofs.PlexMembers.{IsIn, in_any, in_either, in_left, in_right}
+use Rattle.vx_image.proofs.Plexes.{config_valid}
 use Rattle.vx_space.specs.declared.extent.Extent.{Extent}
 use Rattle.vx_new_volumes.specs.Records.{data_plex, layout_of, vol_of}
 use Rattle.vx_new_volumes.specs.declared.volume.NewVolume.{NewVolume}

@@ -10,16 +10,16 @@ use Rattle.vx_config_parts.specs.declared.plex.Plex.{Plex}
 use Rattle.vx_config_parts.specs.declared.plex.PlexLayout.{PlexLayout}
 use Rattle.vx_config_parts.specs.declared.plex.PlexLayout.TheVariants.{Concat, Stripe}
 use Rattle.vx_config_parts.specs.Objects.{is_subdisk, is_vol, refers}
-use Rattle.vx_extents.specs.Below.{all_below}
-use Rattle.vx_extents.specs.Columns.{column_length, columns_are_good, layout_is_good, plex_length}
-use Rattle.vx_extents.specs.Indexed.{column_is_whole, has_piece_from}
-use Rattle.vx_extents.specs.Sizes.{holds, layout_fits_kind}
-use Rattle.vx_extents.proofs.ColumnRuns.{last_end, length_run, runs_in, whole_run}
-use Rattle.vx_extents.proofs.Good.{tests_say}
-use Rattle.vx_extents.proofs.Runs.{Run, good}
+use Rattle.vx_rules.specs.Below.{all_below}
+use Rattle.vx_rules.specs.Columns.{column_length, columns_are_good, layout_is_good, plex_length}
+use Rattle.vx_rules.specs.Indexed.{column_is_whole, has_piece_from}
+use Rattle.vx_rules.specs.Sizes.{holds, layout_fits_kind}
+use Rattle.vx_rules.proofs.ColumnRuns.{last_end, length_run, runs_in, whole_run}
+use Rattle.vx_rules.proofs.Good.{tests_say}
+use Rattle.vx_rules.proofs.Runs.{Run, good}
 use Rattle.vx_rules.specs.Whole.{has_volume_within, holds_volume, is_whole, whole_fault}
 use Rattle.vx_objects.specs.Config.{objects_of}
-use Rattle.vx_plexes.proofs.Members.{IsIn}
+use Rattle.vx_image.proofs.PlexMembers.{IsIn}
 use Rattle.vx_new_volumes.specs.declared.volume.NewVolume.{NewVolume}
 use Rattle.vx_moments.specs.World.{Group}
 use Rattle.vx_new_volume_laws.proofs.Lying.{IsCase}

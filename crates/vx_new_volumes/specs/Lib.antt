@@ -1,3 +1,7 @@
+pub mod Disks
+pub mod Steps
+pub mod Rule
+pub mod Planned
 pub mod Naming
 pub mod Laying
 pub mod Records

@@ -12,7 +12,7 @@ use Rattle.vx_config_parts.specs.declared.vol.Vol.{Vol}
 use Rattle.vx_config_parts.specs.declared.object.Object.{Object}
 use Rattle.vx_config_parts.specs.declared.object.Object.TheVariants.{PlexRecord, VolRecord, DcoRecord}
 use Rattle.vx_config_parts.specs.Objects.{name_of}
-use Rattle.vx_plan.specs.declared.parts.Plan.{Plan}
+use Rattle.vx_new_volumes.specs.declared.parts.Plan.{Plan}
 use Rattle.vx_new_volumes.specs.declared.volume.NewVolume.{NewVolume}
 use Rattle.vx_new_volumes.specs.Naming.{and_then, as_name, names_behind}
 use Rattle.vx_new_volumes.specs.Laying.{Laid, put_logs, put_plexes}

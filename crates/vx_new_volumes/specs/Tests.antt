@@ -11,7 +11,7 @@ use Rattle.vx_config_parts.specs.Objects.{is_vol}
 use Rattle.vx_rules.specs.Faults.{first_some, unless}
 use Rattle.vx_rules.specs.Limits.{is_short_name}
 use Rattle.vx_rules.specs.References.{has_disk, has_name}
-use Rattle.vx_plan.specs.Rule.{has_small_numbers}
+use Rattle.vx_new_volumes.specs.Rule.{has_small_numbers}
 use Rattle.vx_new_volumes.specs.declared.volume.NewVolume.{NewVolume}
 use Rattle.vx_new_volumes.specs.Records.{dco_name, has_logs}
 

@@ -1,5 +1,5 @@
+use crate::Request;
 use vx_names::Name;
-use vx_plan::Request;
 
 /// A volume that is to be made.
 #[derive(Drop)]

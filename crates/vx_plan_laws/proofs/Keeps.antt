@@ -3,10 +3,10 @@ use Rattle.std.proofs.Common.{◌≡◌, ℕ, ◌+◌, ◌*◌, ◌%◌, ◌≤�
 use Rattle.std.specs.List.{list_any, list_all, count_by, fold}
 use Rattle.std.specs.Str.{bytes_eq}
 use Rattle.vx_base.specs.Named.{Word}
-use Rattle.vx_extents.specs.Below.{all_below}
-use Rattle.vx_extents.specs.Columns.{is_in_column, column_begins, piece_follows, piece_is_good, all_pieces_good, column_length, columns_are_equal, layout_is_good, plex_length, columns_are_good}
-use Rattle.vx_extents.specs.Overlap.{shares_sector, overlaps_earlier, first_overlap_with, overlap_of}
-use Rattle.vx_extents.specs.Sizes.{holds, layout_fits_kind}
+use Rattle.vx_rules.specs.Below.{all_below}
+use Rattle.vx_rules.specs.Columns.{is_in_column, column_begins, piece_follows, piece_is_good, all_pieces_good, column_length, columns_are_equal, layout_is_good, plex_length, columns_are_good}
+use Rattle.vx_rules.specs.Overlap.{shares_sector, overlaps_earlier, first_overlap_with, overlap_of}
+use Rattle.vx_rules.specs.Sizes.{holds, layout_fits_kind}
 use Rattle.vx_config_parts.specs.declared.group.Group.{Group}
 use Rattle.vx_config_parts.specs.declared.disk.Disk.{Disk}
 use Rattle.vx_config_parts.specs.declared.subdisk.Subdisk.{Subdisk}

@@ -2,7 +2,7 @@
 use Rattle.std.proofs.Common.{◌≡◌, Bool, true, false, not, ◌||◌, is_some, is_none, Option, Some, None, List, [], ◌∷◌, ◌++◌, refl, ◌∙◌, ap, subst, if◌then◌else◌}
 use Rattle.vx_base.specs.Named.{Word}
 use Rattle.vx_copies.specs.Lists.{AllOf}
-use Rattle.vx_extents.specs.Overlap.{first_overlap, overlap_of}
+use Rattle.vx_rules.specs.Overlap.{first_overlap, overlap_of}
 use Rattle.vx_config_parts.specs.declared.fault.Limit.TheVariants as limit
 use Rattle.vx_config_parts.specs.declared.fault.ObjectFault.{ObjectFault}
 use Rattle.vx_config_parts.specs.declared.fault.ObjectFault.TheVariants as fault

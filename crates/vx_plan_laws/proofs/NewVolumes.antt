@@ -19,7 +19,7 @@ use Rattle.vx_objects.specs.Config.{objects_of}
 use Rattle.vx_objects.specs.Edits.{added, change, edited}
 use Rattle.vx_new_volumes.specs.Records.{vol_of}
 use Rattle.vx_new_volumes.specs.declared.volume.NewVolume.{NewVolume}
-use Rattle.vx_plexes.proofs.Members.{any_in, in_any}
+use Rattle.vx_image.proofs.PlexMembers.{any_in, in_any}
 use Rattle.vx_state_edits.specs.Edits.{is_new}
 use Rattle.vx_image.specs.Image.{IsFilled}
 use Rattle.vx_answers.specs.declared.refusal.Refusal.{Refusal}

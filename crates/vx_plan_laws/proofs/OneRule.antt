@@ -3,9 +3,9 @@ use Rattle.std.proofs.Common.{◌≡◌, ℕ, ◌+◌, ◌≤◌, max, Bool, tru
 use Rattle.std.specs.List.{list_any, list_all, fold}
 use Rattle.std.proofs.lemmas.Bool.Decides.{nat_tests}
 use Rattle.vx_base.specs.Named.{Word}
-use Rattle.vx_extents.specs.Columns.{is_in_column, piece_is_good, all_pieces_good, end_with}
-use Rattle.vx_extents.specs.Overlap.{overlaps_earlier, first_overlap_with, overlap_of}
-use Rattle.vx_extents.specs.Sizes.{holds}
+use Rattle.vx_rules.specs.Columns.{is_in_column, piece_is_good, all_pieces_good, end_with}
+use Rattle.vx_rules.specs.Overlap.{overlaps_earlier, first_overlap_with, overlap_of}
+use Rattle.vx_rules.specs.Sizes.{holds}
 use Rattle.vx_config_parts.specs.declared.subdisk.Subdisk.{Subdisk}
 use Rattle.vx_config_parts.specs.declared.plex.Plex.{Plex}
 use Rattle.vx_config_parts.specs.declared.plex.PlexKind.{PlexKind}

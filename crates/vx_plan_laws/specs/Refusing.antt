@@ -20,7 +20,7 @@ use Rattle.vx_answers.specs.declared.refusal.Refusal.TheVariants as refusal
 use Rattle.vx_moments.specs.World.{World, Group}
 use Rattle.vx_moments.specs.Moment.{Moment}
 use Rattle.vx_image.specs.Image.{IsFilled}
-use Rattle.vx_group_images.specs.Group.{image_on}
+use Rattle.vx_moments.specs.Group.{image_on}
 use Rattle.vx_state_edits.specs.Edits.{start_edits, stop_edits}
 use Rattle.vx_state_texts.specs.Texts.{all_maps}
 use Rattle.vx_plans.specs.Laws.{WentWell, HasCarriers}

@@ -17,7 +17,7 @@ use Rattle.vx_answers.specs.declared.refusal.Refusal.TheVariants.{NotBuilt}
 use Rattle.vx_moments.specs.World.{World}
 use Rattle.vx_moments.specs.Moment.{Moment, AreLater}
 use Rattle.vx_moments.specs.Leaving.{PowerGoes, group_gone}
-use Rattle.vx_group_images.specs.Lives.{GroupStands}
+use Rattle.vx_moments.specs.Lives.{GroupStands}
 use Rattle.vx_plans.specs.Serving.{CallRuns}
 use Rattle.vx_plans.specs.Plans.{plan_of, disks_of}
 use Rattle.vx_stages.specs.Stages.{IsDone, Stops, Wants}

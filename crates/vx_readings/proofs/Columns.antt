@@ -11,14 +11,14 @@ use Rattle.vx_config_parts.specs.declared.subdisk.Subdisk.{Subdisk}
 use Rattle.vx_config_parts.specs.declared.plex.Plex.{Plex}
 use Rattle.vx_config_parts.specs.declared.object.Object.TheVariants.{DiskRecord, SubdiskRecord}
 use Rattle.vx_config_parts.specs.Objects.{refers}
-use Rattle.vx_extents.specs.Columns.{is_in_column, all_pieces_good, piece_follows}
+use Rattle.vx_rules.specs.Columns.{is_in_column, all_pieces_good, piece_follows}
 use Rattle.vx_rules.proofs.InOrder.{names_differ}
 use Rattle.vx_objects.specs.declared.config.Config.{Config}
 use Rattle.vx_objects.specs.Config.{objects_of}
-use Rattle.vx_plexes.specs.Lies.{columns_from, columns_of, slot_of, strip_of, strip_then, strips_from, strips_of}
-use Rattle.vx_plexes.proofs.Members.{IsIn, all_in, disk_in, in_left, in_right, one_named, plex_in, same_disk, subdisk_in}
-use Rattle.vx_plexes.proofs.Plexes.{column_end, column_sum, config_valid, filled, on_disk, whole_column}
-use Rattle.vx_plexes.proofs.Shapes.{plex_good}
+use Rattle.vx_image.specs.Lies.{columns_from, columns_of, slot_of, strip_of, strip_then, strips_from, strips_of}
+use Rattle.vx_image.proofs.PlexMembers.{IsIn, all_in, disk_in, in_left, in_right, one_named, plex_in, same_disk, subdisk_in}
+use Rattle.vx_image.proofs.Plexes.{column_end, column_sum, config_valid, filled, on_disk, whole_column}
+use Rattle.vx_image.proofs.Shapes.{plex_good}
 use Rattle.vx_image.specs.Bytes.{Sectors, bytes_at, is_held}
 use Rattle.vx_readings.specs.Readings.{HaveSameRecords}
 use Rattle.vx_readings.proofs.Lists.{found_in, found_same}

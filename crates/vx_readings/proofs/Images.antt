@@ -19,9 +19,9 @@ use Rattle.vx_config_parts.specs.declared.subdisk.Subdisk.{Subdisk}
 use Rattle.vx_config_parts.specs.declared.vol.Vol.{Vol}
 use Rattle.vx_config_parts.specs.Objects.{is_data, is_data_plex_of, is_log, is_log_plex_of, refers}
 use Rattle.vx_objects.specs.declared.config.Config.{Config}
-use Rattle.vx_plexes.specs.Lies.{columns_of, slot_of, strip_of, strips_of}
-use Rattle.vx_plexes.proofs.Members.{IsIn, from_map, in_map}
-use Rattle.vx_plexes.proofs.Plexes.{config_valid, filled}
+use Rattle.vx_image.specs.Lies.{columns_of, slot_of, strip_of, strips_of}
+use Rattle.vx_image.proofs.PlexMembers.{IsIn, from_map, in_map}
+use Rattle.vx_image.proofs.Plexes.{config_valid, filled}
 use Rattle.vx_image.specs.Bytes.{Sectors, bytes_at, image_of, is_active, is_held, is_log_copy, log_copies, plex_contents, plex_image, plex_marks, relation_maps}
 use Rattle.vx_image.specs.Image.{Image, LogCopy, PlexImage}
 use Rattle.vx_image.specs.Own.{SameInside}

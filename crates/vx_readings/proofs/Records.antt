@@ -12,7 +12,7 @@ use Rattle.vx_objects.specs.declared.config.Config.{Config}
 use Rattle.vx_objects.specs.Config.{objects_of}
 use Rattle.vx_objects.specs.Parts.{as_disk, as_subdisk, as_plex, as_vol, as_snap}
 use Rattle.vx_objects.proofs.InKinds.{disks_below, subdisks_below, plexes_below, volumes_below, snaps_below}
-use Rattle.vx_plexes.proofs.Members.{IsIn}
+use Rattle.vx_image.proofs.PlexMembers.{IsIn}
 use Rattle.vx_image.proofs.Members.{contains, is_in}
 use Rattle.vx_readings.specs.Readings.{HaveSameRecords}
 use Rattle.vx_readings.proofs.Lists.{as_many, picked_more}

@@ -1,3 +1,15 @@
+pub mod Below
+pub mod ListTests
+pub mod NameOrder
+pub mod KeyOrder
+pub mod Placement
+pub mod FirstOverlap
+pub mod Runs
+pub mod Growth
+pub mod FromColumn
+pub mod Good
+pub mod ColumnRuns
+pub mod Indices
 pub mod FirstNames
 pub mod Lookups
 pub mod InOrder

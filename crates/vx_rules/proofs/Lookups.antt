@@ -16,7 +16,7 @@ use Rattle.vx_config_parts.specs.declared.object.Object.{Object}
 use Rattle.vx_config_parts.specs.declared.object.Object.TheVariants.{DiskRecord, PlexRecord, VolRecord, DcoRecord}
 use Rattle.vx_config_parts.specs.declared.fault.ObjectFault.TheVariants.{Exists}
 use Rattle.vx_config_parts.specs.Objects.{name_of, is_disk, is_plex, is_vol, is_dco, refers, is_data_plex_of}
-use Rattle.vx_extents.specs.Sizes.{holds}
+use Rattle.vx_rules.specs.Sizes.{holds}
 use Rattle.vx_rules.specs.Faults.{first_some, unless}
 use Rattle.vx_rules.specs.Named.{first_named, as_disk, as_plex, as_vol, as_dco}
 use Rattle.vx_rules.specs.References.{has_name, repeated_after, has_disk, has_plex, has_vol, has_dco_of, has_vol_with}

@@ -1,3 +1,12 @@
+pub mod Below
+pub mod Keys
+pub mod Overlap
+pub mod Extents
+pub mod Laid
+pub mod Columns
+pub mod Pieces
+pub mod Indexed
+pub mod Sizes
 pub mod Faults
 pub mod Named
 pub mod References

@@ -16,7 +16,7 @@ use Rattle.vx_config_parts.specs.declared.fault.ObjectFault.{ObjectFault}
 use Rattle.vx_config_parts.specs.declared.fault.ObjectFault.TheVariants.{NoMap, NoLog, NoObject}
 use Rattle.vx_config_parts.specs.Objects.{is_plex, is_snap, refers, is_data_plex_of, is_log_plex_of}
 use Rattle.vx_rules.specs.Faults.{unless}
-use Rattle.vx_extents.specs.Below.{all_below}
+use Rattle.vx_rules.specs.Below.{all_below}
 
 abbrev pub has_map : Option ℕ → ℕ → Bool
 has_map None map = false

@@ -10,7 +10,7 @@ use Rattle.vx_config_parts.specs.declared.fault.ObjectFault.TheVariants.{Limit}
 use Rattle.vx_rules.specs.Faults.{first_some, unless, first_of}
 use Rattle.vx_rules.specs.References.{repeated_after, reference_fault}
 use Rattle.vx_rules.specs.Limits.{has_one_group, numbers_fit, slot_is_own, volumes_are_few, name_is_short, region_is_good, regions_are_good, plexes_are_good}
-use Rattle.vx_extents.specs.Overlap.{overlap_fault}
+use Rattle.vx_rules.specs.Overlap.{overlap_fault}
 use Rattle.vx_rules.specs.Space.{outside_fault}
 use Rattle.vx_rules.specs.Whole.{whole_fault}
 use Rattle.vx_rules.specs.Maps.{map_fault, log_fault, prefer_fault}

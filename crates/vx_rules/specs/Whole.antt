@@ -10,8 +10,8 @@ use Rattle.vx_config_parts.specs.declared.object.Object.TheVariants.{PlexRecord}
 use Rattle.vx_config_parts.specs.declared.fault.ObjectFault.{ObjectFault}
 use Rattle.vx_config_parts.specs.declared.fault.ObjectFault.TheVariants.{NotWhole}
 use Rattle.vx_config_parts.specs.Objects.{is_vol}
-use Rattle.vx_extents.specs.Columns.{columns_are_good, plex_length}
-use Rattle.vx_extents.specs.Sizes.{holds, layout_fits_kind}
+use Rattle.vx_rules.specs.Columns.{columns_are_good, plex_length}
+use Rattle.vx_rules.specs.Sizes.{holds, layout_fits_kind}
 use Rattle.vx_rules.specs.Faults.{unless}
 
 -- there is a volume of that name that so many sectors hold

@@ -6,15 +6,14 @@ ghost use Rattle.vx_rules.specs.Named.{first_named};
 ghost use Rattle.vx_rules.specs.References.{repeated_after};
 ghost use Rattle.vx_rules.specs.Rules.{fault_over};
 
-use crate::Rule;
 use crate::check::{first_in, limit_unless};
 use crate::index::Index;
 use crate::limits::{has_one_group, volumes_are_few};
+use crate::{Rule, overlap_fault};
 use std::alloc::Global;
 use std::collections::BTreeMap;
 use vx_base::OutOfMemory;
 use vx_config_parts::{Limit, Object, ObjectFault};
-use vx_extents::overlap_fault;
 use vx_names::Name;
 
 /// The first record of each name, in order.

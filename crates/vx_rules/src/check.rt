@@ -2,7 +2,6 @@ ghost use Rattle.std.specs.Prelude.{◌≡◌, IfOk};
 ghost use Rattle.vx_rules.specs.Faults.{first_of, unless};
 ghost use Rattle.vx_rules.specs.Rules.{fault_in, fault_over, fault_of, rules, first_broken_of, first_broken};
 
-use crate::Rule;
 use crate::index::Index;
 use crate::limits::{
     has_one_group, name_is_short, numbers_fit, plexes_are_good, region_is_good, regions_are_good,
@@ -13,10 +12,10 @@ use crate::references::reference_fault;
 use crate::relations::{relation_fault, relation_log_fault, shape_fault};
 use crate::space::outside_fault;
 use crate::whole::whole_fault;
+use crate::{Rule, overlap_fault};
 use std::alloc::Global;
 use vx_base::OutOfMemory;
 use vx_config_parts::{Limit, Object, ObjectFault};
-use vx_extents::overlap_fault;
 
 const RULES: [Rule; 19] = [
     Rule::OneGroup,

@@ -6,11 +6,11 @@ ghost use Rattle.std.specs.Option.{option_copied};
 ghost use Rattle.vx_rules.specs.Named.{first_named, as_disk, as_plex, as_vol, as_dco};
 ghost use Rattle.vx_rules.specs.References.{repeated_after};
 
+use crate::Pieces;
 use std::alloc::Global;
 use std::collections::BTreeMap;
 use vx_base::OutOfMemory;
 use vx_config_parts::{Dco, Disk, Object, ObjectFault, Plex, Vol};
-use vx_extents::Pieces;
 use vx_names::Name;
 
 /// The records of a configuration whose names differ: each is found by its name, and the columns of a plex by its own.

@@ -2,8 +2,8 @@ ghost use Rattle.std.specs.Prelude.{◌≡◌};
 ghost use Rattle.vx_rules.specs.Whole.{has_volume_within, holds_volume, is_whole, whole_fault};
 
 use crate::index::Index;
+use crate::{holds, layout_fits_kind};
 use vx_config_parts::{Object, ObjectFault, Plex, PlexKind};
-use vx_extents::{holds, layout_fits_kind};
 use vx_names::Name;
 
 /// The plex has columns without holes and of one length, which hold what it is for.

@@ -1,0 +1,21 @@
+pub mod Same
+pub mod Tests
+pub mod Sound
+pub mod WorldLaws
+pub mod StageChains
+pub mod CommandEnds
+mod Among
+mod Told
+mod Served
+pub mod Lives
+pub mod SameHouse
+pub mod Given
+pub mod RunningCalls
+pub mod CallLaws
+pub mod NoneRun
+pub mod GateStage
+pub mod CommandRanges
+pub mod Runs
+pub mod Ends
+mod Shelves
+mod Soundly

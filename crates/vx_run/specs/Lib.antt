@@ -1,2 +1,15 @@
+pub mod Fed
+pub mod Sound
+pub mod Runs
+pub mod Shows
+pub mod Serving
+pub mod Calling
+pub mod Grouped
+pub mod Fine
+pub mod Run
+pub mod Stops
+pub mod Ends
+pub mod Told
+pub mod Soundly
 pub mod Source
 pub mod Top

@@ -6,8 +6,8 @@ use Rattle.vx_base.specs.Counts.{Rose, later_count}
 use Rattle.vx_script.specs.Script.{Place, script_of}
 use Rattle.vx_script.specs.declared.command.Command.{Command}
 use Rattle.vx_house.specs.Scene.{Shelved}
-use Rattle.vx_serve.specs.Ends.{CarriesOut, StopsShort}
-use Rattle.vx_serve.specs.Soundly.{StaysSound}
+use Rattle.vx_run.specs.Ends.{CarriesOut, StopsShort}
+use Rattle.vx_run.specs.Soundly.{StaysSound}
 
 -- the words are `--images` and a folder
 abbrev pub is_form : List (List ℕ) → Bool

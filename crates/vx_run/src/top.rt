@@ -4,16 +4,16 @@ ghost use Rattle.vx_script.specs.Script.{Place, script_of};
 ghost use Rattle.vx_house.specs.Closing.{NoneHeld};
 ghost use Rattle.vx_house.specs.Scene.{shelved};
 ghost use Rattle.vx_script.specs.declared.command.Command.{Command};
-ghost use Rattle.vx_serve.specs.Soundly.{StaysSound};
+ghost use Rattle.vx_run.specs.Soundly.{StaysSound};
 ghost use Rattle.vx_run.specs.Top.{is_form, longest, HasPassedMore, HasPassedFew, TellsLine, TellsPlace, TellsFault, IsSpelledRun, IsSpelledStop, IsCarriedThrough, IsCutOff, LeavesSound};
 
 use crate::place::line_of_place;
 use crate::source::{Unread, read_all};
 use crate::words::folder_of;
+use crate::{ServeFault, run_commands};
 use std::alloc::Global;
 use vx_flow::{Sink, Source};
 use vx_script::{ScriptFault, read};
-use vx_serve::{ServeFault, run_commands};
 use vx_shelf::Shelf;
 
 /// Runs the script of the source on the shelf, and writes the line of each answer to the sink. It answers the status:

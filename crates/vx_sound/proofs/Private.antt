@@ -7,7 +7,7 @@ use Rattle.vx_copies.specs.Image.{Offer}
 use Rattle.vx_fronts.proofs.Contents.{offer_stays}
 use Rattle.vx_moments.specs.World.{World, Device, Volume, Member, Group}
 use Rattle.vx_moments.specs.Holding.{IsLent}
-use Rattle.vx_group_images.specs.Group.{DeviceStaysBut, IsSectorOf}
+use Rattle.vx_moments.specs.Group.{DeviceStaysBut, IsSectorOf}
 use Rattle.vx_sound.specs.Offers.{IsHeaded, Offers}
 use Rattle.vx_sound.specs.Sound.{IsNewest, NamesNewer, NamesMissing, IsChained}
 use Rattle.vx_sound.specs.Standing.{HoldsNoHeader, IsOwn, Carries, IsLeading, IsStanding, NamesAreApart}

@@ -21,8 +21,8 @@ use Rattle.vx_moments.specs.Holding.{has_volume}
 use Rattle.vx_moments.specs.Leaving.{lone}
 use Rattle.vx_moments.specs.Moment.{Counts, Moment}
 use Rattle.vx_moments.specs.World.{Group, OnPlexes, Volume, World}
-use Rattle.vx_group_images.specs.Group.{image_on}
-use Rattle.vx_group_images.specs.Lives.{volume_by}
+use Rattle.vx_moments.specs.Group.{image_on}
+use Rattle.vx_moments.specs.Lives.{volume_by}
 use Rattle.vx_stages.specs.Ends.{EndsIn, IsChange}
 use Rattle.vx_stages.specs.Starting.{BecomesBy, CopiesTo, IsCopied, IsStartedBy, StartStops, StopsIn, StopsOf, may_start, plexes_started, volume_started}
 use Rattle.vx_stages.specs.Stopping.{ComesToRest, IsStopDone, StopStops, rested_volume, without_volume}

@@ -19,9 +19,9 @@ use Rattle.vx_answers.specs.declared.answer.End.{End}
 use Rattle.vx_answers.specs.declared.answer.End.TheVariants as ends
 use Rattle.vx_answers.specs.declared.refusal.Refusal.TheVariants.{NotStarted, Range}
 use Rattle.vx_moments.specs.World.{World, Device, Volume, Member, Group, Lies, OnDevice, OnPlexes}
-use Rattle.vx_group_images.specs.Owners.{owners_of}
-use Rattle.vx_group_images.specs.Tracks.{volume_failed}
-use Rattle.vx_group_images.proofs.Tracked.{goes_lies}
+use Rattle.vx_moments.specs.Owners.{owners_of}
+use Rattle.vx_moments.specs.Tracks.{volume_failed}
+use Rattle.vx_moments.proofs.Tracked.{goes_lies}
 use Rattle.vx_moments.specs.Moment.{Moment, Rests}
 use Rattle.vx_moments.specs.Holding.{IsLent, IsMemberDevice, HasDevice, has_volume}
 use Rattle.vx_moments.specs.Leaving.{lone, lone_by}

@@ -13,7 +13,7 @@ use Rattle.vx_image.specs.Meaning.{IsReadAt, plexes_read}
 use Rattle.vx_image.proofs.Members.{all_from_each, any_from_one, each_from_all, from_filter, into_filter, is_in, one_from_any}
 use Rattle.vx_state_edits.specs.Edits.{is_new}
 use Rattle.vx_moments.specs.World.{Volume}
-use Rattle.vx_group_images.specs.Volumes.{StandsForVolume}
+use Rattle.vx_moments.specs.Volumes.{StandsForVolume}
 use Rattle.vx_readings.proofs.Less.{IsLessImage, IsLessPlex, less_sound}
 
 -- each says no more than the other, and they have as many plexes

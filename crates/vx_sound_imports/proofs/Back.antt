@@ -24,9 +24,9 @@ use Rattle.vx_objects.specs.declared.config.Config.{Config}
 use Rattle.vx_objects.specs.Config.{objects_of}
 use Rattle.vx_objects.specs.Parts.{as_plex}
 use Rattle.vx_objects.proofs.InKinds.{plexes_below}
-use Rattle.vx_plexes.specs.Lies.{columns_from, slot_of, strip_then, strips_from}
-use Rattle.vx_extents.specs.Columns.{is_in_column}
-use Rattle.vx_plexes.proofs.Members.{IsIn, in_left, in_map}
+use Rattle.vx_image.specs.Lies.{columns_from, slot_of, strip_then, strips_from}
+use Rattle.vx_rules.specs.Columns.{is_in_column}
+use Rattle.vx_image.proofs.PlexMembers.{IsIn, in_left, in_map}
 use Rattle.vx_image.specs.Bytes.{Sectors, bytes_at, image_of, is_active, is_held, log_copies, map_or_zero, plex_contents, plex_image, relation_maps}
 use Rattle.vx_image.specs.Image.{Image, WasStarted}
 use Rattle.vx_image.specs.Meaning.{StandsForCandidates}
@@ -40,8 +40,8 @@ use Rattle.vx_state_edits.specs.Edits.{is_new}
 use Rattle.vx_moments.specs.Commit.{IsCommitted, NoneFailed, Writing, is_slot_of, is_written_slot, parties}
 use Rattle.vx_moments.specs.Moment.{HasFailed, Moment}
 use Rattle.vx_moments.specs.World.{Group, Member, Volume, World}
-use Rattle.vx_group_images.specs.Group.{image_on, public_of, sectors_of}
-use Rattle.vx_group_images.specs.Volumes.{StandsForVolume}
+use Rattle.vx_moments.specs.Group.{image_on, public_of, sectors_of}
+use Rattle.vx_moments.specs.Volumes.{StandsForVolume}
 use Rattle.vx_plans.specs.Plans.{plan_of}
 use Rattle.vx_plans.specs.Steps.{DoesForm, IsNotBuilt}
 use Rattle.vx_stages.specs.Finding.{import_records, needs_sync_state}

@@ -10,7 +10,7 @@ use Rattle.vx_copies.specs.Written.{in_both}
 use Rattle.vx_confdb.specs.Enlisted.{BehindOldOrText}
 use Rattle.vx_layout.specs.declared.place.Place.{Place}
 use Rattle.vx_config_parts.specs.declared.vol.Vol.{Vol}
-use Rattle.vx_plexes.proofs.Members.{IsIn}
+use Rattle.vx_image.proofs.PlexMembers.{IsIn}
 use Rattle.vx_image.specs.Bytes.{image_of}
 use Rattle.vx_image.specs.Own.{IsOfVolume}
 use Rattle.vx_image.specs.Soundness.{IsSoundImage}
@@ -19,7 +19,7 @@ use Rattle.vx_state_edits.specs.Edits.{is_new}
 use Rattle.vx_moments.specs.Commit.{IsCommitting, JoinerGoes, Writing, is_slot_of, is_written_slot, parties}
 use Rattle.vx_moments.specs.Moment.{Moment}
 use Rattle.vx_moments.specs.World.{Device, Group, Member}
-use Rattle.vx_group_images.specs.Group.{public_of, sectors_of}
+use Rattle.vx_moments.specs.Group.{public_of, sectors_of}
 use Rattle.vx_sound.specs.Offers.{IsHeaded, Offers}
 use Rattle.vx_sound.specs.Sound.{AreSound, IsConfigOf, IsNewest}
 use Rattle.vx_sound.proofs.CommitSteps.{headed_back, headed_fore, new_offers, new_one, of_joiner, offers_back, offers_fore, sound_on}

@@ -3,11 +3,11 @@ use Rattle.std.proofs.Common.{◌≡◌, ◌∙◌, ◌⊎◌, ℕ, true, Option
 use Rattle.vx_base.specs.Named.{Word}
 use Rattle.vx_mask.specs.Mask.{has}
 use Rattle.vx_copies.specs.Image.{Offer, offer_of}
-use Rattle.vx_plexes.proofs.Members.{IsIn}
+use Rattle.vx_image.proofs.PlexMembers.{IsIn}
 use Rattle.vx_image.specs.Soundness.{IsSoundImage}
 use Rattle.vx_image.proofs.Members.{contains}
 use Rattle.vx_moments.specs.World.{Device, Group, Member, World}
-use Rattle.vx_group_images.specs.Group.{public_of}
+use Rattle.vx_moments.specs.Group.{public_of}
 use Rattle.vx_sound.specs.Offers.{IsHeaded, Offers}
 use Rattle.vx_sound.specs.Sound.{IsChained, IsNewest, NamesMissing, NamesNewer}
 use Rattle.vx_sound.proofs.Fewer.{HadEach, offered}

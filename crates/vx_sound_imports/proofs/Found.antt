@@ -17,7 +17,7 @@ use Rattle.vx_objects.specs.declared.config.Config.{Config}
 use Rattle.vx_objects.specs.Config.{objects_of}
 use Rattle.vx_objects.specs.Parts.{as_disk, as_plex, as_snap, as_subdisk, as_vol, in_kinds, records_of}
 use Rattle.vx_objects.proofs.InKinds.{are_sorted, disks_below, plexes_below, snaps_below, subdisks_below, volumes_below}
-use Rattle.vx_plexes.proofs.Members.{IsIn, any_in, from_map, in_map}
+use Rattle.vx_image.proofs.PlexMembers.{IsIn, any_in, from_map, in_map}
 use Rattle.vx_image.specs.Bytes.{Sectors, image_of, log_copies}
 use Rattle.vx_image.specs.Image.{Image, WasStarted}
 use Rattle.vx_image.specs.Soundness.{IsSoundImage}
@@ -30,7 +30,7 @@ use Rattle.vx_moments.specs.Commit.{Writing}
 use Rattle.vx_moments.specs.Holding.{IsMemberDevice}
 use Rattle.vx_moments.specs.Moment.{Counts}
 use Rattle.vx_moments.specs.World.{Device, Group, Member, World}
-use Rattle.vx_group_images.specs.Group.{sectors_of}
+use Rattle.vx_moments.specs.Group.{sectors_of}
 use Rattle.vx_plans.proofs.Carriers.{FoundBy, found_by, is_there, one_there}
 use Rattle.vx_stages.specs.Finding.{Candidate, IsCandidate, good_ones, group_found, import_records, member_of, needs_sync, needs_sync_state}
 use Rattle.vx_stages.specs.Stages.{IsImporting}

@@ -6,7 +6,7 @@ use Rattle.vx_copies.specs.Image.{Offer}
 use Rattle.vx_copies.specs.Lists.{AnyOf}
 use Rattle.vx_image.proofs.Members.{contains, is_in}
 use Rattle.vx_moments.specs.World.{Device, Group, Member, World}
-use Rattle.vx_group_images.specs.Group.{sectors_of}
+use Rattle.vx_moments.specs.Group.{sectors_of}
 use Rattle.vx_sound.specs.Offers.{IsHeaded, Offers}
 use Rattle.vx_sound.specs.Sound.{IsChained, IsConfigOf, IsNewest}
 use Rattle.vx_sound.specs.Standing.{Carries, IsLeading}

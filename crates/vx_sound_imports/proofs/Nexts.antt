@@ -12,7 +12,7 @@ use Rattle.vx_mask.proofs.Tests.{not_both, or_cases}
 use Rattle.vx_layout.specs.declared.place.Place.{Place}
 use Rattle.vx_config_parts.specs.declared.vol.Vol.{Vol}
 use Rattle.vx_objects.specs.Config.{objects_of}
-use Rattle.vx_plexes.proofs.Members.{IsIn, any_in}
+use Rattle.vx_image.proofs.PlexMembers.{IsIn, any_in}
 use Rattle.vx_image.specs.Bytes.{image_of}
 use Rattle.vx_image.specs.Own.{IsOfVolume}
 use Rattle.vx_image.specs.Soundness.{IsSoundImage}
@@ -20,7 +20,7 @@ use Rattle.vx_image.proofs.Members.{contains, is_in}
 use Rattle.vx_state_edits.specs.Edits.{is_new}
 use Rattle.vx_moments.specs.Commit.{Writing, is_slot_of}
 use Rattle.vx_moments.specs.World.{Device, Group, Member, World}
-use Rattle.vx_group_images.specs.Group.{image_on, public_of, sectors_of}
+use Rattle.vx_moments.specs.Group.{image_on, public_of, sectors_of}
 use Rattle.vx_group_edits.specs.Stays.{AreFewer, EachStays, has_disk_in}
 use Rattle.vx_group_edits.proofs.ByKind.{vol_recorded}
 use Rattle.vx_stages.specs.Recorded.{IsSoundAs}

@@ -4,11 +4,11 @@ use Rattle.vx_base.specs.Named.{Word, put}
 use Rattle.vx_base.proofs.NamedLemmas.{name_cases, put_other, put_same}
 use Rattle.vx_header.specs.Named.{Label, header_of}
 use Rattle.vx_copies.specs.Lists.{AllOf, AnyOf}
-use Rattle.vx_plexes.proofs.Members.{IsIn}
+use Rattle.vx_image.proofs.PlexMembers.{IsIn}
 use Rattle.vx_image.proofs.Members.{is_in}
 use Rattle.vx_moments.specs.Holding.{HasDevice, IsLent}
 use Rattle.vx_moments.specs.World.{Device, Group, Member, OnPlexes, Volume, World}
-use Rattle.vx_group_images.specs.Group.{ChangesOnly, DeviceStaysBut, IsSectorOf}
+use Rattle.vx_moments.specs.Group.{ChangesOnly, DeviceStaysBut, IsSectorOf}
 use Rattle.vx_sound.specs.Offers.{IsHeaded}
 use Rattle.vx_sound.specs.Standing.{IsOwn}
 use Rattle.vx_sound.proofs.DevicesAfterCommit.{same_device, same_or_not}

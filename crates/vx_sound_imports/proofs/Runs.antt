@@ -21,8 +21,8 @@ use Rattle.vx_moments.specs.Commit.{parties}
 use Rattle.vx_moments.specs.Leaving.{PowerGoes, group_gone}
 use Rattle.vx_moments.specs.Moment.{Moment}
 use Rattle.vx_moments.specs.World.{Group, World}
-use Rattle.vx_group_images.specs.Group.{image_on, public_of, sectors_of}
-use Rattle.vx_group_images.specs.Lives.{GroupStands}
+use Rattle.vx_moments.specs.Group.{image_on, public_of, sectors_of}
+use Rattle.vx_moments.specs.Lives.{GroupStands}
 use Rattle.vx_plans.specs.Plans.{disks_of, plan_of}
 use Rattle.vx_plans.specs.Steps.{DoesForm, IsNotBuilt, IsTranscript, Leaves, Runs, RunsShort, WantsForm, WantsPlan, done}
 use Rattle.vx_plans.proofs.Complete.{kept_world}

@@ -3,9 +3,9 @@ use Rattle.std.proofs.Common.{◌≡◌, ◌∙◌, ℕ, ◌==◌, Bool, true, f
 use Rattle.std.proofs.lemmas.Bool.{eqb-true, eq-eqb, false≢true}
 use Rattle.vx_base.specs.Named.{Word}
 use Rattle.vx_copies.specs.Lists.{AllOf, AnyOf}
-use Rattle.vx_plexes.proofs.Members.{IsIn}
+use Rattle.vx_image.proofs.PlexMembers.{IsIn}
 use Rattle.vx_moments.specs.World.{Device, Member, World}
-use Rattle.vx_group_images.specs.Group.{public_of, sectors_of}
+use Rattle.vx_moments.specs.Group.{public_of, sectors_of}
 use Rattle.vx_sound.specs.Offers.{IsHeaded}
 use Rattle.vx_sound.specs.Sound.{IsChained}
 

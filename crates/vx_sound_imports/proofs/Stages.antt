@@ -6,7 +6,7 @@ use Rattle.vx_base.specs.Named.{Word}
 use Rattle.vx_base.proofs.NamedLemmas.{name_cases, bytes_eq_self}
 use Rattle.vx_mask.specs.Mask.{has}
 use Rattle.vx_mask.proofs.Tests.{not_both, or_cases}
-use Rattle.vx_plexes.proofs.Members.{any_in, in_left, in_right}
+use Rattle.vx_image.proofs.PlexMembers.{any_in, in_left, in_right}
 use Rattle.vx_image.specs.Soundness.{IsSoundImage}
 use Rattle.vx_image.proofs.Members.{contains, is_in}
 use Rattle.vx_answers.specs.declared.answer.End.{End}

@@ -3,7 +3,7 @@ use Rattle.std.proofs.Common.{◌≡◌, ◌∙◌, ℕ, Bool, true, false, Opti
 use Rattle.vx_base.specs.Named.{Word, put}
 use Rattle.vx_base.proofs.NamedLemmas.{put_same}
 use Rattle.vx_config_parts.specs.declared.vol.Vol.{Vol}
-use Rattle.vx_plexes.proofs.Members.{IsIn}
+use Rattle.vx_image.proofs.PlexMembers.{IsIn}
 use Rattle.vx_image.specs.Soundness.{IsSoundImage}
 use Rattle.vx_image.proofs.Members.{contains}
 use Rattle.vx_answers.specs.declared.answer.End.{End}
@@ -12,7 +12,7 @@ use Rattle.vx_state_edits.specs.Edits.{is_new, stop_edits}
 use Rattle.vx_moments.specs.Leaving.{grouped}
 use Rattle.vx_moments.specs.Moment.{Moment}
 use Rattle.vx_moments.specs.World.{Group, Volume, World}
-use Rattle.vx_group_images.specs.Group.{image_on}
+use Rattle.vx_moments.specs.Group.{image_on}
 use Rattle.vx_stages.specs.Ends.{EndsIn, IsChange}
 use Rattle.vx_stages.specs.Stages.{Wants}
 use Rattle.vx_stages.specs.Starting.{IsStartedBy, StartStops, StopsIn, StopsOf, may_start, plexes_started, volume_started}

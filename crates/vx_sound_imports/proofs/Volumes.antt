@@ -8,7 +8,7 @@ use Rattle.vx_answers.specs.declared.refusal.Refusal.TheVariants as refusal
 use Rattle.vx_moments.specs.Holding.{HasDevice, IsLent}
 use Rattle.vx_moments.specs.Moment.{Moment, Rests}
 use Rattle.vx_moments.specs.World.{Device, Group, Lies, OnDevice, OnPlexes, Volume, World}
-use Rattle.vx_group_images.specs.Group.{ChangesOnly}
+use Rattle.vx_moments.specs.Group.{ChangesOnly}
 use Rattle.vx_stages.specs.Calls.{count_of, start_of, volume_of}
 use Rattle.vx_stages.specs.Touching.{IsTouched, VolumeGoes}
 use Rattle.vx_plans.specs.Serving.{CallRuns, ServesOn}

@@ -8,7 +8,7 @@ use Rattle.vx_mask.proofs.Tests.{not_both, true_or_false}
 use Rattle.vx_config_parts.specs.declared.vol.Vol.{Vol}
 use Rattle.vx_objects.specs.Applied.{IsEdited}
 use Rattle.vx_objects.specs.Config.{objects_of}
-use Rattle.vx_plexes.proofs.Members.{IsIn}
+use Rattle.vx_image.proofs.PlexMembers.{IsIn}
 use Rattle.vx_group_edits.proofs.Lists.{among}
 use Rattle.vx_config_parts.specs.declared.object.Object.TheVariants.{VolRecord}
 use Rattle.vx_image.proofs.Members.{is_in}

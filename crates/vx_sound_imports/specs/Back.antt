@@ -11,8 +11,8 @@ use Rattle.vx_state_edits.specs.Edits.{is_new}
 use Rattle.vx_moments.specs.Commit.{NoneFailed}
 use Rattle.vx_moments.specs.Moment.{Moment}
 use Rattle.vx_moments.specs.World.{Group, Volume, World}
-use Rattle.vx_group_images.specs.Group.{image_on}
-use Rattle.vx_group_images.specs.Volumes.{StandsForVolume}
+use Rattle.vx_moments.specs.Group.{image_on}
+use Rattle.vx_moments.specs.Volumes.{StandsForVolume}
 use Rattle.vx_plans.specs.Steps.{Step}
 use Rattle.vx_stages.specs.Finding.{import_records, needs_sync_state}
 use Rattle.vx_readings.specs.Readings.{HaveSameRecords}

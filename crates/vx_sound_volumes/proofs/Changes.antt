@@ -4,12 +4,12 @@ use Rattle.std.proofs.lemmas.List.{append-nil}
 use Rattle.vx_base.specs.Named.{Word}
 use Rattle.vx_config_parts.specs.declared.vol.Vol.{Vol}
 use Rattle.vx_objects.specs.declared.edit.Edit.{Edit}
-use Rattle.vx_plexes.proofs.Members.{IsIn}
+use Rattle.vx_image.proofs.PlexMembers.{IsIn}
 use Rattle.vx_state_edits.specs.Edits.{is_new}
 use Rattle.vx_answers.specs.declared.answer.End.{End}
 use Rattle.vx_moments.specs.Commit.{IsCommitted, IsStopped, Writing}
 use Rattle.vx_moments.specs.Moment.{Moment}
-use Rattle.vx_group_images.specs.Group.{HaveOwnDevices}
+use Rattle.vx_moments.specs.Group.{HaveOwnDevices}
 use Rattle.vx_stages.specs.Ends.{IsChange}
 use Rattle.vx_group_edits.specs.Stays.{EachStays}
 use Rattle.vx_sound_volumes.proofs.Commits.{commit_kept, commit_stops}

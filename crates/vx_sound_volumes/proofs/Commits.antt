@@ -19,8 +19,8 @@ use Rattle.vx_copies.specs.Written.{OldOrText, in_both}
 use Rattle.vx_copies.proofs.Halves.{few_sectors}
 use Rattle.vx_objects.specs.declared.config.Config.{Config}
 use Rattle.vx_objects.specs.Config.{objects_of}
-use Rattle.vx_plexes.proofs.Members.{IsIn, any_in, in_either, in_one, one_named}
-use Rattle.vx_plexes.proofs.Plexes.{config_valid}
+use Rattle.vx_image.proofs.PlexMembers.{IsIn, any_in, in_either, in_one, one_named}
+use Rattle.vx_image.proofs.Plexes.{config_valid}
 use Rattle.vx_state_edits.specs.Edits.{is_new}
 use Rattle.vx_image.specs.Bytes.{image_of}
 use Rattle.vx_image.specs.Own.{IsOfVolume, SameInside}
@@ -34,7 +34,7 @@ use Rattle.vx_moments.specs.Holding.{IsLent}
 use Rattle.vx_moments.specs.Leaving.{grouped}
 use Rattle.vx_moments.specs.Moment.{Moment}
 use Rattle.vx_moments.specs.World.{Device, Group, Member, Volume}
-use Rattle.vx_group_images.specs.Group.{HaveOwnDevices, image_on, public_of, sectors_of}
+use Rattle.vx_moments.specs.Group.{HaveOwnDevices, image_on, public_of, sectors_of}
 use Rattle.vx_group_edits.specs.Stays.{AreFewer, EachStays, has_disk_in}
 use Rattle.vx_group_edits.proofs.ByKind.{records_vol, vol_recorded}
 use Rattle.vx_sound_volumes.specs.Volumes.{HasOwnDisks}

@@ -7,7 +7,7 @@ use Rattle.vx_base.specs.Named.{Word, put}
 use Rattle.vx_base.proofs.NamedLemmas.{name_cases, put_other}
 use Rattle.vx_mask.proofs.Tests.{or_neither}
 use Rattle.vx_copies.specs.Lists.{AnyOf}
-use Rattle.vx_plexes.proofs.Members.{IsIn}
+use Rattle.vx_image.proofs.PlexMembers.{IsIn}
 use Rattle.vx_image.proofs.Members.{contains}
 use Rattle.vx_moments.specs.Holding.{HasDevice, IsHeld, IsMemberDevice, has_volume}
 use Rattle.vx_moments.specs.Leaving.{grouped}

@@ -16,7 +16,7 @@ use Rattle.vx_config_parts.specs.declared.object.Object.TheVariants.{VolRecord}
 use Rattle.vx_config_parts.specs.declared.vol.Vol.{Vol}
 use Rattle.vx_objects.specs.declared.config.Config.{Config}
 use Rattle.vx_objects.specs.Config.{objects_of}
-use Rattle.vx_plexes.proofs.Members.{IsIn, from_map, in_either}
+use Rattle.vx_image.proofs.PlexMembers.{IsIn, from_map, in_either}
 use Rattle.vx_image.proofs.Members.{contains, in_filtered, is_in}
 use Rattle.vx_script_words.specs.declared.value.DiskAt.{DiskAt}
 use Rattle.vx_answers.specs.declared.refusal.Refusal.TheVariants as refusal
@@ -25,7 +25,7 @@ use Rattle.vx_moments.specs.Commit.{IsCommitted, IsStopped, Writing, parties}
 use Rattle.vx_moments.specs.Holding.{IsHeld, IsLent, IsMemberDevice, is_among}
 use Rattle.vx_moments.specs.Moment.{Counts, Moment}
 use Rattle.vx_moments.specs.World.{Device, Group, Member, World}
-use Rattle.vx_group_images.specs.Group.{AreOfOneSlot, HaveOwnDevices}
+use Rattle.vx_moments.specs.Group.{AreOfOneSlot, HaveOwnDevices}
 use Rattle.vx_stages.specs.Finding.{Candidate, IsCandidate, good_ones, group_found, import_records, member_of}
 use Rattle.vx_stages.specs.Records.{are_disk_sized, devices_of, disk_records, disk_record, free_slot_from, member_at, names_of, new_members, new_records, next_slot, sectors_at, slot_in, slot_or_last}
 use Rattle.vx_stages.specs.Stages.{AreFree, IsCreating, IsFree, IsImporting, IsJoining}

@@ -4,14 +4,14 @@ use Rattle.std.specs.Prelude.{if◌then◌else◌, Contains, is_some}
 use Rattle.vx_base.specs.Named.{Word}
 use Rattle.vx_config_parts.specs.declared.vol.Vol.{Vol}
 use Rattle.vx_config_parts.specs.Objects.{comes_before}
-use Rattle.vx_plexes.proofs.Members.{IsIn}
+use Rattle.vx_image.proofs.PlexMembers.{IsIn}
 use Rattle.vx_state_edits.specs.Edits.{is_new}
 use Rattle.vx_image.specs.Soundness.{IsSoundImage}
 use Rattle.vx_image.proofs.Members.{contains, is_in}
 use Rattle.vx_moments.specs.Leaving.{PowerGoes, group_gone, grouped}
 use Rattle.vx_moments.specs.World.{Device, Group, Volume, World}
-use Rattle.vx_group_images.specs.Group.{image_on, public_of}
-use Rattle.vx_group_images.specs.Lives.{GroupStands, StandForEach}
+use Rattle.vx_moments.specs.Group.{image_on, public_of}
+use Rattle.vx_moments.specs.Lives.{GroupStands, StandForEach}
 use Rattle.vx_stages.specs.Tests.{earlier, fails, first_started, in_use_by, started_of}
 use Rattle.vx_stages.specs.declared.test.Test.TheVariants as tests
 use Rattle.vx_sound_volumes.specs.Volumes.{AreSoundOn, GroupLeaves, IsSoundBefore}

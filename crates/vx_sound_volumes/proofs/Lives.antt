@@ -13,9 +13,9 @@ use Rattle.vx_answers.specs.declared.answer.End.{End}
 use Rattle.vx_answers.specs.declared.answer.End.TheVariants as ends
 use Rattle.vx_moments.specs.Moment.{Counts}
 use Rattle.vx_moments.specs.World.{Group, Volume, World}
-use Rattle.vx_group_images.specs.Owners.{owners_of}
-use Rattle.vx_group_images.specs.Tracks.{volume_failed}
-use Rattle.vx_group_images.proofs.Tracked.{goes_lies, goes_sound}
+use Rattle.vx_moments.specs.Owners.{owners_of}
+use Rattle.vx_moments.specs.Tracks.{volume_failed}
+use Rattle.vx_moments.proofs.Tracked.{goes_lies, goes_sound}
 use Rattle.vx_stages.specs.Calls.{AreOf, done_kind, failed_kind, values_of, volume_of}
 use Rattle.vx_stages.specs.GroupCalls.{BecomesBy, LivesOnPlexes, TellsParts, comes_next, is_known}
 use Rattle.vx_sound_volumes.proofs.Parts.{Keeps}

@@ -23,7 +23,7 @@ use Rattle.vx_objects.specs.Config.{objects_of}
 use Rattle.vx_objects.specs.Edits.{added, change, edited, kept, policy_kind, policy_plex, set_vol, stays_without_vol}
 use Rattle.vx_objects.specs.Parts.{as_group, as_vol, as_disk, as_subdisk, as_plex, as_dco, as_snap, in_kinds, sorted_below}
 use Rattle.vx_objects.proofs.InKinds.{volumes_below}
-use Rattle.vx_plexes.proofs.Members.{IsIn, from_map, in_either, in_one}
+use Rattle.vx_image.proofs.PlexMembers.{IsIn, from_map, in_either, in_one}
 use Rattle.vx_state_edits.specs.Edits.{is_new}
 use Rattle.vx_state_edits.specs.Laws.{Restates, in_state}
 use Rattle.vx_moments.specs.World.{Group}

@@ -8,7 +8,7 @@ use Rattle.vx_base.proofs.NamedLemmas.{bytes_eq_self, name_cases, put_same, put_
 use Rattle.vx_config_parts.specs.declared.vol.Vol.{Vol}
 use Rattle.vx_state_edits.specs.Edits.{is_new}
 use Rattle.vx_copies.specs.Lists.{AnyOf}
-use Rattle.vx_plexes.proofs.Members.{IsIn}
+use Rattle.vx_image.proofs.PlexMembers.{IsIn}
 use Rattle.vx_image.specs.Bytes.{image_of}
 use Rattle.vx_image.specs.Soundness.{IsSoundImage}
 use Rattle.vx_image.proofs.Members.{is_in, contains}
@@ -16,8 +16,8 @@ use Rattle.vx_moments.specs.Holding.{HasDevice, IsLent, IsMemberDevice}
 use Rattle.vx_moments.specs.Leaving.{PowerGoes, group_gone, grouped}
 use Rattle.vx_moments.specs.World.{Device, Group, Lies, Member, OnDevice, OnPlexes, Volume, World}
 use Rattle.vx_moments.proofs.Lone.{lone_grouped}
-use Rattle.vx_group_images.specs.Group.{ChangesOnly, DeviceStaysBut, IsSectorOf, image_on, public_of, sectors_of}
-use Rattle.vx_group_images.proofs.OtherVolumes.{other_image}
+use Rattle.vx_moments.specs.Group.{ChangesOnly, DeviceStaysBut, IsSectorOf, image_on, public_of, sectors_of}
+use Rattle.vx_moments.proofs.OtherVolumes.{other_image}
 use Rattle.vx_stages.specs.GroupCalls.{comes_next}
 use Rattle.vx_sound_volumes.specs.Volumes.{HasOwnDisks, IsSoundBefore}
 

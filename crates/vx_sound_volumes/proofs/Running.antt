@@ -12,7 +12,7 @@ use Rattle.vx_config_parts.specs.declared.state.VolState.TheVariants as vol
 use Rattle.vx_config_parts.specs.declared.vol.Vol.{Vol}
 use Rattle.vx_objects.specs.Applied.{IsEdited}
 use Rattle.vx_objects.specs.Config.{objects_of}
-use Rattle.vx_plexes.proofs.Members.{IsIn}
+use Rattle.vx_image.proofs.PlexMembers.{IsIn}
 use Rattle.vx_state_edits.specs.Edits.{is_new, start_edits, started, stop_edits, stopped}
 use Rattle.vx_state_edits.specs.Laws.{EachStartRestates, EachStopRestates}
 use Rattle.vx_image.specs.Image.{Image}
@@ -30,8 +30,8 @@ use Rattle.vx_moments.specs.Leaving.{grouped}
 use Rattle.vx_moments.specs.Moment.{Counts, Moment, Rests}
 use Rattle.vx_moments.specs.World.{Group, Lies, OnDevice, OnPlexes, Volume, World}
 use Rattle.vx_moments.proofs.Lone.{grouped_on}
-use Rattle.vx_group_images.specs.Group.{image_on}
-use Rattle.vx_group_images.specs.Lives.{volume_by}
+use Rattle.vx_moments.specs.Group.{image_on}
+use Rattle.vx_moments.specs.Lives.{volume_by}
 use Rattle.vx_stages.specs.Calls.{count_of, start_of, volume_of}
 use Rattle.vx_stages.specs.Ends.{EndsIn, IsChange}
 use Rattle.vx_stages.specs.GroupCalls.{comes_next}

@@ -6,7 +6,7 @@ use Rattle.vx_answers.specs.declared.answer.Answer.{Answer}
 use Rattle.vx_moments.specs.Leaving.{PowerGoes}
 use Rattle.vx_moments.specs.Moment.{Moment}
 use Rattle.vx_moments.specs.World.{Group, World}
-use Rattle.vx_group_images.specs.Lives.{GroupStands}
+use Rattle.vx_moments.specs.Lives.{GroupStands}
 use Rattle.vx_plans.specs.Steps.{IsTranscript, LeavesOff, Step}
 use Rattle.vx_sound_volumes.specs.Volumes.{AreSoundOn, BringsSound, GroupLeaves, HadGroup, HasSoundVolumes, IsSoundBefore}
 

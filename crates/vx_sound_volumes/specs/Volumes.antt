@@ -9,8 +9,8 @@ use Rattle.vx_image.specs.Soundness.{IsSoundImage}
 use Rattle.vx_moments.specs.Holding.{IsLent}
 use Rattle.vx_moments.specs.Leaving.{PowerGoes, group_gone, grouped}
 use Rattle.vx_moments.specs.World.{Device, Group, Member, Volume, World}
-use Rattle.vx_group_images.specs.Group.{HaveOwnDevices, image_on}
-use Rattle.vx_group_images.specs.Lives.{GroupStands}
+use Rattle.vx_moments.specs.Group.{HaveOwnDevices, image_on}
+use Rattle.vx_moments.specs.Lives.{GroupStands}
 use Rattle.vx_stages.specs.GroupCalls.{comes_next}
 use Rattle.vx_stages.specs.Tests.{fails}
 use Rattle.vx_stages.specs.declared.test.Test.TheVariants as tests

@@ -5,7 +5,7 @@ use Rattle.std.specs.Str.{bytes_eq}
 use Rattle.std.proofs.lemmas.Bool.{and_parts, and_from, lt-ltb, ltb-true}
 use Rattle.vx_base.specs.Named.{Word}
 use Rattle.vx_base.proofs.NamedLemmas.{bytes_eq_same}
-use Rattle.vx_extents.proofs.ListTests.{all_at}
+use Rattle.vx_rules.proofs.ListTests.{all_at}
 use Rattle.vx_space.specs.declared.extent.Extent.{Extent}
 use Rattle.vx_space.specs.Extents.{total, between, left}
 use Rattle.vx_space.specs.Small.{AreSmall}

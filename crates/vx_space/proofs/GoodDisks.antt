@@ -12,16 +12,16 @@ use Rattle.vx_config_parts.specs.declared.object.Object.{Object}
 use Rattle.vx_config_parts.specs.declared.object.Object.TheVariants.{GroupRecord, DiskRecord, SubdiskRecord, PlexRecord, VolRecord, DcoRecord, SnapRecord}
 use Rattle.vx_config_parts.specs.declared.fault.ObjectFault.TheVariants.{Exists}
 use Rattle.vx_config_parts.specs.Objects.{comes_before, name_of}
-use Rattle.vx_extents.proofs.ListTests.{count_more, count_none, all_is_none}
-use Rattle.vx_extents.proofs.NameOrder.{before_later, same_place}
+use Rattle.vx_rules.proofs.ListTests.{count_more, count_none, all_is_none}
+use Rattle.vx_rules.proofs.NameOrder.{before_later, same_place}
 use Rattle.vx_rules.specs.Faults.{unless}
 use Rattle.vx_rules.specs.References.{has_name, repeated_after}
 use Rattle.vx_rules.proofs.InOrder.{names_differ}
 use Rattle.vx_objects.specs.declared.config.Config.{Config}
 use Rattle.vx_objects.specs.Config.{objects_of}
 use Rattle.vx_objects.proofs.OneGroup.{second_none}
-use Rattle.vx_plexes.proofs.Members.{in_right, any_in, later_differs}
-use Rattle.vx_plexes.proofs.Plexes.{IsValid}
+use Rattle.vx_image.proofs.PlexMembers.{in_right, any_in, later_differs}
+use Rattle.vx_image.proofs.Plexes.{IsValid}
 use Rattle.vx_space.specs.Disks.{is_good, names_rise, AreGoodDisks}
 
 abbrev named : Word → Disk → Bool

@@ -5,7 +5,7 @@ use Rattle.std.proofs.lemmas.Bool.{false≢true, and_parts, and_from, or_cases, 
 use Rattle.vx_base.specs.Named.{Word}
 use Rattle.vx_base.proofs.NamedLemmas.{bytes_eq_self, bytes_eq_same}
 use Rattle.vx_config_parts.specs.Objects.{comes_before}
-use Rattle.vx_extents.proofs.NameOrder.{before_itself, before_later, not_before}
+use Rattle.vx_rules.proofs.NameOrder.{before_itself, before_later, not_before}
 use Rattle.vx_space.specs.declared.extent.Extent.{Extent}
 use Rattle.vx_space.specs.Extents.{has_sector, is_listed, comes_behind, next_is_behind, are_in_order}
 

@@ -8,7 +8,7 @@ use Rattle.vx_base.specs.Named.{Word}
 use Rattle.vx_base.proofs.NamedLemmas.{bytes_eq_self}
 use Rattle.vx_config_parts.specs.declared.disk.Disk.{Disk}
 use Rattle.vx_config_parts.specs.declared.subdisk.Subdisk.{Subdisk}
-use Rattle.vx_extents.proofs.ListTests.{none_of_all}
+use Rattle.vx_rules.proofs.ListTests.{none_of_all}
 use Rattle.vx_space.specs.declared.extent.Extent.{Extent}
 use Rattle.vx_space.specs.Extents.{has_sector, is_listed, next_is_behind, are_in_order, total, between}
 use Rattle.vx_space.specs.Free.{covers}

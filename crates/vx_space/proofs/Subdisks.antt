@@ -9,13 +9,13 @@ use Rattle.vx_base.proofs.NamedLemmas.{bytes_eq_same}
 use Rattle.vx_config_parts.specs.declared.disk.Disk.{Disk}
 use Rattle.vx_config_parts.specs.declared.subdisk.Subdisk.{Subdisk}
 use Rattle.vx_config_parts.specs.declared.object.Object.TheVariants.{DiskRecord}
-use Rattle.vx_extents.proofs.ListTests.{all_is_none}
+use Rattle.vx_rules.proofs.ListTests.{all_is_none}
 use Rattle.vx_rules.proofs.InOrder.{names_differ}
 use Rattle.vx_objects.specs.declared.config.Config.{Config}
 use Rattle.vx_objects.specs.Config.{objects_of}
-use Rattle.vx_plexes.proofs.Members.{IsIn, one_named, disk_in, same_disk}
-use Rattle.vx_plexes.proofs.Apart.{all_from}
-use Rattle.vx_plexes.proofs.Plexes.{IsValid, filled, on_disk, disk_short}
+use Rattle.vx_image.proofs.PlexMembers.{IsIn, one_named, disk_in, same_disk}
+use Rattle.vx_image.proofs.Apart.{all_from}
+use Rattle.vx_image.proofs.Plexes.{IsValid, filled, on_disk, disk_short}
 use Rattle.vx_space.specs.Gaps.{ends_in}
 use Rattle.vx_space.proofs.Runs.{fits, ascend}
 

@@ -5,7 +5,7 @@ use Rattle.std.specs.Str.{bytes_eq}
 use Rattle.std.proofs.lemmas.Bool.{false≢true, and_parts, and_from, cases_lt, leb-true, le-leb, lt-ltb, lt-leb, le-ltb, ltb-true, false_from_ne_true}
 use Rattle.vx_base.specs.Named.{Word}
 use Rattle.vx_base.proofs.NamedLemmas.{bytes_eq_self, bytes_eq_same}
-use Rattle.vx_extents.proofs.ListTests.{same_truth}
+use Rattle.vx_rules.proofs.ListTests.{same_truth}
 
 pub or_false : (b : Bool) → (b || false) ≡ b
 or_false true = refl

@@ -11,10 +11,10 @@ use Rattle.vx_base.proofs.NamedLemmas.{bytes_eq_self, bytes_eq_same, name_cases}
 use Rattle.vx_config_parts.specs.declared.disk.Disk.{Disk}
 use Rattle.vx_config_parts.specs.declared.subdisk.Subdisk.{Subdisk}
 use Rattle.vx_config_parts.specs.Objects.{comes_before}
-use Rattle.vx_extents.proofs.NameOrder.{before_itself}
-use Rattle.vx_extents.proofs.ListTests.{none_of_all}
+use Rattle.vx_rules.proofs.NameOrder.{before_itself}
+use Rattle.vx_rules.proofs.ListTests.{none_of_all}
 use Rattle.vx_objects.specs.declared.config.Config.{Config}
-use Rattle.vx_plexes.proofs.Plexes.{IsValid}
+use Rattle.vx_image.proofs.Plexes.{IsValid}
 use Rattle.vx_space.specs.declared.extent.Extent.{Extent}
 use Rattle.vx_space.specs.Extents.{has_sector, is_listed, comes_behind, are_in_order, total}
 use Rattle.vx_space.specs.Disks.{is_good, names_rise, AreGoodDisks}

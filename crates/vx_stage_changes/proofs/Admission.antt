@@ -26,12 +26,12 @@ use Rattle.vx_house.specs.View.{at, member_in, IsMoment}
 use Rattle.vx_house.specs.declared.house.House.{House}
 use Rattle.vx_house.specs.declared.house.Imported.{Imported}
 use Rattle.vx_house.specs.declared.house.Taken.{Taken}
-use Rattle.vx_commits.proofs.Alone.{touched_by, called_by, went_by, low_by}
-use Rattle.vx_commits.proofs.DeviceLaws.{IsCalled}
-use Rattle.vx_commits.proofs.Holders.{world_group, group_before}
-use Rattle.vx_commits.proofs.Joins.{AreCalled, AreWritten}
-use Rattle.vx_commits.proofs.Members.{writing}
-use Rattle.vx_commits.proofs.Slots.{IsWent, AreSlotted, slotted, slotted_wholes}
+use Rattle.vx_stage_changes.proofs.Alone.{touched_by, called_by, went_by, low_by}
+use Rattle.vx_stage_changes.proofs.DeviceLaws.{IsCalled}
+use Rattle.vx_stage_changes.proofs.Holders.{world_group, group_before}
+use Rattle.vx_stage_changes.proofs.CommitJoins.{AreCalled, AreWritten}
+use Rattle.vx_stage_changes.proofs.Members.{writing}
+use Rattle.vx_stage_changes.proofs.CommitSlots.{IsWent, AreSlotted, slotted, slotted_wholes}
 use Rattle.vx_stage_changes.specs.Joining.{disk_for}
 use Rattle.vx_stage_changes.proofs.Admitted.{IsAdmitted, bs, entered, front_is, back_is, fronts_tell, fs, goes, hs, joins, js, kept, ks, n, ns, private, private_now, ready, rests, was, whole, wholes_now, ws}
 use Rattle.vx_stage_changes.proofs.Configs.{joined_group}

@@ -22,7 +22,7 @@ use Rattle.vx_lending.specs.declared.public.Running.{Running}
 use Rattle.vx_stages.specs.Tests.{fails, recorded, state_of, unless}
 use Rattle.vx_group_edits.specs.Laws.{StaysBy}
 use Rattle.vx_group_edits.proofs.Commands.{change_keeps}
-use Rattle.vx_commits.proofs.Owns.{Runs}
+use Rattle.vx_stage_changes.proofs.Owns.{Runs}
 use Rattle.vx_house.specs.Plain.{plain, told_volume}
 use Rattle.vx_house.specs.Runs.{run_in}
 use Rattle.vx_house.specs.Goes.{IsReady, StageGoes}
@@ -34,7 +34,7 @@ use Rattle.vx_house.specs.declared.house.Imported.{Imported}
 use Rattle.vx_house.specs.declared.stop.Stop.{Stop}
 use Rattle.vx_house.specs.declared.stop.Stop.TheVariants as stops
 use Rattle.vx_house.proofs.Takes.{rests_self}
-use Rattle.vx_commits.proofs.Holders.{world_group, group_before}
+use Rattle.vx_stage_changes.proofs.Holders.{world_group, group_before}
 use Rattle.vx_stage_changes.specs.Changing.{ChangeEnds}
 use Rattle.vx_stage_changes.specs.Planning.{change_edits, IsUnplanned}
 use Rattle.vx_stage_changes.proofs.Configs.{disks_kept, group_kept}

@@ -25,9 +25,9 @@ use Rattle.vx_house.specs.View.{at, IsMoment, KeepsHouse, member_in}
 use Rattle.vx_house.specs.declared.house.House.{House}
 use Rattle.vx_house.proofs.Ends.{moment_but_group}
 use Rattle.vx_house.proofs.AllLaws.{all_each}
-use Rattle.vx_commits.proofs.Joins.{AreCalled, AreWritten, moment_on, back_gone}
-use Rattle.vx_commits.proofs.Members.{writing, IsGone}
-use Rattle.vx_commits.proofs.Slots.{slotted}
+use Rattle.vx_stage_changes.proofs.CommitJoins.{AreCalled, AreWritten, moment_on, back_gone}
+use Rattle.vx_stage_changes.proofs.Members.{writing, IsGone}
+use Rattle.vx_stage_changes.proofs.CommitSlots.{slotted}
 use Rattle.vx_stage_changes.specs.Creating.{disks_from, IsDrawn}
 use Rattle.vx_stage_changes.proofs.NewConfig.{named_so}
 use Rattle.vx_stage_changes.proofs.Enlistment.{names_in, all_good, have_slots, hand_held, members_from, records_from}

@@ -45,18 +45,18 @@ use Rattle.vx_house.specs.declared.stop.Stop.TheVariants as stops
 use Rattle.vx_house.proofs.Ends.{moment_but_group}
 use Rattle.vx_house.proofs.Moments.{later_refl, faults_refl}
 use Rattle.vx_house.proofs.Takes.{rests_self}
-use Rattle.vx_commits.specs.Committing.{stop_of}
+use Rattle.vx_stage_changes.specs.Committing.{stop_of}
 use Rattle.vx_stage_changes.specs.Creating.{disks_from, taken_of, IsDrawn, IsFoundedBy, IsUnfounded, CreateEnds}
 use Rattle.vx_stage_changes.proofs.CreateCommit.{IsBegunOf, whole, group_name, before, written, x, creating}
 use Rattle.vx_stage_changes.proofs.CreateCommit.{begun as calls}
 use Rattle.vx_stage_changes.proofs.NewConfig.{recorded_so}
 use Rattle.vx_stage_changes.proofs.Enlistment.{names_in, disks_held, hand_again, hand_some, disks_some, all_sized, have_slots, joins_sized, joins_slots, joins_recorded}
 use Rattle.vx_stage_changes.proofs.Entry.{joins_named, joined_members}
-use Rattle.vx_commits.proofs.Holders.{group_is}
-use Rattle.vx_commits.proofs.Alone.{low_by}
-use Rattle.vx_commits.proofs.GoodDisks.{any_good}
-use Rattle.vx_commits.proofs.Joins.{AreDone, held_on, joiners_lost_on, power_lost_on, joiners_committed_on}
-use Rattle.vx_commits.proofs.CommitStage.{volumes_kept, group_lost_stage, power_lost_stage, done_stage}
+use Rattle.vx_stage_changes.proofs.Holders.{group_is}
+use Rattle.vx_stage_changes.proofs.Alone.{low_by}
+use Rattle.vx_stage_changes.proofs.GoodDisks.{any_good}
+use Rattle.vx_stage_changes.proofs.CommitJoins.{AreDone, held_on, joiners_lost_on, power_lost_on, joiners_committed_on}
+use Rattle.vx_stage_changes.proofs.CommitStage.{volumes_kept, group_lost_stage, power_lost_stage, done_stage}
 use Rattle.vx_copies.proofs.ToggleOrder.{each_all}
 use Rattle.vx_moments.specs.Leaving.{lone}
 use Rattle.vx_house.specs.Runs.{AreRuns}

@@ -31,16 +31,16 @@ use Rattle.vx_house.specs.declared.stop.Stop.{Stop}
 use Rattle.vx_house.specs.declared.stop.Stop.TheVariants as stops
 use Rattle.vx_house.proofs.Moments.{later_refl, faults_refl}
 use Rattle.vx_house.proofs.Ends.{moment_but_group}
-use Rattle.vx_commits.proofs.Alone.{IsWrittenIn, alone, sized_after, x_alone, lost_alone, cut_alone, committed_alone}
-use Rattle.vx_commits.proofs.Holders.{group_before}
-use Rattle.vx_commits.proofs.Stillness.{slots_now, recorded_now, whole_now}
-use Rattle.vx_commits.proofs.CommitStage.{done_stage, group_lost_stage, power_lost_stage}
+use Rattle.vx_stage_changes.proofs.Alone.{IsWrittenIn, alone, sized_after, x_alone, lost_alone, cut_alone, committed_alone}
+use Rattle.vx_stage_changes.proofs.Holders.{group_before}
+use Rattle.vx_stage_changes.proofs.Stillness.{slots_now, recorded_now, whole_now}
+use Rattle.vx_stage_changes.proofs.CommitStage.{done_stage, group_lost_stage, power_lost_stage}
 use Rattle.vx_stage_changes.specs.Changing.{IsMeant, SamePublic, ChangeEndsBy}
-use Rattle.vx_commits.specs.Committing.{IsTried, IsFinished, CommitEnds}
+use Rattle.vx_stage_changes.specs.Committing.{IsTried, IsFinished, CommitEnds}
 use Rattle.vx_stage_changes.specs.Planning.{IsUnplanned, IsUnplannedBy}
 use Rattle.vx_group_edits.specs.Stays.{EachStays}
-use Rattle.vx_commits.proofs.Owns.{Runs}
-use Rattle.vx_commits.proofs.Runners.{places_done, runs_done, runs_lost}
+use Rattle.vx_stage_changes.proofs.Owns.{Runs}
+use Rattle.vx_stage_changes.proofs.Runners.{places_done, runs_done, runs_lost}
 
 -- edits that are refused are refused by a test
 pub refused_so : (edits : List Edit) (w : Group) (end : End) → IsUnplanned edits w.config (stops.Ended end) → (r : Refusal) × (end ≡ ends.Refused r) × EditsRefused edits w end

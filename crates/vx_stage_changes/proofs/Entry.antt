@@ -14,10 +14,10 @@ use Rattle.vx_house.specs.Holders.{Holder, holders, group_holders, hand_holder, 
 use Rattle.vx_house.specs.declared.house.House.{House}
 use Rattle.vx_house.specs.declared.house.Imported.{Imported}
 use Rattle.vx_house.specs.declared.house.Taken.{Taken}
-use Rattle.vx_commits.proofs.DeviceLaws.{IsCalled}
-use Rattle.vx_commits.proofs.Holders.{both_tell}
-use Rattle.vx_commits.proofs.Slots.{IsWent}
-use Rattle.vx_commits.proofs.Joins.{IsNamedAs, IsEnlisted}
+use Rattle.vx_stage_changes.proofs.DeviceLaws.{IsCalled}
+use Rattle.vx_stage_changes.proofs.Holders.{both_tell}
+use Rattle.vx_stage_changes.proofs.CommitSlots.{IsWent}
+use Rattle.vx_stage_changes.proofs.CommitJoins.{IsNamedAs, IsEnlisted}
 use Rattle.vx_house.specs.View.{member_in}
 use Rattle.vx_copies.proofs.StepLaws.{each_map}
 use Rattle.vx_house.proofs.Lists.{each_two, each_first}

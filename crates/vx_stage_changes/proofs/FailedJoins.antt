@@ -48,8 +48,8 @@ use Rattle.vx_stage_changes.specs.Planning.{IsUnplanned}
 use Rattle.vx_stage_changes.proofs.EditStage.{refused_so}
 use Rattle.vx_moments.specs.Leaving.{lone}
 use Rattle.vx_house.specs.Runs.{AllInPlace, AreRuns}
-use Rattle.vx_commits.proofs.Owns.{AreDisksOf, runs_moved}
-use Rattle.vx_commits.proofs.Runners.{disks_same}
+use Rattle.vx_stage_changes.proofs.Owns.{AreDisksOf, runs_moved}
+use Rattle.vx_stage_changes.proofs.Runners.{disks_same}
 use Rattle.vx_group_start.specs.Laying.{AreRunningVolumes, AreStuckVolumes}
 
 -- the device of a name has the sectors that are seen

@@ -27,7 +27,7 @@ use Rattle.vx_stage_changes.specs.Joining.{disk_for}
 use Rattle.vx_stage_changes.proofs.Room.{unrecorded}
 use Rattle.vx_house.proofs.Lists.{each_append}
 use Rattle.vx_stage_changes.proofs.Configs.{joined_disks}
-use Rattle.vx_commits.proofs.Slots.{AreSlotted, slots_kept, slotted}
+use Rattle.vx_stage_changes.proofs.CommitSlots.{AreSlotted, slots_kept, slotted}
 use Rattle.vx_copies.proofs.StepLaws.{each_map}
 use Rattle.vx_copies.proofs.ToggleOrder.{each_all}
 

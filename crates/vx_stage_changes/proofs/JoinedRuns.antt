@@ -15,7 +15,7 @@ use Rattle.vx_moments.specs.Moment.{Moment}
 use Rattle.vx_stages.specs.Records.{disk_record}
 use Rattle.vx_group_edits.specs.Stays.{has_disk_in, AreFewer, EachStays}
 use Rattle.vx_group_edits.proofs.Added.{joining_keeps}
-use Rattle.vx_group_images.specs.Owners.{device_at}
+use Rattle.vx_moments.specs.Owners.{device_at}
 use Rattle.vx_house.specs.Runs.{AreInPlace, AreRuns}
 use Rattle.vx_house.specs.Scene.{Shelved}
 use Rattle.vx_house.specs.View.{at, group_of, member_in, member_of, IsMoment}
@@ -24,11 +24,11 @@ use Rattle.vx_house.specs.declared.house.Imported.{Imported}
 use Rattle.vx_house.specs.declared.house.Taken.{Taken}
 use Rattle.vx_house.proofs.AllLaws.{all_append}
 use Rattle.vx_house.proofs.Lists.{any_front, each_append}
-use Rattle.vx_commits.proofs.Alone.{low_by, went_by}
-use Rattle.vx_commits.proofs.Holders.{same_members}
-use Rattle.vx_commits.proofs.Owns.{AreDisksOf, KeepsThese, Runs, places_kept, runs_kept, runs_moved}
-use Rattle.vx_commits.proofs.Runners.{disks_on, seen_members}
-use Rattle.vx_commits.proofs.Slots.{IsWent, mask_names, mask_was}
+use Rattle.vx_stage_changes.proofs.Alone.{low_by, went_by}
+use Rattle.vx_stage_changes.proofs.Holders.{same_members}
+use Rattle.vx_stage_changes.proofs.Owns.{AreDisksOf, KeepsThese, Runs, places_kept, runs_kept, runs_moved}
+use Rattle.vx_stage_changes.proofs.Runners.{disks_on, seen_members}
+use Rattle.vx_stage_changes.proofs.CommitSlots.{IsWent, mask_names, mask_was}
 use Rattle.vx_stage_changes.specs.Joining.{disk_for}
 use Rattle.vx_stage_changes.proofs.Admitted.{IsAdmitted, fs, goes_fronts, joins_fronts, js, kept, n, ns}
 use Rattle.vx_stage_changes.proofs.Entry.{joins_went}

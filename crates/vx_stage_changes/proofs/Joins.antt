@@ -33,12 +33,12 @@ use Rattle.vx_house.specs.declared.house.Imported.{Imported}
 use Rattle.vx_house.specs.declared.house.Taken.{Taken}
 use Rattle.vx_house.specs.declared.stop.Stop.TheVariants as stops
 use Rattle.vx_house.proofs.Ends.{moment_but_group}
-use Rattle.vx_commits.specs.Committing.{stop_of}
-use Rattle.vx_commits.proofs.Alone.{low_by}
-use Rattle.vx_commits.proofs.GoodDisks.{any_good}
-use Rattle.vx_commits.proofs.Holders.{same_members, world_group, group_is}
-use Rattle.vx_commits.proofs.Joins.{AreDone, group_lost_on, power_lost_on, group_committed_on}
-use Rattle.vx_commits.proofs.CommitStage.{volumes_kept, group_lost_stage, power_lost_stage, done_stage}
+use Rattle.vx_stage_changes.specs.Committing.{stop_of}
+use Rattle.vx_stage_changes.proofs.Alone.{low_by}
+use Rattle.vx_stage_changes.proofs.GoodDisks.{any_good}
+use Rattle.vx_stage_changes.proofs.Holders.{same_members, world_group, group_is}
+use Rattle.vx_stage_changes.proofs.CommitJoins.{AreDone, group_lost_on, power_lost_on, group_committed_on}
+use Rattle.vx_stage_changes.proofs.CommitStage.{volumes_kept, group_lost_stage, power_lost_stage, done_stage}
 use Rattle.vx_stage_changes.specs.Joining.{disk_for, IsJoin, IsInHand, IsPlaced}
 use Rattle.vx_stage_changes.proofs.Admitted.{IsAdmitted, bs, fs, gains, goes, goes_fronts, hs, joins, js, ks, n, ns, private, private_now, rests, whole, whole_here, wholes_now, ws, front_is, back_is}
 use Rattle.vx_stage_changes.proofs.Admission.{same_name, admitted, written, x, joining}

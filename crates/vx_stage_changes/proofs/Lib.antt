@@ -1,3 +1,15 @@
+pub mod DeviceLaws
+pub mod CommitSlots
+pub mod DiskToDevice
+pub mod Members
+pub mod GoodDisks
+pub mod Holders
+pub mod CommitJoins
+pub mod Alone
+pub mod CommitStage
+pub mod Owns
+pub mod Runners
+pub mod Stillness
 pub mod Texts
 pub mod Configs
 pub mod EditStage

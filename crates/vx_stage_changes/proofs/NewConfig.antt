@@ -24,7 +24,7 @@ use Rattle.vx_objects.proofs.InKinds.{are_sorted}
 use Rattle.vx_stages.specs.Records.{is_disk_size}
 use Rattle.vx_house.specs.View.{AreRecorded}
 use Rattle.vx_house.specs.declared.stop.Stop.{Stop}
-use Rattle.vx_commits.specs.Committing.{stop_of}
+use Rattle.vx_stage_changes.specs.Committing.{stop_of}
 use Rattle.vx_stage_changes.specs.Creating.{record_of, group_records, is_fit, are_fit, IsUnwritten, IsDrawn, IsUnfounded}
 use Rattle.vx_stage_changes.specs.Planning.{IsShortText}
 use Rattle.vx_stage_changes.proofs.Configs.{disks_of}

@@ -13,7 +13,7 @@ use Rattle.vx_answers.specs.declared.answer.End.TheVariants as ends
 use Rattle.vx_house.specs.declared.house.Imported.{Imported}
 use Rattle.vx_house.specs.declared.stop.Stop.{Stop}
 use Rattle.vx_house.specs.declared.stop.Stop.TheVariants as stops
-use Rattle.vx_commits.specs.Committing.{IsTried, IsFinished}
+use Rattle.vx_stage_changes.specs.Committing.{IsTried, IsFinished}
 use Rattle.vx_stage_changes.specs.Planning.{IsShortText, IsUnplanned}
 
 -- a configuration that the edits make, and its text, were to be committed

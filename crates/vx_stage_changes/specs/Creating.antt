@@ -25,7 +25,7 @@ use Rattle.vx_house.specs.declared.house.Imported.{Imported}
 use Rattle.vx_house.specs.declared.house.Taken.{Taken}
 use Rattle.vx_house.specs.declared.stop.Stop.{Stop}
 use Rattle.vx_house.specs.declared.stop.Stop.TheVariants as stops
-use Rattle.vx_commits.specs.Committing.{stop_of}
+use Rattle.vx_stage_changes.specs.Committing.{stop_of}
 use Rattle.vx_stage_changes.specs.Joining.{disk_for}
 use Rattle.vx_stage_changes.specs.Planning.{IsShortText}
 use Rattle.vx_stage_changes.specs.declared.founding.Unfounded.{Unfounded}

@@ -18,7 +18,7 @@ use Rattle.vx_house.specs.declared.house.Taken.{Taken}
 use Rattle.vx_house.specs.declared.stop.Stop.{Stop}
 use Rattle.vx_house.specs.declared.stop.Stop.TheVariants as stops
 use Rattle.vx_stage_changes.specs.Changing.{IsMeant}
-use Rattle.vx_commits.specs.Committing.{stop_of}
+use Rattle.vx_stage_changes.specs.Committing.{stop_of}
 use Rattle.vx_stage_changes.specs.Planning.{IsUnplanned}
 use Rattle.vx_stage_changes.specs.declared.planning.NextConfig.{NextConfig}
 

@@ -1,3 +1,4 @@
+pub mod Committing
 pub mod Planning
 pub mod Changing
 pub mod Joining

@@ -10,10 +10,10 @@ ghost use Rattle.vx_stage_changes.specs.Changing.{ChangeEnds, ChangeEndsBy};
 ghost use Rattle.vx_confdb.specs.Texts.{text_of};
 ghost use Rattle.vx_stage_changes.specs.Planning.{change_edits, IsUnplannedBy};
 
+use crate::commit;
 use crate::planning::{NextConfig, edits_of, planned_growing};
 use std::alloc::Global;
 use vx_answers::Refusal;
-use vx_commits::commit;
 use vx_house::{House, Imported, Stop, refused};
 use vx_objects::Edit;
 use vx_piece::Piece;

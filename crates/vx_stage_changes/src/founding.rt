@@ -6,9 +6,9 @@ ghost use Rattle.vx_stage_changes.specs.Creating.{record_of, group_records, is_f
 
 use crate::joining::{MOST_SECTORS, is_short_name};
 use crate::planning::{NextConfig, text_of};
+use crate::stop_of;
 use std::alloc::Global;
 use vx_base::OutOfMemory;
-use vx_commits::stop_of;
 use vx_confdb::{Refused, create};
 use vx_config_parts::Disk as Record;
 use vx_copies::Disk;

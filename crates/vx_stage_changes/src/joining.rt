@@ -12,15 +12,15 @@ ghost use Rattle.vx_house.specs.Scene.{Shelved};
 ghost use Rattle.vx_house.specs.View.{at, IsGroupKept, KeepsHouse};
 ghost use Rattle.vx_stages.specs.declared.stage.Stage.TheVariants as stages;
 ghost use Rattle.vx_objects.specs.declared.edit.Edit.TheVariants as edits;
-ghost use Rattle.vx_commits.specs.Committing.{stop_of};
+ghost use Rattle.vx_stage_changes.specs.Committing.{stop_of};
 ghost use Rattle.vx_stage_changes.specs.Joining.{disk_for, AddEnds, HandEnds, JoinEnds};
 ghost use Rattle.vx_stage_changes.specs.Planning.{IsPlanned, IsUnplanned};
 
 use crate::planning::{NextConfig, planned};
 use crate::slots::free_slot;
+use crate::{LATE, stop_of};
 use std::alloc::Global;
 use vx_answers::Refusal;
-use vx_commits::{LATE, stop_of};
 use vx_config_parts::Disk as Record;
 use vx_copies::Disk;
 use vx_header::PRIVATE_SECTORS;

@@ -1,7 +1,9 @@
-//! The stages that commit to the imported group: a change of its configuration, a disk that joins it, a group that is made.
+//! Commits to the disks of a group, as steps of the world, and the stages that commit to the imported group: a change of its
+//! configuration, a disk that joins it, a group that is made.
 #![tactic(auto)]
 
 mod changing;
+mod committing;
 mod creating;
 mod founding;
 mod handing;
@@ -10,6 +12,7 @@ mod planning;
 mod slots;
 
 pub use changing::{change, commit_edits, commit_growing};
+pub use committing::{LATE, commit, stop_of};
 pub use creating::create;
 pub use joining::join;
 pub use planning::{NextConfig, broken, planned, volume_in};

@@ -50,11 +50,11 @@ use Rattle.vx_house.specs.declared.stop.Stop.TheVariants as stops
 use Rattle.vx_house.proofs.AllLaws.{all_back, all_each}
 use Rattle.vx_house.proofs.Moments.{counts_own, counts_later, later_trans, faults_moved, faults_trans}
 use Rattle.vx_house.proofs.Scenes.{scene_of}
-use Rattle.vx_commits.proofs.Alone.{IsWrittenIn, alone, sized_after, x_alone, lost_alone, cut_alone, committed_alone}
-use Rattle.vx_commits.proofs.Joins.{held_on, faults_on, moment_on, later_on, but_group_on}
-use Rattle.vx_commits.proofs.Holders.{world_group as world_whole}
-use Rattle.vx_commits.proofs.Stillness.{slots_now, recorded_now}
-use Rattle.vx_commits.specs.Committing.{IsTried, IsFinished, IsWritable, CommitEnds}
+use Rattle.vx_stage_changes.proofs.Alone.{IsWrittenIn, alone, sized_after, x_alone, lost_alone, cut_alone, committed_alone}
+use Rattle.vx_stage_changes.proofs.CommitJoins.{held_on, faults_on, moment_on, later_on, but_group_on}
+use Rattle.vx_stage_changes.proofs.Holders.{world_group as world_whole}
+use Rattle.vx_stage_changes.proofs.Stillness.{slots_now, recorded_now}
+use Rattle.vx_stage_changes.specs.Committing.{IsTried, IsFinished, IsWritable, CommitEnds}
 use Rattle.vx_stage_import.specs.Finds.{beside, IsOfGroup, AreLooked, candidate_of, candidates_of}
 use Rattle.vx_stage_import.specs.Giving.{IsBack, good_looks, disks_in, seen_disks, disk_holders}
 use Rattle.vx_stage_import.specs.Importing.{all_read, IsSince}

@@ -9,7 +9,7 @@ use Rattle.vx_copies.specs.Lists.{AllOf}
 use Rattle.vx_import.specs.Looks.{Looked}
 use Rattle.vx_import.specs.Naming.{is_readable_slot, AllThere}
 use Rattle.vx_stage_import.specs.Giving.{good_looks, disks_in}
-use Rattle.vx_commits.proofs.Slots.{mask_names}
+use Rattle.vx_stage_changes.proofs.CommitSlots.{mask_names}
 
 -- the masks of those whose slot is good
 good_there : (good : ℕ) (slot : ℕ) (fs : List Looked) → has good slot ≡ true → is_readable_slot slot fs ≡ true → is_good_slot slot (disks_in (good_looks good fs)) ≡ true

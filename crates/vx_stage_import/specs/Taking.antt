@@ -16,7 +16,7 @@ use Rattle.vx_house.specs.View.{IsGroupIdle}
 use Rattle.vx_house.specs.declared.house.House.{House}
 use Rattle.vx_house.specs.declared.stop.Stop.{Stop}
 use Rattle.vx_house.specs.declared.stop.Stop.TheVariants as stops
-use Rattle.vx_commits.specs.Committing.{CommitEnds}
+use Rattle.vx_stage_changes.specs.Committing.{CommitEnds}
 use Rattle.vx_stage_import.specs.Giving.{disk_holders}
 
 -- the group of the disks, with the text that they give

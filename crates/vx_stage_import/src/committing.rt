@@ -21,7 +21,6 @@ ghost use Rattle.vx_stage_import.specs.Taking.{TakesIn};
 use crate::giving::give_finds;
 use crate::sorting::sort_out;
 use std::alloc::Global;
-use vx_commits::commit;
 use vx_confdb::Group;
 use vx_copies::Disk;
 use vx_house::{House, Imported, Stop, give_disks};
@@ -29,6 +28,7 @@ use vx_import::{Given, GroupDevice};
 use vx_names::Name;
 use vx_objects::Config;
 use vx_shelf::Shelf;
+use vx_stage_changes::commit;
 
 /// Commits the text to the disks, which become those of the group. Where the group or the power is lost, they stay so until
 /// the command is over; for want of memory they go back at once.

@@ -3,8 +3,8 @@ use Rattle.std.proofs.Common.{◌≡◌, inr, None, List, Ok, Bool, subst}
 use Rattle.vx_base.specs.Named.{Word}
 use Rattle.vx_config_parts.specs.declared.object.Object.{Object}
 use Rattle.vx_objects.specs.Config.{objects_of}
-use Rattle.vx_plan.specs.declared.parts.Plan.{Plan}
-use Rattle.vx_plan.specs.Planned.{IsPlanned}
+use Rattle.vx_new_volumes.specs.declared.parts.Plan.{Plan}
+use Rattle.vx_new_volumes.specs.Planned.{IsPlanned}
 use Rattle.vx_new_volumes.specs.declared.volume.NewVolume.{NewVolume}
 use Rattle.vx_new_volumes.specs.Records.{records_of}
 use Rattle.vx_moments.specs.World.{Group}

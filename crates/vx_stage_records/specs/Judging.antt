@@ -15,10 +15,10 @@ use Rattle.vx_objects.specs.declared.config.Config.{Config}
 use Rattle.vx_objects.specs.declared.edit.Edit.TheVariants.{Make}
 use Rattle.vx_objects.specs.Config.{objects_of}
 use Rattle.vx_objects.specs.Printed.{AreReadAs}
-use Rattle.vx_plan.specs.declared.fault.PlanFault.{PlanFault}
-use Rattle.vx_plan.specs.declared.parts.Plan.{Plan}
-use Rattle.vx_plan.specs.declared.request.Request.{Request}
-use Rattle.vx_plan.specs.Planned.{IsPlanned}
+use Rattle.vx_new_volumes.specs.declared.fault.PlanFault.{PlanFault}
+use Rattle.vx_new_volumes.specs.declared.parts.Plan.{Plan}
+use Rattle.vx_new_volumes.specs.declared.request.Request.{Request}
+use Rattle.vx_new_volumes.specs.Planned.{IsPlanned}
 use Rattle.vx_new_volumes.specs.declared.volume.NewVolume.{NewVolume}
 use Rattle.vx_new_volumes.specs.Records.{records_of}
 use Rattle.vx_answers.specs.declared.answer.End.TheVariants as ends

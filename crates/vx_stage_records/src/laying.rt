@@ -4,8 +4,8 @@ ghost use Rattle.vx_added_records.specs.Started.{is_either};
 ghost use Rattle.vx_house.specs.View.{IsGroupKept};
 ghost use Rattle.vx_new_volumes.specs.Records.{records_of};
 ghost use Rattle.vx_new_volumes.specs.Tests.{new_fault};
-ghost use Rattle.vx_plan.specs.Planned.{IsPlanned};
-ghost use Rattle.vx_plan.specs.Rule.{is_request};
+ghost use Rattle.vx_new_volumes.specs.Planned.{IsPlanned};
+ghost use Rattle.vx_new_volumes.specs.Rule.{is_request};
 ghost use Rattle.vx_stage_changes.specs.Planning.{stop_by};
 ghost use Rattle.vx_stages.specs.Sources.{IsLaid, IsUnlaid, plan_refusal};
 ghost use Rattle.vx_stage_records.specs.Judging.{HasNoPlan, IsFault, IsUnnamed, StopsAs, group_now};
@@ -17,10 +17,9 @@ use vx_config_parts::Limit;
 use vx_house::{Imported, Stop, refused};
 use vx_names::Name;
 use vx_new_records::{new_fault, records_of};
-use vx_new_volumes::NewVolume;
+use vx_new_volumes::{NewVolume, Plan, PlanFault, Request, plan};
 use vx_objects::{Config, Object};
 use vx_piece::Piece;
-use vx_plan::{Plan, PlanFault, Request, plan};
 use vx_stage_changes::broken;
 
 /// The records of the new volume, where the tests let it through and the good disks of the group have space for it.

@@ -10,8 +10,8 @@ use Rattle.vx_config_parts.specs.declared.vol.Vol.{Vol}
 use Rattle.vx_rules.proofs.InOrder.{names_differ}
 use Rattle.vx_objects.specs.declared.config.Config.{Config}
 use Rattle.vx_objects.specs.Config.{objects_of}
-use Rattle.vx_plexes.proofs.Members.{one_in, one_named}
-use Rattle.vx_plexes.proofs.Plexes.{config_valid}
+use Rattle.vx_image.proofs.PlexMembers.{one_in, one_named}
+use Rattle.vx_image.proofs.Plexes.{config_valid}
 use Rattle.vx_image.specs.Image.{WasStarted}
 use Rattle.vx_image.specs.UsedPlexes.{IsVolOf}
 use Rattle.vx_stages.specs.Starting.{may_start}

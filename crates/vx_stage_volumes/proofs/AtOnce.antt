@@ -17,7 +17,7 @@ use Rattle.vx_objects.specs.declared.config.Config.{Config}
 use Rattle.vx_answers.specs.declared.answer.End.TheVariants as ends
 use Rattle.vx_answers.specs.declared.refusal.Refusal.{Refusal}
 use Rattle.vx_answers.specs.declared.refusal.Refusal.TheVariants as refusal
-use Rattle.vx_plexes.proofs.Members.{IsIn, all_in, any_in, in_any}
+use Rattle.vx_image.proofs.PlexMembers.{IsIn, all_in, any_in, in_any}
 use Rattle.vx_image.specs.Bytes.{map_or_zero}
 use Rattle.vx_image.specs.UsedPlexes.{IsVolOf, is_on, on_plexes, used_logs}
 use Rattle.vx_image.proofs.Members.{all_from_each, is_in}
@@ -25,11 +25,11 @@ use Rattle.vx_state_edits.specs.Edits.{is_new}
 use Rattle.vx_stages.specs.Starting.{first_of, is_lowest}
 use Rattle.vx_stages.specs.Tests.{where_}
 use Rattle.vx_volume.specs.declared.volume.VolumeShape.{VolumeShape}
-use Rattle.vx_volume_form.specs.Form.{IsFormOf, IsLayoutOf, IsShapeOf}
-use Rattle.vx_volume_form.specs.declared.form.VolumeForm.{VolumeForm}
-use Rattle.vx_volume_form.proofs.Bits.{into_off, into_on, kept, off_plex, on_plex}
-use Rattle.vx_volume_form.proofs.Distinct.{filtered}
-use Rattle.vx_volume_form.proofs.Zips.{zip_length}
+use Rattle.vx_lending.specs.Form.{IsFormOf, IsLayoutOf, IsShapeOf}
+use Rattle.vx_lending.specs.declared.form.VolumeForm.{VolumeForm}
+use Rattle.vx_lending.proofs.Bits.{into_off, into_on, kept, off_plex, on_plex}
+use Rattle.vx_lending.proofs.Distinct.{filtered}
+use Rattle.vx_lending.proofs.Zips.{zip_length}
 use Rattle.vx_group_start.specs.Fresh.{is_fresh}
 use Rattle.vx_stage_volumes.specs.Early.{has_current, is_empty, refusal_here, refusal_of_form}
 

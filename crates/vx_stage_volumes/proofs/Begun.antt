@@ -25,7 +25,7 @@ use Rattle.vx_copies.specs.Lists.{AllOf, Each}
 use Rattle.vx_confdb.specs.Groups.{members}
 use Rattle.vx_fronts.specs.Rests.{rests_of}
 use Rattle.vx_objects.specs.declared.config.Config.{Config}
-use Rattle.vx_plexes.proofs.Members.{IsIn, any_in}
+use Rattle.vx_image.proofs.PlexMembers.{IsIn, any_in}
 use Rattle.vx_objects.specs.declared.edit.Edit.{Edit}
 use Rattle.vx_state_edits.specs.Edits.{is_new, start_edits}
 use Rattle.vx_state_edits.specs.Laws.{EachRestatedVolumeIsRecorded, EachStartRestates}
@@ -36,11 +36,11 @@ use Rattle.vx_moments.specs.Leaving.{grouped, lone}
 use Rattle.vx_moments.specs.Moment.{Moment, AreLater}
 use Rattle.vx_moments.specs.World.{Group, OnPlexes, Volume, World}
 use Rattle.vx_group_edits.proofs.Restated.{start_keeps}
-use Rattle.vx_group_images.specs.Group.{image_on, sectors_of}
+use Rattle.vx_moments.specs.Group.{image_on, sectors_of}
 use Rattle.vx_volume.specs.Volume.{IsVolume, volume_seen}
 use Rattle.vx_volume_laws.specs.Contents.{AreSectorsOf}
-use Rattle.vx_volume_form.specs.Form.{IsFormOf}
-use Rattle.vx_volume_form.proofs.Rules.{one_plex}
+use Rattle.vx_lending.specs.Form.{IsFormOf}
+use Rattle.vx_lending.proofs.Rules.{one_plex}
 use Rattle.vx_volume_laws.specs.Keeping.{ChangesStates, IsRestated}
 use Rattle.vx_volume_laws.proofs.Plexes.{zip_left}
 use Rattle.vx_lending.specs.Left.{held_pieces}
@@ -64,11 +64,11 @@ use Rattle.vx_house.proofs.Laid.{holders_laid, parted_laid}
 use Rattle.vx_house.proofs.Moments.{faults_trans, later_trans}
 use Rattle.vx_house_calls.specs.Passes.{with_group}
 use Rattle.vx_house_calls.proofs.Moments.{grouped_lies, lone_lies}
-use Rattle.vx_commits.specs.Committing.{IsFinished}
-use Rattle.vx_commits.proofs.Alone.{low_by, went_by}
-use Rattle.vx_commits.proofs.Holders.{same_members}
-use Rattle.vx_commits.proofs.Runners.{disks_on, seen_members}
-use Rattle.vx_commits.proofs.Slots.{mask_was}
+use Rattle.vx_stage_changes.specs.Committing.{IsFinished}
+use Rattle.vx_stage_changes.proofs.Alone.{low_by, went_by}
+use Rattle.vx_stage_changes.proofs.Holders.{same_members}
+use Rattle.vx_stage_changes.proofs.Runners.{disks_on, seen_members}
+use Rattle.vx_stage_changes.proofs.CommitSlots.{mask_was}
 use Rattle.vx_stage_changes.specs.Changing.{IsMeant}
 use Rattle.vx_stage_changes.specs.declared.planning.NextConfig.{NextConfig}
 use Rattle.vx_stage_volumes.specs.Opening.{OpensIn}

@@ -24,13 +24,13 @@ use Rattle.vx_house.specs.declared.house.House.{House}
 use Rattle.vx_house.specs.declared.house.Imported.{Imported}
 use Rattle.vx_house.proofs.Ends.{moment_but_group}
 use Rattle.vx_house_calls.specs.Passes.{with_group}
-use Rattle.vx_commits.specs.Committing.{IsFinished, IsTried}
-use Rattle.vx_commits.proofs.Alone.{IsWrittenIn, alone, committed_alone, cut_alone, lost_alone, sized_after, x_alone}
-use Rattle.vx_commits.proofs.Holders.{group_before}
-use Rattle.vx_commits.proofs.Joins.{but_group_on, faults_on, held_on, later_on, moment_on}
-use Rattle.vx_commits.proofs.Owns.{Runs}
-use Rattle.vx_commits.proofs.Runners.{places_done, runs_done, runs_lost}
-use Rattle.vx_commits.proofs.Stillness.{recorded_now, slots_now, whole_now}
+use Rattle.vx_stage_changes.specs.Committing.{IsFinished, IsTried}
+use Rattle.vx_stage_changes.proofs.Alone.{IsWrittenIn, alone, committed_alone, cut_alone, lost_alone, sized_after, x_alone}
+use Rattle.vx_stage_changes.proofs.Holders.{group_before}
+use Rattle.vx_stage_changes.proofs.CommitJoins.{but_group_on, faults_on, held_on, later_on, moment_on}
+use Rattle.vx_stage_changes.proofs.Owns.{Runs}
+use Rattle.vx_stage_changes.proofs.Runners.{places_done, runs_done, runs_lost}
+use Rattle.vx_stage_changes.proofs.Stillness.{recorded_now, slots_now, whole_now}
 use Rattle.vx_stage_changes.specs.Changing.{IsMeant}
 
 -- Edits of a configuration keep the name of its group, its disks, and each volume of the group that runs.

@@ -14,7 +14,7 @@ use Rattle.vx_volume.specs.declared.fault.IoFault.TheVariants.{Fault, PowerLost,
 use Rattle.vx_house.specs.declared.house.Imported.{Imported}
 use Rattle.vx_house.specs.declared.stop.Stop.{Stop}
 use Rattle.vx_house.specs.declared.stop.Stop.TheVariants as stops
-use Rattle.vx_commits.specs.Committing.{IsFinished}
+use Rattle.vx_stage_changes.specs.Committing.{IsFinished}
 use Rattle.vx_stage_changes.specs.Changing.{IsMeant}
 use Rattle.vx_stage_volumes.specs.Laying.{IsLaid}
 use Rattle.vx_stage_volumes.specs.Resting.{IsFaultTold}

@@ -9,7 +9,7 @@ use Rattle.vx_config_parts.specs.declared.plex.Plex.{Plex}
 use Rattle.vx_config_parts.specs.declared.vol.Vol.{Vol}
 use Rattle.vx_config_parts.specs.Objects.{is_data_plex_of}
 use Rattle.vx_objects.specs.declared.config.Config.{Config}
-use Rattle.vx_plexes.proofs.Members.{IsIn, all_in, from_map, in_any, in_map}
+use Rattle.vx_image.proofs.PlexMembers.{IsIn, all_in, from_map, in_any, in_map}
 use Rattle.vx_image.specs.Bytes.{Sectors, image_of, map_or_zero, plex_image}
 use Rattle.vx_image.specs.Image.{Image, LogCopy, PlexImage, has_no_copy, is_available, is_marked_by_all, regions_of}
 use Rattle.vx_image.specs.Meaning.{possible_read, sure_read}
@@ -18,10 +18,10 @@ use Rattle.vx_image.proofs.Members.{contains, is_in}
 use Rattle.vx_marks.specs.Log.{LogSeen}
 use Rattle.vx_stages.specs.Starting.{IsFirstMissed}
 use Rattle.vx_volume.specs.Opening.{IsFirstUnread, count_of}
-use Rattle.vx_volume_form.specs.Form.{IsFormOf}
-use Rattle.vx_volume_form.specs.declared.form.VolumeForm.{VolumeForm}
-use Rattle.vx_volume_form.proofs.Bits.{into_on, kept, on_plex}
-use Rattle.vx_volume_form.proofs.Distinct.{filtered}
+use Rattle.vx_lending.specs.Form.{IsFormOf}
+use Rattle.vx_lending.specs.declared.form.VolumeForm.{VolumeForm}
+use Rattle.vx_lending.proofs.Bits.{into_on, kept, on_plex}
+use Rattle.vx_lending.proofs.Distinct.{filtered}
 
 module _ (c : Config) (good : ℕ) (bytes : Sectors) (v : Vol) (fresh : Bool) (form : VolumeForm) (of : IsVolOf c v) (is : IsFormOf c good v fresh form) (log : LogSeen) (copy : LogCopy) (one : Contains (image_of c good bytes v).copies copy)
     (claims : (r k : ℕ) → r < count_of form.shape → log.claims r k ≡ copy r k) (r : ℕ) (first : IsFirstUnread form.shape log r) where

@@ -11,9 +11,9 @@ use Rattle.vx_copies.specs.Disks.{IsReady, disk_seen}
 use Rattle.vx_copies.specs.Lists.{AllOf, AnyOf}
 use Rattle.vx_copies.specs.declared.disk.Disk.{Disk}
 use Rattle.vx_image.proofs.Members.{is_in}
-use Rattle.vx_plexes.proofs.Members.{IsIn, all_in, any_in}
-use Rattle.vx_volume_form.specs.Laws.{good_disks}
-use Rattle.vx_volume_form.proofs.Distinct.{filtered}
+use Rattle.vx_image.proofs.PlexMembers.{IsIn, all_in, any_in}
+use Rattle.vx_lending.specs.FormLaws.{good_disks}
+use Rattle.vx_lending.proofs.Distinct.{filtered}
 use Rattle.vx_lending.specs.Public.{running_at}
 use Rattle.vx_group_start.specs.Fresh.{is_fresh}
 use Rattle.vx_house.specs.Idle.{EachIdleVolumeIsFree, HaveRoom}

@@ -16,7 +16,7 @@ use Rattle.vx_cell.specs.Changes.{CellSeen}
 use Rattle.vx_config_parts.specs.declared.plex.Plex.{Plex}
 use Rattle.vx_config_parts.specs.declared.vol.Vol.{Vol}
 use Rattle.vx_config_parts.specs.Objects.{is_data_plex_of}
-use Rattle.vx_plexes.proofs.Members.{IsIn, any_in, in_any}
+use Rattle.vx_image.proofs.PlexMembers.{IsIn, any_in, in_any}
 use Rattle.vx_state_edits.specs.Edits.{is_new}
 use Rattle.vx_image.specs.Bytes.{map_or_zero}
 use Rattle.vx_image.specs.UsedPlexes.{IsVolOf, is_on}
@@ -28,10 +28,10 @@ use Rattle.vx_volume.specs.Volume.{VolumeSeen, cell_at, log_of, no_cell, volume_
 use Rattle.vx_volume.specs.declared.log.VolumeLog.{VolumeLog}
 use Rattle.vx_volume.specs.declared.log.VolumeLog.TheVariants.{Absent, Maps}
 use Rattle.vx_volume.specs.declared.volume.VolumeShape.{VolumeShape}
-use Rattle.vx_volume_form.specs.Form.{IsFormOf}
-use Rattle.vx_volume_form.proofs.Bits.{kept, on_plex}
-use Rattle.vx_volume_form.proofs.Maps.{one_without}
-use Rattle.vx_volume_form.proofs.Rules.{plex_low}
+use Rattle.vx_lending.specs.Form.{IsFormOf}
+use Rattle.vx_lending.proofs.Bits.{kept, on_plex}
+use Rattle.vx_lending.proofs.Maps.{one_without}
+use Rattle.vx_lending.proofs.Rules.{plex_low}
 use Rattle.vx_volume_laws.specs.Keeping.{data_plexes}
 use Rattle.vx_lending.specs.Logs.{IsFreshLog, marked_maps}
 use Rattle.vx_lending.specs.declared.public.Public.{Public}

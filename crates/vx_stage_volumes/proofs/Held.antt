@@ -24,7 +24,7 @@ use Rattle.vx_fronts.proofs.Sectors.{own_told}
 use Rattle.vx_lending.specs.Left.{held_pieces}
 use Rattle.vx_lending.specs.declared.public.Running.{Running}
 use Rattle.vx_lending.specs.Public.{lent_pieces, running_at, running_pieces, still_pieces, stuck_pieces}
-use Rattle.vx_group_images.specs.Group.{public_of}
+use Rattle.vx_moments.specs.Group.{public_of}
 use Rattle.vx_moments.specs.Moment.{Moment}
 use Rattle.vx_moments.specs.World.{Device}
 use Rattle.vx_house.specs.Holders.{group_holders, group_rests, hand_holder, held_as, holder_in, holders, volume_holder, whole_members}

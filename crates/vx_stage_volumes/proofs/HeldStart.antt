@@ -17,7 +17,7 @@ use Rattle.vx_moments.specs.Moment.{Moment, AreLater}
 use Rattle.vx_moments.specs.World.{Group}
 use Rattle.vx_stages.specs.Touching.{IsTouched, Narrows}
 use Rattle.vx_volume.specs.Volume.{IsVolume, volume_seen}
-use Rattle.vx_volume_form.specs.Laws.{good_disks}
+use Rattle.vx_lending.specs.FormLaws.{good_disks}
 use Rattle.vx_lending.specs.Left.{held_pieces}
 use Rattle.vx_lending.specs.Pieces.{copy_pieces}
 use Rattle.vx_lending.specs.declared.public.Public.{Public}
@@ -26,7 +26,7 @@ use Rattle.vx_lending.specs.Public.{lent_pieces, remaining_pieces, still_pieces}
 use Rattle.vx_group_start.specs.Fresh.{is_fresh}
 use Rattle.vx_group_start.specs.Laying.{AreStuckVolumes}
 use Rattle.vx_group_start.specs.Together.{GoByLog}
-use Rattle.vx_volume_form.specs.Form.{IsFormOf}
+use Rattle.vx_lending.specs.Form.{IsFormOf}
 use Rattle.vx_group_volumes.specs.Places.{IsSlotOf}
 use Rattle.vx_group_volumes.proofs.Taken.{sector_own}
 use Rattle.vx_house.specs.Runs.{IsNumbered}

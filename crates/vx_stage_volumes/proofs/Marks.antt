@@ -12,12 +12,12 @@ use Rattle.vx_cell.specs.Changes.{CellSeen}
 use Rattle.vx_copies.specs.Disks.{DiskSeen}
 use Rattle.vx_config_parts.specs.declared.plex.Plex.{Plex}
 use Rattle.vx_config_parts.specs.Objects.{is_data_plex_of}
-use Rattle.vx_plexes.proofs.Members.{in_map}
+use Rattle.vx_image.proofs.PlexMembers.{in_map}
 use Rattle.vx_image.specs.Bytes.{Sectors, map_or_zero, plex_image}
 use Rattle.vx_image.specs.Image.{PlexImage}
 use Rattle.vx_image.proofs.Members.{contains, is_in}
 use Rattle.vx_moments.specs.World.{Group, Volume}
-use Rattle.vx_volume_form.proofs.Bits.{kept}
+use Rattle.vx_lending.proofs.Bits.{kept}
 use Rattle.vx_volume.specs.Volume.{VolumeSeen, cell_at, no_cell, volume_seen}
 use Rattle.vx_volume_laws.specs.Running.{RunsAsVolume}
 use Rattle.vx_lending.specs.declared.public.Running.{Running}

@@ -10,8 +10,8 @@ use Rattle.vx_config_parts.specs.declared.vol.Vol.{Vol}
 use Rattle.vx_rules.proofs.InOrder.{names_differ}
 use Rattle.vx_objects.specs.declared.config.Config.{Config}
 use Rattle.vx_objects.specs.Config.{objects_of}
-use Rattle.vx_plexes.proofs.Members.{IsIn, in_one, one_in, one_named}
-use Rattle.vx_plexes.proofs.Plexes.{config_valid}
+use Rattle.vx_image.proofs.PlexMembers.{IsIn, in_one, one_in, one_named}
+use Rattle.vx_image.proofs.Plexes.{config_valid}
 use Rattle.vx_state_edits.specs.Laws.{IsRecorded, in_state}
 use Rattle.vx_image.specs.UsedPlexes.{IsVolOf}
 use Rattle.vx_group_edits.proofs.ByKind.{records_vol}

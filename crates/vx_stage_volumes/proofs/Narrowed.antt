@@ -37,13 +37,13 @@ use Rattle.vx_image.proofs.Narrowing.{narrowed_self}
 use Rattle.vx_image.proofs.Own.{image_own}
 use Rattle.vx_moments.specs.Moment.{Moment}
 use Rattle.vx_moments.specs.World.{Device, Group, Member}
-use Rattle.vx_group_images.specs.Group.{image_on, public_of, sectors_of}
-use Rattle.vx_group_images.specs.Owners.{device_at}
-use Rattle.vx_volume_form.specs.Form.{IsFormOf}
-use Rattle.vx_volume_form.specs.Laws.{AreNumbered, good_disks}
-use Rattle.vx_volume_form.specs.declared.form.VolumeForm.{VolumeForm}
+use Rattle.vx_moments.specs.Group.{image_on, public_of, sectors_of}
+use Rattle.vx_moments.specs.Owners.{device_at}
+use Rattle.vx_lending.specs.Form.{IsFormOf}
+use Rattle.vx_lending.specs.FormLaws.{AreNumbered, good_disks}
+use Rattle.vx_lending.specs.declared.form.VolumeForm.{VolumeForm}
 use Rattle.vx_volume_laws.specs.Contents.{AreSectorsOf}
-use Rattle.vx_volume_pieces.specs.Pieces.{all_pieces}
+use Rattle.vx_lending.specs.RegionPieces.{all_pieces}
 use Rattle.vx_lending.specs.Pieces.{copy_pieces}
 use Rattle.vx_lending.specs.Public.{lent_pieces, still_pieces}
 use Rattle.vx_lending.specs.declared.public.Public.{Public}

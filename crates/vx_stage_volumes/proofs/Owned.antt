@@ -20,7 +20,7 @@ use Rattle.vx_fronts.specs.Parted.{IsFront, fronts_of}
 use Rattle.vx_fronts.proofs.Parted.{few_fronts, has_first, parted_once}
 use Rattle.vx_fronts.proofs.Joined.{parts_once}
 use Rattle.vx_lending.specs.Public.{lent_pieces, remaining_pieces, still_pieces}
-use Rattle.vx_volume_form.specs.Laws.{AreNumbered, good_disks}
+use Rattle.vx_lending.specs.FormLaws.{AreNumbered, good_disks}
 use Rattle.vx_house.specs.View.{IsGroupKept}
 use Rattle.vx_house.specs.declared.house.Imported.{Imported}
 use Rattle.vx_stage_volumes.specs.Disks.{has_disk, have_disks, is_disk_of}

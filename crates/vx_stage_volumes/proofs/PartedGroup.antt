@@ -30,7 +30,7 @@ use Rattle.vx_fronts.proofs.Steps.{same_alone}
 use Rattle.vx_moments.specs.Copies.{IsTextOf}
 use Rattle.vx_config_parts.specs.declared.disk.Disk.{Disk as Record}
 use Rattle.vx_objects.specs.declared.config.Config.{Config}
-use Rattle.vx_commits.proofs.Owns.{all_moved}
+use Rattle.vx_stage_changes.proofs.Owns.{all_moved}
 use Rattle.vx_lending.specs.declared.public.Public.{Public}
 use Rattle.vx_lending.specs.declared.public.Running.{Running}
 use Rattle.vx_lending.specs.Public.{lent_pieces, remaining_pieces, running_pieces, still_pieces, stuck_pieces}

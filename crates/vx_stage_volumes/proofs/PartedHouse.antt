@@ -15,7 +15,7 @@ use Rattle.vx_moments.specs.World.{Group, Volume}
 use Rattle.vx_moments.specs.Leaving.{grouped}
 use Rattle.vx_lending.specs.declared.public.Running.{Running}
 use Rattle.vx_lending.specs.Public.{running_at}
-use Rattle.vx_commits.proofs.Owns.{AreDisksOf, run_moved}
+use Rattle.vx_stage_changes.proofs.Owns.{AreDisksOf, run_moved}
 use Rattle.vx_house.specs.Holders.{AreHeld, hand_holder, group_holders, holders, volume_holder}
 use Rattle.vx_house.specs.Runs.{AreRuns, IsAtRun, fronts_in, run_in}
 use Rattle.vx_house.specs.Scene.{Scene, Shelved}

@@ -16,7 +16,7 @@ use Rattle.vx_copies.specs.Lists.{AnyOf}
 use Rattle.vx_copies.specs.declared.disk.Disk.{Disk}
 use Rattle.vx_confdb.specs.Groups.{members}
 use Rattle.vx_config_parts.specs.declared.plex.Plex.{Plex}
-use Rattle.vx_plexes.proofs.Members.{in_any}
+use Rattle.vx_image.proofs.PlexMembers.{in_any}
 use Rattle.vx_image.proofs.Members.{is_in}
 use Rattle.vx_answers.specs.declared.answer.End.{End}
 use Rattle.vx_answers.specs.declared.answer.End.TheVariants as ends
@@ -24,8 +24,8 @@ use Rattle.vx_moments.specs.Leaving.{grouped}
 use Rattle.vx_moments.specs.Moment.{Counts, Moment, AreLater}
 use Rattle.vx_moments.specs.Moment.{HasFailed as FailsAt}
 use Rattle.vx_moments.specs.World.{Group, Volume, World}
-use Rattle.vx_group_images.specs.Owners.{IsDeviceOfVolume, owner_of, owners_of, devices_on}
-use Rattle.vx_group_images.specs.Tracks.{TrackOwner, has_failed, volume_failed}
+use Rattle.vx_moments.specs.Owners.{IsDeviceOfVolume, owner_of, owners_of, devices_on}
+use Rattle.vx_moments.specs.Tracks.{TrackOwner, has_failed, volume_failed}
 use Rattle.vx_volume.specs.declared.fault.IoFault.{IoFault}
 use Rattle.vx_volume.specs.declared.fault.IoFault.TheVariants.{Fault, PowerLost, Range}
 use Rattle.vx_volume.specs.Volume.{volume_seen}

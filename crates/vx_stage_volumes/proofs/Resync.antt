@@ -18,7 +18,7 @@ use Rattle.vx_confdb.specs.Groups.{members}
 use Rattle.vx_config_parts.specs.declared.plex.Plex.{Plex}
 use Rattle.vx_config_parts.specs.declared.vol.Vol.{Vol}
 use Rattle.vx_config_parts.specs.Objects.{is_data_plex_of, is_log_plex_of}
-use Rattle.vx_plexes.proofs.Members.{IsIn, in_any}
+use Rattle.vx_image.proofs.PlexMembers.{IsIn, in_any}
 use Rattle.vx_state_edits.specs.Edits.{is_new}
 use Rattle.vx_image.specs.UsedPlexes.{is_on}
 use Rattle.vx_image.specs.Bytes.{map_or_zero}
@@ -28,9 +28,9 @@ use Rattle.vx_answers.specs.declared.answer.End.TheVariants as ends
 use Rattle.vx_moments.specs.Moment.{Counts, Moment, AreLater}
 use Rattle.vx_moments.specs.Moment.{HasFailed as FailsAt}
 use Rattle.vx_moments.specs.World.{Group, OnPlexes, Track, Volume}
-use Rattle.vx_group_images.specs.Lives.{no_track, volume_copied}
-use Rattle.vx_group_images.specs.Owners.{IsDeviceOfVolume, devices_on, owner_of, owners_of}
-use Rattle.vx_group_images.specs.Tracks.{TrackOwner, has_failed, volume_failed, was_unsettled}
+use Rattle.vx_moments.specs.Lives.{no_track, volume_copied}
+use Rattle.vx_moments.specs.Owners.{IsDeviceOfVolume, devices_on, owner_of, owners_of}
+use Rattle.vx_moments.specs.Tracks.{TrackOwner, has_failed, volume_failed, was_unsettled}
 use Rattle.vx_volume.specs.declared.fault.IoFault.{IoFault}
 use Rattle.vx_volume.specs.declared.fault.IoFault.TheVariants.{Fault, PowerLost, Range}
 use Rattle.vx_volume.specs.Volume.{VolumeSeen, volume_seen}

@@ -11,7 +11,7 @@ use Rattle.vx_confdb.specs.Groups.{members}
 use Rattle.vx_config_parts.specs.declared.plex.Plex.{Plex}
 use Rattle.vx_config_parts.specs.declared.vol.Vol.{Vol}
 use Rattle.vx_config_parts.specs.Objects.{is_data_plex_of}
-use Rattle.vx_plexes.proofs.Members.{IsIn}
+use Rattle.vx_image.proofs.PlexMembers.{IsIn}
 use Rattle.vx_state_edits.specs.Edits.{is_new}
 use Rattle.vx_image.specs.Bytes.{map_or_zero}
 use Rattle.vx_answers.specs.declared.answer.End.{End}

@@ -10,12 +10,12 @@ use Rattle.vx_config_parts.specs.declared.disk.Disk.{Disk as Record}
 use Rattle.vx_copies.specs.Disks.{DiskSeen, HasSlot, IsReady, disk_seen, good_mask, is_good_slot}
 use Rattle.vx_copies.specs.Lists.{AllOf, AnyOf}
 use Rattle.vx_copies.specs.declared.disk.Disk.{Disk}
-use Rattle.vx_commits.proofs.Owns.{AreDisksOf}
-use Rattle.vx_commits.proofs.Slots.{mask_names}
+use Rattle.vx_stage_changes.proofs.Owns.{AreDisksOf}
+use Rattle.vx_stage_changes.proofs.CommitSlots.{mask_names}
 use Rattle.vx_moments.specs.World.{Member}
-use Rattle.vx_group_images.specs.Owners.{device_at}
+use Rattle.vx_moments.specs.Owners.{device_at}
 use Rattle.vx_group_volumes.specs.Places.{IsSlotOf}
-use Rattle.vx_volume_form.specs.Laws.{good_disks}
+use Rattle.vx_lending.specs.FormLaws.{good_disks}
 use Rattle.vx_house.specs.Runs.{IsNumbered, IsOnDisk}
 use Rattle.vx_house.specs.View.{member_of}
 use Rattle.vx_stage_volumes.specs.Numbers.{AreNumbersOf, IsSpare, number_at}

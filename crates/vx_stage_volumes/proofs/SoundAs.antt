@@ -19,8 +19,8 @@ use Rattle.vx_rules.proofs.InOrder.{names_differ}
 use Rattle.vx_objects.specs.declared.config.Config.{Config}
 use Rattle.vx_objects.specs.Applied.{IsEdited}
 use Rattle.vx_objects.specs.Config.{objects_of}
-use Rattle.vx_plexes.proofs.Members.{one_in, one_named}
-use Rattle.vx_plexes.proofs.Plexes.{config_valid}
+use Rattle.vx_image.proofs.PlexMembers.{one_in, one_named}
+use Rattle.vx_image.proofs.Plexes.{config_valid}
 use Rattle.vx_state_edits.specs.Edits.{is_new, start_edits, stop_edits}
 use Rattle.vx_image.specs.Bytes.{Sectors, image_of}
 use Rattle.vx_image.specs.Soundness.{IsSoundImage}
@@ -29,10 +29,10 @@ use Rattle.vx_image.proofs.Members.{is_in}
 use Rattle.vx_moments.specs.Moment.{Moment}
 use Rattle.vx_moments.specs.World.{Group, Volume, World}
 use Rattle.vx_group_edits.proofs.ByKind.{records_vol}
-use Rattle.vx_group_images.specs.Group.{image_on, sectors_of}
+use Rattle.vx_moments.specs.Group.{image_on, sectors_of}
 use Rattle.vx_group_stop.specs.Laws.{AreSettled}
 use Rattle.vx_volume.specs.Volume.{volume_seen}
-use Rattle.vx_volume_form.specs.Form.{IsFormOf}
+use Rattle.vx_lending.specs.Form.{IsFormOf}
 use Rattle.vx_volume_laws.specs.Contents.{AreSectorsOf}
 use Rattle.vx_volume_laws.specs.Keeping.{ChangesStates}
 use Rattle.vx_volume_laws.specs.Leaving.{AreNamedIn, EachLeavingStands, EachStopStands}

@@ -17,7 +17,7 @@ use Rattle.vx_layout.specs.declared.place.Place.{Place}
 use Rattle.vx_layout.specs.declared.strip.Strip.{Strip}
 use Rattle.vx_objects.specs.declared.config.Config.{Config}
 use Rattle.vx_objects.specs.Applied.{IsEdited}
-use Rattle.vx_plexes.specs.Lies.{columns_from, columns_of}
+use Rattle.vx_image.specs.Lies.{columns_from, columns_of}
 use Rattle.vx_image.specs.Bytes.{Sectors, image_of}
 use Rattle.vx_image.specs.Image.{regions_of}
 use Rattle.vx_image.specs.Own.{IsOfVolume, SameInside}
@@ -30,9 +30,9 @@ use Rattle.vx_volume_laws.specs.Keeping.{ChangesStates, IsRestated}
 use Rattle.vx_volume_laws.proofs.Plexes.{zip_left, zip_right}
 use Rattle.vx_volume_laws.proofs.Restated.{columns_same}
 use Rattle.vx_state_edits.specs.Edits.{stop_edits}
-use Rattle.vx_group_images.specs.Group.{public_of, sectors_of}
-use Rattle.vx_group_images.specs.Owners.{device_at}
-use Rattle.vx_group_images.specs.Volumes.{StandsForVolume}
+use Rattle.vx_moments.specs.Group.{public_of, sectors_of}
+use Rattle.vx_moments.specs.Owners.{device_at}
+use Rattle.vx_moments.specs.Volumes.{StandsForVolume}
 use Rattle.vx_group_stop.specs.Laws.{AreClean, AreSettled}
 use Rattle.vx_group_volumes.specs.Laws.{EachStopChangesStates}
 use Rattle.vx_group_volumes.proofs.Stands.{stopped_clean, stopped_stands}

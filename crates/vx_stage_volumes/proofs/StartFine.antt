@@ -9,7 +9,7 @@ use Rattle.vx_objects.specs.declared.edit.Edit.{Edit}
 use Rattle.vx_objects.specs.Config.{objects_of}
 use Rattle.vx_answers.specs.declared.answer.End.{End}
 use Rattle.vx_answers.specs.declared.refusal.Refusal.{Refusal}
-use Rattle.vx_plexes.specs.Once.{IsOneOf}
+use Rattle.vx_image.specs.Once.{IsOneOf}
 use Rattle.vx_image.specs.UsedPlexes.{IsVolOf}
 use Rattle.vx_state_edits.specs.Edits.{start_edits}
 use Rattle.vx_state_edits.specs.Laws.{EachStartIsFine, IsAmong}

@@ -23,8 +23,8 @@ use Rattle.vx_volume.specs.declared.log.VolumeLog.{VolumeLog}
 use Rattle.vx_volume.specs.declared.log.VolumeLog.TheVariants.{Absent, Maps}
 use Rattle.vx_volume.specs.Log.{log_seen}
 use Rattle.vx_volume.specs.Opening.{IsFirstUnread, count_of}
-use Rattle.vx_volume_form.specs.Form.{IsFormOf}
-use Rattle.vx_volume_form.specs.declared.form.VolumeForm.{VolumeForm}
+use Rattle.vx_lending.specs.Form.{IsFormOf}
+use Rattle.vx_lending.specs.declared.form.VolumeForm.{VolumeForm}
 use Rattle.vx_lending.specs.Logs.{IsFreshLog, IsLoadedLog}
 use Rattle.vx_lending.specs.Taken.{log_sectors}
 use Rattle.vx_volume_laws.specs.Contents.{AreSectorsOf, ShowsCopy}

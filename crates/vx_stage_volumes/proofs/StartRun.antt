@@ -22,14 +22,14 @@ use Rattle.vx_image.specs.Soundness.{IsSoundImage}
 use Rattle.vx_image.specs.UsedPlexes.{IsVolOf, held_plexes, used_logs}
 use Rattle.vx_moments.specs.Holding.{is_among}
 use Rattle.vx_moments.specs.World.{Group, Member, OnPlexes, Volume}
-use Rattle.vx_group_images.specs.Lives.{volume_begun, volume_by, volume_first}
-use Rattle.vx_group_images.specs.Owners.{owners_of}
-use Rattle.vx_group_images.specs.Tracks.{TrackOwner, unsure}
-use Rattle.vx_group_images.specs.Volumes.{volume_read}
+use Rattle.vx_moments.specs.Lives.{volume_begun, volume_by, volume_first}
+use Rattle.vx_moments.specs.Owners.{owners_of}
+use Rattle.vx_moments.specs.Tracks.{TrackOwner, unsure}
+use Rattle.vx_moments.specs.Volumes.{volume_read}
 use Rattle.vx_volume.specs.Log.{log_seen}
 use Rattle.vx_volume.specs.Volume.{log_of, volume_seen}
-use Rattle.vx_volume_form.specs.Form.{IsFormOf}
-use Rattle.vx_volume_form.specs.Laws.{AreNumbered, good_disks}
+use Rattle.vx_lending.specs.Form.{IsFormOf}
+use Rattle.vx_lending.specs.FormLaws.{AreNumbered, good_disks}
 use Rattle.vx_volume_laws.specs.Contents.{AreSectorsOf}
 use Rattle.vx_volume_laws.specs.Keeping.{ChangesStates, KeepsVolume}
 use Rattle.vx_volume_laws.specs.Leaving.{EachRunningForgets}

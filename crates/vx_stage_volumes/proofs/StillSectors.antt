@@ -5,7 +5,7 @@ use Rattle.vx_base.specs.Named.{Word}
 use Rattle.vx_mask.specs.Mask.{has}
 use Rattle.vx_copies.specs.Disks.{DiskSeen}
 use Rattle.vx_copies.specs.Lists.{AllOf}
-use Rattle.vx_group_images.specs.Group.{public_of, sectors_of}
+use Rattle.vx_moments.specs.Group.{public_of, sectors_of}
 use Rattle.vx_moments.specs.World.{Device, Member}
 use Rattle.vx_volume_laws.specs.Contents.{AreSectorsOf}
 use Rattle.vx_house.specs.Runs.{IsNumbered}

@@ -29,8 +29,8 @@ use Rattle.vx_moments.specs.Commit.{Writing, is_slot_of, is_written_slot, partie
 use Rattle.vx_moments.specs.Leaving.{grouped}
 use Rattle.vx_moments.specs.Moment.{Moment, AreLater}
 use Rattle.vx_moments.specs.World.{Group, Volume}
-use Rattle.vx_group_images.specs.Group.{image_on, sectors_of}
-use Rattle.vx_group_images.specs.Volumes.{StandsForVolume}
+use Rattle.vx_moments.specs.Group.{image_on, sectors_of}
+use Rattle.vx_moments.specs.Volumes.{StandsForVolume}
 use Rattle.vx_group_edits.specs.Stays.{EachStays}
 use Rattle.vx_group_edits.proofs.Restated.{stop_keeps}
 use Rattle.vx_group_stop.specs.Laws.{EachRestIsSettled}
@@ -66,9 +66,9 @@ use Rattle.vx_house.proofs.Ends.{goes_ended, keeps_but_group, keeps_ended, momen
 use Rattle.vx_house.proofs.Moments.{faults_refl, faults_trans, later_refl, later_trans}
 use Rattle.vx_house.proofs.Takes.{rests_self}
 use Rattle.vx_house_calls.specs.Passes.{with_group}
-use Rattle.vx_commits.proofs.Holders.{group_before, world_group}
-use Rattle.vx_commits.proofs.Owns.{Runs}
-use Rattle.vx_commits.specs.Committing.{IsFinished, IsTried}
+use Rattle.vx_stage_changes.proofs.Holders.{group_before, world_group}
+use Rattle.vx_stage_changes.proofs.Owns.{Runs}
+use Rattle.vx_stage_changes.specs.Committing.{IsFinished, IsTried}
 use Rattle.vx_stage_changes.specs.Changing.{IsMeant}
 use Rattle.vx_stage_volumes.specs.Laying.{IsLaid}
 use Rattle.vx_stage_volumes.specs.Resting.{IsFaultTold, RestsIn}

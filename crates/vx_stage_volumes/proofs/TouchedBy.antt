@@ -16,7 +16,7 @@ use Rattle.vx_carve.proofs.Same.{same_beside, same_refl, same_trans}
 use Rattle.vx_fronts.specs.Rests.{AllTell, IsTelling}
 use Rattle.vx_fronts.proofs.Behind.{turned, turned_back}
 use Rattle.vx_maps.specs.Going.{CopiesGo}
-use Rattle.vx_volume_pieces.specs.Pieces.{all_pieces}
+use Rattle.vx_lending.specs.RegionPieces.{all_pieces}
 use Rattle.vx_config_parts.specs.declared.disk.Disk.{Disk}
 use Rattle.vx_objects.specs.declared.config.Config.{Config}
 use Rattle.vx_lending.specs.Left.{held_pieces}

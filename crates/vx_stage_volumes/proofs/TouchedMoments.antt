@@ -13,7 +13,7 @@ use Rattle.vx_piece.specs.Seen.{Seen}
 use Rattle.vx_runs.specs.Run.{SomeCut}
 use Rattle.vx_carve.specs.Together.{HasSome, covers, cut_on, faults_on}
 use Rattle.vx_config_parts.specs.declared.disk.Disk.{Disk}
-use Rattle.vx_plexes.proofs.Members.{IsIn, in_map}
+use Rattle.vx_image.proofs.PlexMembers.{IsIn, in_map}
 use Rattle.vx_image.proofs.Members.{contains}
 use Rattle.vx_copies.specs.Disks.{DiskSeen, good_mask}
 use Rattle.vx_copies.specs.Lists.{AllOf, Each}
@@ -24,8 +24,8 @@ use Rattle.vx_moments.specs.Leaving.{grouped}
 use Rattle.vx_moments.specs.Moment.{Moment, AreLater}
 use Rattle.vx_moments.specs.Moment.{HasFailed as FailsAt}
 use Rattle.vx_moments.specs.World.{World, Device, Group}
-use Rattle.vx_group_images.specs.Group.{ChangesOnly, IsSectorOf}
-use Rattle.vx_group_images.specs.Owners.{IsDeviceOfVolume}
+use Rattle.vx_moments.specs.Group.{ChangesOnly, IsSectorOf}
+use Rattle.vx_moments.specs.Owners.{IsDeviceOfVolume}
 use Rattle.vx_stages.specs.GroupCalls.{CallsOnly}
 use Rattle.vx_stages.specs.Touching.{FailsOn, IsCutOff, IsTouched}
 use Rattle.vx_group_volumes.specs.Places.{IsSlotOf}

@@ -15,8 +15,8 @@ use Rattle.vx_copies.specs.Lists.{AllOf}
 use Rattle.vx_shelf.specs.Shelf.{Held, AreNumbered}
 use Rattle.vx_fronts.specs.Rests.{is_of}
 use Rattle.vx_moments.specs.World.{Group}
-use Rattle.vx_group_images.specs.Group.{IsSectorOf}
-use Rattle.vx_group_images.specs.Owners.{IsDeviceOfVolume, device_at}
+use Rattle.vx_moments.specs.Group.{IsSectorOf}
+use Rattle.vx_moments.specs.Owners.{IsDeviceOfVolume, device_at}
 use Rattle.vx_group_volumes.specs.Places.{IsSlotOf}
 use Rattle.vx_house.specs.Runs.{IsNumbered}
 use Rattle.vx_house_calls.proofs.Entries.{all_at_one}

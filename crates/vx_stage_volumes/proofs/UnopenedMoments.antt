@@ -25,13 +25,13 @@ use Rattle.vx_image.specs.UsedPlexes.{IsVolOf}
 use Rattle.vx_moments.specs.Moment.{AreLater, Moment}
 use Rattle.vx_moments.specs.Moment.{HasFailed as FailsAt}
 use Rattle.vx_moments.specs.World.{Group}
-use Rattle.vx_group_images.specs.Group.{image_on, sectors_of}
-use Rattle.vx_group_images.specs.Owners.{IsDeviceOfVolume}
+use Rattle.vx_moments.specs.Group.{image_on, sectors_of}
+use Rattle.vx_moments.specs.Owners.{IsDeviceOfVolume}
 use Rattle.vx_stages.specs.Starting.{HasNoReadCopy, IsFirstMissed}
 use Rattle.vx_stages.specs.Touching.{FailsOn, IsCutOff, IsTouched, Narrows}
-use Rattle.vx_volume_form.specs.Form.{IsFormOf}
-use Rattle.vx_volume_form.specs.Laws.{good_disks}
-use Rattle.vx_volume_form.specs.declared.form.VolumeForm.{VolumeForm}
+use Rattle.vx_lending.specs.Form.{IsFormOf}
+use Rattle.vx_lending.specs.FormLaws.{good_disks}
+use Rattle.vx_lending.specs.declared.form.VolumeForm.{VolumeForm}
 use Rattle.vx_volume_laws.specs.Contents.{AreSectorsOf}
 use Rattle.vx_lending.specs.Pieces.{copy_pieces}
 use Rattle.vx_lending.specs.Taken.{AreTakenCopies, log_sectors}

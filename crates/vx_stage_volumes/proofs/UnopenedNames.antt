@@ -15,7 +15,7 @@ use Rattle.vx_image.specs.Image.{IsFilled}
 use Rattle.vx_state_edits.specs.Edits.{is_new}
 use Rattle.vx_stages.specs.Starting.{first_of}
 use Rattle.vx_stages.specs.Tests.{where_}
-use Rattle.vx_volume_form.specs.declared.form.VolumeForm.{VolumeForm}
+use Rattle.vx_lending.specs.declared.form.VolumeForm.{VolumeForm}
 use Rattle.vx_group_start.specs.Fresh.{is_fresh}
 use Rattle.vx_house_calls.specs.Passes.{IsOneOf}
 use Rattle.vx_stage_volumes.specs.Early.{has_current, is_empty, refusal_of_form}

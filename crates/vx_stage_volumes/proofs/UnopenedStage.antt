@@ -22,8 +22,8 @@ use Rattle.vx_group_start.specs.Refused.{IsNotStarted}
 use Rattle.vx_group_start.specs.Fresh.{is_fresh}
 use Rattle.vx_group_start.specs.declared.fault.StartFault.{StartFault}
 use Rattle.vx_group_start.specs.declared.fault.StartFault.TheVariants as fault
-use Rattle.vx_volume_form.specs.Form.{IsFormOf}
-use Rattle.vx_volume_form.specs.declared.form.VolumeForm.{VolumeForm}
+use Rattle.vx_lending.specs.Form.{IsFormOf}
+use Rattle.vx_lending.specs.declared.form.VolumeForm.{VolumeForm}
 use Rattle.vx_house.specs.Goes.{StageGoes}
 use Rattle.vx_house.specs.Scene.{FaultsGoOn, IsBlamed, Shelved}
 use Rattle.vx_house.specs.View.{IsMoment, Keeps, at, scene}

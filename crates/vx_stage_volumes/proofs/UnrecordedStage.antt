@@ -22,7 +22,7 @@ use Rattle.vx_script_words.specs.declared.value.DiskAt.{DiskAt}
 use Rattle.vx_moments.specs.Commit.{Writing}
 use Rattle.vx_moments.specs.Moment.{Moment, AreLater}
 use Rattle.vx_moments.specs.World.{Group}
-use Rattle.vx_group_images.specs.Group.{image_on}
+use Rattle.vx_moments.specs.Group.{image_on}
 use Rattle.vx_stages.specs.Ends.{IsChange}
 use Rattle.vx_stages.specs.Recorded.{IsSoundAs}
 use Rattle.vx_stages.specs.Starting.{StartStops, StopsOf, refusal_at_once}
@@ -40,7 +40,7 @@ use Rattle.vx_house.specs.declared.stop.Stop.TheVariants as stops
 use Rattle.vx_house.proofs.Ends.{keeps_but_group, moment_but_group}
 use Rattle.vx_house.proofs.Moments.{faults_trans, later_trans}
 use Rattle.vx_house_calls.specs.Passes.{with_group}
-use Rattle.vx_commits.specs.Committing.{CommitEnds, IsTried}
+use Rattle.vx_stage_changes.specs.Committing.{CommitEnds, IsTried}
 use Rattle.vx_stage_changes.specs.Changing.{IsMeant}
 use Rattle.vx_stage_changes.specs.declared.planning.NextConfig.{NextConfig}
 use Rattle.vx_stage_volumes.specs.Opening.{OpensIn, good_of}

@@ -10,7 +10,7 @@ use Rattle.vx_state_edits.specs.Edits.{is_new}
 use Rattle.vx_stages.specs.Starting.{first_of, refusal_at_once}
 use Rattle.vx_stages.specs.Tests.{where_}
 use Rattle.vx_volume.specs.declared.volume.VolumeShape.{VolumeShape}
-use Rattle.vx_volume_form.specs.declared.form.VolumeForm.{VolumeForm}
+use Rattle.vx_lending.specs.declared.form.VolumeForm.{VolumeForm}
 use Rattle.vx_house.specs.declared.stop.Stop.{Stop}
 use Rattle.vx_house.specs.declared.stop.Stop.TheVariants as stops
 

@@ -15,7 +15,7 @@ use Rattle.vx_group_start.specs.Copying.{AreCopied, missed_regions}
 use Rattle.vx_group_start.specs.Fresh.{maps_to_copy}
 use Rattle.vx_house.specs.declared.house.Imported.{Imported}
 use Rattle.vx_house.specs.declared.stop.Stop.{Stop}
-use Rattle.vx_commits.specs.Committing.{CommitEnds, IsFinished}
+use Rattle.vx_stage_changes.specs.Committing.{CommitEnds, IsFinished}
 use Rattle.vx_stage_changes.specs.declared.planning.NextConfig.{NextConfig}
 use Rattle.vx_stage_volumes.specs.Naming.{copied}
 

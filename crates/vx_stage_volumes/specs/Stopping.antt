@@ -20,7 +20,7 @@ use Rattle.vx_volume.specs.declared.fault.IoFault.{IoFault}
 use Rattle.vx_lending.specs.Public.{running_at}
 use Rattle.vx_state_edits.specs.Edits.{stop_edits}
 use Rattle.vx_state_texts.specs.Texts.{all_maps}
-use Rattle.vx_commits.specs.Committing.{IsTried, IsFinished}
+use Rattle.vx_stage_changes.specs.Committing.{IsTried, IsFinished}
 use Rattle.vx_stage_changes.specs.Changing.{IsMeant, SamePublic}
 use Rattle.vx_house.specs.declared.house.Imported.{Imported}
 use Rattle.vx_house.specs.declared.stop.Stop.{Stop}

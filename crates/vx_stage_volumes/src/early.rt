@@ -7,9 +7,9 @@ use std::alloc::Global;
 use vx_answers::{End, Refusal};
 use vx_group_start::is_fresh;
 use vx_house::Stop;
+use vx_lending::{VolumeForm, form_of};
 use vx_objects::{Config, Vol};
 use vx_volume::VolumeShape;
-use vx_volume_form::{VolumeForm, form_of};
 
 /// Tests whether the volume can be started by the configuration and the slots whose disks are good: a log of it has to be on good disks
 /// where it has a DCO, and some plex has to be current.

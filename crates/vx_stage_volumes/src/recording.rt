@@ -12,13 +12,12 @@ use crate::naming::copied;
 use std::alloc::Global;
 use std::collections::BTreeMap;
 use std::collections::btree_map::Entry;
-use vx_commits::commit;
 use vx_group_start::{copy_all, mask_to_copy};
 use vx_house::{Imported, Stop};
 use vx_lending::Running;
 use vx_names::Name;
 use vx_piece::Piece;
-use vx_stage_changes::NextConfig;
+use vx_stage_changes::{NextConfig, commit};
 use vx_volume::IoFault;
 
 /// Records by a commit that the volume is started; then it runs, in a place that was made for it before. Where that is not done it is held

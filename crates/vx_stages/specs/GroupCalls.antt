@@ -13,9 +13,9 @@ use Rattle.vx_answers.specs.declared.answer.End.{End}
 use Rattle.vx_answers.specs.declared.answer.End.TheVariants as ends
 use Rattle.vx_moments.specs.World.{Volume, Member, Group}
 use Rattle.vx_moments.specs.Moment.{Moment, Counts, HasFailed}
-use Rattle.vx_group_images.specs.Group.{ChangesOnly}
-use Rattle.vx_group_images.specs.Owners.{IsDeviceOfVolume, devices_on, owner_of, owners_of}
-use Rattle.vx_group_images.specs.Tracks.{volume_lived}
+use Rattle.vx_moments.specs.Group.{ChangesOnly}
+use Rattle.vx_moments.specs.Owners.{IsDeviceOfVolume, devices_on, owner_of, owners_of}
+use Rattle.vx_moments.specs.Tracks.{volume_lived}
 use Rattle.vx_stages.specs.Calls.{AreOf, AreParts, IsDoneBy, count_of, failed_kind, start_of, values_of, volume_of}
 
 -- ---- what is known of the volume

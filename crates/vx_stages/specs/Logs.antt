@@ -4,7 +4,7 @@ use Rattle.vx_base.specs.Named.{Word}
 use Rattle.vx_config_parts.specs.declared.plex.Plex.{Plex}
 use Rattle.vx_config_parts.specs.Objects.{is_log_plex_of}
 use Rattle.vx_moments.specs.World.{Group}
-use Rattle.vx_group_images.specs.Owners.{devices_on}
+use Rattle.vx_moments.specs.Owners.{devices_on}
 
 -- no device that a log plex of the volume lies on is among those that have failed
 abbrev pub LogIsSpared : Group → Word → (Word → Bool) → Type 0

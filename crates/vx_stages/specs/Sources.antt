@@ -8,10 +8,10 @@ use Rattle.vx_config_parts.specs.declared.fault.Limit.TheVariants as limit
 use Rattle.vx_config_parts.specs.declared.fault.ObjectFault.{ObjectFault}
 use Rattle.vx_record.specs.Grammar.{IsBadLine}
 use Rattle.vx_objects.specs.Config.{objects_of}
-use Rattle.vx_plan.specs.declared.fault.PlanFault.{PlanFault}
-use Rattle.vx_plan.specs.declared.fault.PlanFault.TheVariants as plan_fault
-use Rattle.vx_plan.specs.declared.parts.Plan.{Plan}
-use Rattle.vx_plan.specs.Planned.{IsPlanned}
+use Rattle.vx_new_volumes.specs.declared.fault.PlanFault.{PlanFault}
+use Rattle.vx_new_volumes.specs.declared.fault.PlanFault.TheVariants as plan_fault
+use Rattle.vx_new_volumes.specs.declared.parts.Plan.{Plan}
+use Rattle.vx_new_volumes.specs.Planned.{IsPlanned}
 use Rattle.vx_new_volumes.specs.declared.volume.NewVolume.{NewVolume}
 use Rattle.vx_new_volumes.specs.Records.{records_of}
 use Rattle.vx_new_volumes.specs.Tests.{new_fault}

@@ -25,10 +25,10 @@ use Rattle.vx_image.specs.Image.{Image, PlexImage, IsFilled, is_available, regio
 use Rattle.vx_image.specs.Meaning.{possible_read, sure_read}
 use Rattle.vx_image.specs.Soundness.{IsSoundImage}
 use Rattle.vx_image.specs.UsedPlexes.{held_plexes, is_on, on_plexes, used_logs}
-use Rattle.vx_group_images.specs.Group.{image_on, sectors_of}
-use Rattle.vx_group_images.specs.Lives.{volume_begun, volume_copied}
-use Rattle.vx_group_images.specs.Owners.{owners_of}
-use Rattle.vx_group_images.specs.Tracks.{volume_failed}
+use Rattle.vx_moments.specs.Group.{image_on, sectors_of}
+use Rattle.vx_moments.specs.Lives.{volume_begun, volume_copied}
+use Rattle.vx_moments.specs.Owners.{owners_of}
+use Rattle.vx_moments.specs.Tracks.{volume_failed}
 use Rattle.vx_stages.specs.Ends.{EndsIn, IsChange, RefusedAsLong, StopsBy, lost, refused}
 use Rattle.vx_stages.specs.GroupCalls.{LogHasFailed, PlexHasFailed}
 use Rattle.vx_stages.specs.Recorded.{IsSoundAs}

@@ -21,10 +21,10 @@ use Rattle.vx_moments.specs.Commit.{Writing, IsCommitted, IsStopped}
 use Rattle.vx_moments.specs.Leaving.{grouped}
 use Rattle.vx_moments.specs.Moment.{Moment, AreLater, HasFailed, Rests}
 use Rattle.vx_moments.specs.World.{Group, OnPlexes, Volume, World}
-use Rattle.vx_group_images.specs.Group.{image_on}
-use Rattle.vx_group_images.specs.Owners.{owners_of}
-use Rattle.vx_group_images.specs.Tracks.{volume_failed}
-use Rattle.vx_group_images.specs.Volumes.{StandsForVolume}
+use Rattle.vx_moments.specs.Group.{image_on}
+use Rattle.vx_moments.specs.Owners.{owners_of}
+use Rattle.vx_moments.specs.Tracks.{volume_failed}
+use Rattle.vx_moments.specs.Volumes.{StandsForVolume}
 use Rattle.vx_stages.specs.Ends.{IsChange, RefusedAsLong}
 use Rattle.vx_stages.specs.Logs.{LogIsSpared}
 use Rattle.vx_stages.specs.Recorded.{IsSoundAs}

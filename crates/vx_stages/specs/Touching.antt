@@ -8,8 +8,8 @@ use Rattle.vx_answers.specs.declared.answer.End.{End}
 use Rattle.vx_answers.specs.declared.answer.End.TheVariants as ends
 use Rattle.vx_moments.specs.World.{Group, Member, Volume}
 use Rattle.vx_moments.specs.Moment.{Counts, HasFailed, Moment}
-use Rattle.vx_group_images.specs.Group.{ChangesOnly, image_on}
-use Rattle.vx_group_images.specs.Owners.{IsDeviceOfVolume}
+use Rattle.vx_moments.specs.Group.{ChangesOnly, image_on}
+use Rattle.vx_moments.specs.Owners.{IsDeviceOfVolume}
 use Rattle.vx_stages.specs.GroupCalls.{CallsOnly}
 
 -- ---- what has changed

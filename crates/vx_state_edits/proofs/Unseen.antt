@@ -22,10 +22,10 @@ use Rattle.vx_config_parts.specs.declared.vol.PolicyKind.{PolicyKind}
 use Rattle.vx_config_parts.specs.declared.vol.PolicyKind.TheVariants as kind
 use Rattle.vx_config_parts.specs.declared.vol.Vol.{Vol}
 use Rattle.vx_config_parts.specs.Objects.{name_of, is_group, is_disk, is_subdisk, is_plex, is_vol, is_dco, is_snap, comes_before, refers, is_data_plex_of, is_log, is_log_plex_of}
-use Rattle.vx_extents.specs.Below.{all_below}
-use Rattle.vx_extents.specs.Columns.{is_in_column, column_begins, piece_follows, all_pieces_good, end_with, column_length, columns_are_equal, layout_is_good, plex_length, columns_are_good}
-use Rattle.vx_extents.specs.Overlap.{shares_sector, overlaps_earlier, lesser, first_overlap_with, overlap_of}
-use Rattle.vx_extents.specs.Sizes.{holds, layout_fits_kind}
+use Rattle.vx_rules.specs.Below.{all_below}
+use Rattle.vx_rules.specs.Columns.{is_in_column, column_begins, piece_follows, all_pieces_good, end_with, column_length, columns_are_equal, layout_is_good, plex_length, columns_are_good}
+use Rattle.vx_rules.specs.Overlap.{shares_sector, overlaps_earlier, lesser, first_overlap_with, overlap_of}
+use Rattle.vx_rules.specs.Sizes.{holds, layout_fits_kind}
 use Rattle.vx_rules.specs.declared.rule.Rule.{Rule}
 use Rattle.vx_rules.specs.declared.rule.Rule.TheVariants as rule
 use Rattle.vx_rules.specs.Faults.{first_some, unless, first_of}

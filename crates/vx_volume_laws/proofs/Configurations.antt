@@ -9,13 +9,13 @@ use Rattle.vx_config_parts.specs.declared.state.PlexState.{PlexState}
 use Rattle.vx_config_parts.specs.declared.state.PlexState.TheVariants as plex
 use Rattle.vx_config_parts.specs.Objects.{is_data_plex_of, is_log_plex_of}
 use Rattle.vx_objects.specs.declared.config.Config.{Config}
-use Rattle.vx_plexes.proofs.Members.{IsIn}
+use Rattle.vx_image.proofs.PlexMembers.{IsIn}
 use Rattle.vx_image.specs.Image.{PlexImage}
 use Rattle.vx_image.specs.Bytes.{is_held, plex_image}
 use Rattle.vx_image.proofs.Members.{contains, is_in}
 use Rattle.vx_image.specs.UsedPlexes.{is_used_log, is_used_state, used_logs}
-use Rattle.vx_volume_form.proofs.Bits.{kept}
-use Rattle.vx_volume_form.proofs.Distinct.{filtered}
+use Rattle.vx_lending.proofs.Bits.{kept}
+use Rattle.vx_lending.proofs.Distinct.{filtered}
 use Rattle.vx_volume_laws.proofs.Held.{in_image, of_image}
 use Rattle.vx_volume_laws.specs.Keeping.{EachKeepingGoesOn, EachKeptVolumeIsNamed, EachVolumeKeepsItself, KeepsPlex, LiesStill, data_plexes}
 use Rattle.vx_volume_laws.proofs.Plexes.{zip_right}

@@ -11,7 +11,7 @@ use Rattle.vx_moments.specs.World.{Volume}
 use Rattle.vx_image.specs.Image.{Image, LogCopy, PlexImage}
 use Rattle.vx_image.specs.Meaning.{dirty_read}
 use Rattle.vx_image.proofs.Members.{contains, is_in, one_from_any}
-use Rattle.vx_plexes.proofs.Members.{in_map}
+use Rattle.vx_image.proofs.PlexMembers.{in_map}
 use Rattle.vx_volume_laws.specs.Exact.{AreUndirtied, IsExactVolume}
 use Rattle.vx_volume_laws.specs.ExactLaws.{EachCleanLogIsLeft}
 use Rattle.vx_volume_laws.specs.Leaving.{IsLeftBy}

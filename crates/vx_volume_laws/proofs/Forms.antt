@@ -11,13 +11,13 @@ use Rattle.vx_config_parts.specs.declared.subdisk.Subdisk.{Subdisk}
 use Rattle.vx_config_parts.specs.declared.vol.Vol.{Vol}
 use Rattle.vx_config_parts.specs.Objects.{is_data_plex_of, is_log_plex_of, refers}
 use Rattle.vx_objects.specs.declared.config.Config.{Config}
-use Rattle.vx_plexes.specs.Lies.{columns_from, slot_of}
+use Rattle.vx_image.specs.Lies.{columns_from, slot_of}
 use Rattle.vx_image.specs.Image.{is_available_state}
 use Rattle.vx_image.specs.Bytes.{is_held, map_or_zero, relation_maps}
-use Rattle.vx_volume_pieces.specs.Taken.{is_among}
-use Rattle.vx_volume_form.specs.declared.form.VolumeForm.{VolumeForm}
+use Rattle.vx_lending.specs.RegionsTaken.{is_among}
+use Rattle.vx_lending.specs.declared.form.VolumeForm.{VolumeForm}
 use Rattle.vx_image.specs.UsedPlexes.{held_plexes, is_on, is_used_log, is_used_state, maps_of, off_plexes, on_plexes, used_logs}
-use Rattle.vx_volume_form.specs.Form.{AreLayouts, IsFormOf, IsMaskOf}
+use Rattle.vx_lending.specs.Form.{AreLayouts, IsFormOf, IsMaskOf}
 use Rattle.vx_volume_laws.specs.Forms.{EachFormIsKept, IsUsedAlike, KeepsForm}
 use Rattle.vx_volume_laws.specs.Keeping.{LiesStill}
 use Rattle.vx_volume_laws.proofs.Restated.{columns_same, zip_filter}

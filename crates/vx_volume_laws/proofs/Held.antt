@@ -11,12 +11,12 @@ use Rattle.vx_config_parts.specs.declared.plex.Plex.{Plex}
 use Rattle.vx_config_parts.specs.declared.vol.Vol.{Vol}
 use Rattle.vx_config_parts.specs.Objects.{is_data_plex_of}
 use Rattle.vx_objects.specs.declared.config.Config.{Config}
-use Rattle.vx_plexes.proofs.Members.{IsIn, in_left, in_right, in_map, from_map}
+use Rattle.vx_image.proofs.PlexMembers.{IsIn, in_left, in_right, in_map, from_map}
 use Rattle.vx_image.specs.Image.{PlexImage}
 use Rattle.vx_image.specs.Bytes.{Sectors, plex_image, image_of}
 use Rattle.vx_image.proofs.Members.{is_in, contains, from_filter, into_filter}
-use Rattle.vx_volume_pieces.specs.Pieces.{own_pieces, pieces_of, all_pieces}
-use Rattle.vx_volume_pieces.specs.Taken.{own_map}
+use Rattle.vx_lending.specs.RegionPieces.{own_pieces, pieces_of, all_pieces}
+use Rattle.vx_lending.specs.RegionsTaken.{own_map}
 
 -- ---- the plex of a map, by its place in the list
 

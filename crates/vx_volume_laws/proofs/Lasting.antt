@@ -9,7 +9,7 @@ use Rattle.vx_volume.specs.declared.volume.Volume.{Volume}
 use Rattle.vx_volume.specs.Arming.{VolumeArmed}
 use Rattle.vx_volume.specs.Log.{LogGoes, log_seen}
 use Rattle.vx_volume.specs.Volume.{log_of, volume_seen}
-use Rattle.vx_volume_form.specs.declared.form.VolumeForm.{VolumeForm}
+use Rattle.vx_lending.specs.declared.form.VolumeForm.{VolumeForm}
 use Rattle.vx_lending.specs.Logs.{log_copies}
 use Rattle.vx_volume_laws.specs.Calls.{IsOpenedOn, KeepsPlaces}
 use Rattle.vx_volume_laws.specs.Lying.{IsLogFor, LiesIn}

@@ -13,18 +13,18 @@ use Rattle.vx_core.specs.Soundness.{IsBetween}
 use Rattle.vx_config_parts.specs.declared.vol.Vol.{Vol}
 use Rattle.vx_objects.specs.declared.config.Config.{Config}
 use Rattle.vx_moments.specs.World.{Volume}
-use Rattle.vx_plexes.proofs.Members.{IsIn, from_map}
+use Rattle.vx_image.proofs.PlexMembers.{IsIn, from_map}
 use Rattle.vx_image.specs.Image.{PlexImage, LogCopy, Image, IsFilled}
 use Rattle.vx_image.specs.Bytes.{Sectors, image_of, log_copies, plex_image, relation_maps}
 use Rattle.vx_image.proofs.Members.{is_in}
 use Rattle.vx_volume.specs.Volume.{VolumeSeen, IsVolume}
-use Rattle.vx_volume_form.specs.declared.form.VolumeForm.{VolumeForm}
+use Rattle.vx_lending.specs.declared.form.VolumeForm.{VolumeForm}
 use Rattle.vx_image.specs.UsedPlexes.{IsVolOf}
-use Rattle.vx_volume_form.specs.Form.{IsFormOf}
-use Rattle.vx_volume_pieces.specs.Pieces.{all_pieces}
+use Rattle.vx_lending.specs.Form.{IsFormOf}
+use Rattle.vx_lending.specs.RegionPieces.{all_pieces}
 use Rattle.vx_lending.specs.Left.{region_plexes}
 use Rattle.vx_lending.specs.Pieces.{copy_pieces}
-use Rattle.vx_group_images.proofs.Blocks.{below_count}
+use Rattle.vx_moments.proofs.Blocks.{below_count}
 use Rattle.vx_volume_laws.specs.Regions.{Regions, IsCopyOfRegions, IsPlexOfRegions}
 use Rattle.vx_volume_laws.specs.Contents.{AreSectorsOf}
 use Rattle.vx_volume_laws.proofs.Held.{of_image, in_image}

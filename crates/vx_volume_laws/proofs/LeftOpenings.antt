@@ -19,11 +19,11 @@ use Rattle.vx_moments.specs.World.{Volume}
 use Rattle.vx_image.specs.Image.{LogCopy}
 use Rattle.vx_image.specs.Bytes.{Sectors, image_of}
 use Rattle.vx_volume.specs.Volume.{VolumeSeen, cell_at, region_at}
-use Rattle.vx_volume_pieces.specs.Pieces.{all_pieces, pieces_of}
+use Rattle.vx_lending.specs.RegionPieces.{all_pieces, pieces_of}
 use Rattle.vx_volume_laws.specs.Opening.{IsOpened}
-use Rattle.vx_volume_form.specs.declared.form.VolumeForm.{VolumeForm}
+use Rattle.vx_lending.specs.declared.form.VolumeForm.{VolumeForm}
 use Rattle.vx_image.specs.UsedPlexes.{IsVolOf}
-use Rattle.vx_volume_form.proofs.Rules.{vol_geometry}
+use Rattle.vx_lending.proofs.Rules.{vol_geometry}
 use Rattle.vx_volume_laws.specs.Opened.{IsFixedOf, IsOpenedBy}
 use Rattle.vx_volume_laws.proofs.Loaded.{run_tells}
 use Rattle.vx_volume_laws.proofs.OpenedImages.{opened_is, same_item}

@@ -33,8 +33,8 @@ use Rattle.vx_image.specs.Image.{PlexImage, LogCopy, Image, WasStarted, IsFilled
 use Rattle.vx_image.specs.Soundness.{IsDirtyBy, IsSoundImage, MayDiffer}
 use Rattle.vx_image.specs.Meaning.{plexes_read}
 use Rattle.vx_image.proofs.Members.{one_from_any, from_filter, into_filter, only_one}
-use Rattle.vx_group_images.specs.Volumes.{StandsForVolume}
-use Rattle.vx_group_images.proofs.Blocks.{below_count}
+use Rattle.vx_moments.specs.Volumes.{StandsForVolume}
+use Rattle.vx_moments.proofs.Blocks.{below_count}
 use Rattle.vx_image.specs.Meaning.{ReadsOneList}
 use Rattle.vx_volume_laws.specs.Regions.{GoWith, IsPlexOfRegions, Regions, LeaveImage}
 use Rattle.vx_volume_laws.specs.Volumes.{EachVolumeIsLeft, RunsAs}

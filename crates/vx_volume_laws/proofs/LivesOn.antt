@@ -13,7 +13,7 @@ use Rattle.vx_core.specs.History.{AllOf, AreCounted, IsRecord}
 use Rattle.vx_core.specs.Region.{Fixed}
 use Rattle.vx_core_laws.specs.Tracking.{is_torn}
 use Rattle.vx_volume.specs.Laws.{with_made}
-use Rattle.vx_group_images.specs.Tracks.{was_torn_in}
+use Rattle.vx_moments.specs.Tracks.{was_torn_in}
 use Rattle.vx_volume_laws.specs.Running.{entries_in}
 
 -- the life after entries, one after the other

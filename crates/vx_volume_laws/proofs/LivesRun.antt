@@ -23,7 +23,7 @@ use Rattle.vx_volume.proofs.Volumes.{IsWay, going_same, read_way, write_way}
 use Rattle.vx_moments.specs.World.{Volume}
 use Rattle.vx_image.specs.Image.{PlexImage}
 use Rattle.vx_volume_laws.specs.Tracks.{EachCallIsTracked}
-use Rattle.vx_group_images.specs.Tracks.{TrackOwner}
+use Rattle.vx_moments.specs.Tracks.{TrackOwner}
 use Rattle.vx_volume_laws.specs.Running.{RunsAsVolume}
 use Rattle.vx_volume_laws.specs.Telling.{AreOfParts, TellsEntries}
 use Rattle.vx_volume_laws.specs.RunLaws.{EachClearingRunsOn, EachCopyRunsOn, EachReadRunsOn, EachSettlingRunsOn, EachWriteRunsOn, FailuresAreTold, MayComeNext, OwnersFit, RunsOn}

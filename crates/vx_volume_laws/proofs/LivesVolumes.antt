@@ -30,9 +30,9 @@ use Rattle.vx_volume.proofs.Retellings.{history_retold}
 use Rattle.vx_volume.proofs.Volumes.{going_stands}
 use Rattle.vx_moments.specs.World.{Volume}
 use Rattle.vx_image.specs.Image.{PlexImage}
-use Rattle.vx_group_images.proofs.Blocks.{below_count}
+use Rattle.vx_moments.proofs.Blocks.{below_count}
 use Rattle.vx_volume_laws.specs.Tracks.{EachCallIsTracked, GoesAt, TellOf}
-use Rattle.vx_group_images.specs.Tracks.{TrackOwner, has_failed, volume_failed, volume_goes, was_torn_in, was_unsettled, volume_lived}
+use Rattle.vx_moments.specs.Tracks.{TrackOwner, has_failed, volume_failed, volume_goes, was_torn_in, was_unsettled, volume_lived}
 use Rattle.vx_volume_laws.specs.Running.{IsSureOfOthers, RegionRunsAs, RunsAsVolume, entries_in, state_at}
 use Rattle.vx_volume_laws.specs.RunLaws.{FailuresAreTold, MayComeNext, OwnersFit, RunsOn}
 use Rattle.vx_volume_laws.proofs.ExactLogs.{run_exact}

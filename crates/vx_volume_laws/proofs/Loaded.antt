@@ -30,19 +30,19 @@ use Rattle.vx_config_parts.specs.declared.state.PlexState.TheVariants as plex
 use Rattle.vx_config_parts.specs.declared.vol.Vol.{Vol}
 use Rattle.vx_config_parts.specs.Objects.{is_log_plex_of}
 use Rattle.vx_objects.specs.declared.config.Config.{Config}
-use Rattle.vx_plexes.specs.Lies.{columns_of}
-use Rattle.vx_plexes.proofs.Members.{IsIn, in_map}
+use Rattle.vx_image.specs.Lies.{columns_of}
+use Rattle.vx_image.proofs.PlexMembers.{IsIn, in_map}
 use Rattle.vx_image.specs.Image.{LogCopy}
 use Rattle.vx_image.specs.Bytes.{Sectors, plex_contents, is_held, is_active, is_log_copy, plex_marks, log_copies, image_of}
 use Rattle.vx_image.proofs.Members.{is_in, contains, into_filter}
 use Rattle.vx_volume.specs.Log.{absent_log}
 use Rattle.vx_volume.specs.Opening.{count_of}
-use Rattle.vx_volume_form.specs.declared.form.VolumeForm.{VolumeForm}
+use Rattle.vx_lending.specs.declared.form.VolumeForm.{VolumeForm}
 use Rattle.vx_image.specs.UsedPlexes.{used_logs, is_used_log, is_used_state}
-use Rattle.vx_volume_form.specs.Form.{IsFormOf, IsLayoutOf}
-use Rattle.vx_volume_form.proofs.Distinct.{filtered, in_at}
-use Rattle.vx_volume_form.proofs.Places.{columns_lie}
-use Rattle.vx_volume_form.proofs.Zips.{zip_length, zip_at}
+use Rattle.vx_lending.specs.Form.{IsFormOf, IsLayoutOf}
+use Rattle.vx_lending.proofs.Distinct.{filtered, in_at}
+use Rattle.vx_lending.proofs.Places.{columns_lie}
+use Rattle.vx_lending.proofs.Zips.{zip_length, zip_at}
 use Rattle.vx_volume_laws.specs.Contents.{AreSectorsOf, ShowsCopy}
 use Rattle.vx_volume_laws.specs.LoadedLogs.{AreTakenCopies}
 use Rattle.vx_volume_laws.proofs.OpenedRuns.{cut_holds}

@@ -25,7 +25,7 @@ use Rattle.vx_image.proofs.Imports.{may_differ, filled}
 use Rattle.vx_image.proofs.Members.{all_from_each, each_from_all, one_from_any, any_from_one, from_filter, only_one}
 use Rattle.vx_volume_laws.specs.Regions.{Regions, IsPlexOfRegions, LeaveImage, IsLifeOf, AllSettled, GoWith}
 use Rattle.vx_volume_laws.specs.Loss.{EachLossStands, EachStopStands, EachPairStands}
-use Rattle.vx_group_images.proofs.Blocks.{below_count}
+use Rattle.vx_moments.proofs.Blocks.{below_count}
 
 -- each region is kept
 abbrev pub AreKept : Regions → Type 0

@@ -22,8 +22,8 @@ use Rattle.vx_volume.specs.declared.volume.VolumeShape.{VolumeShape}
 use Rattle.vx_core.specs.Follow.{SameMasks}
 use Rattle.vx_volume.specs.Opening.{count_of}
 use Rattle.vx_volume.specs.Volume.{cell_at}
-use Rattle.vx_volume_pieces.specs.Pieces.{own_pieces}
-use Rattle.vx_volume_pieces.specs.Taken.{IsTakenRegion, own_map}
+use Rattle.vx_lending.specs.RegionPieces.{own_pieces}
+use Rattle.vx_lending.specs.RegionsTaken.{IsTakenRegion, own_map}
 use Rattle.vx_lending.specs.Left.{region_plexes}
 use Rattle.vx_lending.specs.Taken.{log_sectors}
 use Rattle.vx_volume_laws.proofs.OpenedImages.{same_item, some_of}

@@ -14,7 +14,7 @@ use Rattle.vx_core_laws.specs.Tracking.{is_torn, was_torn}
 use Rattle.vx_moments.specs.World.{Track, Volume}
 use Rattle.vx_volume.specs.Laws.{with_made}
 use Rattle.vx_volume.specs.Retelling.{AreRetold, IsRetold}
-use Rattle.vx_group_images.specs.Tracks.{TrackOwner, has_failed, with_region, track_with, dirty_with, volume_after, volume_goes, was_torn_in}
+use Rattle.vx_moments.specs.Tracks.{TrackOwner, has_failed, with_region, track_with, dirty_with, volume_after, volume_goes, was_torn_in}
 use Rattle.vx_volume_laws.specs.Running.{entries_in}
 use Rattle.vx_volume_laws.proofs.LivesOn.{same_test, test_same}
 

@@ -25,8 +25,8 @@ use Rattle.vx_config_parts.specs.declared.plex.Plex.{Plex}
 use Rattle.vx_config_parts.specs.declared.vol.Vol.{Vol}
 use Rattle.vx_config_parts.specs.Objects.{is_data_plex_of}
 use Rattle.vx_objects.specs.declared.config.Config.{Config}
-use Rattle.vx_plexes.specs.Lies.{columns_of}
-use Rattle.vx_plexes.proofs.Members.{IsIn, from_map}
+use Rattle.vx_image.specs.Lies.{columns_of}
+use Rattle.vx_image.proofs.PlexMembers.{IsIn, from_map}
 use Rattle.vx_image.specs.Image.{PlexImage, LogCopy, Image, IsFilled, is_available}
 use Rattle.vx_image.specs.Bytes.{Sectors, plex_contents, plex_image, is_held, map_or_zero, relation_maps, image_of}
 use Rattle.vx_image.specs.Meaning.{StandsForCandidates}
@@ -36,19 +36,19 @@ use Rattle.vx_pages.specs.Items.{item_at}
 use Rattle.vx_volume.specs.declared.volume.VolumeShape.{VolumeShape}
 use Rattle.vx_volume.specs.Opening.{count_of, size_of, stage_of}
 use Rattle.vx_volume.specs.Volume.{VolumeSeen, cell_at, region_at, with_log}
-use Rattle.vx_volume_pieces.specs.Pieces.{own_pieces}
-use Rattle.vx_volume_pieces.specs.Taken.{own_map, is_among, IsTakenRegion}
+use Rattle.vx_lending.specs.RegionPieces.{own_pieces}
+use Rattle.vx_lending.specs.RegionsTaken.{own_map, is_among, IsTakenRegion}
 use Rattle.vx_volume_laws.specs.Opening.{HaveOwnMaps, IsOpened, IsWellFormed, is_block_of, region_blocks}
 use Rattle.vx_volume_laws.proofs.Openings.{each_opening_is_fresh}
-use Rattle.vx_volume_form.specs.declared.form.VolumeForm.{VolumeForm}
+use Rattle.vx_lending.specs.declared.form.VolumeForm.{VolumeForm}
 use Rattle.vx_image.specs.UsedPlexes.{IsVolOf, is_on, held_plexes, maps_of}
-use Rattle.vx_volume_form.specs.Form.{IsFormOf, IsLayoutOf}
-use Rattle.vx_volume_form.proofs.Distinct.{AreDistinct, distinct_by, distinct_filter, filtered}
-use Rattle.vx_volume_form.proofs.Rules.{plex_names, vol_geometry}
-use Rattle.vx_volume_form.proofs.Maps.{among_in, plex_among, one_of_map}
-use Rattle.vx_volume_form.proofs.Bits.{kept, into_on, on_plex, on_off, held_on}
-use Rattle.vx_volume_form.proofs.Places.{columns_lie}
-use Rattle.vx_volume_form.proofs.Zips.{zip_length, zip_at}
+use Rattle.vx_lending.specs.Form.{IsFormOf, IsLayoutOf}
+use Rattle.vx_lending.proofs.Distinct.{AreDistinct, distinct_by, distinct_filter, filtered}
+use Rattle.vx_lending.proofs.Rules.{plex_names, vol_geometry}
+use Rattle.vx_lending.proofs.Maps.{among_in, plex_among, one_of_map}
+use Rattle.vx_lending.proofs.Bits.{kept, into_on, on_plex, on_off, held_on}
+use Rattle.vx_lending.proofs.Places.{columns_lie}
+use Rattle.vx_lending.proofs.Zips.{zip_length, zip_at}
 use Rattle.vx_volume_laws.specs.Contents.{AreSectorsOf, HoldRegions, ShowsCopy}
 use Rattle.vx_volume_laws.specs.Opened.{IsFixedOf, IsOpenedBy}
 use Rattle.vx_volume_laws.proofs.Ranges.{in_range, same_blocks}

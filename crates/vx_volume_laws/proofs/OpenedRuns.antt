@@ -18,11 +18,11 @@ use Rattle.vx_carve.specs.Carved.{ArePieces, AreCut}
 use Rattle.vx_carve.specs.Strips.{lies_in, all_lie_in}
 use Rattle.vx_carve.specs.Together.{Holds, HoldsTold, IsRunOf}
 use Rattle.vx_config_parts.specs.declared.disk.Disk.{Disk}
-use Rattle.vx_plexes.specs.Room.{public_of}
-use Rattle.vx_plexes.proofs.Members.{any_in, from_map}
+use Rattle.vx_image.specs.Room.{public_of}
+use Rattle.vx_image.proofs.PlexMembers.{any_in, from_map}
 use Rattle.vx_image.proofs.Members.{contains, from_filter}
 use Rattle.vx_image.specs.Bytes.{Sectors, bytes_at}
-use Rattle.vx_volume_form.specs.Laws.{good_disks}
+use Rattle.vx_lending.specs.FormLaws.{good_disks}
 use Rattle.vx_volume_laws.specs.Contents.{AreSectorsOf}
 
 -- ---- places are on strips

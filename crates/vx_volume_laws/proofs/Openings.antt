@@ -22,7 +22,7 @@ use Rattle.vx_image.proofs.Imports.{dirty_of}
 use Rattle.vx_image.proofs.Members.{is_in, any_from_one, into_filter, only_one}
 use Rattle.vx_volume_laws.specs.Opening.{HaveOwnMaps, IsWellFormed, IsOpened, is_block_of, region_blocks, EachOpeningIsFresh}
 use Rattle.vx_volume_laws.proofs.Losses.{copy_is_choice}
-use Rattle.vx_group_images.proofs.Blocks.{below_count}
+use Rattle.vx_moments.proofs.Blocks.{below_count}
 
 -- ---- blocks and regions
 

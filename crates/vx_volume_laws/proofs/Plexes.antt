@@ -16,22 +16,22 @@ use Rattle.vx_config_parts.specs.declared.plex.Plex.{Plex}
 use Rattle.vx_config_parts.specs.declared.vol.Vol.{Vol}
 use Rattle.vx_config_parts.specs.Objects.{is_data_plex_of}
 use Rattle.vx_objects.specs.declared.config.Config.{Config}
-use Rattle.vx_plexes.specs.Lies.{columns_of}
-use Rattle.vx_plexes.proofs.Members.{IsIn}
+use Rattle.vx_image.specs.Lies.{columns_of}
+use Rattle.vx_image.proofs.PlexMembers.{IsIn}
 use Rattle.vx_image.specs.Image.{is_available_state}
 use Rattle.vx_image.specs.Bytes.{Sectors, plex_contents, is_held, map_or_zero, relation_maps}
 use Rattle.vx_pages.specs.Items.{item_at}
 use Rattle.vx_volume.specs.Volume.{VolumeSeen, IsVolume, cell_at, no_cell}
-use Rattle.vx_volume_pieces.specs.Pieces.{all_pieces, own_pieces}
-use Rattle.vx_volume_pieces.specs.Taken.{own_map, is_among, IsTakenRegion}
-use Rattle.vx_volume_form.specs.declared.form.VolumeForm.{VolumeForm}
+use Rattle.vx_lending.specs.RegionPieces.{all_pieces, own_pieces}
+use Rattle.vx_lending.specs.RegionsTaken.{own_map, is_among, IsTakenRegion}
+use Rattle.vx_lending.specs.declared.form.VolumeForm.{VolumeForm}
 use Rattle.vx_image.specs.UsedPlexes.{IsVolOf, is_on, held_plexes, maps_of}
-use Rattle.vx_volume_form.specs.Form.{IsFormOf, IsLayoutOf}
-use Rattle.vx_volume_form.proofs.Bits.{kept, into_held, into_off, on_plex}
-use Rattle.vx_volume_form.proofs.Distinct.{filtered}
-use Rattle.vx_volume_form.proofs.Maps.{in_among}
-use Rattle.vx_volume_form.proofs.Places.{columns_lie}
-use Rattle.vx_volume_form.proofs.Zips.{zip_length, zip_at}
+use Rattle.vx_lending.specs.Form.{IsFormOf, IsLayoutOf}
+use Rattle.vx_lending.proofs.Bits.{kept, into_held, into_off, on_plex}
+use Rattle.vx_lending.proofs.Distinct.{filtered}
+use Rattle.vx_lending.proofs.Maps.{in_among}
+use Rattle.vx_lending.proofs.Places.{columns_lie}
+use Rattle.vx_lending.proofs.Zips.{zip_length, zip_at}
 use Rattle.vx_lending.specs.Left.{region_plexes}
 use Rattle.vx_lending.specs.Pieces.{copy_pieces}
 use Rattle.vx_volume_laws.specs.Contents.{AreSectorsOf}

@@ -24,7 +24,7 @@ use Rattle.vx_config_parts.specs.declared.plex.Plex.{Plex}
 use Rattle.vx_config_parts.specs.declared.vol.Vol.{Vol}
 use Rattle.vx_config_parts.specs.Objects.{is_data_plex_of}
 use Rattle.vx_objects.specs.declared.config.Config.{Config}
-use Rattle.vx_plexes.proofs.Members.{IsIn}
+use Rattle.vx_image.proofs.PlexMembers.{IsIn}
 use Rattle.vx_image.specs.Image.{PlexImage, LogCopy, Image, regions_of}
 use Rattle.vx_image.specs.Bytes.{Sectors, image_of, log_copies, map_or_zero, plex_contents, plex_image, plex_marks}
 use Rattle.vx_image.specs.Meaning.{lowest_of}
@@ -32,14 +32,14 @@ use Rattle.vx_image.proofs.Members.{is_in, contains, into_filter}
 use Rattle.vx_volume.specs.Log.{absent_log}
 use Rattle.vx_volume.specs.Opening.{count_of}
 use Rattle.vx_volume_laws.specs.Start.{IsSamePlex, IsStartOf}
-use Rattle.vx_volume_form.specs.declared.form.VolumeForm.{VolumeForm}
+use Rattle.vx_lending.specs.declared.form.VolumeForm.{VolumeForm}
 use Rattle.vx_image.specs.UsedPlexes.{IsVolOf, used_logs}
-use Rattle.vx_volume_form.specs.Form.{IsFormOf}
-use Rattle.vx_volume_form.specs.Laws.{HasOn}
-use Rattle.vx_volume_form.proofs.Bits.{kept, on_plex}
-use Rattle.vx_volume_form.proofs.Distinct.{filtered}
-use Rattle.vx_volume_form.proofs.Maps.{one_without}
-use Rattle.vx_volume_form.proofs.Rules.{plex_low}
+use Rattle.vx_lending.specs.Form.{IsFormOf}
+use Rattle.vx_lending.specs.FormLaws.{HasOn}
+use Rattle.vx_lending.proofs.Bits.{kept, on_plex}
+use Rattle.vx_lending.proofs.Distinct.{filtered}
+use Rattle.vx_lending.proofs.Maps.{one_without}
+use Rattle.vx_lending.proofs.Rules.{plex_low}
 use Rattle.vx_lending.specs.Logs.{marked_maps}
 use Rattle.vx_lending.specs.Pieces.{copy_pieces}
 use Rattle.vx_lending.specs.Taken.{log_sectors}

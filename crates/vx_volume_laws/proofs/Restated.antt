@@ -13,15 +13,15 @@ use Rattle.vx_config_parts.specs.declared.state.PlexState.TheVariants as plex
 use Rattle.vx_config_parts.specs.declared.subdisk.Subdisk.{Subdisk}
 use Rattle.vx_config_parts.specs.declared.vol.Vol.{Vol}
 use Rattle.vx_config_parts.specs.Objects.{is_data_plex_of, is_log_plex_of, refers}
-use Rattle.vx_extents.specs.Columns.{is_in_column}
+use Rattle.vx_rules.specs.Columns.{is_in_column}
 use Rattle.vx_objects.specs.declared.config.Config.{Config}
-use Rattle.vx_plexes.specs.Lies.{columns_from, slot_of, strip_of, strip_then, strips_from}
-use Rattle.vx_plexes.proofs.Members.{IsIn}
+use Rattle.vx_image.specs.Lies.{columns_from, slot_of, strip_of, strip_then, strips_from}
+use Rattle.vx_image.proofs.PlexMembers.{IsIn}
 use Rattle.vx_image.specs.Bytes.{is_active, is_held, map_or_zero, relation_maps}
 use Rattle.vx_image.proofs.Members.{contains, is_in}
 use Rattle.vx_image.specs.UsedPlexes.{is_used_log, is_used_state, used_logs}
-use Rattle.vx_volume_form.proofs.Bits.{kept}
-use Rattle.vx_volume_form.proofs.Distinct.{filtered}
+use Rattle.vx_lending.proofs.Bits.{kept}
+use Rattle.vx_lending.proofs.Distinct.{filtered}
 use Rattle.vx_volume_laws.specs.Keeping.{ChangesStates, EachRestatedVolumeIsKept, IsRestated, KeepsPlex, LiesStill}
 use Rattle.vx_volume_laws.proofs.Plexes.{zip_right}
 

@@ -20,9 +20,9 @@ use Rattle.vx_carve.specs.Carved.{AreCut, ArePieces}
 use Rattle.vx_carve.specs.Strips.{all_lie_in}
 use Rattle.vx_carve.specs.Together.{Holds, HoldsTold, IsRunOf}
 use Rattle.vx_config_parts.specs.declared.disk.Disk.{Disk}
-use Rattle.vx_plexes.specs.Room.{public_of}
+use Rattle.vx_image.specs.Room.{public_of}
 use Rattle.vx_image.specs.Bytes.{Sectors, bytes_at}
-use Rattle.vx_volume_form.specs.Laws.{good_disks}
+use Rattle.vx_lending.specs.FormLaws.{good_disks}
 use Rattle.vx_volume_laws.specs.Contents.{AreSectorsOf}
 use Rattle.vx_volume_laws.proofs.OpenedRuns.{good_place}
 use Rattle.vx_volume_laws.specs.Places.{Spot, spot, spot_at, spot_of, LieOn, EachCutLies, EachKeptRunLies, EachSameRunLies}

@@ -18,9 +18,9 @@ use Rattle.vx_volume.specs.Volume.{IsVolume, VolumeSeen, cell_at, region_at}
 use Rattle.vx_moments.specs.World.{Volume}
 use Rattle.vx_image.specs.Image.{LogCopy, Image, IsFilled, is_marked_by_some, regions_of}
 use Rattle.vx_image.proofs.Members.{any_from_one, each_from_all}
-use Rattle.vx_group_images.specs.Volumes.{StandsForVolume}
+use Rattle.vx_moments.specs.Volumes.{StandsForVolume}
 use Rattle.vx_volume_laws.specs.Opening.{EachOpeningIsFresh, IsOpened, IsWellFormed}
-use Rattle.vx_group_images.specs.Tracks.{was_torn_in}
+use Rattle.vx_moments.specs.Tracks.{was_torn_in}
 use Rattle.vx_volume_laws.specs.Running.{RegionRunsAs, entries_in, state_at}
 use Rattle.vx_volume_laws.specs.Starting.{BeginsOver, EachOpeningRuns, IsOpenedOver}
 

@@ -10,7 +10,7 @@ use Rattle.vx_config_parts.specs.declared.state.VolState.TheVariants as vol
 use Rattle.vx_core.specs.Schedule.{run}
 use Rattle.vx_core.proofs.ScheduleLaws.{keeps_run, kept_from_fresh}
 use Rattle.vx_core_laws.proofs.Beginnings.{settled_begins}
-use Rattle.vx_plexes.proofs.Members.{IsIn}
+use Rattle.vx_image.proofs.PlexMembers.{IsIn}
 use Rattle.vx_image.specs.Image.{PlexImage, LogCopy, Image, regions_of, has_no_copy, is_available, is_alone, is_unmarked_by_some}
 use Rattle.vx_image.specs.Meaning.{lowest_of, plexes_read, plex_values, candidates_read}
 use Rattle.vx_image.specs.Soundness.{IsChoiceOfMarks, PlexesAgree}
@@ -18,7 +18,7 @@ use Rattle.vx_image.proofs.Members.{is_in, contains, each_from_all, one_from_any
 use Rattle.vx_image.proofs.Readings.{listed}
 use Rattle.vx_volume_laws.specs.Opening.{HaveOwnMaps}
 use Rattle.vx_volume_laws.specs.Start.{IsSamePlex, IsStartOf, EachEmptyBegins, EachSettledVolumeBegins}
-use Rattle.vx_group_images.proofs.Blocks.{below_count}
+use Rattle.vx_moments.proofs.Blocks.{below_count}
 use Rattle.vx_volume_laws.proofs.Losses.{list_of, read_of, not_true}
 
 -- ---- an empty volume

@@ -29,7 +29,7 @@ use Rattle.vx_volume.specs.Retelling.{AreRetold, IsRetold}
 use Rattle.vx_volume.specs.Volume.{IsVolume, VolumeSeen, cell_at, region_at}
 use Rattle.vx_volume.proofs.Entries.{dead_or}
 use Rattle.vx_volume.proofs.Ranges.{part_inside}
-use Rattle.vx_group_images.proofs.Blocks.{below_count}
+use Rattle.vx_moments.proofs.Blocks.{below_count}
 use Rattle.vx_volume_laws.specs.Telling.{HoldFrom, IsOfPart}
 use Rattle.vx_volume_laws.proofs.LivesOn.{IsPlaced}
 

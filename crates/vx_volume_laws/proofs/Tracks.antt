@@ -21,7 +21,7 @@ use Rattle.vx_core_laws.proofs.Courses.{course_keeps}
 use Rattle.vx_core_laws.proofs.Tracks.{each_track_holds}
 use Rattle.vx_moments.specs.World.{Track, Volume}
 use Rattle.vx_volume_laws.specs.Tracks.{GoesAt, HasMap, TellOf, EachCallIsTracked}
-use Rattle.vx_group_images.specs.Tracks.{TrackOwner, has_failed, was_unsettled, with_region, track_with, dirty_with, volume_after, volume_failed, volume_goes}
+use Rattle.vx_moments.specs.Tracks.{TrackOwner, has_failed, was_unsettled, with_region, track_with, dirty_with, volume_after, volume_failed, volume_goes}
 
 -- the entries are of the region
 abbrev AllIn : ℕ → List Entry → Type 0

@@ -16,8 +16,8 @@ use Rattle.vx_volume.specs.Passes.{Clears, CopyEnds, PassEnds, Settles}
 use Rattle.vx_volume.specs.declared.volume.Volume.{Volume}
 use Rattle.vx_volume.specs.Log.{log_seen}
 use Rattle.vx_volume.specs.Volume.{VolumeSeen, cell_at, log_of, volume_seen}
-use Rattle.vx_volume_form.specs.declared.form.VolumeForm.{VolumeForm}
-use Rattle.vx_volume_pieces.specs.Taken.{AreTakenRegions}
+use Rattle.vx_lending.specs.declared.form.VolumeForm.{VolumeForm}
+use Rattle.vx_lending.specs.RegionsTaken.{AreTakenRegions}
 use Rattle.vx_lending.specs.Logs.{log_copies}
 use Rattle.vx_lending.specs.Taken.{AreTakenCopies, log_sectors}
 use Rattle.vx_volume_laws.specs.Lying.{IsLogFor, IsLogOver, LiesAs}

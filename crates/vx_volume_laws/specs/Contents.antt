@@ -9,7 +9,7 @@ use Rattle.vx_carve.specs.Together.{Holds}
 use Rattle.vx_marks.specs.Log.{LogSeen}
 use Rattle.vx_image.specs.Image.{LogCopy}
 use Rattle.vx_image.specs.Bytes.{Sectors}
-use Rattle.vx_volume_pieces.specs.Pieces.{all_pieces}
+use Rattle.vx_lending.specs.RegionPieces.{all_pieces}
 
 -- the sectors of the public region of each good disk are those of its device from sector 2,048 on
 abbrev pub AreSectorsOf : ℕ → List ℕ → (ℕ → Contents) → Sectors → Type 0

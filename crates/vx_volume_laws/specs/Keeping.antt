@@ -7,7 +7,7 @@ use Rattle.vx_config_parts.specs.declared.plex.Plex.{Plex}
 use Rattle.vx_config_parts.specs.declared.vol.Vol.{Vol}
 use Rattle.vx_config_parts.specs.Objects.{is_data_plex_of, is_log_plex_of}
 use Rattle.vx_objects.specs.declared.config.Config.{Config}
-use Rattle.vx_plexes.specs.Lies.{columns_of}
+use Rattle.vx_image.specs.Lies.{columns_of}
 use Rattle.vx_image.specs.Image.{is_available_state}
 use Rattle.vx_image.specs.Bytes.{Sectors, image_of, is_active, is_held, map_or_zero, relation_maps}
 use Rattle.vx_volume_laws.specs.Leaving.{AreNamedIn}

@@ -7,10 +7,10 @@ use Rattle.vx_volume.specs.Passes.{PassEnds, Settles}
 use Rattle.vx_volume.specs.Volume.{IsVolume, VolumeSeen, cell_at}
 use Rattle.vx_moments.specs.World.{Volume}
 use Rattle.vx_image.specs.Image.{PlexImage, LogCopy, Image, WasStarted, IsFilled}
-use Rattle.vx_group_images.specs.Volumes.{StandsForVolume}
+use Rattle.vx_moments.specs.Volumes.{StandsForVolume}
 use Rattle.vx_image.specs.Meaning.{ReadsOneList}
 use Rattle.vx_volume_laws.specs.Regions.{LeaveImage}
-use Rattle.vx_group_images.specs.Tracks.{TrackOwner, unsure}
+use Rattle.vx_moments.specs.Tracks.{TrackOwner, unsure}
 use Rattle.vx_volume_laws.specs.RunLaws.{OwnersFit}
 use Rattle.vx_volume_laws.specs.Running.{IsSureOfOthers, RunsAsVolume, states_of}
 

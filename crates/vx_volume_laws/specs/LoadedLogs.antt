@@ -16,8 +16,8 @@ use Rattle.vx_image.specs.Image.{LogCopy}
 use Rattle.vx_image.specs.Bytes.{Sectors, image_of}
 use Rattle.vx_volume.specs.Log.{absent_log}
 use Rattle.vx_volume.specs.Opening.{count_of}
-use Rattle.vx_volume_form.specs.declared.form.VolumeForm.{VolumeForm}
-use Rattle.vx_volume_form.specs.Form.{IsFormOf}
+use Rattle.vx_lending.specs.declared.form.VolumeForm.{VolumeForm}
+use Rattle.vx_lending.specs.Form.{IsFormOf}
 use Rattle.vx_volume_laws.specs.Contents.{AreSectorsOf, ShowsCopy}
 
 -- Of each layout the pieces of its first so many sectors were taken, in block order.

@@ -15,9 +15,9 @@ use Rattle.vx_volume.specs.declared.volume.VolumeShape.{VolumeShape}
 use Rattle.vx_volume.specs.Opening.{count_of}
 use Rattle.vx_volume.specs.declared.volume.Volume.{Volume}
 use Rattle.vx_volume.specs.Volume.{VolumeSeen, cell_at, log_of, volume_seen}
-use Rattle.vx_volume_pieces.specs.Pieces.{all_pieces}
-use Rattle.vx_volume_pieces.specs.Taken.{AreTakenRegions}
-use Rattle.vx_volume_form.specs.declared.form.VolumeForm.{VolumeForm}
+use Rattle.vx_lending.specs.RegionPieces.{all_pieces}
+use Rattle.vx_lending.specs.RegionsTaken.{AreTakenRegions}
+use Rattle.vx_lending.specs.declared.form.VolumeForm.{VolumeForm}
 use Rattle.vx_lending.specs.Left.{region_plexes}
 use Rattle.vx_lending.specs.Logs.{log_copies}
 use Rattle.vx_lending.specs.Pieces.{copy_pieces}

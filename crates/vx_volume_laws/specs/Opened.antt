@@ -16,11 +16,11 @@ use Rattle.vx_image.specs.Soundness.{IsSoundImage}
 use Rattle.vx_volume.specs.Opening as opening
 use Rattle.vx_volume.specs.Opening.{count_of}
 use Rattle.vx_volume.specs.Volume.{VolumeSeen, IsVolume, cell_at, region_at}
-use Rattle.vx_volume_pieces.specs.Taken.{AreTakenRegions}
+use Rattle.vx_lending.specs.RegionsTaken.{AreTakenRegions}
 use Rattle.vx_volume_laws.specs.Opening.{IsOpened, IsWellFormed}
-use Rattle.vx_volume_form.specs.declared.form.VolumeForm.{VolumeForm}
+use Rattle.vx_lending.specs.declared.form.VolumeForm.{VolumeForm}
 use Rattle.vx_image.specs.UsedPlexes.{IsVolOf}
-use Rattle.vx_volume_form.specs.Form.{IsFormOf}
+use Rattle.vx_lending.specs.Form.{IsFormOf}
 use Rattle.vx_volume_laws.specs.Contents.{AreSectorsOf, HoldRegions, ShowsCopy}
 
 -- A volume of the configuration was opened with its form over regions that were taken with the form's maps and layouts, whose pieces

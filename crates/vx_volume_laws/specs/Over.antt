@@ -7,7 +7,7 @@ use Rattle.vx_moments.specs.World.{Volume}
 use Rattle.vx_image.specs.Image.{LogCopy}
 use Rattle.vx_image.specs.Bytes.{Sectors, image_of}
 use Rattle.vx_volume.specs.Volume.{VolumeSeen}
-use Rattle.vx_volume_form.specs.declared.form.VolumeForm.{VolumeForm}
+use Rattle.vx_lending.specs.declared.form.VolumeForm.{VolumeForm}
 use Rattle.vx_volume_laws.specs.Opened.{IsOpenedBy}
 use Rattle.vx_volume_laws.specs.Starting.{IsOpenedOver}
 

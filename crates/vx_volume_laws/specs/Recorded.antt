@@ -20,10 +20,10 @@ use Rattle.vx_image.specs.Bytes.{Sectors, image_of, is_held, map_or_zero, plex_c
 use Rattle.vx_volume.specs.Log.{absent_log}
 use Rattle.vx_volume.specs.Opening.{count_of}
 use Rattle.vx_volume_laws.specs.Start.{IsStartOf}
-use Rattle.vx_volume_form.specs.declared.form.VolumeForm.{VolumeForm}
+use Rattle.vx_lending.specs.declared.form.VolumeForm.{VolumeForm}
 use Rattle.vx_image.specs.UsedPlexes.{IsVolOf, used_logs}
-use Rattle.vx_volume_form.specs.Form.{IsFormOf}
-use Rattle.vx_volume_form.specs.Laws.{HasOn}
+use Rattle.vx_lending.specs.Form.{IsFormOf}
+use Rattle.vx_lending.specs.FormLaws.{HasOn}
 use Rattle.vx_lending.specs.Logs.{log_header, marked_maps}
 use Rattle.vx_lending.specs.Pieces.{copy_pieces}
 use Rattle.vx_lending.specs.Taken.{log_sectors}

@@ -15,7 +15,7 @@ use Rattle.vx_volume.specs.Volume.{IsVolume, VolumeSeen, cell_at}
 use Rattle.vx_moments.specs.World.{Volume}
 use Rattle.vx_image.specs.Image.{PlexImage}
 use Rattle.vx_volume_laws.specs.Tracks.{HasMap}
-use Rattle.vx_group_images.specs.Tracks.{TrackOwner, has_failed, volume_failed, volume_lived}
+use Rattle.vx_moments.specs.Tracks.{TrackOwner, has_failed, volume_failed, volume_lived}
 use Rattle.vx_volume_laws.specs.Exact.{IsExactVolume, LogIsWell}
 use Rattle.vx_volume_laws.specs.Running.{IsSureOfOthers, RunsAsVolume}
 use Rattle.vx_volume_laws.specs.Telling.{TellsEntries}

@@ -15,7 +15,7 @@ use Rattle.vx_moments.specs.World.{Volume}
 use Rattle.vx_image.specs.Image.{PlexImage}
 use Rattle.vx_volume_laws.specs.Regions.{Regions}
 use Rattle.vx_volume_laws.specs.Tracks.{GoesAt}
-use Rattle.vx_group_images.specs.Tracks.{was_unsettled}
+use Rattle.vx_moments.specs.Tracks.{was_unsettled}
 
 -- those of the entries that are of a region, in their order
 abbrev pub entries_in : ℕ → List Entry → List Entry

@@ -7,7 +7,7 @@ use Rattle.vx_volume.specs.Laws.{AreTold}
 use Rattle.vx_volume.specs.Volume.{IsVolume, VolumeSeen, cell_at}
 use Rattle.vx_moments.specs.World.{Volume}
 use Rattle.vx_image.specs.Image.{LogCopy, Image, IsFilled}
-use Rattle.vx_group_images.specs.Volumes.{StandsForVolume}
+use Rattle.vx_moments.specs.Volumes.{StandsForVolume}
 use Rattle.vx_volume_laws.specs.Opening.{IsOpened, IsWellFormed}
 use Rattle.vx_volume_laws.specs.Running.{RunsAsVolume, state_at}
 

@@ -12,7 +12,7 @@ use Rattle.vx_core.specs.Recovery.{region_after}
 use Rattle.vx_core_laws.specs.Course.{IsKeptState, EachFits}
 use Rattle.vx_core_laws.specs.Tracking.{was_written, was_torn, Notes, no_notes, notes_of, IsOther, IsSeen}
 use Rattle.vx_moments.specs.World.{Track, Volume}
-use Rattle.vx_group_images.specs.Tracks.{TrackOwner, has_failed, was_unsettled, volume_failed, volume_goes}
+use Rattle.vx_moments.specs.Tracks.{TrackOwner, has_failed, was_unsettled, volume_failed, volume_goes}
 
 -- ---- the law
 

@@ -4,7 +4,7 @@ use Rattle.vx_core.specs.declared.stage.Phase.TheVariants.{Settled}
 use Rattle.vx_core_laws.specs.Course.{IsKeptState}
 use Rattle.vx_moments.specs.World.{Volume}
 use Rattle.vx_image.specs.Image.{PlexImage, Image, WasStarted, IsFilled}
-use Rattle.vx_group_images.specs.Volumes.{StandsForVolume}
+use Rattle.vx_moments.specs.Volumes.{StandsForVolume}
 use Rattle.vx_volume_laws.specs.Regions.{Regions, LeaveImage, IsLifeOf, GoWith}
 
 -- Each region is kept for its history, the life and the tracks of these plexes go with the regions, and where a copy shows a

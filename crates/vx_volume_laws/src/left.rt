@@ -11,7 +11,7 @@ ghost use Rattle.vx_cell.specs.Plexes.{PlexSeen};
 ghost use Rattle.vx_volume.specs.Arming.{VolumeArmed};
 ghost use Rattle.vx_volume.specs.Log.{LogGoes, log_seen};
 ghost use Rattle.vx_volume.specs.Volume.{log_of, volume_seen};
-ghost use Rattle.vx_volume_form.specs.declared.form.VolumeForm.{VolumeForm};
+ghost use Rattle.vx_lending.specs.declared.form.VolumeForm.{VolumeForm};
 ghost use Rattle.vx_lending.specs.Logs.{IsFreshLog, IsFreshStore, IsLoadedLog, log_copies};
 ghost use Rattle.vx_volume_laws.specs.Calls.{EachClearingKeeps, EachCopyKeeps, EachKeepingKeeps, EachKeptVolumeLies, EachOpenedVolumeLies, EachReadKeeps, EachSettlingKeeps, EachWriteKeeps, IsOpenedOn, KeepsPlaces};
 ghost use Rattle.vx_volume_laws.specs.Forms.{EachFormIsKept};

@@ -17,7 +17,7 @@ use Rattle.vx_objects.specs.declared.config.Config.{Config}
 use Rattle.vx_objects.specs.Config.{objects_of}
 use Rattle.vx_piece.specs.MemPiece.{mem_seen}
 use Rattle.vx_piece.specs.declared.mem_piece.MemPiece.{MemPiece}
-use Rattle.vx_plexes.proofs.Members.{in_at, in_left, in_map, in_one, in_right}
+use Rattle.vx_image.proofs.PlexMembers.{in_at, in_left, in_map, in_one, in_right}
 use Rattle.vx_image.specs.UsedPlexes.{IsVolOf}
 use Rattle.vx_group_start.specs.GroupDisks.{AreGroupDisks, IsDiskOn}
 use Rattle.vx_volume_rows.specs.Matching.{is_disk_on}

@@ -1,5 +1,5 @@
 use Rattle.vx_image.specs.Bytes.{image_of}
-use Rattle.vx_group_images.specs.Lives.{volume_first}
+use Rattle.vx_moments.specs.Lives.{volume_first}
 use Rattle.vx_volume.specs.Volume.{volume_seen}
 use Rattle.vx_group_volumes.proofs.Firsts.{fresh_exact, fresh_runs, fresh_tight}
 use Rattle.vx_group_volumes.proofs.each_fresh_start_runs.Goals as goal

@@ -1,6 +1,6 @@
 use Rattle.vx_image.specs.Bytes.{image_of}
 use Rattle.vx_volume.specs.Volume.{volume_seen}
-use Rattle.vx_group_images.specs.Volumes.{volume_read}
+use Rattle.vx_moments.specs.Volumes.{volume_read}
 use Rattle.vx_group_volumes.proofs.Starts.{loaded_exact, loaded_runs}
 use Rattle.vx_group_volumes.proofs.each_loaded_start_runs.Goals as goal
 

@@ -1,5 +1,5 @@
 use Rattle.std.proofs.Common.{subst, length, get_or, ◌<◌, ◌≡◌}
-use Rattle.vx_plexes.proofs.Members.{plex_is_of}
+use Rattle.vx_image.proofs.PlexMembers.{plex_is_of}
 use Rattle.vx_config_rows.proofs.lies.lies.Goals as goal
 
 pub layout_of-requires : goal.layout_of-requires

@@ -4,7 +4,7 @@ use Rattle.std.specs.Prelude.{vec_capacity, vec_len}
 use Rattle.std.proofs.lemmas.List.{length-append}
 use Rattle.vx_piece.specs.Seen.{Seen}
 use Rattle.vx_volume.specs.Volume.{VolumeSeen}
-use Rattle.vx_volume_pieces.specs.Pieces.{all_pieces, cell_plexes}
+use Rattle.vx_lending.specs.RegionPieces.{all_pieces, cell_plexes}
 use Rattle.vx_lending.specs.Logs.{log_copies, log_pieces}
 use Rattle.vx_lending.proofs.Held.{held_are}
 use Rattle.vx_group_start.proofs.closing.reserve_volume.Goals as goal

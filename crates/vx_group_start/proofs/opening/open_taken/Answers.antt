@@ -5,7 +5,7 @@ use Rattle.vx_piece.specs.Seen.{Seen}
 use Rattle.vx_maps.specs.Spares.{copies_seen}
 use Rattle.vx_volume.specs.Log.{log_seen}
 use Rattle.vx_volume.specs.Opening.{regions_seen}
-use Rattle.vx_volume_pieces.specs.Pieces.{all_pieces}
+use Rattle.vx_lending.specs.RegionPieces.{all_pieces}
 use Rattle.vx_lending.specs.Left.{left_copies}
 use Rattle.vx_lending.specs.Logs.{log_copies, log_header, log_pieces}
 use Rattle.vx_lending.specs.Pieces.{copy_pieces}

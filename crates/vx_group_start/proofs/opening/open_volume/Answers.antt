@@ -3,9 +3,9 @@ use Rattle.std.proofs.Common.{◌≡◌, refl, ap, subst, inr, List, map, ◌++�
 use Rattle.std.specs.List.{flat_map}
 use Rattle.std.proofs.lemmas.Result.{IfErr-weaker, IfOk-weaker, on_err_weaker}
 use Rattle.vx_piece.specs.Seen.{Seen}
-use Rattle.vx_volume_form.specs.Form.{IsFormOf}
-use Rattle.vx_volume_form.proofs.Places.{can_be_taken}
-use Rattle.vx_volume_form.proofs.Rooms.{logs_are}
+use Rattle.vx_lending.specs.Form.{IsFormOf}
+use Rattle.vx_lending.proofs.Places.{can_be_taken}
+use Rattle.vx_lending.proofs.Rooms.{logs_are}
 use Rattle.vx_lending.specs.Left.{held_pieces}
 use Rattle.vx_lending.specs.Public.{remaining_pieces, still_pieces}
 use Rattle.vx_group_start.specs.Fresh.{is_fresh}

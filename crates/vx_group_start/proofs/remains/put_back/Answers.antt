@@ -2,7 +2,7 @@
 use Rattle.std.proofs.Common.{map, ◌++◌}
 use Rattle.std.specs.List.{flat_map}
 use Rattle.vx_volume.specs.Opening.{regions_seen}
-use Rattle.vx_volume_pieces.specs.Pieces.{all_pieces}
+use Rattle.vx_lending.specs.RegionPieces.{all_pieces}
 use Rattle.vx_lending.specs.Left.{left_copies}
 use Rattle.vx_lending.specs.Pieces.{copy_pieces}
 use Rattle.vx_lending.specs.Public.{remaining_pieces}

@@ -5,7 +5,7 @@ use Rattle.vx_carve.specs.Together.{SameSectors}
 use Rattle.vx_lending.specs.Left.{left_copies}
 use Rattle.vx_lending.specs.declared.left.LogLeft.{LogLeft}
 use Rattle.vx_volume.specs.Opening.{regions_seen}
-use Rattle.vx_volume_pieces.specs.Pieces.{all_pieces}
+use Rattle.vx_lending.specs.RegionPieces.{all_pieces}
 use Rattle.vx_maps.specs.Wholes.{store_copies}
 use Rattle.vx_lending.specs.Pieces.{copy_pieces}
 use Rattle.vx_lending.proofs.Sums.{first_left}

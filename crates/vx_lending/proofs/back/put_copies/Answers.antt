@@ -5,7 +5,7 @@ use Rattle.vx_piece.specs.Seen.{Seen}
 use Rattle.vx_carve.specs.Together.{SameSectors}
 use Rattle.vx_carve.proofs.Same.{same_refl}
 use Rattle.vx_maps.specs.Spares.{copies_seen}
-use Rattle.vx_volume_pieces.proofs.Lists.{same_less, same_done, long_last, map_last}
+use Rattle.vx_lending.proofs.RegionLists.{same_less, same_done, long_last, map_last}
 use Rattle.vx_lending.specs.Pieces.{copy_pieces, own_pieces}
 use Rattle.vx_lending.proofs.back.put_copies.Goals as goal
 

@@ -4,7 +4,7 @@ use Rattle.vx_piece.specs.Seen.{Seen}
 use Rattle.vx_carve.specs.Together.{SameSectors}
 use Rattle.vx_maps.specs.Spares.{copies_seen}
 use Rattle.vx_volume.specs.Opening.{regions_seen}
-use Rattle.vx_volume_pieces.specs.Pieces.{all_pieces}
+use Rattle.vx_lending.specs.RegionPieces.{all_pieces}
 use Rattle.vx_lending.specs.Pieces.{copy_pieces, volume_pieces}
 use Rattle.vx_lending.proofs.Sums.{both_put, first_left}
 use Rattle.vx_lending.proofs.back.put_pieces.Goals as goal

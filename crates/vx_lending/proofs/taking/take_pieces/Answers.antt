@@ -8,7 +8,7 @@ use Rattle.vx_carve.proofs.Same.{same_trans}
 use Rattle.vx_cut.proofs.Parts.{all_parts}
 use Rattle.vx_maps.specs.Spares.{copies_seen}
 use Rattle.vx_volume.specs.Opening.{regions_seen}
-use Rattle.vx_volume_pieces.specs.Pieces.{all_pieces}
+use Rattle.vx_lending.specs.RegionPieces.{all_pieces}
 use Rattle.vx_lending.specs.Pieces.{copy_pieces}
 use Rattle.vx_lending.specs.Taken.{log_sectors}
 use Rattle.vx_lending.proofs.LogPlexes.{first_plexes, others_stay, second_free, second_plexes}

@@ -3,7 +3,7 @@ use Rattle.std.proofs.Common.{◌++◌, List, map, subst, sym}
 use Rattle.vx_piece.specs.Seen.{Seen}
 use Rattle.vx_carve.specs.Together.{SameSectors}
 use Rattle.vx_maps.specs.Spares.{copies_seen}
-use Rattle.vx_volume_pieces.specs.Pieces.{all_pieces, cell_plexes}
+use Rattle.vx_lending.specs.RegionPieces.{all_pieces, cell_plexes}
 use Rattle.vx_lending.specs.Pieces.{copy_pieces}
 use Rattle.vx_lending.proofs.Sums.{both_put, first_left}
 use Rattle.vx_lending.proofs.volumes.put_parts.Goals as goal

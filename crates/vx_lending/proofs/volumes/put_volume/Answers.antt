@@ -5,7 +5,7 @@ use Rattle.vx_piece.specs.Seen.{Seen}
 use Rattle.vx_carve.specs.Together.{SameSectors}
 use Rattle.vx_maps.specs.Spares.{copies_seen}
 use Rattle.vx_volume.specs.Volume.{VolumeSeen}
-use Rattle.vx_volume_pieces.specs.Pieces.{all_pieces, cell_plexes}
+use Rattle.vx_lending.specs.RegionPieces.{all_pieces, cell_plexes}
 use Rattle.vx_lending.specs.Left.{held_pieces, left_pieces}
 use Rattle.vx_lending.specs.Logs.{log_copies}
 use Rattle.vx_lending.specs.Pieces.{copy_pieces}

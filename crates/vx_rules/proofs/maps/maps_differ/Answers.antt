@@ -2,9 +2,9 @@ use Rattle.std.proofs.Common.{◌≡◌, ℕ, ◌<◌, nat_le, List, true, false
 use Rattle.std.proofs.lemmas.Bool.{lt-leb}
 use Rattle.vx_base.specs.Named.{Word}
 use Rattle.vx_config_parts.specs.declared.object.Object.{Object}
-use Rattle.vx_extents.specs.Below.{all_below}
+use Rattle.vx_rules.specs.Below.{all_below}
 use Rattle.vx_rules.specs.Maps.{map_uses, maps_differ}
-use Rattle.vx_extents.proofs.Below.{all_below_fails}
+use Rattle.vx_rules.proofs.Below.{all_below_fails}
 use Rattle.vx_rules.proofs.maps.maps_differ.Goals as goal
 
 differ_fails : (all : List Object) (vol : Word) (m : ℕ) → m < 30 → 1 < map_uses all vol m → maps_differ all vol ≡ false

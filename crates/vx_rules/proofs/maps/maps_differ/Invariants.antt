@@ -1,5 +1,5 @@
 use Rattle.std.proofs.Common.{◌≡◌, nat_le, true}
-use Rattle.vx_extents.specs.Below.{all_below}
+use Rattle.vx_rules.specs.Below.{all_below}
 use Rattle.vx_rules.specs.Maps.{map_uses}
 use Rattle.vx_rules.proofs.maps.maps_differ.Given as goal
 

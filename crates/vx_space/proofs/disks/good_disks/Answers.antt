@@ -3,7 +3,7 @@ use Rattle.std.specs.List.{filter}
 use Rattle.std.specs.List.Sorted.{IsPermutation}
 use Rattle.std.proofs.lemmas.Fn.{always_returns_same}
 use Rattle.vx_config_parts.specs.declared.disk.Disk.{Disk}
-use Rattle.vx_plexes.proofs.Plexes.{config_valid}
+use Rattle.vx_image.proofs.Plexes.{config_valid}
 use Rattle.vx_space.specs.Disks.{is_good}
 use Rattle.vx_space.proofs.GoodDisks.{good_disks}
 use Rattle.vx_space.proofs.disks.good_disks.Goals as goal

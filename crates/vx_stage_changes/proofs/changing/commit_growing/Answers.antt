@@ -1,6 +1,6 @@
 use Rattle.std.proofs.Common.{Err, refl, subst}
 use Rattle.std.proofs.lemmas.Result.{err_from_is_err_and}
-use Rattle.vx_commits.specs.Committing.{CommitEnds}
+use Rattle.vx_stage_changes.specs.Committing.{CommitEnds}
 use Rattle.vx_stage_changes.specs.Planning.{IsUnplannedBy}
 use Rattle.vx_stage_changes.proofs.EditStage.{grown_refused, unplanned_ends, stopped_ends}
 use Rattle.vx_stage_changes.proofs.changing.commit_growing.Goals as goal

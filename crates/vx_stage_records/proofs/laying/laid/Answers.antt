@@ -2,7 +2,7 @@ use Rattle.std.proofs.Common.{◌≡◌, ◌∙◌, None, Ok, sym, ap, subst}
 use Rattle.std.proofs.lemmas.Result.{IfErr-weaker}
 use Rattle.vx_objects.specs.Config.{objects_of}
 use Rattle.vx_new_volumes.specs.Tests.{new_fault}
-use Rattle.vx_plan.specs.Planned.{IsPlanned}
+use Rattle.vx_new_volumes.specs.Planned.{IsPlanned}
 use Rattle.vx_added_records.specs.Started.{is_either}
 use Rattle.vx_stages.specs.Sources.{IsUnlaid, test_fault}
 use Rattle.vx_stage_records.specs.Judging.{IsUnnamed, StopsAs, group_now}

@@ -1,5 +1,5 @@
 use Rattle.std.proofs.Common.{◌∙◌, sym, subst}
-use Rattle.vx_volume_form.specs.Form.{IsFormOf}
+use Rattle.vx_lending.specs.Form.{IsFormOf}
 use Rattle.vx_stage_volumes.proofs.AtOnce.{refused_as, refused_by_form}
 use Rattle.vx_stage_volumes.proofs.early.test_early.Goals as goal
 

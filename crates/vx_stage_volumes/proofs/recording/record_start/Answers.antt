@@ -2,7 +2,7 @@ use Rattle.std.proofs.Common.{rules, Ok, refl, subst}
 use Rattle.std.specs.BTreeMap.{get}
 use Rattle.std.specs.Cmp.Lexicographic.{slice_cmp}
 use Rattle.std.specs.Ordering.{nat_cmp}
-use Rattle.vx_commits.specs.Committing.{CommitEnds}
+use Rattle.vx_stage_changes.specs.Committing.{CommitEnds}
 use Rattle.vx_stage_volumes.proofs.Entries.{put_under}
 use Rattle.vx_stage_volumes.proofs.recording.record_start.Goals as goal
 

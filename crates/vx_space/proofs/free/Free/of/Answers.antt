@@ -1,7 +1,7 @@
 use Rattle.std.proofs.Common.{◌≡◌, true, ap, sym, subst, ◌∙◌}
 use Rattle.std.specs.List.{list_all}
 use Rattle.std.specs.List.Sorted.{IsPermutation}
-use Rattle.vx_plexes.proofs.Plexes.{config_valid}
+use Rattle.vx_image.proofs.Plexes.{config_valid}
 use Rattle.vx_space.specs.Gaps.{ends_in, all_gaps}
 use Rattle.vx_space.specs.Small.{AreSmall}
 use Rattle.vx_space.specs.Free.{AreFree}

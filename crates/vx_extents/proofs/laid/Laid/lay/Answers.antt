@@ -1,5 +1,0 @@
-use Rattle.vx_extents.proofs.Placement.{laid_more}
-use Rattle.vx_extents.proofs.laid.Laid.lay.Goals as goal
-
-pub returns : goal.returns
-returns c = λ done laid sector apart. laid_more _ _ done c.args.extent.now laid sector apart c.in_ok-insert.ensures.updates.0

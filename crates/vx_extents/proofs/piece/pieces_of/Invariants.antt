@@ -1,6 +1,0 @@
-use Rattle.std.proofs.Common.{◌≡◌, ◌++◌, drop}
-use Rattle.vx_extents.specs.Pieces.{pieces}
-use Rattle.vx_extents.proofs.piece.pieces_of.Given as goal
-
-abbrev pub invariant-loop-object : goal.invariant-loop-object
-invariant-loop-object l = l.found.items ++ pieces (drop l.object-index l.all) ≡ pieces l.all

@@ -1,9 +1,0 @@
-pub mod Below
-pub mod Keys
-pub mod Overlap
-pub mod Extents
-pub mod Laid
-pub mod Columns
-pub mod Pieces
-pub mod Indexed
-pub mod Sizes

@@ -1,6 +1,0 @@
-pub mod Blocks
-pub mod OtherVolumes
-pub mod VolumesRead
-pub mod Lives
-pub mod Drops
-pub mod Tracked

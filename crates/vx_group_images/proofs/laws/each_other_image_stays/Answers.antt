@@ -1,8 +1,0 @@
-use Rattle.vx_group_images.proofs.OtherVolumes.{other_image, volumes_sound}
-use Rattle.vx_group_images.proofs.laws.each_other_image_stays.Goals as goal
-
-pub returns-clause-same : goal.returns-clause-same
-returns-clause-same c = other_image
-
-pub returns-clause-sound : goal.returns-clause-sound
-returns-clause-sound c = volumes_sound

@@ -1,7 +1,0 @@
-pub mod Group
-pub mod Laws
-pub mod Lives
-pub mod Volumes
-pub mod Drops
-pub mod Tracks
-pub mod Owners

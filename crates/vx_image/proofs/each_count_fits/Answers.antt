@@ -1,5 +1,0 @@
-use Rattle.vx_image.proofs.Counts.{count_fits}
-use Rattle.vx_image.proofs.each_count_fits.Goals as goal
-
-pub returns : goal.returns
-returns c = count_fits

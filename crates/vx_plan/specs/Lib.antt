@@ -1,4 +1,0 @@
-pub mod Disks
-pub mod Steps
-pub mod Rule
-pub mod Planned

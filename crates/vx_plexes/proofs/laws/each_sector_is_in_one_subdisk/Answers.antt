@@ -1,5 +1,0 @@
-use Rattle.vx_plexes.proofs.Once.{valid_once}
-use Rattle.vx_plexes.proofs.laws.each_sector_is_in_one_subdisk.Goals as goal
-
-pub returns : goal.returns
-returns c = valid_once

@@ -1,8 +1,0 @@
-use Rattle.vx_plexes.proofs.Room.{layouts_apart, plexes_have_room}
-use Rattle.vx_plexes.proofs.laws.plexes_have_room.Goals as goal
-
-pub returns-clause-room : goal.returns-clause-room
-returns-clause-room c = plexes_have_room
-
-pub returns-clause-apart : goal.returns-clause-apart
-returns-clause-apart c = layouts_apart

@@ -1,6 +1,0 @@
-use Rattle.std.proofs.Common.{◌≡◌, drop}
-use Rattle.vx_plexes.specs.Lies.{slot_of}
-use Rattle.vx_plexes.proofs.strips.slot_of.Given as goal
-
-abbrev pub invariant-loop-disk : goal.invariant-loop-disk
-invariant-loop-disk l = slot_of (drop l.disk-index l.disks) l.name ≡ slot_of l.disks l.name

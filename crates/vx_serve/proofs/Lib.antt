@@ -1,4 +1,0 @@
-pub mod Runs
-pub mod Ends
-mod Shelves
-mod Soundly

@@ -1,9 +1,0 @@
-pub mod Distinct
-pub mod Zips
-pub mod Rules
-pub mod Maps
-pub mod Bits
-pub mod Places
-pub mod Rooms
-pub mod Unions
-pub mod Lists

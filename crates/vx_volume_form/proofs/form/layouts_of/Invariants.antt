@@ -1,6 +1,0 @@
-use Rattle.std.proofs.Common.{take}
-use Rattle.vx_volume_form.specs.Form.{AreLayouts}
-use Rattle.vx_volume_form.proofs.form.layouts_of.Given as goal
-
-abbrev pub invariant-loop-plex : goal.invariant-loop-plex
-invariant-loop-plex l = AreLayouts l.config (take l.plex-index l.plexes) l.layouts.items

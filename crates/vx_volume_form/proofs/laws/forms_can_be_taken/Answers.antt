@@ -1,5 +1,0 @@
-use Rattle.vx_volume_form.proofs.Places.{can_be_taken}
-use Rattle.vx_volume_form.proofs.laws.forms_can_be_taken.Goals as goal
-
-pub returns : goal.returns
-returns c = λ config good v fresh form of is. can_be_taken config good v fresh form is of

@@ -1,8 +1,0 @@
-use Rattle.vx_volume_form.proofs.Places.{form_lies, form_free}
-use Rattle.vx_volume_form.proofs.laws.forms_lie_on_good_disks.Goals as goal
-
-pub returns-clause-lie : goal.returns-clause-lie
-returns-clause-lie c = form_lies
-
-pub returns-clause-free : goal.returns-clause-free
-returns-clause-free c = form_free

@@ -1,5 +1,0 @@
-use Rattle.vx_volume_form.proofs.Rules.{vol_geometry}
-use Rattle.vx_volume_form.proofs.masks.geometry_of.Goals as goal
-
-pub invariant_of-result : goal.invariant_of-result
-invariant_of-result c = record { valid = vol_geometry c.args.config.now c.args.vol.now c.requires }

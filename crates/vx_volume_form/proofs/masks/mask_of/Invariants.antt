@@ -1,6 +1,0 @@
-use Rattle.std.proofs.Common.{take}
-use Rattle.vx_volume_form.specs.Form.{IsMaskOf}
-use Rattle.vx_volume_form.proofs.masks.mask_of.Given as goal
-
-abbrev pub invariant-loop-map : goal.invariant-loop-map
-invariant-loop-map l = IsMaskOf (take l.map-index l.maps) l.mask

@@ -1,9 +1,0 @@
-//! How a volume of a configuration is started: the form of its regions, and where its plexes and logs lie.
-#![tactic(auto)]
-
-mod form;
-pub mod laws;
-mod masks;
-mod plexes;
-
-pub use form::{VolumeForm, form_of};

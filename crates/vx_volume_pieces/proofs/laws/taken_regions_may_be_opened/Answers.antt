@@ -1,6 +1,0 @@
--- Regions that were taken may be opened.
-use Rattle.vx_volume_pieces.proofs.Openable.{regions_open}
-use Rattle.vx_volume_pieces.proofs.laws.taken_regions_may_be_opened.Goals as goal
-
-pub returns : goal.returns
-returns c = regions_open

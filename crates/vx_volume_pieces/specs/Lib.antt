@@ -1,3 +1,0 @@
-pub mod Pieces
-pub mod Taken
-pub mod Laws

@@ -93,6 +93,10 @@ making_edited : (more os : List Object) → edited (Make more) os ≡ filter_map
 unfolding change added
 making_edited more os = refl
 
+-- behind the records of the configuration
+pub made_behind : (c c' : Config) (more : List Object) → objects_of c' ≡ in_kinds (edited (Make more) (objects_of c)) → objects_of c' ≡ in_kinds (objects_of c ++ more)
+made_behind c c' more is = is ∙ ap (λ os. in_kinds os) (making_edited more (objects_of c)) ∙ ap (λ os. in_kinds (os ++ more)) (all_stay (objects_of c))
+
 -- a record is found by its name
 first_is : (os : List Object) (o : Object) → AreDistinct name_of os → IsIn os o → first_named (name_of o) os ≡ Some o
 first_is [] o differ there = absurd there

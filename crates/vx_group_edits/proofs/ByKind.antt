@@ -12,7 +12,7 @@ use Rattle.vx_config_parts.specs.Objects.{refers}
 use Rattle.vx_objects.specs.declared.config.Config.{Config}
 use Rattle.vx_objects.specs.Config.{objects_of}
 use Rattle.vx_objects.specs.Parts.{as_group, as_disk, as_subdisk, as_plex, as_vol, as_dco, as_snap, in_kinds, sorted_below}
-use Rattle.vx_objects.proofs.InKinds.{disks_below, subdisks_below, plexes_below, volumes_below, snaps_below}
+use Rattle.vx_objects.proofs.InKinds.{disks_below, subdisks_below, plexes_below, volumes_below, dcos_below, snaps_below}
 use Rattle.vx_image.proofs.PlexMembers.{IsIn, in_left, in_map, in_one, in_right, one_in}
 use Rattle.vx_image.specs.UsedPlexes.{IsVolOf}
 use Rattle.vx_group_edits.proofs.Lists.{filter_all, in_filter_map, picked, same_seen, same_with, seen}
@@ -31,50 +31,58 @@ records_vol c v there =
 -- ---- a configuration with these records, sorted into their kinds
 
 module _ (c : Config) (all : List Object) (is : objects_of c ≡ in_kinds all) where
-  disks_are : c.disks ≡ filter_map as_disk all
+  pub disks_are : c.disks ≡ filter_map as_disk all
   disks_are =
       sym (disks_below c.disks c.subdisks c.plexes c.volumes c.dcos c.snaps) ∙ ap (λ os. filter_map as_disk os) is ∙ behind_groups as_disk (λ g. refl) (filter_map as_group all) (sorted_below all)
       ∙ disks_below (filter_map as_disk all) (filter_map as_subdisk all) (filter_map as_plex all) (filter_map as_vol all) (filter_map as_dco all) (filter_map as_snap all)
 
-  subdisks_are : c.subdisks ≡ filter_map as_subdisk all
+  pub subdisks_are : c.subdisks ≡ filter_map as_subdisk all
   subdisks_are =
       sym (subdisks_below c.disks c.subdisks c.plexes c.volumes c.dcos c.snaps) ∙ ap (λ os. filter_map as_subdisk os) is ∙ behind_groups as_subdisk (λ g. refl) (filter_map as_group all) (sorted_below all)
       ∙ subdisks_below (filter_map as_disk all) (filter_map as_subdisk all) (filter_map as_plex all) (filter_map as_vol all) (filter_map as_dco all) (filter_map as_snap all)
 
-  plexes_are : c.plexes ≡ filter_map as_plex all
+  pub plexes_are : c.plexes ≡ filter_map as_plex all
   plexes_are =
       sym (plexes_below c.disks c.subdisks c.plexes c.volumes c.dcos c.snaps) ∙ ap (λ os. filter_map as_plex os) is ∙ behind_groups as_plex (λ g. refl) (filter_map as_group all) (sorted_below all)
       ∙ plexes_below (filter_map as_disk all) (filter_map as_subdisk all) (filter_map as_plex all) (filter_map as_vol all) (filter_map as_dco all) (filter_map as_snap all)
 
-  volumes_are : c.volumes ≡ filter_map as_vol all
+  pub volumes_are : c.volumes ≡ filter_map as_vol all
   volumes_are =
       sym (volumes_below c.disks c.subdisks c.plexes c.volumes c.dcos c.snaps) ∙ ap (λ os. filter_map as_vol os) is ∙ behind_groups as_vol (λ g. refl) (filter_map as_group all) (sorted_below all)
       ∙ volumes_below (filter_map as_disk all) (filter_map as_subdisk all) (filter_map as_plex all) (filter_map as_vol all) (filter_map as_dco all) (filter_map as_snap all)
 
-  snaps_are : c.snaps ≡ filter_map as_snap all
+  pub dcos_are : c.dcos ≡ filter_map as_dco all
+  dcos_are =
+      sym (dcos_below c.disks c.subdisks c.plexes c.volumes c.dcos c.snaps) ∙ ap (λ os. filter_map as_dco os) is ∙ behind_groups as_dco (λ g. refl) (filter_map as_group all) (sorted_below all)
+      ∙ dcos_below (filter_map as_disk all) (filter_map as_subdisk all) (filter_map as_plex all) (filter_map as_vol all) (filter_map as_dco all) (filter_map as_snap all)
+
+  pub snaps_are : c.snaps ≡ filter_map as_snap all
   snaps_are =
       sym (snaps_below c.disks c.subdisks c.plexes c.volumes c.dcos c.snaps) ∙ ap (λ os. filter_map as_snap os) is ∙ behind_groups as_snap (λ g. refl) (filter_map as_group all) (sorted_below all)
       ∙ snaps_below (filter_map as_disk all) (filter_map as_subdisk all) (filter_map as_plex all) (filter_map as_vol all) (filter_map as_dco all) (filter_map as_snap all)
 
   -- a volume that is among them is recorded
-  vol_is : (v : Vol) → IsIn all (VolRecord v) → IsVolOf c v
+  pub vol_is : (v : Vol) → IsIn all (VolRecord v) → IsVolOf c v
   vol_is v there = in_one (objects_of c) (VolRecord v) (records_vol c v (subst (λ vs. IsIn vs v) (sym volumes_are) (in_filter_map as_vol all (VolRecord v) v there refl)))
 
 -- the records of a configuration are sorted already, kind by kind
 module _ (c : Config) where
-  disks_own : filter_map as_disk (objects_of c) ≡ c.disks
+  pub disks_own : filter_map as_disk (objects_of c) ≡ c.disks
   disks_own = disks_below c.disks c.subdisks c.plexes c.volumes c.dcos c.snaps
 
-  subdisks_own : filter_map as_subdisk (objects_of c) ≡ c.subdisks
+  pub subdisks_own : filter_map as_subdisk (objects_of c) ≡ c.subdisks
   subdisks_own = subdisks_below c.disks c.subdisks c.plexes c.volumes c.dcos c.snaps
 
-  plexes_own : filter_map as_plex (objects_of c) ≡ c.plexes
+  pub plexes_own : filter_map as_plex (objects_of c) ≡ c.plexes
   plexes_own = plexes_below c.disks c.subdisks c.plexes c.volumes c.dcos c.snaps
 
-  volumes_own : filter_map as_vol (objects_of c) ≡ c.volumes
+  pub volumes_own : filter_map as_vol (objects_of c) ≡ c.volumes
   volumes_own = volumes_below c.disks c.subdisks c.plexes c.volumes c.dcos c.snaps
 
-  snaps_own : filter_map as_snap (objects_of c) ≡ c.snaps
+  pub dcos_own : filter_map as_dco (objects_of c) ≡ c.dcos
+  dcos_own = dcos_below c.disks c.subdisks c.plexes c.volumes c.dcos c.snaps
+
+  pub snaps_own : filter_map as_snap (objects_of c) ≡ c.snaps
   snaps_own = snaps_below c.disks c.subdisks c.plexes c.volumes c.dcos c.snaps
 
 -- ---- edits

@@ -94,7 +94,7 @@ unfolding change added
 removal_edited vol os = refl
 
 -- an attribute that names one volume names no other
-names_one : (attribute : Option Word) (a b : Word) → refers attribute a ≡ true → (a ≡ b → ⊥) → refers attribute b ≡ false
+pub names_one : (attribute : Option Word) (a b : Word) → refers attribute a ≡ true → (a ≡ b → ⊥) → refers attribute b ≡ false
 names_one None a b is other = refl
 names_one (Some n) a b is other = false_from_ne_true (bytes_eq n b) (λ h. other (sym (bytes_eq_same n a is) ∙ bytes_eq_same n b h))
 

@@ -8,3 +8,4 @@ pub mod NewNames
 pub mod Added
 pub mod Restated
 pub mod Commands
+pub mod OfVolume

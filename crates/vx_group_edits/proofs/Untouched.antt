@@ -24,7 +24,8 @@ use Rattle.vx_image.proofs.Members.{contains, is_in}
 use Rattle.vx_image.specs.UsedPlexes.{IsVolOf, is_used_log, is_used_state, used_logs}
 use Rattle.vx_lending.proofs.Bits.{kept}
 use Rattle.vx_lending.proofs.Distinct.{filtered}
-use Rattle.vx_volume_laws.specs.Keeping.{KeepsPlex, KeepsVolume, LiesStill, data_plexes}
+use Rattle.vx_volume_laws.proofs.Configurations.{active_used}
+use Rattle.vx_volume_laws.specs.Keeping.{KeepsLogPlex, KeepsPlex, KeepsVolume, LiesStill, data_plexes, log_plexes}
 use Rattle.vx_group_edits.specs.Stays.{AreFewer, StaysPlex, StaysRecorded}
 use Rattle.vx_group_edits.proofs.Columns.{columns_same, held_before, subdisks_of}
 use Rattle.vx_group_edits.proofs.Lists.{filter_narrow, found_in, zip_each}
@@ -119,6 +120,22 @@ module _ (c : Config) (v : Vol) (c' : Config) (good good' : ℕ) (fewer : AreFew
       let before = filtered (λ p. refers p.vol v.name) c.plexes q own in
       (q, contains (used_logs (Some d0) c good false v.name) q (kept (is_used_log c good false v.name) c.plexes q before.0 (and_from _ _ first.0 (and_from _ _ second.0 (held q own second.1)))), lies q own)
 
+  log_narrow : (p : Plex) → is_log_plex_of v.name p ≡ true → refers p.vol v.name ≡ true
+  log_narrow p h = (and_parts (refers p.vol v.name) (is_log p.kind) h).0
+
+  logs_same : log_plexes c' is.now.name ≡ log_plexes c v.name
+  logs_same =
+      ap (λ n. log_plexes c' n) is.name
+      ∙ filter_narrow (is_log_plex_of v.name) (λ p. refers p.vol v.name) log_narrow c'.plexes
+      ∙ ap (λ ps. filter (is_log_plex_of v.name) ps) is.plexes
+      ∙ sym (filter_narrow (is_log_plex_of v.name) (λ p. refers p.vol v.name) log_narrow c.plexes)
+
+  log_plex_kept : (p : Plex) → IsIn (log_plexes c v.name) p → KeepsLogPlex c false c' p p
+  log_plex_kept p there =
+      let one = filtered (is_log_plex_of v.name) c.plexes p there in
+      let own = kept (λ p. refers p.vol v.name) c.plexes p one.0 (log_narrow p one.1) in
+      record { name = refl; lies = lies p own; used = active_used p.state }
+
   keeps : KeepsVolume c good v false c' good' is.now
   keeps = record {
     length_is = is.length_is;
@@ -126,6 +143,7 @@ module _ (c : Config) (v : Vol) (c' : Config) (good good' : ℕ) (fewer : AreFew
     dco = is.dco;
     plexes = subst (λ ps. AllZip (KeepsPlex c good c' good') (data_plexes c v.name) ps) (sym data_same) (zip_each (KeepsPlex c good c' good') (data_plexes c v.name) plex_kept);
     logs = λ q one. log_kept is.now.dco v.dco is.now.name is.dco is.name q (is_in (used_logs is.now.dco c' good' false is.now.name) q one);
+    log_plexes_are = subst (λ ps. AllZip (KeepsLogPlex c false c') (log_plexes c v.name) ps) (sym logs_same) (zip_each (KeepsLogPlex c false c') (log_plexes c v.name) log_plex_kept);
     relations = ap (λ n. relation_maps c'.snaps n) is.name ∙ ap (λ ss. relation_maps ss v.name) is.snaps;
   }
 

@@ -7,6 +7,7 @@ use Rattle.vx_config_parts.specs.declared.state.VolState.{VolState}
 use Rattle.vx_config_parts.specs.declared.vol.PolicyName.{PolicyName}
 use Rattle.vx_config_parts.specs.declared.vol.Vol.{Vol}
 use Rattle.vx_objects.specs.declared.config.Config.{Config}
+use Rattle.vx_objects.specs.declared.edit.Edit.{Edit}
 use Rattle.vx_objects.specs.declared.edit.Edit.TheVariants.{AddDisk, Make, SetVol, RemoveVol}
 use Rattle.vx_objects.specs.Applied.{IsEdited}
 use Rattle.vx_objects.specs.Config.{objects_of}
@@ -19,6 +20,7 @@ use Rattle.vx_stages.specs.Stages.{edits_of}
 use Rattle.vx_stages.specs.declared.stage.Change.{Change}
 use Rattle.vx_stages.specs.declared.stage.Change.TheVariants as changes
 use Rattle.vx_stages.specs.declared.stage.Source.{Source}
+use Rattle.vx_group_edits.specs.OfVolume.{AreOf, AreEditsOf}
 use Rattle.vx_group_edits.specs.Stays.{EachStays}
 
 -- Another policy of a volume keeps every volume, and the volume itself where it has the state that the edit gives it.
@@ -62,3 +64,11 @@ EachStopKeeps = (c c' : Config) (u : Vol) (marks : ℕ) → IsVolOf c u → IsEd
 -- A configuration that is written as it is keeps every volume.
 abbrev pub EachRewritingKeeps : Type 0
 EachRewritingKeeps = (c c' : Config) → IsEdited [] c c' → EachStays (λ v. Unit {0}) c c'
+
+-- Plexes of a volume that are added with their subdisks keep every other volume: so those of a mirror, ..
+abbrev pub EachPlexKeepsOthers : Type 0
+EachPlexKeepsOthers = (c c' : Config) (vol : Word) (added : List Object) → AreOf vol added → IsEdited (Make added ∷ []) c c' → EachStays (λ v. v.name ≢ vol) c c'
+
+-- .. and so do, one after the other, all edits that are of one volume alone: so those that prepare it.
+abbrev pub EachOwnEditKeepsOthers : Type 0
+EachOwnEditKeepsOthers = (c c' : Config) (vol : Word) (edits : List Edit) → AreEditsOf c vol edits → IsEdited edits c c' → EachStays (λ v. v.name ≢ vol) c c'

@@ -1,2 +1,3 @@
+pub mod OfVolume
 pub mod Stays
 pub mod Laws

@@ -1,7 +1,7 @@
 //! The edits of a commit keep each volume that they do not name: laws, as functions that do nothing and promise them.
 #![tactic(auto)]
 
-ghost use Rattle.vx_group_edits.specs.Laws.{EachChangeKeeps, EachJoiningKeeps, EachMakingKeeps, EachPolicyKeeps, EachRemovalKeeps, EachRewritingKeeps, EachStartKeeps, EachStopKeeps};
+ghost use Rattle.vx_group_edits.specs.Laws.{EachChangeKeeps, EachJoiningKeeps, EachMakingKeeps, EachOwnEditKeepsOthers, EachPlexKeepsOthers, EachPolicyKeeps, EachRemovalKeeps, EachRewritingKeeps, EachStartKeeps, EachStopKeeps};
 
 use vx_state_edits::laws::each_change_restates;
 
@@ -41,4 +41,14 @@ pub fn each_record_keeps()
 /// A configuration that is written as it is keeps every volume.
 pub fn each_rewriting_keeps()
     ensures { EachRewritingKeeps }
+{}
+
+/// Plexes of a volume that are added with their subdisks keep every other volume.
+pub fn each_plex_keeps_others()
+    ensures { EachPlexKeepsOthers }
+{}
+
+/// So do all edits that are of one volume alone.
+pub fn each_own_edit_keeps_others()
+    ensures { EachOwnEditKeepsOthers }
 {}

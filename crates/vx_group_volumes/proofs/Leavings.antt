@@ -1,5 +1,6 @@
 -- A volume that runs, and is left.
-use Rattle.std.proofs.Common.{ℕ, List, false}
+use Rattle.std.proofs.Common.{◌∙◌, ℕ, List, false, sym, ap}
+use Rattle.std.specs.Prelude.{is_some}
 use Rattle.std.specs.List.{All}
 use Rattle.vx_base.specs.Blocks.{Contents}
 use Rattle.vx_piece.specs.Seen.{Seen}
@@ -36,6 +37,7 @@ module _ {P : Type 0} {ghosts : Ghosts P} (see : P → Seen) (running : Running 
     keeps = keeping_goes_on runs.opening.config runs.opening.good runs.opening.vol runs.opening.fresh c good v c' good' v' runs.keeps (restated_kept c good v false c' good' v' changes);
     whole = runs.whole;
     shape = runs.shape;
+    logged = runs.logged ∙ ap is_some (sym (ap (λ (x : Vol). x.dco) changes.vol));
     lies = runs.lies;
     cut = runs.cut;
   }

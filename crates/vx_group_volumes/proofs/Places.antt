@@ -1,5 +1,10 @@
 -- What keeps where the plexes of a volume lie, and volumes that run in their places.
-use Rattle.std.proofs.Common.{◌≡◌, ℕ, false, List, refl, ap, ◌∙◌}
+use Rattle.std.proofs.Common.{◌≡◌, ℕ, false, List, refl, sym, ap, ◌∙◌, subst}
+use Rattle.std.specs.Prelude.{Contains}
+use Rattle.std.specs.List.{flat_map}
+use Rattle.vx_base.specs.Named.{Word}
+use Rattle.vx_layout.specs.declared.place.Place.{Place}
+use Rattle.vx_image.specs.Own.{IsOfVolume}
 use Rattle.vx_pages.specs.declared.local_piece.LocalPiece.{Ghosts}
 use Rattle.vx_config_parts.specs.declared.plex.Plex.{Plex}
 use Rattle.vx_config_parts.specs.declared.vol.Vol.{Vol}
@@ -20,7 +25,7 @@ use Rattle.vx_group_start.specs.Fresh.{is_fresh}
 use Rattle.vx_group_start.specs.Started.{IsStarted}
 use Rattle.vx_group_volumes.proofs.Leavings.{recorded_runs}
 use Rattle.vx_group_volumes.proofs.Starts.{started_runs}
-use Rattle.vx_group_volumes.specs.Places.{RunsInPlace}
+use Rattle.vx_group_volumes.specs.Places.{KeepsPlaces, RunsInPlace}
 use Rattle.vx_group_volumes.specs.SectorLaws.{PlacesGoOn, PlacesStay, RestatedKeepPlaces}
 
 pub places_stay : PlacesStay
@@ -31,6 +36,12 @@ places_go_on c0 vol0 c vol c' vol' keeps more p there own =
     let q = keeps p there own in
     let r = more q.plex q.there q.own in
     record { plex = r.plex; there = r.there; own = r.own; name = r.name ∙ q.name; lies = record { unit = r.lies.unit ∙ q.lies.unit; columns = r.lies.columns ∙ q.lies.columns } }
+
+-- a sector of the volume is one in a configuration that keeps where its plexes lie
+pub place_stays : (c0 : Config) (vol0 : Word) (c : Config) (vol : Word) → KeepsPlaces c0 vol0 c vol → (place : Place) → IsOfVolume c0 vol0 place → IsOfVolume c vol place
+place_stays c0 vol0 c vol keeps place (p, there, own, (strip, on, here)) =
+    let q = keeps p there own in
+    (q.plex, q.there, q.own, (strip, subst (λ columns. Contains (flat_map (λ strips. strips) columns) strip) (sym q.lies.columns) on, here))
 
 pub restated_keep : RestatedKeepPlaces
 restated_keep c0 good0 v0 fresh c good v changes p there own =
@@ -57,6 +68,7 @@ module _ {P : Type 0} {ghosts : Ghosts P} (running : Running P ghosts) where
     runs = started_runs c good v numbers old new running of form_is started c' good' v' of' filled changes;
     places = restated_keep c good v (is_fresh v.state) c' good' v' changes;
     numbered = numbered;
+    were_good = λ at own now. changes.failed at.disk now;
   }
 
   pub in_place_recorded : (c : Config) (good : ℕ) (numbers : List ℕ) (v : Vol) → RunsInPlace ghosts.seen c good numbers v running →
@@ -66,4 +78,5 @@ module _ {P : Type 0} {ghosts : Ghosts P} (running : Running P ghosts) where
     runs = recorded_runs ghosts.seen running c good numbers v place.runs c' good' v' of' filled changes;
     places = places_go_on place.runs.opening.config place.runs.opening.vol.name c v.name c' v'.name place.places (restated_keep c good v false c' good' v' changes);
     numbered = place.numbered;
+    were_good = λ at own now. place.were_good at own (changes.failed at.disk now);
   }

@@ -22,6 +22,7 @@ use Rattle.vx_states.specs.Table.{plex_started, plex_stopped}
 use Rattle.vx_state_edits.specs.Edits.{is_new, log_started, started, started_as, stopped, stopped_as}
 use Rattle.vx_state_edits.specs.Laws.{EachRestatedVolumeIsRecorded, EachStartRestates, EachStopRestates, IsAmong, IsPlexAfter, Restates}
 use Rattle.vx_image.specs.UsedPlexes.{is_used_state}
+use Rattle.vx_volume_laws.proofs.Configurations.{active_used}
 use Rattle.vx_volume_laws.specs.Keeping.{ChangesStates, IsRestated}
 use Rattle.vx_group_start.specs.Fresh.{is_fresh}
 use Rattle.vx_group_volumes.specs.Laws.{EachStartChangesStates, EachStopChangesStates}
@@ -57,46 +58,47 @@ stop_available true plex.Active = refl
 stop_available false plex.Active = refl
 stop_available marked other = refl
 
-log_used : (first : Bool) (s : PlexState) → is_active (log_started first s) ≡ true → is_used_state first s ≡ true
-log_used true plex.Empty active = refl
-log_used false plex.Empty active = absurd (false≢true active)
-log_used first plex.Active active = refl
-log_used first other active = absurd (false≢true active)
-
-log_stays_used : (s : PlexState) → is_active s ≡ true → is_used_state false s ≡ true
-log_stays_used plex.Active active = refl
-log_stays_used other active = absurd (false≢true active)
+log_used : (first : Bool) (s : PlexState) → is_active (log_started first s) ≡ is_used_state first s
+log_used true plex.Empty = refl
+log_used false plex.Empty = refl
+log_used first plex.Clean = refl
+log_used first plex.Active = refl
+log_used first plex.IoFail = refl
+log_used first plex.Stale = refl
+log_used first plex.SnapAtt = refl
+log_used first plex.SnapDone = refl
+log_used first plex.DcoSnp = refl
 
 started_available : (first : Bool) (k : PlexKind) (s : PlexState) → is_data k ≡ true → is_available_state (started_as first k s) ≡ is_available_state s
 started_available first Data s kind = start_available s
 started_available first Log s kind = absurd (false≢true kind)
 
-started_used : (first : Bool) (k : PlexKind) (s : PlexState) → is_log k ≡ true → is_active (started_as first k s) ≡ true → is_used_state first s ≡ true
-started_used first Data s log active = absurd (false≢true log)
-started_used first Log s log active = log_used first s active
+started_used : (first : Bool) (k : PlexKind) (s : PlexState) → is_log k ≡ true → is_active (started_as first k s) ≡ is_used_state first s
+started_used first Data s log = absurd (false≢true log)
+started_used first Log s log = log_used first s
 
 stopped_available : (k : PlexKind) (marked : Bool) (s : PlexState) → is_data k ≡ true → is_available_state (stopped_as k marked s) ≡ is_available_state s
 stopped_available Data marked s kind = stop_available marked s
 stopped_available Log marked s kind = absurd (false≢true kind)
 
-stopped_used : (k : PlexKind) (marked : Bool) (s : PlexState) → is_log k ≡ true → is_active (stopped_as k marked s) ≡ true → is_used_state false s ≡ true
-stopped_used Data marked s log active = absurd (false≢true log)
-stopped_used Log marked s log active = log_stays_used s active
+stopped_used : (k : PlexKind) (marked : Bool) (s : PlexState) → is_log k ≡ true → is_active (stopped_as k marked s) ≡ is_used_state false s
+stopped_used Data marked s log = absurd (false≢true log)
+stopped_used Log marked s log = active_used s
 
 -- ---- the configuration
 
 module _ (c : Config) (v : Vol) (next : VolState) (after : Plex → PlexState) (c' : Config) (fresh : Bool) (good : ℕ) (changes : Restates v.name next after c c')
     (available : (p : Plex) → is_data p.kind ≡ true → is_available_state (after p) ≡ is_available_state p.state)
-    (used : (p : Plex) → is_log p.kind ≡ true → is_active (after p) ≡ true → is_used_state fresh p.state ≡ true) where
+    (used : (p : Plex) → is_log p.kind ≡ true → is_active (after p) ≡ is_used_state fresh p.state) where
   restated : (p q : Plex) → IsPlexAfter v.name after p q → IsRestated v.name fresh p q
   restated p q is = record {
     same = is.same;
     available = λ kind.
         let both = and_parts (refers p.vol v.name) (is_data p.kind) kind in
         ap is_available_state (is.own both.0) ∙ available p both.1;
-    active = λ log active.
+    active = λ log.
         let both = and_parts (refers p.vol v.name) (is_log p.kind) log in
-        used p both.1 (ap is_active (sym (is.own both.0)) ∙ active);
+        ap is_active (is.own both.0) ∙ used p both.1;
   }
 
   pub changes_states : ChangesStates c good v fresh c' good (record v { state = next })

@@ -1,5 +1,5 @@
 -- A volume that was started.
-use Rattle.std.proofs.Common.{◌≡◌, ◌∙◌, ℕ, zero, suc, ◌+◌, ◌*◌, ◌/◌, ◌<◌, ◌≤◌, Bool, true, false, List, [], Option, Some, None, refl, sym, ap, subst, arith}
+use Rattle.std.proofs.Common.{◌≡◌, ◌∙◌, ℕ, zero, suc, ◌+◌, ◌*◌, ◌/◌, ◌<◌, ◌≤◌, Bool, true, false, List, [], length, Option, Some, None, refl, sym, ap, subst, arith}
 use Rattle.std.specs.Prelude.{◌&&◌, nat_lt, is_some, Contains}
 use Rattle.std.specs.List.{All}
 use Rattle.std.proofs.lemmas.Bool.{and_parts, false≢true, ltb-true}
@@ -115,6 +115,12 @@ module _ {P : Type 0} {ghosts : Ghosts P} (c : Config) (good : ℕ) (v : Vol) (n
     opened = started.opened;
   }
 
+  -- it has a log just where it has a DCO
+  pub has_log : nat_lt 0 (length running.form.logs.items) ≡ is_some v.dco
+  has_log =
+      let l = lies_opened numbers running.form started.regions started.log.copies running.volume opened_on in
+      ap (λ n. nat_lt 0 n) (sym l.lies.logs.long) ∙ sym l.lies.log.there ∙ started.log.fits.there
+
   unfoldable pub started_runs : (c' : Config) (good' : ℕ) (v' : Vol) → IsVolOf c' v' → IsFilled v'.state → ChangesStates c good v (is_fresh v.state) c' good' v' → RunsIn ghosts.seen c' good' numbers v' running
   started_runs c' good' v' of' filled changes = record {
     recorded = of';
@@ -125,6 +131,7 @@ module _ {P : Type 0} {ghosts : Ghosts P} (c : Config) (good : ℕ) (v : Vol) (n
     keeps = restated_kept c good v (is_fresh v.state) c' good' v' changes;
     whole = started.whole;
     shape = started.shape;
+    logged = has_log ∙ ap is_some (sym (ap (λ (x : Vol). x.dco) changes.vol));
     lies = lies_opened numbers running.form started.regions started.log.copies running.volume opened_on;
     cut = opened_alive running.form.shape _ started.regions _ started.opened;
   }

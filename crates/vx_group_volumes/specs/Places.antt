@@ -2,6 +2,8 @@
 use Rattle.std.specs.Prelude.{◌≡◌, ℕ, ◌+◌, true, List, Contains, slice_index}
 use Rattle.vx_base.specs.Named.{Word}
 use Rattle.vx_piece.specs.Seen.{Seen}
+use Rattle.vx_mask.specs.Mask.{has}
+use Rattle.vx_layout.specs.declared.place.Place.{Place}
 use Rattle.vx_pages.specs.declared.local_piece.LocalPiece.{Ghosts}
 use Rattle.vx_config_parts.specs.declared.disk.Disk.{Disk}
 use Rattle.vx_config_parts.specs.declared.plex.Plex.{Plex}
@@ -47,8 +49,10 @@ pub record IsKeptPlex (c0 c : Config) (vol : Word) (p : Plex) : Type 0 where
 abbrev pub KeepsPlaces : Config → Word → Config → Word → Type 0
 KeepsPlaces c0 vol0 c vol = (p : Plex) → Contains c0.plexes p → refers p.vol vol0 ≡ true → IsKeptPlex c0 c vol p
 
--- A volume of the configuration runs, its plexes lie where they lay as it was opened, and the disks that were good then have numbers.
+-- A volume of the configuration runs, its plexes lie where they lay as it was opened, and the disks that were good then have numbers. Of
+-- its sectors then, those whose disk is good now had a good one.
 pub record RunsInPlace {P : Type 0} {ghosts : Ghosts P} (see : P → Seen) (config : Config) (good : ℕ) (numbers : List ℕ) (vol : Vol) (running : Running P ghosts) : Type 0 where
   pub runs : RunsIn see config good numbers vol running
   pub places : KeepsPlaces runs.opening.config runs.opening.vol.name config vol.name
   pub numbered : AreNumbered numbers runs.opening.good runs.opening.config.disks
+  pub were_good : (place : Place) → IsOfVolume runs.opening.config runs.opening.vol.name place → has good place.disk ≡ true → has runs.opening.good place.disk ≡ true

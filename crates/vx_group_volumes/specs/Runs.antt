@@ -1,5 +1,5 @@
 -- The running volumes of an imported group.
-use Rattle.std.specs.Prelude.{◌≡◌, ℕ, Bool, List}
+use Rattle.std.specs.Prelude.{◌≡◌, ℕ, nat_lt, is_some, Bool, List, length}
 use Rattle.vx_piece.specs.Seen.{Seen}
 use Rattle.vx_pages.specs.declared.local_piece.LocalPiece.{Ghosts}
 use Rattle.vx_config_parts.specs.declared.vol.Vol.{Vol}
@@ -20,8 +20,8 @@ pub record Opening : Type 0 where
   pub vol : Vol
   pub fresh : Bool
 
--- A volume of the configuration runs: it lies where the form says that it was opened with, the configuration keeps it since then, and
--- a region of it is dead only where it is cut.
+-- A volume of the configuration runs: it lies where the form says that it was opened with, the configuration keeps it since then, it has
+-- a log just where it has a DCO, and a region of it is dead only where it is cut.
 pub record RunsIn {P : Type 0} {ghosts : Ghosts P} (see : P → Seen) (config : Config) (good : ℕ) (numbers : List ℕ) (vol : Vol) (running : Running P ghosts) : Type 0 where
   pub recorded : IsVolOf config vol
   pub filled : IsFilled vol.state
@@ -31,5 +31,6 @@ pub record RunsIn {P : Type 0} {ghosts : Ghosts P} (see : P → Seen) (config : 
   pub keeps : KeepsVolume opening.config opening.good opening.vol opening.fresh config good vol
   pub whole : IsVolume (volume_seen see running.volume)
   pub shape : shape_of running.volume ≡ running.form.shape
+  pub logged : nat_lt 0 (length running.form.logs.items) ≡ is_some vol.dco
   pub lies : LiesIn see numbers running.form running.volume
   pub cut : AreCutWhereDead (volume_seen see running.volume)

@@ -1,5 +1,6 @@
 -- A group of which one running volume was called: its disks go on, and it is kept as before.
 use Rattle.std.proofs.Common.{◌≡◌, ◌∙◌, ℕ, true, false, List, [], ◌∷◌, ◌++◌, Option, Some, None, refl, sym, ap, subst}
+use Rattle.std.specs.Prelude.{nat_lt, length}
 use Rattle.std.specs.BTreeMap.{BTreeMap, is_at}
 use Rattle.std.specs.Cmp.Lexicographic.{slice_cmp}
 use Rattle.std.specs.List.{All, flat_map, list_any}
@@ -171,11 +172,13 @@ module _ {P : Type 0} {ghosts : Ghosts P} (see : P → Seen) (name : Word) (g : 
           keeps = placed.runs.keeps;
           whole = is.whole;
           shape = is.shape ∙ placed.runs.shape ∙ ap (λ f. f.shape) (sym is.form);
+          logged = ap (λ f. nat_lt 0 (length f.logs.items)) is.form ∙ placed.runs.logged;
           lies = is.lies numbers placed.runs.lies;
           cut = is.dead placed.runs.cut;
         };
         places = placed.places;
         numbered = placed.numbered;
+        were_good = placed.were_good;
       }
 
   place_now : (c : Config) (good : ℕ) (x : Word) → IsInPlace see hs c good x is.before → IsInPlace see hs c good x is.after

@@ -44,7 +44,8 @@ use Rattle.vx_sound.proofs.Lists.{any_imp}
 use Rattle.vx_sound.proofs.Imports.{candidate_headed, newest_taken, slot_in_mask, taken_from}
 use Rattle.vx_sound_volumes.specs.Volumes.{AreSoundOn}
 use Rattle.vx_sound_volumes.proofs.Commits.{all_each}
-use Rattle.vx_sound_volumes.proofs.Images.{kept_sound, used_active}
+use Rattle.vx_sound_volumes.proofs.Images.{kept_sound}
+use Rattle.vx_volume_laws.proofs.Configurations.{active_used}
 use Rattle.vx_sound_imports.specs.Offered.{HasSoundOffer, IsElsewhere, IsReadAs, IsWholeGroup}
 use Rattle.vx_sound_imports.proofs.Commits.{AreWritten, IsNextSound}
 use Rattle.vx_sound_imports.proofs.Leading.{carrier, newest_is}
@@ -108,7 +109,7 @@ has_parts c next is =
 
 same_plexes : (name : Word) (ps : List Plex) → AllZip (IsRestated name false) ps ps
 same_plexes name [] = tt
-same_plexes name (p ∷ ps) = (record { same = refl; available = λ is. refl; active = λ is active. used_active p.state active }, same_plexes name ps)
+same_plexes name (p ∷ ps) = (record { same = refl; available = λ is. refl; active = λ is. active_used p.state }, same_plexes name ps)
 
 -- ---- its volumes
 
@@ -156,7 +157,7 @@ module _ (x : Writing) (devices : Word → Option Device) (next_is : objects_of 
     keeps : KeepsVolume c x.group.good u false x.config good u
     keeps =
         let k = restated_kept c x.group.good u false x.config good (synced u) changes in
-        record { length_is = k.length_is; region_is = k.region_is; dco = k.dco; plexes = k.plexes; logs = k.logs; relations = k.relations }
+        record { length_is = k.length_is; region_is = k.region_is; dco = k.dco; plexes = k.plexes; logs = k.logs; log_plexes_are = k.log_plexes_are; relations = k.relations }
 
     synced_sound : is_new u.state ≡ false → AreSoundOn devices x.group → IsIn c.volumes u → IsSoundImage (image_of x.config good (sectors_of devices x.group.members) (synced u))
     synced_sound started sound there =

@@ -1,6 +1,6 @@
 -- Running volumes of a group through a commit: they run by the configuration that was written, on the same disks.
 use Rattle.std.proofs.Common.{◌≡◌, ◌∙◌, ℕ, Bool, true, false, cond, List, [], ◌∷◌, ◌++◌, Option, Some, None, refl, sym, ap, subst, inl, inr}
-use Rattle.std.specs.Prelude.{Contains, IsSome}
+use Rattle.std.specs.Prelude.{Contains, IsSome, is_some}
 use Rattle.std.proofs.lemmas.Bool.{and_parts}
 use Rattle.std.specs.BTreeMap.{is_at}
 use Rattle.std.specs.Cmp.Lexicographic.{slice_cmp}
@@ -32,7 +32,7 @@ use Rattle.vx_moments.specs.Leaving.{grouped}
 use Rattle.vx_lending.specs.Public.{running_at}
 use Rattle.vx_moments.specs.Owners.{device_at}
 use Rattle.vx_group_volumes.specs.Places.{KeepsPlaces, RunsInPlace}
-use Rattle.vx_group_volumes.proofs.Places.{places_go_on}
+use Rattle.vx_group_volumes.proofs.Places.{place_stays, places_go_on}
 use Rattle.vx_house.specs.Runs.{AllInPlace, AreInPlace, AreRuns, IsAtRun, IsInPlace, IsOnDisk, IsRunOf, IsNumbered}
 use Rattle.vx_house.specs.declared.house.Imported.{Imported}
 use Rattle.vx_house.proofs.Logs.{IsLogPlexStill, spared_before}
@@ -65,6 +65,7 @@ module _ {P : Type 0} {ghosts : Ghosts P} (see : P → Seen) (c : Config) (good 
     keeps = keeping_goes_on placed.runs.opening.config placed.runs.opening.good placed.runs.opening.vol placed.runs.opening.fresh c good of c' good' stays.now placed.runs.keeps stays.keeps;
     whole = placed.runs.whole;
     shape = placed.runs.shape;
+    logged = placed.runs.logged ∙ ap is_some (sym stays.keeps.dco);
     lies = placed.runs.lies;
     cut = placed.runs.cut;
   }
@@ -80,6 +81,7 @@ module _ {P : Type 0} {ghosts : Ghosts P} (see : P → Seen) (c : Config) (good 
     runs = runs_now;
     places = places_go_on placed.runs.opening.config placed.runs.opening.vol.name c of.name c' stays.now.name placed.places plexes_kept;
     numbered = placed.numbered;
+    were_good = λ place own now. placed.were_good place own (stays.were_good place (place_stays placed.runs.opening.config placed.runs.opening.vol.name c of.name placed.places place own) now);
   }
 
 -- ---- in the house

@@ -217,9 +217,10 @@ module _ {P : Type 0} {ghosts : Ghosts P} (laws : HaveLifeLaws) (g : Group) (v :
 
     abbrev pub placed : RunsInPlace see c' good' numbers v' running
     placed = record {
-      runs = record { recorded = of'; filled = tt; opening = opened_by; of = of; form = form; keeps = keeps; whole = started.whole; shape = started.shape; lies = runs0.lies; cut = runs0.cut };
+      runs = record { recorded = of'; filled = tt; opening = opened_by; of = of; form = form; keeps = keeps; whole = started.whole; shape = started.shape; logged = runs0.logged; lies = runs0.lies; cut = runs0.cut };
       places = restated_keep g.config g.good v (is_fresh v.state) c' good' v' changes;
       numbered = numbered;
+      were_good = λ place lies now. changes.failed place.disk now;
     }
 
     opened_slot : (slot : ℕ) → IsSlotOf (good_disks g.good g.config.disks) slot → IsAtSlot numbers hs' members' slot
@@ -259,7 +260,7 @@ module _ {P : Type 0} {ghosts : Ghosts P} (laws : HaveLifeLaws) (g : Group) (v :
         region_is = by_region v.state names (image_of g.config g.good bytes v);
         plexes = (image_of g.config g.good bytes v).plexes;
         plexes_of = λ other. kept_named g.config g.good v (is_fresh v.state) c' good' v' keeps bytes other;
-        plexes_then = λ other. kept_named g.config g.good v (is_fresh v.state) g.config g.good v (volume_kept g.config g.good v (is_fresh v.state)) other bytes;
+        plexes_then = λ other. kept_named g.config g.good v false g.config g.good v (volume_kept g.config g.good v) other bytes;
         runs_as = λ sound. (begun.runs sound).0;
         sure = λ sound. (begun.runs sound).1;
         exact = λ sound spared. (begun.runs sound).2;

@@ -10,7 +10,7 @@ use vx_objects::Disk as Record;
 const PRIVATE_SECTORS: u64 = 2048;
 
 /// Whether each record of a good slot is that of a disk, which has room for its public region.
-pub(crate) fn have_disks<P>(disks: &[Disk<P>], good: u32, records: &[Record]) -> bool
+pub fn have_disks<P>(disks: &[Disk<P>], good: u32, records: &[Record]) -> bool
     ensures { result ≡ have_disks disks.now good records.now }
 {
     records.iter().all(|entry| !contains(good as u64, entry.slot as u32) || has_disk(disks, entry))

@@ -14,5 +14,9 @@ mod resting;
 mod starting;
 mod stopping;
 
+pub use disks::have_disks;
+pub use numbering::numbers_of;
+pub use opening::prepare;
+pub use resting::told;
 pub use starting::start;
 pub use stopping::stop;

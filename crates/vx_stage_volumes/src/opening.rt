@@ -20,10 +20,7 @@ use vx_objects::Vol;
 use vx_piece::Piece;
 
 /// Makes the group ready for a volume to be opened. While pieces of a volume could not be put back memory is wanting.
-pub(crate) fn prepare<P: Piece + Drop>(
-    alloc: Global,
-    group: &mut Imported<P>,
-) -> Result<(), OutOfMemory>
+pub fn prepare<P: Piece + Drop>(alloc: Global, group: &mut Imported<P>) -> Result<(), OutOfMemory>
     requires kept { IsGroupKept P.seen group.old }
     requires alike { (p q : P) → is_some (P.seen p).told ≡ is_some (P.seen q).told }
     ensures parts { PartsGroup P.seen group.old group.new }

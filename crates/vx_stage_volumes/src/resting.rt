@@ -34,7 +34,7 @@ pub(crate) fn rest<P: Piece + Drop>(
 }
 
 /// How the command ends, with the names of the device that failed and of the disk on it.
-pub(crate) fn told<P: Piece>(alloc: Global, disks: &[Disk<P>], fault: IoFault) -> Stop
+pub fn told<P: Piece>(alloc: Global, disks: &[Disk<P>], fault: IoFault) -> Stop
     requires { HasFaultDisk P.seen disks.now fault }
     ensures { IsFaultTold P.seen disks.now fault result }
 {

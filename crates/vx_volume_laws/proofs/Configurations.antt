@@ -11,13 +11,13 @@ use Rattle.vx_config_parts.specs.Objects.{is_data_plex_of, is_log_plex_of}
 use Rattle.vx_objects.specs.declared.config.Config.{Config}
 use Rattle.vx_image.proofs.PlexMembers.{IsIn}
 use Rattle.vx_image.specs.Image.{PlexImage}
-use Rattle.vx_image.specs.Bytes.{is_held, plex_image}
+use Rattle.vx_image.specs.Bytes.{is_active, is_held, plex_image}
 use Rattle.vx_image.proofs.Members.{contains, is_in}
 use Rattle.vx_image.specs.UsedPlexes.{is_used_log, is_used_state, used_logs}
 use Rattle.vx_lending.proofs.Bits.{kept}
 use Rattle.vx_lending.proofs.Distinct.{filtered}
 use Rattle.vx_volume_laws.proofs.Held.{in_image, of_image}
-use Rattle.vx_volume_laws.specs.Keeping.{EachKeepingGoesOn, EachKeptVolumeIsNamed, EachVolumeKeepsItself, KeepsPlex, LiesStill, data_plexes}
+use Rattle.vx_volume_laws.specs.Keeping.{EachKeepingGoesOn, EachKeptVolumeIsNamed, EachVolumeKeepsItself, KeepsLogPlex, KeepsPlex, LiesStill, data_plexes, log_plexes}
 use Rattle.vx_volume_laws.proofs.Plexes.{zip_right}
 
 zip_same : {A : Type 0} (R : A → A → Type 0) → ((x : A) → R x x) → (xs : List A) → AllZip R xs xs
@@ -38,33 +38,26 @@ lies_same c p = record { unit = refl; columns = refl }
 lies_then : (c0 c c' : Config) (p q q' : Plex) → LiesStill c0 c p q → LiesStill c c' q q' → LiesStill c0 c' p q'
 lies_then c0 c c' p q q' a b = record { unit = b.unit ∙ a.unit; columns = b.columns ∙ a.columns }
 
--- a log plex that is active is used in any start
-used_any : (fresh : Bool) (s : PlexState) → is_used_state false s ≡ true → is_used_state fresh s ≡ true
-used_any fresh plex.Empty h = absurd (false≢true h)
-used_any fresh plex.Clean h = h
-used_any fresh plex.Active h = refl
-used_any fresh plex.IoFail h = h
-used_any fresh plex.Stale h = h
-used_any fresh plex.SnapAtt h = h
-used_any fresh plex.SnapDone h = h
-used_any fresh plex.DcoSnp h = h
-
-log_used : (c : Config) (good : ℕ) (vol : Word) (fresh : Bool) (dco : Option Word) (q : Plex) → IsIn (used_logs dco c good false vol) q → IsIn (used_logs dco c good fresh vol) q
-log_used c good vol fresh None q there = there
-log_used c good vol fresh (Some d) q there =
-    let w = filtered (is_used_log c good false vol) c.plexes q there in
-    let first = and_parts (is_log_plex_of vol q) (is_used_state false q.state && is_held c good q) w.1 in
-    let second = and_parts (is_used_state false q.state) (is_held c good q) first.1 in
-    kept (is_used_log c good fresh vol) c.plexes q w.0 (and_from _ _ first.0 (and_from _ _ (used_any fresh q.state second.0) second.1))
+-- a log plex that stays as it is counts just where it is active
+pub active_used : (s : PlexState) → is_active s ≡ is_used_state false s
+active_used plex.Empty = refl
+active_used plex.Clean = refl
+active_used plex.Active = refl
+active_used plex.IoFail = refl
+active_used plex.Stale = refl
+active_used plex.SnapAtt = refl
+active_used plex.SnapDone = refl
+active_used plex.DcoSnp = refl
 
 pub volume_kept : EachVolumeKeepsItself
-volume_kept c good v fresh =
+volume_kept c good v =
     record {
       length_is = refl;
       region_is = refl;
       dco = refl;
       plexes = zip_same (KeepsPlex c good c good) (λ p. record { name = refl; map = refl; lies = lies_same c p; available = refl; held = λ h. h }) (data_plexes c v.name);
-      logs = λ q one. (q, contains (used_logs v.dco c good fresh v.name) q (log_used c good v.name fresh v.dco q (is_in (used_logs v.dco c good false v.name) q one)), lies_same c q);
+      logs = λ q one. (q, one, lies_same c q);
+      log_plexes_are = zip_same (KeepsLogPlex c false c) (λ p. record { name = refl; lies = lies_same c p; used = active_used p.state }) (log_plexes c v.name);
       relations = refl;
     }
 
@@ -81,6 +74,8 @@ keeping_goes_on c0 good0 v0 fresh c good v c' good' v' a b =
           let q = b.logs q' one in
           let p = a.logs q.0 q.1 in
           (p.0, p.1, lies_then c0 c c' p.0 q.0 q' p.2 q.2);
+      log_plexes_are = zip_then (KeepsLogPlex c0 fresh c) (KeepsLogPlex c false c') (KeepsLogPlex c0 fresh c')
+          (λ p q q' x y. record { name = y.name ∙ x.name; lies = lies_then c0 c c' p q q' x.lies y.lies; used = y.used ∙ sym (active_used q.state) ∙ x.used }) (log_plexes c0 v0.name) (log_plexes c v.name) (log_plexes c' v'.name) a.log_plexes_are b.log_plexes_are;
       relations = b.relations ∙ a.relations;
     }
 

@@ -22,7 +22,7 @@ use Rattle.vx_image.proofs.Members.{contains, is_in}
 use Rattle.vx_image.specs.UsedPlexes.{is_used_log, is_used_state, used_logs}
 use Rattle.vx_lending.proofs.Bits.{kept}
 use Rattle.vx_lending.proofs.Distinct.{filtered}
-use Rattle.vx_volume_laws.specs.Keeping.{ChangesStates, EachRestatedVolumeIsKept, IsRestated, KeepsPlex, LiesStill}
+use Rattle.vx_volume_laws.specs.Keeping.{ChangesStates, EachRestatedVolumeIsKept, IsRestated, KeepsLogPlex, KeepsPlex, LiesStill}
 use Rattle.vx_volume_laws.proofs.Plexes.{zip_right}
 
 -- ---- lists
@@ -127,9 +127,15 @@ module _ (c0 : Config) (good0 : ℕ) (v0 : Vol) (fresh : Bool) (c : Config) (goo
       let first = and_parts (is_log_plex_of v.name q) (is_used_state false q.state && is_held c good q) w.1 in
       let second = and_parts (is_used_state false q.state) (is_held c good q) first.1 in
       let log : is_log_plex_of v0.name p ≡ true = sym (ap (λ (n : Word). is_log_plex_of n q) name_is ∙ ap (λ (x : Plex). is_log_plex_of v0.name x) r.same) ∙ first.0 in
-      let used = r.active log (used_is_active q.state second.0) in
+      let used = sym (r.active log) ∙ used_is_active q.state second.0 in
       let held = held_same c0 c changes.disks changes.subdisks good0 good changes.failed p q (ap (λ (x : Plex). x.name) r.same) second.1 in
       (p, contains (used_logs (Some d0) c0 good0 fresh v0.name) p (kept (is_used_log c0 good0 fresh v0.name) c0.plexes p z.1 (and_from _ _ log (and_from _ _ used held))), lies_still p q r)
+
+  log_plex_kept : (p q : Plex) → IsRestated v0.name fresh p q → is_log_plex_of v0.name p ≡ true → KeepsLogPlex c0 fresh c p q
+  log_plex_kept p q r own = record { name = ap (λ (x : Plex). x.name) r.same; lies = lies_still p q r; used = r.active own }
+
+  log_alike : (p q : Plex) → IsRestated v0.name fresh p q → is_log_plex_of v.name q ≡ is_log_plex_of v0.name p
+  log_alike p q r = ap (λ (n : Word). is_log_plex_of n q) name_is ∙ ap (λ (x : Plex). is_log_plex_of v0.name x) r.same
 
 pub restated_kept : EachRestatedVolumeIsKept
 restated_kept c0 good0 v0 fresh c good v changes =
@@ -139,5 +145,6 @@ restated_kept c0 good0 v0 fresh c good v changes =
       dco = dco_is c0 good0 v0 fresh c good v changes;
       plexes = zip_filter (IsRestated v0.name fresh) (KeepsPlex c0 good0 c good) (is_data_plex_of v0.name) (is_data_plex_of v.name) (data_alike c0 good0 v0 fresh c good v changes) (plex_kept c0 good0 v0 fresh c good v changes) c0.plexes c.plexes changes.plexes;
       logs = λ q one. log_kept c0 good0 v0 fresh c good v changes v.dco v0.dco (dco_is c0 good0 v0 fresh c good v changes) q (is_in (used_logs v.dco c good false v.name) q one);
+      log_plexes_are = zip_filter (IsRestated v0.name fresh) (KeepsLogPlex c0 fresh c) (is_log_plex_of v0.name) (is_log_plex_of v.name) (log_alike c0 good0 v0 fresh c good v changes) (log_plex_kept c0 good0 v0 fresh c good v changes) c0.plexes c.plexes changes.plexes;
       relations = ap (λ ss. relation_maps ss v.name) changes.snaps ∙ ap (λ (n : Word). relation_maps c0.snaps n) (name_is c0 good0 v0 fresh c good v changes);
     }

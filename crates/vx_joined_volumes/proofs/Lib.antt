@@ -1,0 +1,9 @@
+pub mod Strips
+pub mod Zips
+pub mod Held
+pub mod Plexes
+pub mod Forms
+pub mod Regions
+pub mod Runs
+pub mod Numbers
+pub mod Named

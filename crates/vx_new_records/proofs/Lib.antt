@@ -4,3 +4,6 @@ mod Nexts
 mod Pairs
 mod Steps
 mod InOrder
+mod Lowest
+mod FreeMaps
+mod Behind

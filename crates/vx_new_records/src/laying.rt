@@ -1,4 +1,4 @@
-ghost use Rattle.std.specs.Prelude.{◌≡◌, IfOk, OnOk};
+ghost use Rattle.std.specs.Prelude.{◌≡◌, [], IfOk, OnOk};
 ghost use Rattle.vx_new_volumes.specs.Laying.{subdisk, next_on, with_next, put_extent, put_column, put_columns, put_plexes, put_logs};
 ghost use Rattle.vx_new_records.specs.Laid.{laid, IsLaid};
 
@@ -18,6 +18,17 @@ use vx_space::Extent;
 pub(crate) struct Laid {
     pub(crate) objects: Vec<Object>,
     pub(crate) nexts: Vec<Next>,
+}
+
+impl Laid {
+    pub(crate) fn none(alloc: Global) -> Laid
+        ensures { laid result ≡ record { objects = []; nexts = [] } }
+    {
+        Laid {
+            objects: Vec::new(alloc),
+            nexts: Vec::new(alloc),
+        }
+    }
 }
 
 /// Where an extent lies: behind so many sectors of a column of a plex.

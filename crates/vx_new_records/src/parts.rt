@@ -1,6 +1,7 @@
 ghost use Rattle.std.specs.Prelude.{◌≡◌, ◌++◌, map, IfOk, OnOk};
 ghost use Rattle.vx_config_parts.specs.declared.object.Object.TheVariants.{PlexRecord};
 ghost use Rattle.vx_new_volumes.specs.Records.{has_logs, vol_of, dco_of, layout_of, data_plex, data_plexes, log_plex};
+ghost use Rattle.vx_new_volumes.specs.Logs.{log_in};
 
 use std::alloc::{AllocError, Global};
 use vx_base::OutOfMemory;
@@ -98,21 +99,6 @@ pub(crate) fn data_plexes(
     Ok(records)
 }
 
-fn log_plex(new: &NewVolume, name: Name) -> Object
-    ensures { result ≡ log_plex new.now name }
-{
-    Object::PlexRecord(Plex {
-        name,
-        vol: Some(new.vol),
-        kind: PlexKind::Log,
-        layout: PlexLayout::Concat,
-        ncol: 1,
-        unit: 128,
-        state: PlexState::Empty,
-        map: None,
-    })
-}
-
 /// Logs of these names.
 pub(crate) fn log_plexes(
     alloc: Global,
@@ -121,9 +107,36 @@ pub(crate) fn log_plexes(
 ) -> Result<Vec<Object>, OutOfMemory>
     ensures { IfOk result (λ records. records.items ≡ map (log_plex new.now) names.now) }
 {
+    logs_in(alloc, new.vol, PlexState::Empty, names)
+}
+
+/// Logs of these names in a volume, all in this state.
+pub(crate) fn logs_in(
+    alloc: Global,
+    vol: Name,
+    state: PlexState,
+    names: &[Name],
+) -> Result<Vec<Object>, OutOfMemory>
+    ensures { IfOk result (λ records. records.items ≡ map (log_in vol state) names.now) }
+{
     let mut records = Vec::new(alloc);
     for name in names {
-        join(&[log_plex(new, *name)], &mut records)?;
+        join(&[log_in(vol, state, *name)], &mut records)?;
     }
     Ok(records)
+}
+
+fn log_in(vol: Name, state: PlexState, name: Name) -> Object
+    ensures { result ≡ log_in vol state name }
+{
+    Object::PlexRecord(Plex {
+        name,
+        vol: Some(vol),
+        kind: PlexKind::Log,
+        layout: PlexLayout::Concat,
+        ncol: 1,
+        unit: 128,
+        state,
+        map: None,
+    })
 }

@@ -1,4 +1,5 @@
-ghost use Rattle.std.specs.Prelude.{◌≡◌, ◌++◌, IfOk, MatchOption, Some, None};
+ghost use Rattle.std.specs.Prelude.{◌≡◌, ◌++◌, map, IfOk, OnOk, MatchOption, Some, None};
+ghost use Rattle.vx_config_parts.specs.Objects.{name_of};
 ghost use Rattle.vx_new_volumes.specs.Records.{dco_name, log_stem, names_known, subdisks, records_named, records_of};
 ghost use Rattle.vx_new_records.specs.Laid.{IsLaid};
 ghost use Rattle.vx_new_records.specs.Named.{plex_names, log_names};
@@ -35,14 +36,15 @@ pub fn records_of(
     records_named(alloc, known, new, dco, &plexes, &logs, plan)
 }
 
-pub(crate) fn dco_name(alloc: Global, vol: &Name) -> Result<Option<Name>, OutOfMemory>
+/// The name of the volume's DCO; None where it would be too long.
+pub fn dco_name(alloc: Global, vol: &Name) -> Result<Option<Name>, OutOfMemory>
     ensures { IfOk result (λ dco. dco ≡ dco_name vol.now) }
 {
     let word = with_ending(alloc, vol, b"_dco")?;
     Ok(as_name(&word))
 }
 
-fn log_stem(alloc: Global, vol: &Name) -> Result<Vec<u8>, OutOfMemory>
+pub(crate) fn log_stem(alloc: Global, vol: &Name) -> Result<Vec<u8>, OutOfMemory>
     ensures { IfOk result (λ stem. stem.items ≡ log_stem vol.now) }
 {
     with_ending(alloc, vol, b"_dcl")
@@ -69,10 +71,18 @@ fn names_known(
     let mut names = Vec::new(alloc);
     names.push(new.vol)?;
     names.push(dco)?;
+    put_names(&mut names, group)?;
+    Ok(names)
+}
+
+/// Appends the names of the records.
+pub(crate) fn put_names(names: &mut Vec<Name>, group: &[Object]) -> Result<(), OutOfMemory>
+    ensures { OnOk result (names.new.items ≡ names.old.items ++ map name_of group.now) }
+{
     for object in group {
         names.push(*object.name())?;
     }
-    Ok(names)
+    Ok(())
 }
 
 fn plex_names(
@@ -135,10 +145,7 @@ fn subdisks(
 ) -> Result<Option<Laid>, OutOfMemory>
     ensures { IfOk result (IsLaid (subdisks known.now.names.items plexes.now logs.now plan.now)) }
 {
-    let none = Laid {
-        objects: Vec::new(alloc),
-        nexts: Vec::new(alloc),
-    };
+    let none = Laid::none(alloc);
     let Some(laid) = put_plexes(alloc, known, plexes, plan.plexes.as_slice(), none)? else {
         return Ok(None);
     };

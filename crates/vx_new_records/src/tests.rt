@@ -39,7 +39,7 @@ pub fn new_fault(
 }
 
 /// The first of the names that is no disk's. The disks are few, so they are gathered first.
-fn absent_disk(
+pub fn absent_disk(
     alloc: Global,
     group: &[Object],
     names: &[Name],
@@ -86,7 +86,7 @@ fn is_vol(object: &Object) -> bool
     matches!(object, Object::VolRecord(_))
 }
 
-fn is_region_size(region: u64) -> bool
+pub(crate) fn is_region_size(region: u64) -> bool
     ensures { result ≡ is_region_size region }
 {
     matches!(region, 32 | 64 | 128 | 256 | 512 | 1024 | 2048)
@@ -112,7 +112,7 @@ fn limit_fault(group: &[Object], new: &NewVolume) -> Option<ObjectFault>
     Some(ObjectFault::Limit(limit))
 }
 
-fn has_name(group: &[Object], name: &Name) -> bool
+pub(crate) fn has_name(group: &[Object], name: &Name) -> bool
     ensures { result ≡ has_name name.now group.now }
 {
     group.iter().any(|object| same(object.name(), name))

@@ -6,3 +6,5 @@ pub mod Naming
 pub mod Laying
 pub mod Records
 pub mod Tests
+pub mod Mirrors
+pub mod Logs

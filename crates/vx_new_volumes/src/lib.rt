@@ -7,6 +7,8 @@ mod fault;
 mod gather;
 pub mod laws;
 mod length;
+mod logs;
+mod mirror;
 mod next;
 mod parts;
 mod place;
@@ -15,6 +17,8 @@ mod request;
 mod volume;
 
 pub use fault::PlanFault;
+pub use logs::NewLogs;
+pub use mirror::NewPlex;
 pub use next::Next;
 pub use parts::Plan;
 pub use planner::plan;

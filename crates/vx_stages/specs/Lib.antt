@@ -5,6 +5,7 @@ pub mod Making
 pub mod Sources
 pub mod Finding
 pub mod Ends
+pub mod Mirroring
 pub mod Calls
 pub mod GroupCalls
 pub mod Touching

@@ -1,7 +1,0 @@
-use Rattle.std.proofs.Common.{◌≡◌, ◌++◌, map, drop}
-use Rattle.vx_config_parts.specs.Objects.{name_of}
-use Rattle.vx_new_volumes.specs.Records.{names_known}
-use Rattle.vx_new_records.proofs.records.names_known.Given as goal
-
-abbrev pub invariant-loop-object : goal.invariant-loop-object
-invariant-loop-object l = l.names.items ++ map name_of (drop l.object-index l.group) ≡ names_known l.group l.new l.fn.dco

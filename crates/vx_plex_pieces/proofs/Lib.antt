@@ -1,0 +1,2 @@
+mod Stills
+pub mod OnePlex

@@ -1,0 +1,4 @@
+mod Strips
+mod Fronts
+pub mod Free
+pub mod Taken

@@ -1,0 +1,10 @@
+pub mod Marking
+pub mod MarkingLaws
+pub mod MarkedLaws
+pub mod Copying
+pub mod CopyingLaws
+pub mod Joins
+pub mod Joining
+pub mod Parking
+pub mod Moments
+pub mod JoiningLaws

@@ -9,3 +9,14 @@ pub mod Added
 pub mod Restated
 pub mod Commands
 pub mod OfVolume
+pub mod Joined
+pub mod Marked
+pub mod Lowest
+pub mod Requests
+pub mod FreeMaps
+pub mod Subdisks
+pub mod Records
+pub mod Plans
+pub mod GoodDisks
+pub mod Held
+pub mod Each

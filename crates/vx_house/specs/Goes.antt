@@ -78,6 +78,7 @@ Gives see (stage.Create dg) disks h = Unit {0}
 Gives see (stage.Import dg) disks h = Unit {0}
 Gives see stage.LetGo disks h = Unit {0}
 Gives see (stage.Start vol) disks h = Unit {0}
+Gives see (stage.Mirror mirror) disks h = Unit {0}
 Gives see (stage.Stop vol) disks h = Unit {0}
 
 -- the stages of a command that must be done before this one
@@ -104,6 +105,7 @@ wanted (stage.Create dg) = stage.TakeDisks ∷ stage.LookDisks ∷ stage.Gate (t
 wanted (stage.Import dg) = []
 wanted stage.LetGo = stage.Gate tests.NoneStarted ∷ []
 wanted (stage.Start vol) = stage.Gate (tests.Stopped vol) ∷ []
+wanted (stage.Mirror mirror) = []
 wanted (stage.Stop vol) = []
 
 -- the stage takes devices into an empty hand

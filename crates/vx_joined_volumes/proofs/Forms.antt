@@ -31,8 +31,8 @@ use Rattle.vx_lending.proofs.Maps.{one_of_map, plex_among}
 use Rattle.vx_lending.proofs.Unions.{mask_push}
 use Rattle.vx_lending.proofs.Zips.{zip_push}
 use Rattle.vx_lending.specs.declared.public.Running.{Running}
-use Rattle.vx_joined_plexes.specs.Joins.{Joins, plexes_in}
-use Rattle.vx_joined_plexes.proofs.Joined.{plex_joins}
+use Rattle.vx_group_edits.specs.Joins.{Joins, plexes_in}
+use Rattle.vx_group_edits.proofs.Joined.{plex_joins}
 use Rattle.vx_group_volumes.specs.Places.{RunsInPlace, disks_at}
 use Rattle.vx_group_volumes.specs.Runs.{Opening}
 use Rattle.vx_joined_volumes.specs.Joined.{IsFormJoined, JoinsOne, good_joined, mask_of_slots}

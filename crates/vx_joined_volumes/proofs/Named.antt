@@ -19,7 +19,7 @@ use Rattle.vx_lending.specs.declared.public.Running.{Running}
 use Rattle.vx_volume_laws.specs.Leaving.{AreNamedIn}
 use Rattle.vx_volume_laws.proofs.Held.{in_image, of_image}
 use Rattle.vx_change_laws.specs.Joining.{AreJoinedBy, IsMapOfNone, IsNameOfNone}
-use Rattle.vx_joined_plexes.specs.Joins.{plexes_in}
+use Rattle.vx_group_edits.specs.Joins.{plexes_in}
 use Rattle.vx_group_volumes.specs.Opened.{WereThere, opened_plexes}
 use Rattle.vx_group_volumes.specs.Places.{RunsInPlace}
 use Rattle.vx_group_volumes.specs.Runs.{Opening}

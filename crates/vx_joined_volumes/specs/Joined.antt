@@ -21,7 +21,7 @@ use Rattle.vx_volume.specs.Volume.{IsVolume, log_of, shape_of, volume_seen}
 use Rattle.vx_lending.specs.RegionsTaken.{AreTakenRegions}
 use Rattle.vx_lending.specs.declared.form.VolumeForm.{VolumeForm}
 use Rattle.vx_group_edits.specs.OfVolume.{AreOf}
-use Rattle.vx_joined_plexes.specs.Joins.{plexes_in}
+use Rattle.vx_group_edits.specs.Joins.{plexes_in}
 use Rattle.vx_group_volumes.specs.Runs.{Opening}
 use Rattle.vx_group_volumes.specs.Places.{disks_at}
 

@@ -2,6 +2,7 @@
 use Rattle.std.proofs.Common.{◌≡◌, ℕ, ◌≤◌, Bool, true, false, List, [], ◌∷◌, ◌++◌, Option, Some, None, MatchBool, MatchOption, refl, sym, ◌∙◌, ap, subst, inl, inr, arith}
 use Rattle.std.specs.Prelude.{IsTrue}
 use Rattle.vx_base.specs.Named.{Word}
+use Rattle.vx_block.specs.Regions.{region_count}
 use Rattle.vx_script_words.specs.declared.value.DiskAt.{DiskAt}
 use Rattle.vx_script_forms.specs.declared.form.Form.{Form}
 use Rattle.vx_script.specs.declared.command.Command.{Command}
@@ -22,7 +23,8 @@ use Rattle.vx_answers.specs.declared.refusal.Refusal.TheVariants as refusal
 use Rattle.vx_moments.specs.World.{World, Group}
 use Rattle.vx_config_parts.specs.declared.vol.Vol.{Vol}
 use Rattle.vx_stages.specs.Starting.{CopyEnds, StopsIn, StopsOf, may_start, regions_copied}
-use Rattle.vx_stages.specs.Stopping.{StopStops}
+use Rattle.vx_stages.specs.Mirrored.{MirrorEnds, MirrorStopsIn}
+use Rattle.vx_stages.specs.Stopping.{StopStops, runs_on_plexes}
 use Rattle.vx_stages.specs.Tests.{volume_in}
 use Rattle.vx_stages.specs.Touching.{PassHasCause}
 use Rattle.vx_plans.specs.Steps.{Runs, Serves, Step, Leaves, DoesForm, IsNotBuilt, done}
@@ -31,7 +33,7 @@ use Rattle.vx_stages.specs.declared.stages.Finish.TheVariants.{Nothing}
 use Rattle.vx_stages.specs.declared.stage.Stage.{Stage}
 use Rattle.vx_stages.specs.declared.stage.Stage.TheVariants as stage
 use Rattle.vx_plans.proofs.Calm.{calm, well_after}
-use Rattle.vx_plans.proofs.Complete.{runs_later}
+use Rattle.vx_plans.proofs.Complete.{refused_mirror, runs_later}
 use Rattle.vx_laws.specs.Returning.{IsOf, is_done}
 
 -- ---- a stage that ends the command
@@ -42,9 +44,10 @@ IsNotDone (ends.Done None parts blocks) = ⊥
 IsNotDone (ends.Done (Some copied) parts blocks) = Unit {0}
 IsNotDone other = Unit {0}
 
--- the stage starts or stops a volume of the group
+-- the stage starts or stops a volume of the group, or mirrors it
 abbrev pub runs_volume : Stage → Bool
 runs_volume (stage.Start vol) = true
+runs_volume (stage.Mirror mirror) = true
 runs_volume (stage.Stop vol) = true
 runs_volume other = false
 
@@ -125,9 +128,10 @@ module _ (old new : Moment) (end : End) where
   has_stopped (stage.Import dg) disks other (inr (inr (mid, between, (x, writing, stopped)))) = stopping x mid between.world stopped
   has_stopped stage.LetGo disks other stops = absurd stops
   has_stopped (stage.Start vol) disks other stops = cc
+  has_stopped (stage.Mirror mirror) disks other stops = cc
   has_stopped (stage.Stop vol) disks other stops = cc
 
-  -- ---- a start and a stop
+  -- ---- a start, a mirror and a stop
 
   told : (e : End) → IsNotDone e → end ≡ e → IsNotDone end
   told e other is = subst IsNotDone (sym is) other
@@ -176,15 +180,35 @@ module _ (old new : Moment) (end : End) where
   start_stops name None ends = (denied _ ends).not_done
   start_stops name (Some g) stops = start_in g name (volume_in name g.config.volumes) stops
 
+  copying_mirror : (now : Group) (v : Vol) (from : Moment) (e : End) → MirrorEnds now v from.counts new.counts e → IsNotDone e
+  copying_mirror now v from (ends.Done None parts blocks) tells = let no : None ≡ Some (region_count v.len v.region) = tells.0 in cc
+  copying_mirror now v from (ends.Done (Some copied) parts blocks) tells = tt
+  copying_mirror now v from (ends.Fault told device parts) tells = tt
+  copying_mirror now v from (ends.Lost parts) tells = tt
+  copying_mirror now v from (ends.Refused r) tells = tt
+  copying_mirror now v from ends.ShelfFailed tells = tt
+  copying_mirror now v from ends.GroupLost tells = tt
+
+  mirror_in : (g : Group) (name : Word) (named : List Word) → MirrorStopsIn g name named old end new → IsNotDone end
+  mirror_in g name named (inl (refused, rests)) = let is = refused_mirror (runs_on_plexes old.world name) g name named end refused in told (ends.Refused is.0) tt is.1
+  mirror_in g name named (inr (inl u)) = passing u.stops.rest.group name old end u.stops.cause
+  mirror_in g name named (inr (inr (inl c))) = committing c.stops.0 c.marked c.stops.2
+  mirror_in g name named (inr (inr (inr a))) = copying_mirror a.copied.group a.mirrored.mark.volume a.joined end a.copied.ends
+
+  mirror_stops : (name : Word) (named : List Word) (o : Option Group) → MatchOption o (EndsIn (refusal.NoGroup None) old end new) (λ g. MirrorStopsIn g name named old end new) → IsNotDone end
+  mirror_stops name named None ends = (denied _ ends).not_done
+  mirror_stops name named (Some g) stops = mirror_in g name named stops
+
   stop_stops : (name : Word) → StopStops name old end new → IsNotDone end
   stop_stops name (inl (inl (r, e, is), rests)) = told (ends.Refused r) tt is
   stop_stops name (inl (inr (g, here, none, (v, found, (next, edited, (text, printed, long, is)))), rests)) = told (ends.Refused _) tt is
   stop_stops name (inr (inl r)) = passing r.rest.group name old end r.cause
   stop_stops name (inr (inr b)) = committing b.writing b.mid b.stopped
 
-  -- a stage that ends the command has not done it, but that a start tells of its regions
+  -- a stage that ends the command has not done it, but that a start and a mirror tell of their regions
   not_done : (s : Stage) (disks : List DiskAt) → Stops s disks old end new → IsNotDone end
   not_done (stage.Start vol) disks stops = start_stops vol old.world.group stops
+  not_done (stage.Mirror mirror) disks stops = mirror_stops mirror.vol mirror.disks old.world.group stops
   not_done (stage.Stop vol) disks stops = stop_stops vol stops
   not_done other disks stops = (has_stopped other disks refl stops).not_done
 

@@ -1,4 +1,5 @@
--- A start begins a life over what the volume's bytes are read as, and neither copying nor coming to rest is anything to its history.
+-- A start begins a life over what the volume's bytes are read as, and neither copying, a plex that joins nor coming to rest is anything to
+-- its history.
 use Rattle.std.proofs.Common.{◌≡◌, ◌∙◌, Bool, true, false, cond, List, [], ◌∷◌, Option, Some, None, MatchBool, MatchOption, refl, sym, ap, subst, inl, inr}
 use Rattle.std.specs.Str.{bytes_eq}
 use Rattle.vx_base.specs.Named.{Word, put}
@@ -19,6 +20,7 @@ use Rattle.vx_moments.specs.Lives.{volume_by, volume_copied}
 use Rattle.vx_moments.specs.Owners.{owners_of}
 use Rattle.vx_moments.specs.Tracks.{volume_failed}
 use Rattle.vx_stages.specs.Ends.{EndsIn}
+use Rattle.vx_stages.specs.Mirrored.{IsMirrorCopied, IsMirroredBy, MirrorCopiesTo, MirrorStops, MirrorStopsIn, volume_joined}
 use Rattle.vx_stages.specs.Starting.{BecomesBy, CopiesTo, IsCopied, IsStartedBy, StartStops, StopsIn, StopsOf, is_copied, may_start, plexes_started, volume_started}
 use Rattle.vx_stages.specs.Stopping.{ComesToRest, IsStopDone, StopStops, rested_volume, without_volume}
 use Rattle.vx_stages.specs.Tests.{volume_in}
@@ -158,3 +160,53 @@ module _ (Held : Holding) (Read : Reading) where
     stop_kept end new (inl (why, rests)) = same_volumes Held Read old.world new.world (volumes_of old.world new.world rests.stays.world) all
     stop_kept end new (inr (inl r)) = rested new r.rest
     stop_kept end new (inr (inr b)) = same_volumes Held Read b.mid.world new.world b.stopped.committing.volumes (rested b.mid b.record_is.rest)
+
+  -- ---- a mirror
+
+  module _ (name plex : Word) (now : Group) (at : Word) (plexes : List Word) (failed : Word → Bool) (old new : Counts) (run later : Volume) (own : IsHistoried Held Read name run) where
+    abbrev failing : Volume
+    failing = volume_failed (owners_of now at plexes) failed run
+
+    as_failing : later ≡ failing → IsHistoried Held Read name later
+    as_failing is = subst (IsHistoried Held Read name) (sym is) (failed_history name now at plexes failed run own)
+
+    mirror_copies : (end : End) → MirrorCopiesTo now at plex plexes failed old new end run later → IsHistoried Held Read name later
+    mirror_copies (ends.Done count parts blocks) (inl is) = subst (IsHistoried Held Read name) (sym is) (copied_history name (bytes_eq plex) failing (failed_history name now at plexes failed run own))
+    mirror_copies (ends.Done count parts blocks) (inr (log, is)) = as_failing is
+    mirror_copies (ends.Fault told device parts) is = as_failing is
+    mirror_copies (ends.Lost parts) is = as_failing is
+    mirror_copies (ends.Refused r) is = as_failing is
+    mirror_copies ends.ShelfFailed is = as_failing is
+    mirror_copies ends.GroupLost is = as_failing is
+
+  -- a plex that joins is nothing to the history of the volume
+  joined_history : (name plex : Word) (plexes more : List Word) (v : Volume) → v.lies ≡ OnPlexes plexes → IsHistoried Held Read name v → IsHistoried Held Read name (volume_joined more plex v)
+  joined_history name plex plexes more v on own = subst (λ l. IsHistoriedOn Held Read name l v) on own
+
+  module _ (name : Word) (disks : List Word) (old : Moment) (all : HaveHistories Held Read old.world) where
+    joined : (g : Group) (m : Moment) → IsMirroredBy g name disks old m → HaveHistories Held Read m.world
+    joined g m b =
+        let j = b.joins in
+        let recorded : HaveHistories Held Read b.recorded.world = same_volumes Held Read b.marked.world b.recorded.world b.committed.committing.volumes (rested name old all b.marked b.mark.rest) in
+        let run = volume_joined j.later b.mark.plex.name j.volume in
+        same_volumes Held Read (record b.recorded.world { volumes = put name (Some run) b.recorded.world.volumes }) m.world (ap (λ (w : World). w.volumes) j.world)
+        (put_history Held Read b.recorded.world name run (joined_history name b.mark.plex.name j.plexes j.later j.volume j.lies (recorded name j.volume j.was)) recorded)
+
+    copied_to : (v : Vol) (plex : Word) (m : Moment) (end : End) (new : Moment) → HaveHistories Held Read m.world → IsMirrorCopied v plex m end new → HaveHistories Held Read new.world
+    copied_to v plex m end new have c =
+        same_volumes Held Read (record m.world { volumes = put v.name (Some c.later) m.world.volumes }) new.world (ap (λ (w : World). w.volumes) c.goes.world)
+        (put_history Held Read m.world v.name c.later
+        (mirror_copies v.name plex c.group v.name c.plexes c.failed m.counts new.counts c.volume c.later (have v.name c.volume c.was) end c.becomes) have)
+
+    mirrored : (g : Group) (end : End) (new : Moment) → MirrorStopsIn g name disks old end new → HaveHistories Held Read new.world
+    mirrored g end new (inl (why, rests)) = same_volumes Held Read old.world new.world (volumes_of old.world new.world rests.stays.world) all
+    mirrored g end new (inr (inl u)) = rested name old all new u.stops.rest
+    mirrored g end new (inr (inr (inl c))) = same_volumes Held Read c.marked.world new.world c.stops.2.committing.volumes (rested name old all c.marked c.mark.rest)
+    mirrored g end new (inr (inr (inr a))) = copied_to a.mirrored.mark.volume a.mirrored.mark.plex.name a.joined end new (joined g a.joined a.mirrored) a.copied
+
+    mirror_by : (o : Option Group) (end : End) (new : Moment) → MatchOption o (EndsIn (refusal.NoGroup None) old end new) (λ g. MirrorStopsIn g name disks old end new) → HaveHistories Held Read new.world
+    mirror_by None end new ends = same_volumes Held Read old.world new.world (volumes_of old.world new.world ends.1.stays.world) all
+    mirror_by (Some g) end new stops = mirrored g end new stops
+
+    pub mirror_kept : (end : End) (new : Moment) → MirrorStops name disks old end new → HaveHistories Held Read new.world
+    mirror_kept end new stops = mirror_by old.world.group end new stops

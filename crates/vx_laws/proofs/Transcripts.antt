@@ -24,7 +24,7 @@ use Rattle.vx_life.specs.Candidates.{Candidates, known}
 use Rattle.vx_image.specs.Meaning.{candidates_read}
 use Rattle.vx_moments.specs.Group.{image_on}
 use Rattle.vx_laws.specs.Histories.{FirstHasAdded, HasAdded, HasHistory, IsHistoried, IsHistoriedOn, HaveHistories, NoneStarted, WasRead, WasThere}
-use Rattle.vx_laws.proofs.Starts.{AreRead, IsRead, start_kept, stop_done, stop_kept}
+use Rattle.vx_laws.proofs.Starts.{AreRead, IsRead, mirror_kept, start_kept, stop_done, stop_kept}
 use Rattle.vx_laws.proofs.Lives.{Holding, Reading, begun_history, put_history, goes_on_history, same_volumes, without_group, from_nothing}
 use Rattle.vx_base.specs.Blocks.{Contents}
 use Rattle.vx_script_forms.specs.declared.form.Form.{Form}
@@ -74,12 +74,14 @@ module _ (Held : Holding) (Read : Reading) (old new : Moment) (all : HaveHistori
   stage_kept (stage.Import dg) disks there (none, mid, between, (x, writing, committed)) = as_was (committed.committing.volumes ∙ volumes_of old.world mid.world between.world)
   stage_kept stage.LetGo disks there (gone, counts) = subst (HaveHistories Held Read) (sym gone) (without_group Held Read old.world all)
   stage_kept (stage.Start vol) disks there is = absurd is
+  stage_kept (stage.Mirror mirror) disks there is = absurd is
   stage_kept (stage.Stop vol) disks there is = stop_done Held Read vol old all new is
   stage_kept other disks there is = same (kept_world other disks old new refl is)
 
   -- a stage that ends the command keeps them too
   ending_kept : (s : Stage) (disks : List DiskAt) (end : End) → AreKnown Held Read old.world → Stops s disks old end new → HaveHistories Held Read new.world
   ending_kept (stage.Start vol) disks end there stops = start_kept Held Read old new end all vol (there.1 vol) stops
+  ending_kept (stage.Mirror mirror) disks end there stops = mirror_kept Held Read mirror.vol mirror.disks old all end new stops
   ending_kept (stage.Stop vol) disks end there stops = stop_kept Held Read vol old all end new stops
   ending_kept other disks end there stops = as_was (has_stopped old new end other disks refl stops).volumes
 

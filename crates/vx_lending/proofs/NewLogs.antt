@@ -22,7 +22,7 @@ use Rattle.vx_maps.specs.Sheets.{sheets_seen}
 use Rattle.vx_maps.specs.Slots.{filled}
 use Rattle.vx_maps.specs.Wholes.{copy_faults, store_copies, whole_copies}
 use Rattle.vx_maps.proofs.HeadPlaces.{have_first, some_size}
-use Rattle.vx_whole_maps.specs.Bytes.{map_bit}
+use Rattle.vx_volume.specs.Bytes.{map_bit}
 use Rattle.vx_lending.specs.Left.{IsNotFresh}
 use Rattle.vx_lending.specs.Logs.{AreShown}
 use Rattle.vx_lending.specs.Marking.{IsMarkRefused}

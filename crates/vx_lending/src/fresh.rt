@@ -8,7 +8,7 @@ ghost use Rattle.vx_maps.specs.Going.{CopiesGo, CutCopiesGo, StoreGoes};
 ghost use Rattle.vx_maps.specs.Spares.{copies_seen};
 ghost use Rattle.vx_maps.specs.Stores.{store_seen};
 ghost use Rattle.vx_maps.specs.Wholes.{store_copies, store_faults};
-ghost use Rattle.vx_whole_maps.specs.Bytes.{map_bit};
+ghost use Rattle.vx_volume.specs.Bytes.{map_bit};
 ghost use Rattle.vx_lending.specs.Going.{GoTogether};
 ghost use Rattle.vx_lending.specs.Left.{IsNotFresh, left_copies, left_cut, left_faults};
 ghost use Rattle.vx_lending.specs.Logs.{IsFreshLog, IsFreshStore, log_copies, log_pieces};
@@ -26,8 +26,7 @@ use vx_marks::MarkFault;
 use vx_mask::contains;
 use vx_pages::LocalPiece;
 use vx_piece::Piece;
-use vx_volume::VolumeLog;
-use vx_whole_maps::WholeMaps;
+use vx_volume::{VolumeLog, WholeMaps};
 
 /// A log of a volume that was never started: nothing is marked but each of these maps in all regions; without copies there is
 /// none. A page's sector of a map of the mask is written once more than those of the other maps. After a refusal the copies

@@ -8,7 +8,7 @@ use vx_block::Geometry;
 use vx_mapfmt::DcoShape;
 use vx_maps::{MapStore, StoreFault, StoreRefused};
 use vx_marks::{MarkFault, Marker};
-use vx_whole_maps::WholeMaps;
+use vx_volume::WholeMaps;
 
 #[derive(Clone, Copy, PartialEq, Eq)]
 pub enum Call {

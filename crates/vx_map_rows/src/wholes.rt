@@ -14,7 +14,7 @@ use vx_block::Geometry;
 use vx_mapfmt::DcoShape;
 use vx_maps::MapStore;
 use vx_piece::Piece;
-use vx_whole_maps::WholeMaps;
+use vx_volume::WholeMaps;
 
 /// The map that is set.
 const MAP: u32 = 5;

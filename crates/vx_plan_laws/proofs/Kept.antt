@@ -16,6 +16,7 @@ use Rattle.vx_answers.specs.declared.refusal.Refusal.TheVariants.{NotStarted, Ra
 use Rattle.vx_moments.specs.Commit.{Writing}
 use Rattle.vx_moments.specs.Moment.{Moment, Rests}
 use Rattle.vx_moments.specs.World.{Group, Lies, OnDevice, OnPlexes, Volume}
+use Rattle.vx_new_volumes.specs.declared.mirror.NewPlex.{NewPlex}
 use Rattle.vx_new_volumes.specs.declared.volume.NewVolume.{NewVolume}
 use Rattle.vx_stages.specs.Calls.{count_of, start_of, volume_of}
 use Rattle.vx_stages.specs.Ends.{StopsBy, refused}
@@ -37,14 +38,15 @@ use Rattle.vx_stages.specs.declared.stages.Plan.{Plan}
 use Rattle.vx_plans.proofs.Complete.{keeps_world, kept_world}
 use Rattle.vx_plan_laws.specs.Keeping.{IsLeftAdded, IsLeftUnopened, RefusedLeaves}
 use Rattle.vx_plan_laws.proofs.NewVolumes.{added_there, is_opened, no_gate}
-use Rattle.vx_plan_laws.proofs.Volumes.{not_stopped, start_left, start_refuses, stop_left}
+use Rattle.vx_plan_laws.proofs.Volumes.{mirror_left, not_stopped, start_left, start_refuses, stop_left}
 
 -- ---- stages
 
--- the stage is a start
-abbrev pub is_start : Stage → Bool
-is_start (stage.Start vol) = true
-is_start other = false
+-- the stage is a start or a mirror, which end their command themselves
+abbrev pub ends_itself : Stage → Bool
+ends_itself (stage.Start vol) = true
+ends_itself (stage.Mirror mirror) = true
+ends_itself other = false
 
 taking_kept : (taken names : List Word) (m : Moment) (end : End) (n : Moment) → TakingStops taken names m end n → n.world ≡ m.world
 taking_kept taken [] m end n stops = absurd stops
@@ -56,7 +58,7 @@ no_refusal : (IsWriting : Writing → Type 0) (m : Moment) (r : Refusal) (n : Mo
 no_refusal IsWriting m r n (x, writing, stopped) = not_stopped x m r n stopped
 
 -- a stage that refuses the command leaves the world
-refused_kept : (s : Stage) (disks : List DiskAt) (m : Moment) (r : Refusal) (n : Moment) → is_start s ≡ false → Stops s disks m (refused r) n → n.world ≡ m.world
+refused_kept : (s : Stage) (disks : List DiskAt) (m : Moment) (r : Refusal) (n : Moment) → ends_itself s ≡ false → Stops s disks m (refused r) n → n.world ≡ m.world
 refused_kept (stage.Gate test) disks m r n other (why, fails, is, same) = ap (λ (x : Moment). x.world) same
 refused_kept (stage.Take name) disks m r n other stops = taking_kept [] (name ∷ []) m (refused r) n stops
 refused_kept stage.TakeDisks disks m r n other stops = taking_kept [] (devices_of disks) m (refused r) n stops
@@ -87,6 +89,7 @@ refused_kept (stage.Import dg) disks m r n other (inr (inl (reads, why))) = read
 refused_kept (stage.Import dg) disks m r n other (inr (inr (mid, between, stops))) = absurd (no_refusal _ mid r n stops)
 refused_kept stage.LetGo disks m r n other stops = absurd stops
 refused_kept (stage.Start vol) disks m r n other stops = cc
+refused_kept (stage.Mirror mirror) disks m r n other stops = cc
 refused_kept (stage.Stop vol) disks m r n other stops = stop_left m r n vol stops
 
 -- ---- plans
@@ -94,9 +97,10 @@ refused_kept (stage.Stop vol) disks m r n other stops = stop_left m r n vol stop
 not_done : (r : Refusal) → refused r ≡ done → ⊥
 not_done r e = cc
 
--- the stage is a start or a stop
+-- the stage is a start, a mirror or a stop
 abbrev pub calls_volume : Stage → Bool
 calls_volume (stage.Start vol) = true
+calls_volume (stage.Mirror mirror) = true
 calls_volume (stage.Stop vol) = true
 calls_volume other = false
 
@@ -106,16 +110,17 @@ AreStill is_such [] = Unit {0}
 AreStill is_such (s ∷ []) = is_such s ≡ false
 AreStill is_such (s ∷ t ∷ ss) = (is_such s ≡ false) × (keeps_world s ≡ true) × AreStill is_such (t ∷ ss)
 
-no_start : (s : Stage) → calls_volume s ≡ false → is_start s ≡ false
-no_start (stage.Start vol) e = cc
-no_start other e = refl
+not_itself : (s : Stage) → calls_volume s ≡ false → ends_itself s ≡ false
+not_itself (stage.Start vol) e = cc
+not_itself (stage.Mirror mirror) e = cc
+not_itself other e = refl
 
-pub have_no_start : (stages : List Stage) → AreStill calls_volume stages → AreStill is_start stages
-have_no_start [] still = tt
-have_no_start (s ∷ []) still = no_start s still
-have_no_start (s ∷ t ∷ ss) still = (no_start s still.0, still.1, have_no_start (t ∷ ss) still.2)
+pub none_itself : (stages : List Stage) → AreStill calls_volume stages → AreStill ends_itself stages
+none_itself [] still = tt
+none_itself (s ∷ []) still = not_itself s still
+none_itself (s ∷ t ∷ ss) still = (not_itself s still.0, still.1, none_itself (t ∷ ss) still.2)
 
-still_kept : (disks : List DiskAt) (stages : List Stage) (finish : Finish) (old : Moment) (views : List View) (r : Refusal) (new : Moment) → AreStill is_start stages → Runs disks stages finish old views (refused r) new → new.world ≡ old.world
+still_kept : (disks : List DiskAt) (stages : List Stage) (finish : Finish) (old : Moment) (views : List View) (r : Refusal) (new : Moment) → AreStill ends_itself stages → Runs disks stages finish old views (refused r) new → new.world ≡ old.world
 still_kept disks [] finish old views r new still (shows, is, stays) = absurd (not_done r is)
 still_kept disks (s ∷ []) finish old views r new still (inl (mid, later, is, (shows, over, stays))) = absurd (not_done r over)
 still_kept disks (s ∷ []) finish old views r new still (inr (none, later, stops)) = refused_kept s disks old r new still stops
@@ -132,25 +137,30 @@ abbrev pub behind : List Test → Stage → List Stage
 behind [] s = s ∷ []
 behind (test ∷ gates) s = stage.Gate test ∷ behind gates s
 
--- the gates of a start, and those of a stop
+-- the gates of a start, that of a mirror, and those of a stop
 abbrev pub start_gates : Option Word → Word → List Test
 start_gates dg vol = tests.GroupIs dg ∷ tests.HasVolume vol ∷ tests.Stopped vol ∷ []
+
+abbrev pub mirror_gates : Option Word → List Test
+mirror_gates dg = tests.GroupIs dg ∷ []
 
 abbrev pub stop_gates : Option Word → Word → List Test
 stop_gates dg vol = tests.GroupIs dg ∷ tests.HasVolume vol ∷ []
 
--- the form starts or stops a volume of the group
+-- the form starts, mirrors or stops a volume of the group
 abbrev pub touches : Form → Bool
 touches (form.Start vol) = true
 touches (form.Stop vol) = true
+touches (form.Mirror vol disks) = true
 touches (form.AssistMake vol length attrs disks) = true
 touches other = false
 
--- the form is that of a start, or makes a volume and starts it
-abbrev pub starts : Form → Bool
-starts (form.Start vol) = true
-starts (form.AssistMake vol length attrs disks) = true
-starts other = false
+-- the form is that of a start or of a mirror, or makes a volume and starts it
+abbrev pub ends_so : Form → Bool
+ends_so (form.Start vol) = true
+ends_so (form.Mirror vol disks) = true
+ends_so (form.AssistMake vol length attrs disks) = true
+ends_so other = false
 
 pub plan_plain : (dg : Option Word) (f : Form) → touches f ≡ false → IsPlain (plan_of dg f)
 unfolding plan_of
@@ -172,7 +182,7 @@ plan_plain dg (form.Stop vol) other = cc
 plan_plain dg (form.Start vol) other = cc
 plan_plain dg (form.PrintHt vol) other = tt
 plan_plain dg (form.AssistMake vol length attrs disks) other = cc
-plan_plain dg (form.Mirror vol disks) other = tt
+plan_plain dg (form.Mirror vol disks) other = cc
 plan_plain dg (form.PlexDis plex rm) other = tt
 plan_plain dg (form.Prepare vol ndcomirs region) other = tt
 plan_plain dg (form.Unprepare vol) other = tt
@@ -185,19 +195,20 @@ plan_plain dg (form.Acting act) other = tt
 plan_plain dg (form.Calling call) other = tt
 plan_plain dg (form.Sessions block) other = tt
 
--- no stage of the plan is a start, and all but the last keep the world
+-- no stage of the plan is a start or a mirror, and all but the last keep the world
 abbrev pub IsStill : Option Plan → Type 0
 IsStill None = Unit {0}
-IsStill (Some plan) = AreStill is_start plan.stages
+IsStill (Some plan) = AreStill ends_itself plan.stages
 
 still_plan : (plan : Option Plan) → IsPlain plan → IsStill plan
 still_plan None plain = tt
-still_plan (Some plan) plain = have_no_start plan.stages plain
+still_plan (Some plan) plain = none_itself plan.stages plain
 
-pub plan_still : (dg : Option Word) (f : Form) → starts f ≡ false → IsStill (plan_of dg f)
+pub plan_still : (dg : Option Word) (f : Form) → ends_so f ≡ false → IsStill (plan_of dg f)
 unfolding plan_of
 plan_still dg (form.Stop vol) other = (refl, refl, (refl, refl, refl))
 plan_still dg (form.Start vol) other = cc
+plan_still dg (form.Mirror vol disks) other = cc
 plan_still dg (form.AssistMake vol length attrs disks) other = cc
 plan_still dg f other = still_plan (plan_of dg f) (plan_plain dg f refl)
 
@@ -218,6 +229,13 @@ module _ (old : Moment) (views : List View) (r : Refusal) (new : Moment) where
   starting_left (test ∷ gates) vol m (inl (mid, later, (passed, same), runs)) =
       subst (λ (n : Moment). (new.world ≡ n.world) ⊎ IsLeftUnopened vol n r new) same (starting_left gates vol mid runs)
   starting_left (test ∷ gates) vol m (inr (none, later, (s, fails, is, same))) = inl (ap (λ (n : Moment). n.world) same)
+
+  -- so is a mirror behind gates
+  mirroring_left : (gates : List Test) (mirror : NewPlex) (m : Moment) → Runs [] (behind gates (stage.Mirror mirror)) Nothing m views (refused r) new → new.world ≡ m.world
+  mirroring_left [] mirror m (inl (mid, later, is, runs)) = absurd is
+  mirroring_left [] mirror m (inr (none, later, stops)) = mirror_left m r new mirror.vol mirror.disks stops
+  mirroring_left (test ∷ gates) mirror m (inl (mid, later, (passed, same), runs)) = mirroring_left gates mirror mid runs ∙ ap (λ (n : Moment). n.world) same
+  mirroring_left (test ∷ gates) mirror m (inr (none, later, (s, fails, is, same))) = ap (λ (n : Moment). n.world) same
 
   -- a new volume: its records are refused, or it cannot be started
   abbrev Left : NewVolume → Moment → Type 0
@@ -269,6 +287,7 @@ module _ (old : Moment) (views : List View) (r : Refusal) (new : Moment) where
   form_left place dg (form.Calling call) does = call_left place call does.2
   form_left place dg (form.Start vol) does = starting_left (start_gates dg vol) vol old does
   form_left place dg (form.AssistMake vol length attrs disks) does = new_left dg (new_volume vol length attrs disks) does
+  form_left place dg (form.Mirror vol disks) does = mirroring_left (mirror_gates dg) (record { vol = vol; disks = disks }) old does
   form_left place dg other does = plan_left (disks_of other) (plan_of dg other) (plan_still dg other refl) does
 
   command_left : (place : ℕ) (c : Command) (cut : Option ℕ) → MatchOption cut (DoesForm place c.group c.form old views (refused r) new) (λ n. IsNotBuilt old views (refused r) new) → RefusedLeaves c.form old r new

@@ -1,8 +1,9 @@
--- What a command tells that is done: a start how many regions it has copied, and another nothing.
+-- What a command tells that is done: a start and a mirror how many regions they have copied, and another nothing.
 use Rattle.std.proofs.Common.{◌≡◌, ℕ, Bool, true, false, List, [], ◌∷◌, ◌++◌, Option, Some, None, MatchBool, MatchOption, refl, sym, ap, subst, inl, inr}
 use Rattle.vx_base.specs.Named.{Word}
 use Rattle.vx_config_parts.specs.declared.vol.Vol.{Vol}
 use Rattle.vx_objects.specs.declared.edit.Edit.{Edit}
+use Rattle.vx_new_volumes.specs.declared.mirror.NewPlex.{NewPlex}
 use Rattle.vx_script_words.specs.declared.value.DiskAt.{DiskAt}
 use Rattle.vx_script_forms.specs.declared.form.Form.{Form}
 use Rattle.vx_script_forms.specs.declared.form.Form.TheVariants as form
@@ -19,7 +20,8 @@ use Rattle.vx_plans.specs.Plans.{disks_of, new_volume, plan_of}
 use Rattle.vx_stages.specs.Records.{devices_of}
 use Rattle.vx_stages.specs.Stages.{DeviceEnds, EditsStop, FailsAt, IsDone, IsJoining, LookingStops, Stops, TakingStops, edits_of, joining_edit}
 use Rattle.vx_stages.specs.Starting.{StartStops, StopsIn, StopsOf, may_start, regions_copied}
-use Rattle.vx_stages.specs.Stopping.{StopStops}
+use Rattle.vx_stages.specs.Mirrored.{MirrorStops, MirrorStopsIn}
+use Rattle.vx_stages.specs.Stopping.{StopStops, runs_on_plexes}
 use Rattle.vx_plans.specs.Steps.{Runs, done}
 use Rattle.vx_stages.specs.Tests.{volume_in}
 use Rattle.vx_stages.specs.declared.stage.Source.{Source}
@@ -31,8 +33,9 @@ use Rattle.vx_stages.specs.declared.stages.Finish.TheVariants.{Nothing}
 use Rattle.vx_stages.specs.declared.test.Test.{Test}
 use Rattle.vx_stages.specs.declared.test.Test.TheVariants as tests
 use Rattle.vx_stages.specs.declared.stages.Plan.{Plan}
-use Rattle.vx_plan_laws.specs.Refusing.{IsDoneBy, TellsCopied}
-use Rattle.vx_plan_laws.proofs.Kept.{AreStill, IsStill, behind, is_start, plan_still, start_gates}
+use Rattle.vx_plans.proofs.Complete.{refused_mirror}
+use Rattle.vx_plan_laws.specs.Refusing.{IsDoneBy, TellsCopied, TellsMirrored}
+use Rattle.vx_plan_laws.proofs.Kept.{AreStill, IsStill, behind, ends_itself, mirror_gates, plan_still, start_gates}
 
 -- the command was done, and so many regions were copied
 abbrev all_done : Option ℕ → End
@@ -93,8 +96,8 @@ module _ (copied : Option ℕ) where
   stopping old new vol (inr (inl rest)) = rest.cause
   stopping old new vol (inr (inr b)) = not_stopped b.mid new b.writing b.stopped
 
-  -- no stage but a start is done where it ends the command
-  not_done : (s : Stage) (disks : List DiskAt) (old new : Moment) → is_start s ≡ false → Stops s disks old (all_done copied) new → ⊥
+  -- no stage but a start and a mirror is done where it ends the command
+  not_done : (s : Stage) (disks : List DiskAt) (old new : Moment) → ends_itself s ≡ false → Stops s disks old (all_done copied) new → ⊥
   not_done (stage.Gate test) disks old new other (r, fails, is, same) = no_refusal r is
   not_done (stage.Take name) disks old new other stops = taking old new [] (name ∷ []) stops
   not_done stage.TakeDisks disks old new other stops = taking old new [] (devices_of disks) stops
@@ -128,6 +131,7 @@ module _ (copied : Option ℕ) where
   not_done (stage.Import dg) disks old new other (inr (inr (mid, between, (x, writing, stopped)))) = not_stopped mid new x stopped
   not_done stage.LetGo disks old new other stops = stops
   not_done (stage.Start vol) disks old new other stops = cc
+  not_done (stage.Mirror mirror) disks old new other stops = cc
   not_done (stage.Stop vol) disks old new other stops = stopping old new vol stops
 
   -- ---- a start
@@ -163,9 +167,28 @@ module _ (copied : Option ℕ) where
       in_world None here ends = absurd (denied old new _ ends)
       in_world (Some g) here stops = in_group g (volume_in name g.config.volumes) here refl stops
 
+  -- ---- a mirror
+
+  -- the mirror tells of all regions of this volume
+  abbrev TellsAll : Word → World → Type 0
+  TellsAll name w = TellsMirrored name w (all_done copied)
+
+  mirrored : (name : Word) (named : List Word) (old new : Moment) → MirrorStops name named old (all_done copied) new → TellsAll name old.world
+  mirrored name named old new stops = in_world old.world.group refl stops
+    where
+      in_group : (g : Group) → old.world.group ≡ Some g → MirrorStopsIn g name named old (all_done copied) new → TellsAll name old.world
+      in_group g here (inl (turned, rests)) = let is = refused_mirror (runs_on_plexes old.world name) g name named (all_done copied) turned in absurd (no_refusal is.0 is.1)
+      in_group g here (inr (inl u)) = absurd u.stops.cause
+      in_group g here (inr (inr (inl c))) = absurd (not_stopped c.marked new c.stops.0 c.stops.2)
+      in_group g here (inr (inr (inr a))) = (g, here, (a.mirrored.mark.volume, a.mirrored.mark.mirror.found, ap (λ (n : Option ℕ). all_done n) a.copied.ends.0))
+
+      in_world : (o : Option Group) → old.world.group ≡ o → MatchOption o (EndsIn (refusal.NoGroup None) old (all_done copied) new) (λ g. MirrorStopsIn g name named old (all_done copied) new) → TellsAll name old.world
+      in_world None here ends = absurd (denied old new _ ends)
+      in_world (Some g) here more = in_group g here more
+
   -- ---- plans
 
-  still_done : (disks : List DiskAt) (stages : List Stage) (finish : Finish) (old : Moment) (views : List View) (new : Moment) → AreStill is_start stages → Runs disks stages finish old views (all_done copied) new → all_done copied ≡ done
+  still_done : (disks : List DiskAt) (stages : List Stage) (finish : Finish) (old : Moment) (views : List View) (new : Moment) → AreStill ends_itself stages → Runs disks stages finish old views (all_done copied) new → all_done copied ≡ done
   still_done disks [] finish old views new still (shows, is, stays) = is
   still_done disks (s ∷ []) finish old views new still (inl (mid, later, is, (shows, over, stays))) = over
   still_done disks (s ∷ []) finish old views new still (inr (none, later, stops)) = absurd (not_done s disks old new still stops)
@@ -187,6 +210,13 @@ module _ (copied : Option ℕ) where
   start_tells (test ∷ gates) vol old views new (inl (mid, later, (passed, same), runs)) = subst (λ (m : Moment). Tells vol m.world) same (start_tells gates vol mid views new runs)
   start_tells (test ∷ gates) vol old views new (inr (none, later, (r, fails, is, same))) = absurd (no_refusal r is)
 
+  -- a mirror behind gates
+  mirror_tells : (gates : List Test) (mirror : NewPlex) (old : Moment) (views : List View) (new : Moment) → Runs [] (behind gates (stage.Mirror mirror)) Nothing old views (all_done copied) new → TellsAll mirror.vol old.world
+  mirror_tells [] mirror old views new (inl (mid, later, is, runs)) = absurd is
+  mirror_tells [] mirror old views new (inr (none, later, stops)) = mirrored mirror.vol mirror.disks old new stops
+  mirror_tells (test ∷ gates) mirror old views new (inl (mid, later, (passed, same), runs)) = subst (λ (m : Moment). TellsAll mirror.vol m.world) same (mirror_tells gates mirror mid views new runs)
+  mirror_tells (test ∷ gates) mirror old views new (inr (none, later, (r, fails, is, same))) = absurd (no_refusal r is)
+
   -- that of a new volume, behind the moment in which its records were added
   abbrev TellsAdded : Source → Word → Moment → Type 0
   TellsAdded from vol old = (mid : Moment) × IsDone (stage.Make from) [] old mid × Tells vol mid.world
@@ -204,6 +234,7 @@ module _ (copied : Option ℕ) where
   unfolding plan_of
   form_tells dg (form.Start vol) old views new runs = start_tells (start_gates dg vol) vol old views new runs
   form_tells dg (form.AssistMake vol length attrs disks) old views new runs = new_tells dg (source.Volume (new_volume vol length attrs disks)) vol old views new runs
+  form_tells dg (form.Mirror vol disks) old views new runs = mirror_tells (mirror_gates dg) (record { vol = vol; disks = disks }) old views new runs
   form_tells dg other old views new runs = still_plan (disks_of other) (plan_of dg other) old views new (plan_still dg other refl) runs
 
   pub tells_done : (dg : Option Word) (f : Form) (plan : Plan) (old : Moment) (views : List View) (new : Moment) → plan_of dg f ≡ Some plan → Runs (disks_of f) plan.stages plan.finish old views (all_done copied) new → IsDoneBy f old (all_done copied)

@@ -1,5 +1,5 @@
--- Why a start and a stop refuse their volume, and what a start leaves then.
-use Rattle.std.proofs.Common.{◌≡◌, ◌⊎◌, ◌&&◌, ◌∙◌, Bool, true, false, MatchBool, MatchOption, Option, Some, None, [], is_some, if◌then◌else◌, refl, sym, ap, subst, inl, inr}
+-- Why a start, a mirror and a stop refuse their volume, and what a start leaves then.
+use Rattle.std.proofs.Common.{◌≡◌, ◌⊎◌, ◌&&◌, ◌∙◌, Bool, true, false, MatchBool, MatchOption, Option, Some, None, List, [], is_some, if◌then◌else◌, refl, sym, ap, subst, inl, inr}
 use Rattle.vx_base.specs.Named.{Word}
 use Rattle.vx_config_parts.specs.declared.vol.Vol.{Vol}
 use Rattle.vx_copies.specs.Lists.{AnyOf}
@@ -10,11 +10,12 @@ use Rattle.vx_moments.specs.Commit.{Writing, IsStopped, CarriersFailed, parties}
 use Rattle.vx_moments.specs.Moment.{Moment}
 use Rattle.vx_moments.specs.World.{Group}
 use Rattle.vx_stages.specs.Ends.{EndsIn, refused}
+use Rattle.vx_stages.specs.Mirrored.{MirrorIsRefused, MirrorStops, MirrorStopsIn}
 use Rattle.vx_stages.specs.Starting.{StartStops, StopsIn, StopsOf, StopsUnopened, may_start}
 use Rattle.vx_stages.specs.Stopping.{StopStops, is_active, refusal_by, runs_on_plexes, stop_refusal}
 use Rattle.vx_stages.specs.Tests.{volume_in}
 use Rattle.vx_plan_laws.specs.Keeping.{IsLeftUnopened}
-use Rattle.vx_plan_laws.specs.Refusing.{OfGroup, OfVolume, OpeningRefuses, StartRefuses, StopRefuses}
+use Rattle.vx_plan_laws.specs.Refusing.{MirrorRefuses, OfGroup, OfVolume, OpeningRefuses, StartRefuses, StopRefuses}
 
 -- a commit that is stopped is no refusal
 pub not_stopped : (x : Writing) (old : Moment) (r : Refusal) (new : Moment) → IsStopped x old (refused r) new → ⊥
@@ -85,6 +86,25 @@ module _ (old : Moment) (r : Refusal) (new : Moment) where
       in_world : (o : Option Group) → old.world.group ≡ o → MatchOption o (EndsIn (refusal.NoGroup None) old (refused r) new) (λ g. StopsIn g name old (refused r) new) → (new.world ≡ old.world) ⊎ IsLeftUnopened name old r new
       in_world None here ends = inl ends.1.stays.world
       in_world (Some g) here stops = in_group g (volume_in name g.config.volumes) here refl stops
+
+  -- ---- a mirror
+
+  mirror_refused : (g : Group) (name : Word) (named : List Word) → MirrorStopsIn g name named old (refused r) new → MirrorIsRefused g (runs_on_plexes old.world name) name named old (refused r) new
+  mirror_refused g name named (inl is) = is
+  mirror_refused g name named (inr (inl u)) = absurd u.stops.cause
+  mirror_refused g name named (inr (inr (inl c))) = absurd (not_stopped c.stops.0 c.marked r new c.stops.2)
+  mirror_refused g name named (inr (inr (inr a))) = absurd a.copied.ends
+
+  pub mirror_refuses : (name : Word) (named : List Word) (g : Group) → old.world.group ≡ Some g → MirrorStops name named old (refused r) new → OfGroup old.world (λ g. MirrorRefuses name named g old.world r)
+  mirror_refuses name named g here stops =
+      (g, here, (mirror_refused g name named (subst (λ (o : Option Group). MatchOption o (EndsIn (refusal.NoGroup None) old (refused r) new) (λ g. MirrorStopsIn g name named old (refused r) new)) here stops)).0)
+
+  pub mirror_left : (name : Word) (named : List Word) → MirrorStops name named old (refused r) new → new.world ≡ old.world
+  mirror_left name named stops = by old.world.group stops
+    where
+      by : (o : Option Group) → MatchOption o (EndsIn (refusal.NoGroup None) old (refused r) new) (λ g. MirrorStopsIn g name named old (refused r) new) → new.world ≡ old.world
+      by None ends = ends.1.stays.world
+      by (Some g) more = (mirror_refused g name named more).1.stays.world
 
   -- ---- a stop
 

@@ -1,7 +1,8 @@
--- Want of memory leaves the world as the command found it, but for the volume of a start or a stop, and the records of a new volume.
+-- Want of memory leaves the world as the command found it, but for the volume of a start, a mirror or a stop, and the records of a new volume.
 use Rattle.std.proofs.Common.{◌≡◌, ◌∙◌, ◌⊎◌, ℕ, List, [], ◌∷◌, Option, Some, None, MatchOption, false, refl, subst, inl, inr}
 use Rattle.vx_base.specs.Named.{Word}
 use Rattle.vx_script_words.specs.declared.value.DiskAt.{DiskAt}
+use Rattle.vx_new_volumes.specs.declared.mirror.NewPlex.{NewPlex}
 use Rattle.vx_new_volumes.specs.declared.volume.NewVolume.{NewVolume}
 use Rattle.vx_script_forms.specs.declared.form.Form.{Form}
 use Rattle.vx_script_forms.specs.declared.form.Form.TheVariants as form
@@ -10,6 +11,7 @@ use Rattle.vx_moments.specs.Moment.{Moment}
 use Rattle.vx_plans.specs.Plans.{disks_of, new_volume, plan_of}
 use Rattle.vx_stages.specs.Stages.{Wants}
 use Rattle.vx_stages.specs.Starting.{StartWants}
+use Rattle.vx_stages.specs.Mirrored.{MirrorWants}
 use Rattle.vx_stages.specs.Stopping.{StopWants}
 use Rattle.vx_plans.specs.Steps.{LeavesOff, RunsShort, WantsForm, WantsPlan}
 use Rattle.vx_stages.specs.declared.stage.Source.TheVariants as source
@@ -20,10 +22,11 @@ use Rattle.vx_stages.specs.declared.test.Test.{Test}
 use Rattle.vx_stages.specs.declared.test.Test.TheVariants as tests
 use Rattle.vx_plans.proofs.Complete.{kept_world}
 use Rattle.vx_plan_laws.specs.Keeping.{AddedWants, WantLeaves}
-use Rattle.vx_plan_laws.proofs.Kept.{AreStill, IsPlain, behind, calls_volume, plan_plain, start_gates, stop_gates}
+use Rattle.vx_plan_laws.proofs.Kept.{AreStill, IsPlain, behind, calls_volume, mirror_gates, plan_plain, start_gates, stop_gates}
 
 wanting_kept : (s : Stage) (old new : Moment) → calls_volume s ≡ false → Wants s old new → new.world ≡ old.world
 wanting_kept (stage.Start vol) old new e wants = cc
+wanting_kept (stage.Mirror mirror) old new e wants = cc
 wanting_kept (stage.Stop vol) old new e wants = cc
 wanting_kept other old new e wants = wants
 
@@ -50,6 +53,10 @@ start_left : (gates : List Test) (vol : Word) (old new : Moment) → (new.world 
 start_left gates vol old new (inl same) = inl same
 start_left gates vol old new (inr short) = elim (short_behind gates (stage.Start vol) old new short) [ inl same ↦ inl same | inr wants ↦ wants ]
 
+mirror_left : (gates : List Test) (mirror : NewPlex) (old new : Moment) → (new.world ≡ old.world) ⊎ RunsShort [] (behind gates (stage.Mirror mirror)) old new → MirrorWants mirror.vol old new
+mirror_left gates mirror old new (inl same) = inl same
+mirror_left gates mirror old new (inr short) = elim (short_behind gates (stage.Mirror mirror) old new short) [ inl same ↦ inl same | inr wants ↦ wants ]
+
 stop_left : (gates : List Test) (vol : Word) (old new : Moment) → (new.world ≡ old.world) ⊎ RunsShort [] (behind gates (stage.Stop vol)) old new → StopWants vol old new
 stop_left gates vol old new (inl same) = inl same
 stop_left gates vol old new (inr short) = elim (short_behind gates (stage.Stop vol) old new short) [ inl same ↦ inl same | inr wants ↦ wants ]
@@ -65,9 +72,10 @@ new_left dg n old new (inl same) = inl same
 new_left dg n old new (inr (inl (mid, later, (passed, same), short))) = subst (λ (m : Moment). (new.world ≡ m.world) ⊎ AddedWants n m new) same (adding_left n mid new short)
 new_left dg n old new (inr (inr wants)) = inl wants
 
--- what leaves the world leaves as much as a start and a stop do
+-- what leaves the world leaves as much as a start, a mirror and a stop do
 all_left : (f : Form) (old new : Moment) → new.world ≡ old.world → WantLeaves f old new
 all_left (form.Start vol) old new same = inl same
+all_left (form.Mirror vol disks) old new same = inl same
 all_left (form.Stop vol) old new same = inl same
 all_left (form.AssistMake vol length attrs disks) old new same = inl same
 all_left other old new same = same
@@ -76,6 +84,7 @@ form_left : (dg : Option Word) (f : Form) (old new : Moment) → WantsForm dg f 
 unfolding plan_of
 form_left dg (form.Calling call) old new wants = wants
 form_left dg (form.Start vol) old new wants = start_left (start_gates dg vol) vol old new wants
+form_left dg (form.Mirror vol disks) old new wants = mirror_left (mirror_gates dg) (record { vol = vol; disks = disks }) old new wants
 form_left dg (form.Stop vol) old new wants = stop_left (stop_gates dg vol) vol old new wants
 form_left dg (form.AssistMake vol length attrs disks) old new wants = new_left dg (new_volume vol length attrs disks) old new wants
 form_left dg other old new wants = plan_kept (disks_of other) (plan_of dg other) old new (plan_plain dg other refl) wants

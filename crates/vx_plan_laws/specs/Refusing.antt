@@ -1,6 +1,8 @@
--- Why a command of a plan is refused: by a test, as its text is too long, as a new volume has no plan, or as the name of a disk is taken.
+-- Why a command of a plan is refused: by a test, as its text is too long, as a new volume or a mirror has no plan, as a mirror's records break a
+-- rule, or as the name of a disk is taken.
 use Rattle.std.specs.Prelude.{◌≡◌, ◌⊎◌, ℕ, ◌&&◌, true, false, is_some, Option, Some, None, List, [], ◌∷◌}
 use Rattle.vx_base.specs.Named.{Word}
+use Rattle.vx_block.specs.Regions.{region_count}
 use Rattle.vx_config_parts.specs.declared.object.Object.{Object}
 use Rattle.vx_config_parts.specs.declared.vol.Vol.{Vol}
 use Rattle.vx_rules.specs.References.{has_name}
@@ -31,6 +33,7 @@ use Rattle.vx_stages.specs.Ends.{RefusedAsGrown, RefusedAsLong, refused}
 use Rattle.vx_stages.specs.Stages.{IsDone, OnlyDisk, Stops, edits_of, joining_edit}
 use Rattle.vx_stages.specs.Starting.{HasNoReadCopy, IsFirstMissed, may_start, refusal_at_once, regions_copied}
 use Rattle.vx_plans.specs.Steps.{Runs, done}
+use Rattle.vx_stages.specs.Mirroring.{IsMirrorRefused}
 use Rattle.vx_stages.specs.Stopping.{is_active, runs_on_plexes}
 use Rattle.vx_stages.specs.Tests.{volume_in}
 use Rattle.vx_stages.specs.declared.stage.Source.TheVariants as source
@@ -54,7 +57,7 @@ IsTooLongGrown more edits g r = (config : Config) × IsEdited edits g.config con
 abbrev pub OfVolume : Word → Group → (Vol → Type 0) → Type 0
 OfVolume name g Holds = (v : Vol) × (volume_in name g.config.volumes ≡ Some v) × Holds v
 
--- ---- a start and a stop
+-- ---- a start, a mirror and a stop
 
 -- Nothing refuses it at once, but a volume that was started before cannot be opened: no copy of its log could be read, and each that counts
 -- has failed; or in some region no plex is current.
@@ -71,6 +74,11 @@ StartRefuses g v old r new =
     ((may_start v.state ≡ false) × (r ≡ refusal.VolState v.state))
     ⊎ ((may_start v.state ≡ true) × ((refusal_at_once g v ≡ Some r) ⊎ (((refusal_at_once g v ≡ None) × IsTooLong (start_edits g.config v) g r) ⊎ OpeningRefuses g v old r new)))
 
+-- A volume gets no mirror on these disks: a test before the plan refuses it, or there is no plan, or no records of it, or the records break a
+-- rule of the configuration, or the text would be too long.
+abbrev pub MirrorRefuses : Word → List Word → Group → World → Refusal → Type 0
+MirrorRefuses name disks g w r = IsMirrorRefused (runs_on_plexes w name) g name disks (refused r)
+
 -- A volume is not stopped: it does not run, or its state does not fit; or the text would be too long.
 abbrev pub StopRefuses : Word → Group → Vol → World → Refusal → Type 0
 StopRefuses name g v w r =
@@ -81,7 +89,7 @@ StopRefuses name g v w r =
 
 -- A stage of a plan refuses its command. One that changes a configuration does so where the text would be too long; one that
 -- adds records, where there are none or a test of the records refuses them, too; one by which a disk joins, where the
--- disk's name is taken; and a start and a stop by what they find of their volume. Any other stage has tests alone.
+-- disk's name is taken; and a start, a mirror and a stop by what they find of their volume. Any other stage has tests alone.
 abbrev pub Refuses : Stage → List DiskAt → Moment → Refusal → Moment → Type 0
 Refuses (stage.Change change) disks old r new = OfGroup old.world (λ g. IsTooLong (edits_of change (Some g)) g r)
 Refuses (stage.Make from) disks old r new =
@@ -91,6 +99,7 @@ Refuses (stage.Make from) disks old r new =
 Refuses stage.Join disks old r new =
     OnlyDisk disks (λ p. OfGroup old.world (λ g. ((has_name p.disk (objects_of g.config) ≡ true) × (r ≡ refusal.Exists p.disk)) ⊎ IsTooLong (joining_edit p old.world g ∷ []) g r))
 Refuses (stage.Start vol) disks old r new = OfGroup old.world (λ g. OfVolume vol g (λ v. StartRefuses g v old r new))
+Refuses (stage.Mirror mirror) disks old r new = OfGroup old.world (λ g. MirrorRefuses mirror.vol mirror.disks g old.world r)
 Refuses (stage.Stop vol) disks old r new = OfGroup old.world (λ g. OfVolume vol g (λ v. StopRefuses vol g v old.world r))
 Refuses other disks old r new = Stops other disks old (refused r) new
 
@@ -104,7 +113,7 @@ abbrev pub OneRefuses : List Stage → List DiskAt → Moment → Refusal → Mo
 OneRefuses [] disks old r new = ⊥
 OneRefuses (s ∷ ss) disks old r new = Refuses s disks old r new ⊎ ((mid : Moment) × IsPassed s disks old mid × OneRefuses ss disks mid r new)
 
--- no command of a plan is refused by a rule of a configuration behind its tests, but adddisk for a name
+-- no command of a plan is refused by a rule of a configuration behind its tests, but adddisk for a name, and a mirror whose records break one
 abbrev pub EachRefusalIsTested : Type 0
 EachRefusalIsTested =
     (dg : Option Word) (f : Form) (plan : Plan) (old : Moment) (views : List View) (r : Refusal) (new : Moment)
@@ -115,12 +124,17 @@ EachRefusalIsTested =
 abbrev pub TellsCopied : Word → World → End → Type 0
 TellsCopied vol w end = OfGroup w (λ g. OfVolume vol g (λ v. end ≡ ends.Done (Some (regions_copied g v)) [] []))
 
--- all is done: a start tells how many regions it has copied, also that of a new volume, behind the moment in which its records are added;
--- and nothing else is told
+-- a mirror tells that all regions of the volume were copied
+abbrev pub TellsMirrored : Word → World → End → Type 0
+TellsMirrored vol w end = OfGroup w (λ g. OfVolume vol g (λ v. end ≡ ends.Done (Some (region_count v.len v.region)) [] []))
+
+-- all is done: a start tells how many regions it has copied, also that of a new volume, behind the moment in which its records are added,
+-- and so does a mirror; and nothing else is told
 abbrev pub IsDoneBy : Form → Moment → End → Type 0
 IsDoneBy (form.Start vol) old end = TellsCopied vol old.world end
 IsDoneBy (form.AssistMake vol length attrs disks) old end =
     (mid : Moment) × IsDone (stage.Make (source.Volume (new_volume vol length attrs disks))) [] old mid × TellsCopied vol mid.world end
+IsDoneBy (form.Mirror vol disks) old end = TellsMirrored vol old.world end
 IsDoneBy other old end = end ≡ done
 
 -- where nothing failed and the power stayed, all is done, or a stage has refused so

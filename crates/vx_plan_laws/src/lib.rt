@@ -27,8 +27,8 @@ pub fn only_a_name_refuses_a_disk()
 {}
 
 /// A command of a plan that is refused was refused by a test, as its text would be too long, as a source has no records to be
-/// added, or as the name of the disk that is to join is taken; a start and a stop by what they find of their volume, and a
-/// start as it cannot be opened.
+/// added, or as the name of the disk that is to join is taken; a start, a mirror and a stop by what they find of their volume,
+/// a start as it cannot be opened, and a mirror also as there is no plan or no records of it, or the records break a rule.
 pub fn each_refusal_is_tested()
     ensures { EachRefusalIsTested }
 {}
@@ -45,7 +45,7 @@ pub fn each_refusal_keeps_the_world()
 {}
 
 /// Want of memory leaves the world as the command found it; but a start may have called the log of its volume, which does not run then,
-/// also that of a new volume whose records were added before, and a stop may have let its volume come to rest.
+/// also that of a new volume whose records were added before, and a mirror and a stop may have let their volume come to rest.
 pub fn each_want_keeps_the_world()
     ensures { EachWantKeepsTheWorld }
 {}

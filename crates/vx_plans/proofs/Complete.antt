@@ -8,6 +8,7 @@ use Rattle.vx_script_forms.specs.declared.form.WordPolicy.TheVariants as words
 use Rattle.vx_script_words.specs.declared.value.DiskAt.{DiskAt}
 use Rattle.vx_answers.specs.declared.answer.End.{End}
 use Rattle.vx_answers.specs.declared.answer.End.TheVariants as ends
+use Rattle.vx_answers.specs.declared.refusal.Refusal.{Refusal}
 use Rattle.vx_answers.specs.declared.refusal.Refusal.TheVariants as refusal
 use Rattle.vx_config_parts.specs.declared.vol.Vol.{Vol}
 use Rattle.vx_copies.specs.Lists.{AnyOf}
@@ -18,13 +19,15 @@ use Rattle.vx_moments.specs.Commit.{Writing, IsStopped, is_written_slot, parties
 use Rattle.vx_moments.specs.Moment.{Moment, AreLater, Counts, HasFailed}
 use Rattle.vx_moments.specs.World.{Group, Member, World}
 use Rattle.vx_stages.specs.Ends.{EndsIn}
+use Rattle.vx_stages.specs.Mirrored.{IsMirroredBy, MirrorEnds, MirrorStopsIn}
+use Rattle.vx_stages.specs.Mirroring.{IsMirrorRefused}
 use Rattle.vx_plans.specs.Laws.{WentWell, IsDoneOrRefused, HasCarriers}
 use Rattle.vx_plans.specs.Plans.{plan_of, disks_of}
 use Rattle.vx_stages.specs.Records.{devices_of}
 use Rattle.vx_stages.specs.Stages.{IsDone, Stops, DeviceEnds, FailsAt, TakingStops, LookingStops}
 use Rattle.vx_stages.specs.Starting.{CopyEnds, IsStartedBy, StopsIn, StopsOf, may_start}
 use Rattle.vx_plans.specs.Steps.{Runs}
-use Rattle.vx_stages.specs.Stopping.{StopStops}
+use Rattle.vx_stages.specs.Stopping.{StopStops, runs_on_plexes}
 use Rattle.vx_stages.specs.Tests.{volume_in}
 use Rattle.vx_stages.specs.Touching.{PassHasCause}
 use Rattle.vx_stages.specs.declared.stages.Finish.{Finish}
@@ -46,6 +49,7 @@ IsCarried (stage.Change change) disks w = IsAlive w
 IsCarried (stage.Make from) disks w = IsAlive w
 IsCarried stage.Join disks w = IsAlive w
 IsCarried (stage.Start vol) disks w = IsAlive w
+IsCarried (stage.Mirror mirror) disks w = IsAlive w
 IsCarried (stage.Stop vol) disks w = IsAlive w
 IsCarried other disks w = Unit {0}
 
@@ -94,6 +98,21 @@ module _ (old new : Moment) (well : WentWell old new) where
   copying g now v ends.ShelfFailed cause = absurd cause
   copying g now v ends.GroupLost cause = absurd cause
 
+  copying_mirror : (now : Group) (v : Vol) (end : End) → MirrorEnds now v old.counts new.counts end → IsDoneOrRefused end
+  copying_mirror now v (ends.Done copied parts blocks) (count, none, bare) = inl (copied, tells copied parts blocks none bare)
+  copying_mirror now v (ends.Fault told device parts) cause = absurd (passing now v.name (ends.Fault told device parts) cause)
+  copying_mirror now v (ends.Lost parts) cause = absurd (passing now v.name (ends.Lost parts) cause)
+  copying_mirror now v (ends.Refused r) cause = absurd cause
+  copying_mirror now v ends.ShelfFailed cause = absurd cause
+  copying_mirror now v ends.GroupLost cause = absurd cause
+
+-- a mirror that is refused ends by a refusal
+pub refused_mirror : (runs : Bool) (g : Group) (name : Word) (named : List Word) (end : End) → IsMirrorRefused runs g name named end → (r : Refusal) × (end ≡ ends.Refused r)
+refused_mirror runs g name named end (inl (r, unfit, is)) = (r, is)
+refused_mirror runs g name named end (inr (v, found, fits, inl (r, unlaid, is))) = (r, is)
+refused_mirror runs g name named end (inr (v, found, fits, inr (m, added, laid, inl (r, broken, is)))) = (r, is)
+refused_mirror runs g name named end (inr (v, found, fits, inr (m, added, laid, inr (next, edited, (text, printed, long, is))))) = (_, is)
+
 -- a group that has a good disk has it still
 alive_still : (old new : World) → new.group ≡ old.group → IsAlive old → IsAlive new
 alive_still old new same alive = subst (λ (o : Option Group). MatchOption o (Unit {0}) (λ g. AnyOf (λ m. has g.good m.slot ≡ true) g.members)) (sym same) alive
@@ -127,6 +146,23 @@ module _ (old new : Moment) (well : WentWell old new) (alive : IsAlive old.world
   starts : (name : Word) (end : End) (o : Option Group) → MatchOption o (EndsIn (refusal.NoGroup None) old end new) (λ g. StopsIn g name old end new) → IsDoneOrRefused end
   starts name end None ends = inr (_, ends.0)
   starts name end (Some g) stops = starts_in g name end (volume_in name g.config.volumes) stops
+
+  mirrored_later : (g : Group) (name : Word) (named : List Word) (joined : Moment) → IsMirroredBy g name named old joined → AreLater old.counts joined.counts
+  mirrored_later g name named joined s =
+      subst (λ (c : Counts). AreLater old.counts c) (sym s.joins.counts) (later_on old.counts s.marked.counts s.recorded.counts s.mark.rest.later s.rest)
+
+  mirrors_in : (g : Group) (name : Word) (named : List Word) (end : End) → MirrorStopsIn g name named old end new → IsDoneOrRefused end
+  mirrors_in g name named end (inl (refused, rests)) = inr (refused_mirror (runs_on_plexes old.world name) g name named end refused)
+  mirrors_in g name named end (inr (inl u)) = absurd (passing old new well u.stops.rest.group name end u.stops.cause)
+  mirrors_in g name named end (inr (inr (inl c))) =
+      stopping c.marked new (well_after old c.marked new c.mark.rest.later c.rest well) c.stops.0 end
+      (by_group c.marked.world c.stops.0 c.stops.1.group c.stops.1.carriers (alive_still old.world c.marked.world (ap (λ (w : World). w.group) c.mark.rest.goes.world) alive)) c.stops.2
+  mirrors_in g name named end (inr (inr (inr a))) =
+      copying_mirror a.joined new (well_after old a.joined new (mirrored_later g name named a.joined a.mirrored) a.rest well) a.copied.group a.mirrored.mark.volume end a.copied.ends
+
+  mirrors : (name : Word) (named : List Word) (end : End) (o : Option Group) → MatchOption o (EndsIn (refusal.NoGroup None) old end new) (λ g. MirrorStopsIn g name named old end new) → IsDoneOrRefused end
+  mirrors name named end None ends = inr (_, ends.0)
+  mirrors name named end (Some g) stops = mirrors_in g name named end stops
 
   ends_stop : (name : Word) (end : End) → StopStops name old end new → IsDoneOrRefused end
   ends_stop name end (inl (inl (r, e, is), rests)) = inr (r, is)
@@ -178,6 +214,7 @@ stops_well (stage.Import dg) disks old new end well carried (inr (inr (mid, betw
     stopping mid new (well_after old mid new between.first between.rest well) x end (by_devices dg old.world x old.counts mid.counts writing carried) stopped
 stops_well stage.LetGo disks old new end well carried stops = absurd stops
 stops_well (stage.Start vol) disks old new end well carried stops = starts old new well carried vol end old.world.group stops
+stops_well (stage.Mirror mirror) disks old new end well carried stops = mirrors old new well carried mirror.vol mirror.disks end old.world.group stops
 stops_well (stage.Stop vol) disks old new end well carried stops = ends_stop old new well carried vol end stops
 
 -- the stage changes nothing of the world
@@ -209,6 +246,7 @@ kept_world (stage.Create dg) disks old mid keeps done = cc
 kept_world (stage.Import dg) disks old mid keeps done = cc
 kept_world stage.LetGo disks old mid keeps done = cc
 kept_world (stage.Start vol) disks old mid keeps done = cc
+kept_world (stage.Mirror mirror) disks old mid keeps done = cc
 kept_world (stage.Stop vol) disks old mid keeps done = cc
 
 -- behind a stage this holds of the world: one that adds records leaves any in which the group has a good disk, each other one keeps the world
@@ -247,6 +285,7 @@ behind (stage.Create dg) disks old mid Holds is done = cc
 behind (stage.Import dg) disks old mid Holds is done = cc
 behind stage.LetGo disks old mid Holds is done = cc
 behind (stage.Start vol) disks old mid Holds is done = cc
+behind (stage.Mirror mirror) disks old mid Holds is done = cc
 behind (stage.Stop vol) disks old mid Holds is done = cc
 
 pub runs_later : (disks : List DiskAt) (stages : List Stage) (finish : Finish) (old : Moment) (views : List View) (end : End) (new : Moment) → Runs disks stages finish old views end new → AreLater old.counts new.counts
@@ -299,7 +338,7 @@ plan_shaped dg (form.RemoveVolume vol) w has = (tt, (refl, (tt, (refl, (tt, (ref
 plan_shaped dg (form.VxMake text) w has = (tt, (refl, has.group))
 plan_shaped dg (form.PrintHt vol) w has = tt
 plan_shaped dg (form.AssistMake vol length attrs disks) w has = (tt, (refl, (has.group, λ v alive. (tt, (refl, alive)))))
-plan_shaped dg (form.Mirror vol disks) w has = tt
+plan_shaped dg (form.Mirror vol disks) w has = (tt, (refl, has.group))
 plan_shaped dg (form.PlexDis plex rm) w has = tt
 plan_shaped dg (form.Prepare vol ndcomirs region) w has = tt
 plan_shaped dg (form.Unprepare vol) w has = tt

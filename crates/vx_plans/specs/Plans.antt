@@ -13,6 +13,7 @@ use Rattle.vx_script_forms.specs.declared.form.WordPolicy.TheVariants as words
 use Rattle.vx_stages.specs.declared.stages.Finish.{Finish}
 use Rattle.vx_stages.specs.declared.stages.Finish.TheVariants.{Nothing, Records}
 use Rattle.vx_stages.specs.declared.stages.Plan.{Plan}
+use Rattle.vx_new_volumes.specs.declared.mirror.NewPlex.{NewPlex}
 use Rattle.vx_new_volumes.specs.declared.volume.NewVolume.{NewVolume}
 use Rattle.vx_stages.specs.declared.stage.Change.TheVariants as changes
 use Rattle.vx_stages.specs.declared.stage.Source.TheVariants as source
@@ -103,6 +104,10 @@ plan_new dg n =
 
 -- ---- other commands
 
+-- `vxassist mirror VOL DM*`: the mirror ends the command
+abbrev pub plan_mirror : Option Word → NewPlex → List Stage
+plan_mirror dg new = stage.Gate (tests.GroupIs dg) ∷ stage.Mirror new ∷ []
+
 -- `vxassist remove volume VOL`
 abbrev pub plan_remove : Option Word → Word → List Stage
 plan_remove dg vol =
@@ -137,6 +142,7 @@ plan_of dg (form.VxMake text) = doing (plan_make dg text)
 plan_of dg (form.AssistMake vol length attrs disks) = doing (plan_new dg (new_volume vol length attrs disks))
 plan_of dg (form.Rdpol vol words) = doing (plan_rdpol dg vol words)
 plan_of dg (form.RemoveVolume vol) = doing (plan_remove dg vol)
+plan_of dg (form.Mirror vol disks) = doing (plan_mirror dg (record { vol = vol; disks = disks }))
 plan_of dg (form.Start vol) = doing (plan_start dg vol)
 plan_of dg (form.Stop vol) = doing (plan_stop dg vol)
 plan_of dg other = None

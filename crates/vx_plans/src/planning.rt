@@ -1,6 +1,6 @@
 //! The plan of each form.
 ghost use Rattle.std.specs.Prelude.{◌≡◌, IfOk};
-ghost use Rattle.vx_plans.specs.Plans.{columns_of, doing, ending, logs_of, new_volume, or_else, plan_add, plan_bare, plan_deport, plan_init, plan_make, plan_new, plan_of, plan_print, plan_rdpol, plan_remove, plan_start, plan_stop, plan_unsetup};
+ghost use Rattle.vx_plans.specs.Plans.{columns_of, doing, ending, logs_of, new_volume, or_else, plan_add, plan_bare, plan_deport, plan_init, plan_make, plan_mirror, plan_new, plan_of, plan_print, plan_rdpol, plan_remove, plan_start, plan_stop, plan_unsetup};
 ghost use Rattle.vx_stages.specs.declared.stages.Finish.TheVariants.{Records};
 ghost use Rattle.vx_stages.specs.declared.stage.Change.TheVariants as changes;
 ghost use Rattle.vx_stages.specs.declared.stage.Stage.TheVariants as stages;
@@ -9,7 +9,7 @@ use std::alloc::Global;
 use vx_base::OutOfMemory;
 use vx_config_parts::PolicyName;
 use vx_names::Name;
-use vx_new_volumes::{NewVolume, Request};
+use vx_new_volumes::{NewPlex, NewVolume, Request};
 use vx_objects::Listed;
 use vx_script_forms::{Form, MakeAttrs, WordLayout, WordPolicy};
 use vx_script_words::{Bytes, Names};
@@ -46,6 +46,7 @@ pub fn plan(alloc: Global, group: Option<Name>, form: &Form) -> Result<Option<Pl
         ),
         Form::Rdpol { vol, policy } => rdpol(alloc, group, *vol, *policy),
         Form::RemoveVolume { vol } => remove(alloc, group, *vol),
+        Form::Mirror { vol, disks } => mirror(alloc, group, new_plex(alloc, *vol, disks)?),
         Form::Start { vol } => start(alloc, group, *vol),
         Form::Stop { vol } => stop(alloc, group, *vol),
         _ => Ok(None),
@@ -275,6 +276,23 @@ fn remove(alloc: Global, group: Option<Name>, vol: Name) -> Result<Option<Plan>,
             Stage::Gate(Test::Unrelated(vol)),
             Stage::Change(Change::Remove(vol)),
         ],
+    )
+}
+
+/// The mirror that is asked for.
+fn new_plex(alloc: Global, vol: Name, disks: &Names) -> Result<NewPlex, OutOfMemory>
+    ensures { IfOk result (λ new. (new.vol ≡ vol) × (new.disks ≡ disks.now)) }
+{
+    let disks = Listed::from_vec(disks.to_vec(alloc)?);
+    Ok(NewPlex { vol, disks })
+}
+
+fn mirror(alloc: Global, group: Option<Name>, new: NewPlex) -> Result<Option<Plan>, OutOfMemory>
+    ensures { IfOk result (λ plan. plan ≡ doing (plan_mirror group new)) }
+{
+    doing(
+        alloc,
+        [Stage::Gate(Test::GroupIs(group)), Stage::Mirror(new)],
     )
 }
 

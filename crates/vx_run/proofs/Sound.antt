@@ -68,8 +68,8 @@ plan_sound dg (form.VxMake text) size = record { fed = ((λ is. cc, tt), ((λ is
 plan_sound dg (form.AssistMake vol length attrs disks) size = record { fed = ((λ is. cc, tt), ((λ is. cc, tt), ((λ is. cc, tt), ((λ is. cc, (inl refl, tt)), tt)))); kept = tt; sized = (tt, (tt, (tt, (tt, tt)))); shows = tt }
 plan_sound dg (form.Start vol) size = record { fed = ((λ is. cc, tt), ((λ is. cc, tt), ((λ is. cc, tt), ((λ is. cc, (inr (inr (inl refl)), tt)), tt)))); kept = tt; sized = (tt, (tt, (tt, (tt, tt)))); shows = tt }
 plan_sound dg (form.Stop vol) size = record { fed = ((λ is. cc, tt), ((λ is. cc, tt), ((λ is. cc, tt), tt))); kept = tt; sized = (tt, (tt, (tt, tt))); shows = tt }
+plan_sound dg (form.Mirror vol disks) size = record { fed = ((λ is. cc, tt), ((λ is. cc, tt), tt)); kept = tt; sized = (tt, (tt, tt)); shows = tt }
 plan_sound dg (form.PrintHt vol) size = tt
-plan_sound dg (form.Mirror vol disks) size = tt
 plan_sound dg (form.PlexDis plex rm) size = tt
 plan_sound dg (form.Prepare vol ndcomirs region) size = tt
 plan_sound dg (form.Unprepare vol) size = tt

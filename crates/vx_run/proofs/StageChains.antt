@@ -92,6 +92,7 @@ module _ {P : Type 0} {ghosts : Ghosts P} (see : P → Seen) (disks : List DiskA
       by (stage.Import dg) keeps first still = cc
       by stage.LetGo keeps first still = cc
       by (stage.Start vol) keeps first still = cc
+      by (stage.Mirror mirror) keeps first still = cc
       by (stage.Stop vol) keeps first still = cc
 
   -- what is given behind a stage: all that was, or where it changed the world, nothing

@@ -25,4 +25,5 @@ world_kept (stage.Create dg) disks m n keeps done = cc
 world_kept (stage.Import dg) disks m n keeps done = cc
 world_kept stage.LetGo disks m n keeps done = cc
 world_kept (stage.Start vol) disks m n keeps done = cc
+world_kept (stage.Mirror mirror) disks m n keeps done = cc
 world_kept (stage.Stop vol) disks m n keeps done = cc

@@ -11,11 +11,11 @@ use vx_house::{House, Stop, give_group, refused, take, take_disks};
 use vx_piece::Piece;
 use vx_script_words::DiskAt;
 use vx_shelf::Shelf;
-use vx_stage_changes::{change, create, join};
+use vx_stage_changes::{change, create, join, make};
 use vx_stage_devices::{look_blank, look_disks, look_headed, make_image, search, start_bare, wipe};
 use vx_stage_gates::failing;
 use vx_stage_import::import;
-use vx_stage_records::make;
+use vx_stage_mirrors::mirror;
 use vx_stage_volumes::{start, stop};
 use vx_stages::{Stage, Test};
 
@@ -50,6 +50,7 @@ pub(crate) fn run_stage<S: Shelf>(
         Stage::Join => join(alloc, house, disks),
         Stage::Create(dg) => create(alloc, house, dg, disks),
         Stage::Start(vol) => start(alloc, house, *vol),
+        Stage::Mirror(new) => mirror(alloc, house, new),
         Stage::Stop(vol) => stop(alloc, house, vol),
     }
 }

@@ -1,9 +1,11 @@
 -- What each commit of a command leaves.
-use Rattle.std.proofs.Common.{◌≡◌, ◌⊎◌, ℕ, [], Option, Some, MatchOption, sym, ◌∙◌, ap, subst, inl, inr}
+use Rattle.std.proofs.Common.{◌≡◌, ◌⊎◌, ℕ, List, [], ◌∷◌, Option, Some, MatchOption, sym, ◌∙◌, ap, subst, inl, inr}
 use Rattle.vx_base.specs.Named.{Word}
 use Rattle.vx_base.proofs.NamedLemmas.{bytes_eq_same}
 use Rattle.vx_copies.specs.Image.{Offer}
+use Rattle.vx_config_parts.specs.declared.object.Object.{Object}
 use Rattle.vx_objects.specs.declared.config.Config.{Config}
+use Rattle.vx_objects.specs.declared.edit.Edit.TheVariants.{Make}
 use Rattle.vx_objects.specs.Config.{objects_of}
 use Rattle.vx_answers.specs.declared.answer.End.{End}
 use Rattle.vx_answers.specs.declared.answer.End.TheVariants as ends
@@ -19,9 +21,10 @@ use Rattle.vx_plans.proofs.Carriers.{FoundBy, found_by}
 use Rattle.vx_sound.specs.Standing.{HoldsNoHeader, IsLeading, IsStanding}
 use Rattle.vx_script_words.specs.declared.value.DiskAt.{DiskAt}
 use Rattle.vx_moments.specs.Holding.{has_volume}
+use Rattle.vx_group_edits.specs.OfVolume.{AreOf}
 use Rattle.vx_moments.specs.Leaving.{lone}
 use Rattle.vx_stages.specs.Records.{disk_record, next_slot, sectors_at}
-use Rattle.vx_sound.proofs.Names.{IsApart, IsFree, change_apart, finds_free, import_apart, join_apart, make_apart}
+use Rattle.vx_sound.proofs.Names.{IsApart, IsFree, change_apart, finds_free, import_apart, join_apart, make_apart, parts_apart}
 use Rattle.vx_sound.proofs.Edits.{IsGrown, change_grown, make_grown, import_grown}
 use Rattle.vx_sound.proofs.Ready.{IsReady}
 use Rattle.vx_sound.proofs.ReadyToWrite.{IsLed, led, ready_alone}
@@ -75,6 +78,10 @@ change_unnamed change w x s is = change_apart w change w.group x.group.config x.
 pub make_unnamed : (from : Source) (w : World) (x : Writing) → IsStanding w → IsMaking from w x → IsApart x.config w
 make_unnamed from w x s is = make_apart w is.added x.group.config x.config is.change.edited is.fine (group_apart w x.group s is.change.group)
 
+-- records of one volume are added
+pub parts_unnamed : (name : Word) (added : List Object) (w : World) (x : Writing) → IsStanding w → AreOf name added → IsChange (Make added ∷ []) w x → IsApart x.config w
+parts_unnamed name added w x s of is = parts_apart w name added x.group.config x.config of is.edited (group_apart w x.group s is.group)
+
 pub join_unnamed : (p : DiskAt) (w : World) (x : Writing) → IsStanding w → IsJoining p w x → IsApart x.config w
 join_unnamed p w x s is = join_apart w (disk_record p (next_slot x.group.config) (sectors_at w p.device)) x.group.config x.config is.edited (group_apart w x.group s is.group)
 
@@ -87,8 +94,11 @@ import_unnamed dg w x old new is =
 pub change_ready : (change : Change) (w : World) (x : Writing) → IsStanding w → IsChange (edits_of change w.group) w x → IsReady x w
 change_ready change w x s is = ready_alone x w (imported_led w x.group s is.group) (change_grown change w.group x.group.config x.config is.edited) is.joiners is.carriers
 
+pub added_ready : (added : List Object) (w : World) (x : Writing) → IsStanding w → IsChange (Make added ∷ []) w x → IsReady x w
+added_ready added w x s is = ready_alone x w (imported_led w x.group s is.group) (make_grown added x.group.config x.config is.edited) is.joiners is.carriers
+
 pub make_ready : (from : Source) (w : World) (x : Writing) → IsStanding w → IsMaking from w x → IsReady x w
-make_ready from w x s is = ready_alone x w (imported_led w x.group s is.change.group) (make_grown is.added x.group.config x.config is.change.edited) is.change.joiners is.change.carriers
+make_ready from w x s is = added_ready is.added w x s is.change
 
 pub import_ready : (dg : Word) (w : World) (x : Writing) (old new : Counts) → IsStanding w → IsImporting dg w x old new → IsReady x w
 import_ready dg w x old new s is = by (found_by dg w is.found.unread is.found.counted F is.finds)

@@ -1,10 +1,11 @@
 -- Which volumes a configuration records, by their names, and that no command records one of a name that a volume on a whole device has.
 use Rattle.std.proofs.Common.{◌≡◌, ◌∙◌, ◌⊎◌, ℕ, ◌+◌, ◌^◌, ◌||◌, not, nat_lt, Bool, true, false, List, [], ◌∷◌, ◌++◌, map, Option, Some, None, is_some, MatchBool, MatchOption, refl, sym, ap, subst, inl, inr}
-use Rattle.std.specs.List.{list_any, filter_map, cons_option}
+use Rattle.std.specs.List.{list_all, list_any, filter_map, cons_option}
 use Rattle.std.specs.Prelude.{if◌then◌else◌}
 use Rattle.std.specs.Str.{bytes_eq}
 use Rattle.std.proofs.lemmas.List.Elements.{filter_map-append}
 use Rattle.std.proofs.lemmas.List.Folds.{list_any-append}
+use Rattle.std.proofs.lemmas.Bool.{and_parts, false≢true}
 use Rattle.vx_base.specs.Named.{Word}
 use Rattle.vx_base.proofs.NamedLemmas.{bytes_eq_same}
 use Rattle.vx_mask.specs.Mask.{has}
@@ -41,6 +42,7 @@ use Rattle.vx_stages.specs.Records.{disk_records, new_records}
 use Rattle.vx_stages.specs.Refusals.{refusal_from}
 use Rattle.vx_stages.specs.Stages.{edits_of, policy_edit}
 use Rattle.vx_stages.specs.Tests.{recorded}
+use Rattle.vx_group_edits.specs.OfVolume.{AreOf, is_part_of}
 use Rattle.vx_stages.specs.declared.stage.Change.{Change}
 use Rattle.vx_stages.specs.declared.stage.Change.TheVariants as changes
 
@@ -232,6 +234,20 @@ module _ (w : World) where
   make_apart xs old new made fine apart vol h = elim (one_edit (Make xs) (make_names xs) old new made vol h) [
     | inl was ↦ apart vol was
     | inr now ↦ none_lone vol (named_not_started xs (not_started (objects_of old) xs fine) vol now)
+  ]
+
+  -- records that are of one volume are plexes and subdisks
+  part_unnamed : (name vol : Word) (all os : List Object) → list_all (is_part_of name all) os ≡ true → has_named vol os ≡ false
+  part_unnamed name vol all [] of = refl
+  part_unnamed name vol all (PlexRecord p ∷ os) of = part_unnamed name vol all os (and_parts (is_part_of name all (PlexRecord p)) (list_all (is_part_of name all) os) of).1
+  part_unnamed name vol all (SubdiskRecord s ∷ os) of = part_unnamed name vol all os (and_parts (is_part_of name all (SubdiskRecord s)) (list_all (is_part_of name all) os) of).1
+  part_unnamed name vol all (o ∷ os) of = absurd (false≢true of)
+
+  pub parts_apart : (name : Word) (xs : List Object) (old new : Config) → AreOf name xs → IsEdited (Make xs ∷ []) old new → IsApart old w → IsApart new w
+  unfolding added
+  parts_apart name xs old new of made apart vol h = elim (one_edit (Make xs) (make_names xs) old new made vol h) [
+    | inl was ↦ apart vol was
+    | inr now ↦ absurd (not_both now (part_unnamed name vol xs xs of))
   ]
 
   -- ---- a new group

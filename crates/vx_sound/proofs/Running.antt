@@ -1,4 +1,4 @@
--- A volume of the group that is started or stopped leaves the world sound: its calls change its own sectors alone, which are public, and its
+-- A volume of the group that is started, stopped or gets a mirror leaves the world sound: its calls change its own sectors alone, which are public, and its
 -- states are committed.
 use Rattle.std.proofs.Common.{◌≡◌, ◌∙◌, ◌||◌, ℕ, Bool, true, false, cond, List, [], ◌∷◌, Option, Some, None, MatchBool, MatchOption, refl, sym, ap, subst, inl, inr}
 use Rattle.std.specs.List.{list_any}
@@ -23,13 +23,15 @@ use Rattle.vx_moments.specs.Moment.{Counts, Moment}
 use Rattle.vx_moments.specs.World.{Group, OnPlexes, Volume, World}
 use Rattle.vx_moments.specs.Group.{image_on}
 use Rattle.vx_moments.specs.Lives.{volume_by}
+use Rattle.vx_group_edits.proofs.Each.{is_new as mirror_is_new}
 use Rattle.vx_stages.specs.Ends.{EndsIn, IsChange}
+use Rattle.vx_stages.specs.Mirrored.{IsMirrorCopied, IsMirroredBy, MirrorCopiesTo, MirrorStops, MirrorStopsIn, volume_joined}
 use Rattle.vx_stages.specs.Starting.{BecomesBy, CopiesTo, IsCopied, IsStartedBy, StartStops, StopsIn, StopsOf, may_start, plexes_started, volume_started}
 use Rattle.vx_stages.specs.Stopping.{ComesToRest, IsStopDone, StopStops, rested_volume, without_volume}
 use Rattle.vx_stages.specs.Tests.{volume_in}
 use Rattle.vx_stages.specs.Touching.{IsTouched, VolumeGoes}
 use Rattle.vx_sound.specs.Standing.{IsStanding}
-use Rattle.vx_sound.proofs.Commits.{Ends, commit_done, commit_stopped, group_apart, imported_led}
+use Rattle.vx_sound.proofs.Commits.{Ends, added_ready, commit_done, commit_stopped, group_apart, imported_led, parts_unnamed}
 use Rattle.vx_sound.proofs.Headers.{some_same}
 use Rattle.vx_sound.proofs.Names.{IsApart}
 use Rattle.vx_sound.proofs.Private.{behind_private, front_itself, standing_behind}
@@ -215,3 +217,57 @@ module _ (name : Word) (old : Moment) (s : IsStanding old.world) where
       let r = b.record_is in
       let stands = rested b.mid r.rest in
       commit_stopped b.writing b.mid end new stands (stop_ready b.mid.world b.writing stands r.rest.group (rested_group b.mid r.rest) r.of r.marks b.edits r.edits_are b.change) b.stopped
+
+-- ---- a mirror
+
+-- copying leaves the volume where it lies
+module _ (now : Group) (name plex : Word) (plexes : List Word) (failed : Word → Bool) (old new : Counts) (run later : Volume) where
+  mirror_copies : (end : End) → MirrorCopiesTo now name plex plexes failed old new end run later → later.lies ≡ run.lies
+  mirror_copies (ends.Done copied parts blocks) (inl is) = ap (λ (x : Volume). x.lies) is
+  mirror_copies (ends.Done copied parts blocks) (inr (log, is)) = ap (λ (x : Volume). x.lies) is
+  mirror_copies (ends.Fault told device parts) is = ap (λ (x : Volume). x.lies) is
+  mirror_copies (ends.Lost parts) is = ap (λ (x : Volume). x.lies) is
+  mirror_copies (ends.Refused r) is = ap (λ (x : Volume). x.lies) is
+  mirror_copies ends.ShelfFailed is = ap (λ (x : Volume). x.lies) is
+  mirror_copies ends.GroupLost is = ap (λ (x : Volume). x.lies) is
+
+module _ (old : Moment) (end : End) (new : Moment) (s : IsStanding old.world) (name : Word) (disks : List Word) where
+  module _ (g : Group) where
+    -- its map is marked, and its records are committed
+    pub mirror_recorded : (m : Moment) (b : IsMirroredBy g name disks old m) → IsStanding b.recorded.world
+    mirror_recorded m b =
+        let mark = b.mark in
+        let stands = rested name old s b.marked mark.rest in
+        let made = mirror_is_new g.config g.good mark.volume disks mark.map mark.added mark.mirror.laid in
+        commit_done b.writing b.marked b.recorded stands (added_ready mark.added b.marked.world b.writing stands b.change)
+        (parts_unnamed mark.volume.name mark.added b.marked.world b.writing stands made.1.of b.change) b.committed
+
+    -- it joins
+    pub joined_stands : (m : Moment) → IsMirroredBy g name disks old m → IsStanding m.world
+    joined_stands m b =
+        let j = b.joins in
+        let recorded = mirror_recorded m b in
+        let run = volume_joined j.later b.mark.plex.name j.volume in
+        subst IsStanding (sym j.world)
+        (standing_goes name b.recorded.world.devices (Some run) b.recorded.world (ap lone j.was ∙ lone_plexes j.volume j.plexes j.lies) (lone_plexes run j.later refl) (λ other. front_itself (b.recorded.world.devices other)) recorded)
+
+    pub mirror_after : (m : Moment) (v : Vol) (plex : Word) → IsMirroredBy g name disks old m → IsMirrorCopied v plex m end new → IsStanding new.world
+    mirror_after m v plex b c =
+        standing_run c.group v.name c.later c.plexes m new
+        (mirror_copies c.group v.name plex c.plexes c.failed m.counts new.counts c.volume c.later end c.becomes ∙ c.lies)
+        (ap lone c.was ∙ lone_plexes c.volume c.plexes c.lies) c.goes (joined_stands m b)
+
+    mirror_in_group : MirrorStopsIn g name disks old end new → Ends end new.world
+    mirror_in_group (inl (why, rests)) = still old end new s rests.stays.world
+    mirror_in_group (inr (inl u)) = inl (rested name old s new u.stops.rest)
+    mirror_in_group (inr (inr (inl c))) =
+        let stands = rested name old s c.marked c.mark.rest in
+        commit_stopped c.stops.0 c.marked end new stands (added_ready c.mark.added c.marked.world c.stops.0 stands c.stops.1) c.stops.2
+    mirror_in_group (inr (inr (inr a))) = inl (mirror_after a.joined a.mirrored.mark.volume a.mirrored.mark.plex.name a.mirrored a.copied)
+
+  mirror_in_world : (o : Option Group) → MatchOption o (EndsIn (refusal.NoGroup None) old end new) (λ g. MirrorStopsIn g name disks old end new) → Ends end new.world
+  mirror_in_world None ends = still old end new s ends.1.stays.world
+  mirror_in_world (Some g) stops = mirror_in_group g stops
+
+  pub mirror_ends : MirrorStops name disks old end new → Ends end new.world
+  mirror_ends stops = mirror_in_world old.world.group stops

@@ -34,6 +34,7 @@ Passed (stage.Create dg) disks w = ⊥
 Passed (stage.Import dg) disks w = ⊥
 Passed stage.LetGo disks w = ⊥
 Passed (stage.Start vol) disks w = ⊥
+Passed (stage.Mirror mirror) disks w = ⊥
 Passed (stage.Stop vol) disks w = ⊥
 
 -- the stage leaves the world
@@ -55,6 +56,7 @@ leaves_world (stage.Create dg) = false
 leaves_world (stage.Import dg) = false
 leaves_world stage.LetGo = false
 leaves_world (stage.Start vol) = false
+leaves_world (stage.Mirror mirror) = false
 leaves_world (stage.Stop vol) = false
 
 -- such a stage that is done
@@ -76,6 +78,7 @@ calm_done (stage.Create dg) disks old new calm done = cc
 calm_done (stage.Import dg) disks old new calm done = cc
 calm_done stage.LetGo disks old new calm done = cc
 calm_done (stage.Start vol) disks old new calm done = cc
+calm_done (stage.Mirror mirror) disks old new calm done = cc
 calm_done (stage.Stop vol) disks old new calm done = cc
 
 taking_stays : (taken names : List Word) (old : Moment) (end : End) (new : Moment) → TakingStops taken names old end new → new.world ≡ old.world
@@ -103,6 +106,7 @@ calm_stops (stage.Create dg) disks old end new calm stops = cc
 calm_stops (stage.Import dg) disks old end new calm stops = cc
 calm_stops stage.LetGo disks old end new calm stops = cc
 calm_stops (stage.Start vol) disks old end new calm stops = cc
+calm_stops (stage.Mirror mirror) disks old end new calm stops = cc
 calm_stops (stage.Stop vol) disks old end new calm stops = cc
 
 abbrev pub AreCalm : List Stage → Type 0

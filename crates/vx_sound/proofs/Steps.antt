@@ -24,6 +24,7 @@ use Rattle.vx_moments.specs.Leaving.{PowerGoes}
 use Rattle.vx_moments.specs.Holding.{has_volume}
 use Rattle.vx_moments.proofs.Lone.{none_lone}
 use Rattle.vx_moments.specs.Commit.{Writing}
+use Rattle.vx_new_volumes.specs.declared.mirror.NewPlex.{NewPlex}
 use Rattle.vx_plans.specs.Plans.{new_volume, plan_of}
 use Rattle.vx_stages.specs.Records.{devices_of}
 use Rattle.vx_stages.specs.Ends.{IsChange}
@@ -50,7 +51,7 @@ use Rattle.vx_sound.proofs.Ready.{IsReady}
 use Rattle.vx_sound.proofs.Runs.{AreCalm, AllPassed, Through, runs_through}
 use Rattle.vx_sound.proofs.Settlement.{settled, standing_gone, standing_left}
 use Rattle.vx_sound.proofs.Names.{IsApart, create_apart}
-use Rattle.vx_sound.proofs.Running.{start_ends, stop_done, stop_ends}
+use Rattle.vx_sound.proofs.Running.{mirror_ends, start_ends, stop_done, stop_ends}
 use Rattle.vx_sound.proofs.Volumes.{standing_bare, standing_served}
 
 same_ends : (end : End) (w v : World) → v ≡ w → IsStanding w → Ends end v
@@ -211,6 +212,9 @@ module _ (views : List View) (end : End) (new : Moment) where
   stopping_ends : (dg : Option Word) (vol : Word) (mid : Moment) → IsStanding mid.world → AllPassed (stage.Gate (tests.GroupIs dg) ∷ stage.Gate (tests.HasVolume vol) ∷ []) [] mid.world → Runs [] (stage.Stop vol ∷ []) Nothing mid views end new → Ends end new.world
   stopping_ends dg vol mid s passed runs = one_stage (stage.Stop vol) [] Nothing mid views end new (λ m done. stop_done vol mid s m done) (λ stops. stop_ends vol mid s end new stops) runs
 
+  mirroring_ends : (mirror : NewPlex) (mid : Moment) → IsStanding mid.world → Runs [] (stage.Mirror mirror ∷ []) Nothing mid views end new → Ends end new.world
+  mirroring_ends mirror mid s runs = one_stage (stage.Mirror mirror) [] Nothing mid views end new (λ m done. absurd done) (λ stops. mirror_ends mid end new s mirror.vol mirror.disks stops) runs
+
   shown_ends : (finish : Finish) (mid : Moment) → IsStanding mid.world → Runs [] [] finish mid views end new → Ends end new.world
   shown_ends finish mid s runs = inl (subst (λ (n : Moment). IsStanding n.world) (sym runs.2) s)
 
@@ -273,7 +277,10 @@ module _ (old : Moment) (views : List View) (end : End) (new : Moment) (s : IsSt
       let calm = stage.Gate (tests.GroupIs dg) ∷ [] in
       let rest = stage.Make from ∷ stage.Gate (tests.Stopped vol) ∷ stage.Start vol ∷ [] in
       at_last calm rest [] Nothing old views end new s (λ mid t passed runs. new_ends views end new from vol mid t runs) (runs_through calm rest [] Nothing old views end new (refl, tt) does)
-  form_ends place dg (form.Mirror vol disks) none does = not_built does
+  form_ends place dg (form.Mirror vol disks) none does =
+      let mirror : NewPlex = record { vol = vol; disks = disks } in
+      let calm = stage.Gate (tests.GroupIs dg) ∷ [] in
+      at_last calm (stage.Mirror mirror ∷ []) [] Nothing old views end new s (λ mid t passed runs. mirroring_ends views end new mirror mid t runs) (runs_through calm (stage.Mirror mirror ∷ []) [] Nothing old views end new (refl, tt) does)
   form_ends place dg (form.Start vol) none does =
       let calm = stage.Gate (tests.GroupIs dg) ∷ stage.Gate (tests.HasVolume vol) ∷ stage.Gate (tests.Stopped vol) ∷ [] in
       at_last calm (stage.Start vol ∷ []) [] Nothing old views end new s (λ mid t passed runs. starting_ends views end new vol mid t runs) (runs_through calm (stage.Start vol ∷ []) [] Nothing old views end new (refl, (refl, (refl, tt))) does)

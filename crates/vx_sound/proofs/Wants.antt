@@ -31,6 +31,8 @@ same_stands w v same s = subst IsStanding (sym same) s
 wants_stand : (s : Stage) (old new : Moment) → IsStanding old.world → Wants s old new → IsStanding new.world
 wants_stand (stage.Start vol) old new s (inl same) = same_stands old.world new.world same s
 wants_stand (stage.Start vol) old new s (inr (g, v, here, found, may, touched, near)) = standing_touched g vol old new touched s
+wants_stand (stage.Mirror mirror) old new s (inl same) = same_stands old.world new.world same s
+wants_stand (stage.Mirror mirror) old new s (inr rest) = rested mirror.vol old s new rest
 wants_stand (stage.Stop vol) old new s (inl same) = same_stands old.world new.world same s
 wants_stand (stage.Stop vol) old new s (inr rest) = rested vol old s new rest
 wants_stand other old new s same = same_stands old.world new.world same s

@@ -9,6 +9,7 @@ mod Places
 mod Stages
 mod Volumes
 mod Starts
+mod Mirrors
 mod Steps
 mod Runs
 mod Alike

@@ -1,4 +1,4 @@
--- A start and a stop of a volume of the imported group, and what want of memory leaves of them.
+-- A start and a stop of a volume of the imported group, and what want of memory leaves of them, and of a mirror.
 use Rattle.std.proofs.Common.{◌≡◌, ◌∙◌, ℕ, Bool, true, false, Option, Some, None, MatchBool, MatchOption, refl, sym, ap, subst, inl, inr}
 use Rattle.vx_base.specs.Named.{Word, put}
 use Rattle.vx_base.proofs.NamedLemmas.{put_same}
@@ -103,7 +103,7 @@ module _ (laws : StateLaws) (place : ℕ) (name : Word) (old : Moment) (k : IsKn
   rested_known mid rest =
       goes_known rest.group name (rested_volume rest) rest.plexes old mid rest.here (λ u is. ap (λ (x : Volume). x.lies) (some_same u rest.volume (sym is ∙ rest.there)) ∙ rest.lies) rest.goes (rested name old k.standing mid rest) k
 
-  was_sound : (mid : Moment) (rest : ComesToRest name old mid) → rest.volume.sound ≡ true
+  pub was_sound : (mid : Moment) (rest : ComesToRest name old mid) → rest.volume.sound ≡ true
   was_sound mid rest = sound.sound.running name rest.volume (ap grouped rest.there ∙ grouped_runs rest.volume rest.plexes rest.lies)
 
   -- the volume is out of the world
@@ -147,6 +147,8 @@ module _ (laws : StateLaws) (place : ℕ) (name : Word) (old : Moment) (k : IsKn
 pub wants_known : (laws : StateLaws) (place : ℕ) (s : Stage) (old new : Moment) → IsKnown old.world → IsSoundBefore place old.world → Wants s old new → IsKnown new.world
 wants_known laws place (stage.Start vol) old new k sound (inl same) = subst IsKnown (sym same) k
 wants_known laws place (stage.Start vol) old new k sound (inr (g, v, here, found, may, touched, narrows)) = touched_known g vol old new here touched k
+wants_known laws place (stage.Mirror mirror) old new k sound (inl same) = subst IsKnown (sym same) k
+wants_known laws place (stage.Mirror mirror) old new k sound (inr rest) = rested_known laws place mirror.vol old k sound new rest
 wants_known laws place (stage.Stop vol) old new k sound (inl same) = subst IsKnown (sym same) k
 wants_known laws place (stage.Stop vol) old new k sound (inr rest) = rested_known laws place vol old k sound new rest
 wants_known laws place other old new k sound same = subst IsKnown (sym same) k

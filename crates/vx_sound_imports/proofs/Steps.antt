@@ -10,6 +10,7 @@ use Rattle.vx_image.specs.Soundness.{IsSoundImage}
 use Rattle.vx_config_parts.specs.declared.vol.PolicyName.TheVariants as policy
 use Rattle.vx_config_parts.specs.declared.vol.Vol.{Vol}
 use Rattle.vx_objects.specs.declared.edit.Edit.{Edit}
+use Rattle.vx_new_volumes.specs.declared.mirror.NewPlex.{NewPlex}
 use Rattle.vx_new_volumes.specs.declared.volume.NewVolume.{NewVolume}
 use Rattle.vx_script_words.specs.declared.value.DiskAt.{DiskAt}
 use Rattle.vx_script_forms.specs.declared.form.Form.{Form}
@@ -60,6 +61,7 @@ use Rattle.vx_sound_imports.proofs.Writings.{HasWhole, change_safe, create_safe,
 use Rattle.vx_sound_imports.proofs.Leading.{leading_read}
 use Rattle.vx_sound_imports.proofs.Nexts.{IsSafe}
 use Rattle.vx_sound_imports.proofs.Stages.{IsLostBy, Settles, committed_known, imported_away, leads, stopped_settles, unknown_settles}
+use Rattle.vx_sound_imports.proofs.Mirrors.{mirror_settles}
 use Rattle.vx_sound_imports.proofs.Starts.{start_settles, stop_done_known, stop_settles}
 use Rattle.vx_sound_imports.proofs.Volumes.{IsKnown, call_settles, known_settles, still_settles}
 
@@ -266,6 +268,10 @@ module _ (laws : StateLaws) (place : ℕ) (views : List View) (end : End) (new :
   stopping_settles vol mid k sound runs =
       one_stage (stage.Stop vol) [] Nothing mid views end new (λ m is. stop_done_known laws place vol mid k sound m is) (λ stops. stop_settles laws place vol mid k sound end new stops) runs
 
+  mirroring_settles : (mirror : NewPlex) (mid : Moment) → IsKnown mid.world → IsSoundBefore place mid.world → Runs [] (stage.Mirror mirror ∷ []) Nothing mid views end new → Settles end new.world
+  mirroring_settles mirror mid k sound runs =
+      one_stage (stage.Mirror mirror) [] Nothing mid views end new (λ m is. absurd is) (λ stops. mirror_settles laws place mirror.vol mirror.disks mid end new k sound stops) runs
+
   shown_settles : (finish : Finish) (mid : Moment) → IsKnown mid.world → Runs [] [] finish mid views end new → Settles end new.world
   shown_settles finish mid k runs = still_settles end mid.world new.world (ap (λ (m : Moment). m.world) runs.2) k
 
@@ -333,6 +339,10 @@ module _ (laws : StateLaws) (place : ℕ) (old : Moment) (views : List View) (en
   form_settles dg (form.Start vol) none does =
       let calm = stage.Gate (tests.GroupIs dg) ∷ stage.Gate (tests.HasVolume vol) ∷ stage.Gate (tests.Stopped vol) ∷ [] in
       at_last calm (stage.Start vol ∷ []) [] Nothing old views end new k (λ mid same t passed runs. starting_settles laws place views end new vol mid t (sound_still mid same) (not_running vol mid.world passed.1.0 passed.1.1.0) runs) (runs_through calm (stage.Start vol ∷ []) [] Nothing old views end new (refl, (refl, (refl, tt))) does)
+  form_settles dg (form.Mirror vol disks) none does =
+      let mirror : NewPlex = record { vol = vol; disks = disks } in
+      let calm = stage.Gate (tests.GroupIs dg) ∷ [] in
+      at_last calm (stage.Mirror mirror ∷ []) [] Nothing old views end new k (λ mid same t passed runs. mirroring_settles laws place views end new mirror mid t (sound_still mid same) runs) (runs_through calm (stage.Mirror mirror ∷ []) [] Nothing old views end new (refl, tt) does)
   form_settles dg (form.Stop vol) none does =
       let calm = stage.Gate (tests.GroupIs dg) ∷ stage.Gate (tests.HasVolume vol) ∷ [] in
       at_last calm (stage.Stop vol ∷ []) [] Nothing old views end new k (λ mid same t passed runs. stopping_settles laws place views end new vol mid t (sound_still mid same) runs) (runs_through calm (stage.Stop vol ∷ []) [] Nothing old views end new (refl, (refl, tt)) does)

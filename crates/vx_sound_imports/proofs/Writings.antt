@@ -1,5 +1,6 @@
--- What changes, records that are added, disks that join, and new groups write has sound volumes.
-use Rattle.std.proofs.Common.{◌≡◌, ◌∙◌, ◌≢◌, ℕ, ◌<◌, false, List, Option, Some, refl, sym, ap, subst, inl, inr, arith}
+-- What changes, records that are added, disks that join, and new groups write has sound volumes; so has what a start, a stop and a mirror
+-- write.
+use Rattle.std.proofs.Common.{◌≡◌, ◌∙◌, ◌≢◌, ℕ, ◌<◌, false, List, [], ◌∷◌, Option, Some, refl, sym, ap, subst, inl, inr, arith}
 use Rattle.std.specs.Prelude.{Contains}
 use Rattle.vx_base.specs.Named.{Word}
 use Rattle.vx_mask.specs.Mask.{has}
@@ -10,7 +11,9 @@ use Rattle.vx_objects.specs.Applied.{IsEdited}
 use Rattle.vx_objects.specs.Config.{objects_of}
 use Rattle.vx_image.proofs.PlexMembers.{IsIn}
 use Rattle.vx_group_edits.proofs.Lists.{among}
+use Rattle.vx_config_parts.specs.declared.object.Object.{Object}
 use Rattle.vx_config_parts.specs.declared.object.Object.TheVariants.{VolRecord}
+use Rattle.vx_objects.specs.declared.edit.Edit.TheVariants.{Make}
 use Rattle.vx_image.proofs.Members.{is_in}
 use Rattle.vx_script_words.specs.declared.value.DiskAt.{DiskAt}
 use Rattle.vx_state_edits.specs.Edits.{is_new, start_edits, started, stop_edits, stopped}
@@ -19,10 +22,12 @@ use Rattle.vx_config_parts.specs.declared.state.VolState.TheVariants as vol
 use Rattle.vx_moments.specs.Commit.{Writing}
 use Rattle.vx_moments.specs.World.{Device, Group, Member, World}
 use Rattle.vx_group_edits.specs.Laws.{EachStartKeeps, EachStopKeeps, StaysBy}
+use Rattle.vx_group_edits.specs.OfVolume.{AreOf}
 use Rattle.vx_group_edits.specs.Stays.{has_disk_in}
 use Rattle.vx_group_edits.proofs.Added.{joining_keeps, making_keeps}
 use Rattle.vx_group_edits.proofs.ByKind.{records_vol}
 use Rattle.vx_group_edits.proofs.Commands.{change_keeps}
+use Rattle.vx_group_edits.proofs.OfVolume.{plex_keeps_others}
 use Rattle.vx_stages.specs.Ends.{IsChange}
 use Rattle.vx_stages.specs.Making.{is_started}
 use Rattle.vx_stages.specs.Records.{disk_record, new_records, next_slot, sectors_at}
@@ -31,14 +36,14 @@ use Rattle.vx_stages.specs.Stages.{IsCreating, IsJoining, IsMaking, edits_of}
 use Rattle.vx_stages.specs.declared.stage.Change.{Change}
 use Rattle.vx_stages.specs.declared.stage.Source.{Source}
 use Rattle.vx_sound.specs.Standing.{IsStanding}
-use Rattle.vx_sound.proofs.Commits.{change_ready, make_ready}
+use Rattle.vx_sound.proofs.Commits.{added_ready, change_ready, make_ready}
 use Rattle.vx_sound.proofs.Joiners.{next_free}
 use Rattle.vx_sound.proofs.Ready.{IsReady}
 use Rattle.vx_sound.proofs.Running.{start_ready, stop_ready}
 use Rattle.vx_sound_volumes.specs.Volumes.{AreSoundOn}
 use Rattle.vx_sound_volumes.proofs.Commits.{vol_of}
 use Rattle.vx_sound_volumes.proofs.Joiners.{no_new_vol}
-use Rattle.vx_sound_volumes.proofs.Named.{change_back, join_back, make_back, no_volumes, restated_back}
+use Rattle.vx_sound_volumes.proofs.Named.{change_back, join_back, make_back, no_volumes, parts_back, restated_back}
 use Rattle.vx_sound_volumes.proofs.Parts.{some_same}
 use Rattle.vx_sound_imports.specs.Offered.{IsWholeGroup}
 use Rattle.vx_sound_imports.proofs.Nexts.{IsSafe, kept_safe, none_vacant, recorded_safe}
@@ -124,3 +129,11 @@ module _ (w : World) (x : Writing) (s : IsStanding w) (g : Group) (here : w.grou
       (λ u one other started_before.
       restated_back x.group.config x.config u v.name vol.Clean (stopped marks)
       (restates x.group.config v marks (among (objects_of x.group.config) (VolRecord v) (records_vol x.group.config v mine)) x.config edited) other one)
+
+-- ---- records of one volume that are added
+
+pub added_safe : (w : World) (x : Writing) → IsStanding w → (g : Group) → w.group ≡ Some g → HasWhole w → (name : Word) (added : List Object) → AreOf name added → IsChange (Make added ∷ []) w x → IsSoundAs g x.config name w → IsSafe x w
+added_safe w x s g here whole name added of is sound_as =
+    recorded_safe x w (added_ready added w x s is) (whole x.group is.group) is.joiners g (some_same g x.group (sym here ∙ is.group)) name sound_as (λ u. u.name ≢ name)
+    (plex_keeps_others x.group.config x.config name added of is.edited)
+    (λ u one other started_before. (u, parts_back x.group.config x.config u name added of is.edited one, refl, other))

@@ -1,10 +1,11 @@
 pub mod Parts
 pub mod Images
 pub mod Commits
-mod Changes
+pub mod Changes
 pub mod Named
 mod Lives
 pub mod Running
+pub mod Mirrors
 pub mod Devices
 pub mod Joiners
 pub mod Stages

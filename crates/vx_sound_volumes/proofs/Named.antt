@@ -1,9 +1,9 @@
 -- Where the volumes of an edited configuration come from.
 use Rattle.std.proofs.Common.{◌≡◌, ◌≢◌, ◌∙◌, ◌⊎◌, inl, inr, Bool, true, false, not, Option, Some, None, List, [], ◌∷◌, ◌++◌, map, refl, sym, ap, subst}
 use Rattle.std.specs.Prelude.{if◌then◌else◌}
-use Rattle.std.specs.List.{cons_option, filter_map}
+use Rattle.std.specs.List.{cons_option, filter_map, list_all}
 use Rattle.std.specs.Str.{bytes_eq}
-use Rattle.std.proofs.lemmas.Bool.{false≢true}
+use Rattle.std.proofs.lemmas.Bool.{and_parts, false≢true}
 use Rattle.vx_base.specs.Named.{Word}
 use Rattle.vx_base.proofs.NamedLemmas.{bytes_eq_self}
 use Rattle.vx_config_parts.specs.declared.disk.Disk.{Disk}
@@ -34,6 +34,7 @@ use Rattle.vx_stages.specs.declared.stage.Change.{Change}
 use Rattle.vx_stages.specs.declared.stage.Change.TheVariants as changes
 use Rattle.vx_stages.specs.declared.stage.Source.{Source}
 use Rattle.vx_group_edits.specs.Laws.{StaysBy}
+use Rattle.vx_group_edits.specs.OfVolume.{AreOf, is_part_of}
 use Rattle.vx_group_edits.proofs.ByKind.{vol_recorded}
 use Rattle.vx_group_edits.proofs.Fresh.{each_fresh}
 
@@ -72,6 +73,12 @@ vol_among all v there = let r = back_in as_vol all v there in subst (IsIn all) (
 pub no_volumes : (c : Config) (all : List Object) → objects_of c ≡ all → ((v : Vol) → IsIn all (VolRecord v) → ⊥) → (v : Vol) → IsIn c.volumes v → ⊥
 no_volumes c all is none v one = none v (vol_among all v (subst (λ vs. IsIn vs v) (sym (volumes_below c.disks c.subdisks c.plexes c.volumes c.dcos c.snaps) ∙ ap (λ os. filter_map as_vol os) is) one))
 
+-- records that are of one volume are no volumes
+no_vol_of : (name : Word) (all os : List Object) (v : Vol) → list_all (is_part_of name all) os ≡ true → IsIn os (VolRecord v) → ⊥
+no_vol_of name all [] v of there = absurd there
+no_vol_of name all (o ∷ os) v of (inl same) = false≢true (subst (λ x. is_part_of name all x ≡ true) (sym same) (and_parts (is_part_of name all o) (list_all (is_part_of name all) os) of).0)
+no_vol_of name all (o ∷ os) v of (inr there) = no_vol_of name all os v (and_parts (is_part_of name all o) (list_all (is_part_of name all) os) of).1 there
+
 module _ (c c' : Config) (v : Vol) where
   own : IsIn (objects_of c) (VolRecord v) → IsIn c.volumes v
   own there = vol_recorded c v (in_one (objects_of c) (VolRecord v) there)
@@ -101,6 +108,14 @@ module _ (c c' : Config) (v : Vol) where
   make_back from g more is_started adds is started there = elim (edit_back (Make more) is there) [
     | inl (o, one, same) ↦ own (subst (IsIn (objects_of c)) (let e : o ≡ VolRecord v = cc in e) one)
     | inr new ↦ absurd (false≢true (sym started ∙ each_fresh from is_started g more adds (VolRecord v) new))
+  ]
+
+  -- plexes and subdisks that are added bring no volume
+  pub parts_back : (name : Word) (more : List Object) → AreOf name more → IsEdited (Make more ∷ []) c c' → IsIn c'.volumes v → IsIn c.volumes v
+  unfolding change added
+  parts_back name more of is there = elim (edit_back (Make more) is there) [
+    | inl (o, one, same) ↦ own (subst (IsIn (objects_of c)) (let e : o ≡ VolRecord v = cc in e) one)
+    | inr new ↦ absurd (no_vol_of name more more v of new)
   ]
 
   -- the volume was there under its name

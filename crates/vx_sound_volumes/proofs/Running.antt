@@ -61,7 +61,7 @@ found_there name (v ∷ vs) w e = by (found_there name vs w) (bytes_eq v.name na
     by on true is e = let same : w ≡ v = cc in (inl same, subst (λ (x : Vol). x.name ≡ name) (sym same) (bytes_eq_same v.name name is))
     by on false is e = let r = on e in (inr r.0, r.1)
 
-fewer_names : (place : ℕ) (w : World) (vol : Word) → Keeps place Every w → Keeps place (Besides vol) w
+pub fewer_names : (place : ℕ) (w : World) (vol : Word) → Keeps place Every w → Keeps place (Besides vol) w
 fewer_names place w vol k = record { running = k.running; stopped = λ g here v there other started idle. k.stopped g here v there tt started idle; disks = k.disks }
 
 -- one volume is sound besides the others
@@ -93,7 +93,7 @@ module _ (place : ℕ) (old : Moment) (k : Keeps place Every old.world) where
       (touched_kept g v.name new here t)
 
   -- it runs, and is another volume on the same plexes
-  goes_kept : (g : Group) (name : Word) (later : Volume) (plexes : List Word) (new : Moment) → old.world.group ≡ Some g → later.lies ≡ OnPlexes plexes → later.sound ≡ true → comes_next place later.life ≡ true → VolumeGoes g name later old new → Keeps place Every new.world
+  pub goes_kept : (g : Group) (name : Word) (later : Volume) (plexes : List Word) (new : Moment) → old.world.group ≡ Some g → later.lies ≡ OnPlexes plexes → later.sound ≡ true → comes_next place later.life ≡ true → VolumeGoes g name later old new → Keeps place Every new.world
   goes_kept g name later plexes new here on sound next goes =
       subst (Keeps place Every) (sym goes.world)
       (put_run place (record old.world { devices = new.world.devices }) name later plexes on sound next (changed place old.world g name new.world.devices here goes.changes k))
@@ -118,27 +118,27 @@ started_next : (place : ℕ) (g : Group) (v : Vol) (image : Image) (sound : Bool
 started_next place g v image sound = subst (λ (l : Life). comes_next place l ≡ true) (sym (lives_so v.state (plexes_started g v) image)) refl
 
 -- what copying leaves of the volume
-record IsSameRun (run later : Volume) : Type 0 where
-  lies : later.lies ≡ run.lies
-  sound : later.sound ≡ run.sound
-  life : later.life ≡ run.life
+pub record IsSameRun (run later : Volume) : Type 0 where
+  pub lies : later.lies ≡ run.lies
+  pub sound : later.sound ≡ run.sound
+  pub life : later.life ≡ run.life
+
+pub same_run : (run later x : Volume) → later ≡ x → IsSameRun run x → IsSameRun run later
+same_run run later x is same = subst (IsSameRun run) (sym is) same
 
 module _ (g now : Group) (v : Vol) (failed : Word → Bool) (old new : Counts) (run later : Volume) where
-  same_run : (x : Volume) → later ≡ x → IsSameRun run x → IsSameRun run later
-  same_run x is same = subst (IsSameRun run) (sym is) same
-
   copies : (end : End) → CopiesTo g now v failed old new end run later → IsSameRun run later
-  copies (ends.Done copied parts blocks) (inl is) = same_run _ is (record { lies = refl; sound = refl; life = refl })
-  copies (ends.Done copied parts blocks) (inr (log, is)) = same_run _ is (record { lies = refl; sound = refl; life = refl })
-  copies (ends.Fault told device parts) is = same_run _ is (record { lies = refl; sound = refl; life = refl })
-  copies (ends.Lost parts) is = same_run _ is (record { lies = refl; sound = refl; life = refl })
-  copies (ends.Refused r) is = same_run _ is (record { lies = refl; sound = refl; life = refl })
-  copies ends.ShelfFailed is = same_run _ is (record { lies = refl; sound = refl; life = refl })
-  copies ends.GroupLost is = same_run _ is (record { lies = refl; sound = refl; life = refl })
+  copies (ends.Done copied parts blocks) (inl is) = same_run run later _ is (record { lies = refl; sound = refl; life = refl })
+  copies (ends.Done copied parts blocks) (inr (log, is)) = same_run run later _ is (record { lies = refl; sound = refl; life = refl })
+  copies (ends.Fault told device parts) is = same_run run later _ is (record { lies = refl; sound = refl; life = refl })
+  copies (ends.Lost parts) is = same_run run later _ is (record { lies = refl; sound = refl; life = refl })
+  copies (ends.Refused r) is = same_run run later _ is (record { lies = refl; sound = refl; life = refl })
+  copies ends.ShelfFailed is = same_run run later _ is (record { lies = refl; sound = refl; life = refl })
+  copies ends.GroupLost is = same_run run later _ is (record { lies = refl; sound = refl; life = refl })
 
   becomes : (sound : Bool) (end : End) → BecomesBy sound g now v failed old new end run later → IsSameRun run later
   becomes true end is = copies end is
-  becomes false end is = same_run run is (record { lies = refl; sound = refl; life = refl })
+  becomes false end is = same_run run later run is (record { lies = refl; sound = refl; life = refl })
 
 module _ (restates : EachStartRestates) (keeps : EachStartKeeps) (place : ℕ) (old : Moment) (end : End) (new : Moment) (k : Keeps place Every old.world) where
   still : new.world ≡ old.world → Keeps place Every new.world

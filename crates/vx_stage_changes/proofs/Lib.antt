@@ -29,3 +29,6 @@ pub mod NewConfig
 pub mod Enlistment
 pub mod CreateCommit
 pub mod CreateStage
+mod Own
+mod MakeStage
+mod Verdicts

@@ -3,3 +3,4 @@ pub mod Planning
 pub mod Changing
 pub mod Joining
 pub mod Creating
+pub mod Judging

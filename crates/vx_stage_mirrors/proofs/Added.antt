@@ -18,8 +18,8 @@ use Rattle.vx_objects.specs.Applied.{IsEdited}
 use Rattle.vx_image.specs.Bytes.{Sectors, image_of, is_active, is_held, is_log_copy, plex_contents, plex_image, plex_marks}
 use Rattle.vx_image.specs.Image.{Image, LogCopy, PlexImage}
 use Rattle.vx_group_edits.specs.OfVolume.{AreOf}
-use Rattle.vx_joined_plexes.specs.Joins.{copies_in, images_in, joined_image, plexes_in, with_plex}
-use Rattle.vx_joined_plexes.proofs.Joined.{image_joined}
+use Rattle.vx_group_edits.specs.Joins.{copies_in, images_in, joined_image, plexes_in, with_plex}
+use Rattle.vx_group_edits.proofs.Joined.{image_joined}
 
 -- a data plex is none of a log
 not_log : (own : Bool) (k : PlexKind) (rest : Bool) → (own && is_data k) ≡ true → ((own && is_log k) && rest) ≡ false

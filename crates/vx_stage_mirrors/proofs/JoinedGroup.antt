@@ -1,38 +1,29 @@
 -- A group that a plex has joined is kept.
 use Rattle.std.proofs.Common.{◌≡◌, ◌≢◌, ◌∙◌, ℕ, ◌+◌, true, List, [], ◌∷◌, ◌++◌, map, Some, refl, sym, ap, subst, inl}
-use Rattle.std.specs.Prelude.{IfSome, IsSomeAnd, is_some}
-use Rattle.std.specs.BTreeMap.{is_at}
-use Rattle.std.specs.Cmp.Lexicographic.{slice_cmp}
-use Rattle.std.specs.Ordering.{nat_cmp}
-use Rattle.std.proofs.lemmas.List.{same_from_push}
+use Rattle.std.specs.Prelude.{IfSome, is_some}
 use Rattle.vx_base.specs.Named.{Word}
 use Rattle.vx_mask.specs.Mask.{has as has_slot}
 use Rattle.vx_piece.specs.Seen.{Seen}
 use Rattle.vx_pages.specs.declared.local_piece.LocalPiece.{Ghosts}
-use Rattle.vx_carve.specs.Together.{SameSectors}
 use Rattle.vx_layout.specs.declared.layout.Layout.{Layout}
 use Rattle.vx_config_parts.specs.declared.object.Object.{Object}
 use Rattle.vx_config_parts.specs.declared.vol.Vol.{Vol}
 use Rattle.vx_objects.specs.declared.edit.Edit.TheVariants.{Make}
 use Rattle.vx_copies.specs.Disks.{CommitGoes, DiskSeen, good_mask}
-use Rattle.vx_copies.specs.Lists.{AllOf, Each}
+use Rattle.vx_copies.specs.Lists.{Each}
 use Rattle.vx_confdb.specs.Groups.{CarriesText, members}
 use Rattle.vx_fronts.specs.Rests.{rests_of}
 use Rattle.vx_fronts.proofs.Parted.{private_parted}
 use Rattle.vx_moments.specs.Copies.{IsTextOf}
 use Rattle.vx_volume.specs.Opening.{regions_seen}
-use Rattle.vx_volume.specs.Volume.{IsVolume, volume_seen}
-use Rattle.vx_lending.specs.RegionPieces.{all_pieces}
 use Rattle.vx_lending.specs.RegionsTaken.{AreTakenRegions}
 use Rattle.vx_lending.specs.Public.{lent_pieces, running_at, still_pieces}
-use Rattle.vx_lending.specs.declared.public.Public.{Public}
 use Rattle.vx_lending.specs.declared.public.Remains.{Remains}
 use Rattle.vx_lending.specs.declared.public.Running.{Running}
-use Rattle.vx_group_start.specs.Laying.{AreStuckVolumes}
 use Rattle.vx_group_edits.proofs.OfVolume.{plex_keeps_others}
 use Rattle.vx_added_records.proofs.SameDisks.{group_kept}
-use Rattle.vx_joined_plexes.specs.Joins.{Joins}
-use Rattle.vx_joined_plexes.proofs.Joined.{plex_joins}
+use Rattle.vx_group_edits.specs.Joins.{Joins}
+use Rattle.vx_group_edits.proofs.Joined.{plex_joins}
 use Rattle.vx_joined_volumes.specs.Joined.{HasJoined, plex_of_run}
 use Rattle.vx_house.specs.Holders.{AreHeld, group_holders, hand_holder, holders, volume_holder}
 use Rattle.vx_house.specs.Runs.{AllInPlace, IsInPlace}
@@ -40,15 +31,14 @@ use Rattle.vx_house.specs.Scene.{FaultsGoOn, Shelved}
 use Rattle.vx_house.specs.View.{IsGroupKept, IsGroupWhole, Keeps, at, scene}
 use Rattle.vx_house.specs.declared.house.House.{House}
 use Rattle.vx_house.specs.declared.house.Imported.{Imported}
-use Rattle.vx_house.proofs.Laid.{holders_laid, parted_laid}
+use Rattle.vx_house.proofs.Laid.{holders_laid}
 use Rattle.vx_house_calls.specs.Passes.{with_group}
-use Rattle.vx_house_calls.proofs.Entries.{IsSetAt, set_at}
 use Rattle.vx_stage_changes.proofs.Alone.{IsWrittenIn, alone, low_by, sized_after, went_by}
 use Rattle.vx_stage_changes.proofs.CommitJoins.{faults_on, held_on}
 use Rattle.vx_stage_changes.proofs.Owns.{AreDisksOf, place_kept}
 use Rattle.vx_stage_changes.proofs.Runners.{disks_on}
 use Rattle.vx_stage_changes.proofs.CommitSlots.{mask_was}
-use Rattle.vx_stage_changes.proofs.Stillness.{recorded_now, slots_now, whole_now}
+use Rattle.vx_stage_changes.proofs.Stillness.{recorded_now, slots_now}
 use Rattle.vx_stage_changes.specs.declared.planning.NextConfig.{NextConfig}
 use Rattle.vx_stage_volumes.proofs.Absent.{one_vol}
 use Rattle.vx_stage_volumes.proofs.Entries.{entry_found}
@@ -56,10 +46,10 @@ use Rattle.vx_stage_volumes.proofs.Otherwise.{IsHeldOtherwise, otherwise_scene, 
 use Rattle.vx_stage_mirrors.specs.Joins.{AreNumbersOn, IsJoinedBy}
 use Rattle.vx_stage_mirrors.specs.Joining.{IsJoinedIn, MayJoin, MayPut, runs_left}
 use Rattle.vx_stage_mirrors.specs.Moments.{IsPlannedFor}
+use Rattle.vx_stage_mirrors.proofs.JoinedWhole.{commit_goes, last_same, may_put, now_is, now_whole, same_pieces, whole_committed}
 use Rattle.vx_stage_mirrors.proofs.Numbers.{numbers_on}
 use Rattle.vx_stage_mirrors.proofs.Others.{all_put}
 use Rattle.vx_stage_mirrors.proofs.Parked.{same_regions}
-use Rattle.vx_stage_mirrors.proofs.Pieces.{held_more, together}
 use Rattle.vx_stage_mirrors.proofs.Places.{place_joined}
 
 module _ {P : Type 0} {ghosts : Ghosts P} (see : P → Seen) (alike : (p q : P) → is_some (see p).told ≡ is_some (see q).told) (shelf : Shelved) (h : House P ghosts) (g new : Imported P ghosts) (has_group : h.group ≡ Some g) (keeps : Keeps see (at shelf h))
@@ -93,21 +83,18 @@ module _ {P : Type 0} {ghosts : Ghosts P} (see : P → Seen) (alike : (p q : P) 
 
   -- ---- what was parked
 
-  last_same : may.last ≡ joined.last
-  last_same = (same_from_push may.before new.public.left.items may.last joined.last (sym may.left_is ∙ joined.left)).1
-
-  may_put : MayPut see m runs before
-  may_put = subst (λ (x : Remains P ghosts). MayPut see m (runs_left see x) before) last_same (subst (λ o. IsSomeAnd o (MayPut see m (runs_left see may.last))) joined.runs.was may.may)
-
   taken : AreTakenRegions plan.numbers (m ∷ []) (l ∷ []) plan.vol.len plan.vol.region (regions_seen see joined.last.regions.items)
-  taken = subst (λ (x : Remains P ghosts). AreTakenRegions plan.numbers (m ∷ []) (l ∷ []) plan.vol.len plan.vol.region (regions_seen see x.regions.items)) last_same plan.taken
+  taken = subst (λ (x : Remains P ghosts). AreTakenRegions plan.numbers (m ∷ []) (l ∷ []) plan.vol.len plan.vol.region (regions_seen see x.regions.items)) (last_same see alike g new kept.whole name m l next room may joined) plan.taken
 
   same_plexes : map (plex_of_run m) runs ≡ regions_seen see joined.last.regions.items
   same_plexes = same_regions m (regions_seen see joined.last.regions.items) (λ r lt. (taken r lt).maps_are)
 
+  pub put_free : MayPut see m runs before
+  put_free = may_put see alike g new kept.whole name m l next room may joined
+
   has_joined : HasJoined see plan.numbers plan.vol m l runs before.volume after.volume
   has_joined = record {
-    fits = may_put.plex;
+    fits = put_free.plex;
     puts = joined.runs.has.puts;
     taken = subst (AreTakenRegions plan.numbers (m ∷ []) (l ∷ []) plan.vol.len plan.vol.region) (sym same_plexes) taken;
     whole = joined.runs.has.whole;
@@ -118,9 +105,6 @@ module _ {P : Type 0} {ghosts : Ghosts P} (see : P → Seen) (alike : (p q : P) 
   pub joined_by : (v : Vol) → plan.vol ≡ v → IsJoinedBy see g.config good v plan.numbers added next.config plan.plex m l runs before after
   joined_by v same = subst (λ (x : Vol). IsJoinedBy see g.config good x plan.numbers added next.config plan.plex m l runs before after) same
       (record { joins = plan.joins; layout = plan.layout; form = joined.runs.has.form; volume = has_joined })
-
-  pub put_free : MayPut see m runs before
-  put_free = may_put
 
   -- ---- the commit
 
@@ -144,7 +128,7 @@ module _ {P : Type 0} {ghosts : Ghosts P} (see : P → Seen) (alike : (p q : P) 
   }
 
   goes : Each (CommitGoes (g.base.sequence + 1) new.base.sequence text) hs ns
-  goes = joined.finished.tried.committed.goes
+  goes = commit_goes see alike g new kept.whole name m l next room may joined
 
   pub still_disks : AreDisksOf hs ns
   still_disks = disks_on (g.base.sequence + 1) new.base.sequence text hs ns goes
@@ -159,7 +143,7 @@ module _ {P : Type 0} {ghosts : Ghosts P} (see : P → Seen) (alike : (p q : P) 
   group_same = group_kept (Make added ∷ []) g.config next.config plan.joins.edited
 
   whole2 : IsGroupWhole see g2
-  whole2 = whole_now see g g2 (g.base.sequence + 1) new.base.sequence text goes refl kept.whole
+  whole2 = whole_committed see alike g new kept.whole name m l next room may joined
 
   -- ---- the pieces
 
@@ -169,16 +153,8 @@ module _ {P : Type 0} {ghosts : Ghosts P} (see : P → Seen) (alike : (p q : P) 
   abbrev pub h3 : House P ghosts
   h3 = with_group h g3
 
-  spot : IsSetAt g.public.running.entries new.public.running.entries before after
-  spot = subst (λ es. IsSetAt g.public.running.entries es before after) (sym joined.runs.entries) (set_at (is_at (slice_cmp nat_cmp name)) before after g.public.running.entries joined.runs.was)
-
-  same_pieces : SameSectors (still_pieces see g.public ++ lent_pieces see g.public) (still_pieces see new.public ++ lent_pieces see new.public)
-  same_pieces = together see g.public new.public before after spot (ap (λ (p : Public P ghosts). p.stuck) joined.same) (all_pieces (regions_seen see joined.last.regions.items))
-      joined.still
-      (held_more see m (regions_seen see joined.last.regions.items) before after joined.runs.has.puts may_put.plex.count joined.runs.has.log)
-
   same_devices : group_holders see (Some g3) ≡ group_holders see (Some g2)
-  same_devices = holders_laid see alike g2 g3 refl whole2.parted same_pieces
+  same_devices = holders_laid see alike g2 g3 refl whole2.parted (same_pieces see alike g new kept.whole name m l next room may joined)
 
   pub held3 : IsHeldOtherwise see g2 g3
   held3 = record { config = refl; base = refl; holders = same_devices }
@@ -206,10 +182,6 @@ module _ {P : Type 0} {ghosts : Ghosts P} (see : P → Seen) (alike : (p q : P) 
       (all_put (λ n r. IsInPlace see (members see g.base) g.config (good_mask (members see g.base)) n r) (λ n r. IsInPlace see (members see new.base) next.config (good_mask (members see new.base)) n r) name other_place
       g.public.running.entries after joined.runs.ordered kept.placed joined_place)
 
-  volumes3 : AllOf (λ (e : Word × Running P ghosts). IsVolume (volume_seen see e.1.volume)) new.public.running.entries
-  volumes3 = subst (λ es. AllOf (λ (e : Word × Running P ghosts). IsVolume (volume_seen see e.1.volume)) es) (sym joined.runs.entries)
-      (all_put (λ n (r : Running P ghosts). IsVolume (volume_seen see r.volume)) (λ n (r : Running P ghosts). IsVolume (volume_seen see r.volume)) name (λ key r other is. is) g.public.running.entries after joined.runs.ordered kept.whole.volumes joined.runs.has.whole)
-
   -- ---- the group
 
   kept3 : IsGroupKept see g3
@@ -221,11 +193,7 @@ module _ {P : Type 0} {ghosts : Ghosts P} (see : P → Seen) (alike : (p q : P) 
     sized = sized_by (rests_of (still_pieces see g.public ++ lent_pieces see g.public) []) (rests_of (still_pieces see new.public ++ lent_pieces see new.public) []) ns same_devices (sized_after wd kept.sized);
     slots = slots_now (g.base.sequence + 1) new.base.sequence text see g.base.disks.items new.base.disks.items goes kept.slots;
     recorded = recorded_now (g.base.sequence + 1) new.base.sequence text see g.config next.config joins.disks g.base.disks.items new.base.disks.items goes kept.recorded;
-    whole = record {
-      parted = parted_laid see alike g2 g3 refl whole2.parted same_pieces;
-      volumes = volumes3;
-      stuck = subst (λ s. AreStuckVolumes see s) (sym (ap (λ (p : Public P ghosts). p.stuck.items) joined.same)) kept.whole.stuck;
-    };
+    whole = now_whole see alike g new kept.whole name m l next room may joined;
     placed = placed3;
   }
 
@@ -239,11 +207,8 @@ module _ {P : Type 0} {ghosts : Ghosts P} (see : P → Seen) (alike : (p q : P) 
   }
 
   -- the group is the one that was left
-  new_is : new ≡ g3
-  new_is = λ i. record { config = joined.config i; base = new.base; public = new.public }
-
   pub house_is : with_group h new ≡ h3
-  house_is = ap (with_group h) new_is
+  house_is = ap (with_group h) (now_is see alike g new kept.whole name m l next room may joined)
 
   pub keeps_joined : Keeps see (at shelf (with_group h new))
   keeps_joined = subst (λ x. Keeps see (at shelf x)) (sym house_is) keeps3

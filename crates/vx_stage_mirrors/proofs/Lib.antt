@@ -1,3 +1,8 @@
+pub mod Mirrors
+mod Strips
+mod Fronts
+pub mod FreePlaces
+pub mod Taken
 pub mod MarkedVolume
 pub mod MarkingMoments
 pub mod MarkingFacts
@@ -17,7 +22,19 @@ pub mod Pieces
 pub mod Others
 pub mod Parked
 pub mod Numbers
+pub mod JoinedWhole
 pub mod JoinedGroup
 pub mod JoiningMoments
 pub mod Stopped
 pub mod JoiningParking
+pub mod Free
+pub mod Logs
+pub mod Copied
+pub mod Facts
+pub mod GroupLaws
+pub mod Parks
+pub mod Joins
+pub mod Plans
+pub mod Goes
+pub mod Stage
+pub mod Staged

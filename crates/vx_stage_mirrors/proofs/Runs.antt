@@ -20,7 +20,7 @@ use Rattle.vx_volume_laws.specs.Leaving.{AreNamedIn}
 use Rattle.vx_change_laws.specs.Joining.{volume_joined}
 use Rattle.vx_change_laws.specs.Laws.{EachJoiningRunsOn, RunsStill}
 use Rattle.vx_change_laws.proofs.Exactness.{joining_exact}
-use Rattle.vx_joined_plexes.proofs.Joined.{plex_joins}
+use Rattle.vx_group_edits.proofs.Joined.{plex_joins}
 use Rattle.vx_group_volumes.specs.Opened.{opened_plexes}
 use Rattle.vx_group_volumes.specs.Places.{IsSlotOf, disks_at}
 use Rattle.vx_group_volumes.specs.Runs.{Opening}

@@ -42,9 +42,9 @@ use Rattle.vx_volume_laws.proofs.LeftCopies.{copy_now}
 use Rattle.vx_volume_laws.proofs.Spots.{all_right}
 use Rattle.vx_group_volumes.specs.Runs.{Opening, RunsIn}
 use Rattle.vx_group_volumes.proofs.Leavings.{leaving_stands}
-use Rattle.vx_joined_plexes.specs.Joins.{Joins}
-use Rattle.vx_joined_plexes.proofs.Joined.{plex_joins}
-use Rattle.vx_joined_plexes.proofs.Marked.{marked_sound}
+use Rattle.vx_group_edits.specs.Joins.{Joins}
+use Rattle.vx_group_edits.proofs.Joined.{plex_joins}
+use Rattle.vx_group_edits.proofs.Marked.{marked_sound}
 use Rattle.vx_stages.specs.Recorded.{IsSoundAs}
 use Rattle.vx_house.specs.Runs.{IsRunOf}
 use Rattle.vx_house_calls.proofs.Entries.{all_at_one}

@@ -1,3 +1,5 @@
+pub mod Planned
+pub mod PlaceLaws
 pub mod Marking
 pub mod MarkingLaws
 pub mod MarkedLaws
@@ -8,3 +10,6 @@ pub mod Joining
 pub mod Parking
 pub mod Moments
 pub mod JoiningLaws
+pub mod ParkedPieces
+pub mod Ending
+pub mod Going

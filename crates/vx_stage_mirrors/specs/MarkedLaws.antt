@@ -28,7 +28,7 @@ use Rattle.vx_lending.specs.Left.{held_pieces}
 use Rattle.vx_stages.specs.Recorded.{IsSoundAs}
 use Rattle.vx_group_edits.specs.OfVolume.{AreOf}
 use Rattle.vx_group_volumes.specs.Runs.{RunsIn}
-use Rattle.vx_joined_plexes.specs.Joins.{plexes_in}
+use Rattle.vx_group_edits.specs.Joins.{plexes_in}
 use Rattle.vx_house.specs.Runs.{IsRunOf}
 use Rattle.vx_stage_mirrors.specs.Marking.{SetsAll}
 

@@ -12,5 +12,6 @@ pub mod Touching
 pub mod Recorded
 pub mod Starting
 pub mod Stopping
+pub mod Mirrored
 pub mod Stages
 pub mod Logs

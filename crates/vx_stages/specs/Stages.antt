@@ -30,6 +30,7 @@ use Rattle.vx_moments.specs.Commit.{Writing}
 use Rattle.vx_stages.specs.Ends.{fault_of, lost, refused, IsChange, RefusedAsGrown, RefusedAsLong, CommitsBy, EndsIn, StopsBy}
 use Rattle.vx_stages.specs.Finding.{Found, Finds, group_found, import_records, import_sectors}
 use Rattle.vx_stages.specs.Making.{adding_refusal, is_started}
+use Rattle.vx_stages.specs.Mirrored.{MirrorStops, MirrorWants}
 use Rattle.vx_stages.specs.Records.{devices_of, sectors_at, disk_record, member_at, next_slot, new_records, new_members}
 use Rattle.vx_stages.specs.Refusals.{refusal_from}
 use Rattle.vx_stages.specs.Sources.{AddsFrom, Denies, growth}
@@ -234,7 +235,7 @@ abbrev pub AreBlank : World → List Word → Type 0
 AreBlank w [] = Unit {0}
 AreBlank w (name ∷ names) = HasNoHeader w name × AreBlank w names
 
--- what a stage does; a start ends its command itself
+-- what a stage does; a start and a mirror end their command themselves
 abbrev pub IsDone : Stage → List DiskAt → Moment → Moment → Type 0
 IsDone (stage.Gate test) disks old new = (fails test disks old.world ≡ None) × (new ≡ old)
 IsDone (stage.Take name) disks old new = IsFree old.world [] name × Rests old new
@@ -253,6 +254,7 @@ IsDone (stage.Create dg) disks old new = (old.world.group ≡ None) × CommitsBy
 IsDone (stage.Import dg) disks old new = (old.world.group ≡ None) × (mid : Moment) × IsBetween dg old mid new × CommitsBy (λ x. IsImporting dg old.world x old.counts mid.counts) mid new
 IsDone stage.LetGo disks old new = (new.world ≡ group_gone old.world) × (new.counts ≡ old.counts)
 IsDone (stage.Start vol) disks old new = ⊥
+IsDone (stage.Mirror mirror) disks old new = ⊥
 IsDone (stage.Stop vol) disks old new = IsStopDone vol old new
 
 -- a device in hand ends the command: it has failed, or its power is gone
@@ -326,10 +328,12 @@ Stops (stage.Import dg) disks old end new =
     ⊎ ((mid : Moment) × IsBetween dg old mid new × StopsBy (λ x. IsImporting dg old.world x old.counts mid.counts) mid end new))
 Stops stage.LetGo disks old end new = ⊥
 Stops (stage.Start vol) disks old end new = StartStops vol old end new
+Stops (stage.Mirror mirror) disks old end new = MirrorStops mirror.vol mirror.disks old end new
 Stops (stage.Stop vol) disks old end new = StopStops vol old end new
 
 -- what want of memory leaves of a stage: the world as it was, but where devices of a volume were called before
 abbrev pub Wants : Stage → Moment → Moment → Type 0
 Wants (stage.Start vol) old new = StartWants vol old new
+Wants (stage.Mirror mirror) old new = MirrorWants mirror.vol old new
 Wants (stage.Stop vol) old new = StopWants vol old new
 Wants other old new = new.world ≡ old.world

@@ -1,7 +1,7 @@
 use crate::Test;
 use vx_config_parts::PolicyName;
 use vx_names::Name;
-use vx_new_volumes::NewVolume;
+use vx_new_volumes::{NewPlex, NewVolume};
 use vx_script_words::Bytes;
 
 /// A change of the group's configuration.
@@ -58,6 +58,9 @@ pub enum Stage {
     LetGo,
     /// The volume of the imported group is opened, recorded as started, and its plexes are copied to; this ends the command.
     Start(Name),
+    /// The running volume of the imported group gets a mirror: its map is marked, its records are committed, it joins the volume, and is
+    /// copied to; this ends the command.
+    Mirror(NewPlex),
     /// The volume of the imported group comes to rest, its states are recorded, and it runs no more.
     Stop(Name),
 }

@@ -1,3 +1,7 @@
+pub mod Honest
+pub mod Lists
+pub mod LowBits
+pub mod PageByPage
 pub mod Arms
 pub mod Buffers
 pub mod Downwards

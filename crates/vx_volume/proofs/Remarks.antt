@@ -25,7 +25,7 @@ use Rattle.vx_piece.specs.Seen.{Seen}
 use Rattle.vx_pages.specs.Items.{EachItem, item_at}
 use Rattle.vx_pages.proofs.Items.{at_is}
 use Rattle.vx_pages.specs.Setting.{Begun, Come, Done, MarksBy, SetsSoFar, Still, Torn, claim_by, come_to, differ}
-use Rattle.vx_whole_maps.proofs.Honest.{setting_stays}
+use Rattle.vx_volume.proofs.Honest.{setting_stays}
 use Rattle.vx_cell.specs.declared.cell.Cell.{Cell}
 use Rattle.vx_cell.specs.Changes.{CellSeen, cell_seen}
 use Rattle.vx_cell.specs.Plexes.{holds}

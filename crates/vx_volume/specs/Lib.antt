@@ -1,3 +1,5 @@
+pub mod Bytes
+pub mod MapLaws
 pub mod Log
 pub mod Volume
 pub mod Loop

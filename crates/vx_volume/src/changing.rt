@@ -5,7 +5,7 @@ ghost use Rattle.std.specs.List.{All};
 ghost use Rattle.vx_mask.specs.Mask.{only, union};
 ghost use Rattle.vx_pages.specs.Items.{EachItem, item_at};
 ghost use Rattle.vx_cell.specs.Changes.{HasRoom, cell_seen};
-ghost use Rattle.vx_whole_maps.specs.Bytes.{map_bit};
+ghost use Rattle.vx_volume.specs.Bytes.{map_bit};
 ghost use Rattle.vx_volume.specs.Changing.{HasGot, HasUnknownMark, HaveRoom, IsFreeIn, IsKnownMap, IsPlexFor, IsRemarked, PutsPlex, SetsMap, is_lost, runs_seen, with_mark};
 ghost use Rattle.vx_volume.specs.Log.{LogGoes, log_seen};
 ghost use Rattle.vx_volume.specs.Volume.{IsVolume, cells_seen, log_of, no_cell, shape_of, volume_seen};

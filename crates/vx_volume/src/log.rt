@@ -1,7 +1,7 @@
+use crate::WholeMaps;
 use vx_maps::MapStore;
 use vx_marks::{MarkFault, Marker};
 use vx_pages::LocalPiece;
-use vx_whole_maps::WholeMaps;
 
 /// The log of a volume: its change maps on one or two copies, or none. Without maps nothing is marked.
 #[derive(Drop)]
@@ -47,7 +47,7 @@ impl<P: LocalPiece> VolumeLog<P> {
     ghost use Rattle.std.specs.Prelude.{◌≡◌, ◌<◌, true};
     ghost use Rattle.vx_marks.specs.Log.{KeepsLog, MarkHasCause};
     ghost use Rattle.vx_pages.specs.Setting.{IsMapSet};
-    ghost use Rattle.vx_whole_maps.specs.Bytes.{map_bit};
+    ghost use Rattle.vx_volume.specs.Bytes.{map_bit};
     ghost use Rattle.vx_volume.specs.Log.{LogGoes, log_seen};
     ghost use Rattle.vx_volume.specs.Arming.{LogArmed};
 

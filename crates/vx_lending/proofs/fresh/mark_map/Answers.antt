@@ -1,7 +1,7 @@
 -- A map of the mask is marked in all regions.
 use Rattle.std.proofs.Common.{rules, ◌≡◌, true}
 use Rattle.vx_mask.specs.Mask.{has}
-use Rattle.vx_whole_maps.specs.Bytes.{map_bit}
+use Rattle.vx_volume.specs.Bytes.{map_bit}
 use Rattle.vx_lending.proofs.Marked.{marked_one, store_risen}
 use Rattle.vx_lending.proofs.fresh.mark_map.Goals as goal
 

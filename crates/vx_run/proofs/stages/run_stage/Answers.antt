@@ -55,3 +55,6 @@ returns-in-Start g c = record { goes = rw c.in-Start.is (stage_ends g.S.P.Piece.
 
 pub returns-in-Stop : goal.returns-in-Stop
 returns-in-Stop g c = record { goes = rw c.in-Stop.is (stage_ends g.S.P.Piece.seen c.args.disks.now _ _ _ _ (c.stop.ensures.goes c.args.disks.now (shelved g.S.Shelf.free g.S.Shelf.held g.S.Shelf.counted g.S.Shelf.faults c.args.shelf.now) (rw c.in-Stop.is at c.requires.ready) c.requires.keeps.devices)) }
+
+pub returns-in-Mirror : goal.returns-in-Mirror
+returns-in-Mirror g c = record { goes = rw c.in-Mirror.is (stage_ends g.S.P.Piece.seen c.args.disks.now _ _ _ _ (c.mirror.ensures.goes c.args.disks.now (shelved g.S.Shelf.free g.S.Shelf.held g.S.Shelf.counted g.S.Shelf.faults c.args.shelf.now) (rw c.in-Mirror.is at c.requires.ready) c.requires.keeps.devices)) }

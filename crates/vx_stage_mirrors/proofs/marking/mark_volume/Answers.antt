@@ -4,7 +4,7 @@ use Rattle.vx_volume.specs.declared.volume.VolumeShape.{VolumeShape}
 use Rattle.vx_volume.specs.Changing.{IsKnownMap, SetsMap}
 use Rattle.vx_volume.specs.Volume.{volume_seen}
 use Rattle.vx_lending.proofs.NewLogs.{all_bits}
-use Rattle.vx_whole_maps.specs.Bytes.{map_bit}
+use Rattle.vx_volume.specs.Bytes.{map_bit}
 use Rattle.vx_stage_mirrors.proofs.marking.mark_volume.Goals as goal
 
 pub returns-in-Ok-set_map-clause-marks : goal.returns-in-Ok-set_map-clause-marks

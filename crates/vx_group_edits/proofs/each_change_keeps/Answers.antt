@@ -1,5 +1,0 @@
-use Rattle.vx_group_edits.proofs.Commands.{change_keeps}
-use Rattle.vx_group_edits.proofs.each_change_keeps.Goals as goal
-
-pub returns : goal.returns
-returns c = change_keeps

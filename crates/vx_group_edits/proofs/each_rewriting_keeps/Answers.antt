@@ -1,5 +1,0 @@
-use Rattle.vx_group_edits.proofs.Added.{rewriting_keeps}
-use Rattle.vx_group_edits.proofs.each_rewriting_keeps.Goals as goal
-
-pub returns : goal.returns
-returns c = rewriting_keeps

@@ -1,9 +1,0 @@
-pub mod Lowest
-pub mod Requests
-pub mod FreeMaps
-pub mod Subdisks
-pub mod Records
-pub mod Plans
-pub mod GoodDisks
-pub mod Held
-pub mod Each

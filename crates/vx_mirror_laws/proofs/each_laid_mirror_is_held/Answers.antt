@@ -1,6 +1,0 @@
--- A mirror that is laid lies on good disks.
-use Rattle.vx_mirror_laws.proofs.Held.{laid_held}
-use Rattle.vx_mirror_laws.proofs.each_laid_mirror_is_held.Goals as goal
-
-pub returns : goal.returns
-returns c = laid_held

@@ -1,2 +1,0 @@
-pub mod Mirrors
-pub mod Laws

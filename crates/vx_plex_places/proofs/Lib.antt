@@ -1,4 +1,0 @@
-mod Strips
-mod Fronts
-pub mod Free
-pub mod Taken

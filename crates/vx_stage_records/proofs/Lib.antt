@@ -1,3 +1,0 @@
-mod Own
-mod MakeStage
-mod Verdicts

@@ -1,4 +1,0 @@
-pub mod Honest
-pub mod Lists
-pub mod LowBits
-pub mod PageByPage

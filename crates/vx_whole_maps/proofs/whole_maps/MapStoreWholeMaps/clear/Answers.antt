@@ -1,5 +1,0 @@
-use Rattle.vx_whole_maps.proofs.PageByPage.{clears}
-use Rattle.vx_whole_maps.proofs.whole_maps.MapStoreWholeMaps.clear.Goals as goal
-
-pub returns-clause-set : goal.returns-clause-set
-returns-clause-set g c = clears c.args.map _ _ c.set_from.result c.set_from.ensures.set

@@ -1,7 +1,9 @@
 //! The devices as the trials begin.
 use crate::trial::run_on;
 use std::alloc::{AllocError, Global};
-use vx_volume_judge::{Candidates, Finding, Known, PRIVATE, REGION, Step, VolumeState, take_all};
+use vx_volume_judge::{
+    Candidates, Finding, Known, PRIVATE, REGION, Records, Step, VolumeState, take_all,
+};
 
 /// The blocks of the volume.
 pub const LENGTH: u64 = 384;
@@ -73,7 +75,9 @@ impl Base {
 #[derive(Drop)]
 pub struct Bases {
     /// The records of the volume.
-    pub records: String,
+    records: String,
+    /// Those that it has with a mirror; where it gets none they are empty.
+    mirrored: String,
     none: Images,
     empty: Images,
     clean: Images,
@@ -81,8 +85,8 @@ pub struct Bases {
 }
 
 impl Bases {
-    /// The bases of a group with these records.
-    pub fn make(alloc: Global, records: String) -> Result<Bases, Finding> {
+    /// The bases of a group with these records, and what they are with a mirror.
+    pub fn make(alloc: Global, records: String, mirrored: String) -> Result<Bases, Finding> {
         let none = after(alloc, &blank(alloc)?, TO_GROUP, GROUPED)?;
         let script = format!(in alloc;
             "vxdg import dg\nvxmake -d\n{records}end\nvxdg deport dg\n"
@@ -92,11 +96,20 @@ impl Bases {
         let active = after(alloc, &clean, TO_ACTIVE, STARTED)?;
         Ok(Bases {
             records,
+            mirrored,
             none,
             empty,
             clean,
             active,
         })
+    }
+
+    /// The records that the volume may have.
+    pub fn records(&self) -> Records<'_> {
+        Records {
+            first: self.records.as_str(),
+            mirrored: self.mirrored.as_str(),
+        }
     }
 
     /// The images that a trial begins with.

@@ -1,7 +1,17 @@
 //! Images that are changed by hand: wrong ones, of which each has to be found, and right ones beside them.
-use crate::base::{Base, Bases, Images, LOG, copy, known, slices};
+use crate::base::{Base, Bases, Images, LOG, copy, known, slices, steps_of};
 use std::alloc::{AllocError, Global};
-use vx_volume_judge::{Finding, Known, PRIVATE, cut, decimal, hexadecimal, judge};
+use vx_volume_judge::{
+    Finding, Known, PRIVATE, Records, cut, decimal, hexadecimal, judge, take_all,
+};
+
+/// What gives a volume a mirror, and the answers.
+const TO_MIRROR: &str = "vxdg import dg\nvxvol start v\nvxassist mirror v\n";
+
+const MIRRORED: &str = "ok\nok copied 0\nok copied 3\n";
+
+/// The word that stands for a mirror.
+const MIRROR: &str = "MIRROR";
 
 /// Images in a state, with what is known of them.
 #[derive(Drop)]
@@ -9,11 +19,14 @@ struct Case {
     title: String,
     images: Images,
     known: Known,
+    /// Whether the records are those that the volume has with a mirror.
+    has_mirror: bool,
 }
 
 /// The lines that tell of each case of a file whether the judge finds of it what it has to. The file has for each case a line
-/// `case STATE TITLE`, then its changes, or a line `known STATE` where another state is known, and a line `wanted TEXT`: what is found, or
-/// `nothing`.
+/// `case STATE TITLE`, then its changes, or a line `known STATE` where another state is known, a line `known MIRROR` where it was answered
+/// then that a mirror is done, a line `records MIRROR` where the records are those with a mirror, and a line `wanted TEXT`: what is found,
+/// or `nothing`.
 pub fn told(alloc: Global, bases: &Bases, text: &str) -> Result<Vec<String>, Finding> {
     let mut told = Vec::new(alloc);
     let mut case = begun(alloc, bases, "CLEAN ")?;
@@ -24,6 +37,8 @@ pub fn told(alloc: Global, bases: &Bases, text: &str) -> Result<Vec<String>, Fin
         match word {
             "case" => case = begun(alloc, bases, rest)?,
             "wanted" => told.push(case.told(alloc, bases, rest)?)?,
+            "known" if rest == MIRROR => case.take_mirror(alloc)?,
+            "records" if rest == MIRROR => case.has_mirror = true,
             "known" => case.known = known_in(alloc, rest)?,
             _ => {
                 if case.change(alloc, word, rest)?.is_none() {
@@ -43,6 +58,7 @@ fn begun(alloc: Global, bases: &Bases, words: &str) -> Result<Case, Finding> {
         title: String::from_str(alloc, title)?,
         images: copy(alloc, bases.of(from))?,
         known: known_in(alloc, state)?,
+        has_mirror: false,
     })
 }
 
@@ -56,7 +72,7 @@ impl Case {
     /// The line of the case.
     fn told(&self, alloc: Global, bases: &Bases, wanted: &str) -> Result<String, Finding> {
         let images = slices(alloc, &self.images)?;
-        let records = bases.records.as_str();
+        let records = self.records(bases);
         let found = match judge(alloc, images.as_slice(), records, &self.known) {
             Ok(_) => String::from_str(alloc, "nothing")?,
             Err(finding) => format!(in alloc; "{finding}")?,
@@ -66,6 +82,27 @@ impl Case {
         } else {
             Ok(format!(in alloc; "{}: {found}", self.title)?)
         }
+    }
+
+    /// The records of the bases, as those that the volume begins with or as those that it has with a mirror.
+    fn records<'b>(&self, bases: &'b Bases) -> Records<'b> {
+        let records = bases.records();
+        if self.has_mirror {
+            Records {
+                first: "",
+                mirrored: records.first,
+            }
+        } else {
+            records
+        }
+    }
+
+    /// It was answered that a mirror is done.
+    fn take_mirror(&mut self, alloc: Global) -> Result<(), Finding> {
+        let steps = steps_of(alloc, TO_MIRROR)?;
+        take_all(&mut self.known, steps.as_slice(), MIRRORED)?;
+        self.known.end();
+        Ok(())
     }
 
     /// Does a change. It is None where that is no change.

@@ -1,5 +1,6 @@
-//! A volume of two plexes is started, written, read, stopped and imported beside a fault that is moved along all device calls, and
-//! while the power goes at each of them. What each run leaves is read by the formats alone, and judged by the definitions.
+//! A volume of two plexes, or of one that gets a mirror, is started, written, read, stopped and imported beside a fault that is moved along
+//! all device calls, and while the power goes at each of them. What each run leaves is read by the formats alone, and judged by the
+//! definitions.
 #![tactic(auto)]
 
 mod base;
@@ -40,7 +41,7 @@ fn main(rt: HostRuntime) -> io::Result<()> {
 fn try_cases<R: Files + AllocGlobal + Print>(rt: &R, cases: &str, records: &str) -> io::Result<()> {
     let records = fs::read_to_string(rt, records)?;
     let cases = fs::read_to_string(rt, cases)?;
-    let told = match Bases::make(rt.alloc(), records) {
+    let told = match Bases::make(rt.alloc(), records, String::new(rt.alloc())) {
         Ok(bases) => case::told(rt.alloc(), &bases, cases.as_str()),
         Err(finding) => Err(finding),
     };
@@ -64,7 +65,12 @@ fn try_file<R: Files + AllocGlobal + Print>(rt: &R, file: &str) -> io::Result<()
         Err(finding) => return println!(rt; "{file}: {finding}"),
     };
     let records = fs::read_to_string(rt, scenario.records.as_str())?;
-    let bases = match Bases::make(rt.alloc(), records) {
+    let mirrored = if scenario.has_mirror() {
+        fs::read_to_string(rt, scenario.mirrored.as_str())?
+    } else {
+        String::new(rt.alloc())
+    };
+    let bases = match Bases::make(rt.alloc(), records, mirrored) {
         Ok(bases) => bases,
         Err(finding) => return println!(rt; "{file}: {finding}"),
     };

@@ -8,9 +8,11 @@ pub struct Scenario {
     pub title: String,
     /// The file of the volume's records.
     pub records: String,
+    /// The file of its records with a mirror; where it gets none it is empty.
+    pub mirrored: String,
     /// The disk of the only copy of the log; with two copies or none it is empty.
     pub only_log: String,
-    /// The disk of the only plex; with two plexes it is empty.
+    /// The disk of the only plex that there is before a mirror; with two plexes it is empty.
     pub only_plex: String,
     /// How the devices are as the script begins.
     pub from: Base,
@@ -24,11 +26,13 @@ pub struct Scenario {
 
 impl Scenario {
     /// The scenario of a file: `title TEXT`, `records FILE`, `from STATE` or `from NONE`, where the log has one copy `log DISK`, where
-    /// there is one plex `plex DISK`, and for each step a line `> COMMAND` and a line `< ANSWER`. In an answer `=XX*N` stands for N blocks.
+    /// there is one plex first `plex DISK`, where that gets a mirror `mirrored FILE`, and for each step a line `> COMMAND` and a line
+    /// `< ANSWER`. In an answer `=XX*N` stands for N blocks.
     pub fn read(alloc: Global, text: &str) -> Result<Scenario, Finding> {
         let mut scenario = Scenario {
             title: String::new(alloc),
             records: String::new(alloc),
+            mirrored: String::new(alloc),
             only_log: String::new(alloc),
             only_plex: String::new(alloc),
             from: Base::Empty,
@@ -50,6 +54,11 @@ impl Scenario {
         Ok(scenario)
     }
 
+    /// Whether the volume gets a mirror.
+    pub fn has_mirror(&self) -> bool {
+        !self.mirrored.is_empty()
+    }
+
     /// The disk of the lowest plex.
     pub fn lowest(&self) -> &str {
         if self.only_plex.is_empty() {
@@ -64,6 +73,7 @@ impl Scenario {
         match word {
             "title" => self.title = String::from_str(alloc, rest)?,
             "records" => self.records = String::from_str(alloc, rest)?,
+            "mirrored" => self.mirrored = String::from_str(alloc, rest)?,
             "log" => self.only_log = String::from_str(alloc, rest)?,
             "plex" => self.only_plex = String::from_str(alloc, rest)?,
             "from" => return Ok(self.begin(rest)),

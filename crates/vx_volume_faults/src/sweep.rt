@@ -6,7 +6,7 @@ use crate::trial::run_on;
 use std::alloc::Global;
 use std::fmt;
 use vx_piece::Bad;
-use vx_volume_judge::{Answer, Finding, PRIVATE, Sort, judge_status, take_all};
+use vx_volume_judge::{Answer, Command, Finding, PRIVATE, Sort, judge_status, take_all};
 
 /// The most calls that a fault is moved along.
 const CALLS: u64 = 2_000;
@@ -135,9 +135,18 @@ fn try_call(
     judge_answers(scenario, place, has_failed, ran.answers())?;
     let mut known = known(alloc, scenario.from, scenario.lowest())?;
     known.log_failed = place.on_write && place.part == Part::Log;
+    known.data_failed = place.on_write && place.part == Part::Data;
     take_all(&mut known, scenario.steps.as_slice(), ran.answers())?;
     go_on(alloc, bases, scenario, &ran, &mut known)?;
     Ok(has_failed)
+}
+
+/// What is told as an answer comes: what it is of, whether no other was one that was neither wanted nor ok, and whether a mirror was done.
+#[derive(Clone, Copy)]
+struct Told {
+    command: Option<Command>,
+    is_first: bool,
+    is_mirrored: bool,
 }
 
 /// The answers are those that are wanted where nothing fails. Where something did, the first that is another has the fault as its
@@ -149,65 +158,92 @@ fn judge_answers(
     answers: &str,
 ) -> Result<(), Finding> {
     let mut wanted = scenario.wanted.lines();
-    let mut is_first = true;
+    let mut steps = scenario.steps.iter();
+    let mut told = Told {
+        command: None,
+        is_first: true,
+        is_mirrored: false,
+    };
     let mut number = 0u64;
     for line in answers.lines() {
         number = number.saturating_add(1);
+        told.command = match steps.next() {
+            Some(step) => Some(step.command),
+            None => None,
+        };
+        let is_ok = line.starts_with("ok");
         if wanted.next() != Some(line) {
-            if !has_failed || !may_be(scenario, place, is_first, line) {
+            if !has_failed || !may_be(scenario, place, told, line) {
                 return Err(Finding::Answer(number));
             }
-            is_first = line.starts_with("ok") && is_first;
+            told.is_first = is_ok && told.is_first;
         }
+        told.is_mirrored = told.is_mirrored || (is_ok && told.is_mirror());
     }
     Ok(())
 }
 
+impl Told {
+    fn is_mirror(&self) -> bool {
+        self.command == Some(Command::Mirror)
+    }
+}
+
 /// Whether an answer that is not the wanted one may be given.
-fn may_be(scenario: &Scenario, place: Place, is_first: bool, line: &str) -> bool {
+fn may_be(scenario: &Scenario, place: Place, told: Told, line: &str) -> bool {
     let Some(answer) = Answer::read(line) else {
         return false;
     };
     match answer.sort {
         Sort::Ok => true,
-        Sort::Fault => answer.name == place.disk && may_fail(scenario, place),
-        Sort::Refused => !is_first || may_refuse(scenario, place, answer.rest),
+        Sort::Fault => answer.name == place.disk && may_fail(scenario, place, told),
+        Sort::Refused => !told.is_first || may_refuse(scenario, place, told, answer.rest),
         Sort::Lost => false,
     }
 }
 
-/// Whether an answer may tell the fault. A disk whose private region fails is dropped. A read of data has another plex, and so has a
-/// write of it, unless there is one plex; but the first start copies from one plex to the other. A write of the log is done on each copy,
-/// and a read of it has another copy, or there is no log.
-fn may_fail(scenario: &Scenario, place: Place) -> bool {
+/// Whether an answer may tell the fault; one that fires once does so on each piece. A disk whose private region fails is dropped. A read of
+/// data has another plex, and so has a write of it, unless there is one plex, or one alone before a mirror is done; but the first start of two
+/// plexes copies from one to the other, and a mirror to the new one. A write of the log is done on each copy, and a read of it has another
+/// copy, or there is no log.
+fn may_fail(scenario: &Scenario, place: Place, told: Told) -> bool {
     match place.part {
         Part::Private => false,
-        Part::Data => scenario.from.is_first() || is_only_plex(scenario, place),
+        Part::Data if is_only_plex(scenario, place) => !told.is_mirrored,
+        Part::Data if told.is_mirror() => place.on_write,
+        Part::Data => scenario.from.is_first() && scenario.only_plex.is_empty(),
         Part::Log => place.on_write,
     }
 }
 
 /// Whether an answer may be refused, before which all were as wanted: an import that cannot read a private region; a start of a
-/// volume whose only log, or whose lowest plex where it is the first, lies on a disk that the import has dropped, or the commit that made
-/// the volume; the making of one that would need a disk which the import has dropped; and a start that cannot read the only log.
-fn may_refuse(scenario: &Scenario, place: Place, refusal: &str) -> bool {
+/// volume whose only log, or whose lowest plex where it is the first or there is no other, lies on a disk that the import has dropped, or
+/// the commit that made the volume; the making of one, or a mirror, that would need a disk which a commit has dropped; and a start that
+/// cannot read the only log.
+fn may_refuse(scenario: &Scenario, place: Place, told: Told, refusal: &str) -> bool {
     match place.part {
-        Part::Private if place.on_write => may_lack(scenario, place, refusal),
+        Part::Private if place.on_write => may_lack(scenario, place, told, refusal),
         Part::Private => refusal.strip_prefix("missing ") == Some(place.disk),
         Part::Data => false,
         Part::Log => refusal == "no log v" && !place.on_write && is_only_log(scenario, place),
     }
 }
 
-/// Whether a start or a making may be refused so where a commit has dropped the disk.
-fn may_lack(scenario: &Scenario, place: Place, refusal: &str) -> bool {
+/// Whether a start, a making or a mirror may be refused so where a commit has dropped the disk. A mirror may use one other disk.
+fn may_lack(scenario: &Scenario, place: Place, told: Told, refusal: &str) -> bool {
     match refusal {
         "no log v" => is_only_log(scenario, place),
-        "no current 0" => scenario.from.is_first() && place.disk == scenario.lowest(),
+        "no current 0" => needs_lowest(scenario) && place.disk == scenario.lowest(),
+        "too few disks 1" if told.is_mirror() => place.disk != scenario.lowest(),
         "too few disks 1" => scenario.from == Base::NoVolume && is_only_plex(scenario, place),
         "too few disks 2" => scenario.from == Base::NoVolume && scenario.only_plex.is_empty(),
         _ => false,
     }
+}
+
+/// Whether a start needs the lowest plex.
+fn needs_lowest(scenario: &Scenario) -> bool {
+    scenario.from.is_first() || !scenario.only_plex.is_empty()
 }
 
 fn is_only_log(scenario: &Scenario, place: Place) -> bool {

@@ -18,6 +18,11 @@ impl Candidates {
         Ok(Candidates { blocks })
     }
 
+    /// How many blocks there are.
+    pub fn blocks(&self) -> u64 {
+        self.blocks.len() as u64
+    }
+
     /// Whether the block may be full of this byte. One that is not full of one byte is told by None.
     pub fn has(&self, block: u64, byte: Option<u8>) -> bool {
         match (self.blocks.get(block as usize), byte) {

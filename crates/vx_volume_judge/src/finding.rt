@@ -19,10 +19,16 @@ pub enum Finding {
     Recorded,
     /// The volume is not recorded, and has to be.
     NotRecorded,
+    /// The plex of a mirror is recorded, and must not be.
+    Mirrored,
+    /// The plex of a mirror is not recorded, and has to be.
+    NotMirrored,
     /// The volume is recorded in a state in which it cannot be.
     VolumeState,
     /// A plex is recorded in a state in which it cannot be.
     PlexState,
+    /// A mirror was done and nothing failed, and a plex is marked in this region.
+    Marked(u64),
     /// By some choice of the marks each plex is marked in this region.
     NoUnmarked(u64),
     /// By some choice of the marks unmarked plexes differ in this region, and may not.
@@ -47,8 +53,11 @@ impl Finding {
             Finding::Records => "the records are others",
             Finding::Recorded => "the volume is recorded",
             Finding::NotRecorded => "the volume is not recorded",
+            Finding::Mirrored => "the plex of a mirror is recorded",
+            Finding::NotMirrored => "the plex of a mirror is not recorded",
             Finding::VolumeState => "the volume is in another state",
             Finding::PlexState => "a plex is in another state",
+            Finding::Marked(_) => "a plex that was copied to is marked in region",
             Finding::NoUnmarked(_) => "no plex is unmarked in region",
             Finding::Differ(_) => "unmarked plexes differ in region",
             Finding::Value(_) => "something else is held in block",
@@ -61,6 +70,7 @@ impl Finding {
     /// The region, the block or the line.
     fn place(self) -> Option<u64> {
         match self {
+            Finding::Marked(region) => Some(region),
             Finding::NoUnmarked(region) => Some(region),
             Finding::Differ(region) => Some(region),
             Finding::Value(block) => Some(block),

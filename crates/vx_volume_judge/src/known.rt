@@ -1,4 +1,5 @@
 //! What is known of the volume by the answers that were given.
+use crate::bytes::decimal;
 use crate::candidates::Candidates;
 use crate::finding::Finding;
 use crate::state::{States, VolumeState};
@@ -15,15 +16,22 @@ enum Is {
     Unsure,
 }
 
-/// The candidates of the volume, the states in which it may be recorded, and whether its group is imported and it runs.
+/// The candidates of the volume, the states in which it may be recorded, whether its group is imported and it runs, and whether it has a
+/// mirror.
 #[derive(Drop)]
 pub struct Known {
     pub candidates: Candidates,
     /// Whether a write of the log has failed: then it may show marks that were to be taken away.
     pub log_failed: bool,
+    /// Whether a write of data has failed: then a plex may be marked that was copied to.
+    pub data_failed: bool,
     states: States,
     imported: Is,
     runs: Is,
+    /// Whether the plex of a mirror is recorded.
+    mirrored: Is,
+    /// Whether a mirror was done.
+    copied: bool,
 }
 
 impl Known {
@@ -36,9 +44,12 @@ impl Known {
         Known {
             candidates,
             log_failed: false,
+            data_failed: false,
             states,
             imported: Is::Not,
             runs: Is::Not,
+            mirrored: Is::Not,
+            copied: false,
         }
     }
 
@@ -57,6 +68,25 @@ impl Known {
         self.states.has(state)
     }
 
+    /// Whether the volume may be recorded with the plex of a mirror, or without it.
+    pub fn may_have(&self, mirror: bool) -> bool {
+        if mirror {
+            self.mirrored != Is::Not
+        } else {
+            self.mirrored != Is::So
+        }
+    }
+
+    /// The volume was found to be recorded with the plex of a mirror, or without it.
+    pub fn find(&mut self, mirror: bool) {
+        self.mirrored = if mirror { Is::So } else { Is::Not };
+    }
+
+    /// Whether a mirror was done, and nothing has failed that marks a plex.
+    pub fn is_copied(&self) -> bool {
+        self.copied && !self.log_failed && !self.data_failed
+    }
+
     /// All devices are given back.
     pub fn end(&mut self) {
         self.imported = Is::Not;
@@ -70,6 +100,7 @@ impl Known {
             Command::Deport => self.deport(answer),
             Command::Make => self.make(answer),
             Command::Start => self.start(answer),
+            Command::Mirror => self.mirror(answer),
             Command::Stop => self.stop(answer),
             Command::Read => self.read(step, answer),
             Command::Write => self.write(step, answer),
@@ -204,6 +235,55 @@ impl Known {
             }
         }
     }
+
+    // ---- the volume gets a mirror
+
+    /// Its map is marked on the log, its records are added by a commit, and then its plex is copied to. Where the log has not failed a
+    /// fault is one of copying.
+    fn mirror(&mut self, answer: Answer<'_>) -> bool {
+        match answer.sort {
+            Sort::Ok => {
+                let fits = self.mirrored != Is::So && self.are_all(answer.rest);
+                self.mirrored = Is::So;
+                self.copied = true;
+                self.runs() && fits
+            }
+            Sort::Refused => self.refuses_mirror(answer.rest),
+            Sort::Fault if answer.name != "group" => {
+                let is_sure = !self.log_failed || self.mirrored == Is::So;
+                self.mirrored = if is_sure { Is::So } else { Is::Unsure };
+                self.runs()
+            }
+            Sort::Fault | Sort::Lost => {
+                if self.mirrored == Is::Not {
+                    self.mirrored = Is::Unsure;
+                }
+                let may_be = self.runs != Is::Not;
+                self.end();
+                may_be
+            }
+        }
+    }
+
+    /// Whether it is told that all regions were copied.
+    fn are_all(&self, words: &str) -> bool {
+        match words.strip_prefix("copied ") {
+            Some(count) => decimal(count) == Some(self.candidates.blocks().div_ceil(REGION)),
+            None => false,
+        }
+    }
+
+    /// Whether a mirror may be refused so: there is no group, no volume, it does not run, or no good disk is left.
+    fn refuses_mirror(&mut self, refusal: &str) -> bool {
+        match refusal {
+            "no group -" => self.imported != Is::So,
+            "no object v" => self.imported == Is::So && self.states.may_be_unrecorded(),
+            "not started v" => self.is_there() && self.rests(refusal),
+            _ => refusal == "too few disks 1" && self.runs(),
+        }
+    }
+
+    // ---- what all of them ask
 
     /// Whether the group is imported and the volume may be recorded.
     fn is_there(&self) -> bool {

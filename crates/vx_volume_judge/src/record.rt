@@ -65,7 +65,7 @@ pub fn read(alloc: Global, text: &[u8]) -> Result<Vec<Attribute<'_>>, Finding> {
 }
 
 /// Whether the records of volumes are those of another text, but for the states.
-pub fn are_alike(attributes: &[Attribute<'_>], others: &[Attribute<'_>]) -> bool {
+fn are_alike(attributes: &[Attribute<'_>], others: &[Attribute<'_>]) -> bool {
     let mut rest = others.iter().filter(|other| other.is_lasting());
     for one in attributes {
         if one.is_lasting() {
@@ -76,6 +76,33 @@ pub fn are_alike(attributes: &[Attribute<'_>], others: &[Attribute<'_>]) -> bool
         }
     }
     rest.next().is_none()
+}
+
+/// The records that a volume may have, but for the states: those that it begins with, and those that it has with a mirror. The latter
+/// text is empty where it gets none.
+#[derive(Clone, Copy)]
+pub struct Records<'r> {
+    pub first: &'r str,
+    pub mirrored: &'r str,
+}
+
+impl<'r> Records<'r> {
+    /// Whether these records of a volume are those with the mirror, and not those that it begins with.
+    pub fn have_mirror(self, alloc: Global, attributes: &[Attribute<'_>]) -> Result<bool, Finding> {
+        if are_those(alloc, attributes, self.first)? {
+            return Ok(false);
+        }
+        if !self.mirrored.is_empty() && are_those(alloc, attributes, self.mirrored)? {
+            return Ok(true);
+        }
+        Err(Finding::Records)
+    }
+}
+
+/// Whether the records of volumes are those of a text, but for the states.
+fn are_those(alloc: Global, attributes: &[Attribute<'_>], records: &str) -> Result<bool, Finding> {
+    let wanted = read(alloc, records.as_bytes())?;
+    Ok(are_alike(attributes, wanted.as_slice()))
 }
 
 /// The value of an attribute of a record.

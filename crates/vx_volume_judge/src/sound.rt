@@ -2,16 +2,20 @@
 use crate::bytes::{fill_of, has};
 use crate::candidates::Candidates;
 use crate::finding::Finding;
+use crate::known::Known;
 use crate::state::{PlexState, VolumeState};
 use crate::volume::{DIRTY, Plex, Volume};
 
 /// Looks at the volume: its plexes' states, whether each region is sound, and whether what is read of it is among the candidates.
-pub fn look(volume: &Volume, candidates: &Candidates, log_failed: bool) -> Result<(), Finding> {
+pub fn look(volume: &Volume, known: &Known) -> Result<(), Finding> {
     look_at_logs(volume)?;
-    look_at_plexes(volume, log_failed)?;
+    look_at_plexes(volume, known.log_failed)?;
     for region in 0..volume.regions() {
         look_at_region(volume, region)?;
-        look_at_values(volume, region, candidates)?;
+        look_at_values(volume, region, &known.candidates)?;
+        if known.is_copied() {
+            look_at_marks(volume, region)?;
+        }
     }
     Ok(())
 }
@@ -164,6 +168,16 @@ fn has_stale(volume: &Volume, marks: u64) -> bool {
         }
     }
     false
+}
+
+/// Each plex on good disks is unmarked on each copy of the log: a mirror was done, and nothing failed that marks a plex.
+fn look_at_marks(volume: &Volume, region: u64) -> Result<(), Finding> {
+    for plex in &volume.plexes {
+        if plex.held && has(volume.possible(region), plex.map) {
+            return Err(Finding::Marked(region));
+        }
+    }
+    Ok(())
 }
 
 // ---- values

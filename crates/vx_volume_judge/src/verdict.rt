@@ -3,18 +3,19 @@ use crate::bytes::has;
 use crate::finding::Finding;
 use crate::known::Known;
 use crate::making::Making;
-use crate::private::newest;
+use crate::private::{newest, slot_of};
+use crate::record::Records;
 use crate::sound::look;
 use crate::state::VolumeState;
 use crate::volume::{Plex, Volume, volume_on};
 use std::alloc::{AllocError, Global};
 
 /// The volume on these images, which is as it has to be by what is known. It is None where it is not recorded, and need not be. Its
-/// records are these, but for the states.
+/// records are some of these, but for the states.
 pub fn judge(
     alloc: Global,
     images: &[&[u8]],
-    records: &str,
+    records: Records<'_>,
     known: &Known,
 ) -> Result<Option<Volume>, Finding> {
     let Some(volume) = volume_on(alloc, images, records)? else {
@@ -23,10 +24,17 @@ pub fn judge(
     if !known.may_be_recorded() {
         return Err(Finding::Recorded);
     }
+    if !known.may_have(volume.has_mirror) {
+        return Err(if volume.has_mirror {
+            Finding::Mirrored
+        } else {
+            Finding::NotMirrored
+        });
+    }
     if !known.may_be(volume.state) {
         return Err(Finding::VolumeState);
     }
-    look(&volume, &known.candidates, known.log_failed)?;
+    look(&volume, known)?;
     Ok(Some(volume))
 }
 
@@ -58,15 +66,24 @@ fn is_ok(line: &str) -> bool {
     line.starts_with("ok")
 }
 
-/// The import is done, what starts the volume is answered so, and where that is done so is all behind it.
-pub fn judge_next(wanted: &str, answers: &str) -> Result<(), Finding> {
+/// The answers that are wanted of what starts the volume, and of a mirror of it behind two reads, where there is one.
+#[derive(Clone, Copy)]
+pub struct Next<'n> {
+    pub start: &'n str,
+    pub mirror: &'n str,
+}
+
+/// The import is done, what starts the volume is answered so, and where that is done so are a mirror and all else behind it.
+pub fn judge_next(wanted: Next<'_>, answers: &str) -> Result<(), Finding> {
     let mut number = 0u64;
     for line in answers.lines() {
         number = number.saturating_add(1);
         let fits = match number {
             1 => line == "ok",
-            2 => line == wanted,
-            _ => is_ok(line) || !is_ok(wanted),
+            2 => line == wanted.start,
+            _ if !is_ok(wanted.start) => true,
+            5 => line == wanted.mirror,
+            _ => is_ok(line),
         };
         if !fits {
             return Err(Finding::Answer(number));
@@ -91,6 +108,21 @@ pub fn answer_of(
         Some(making) => Ok(making.answer(alloc, images, good)?),
         None => Err(Finding::NotRecorded),
     }
+}
+
+/// The answer of a mirror of the volume, which was started and each plex of which lies on one good disk: a good disk has to be left.
+pub fn mirror_of(alloc: Global, images: &[&[u8]], volume: &Volume) -> Result<String, Finding> {
+    let good = newest(images)?.good;
+    let mut disks = 0usize;
+    for image in images {
+        if has(good, slot_of(image)) {
+            disks = disks.saturating_add(1);
+        }
+    }
+    if disks <= volume.plexes.len() {
+        return Ok(String::from_str(alloc, "refused too few disks 1")?);
+    }
+    Ok(format!(in alloc; "ok copied {}", volume.regions())?)
 }
 
 /// The answer of a start of the volume as its disks hold it.

@@ -3,7 +3,7 @@
 use crate::bytes::{are_zero, decimal, field, has, only, part, sectors};
 use crate::finding::Finding;
 use crate::private::{PRIVATE, is_disk, is_named, newest};
-use crate::record::{Attribute, are_alike, figure, read, value};
+use crate::record::{Attribute, Records, figure, read, value};
 use crate::state::{PlexState, VolumeState};
 use std::alloc::Global;
 
@@ -30,6 +30,8 @@ pub struct Volume {
     pub state: VolumeState,
     pub length: u64,
     pub region: u64,
+    /// Whether its records are those with the mirror.
+    pub has_mirror: bool,
     /// The data plexes, by name.
     pub plexes: Vec<Plex>,
     /// The log plexes, by name.
@@ -38,12 +40,12 @@ pub struct Volume {
 
 // ---- from the records and the disks
 
-/// The volume `v` of the group that these images are the disks of, where it is recorded. Its records are these, but for the states, and
-/// there are no others.
+/// The volume `v` of the group that these images are the disks of, where it is recorded. Its records are some of these, but for the
+/// states, and there are no others.
 pub fn volume_on(
     alloc: Global,
     images: &[&[u8]],
-    records: &str,
+    records: Records<'_>,
 ) -> Result<Option<Volume>, Finding> {
     let offer = newest(images)?;
     for image in images {
@@ -55,16 +57,13 @@ pub fn volume_on(
     if !has_volume(attributes.as_slice()) {
         return Ok(None);
     }
-    let wanted = read(alloc, records.as_bytes())?;
-    if !are_alike(attributes.as_slice(), wanted.as_slice()) {
-        return Err(Finding::Records);
-    }
+    let has_mirror = records.have_mirror(alloc, attributes.as_slice())?;
     let group = Group {
         attributes: attributes.as_slice(),
         images,
         good: offer.good,
     };
-    Ok(Some(group.volume(alloc)?))
+    Ok(Some(group.volume(alloc, has_mirror)?))
 }
 
 /// Whether something is recorded beside the group and its disks.
@@ -94,12 +93,13 @@ impl<'g, 'a> Group<'g, 'a> {
         figure(self.attributes, kind, name, attribute)
     }
 
-    fn volume(&self, alloc: Global) -> Result<Volume, Finding> {
+    fn volume(&self, alloc: Global, has_mirror: bool) -> Result<Volume, Finding> {
         let state = VolumeState::read(self.value("vol", "v", "state")?);
         let mut volume = Volume {
             state: state.ok_or(Finding::Records)?,
             length: self.number("vol", "v", "len")?,
             region: self.number("vol", "v", "region")?,
+            has_mirror,
             plexes: Vec::new(alloc),
             logs: Vec::new(alloc),
         };

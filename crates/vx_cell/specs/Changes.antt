@@ -77,3 +77,18 @@ AreArmed stop _ _ = ⊥
 pub record CellArmed (stop : Option ℕ) (old new : CellSeen) : Type 0 where
   pub plexes : AreArmed stop old.plexes new.plexes
   pub same : new ≡ record old { plexes = new.plexes }
+
+-- ---- another log
+
+-- the first of the plexes has number 0
+abbrev pub first_as_zero : List PlexSeen → List PlexSeen
+first_as_zero [] = []
+first_as_zero (p ∷ ps) = record { map = 0; pieces = p.pieces } ∷ ps
+
+-- plex 0 is on, there is no other plex and no relation, and nothing is marked; the region is logged or not
+abbrev pub stage_alone : Bool → Stage → Stage
+stage_alone logged s = record { on = only 0; off = 0; snaps = 0; bits = 0; logged = logged; phase = s.phase }
+
+-- the first plex of the cell is its plex 0, which is alone
+abbrev pub IsRenewed : Bool → CellSeen → CellSeen → Type 0
+IsRenewed logged old new = new ≡ record old { stage = stage_alone logged old.stage; plexes = first_as_zero old.plexes }

@@ -5,11 +5,11 @@ ghost use Rattle.vx_core.specs.declared.stage.Phase.TheVariants.{Dead};
 ghost use Rattle.vx_core.specs.Table.{next_of};
 ghost use Rattle.vx_core.specs.Plexes.{put_in};
 ghost use Rattle.vx_cell.specs.Plexes.{holds, plexes_seen};
-ghost use Rattle.vx_cell.specs.Changes.{CellArmed, HasRoom, IsSet, Leaves, cell_seen, has_other};
+ghost use Rattle.vx_cell.specs.Changes.{CellArmed, HasRoom, IsRenewed, IsSet, Leaves, cell_seen, has_other};
 ghost use Rattle.vx_cell.specs.declared.fault.CellFault.TheVariants.{Only};
 
 use crate::fault::CellFault;
-use crate::plex::{Plex, arm_plexes, find};
+use crate::plex::{Plex, arm_plexes, find, first_to_zero};
 use std::alloc::Global;
 use vx_base::OutOfMemory;
 use vx_block::Span;
@@ -123,6 +123,22 @@ impl<P: Piece> Cell<P> {
         ensures dead { (cell_seen P.seen self.new).stage.phase ≡ Dead }
     {
         self.stage = vx_core::next(&self.stage, Event::Cut).0;
+    }
+
+    /// Makes the cell one of a region with a log, or without one, in which nothing is marked and of which the first plex, as number 0,
+    /// is alone. For use between calls.
+    pub fn renew(&mut self, logged: bool)
+        ensures { IsRenewed logged (cell_seen P.seen self.old) (cell_seen P.seen self.new) }
+    {
+        self.stage = Stage {
+            on: vx_mask::of(0),
+            off: 0,
+            snaps: 0,
+            bits: 0,
+            logged,
+            phase: self.stage.phase,
+        };
+        first_to_zero(&mut self.plexes);
     }
 
     /// Sets when a power switch is to act on the pieces of the cell.

@@ -1,6 +1,6 @@
 ghost use Rattle.std.specs.Prelude.{◌≡◌, ◌+◌, ◌*◌, ◌/◌, ◌%◌, ◌^◌, ◌<◌, ◌≤◌, true, false, length, MatchOption};
 ghost use Rattle.vx_cell.specs.Plexes.{AllCover, ChangesPlex, IsFirst, holds, plexes_seen};
-ghost use Rattle.vx_cell.specs.Changes.{AreArmed};
+ghost use Rattle.vx_cell.specs.Changes.{AreArmed, first_as_zero};
 ghost use Rattle.vx_cell.specs.Acts.{IsPlexRead, IsPlexWritten, IsRange};
 
 use vx_piece::Piece;
@@ -84,5 +84,15 @@ pub fn arm_plexes<P: Piece>(plexes: &mut Vec<Plex<P>>, stop: Option<u64>)
     for index in 0..plexes.len() {
         let plex = &mut plexes[index];
         arm_run(&mut plex.pieces, stop);
+    }
+}
+
+/// Gives the first of the plexes number 0.
+pub fn first_to_zero<P: Piece>(plexes: &mut Vec<Plex<P>>)
+    ensures { plexes_seen P.seen plexes.new.items ≡ first_as_zero (plexes_seen P.seen plexes.old.items) }
+{
+    if !plexes.is_empty() {
+        let plex = &mut plexes[0];
+        plex.map = 0;
     }
 }

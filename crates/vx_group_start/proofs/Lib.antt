@@ -3,6 +3,7 @@ mod Early
 mod Fits
 mod Forms
 mod Laid
+mod MadeLogs
 mod Missed
 mod Nearer
 mod NoLogs

@@ -1,5 +1,5 @@
 -- A log that was loaded, or made new: what its copies have become.
-use Rattle.std.proofs.Common.{◌≡◌, ℕ, Bool, true, false, List, [], subst, sym, arith}
+use Rattle.std.proofs.Common.{ℕ, Bool, true, false, List, [], subst, sym, arith}
 use Rattle.std.proofs.lemmas.Bool.{false≢true}
 use Rattle.vx_piece.specs.Seen.{Seen}
 use Rattle.vx_pages.specs.declared.local_piece.LocalPiece.{Ghosts}

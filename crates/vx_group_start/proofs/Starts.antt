@@ -1,6 +1,6 @@
 -- A volume that was opened over pieces that were taken is started.
 use Rattle.std.proofs.Common.{◌≡◌, ℕ, zero, suc, ◌<◌, ◌≤◌, List, [], ◌∷◌, ◌++◌, length, map, Result, Ok, Err, refl, sym, ap, ◌∙◌, subst, arith, append_assoc, inl, inr}
-use Rattle.std.specs.Prelude.{IfOk, nat_lt, is_some, true, false}
+use Rattle.std.specs.Prelude.{IfOk, nat_lt, is_some, true}
 use Rattle.std.specs.List.{All, flat_map}
 use Rattle.std.proofs.lemmas.Bool.{false≢true}
 use Rattle.std.proofs.lemmas.Bool.Decides.{nat_tests}
@@ -65,7 +65,7 @@ opened_plexes shape log regions v opened = cell_plexes_at 0 v.cells regions open
 -- ---- pieces
 
 -- what each copy holds
-all_copies : (contents : ℕ → Contents) (copies : List (List Seen)) → All (Holds contents) (copy_pieces copies) → All (λ copy. All (Holds contents) copy) copies
+pub all_copies : (contents : ℕ → Contents) (copies : List (List Seen)) → All (Holds contents) (copy_pieces copies) → All (λ copy. All (Holds contents) copy) copies
 all_copies contents [] h = All-nil (λ copy. All (Holds contents) copy)
 all_copies contents (x ∷ xs) h = let both = all_parts (Holds contents) x (copy_pieces xs) h in All-cons (λ copy. All (Holds contents) copy) x xs both.0 (all_copies contents xs both.1)
 

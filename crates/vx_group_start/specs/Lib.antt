@@ -5,6 +5,7 @@ pub mod GroupDisks
 pub mod Laws
 pub mod Laying
 pub mod Logs
+pub mod Making
 pub mod Refused
 pub mod Started
 pub mod Steps

@@ -8,6 +8,7 @@ mod gathering;
 pub mod laws;
 mod laying;
 mod logs;
+mod making;
 mod opening;
 mod remains;
 
@@ -17,4 +18,5 @@ pub use fault::StartFault;
 pub use gathering::gather;
 pub use laying::lay_down;
 pub use logs::{is_fresh, mask_to_copy};
+pub use making::{leave_log, make_log, take_log};
 pub use opening::open_volume;

@@ -26,6 +26,7 @@ mod volumes;
 
 pub use back::{put_copies, put_pieces};
 pub use cells::put_cells;
+pub use copies::take_copies;
 pub use form::{VolumeForm, form_of};
 pub use fresh::fresh_log;
 pub use left::{FreshRefused, LogLeft, VolumeLeft};

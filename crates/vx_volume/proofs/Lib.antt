@@ -7,6 +7,7 @@ pub mod Buffers
 pub mod Downwards
 pub mod Entries
 pub mod Histories
+pub mod Loggings
 pub mod Loops
 pub mod Masks
 pub mod Notes

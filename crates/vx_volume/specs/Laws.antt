@@ -32,6 +32,7 @@ use Rattle.vx_volume.specs.declared.fault.IoFault.TheVariants as io
 use Rattle.vx_volume.specs.declared.receipt.Receipt.{Receipt}
 use Rattle.vx_volume.specs.Calls.{ChangesRegion, ReadEnds, WriteEndsAll, bytes_of, io_stop, parts_in}
 use Rattle.vx_volume.specs.Changing.{IsFreeIn, IsKnownMap, IsPlexFor, PutsPlex, SetsMap}
+use Rattle.vx_volume.specs.Logging.{ChangesLog, IsAlone, ShowsNothing}
 use Rattle.vx_volume.specs.Loop.{AreMade}
 use Rattle.vx_volume.specs.Passes.{CopyEnds, IsClearedAt, IsCopiedAt, IsSettledAt, PassEnds}
 use Rattle.vx_volume.specs.Volume.{IsVolume, VolumeSeen, cell_at, region_at}
@@ -308,3 +309,17 @@ EachPuttingStands =
 abbrev pub EachPuttingTells : Type 0
 EachPuttingTells =
     (map : ℕ) (runs : List (List Seen)) (old new : VolumeSeen) → PutsPlex map runs old new → ((r : ℕ) → r < length old.cells → RunTells (item_at [] runs r)) → AreTold old → AreTold new
+
+-- what is fixed, with map 0 alone and with the copies of this log
+abbrev pub with_log_of : LogSeen → Fixed → Fixed
+with_log_of log fixed = record fixed { held = λ k. has (only 0) k; copies = log.copies }
+
+-- What the regions of a volume of one plex stand for they stand for with another log that shows nothing.
+abbrev pub EachLogChangeStands : Type 0
+EachLogChangeStands =
+    (map : ℕ) (log : LogSeen) (old new : VolumeSeen) → ChangesLog log old new → IsVolume old → IsAlone map old → ShowsNothing log old →
+    (fixed : ℕ → Fixed) (entries : ℕ → List Entry) → StandFor old fixed entries → StandFor new (λ r. with_log_of log (fixed r)) entries
+
+-- What is told stays told where the log tells.
+abbrev pub EachLogChangeTells : Type 0
+EachLogChangeTells = (log : LogSeen) (old new : VolumeSeen) → ChangesLog log old new → Tells log.told → AreTold old → AreTold new

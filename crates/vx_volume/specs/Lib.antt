@@ -9,5 +9,6 @@ pub mod Passes
 pub mod Opening
 pub mod Arming
 pub mod Changing
+pub mod Logging
 pub mod Laws
 pub mod Retelling

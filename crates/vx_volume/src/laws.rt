@@ -1,7 +1,7 @@
 //! Laws of calls on volumes, each a function with an empty body whose contract states it.
 
 ghost use Rattle.vx_volume.specs.Calls.{IsRead, IsWritten};
-ghost use Rattle.vx_volume.specs.Laws.{CallOfRegionGoesOn, CalledGoesOn, CopyPassGoesOn, EachClearingGoesOn, EachClearingOfRegionGoesOn, EachCopyGoesOn, EachCopyOfRegionGoesOn, EachCourseIsNoted, EachGoingGoesOn, EachGoingIsScheduled, EachGoingStands, EachOtherGoesOn, EachPuttingStands, EachPuttingTells, EachReadOfVolumeGoesOn, EachSettingKnows, EachSettingMarks, EachSettingStands, EachSettingTells, EachSettlingGoesOn, EachSettlingOfRegionGoesOn, EachWriteOfVolumeGoesOn, MayTellRead, MayTellWrite, PassGoesOn};
+ghost use Rattle.vx_volume.specs.Laws.{CallOfRegionGoesOn, CalledGoesOn, CopyPassGoesOn, EachClearingGoesOn, EachClearingOfRegionGoesOn, EachCopyGoesOn, EachCopyOfRegionGoesOn, EachCourseIsNoted, EachGoingGoesOn, EachGoingIsScheduled, EachGoingStands, EachLogChangeStands, EachLogChangeTells, EachOtherGoesOn, EachPuttingStands, EachPuttingTells, EachReadOfVolumeGoesOn, EachSettingKnows, EachSettingMarks, EachSettingStands, EachSettingTells, EachSettlingGoesOn, EachSettlingOfRegionGoesOn, EachWriteOfVolumeGoesOn, MayTellRead, MayTellWrite, PassGoesOn};
 ghost use Rattle.vx_volume.specs.Passes.{Clears, Settles};
 ghost use Rattle.vx_volume.specs.Retelling.{EachHistoryIsRetold};
 
@@ -75,4 +75,10 @@ pub fn each_setting_stands()
 pub fn each_putting_stands()
     ensures stands { EachPuttingStands }
     ensures told { EachPuttingTells }
+{}
+
+/// What the regions of a volume of one plex stand for they stand for with another log that shows nothing.
+pub fn each_log_change_stands()
+    ensures stands { EachLogChangeStands }
+    ensures told { EachLogChangeTells }
 {}

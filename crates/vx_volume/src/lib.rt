@@ -11,6 +11,7 @@ mod fault;
 pub mod laws;
 mod listing;
 mod log;
+mod logging;
 pub mod map_laws;
 mod opening;
 mod passes;

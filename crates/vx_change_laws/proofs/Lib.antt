@@ -4,3 +4,4 @@ pub mod Settings
 pub mod Joinings
 pub mod Exactness
 pub mod Places
+pub mod Loggings

@@ -1,8 +1,9 @@
-//! What becomes of a running volume of the world where a map of its log is set, or a plex joins it: laws, as functions that do
-//! nothing and promise them.
+//! What becomes of a running volume of the world where a map of its log is set, a plex joins it, or it gets another log: laws, as
+//! functions that do nothing and promise them.
 #![tactic(auto)]
 
 ghost use Rattle.vx_change_laws.specs.Laws.{EachFailureIsNoted, EachFreeMapIsNew, EachJoiningFits, EachJoiningRunsOn, EachJoiningStaysCut, EachJoiningStaysExact, EachSettingFits, EachSettingIsQuiet, EachSettingKeepsPlaces, EachSettingLeavesFree, EachSettingRunsOn, EachSettingStaysCut, EachSettingStaysExact};
+ghost use Rattle.vx_change_laws.specs.Logging.{EachLogChangeFits, EachLogChangeIsExact, EachLogChangeRunsOn, EachLogChangeStaysCut};
 
 use vx_volume::laws::{each_putting_stands, each_setting_stands};
 
@@ -63,4 +64,24 @@ pub fn each_joining_stays_exact()
 /// Its regions are dead then only where they are cut.
 pub fn each_joining_stays_cut()
     ensures { EachJoiningStaysCut }
+{}
+
+/// After the log of a volume of one plex was changed for a new one that shows nothing, or for none, it runs as the one that has it.
+pub fn each_log_change_runs_on()
+    ensures { EachLogChangeRunsOn }
+{}
+
+/// The owners of tracks fit then, where all are written to and have number 0.
+pub fn each_log_change_fits()
+    ensures { EachLogChangeFits }
+{}
+
+/// The new log says exactly what the regions do.
+pub fn each_log_change_is_exact()
+    ensures { EachLogChangeIsExact }
+{}
+
+/// Its regions are dead then only where they are cut, if they were so before and the power of the old log is there.
+pub fn each_log_change_stays_cut()
+    ensures { EachLogChangeStaysCut }
 {}

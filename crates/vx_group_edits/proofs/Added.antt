@@ -38,7 +38,7 @@ use Rattle.vx_group_edits.proofs.Fresh.{each_fresh, is_fresh}
 use Rattle.vx_group_edits.proofs.Lists.{none_seen, not_picked, picked}
 use Rattle.vx_group_edits.proofs.Untouched.{plexes_of, stays}
 
-all_stay : (os : List Object) → filter_map (λ o. Some o) os ≡ os
+pub all_stay : (os : List Object) → filter_map (λ o. Some o) os ≡ os
 all_stay [] = refl
 all_stay (o ∷ os) = ap (λ ps. o ∷ ps) (all_stay os)
 
@@ -157,7 +157,7 @@ no_relation (DcoRecord x) e = refl
 -- ---- the tests of added records let none through that refers to a plex or a volume of the group
 
 -- the fault is answered wherever it is there
-abbrev IsAnswered : Option ObjectFault → Type 0
+abbrev pub IsAnswered : Option ObjectFault → Type 0
 IsAnswered f = refusal_from f ≡ None → f ≡ None
 
 had_answered : (group : List Object) (attribute : Option Word) → IsAnswered (had group attribute)
@@ -168,7 +168,7 @@ had_answered group (Some n) e = by (is_had group n) e
     by true e = cc
     by false e = refl
 
-first_answered : (a b : Option ObjectFault) → IsAnswered a → IsAnswered b → IsAnswered (first_some a b)
+pub first_answered : (a b : Option ObjectFault) → IsAnswered a → IsAnswered b → IsAnswered (first_some a b)
 first_answered None b here there e = there e
 first_answered (Some f) b here there e = here e
 

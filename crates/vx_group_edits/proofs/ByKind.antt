@@ -2,9 +2,10 @@
 use Rattle.std.proofs.Common.{◌≡◌, true, Option, Some, None, List, [], ◌∷◌, ◌++◌, map, refl, sym, ◌∙◌, ap, subst, inr}
 use Rattle.std.specs.List.{filter, filter_map}
 use Rattle.std.proofs.lemmas.List.Elements.{filter_map-append}
+use Rattle.vx_config_parts.specs.declared.dco.Dco.{Dco}
 use Rattle.vx_config_parts.specs.declared.group.Group.{Group}
 use Rattle.vx_config_parts.specs.declared.object.Object.{Object}
-use Rattle.vx_config_parts.specs.declared.object.Object.TheVariants.{GroupRecord, DiskRecord, SubdiskRecord, PlexRecord, VolRecord}
+use Rattle.vx_config_parts.specs.declared.object.Object.TheVariants.{GroupRecord, DiskRecord, SubdiskRecord, PlexRecord, VolRecord, DcoRecord}
 use Rattle.vx_config_parts.specs.declared.plex.Plex.{Plex}
 use Rattle.vx_config_parts.specs.declared.snap.Snap.{Snap}
 use Rattle.vx_config_parts.specs.declared.vol.Vol.{Vol}
@@ -147,3 +148,9 @@ plex_recorded c p there = subst (λ ps. IsIn ps p) (plexes_own c) (in_filter_map
 
 pub vol_recorded : (c : Config) (v : Vol) → IsVolOf c v → IsIn c.volumes v
 vol_recorded c v of = subst (λ vs. IsIn vs v) (volumes_own c) (in_filter_map as_vol (objects_of c) (VolRecord v) v (one_in (objects_of c) (VolRecord v) of) refl)
+
+-- a DCO among the DCOs is among the records
+pub dco_in : (c : Config) (d : Dco) → IsIn c.dcos d → IsIn (objects_of c) (DcoRecord d)
+dco_in c d there =
+    inr (in_right (map DiskRecord c.disks) _ (DcoRecord d) (in_right (map SubdiskRecord c.subdisks) _ (DcoRecord d) (in_right (map PlexRecord c.plexes) _ (DcoRecord d)
+    (in_right (map VolRecord c.volumes) _ (DcoRecord d) (in_left (map DcoRecord c.dcos) _ (DcoRecord d) (in_map DcoRecord c.dcos d there))))))

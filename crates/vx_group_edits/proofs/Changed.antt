@@ -98,7 +98,7 @@ pub names_one : (attribute : Option Word) (a b : Word) → refers attribute a �
 names_one None a b is other = refl
 names_one (Some n) a b is other = false_from_ne_true (bytes_eq n b) (λ h. other (sym (bytes_eq_same n a is) ∙ bytes_eq_same n b h))
 
-true_from_not : (b : Bool) → not b ≡ false → b ≡ true
+pub true_from_not : (b : Bool) → not b ≡ false → b ≡ true
 true_from_not true e = refl
 true_from_not false e = absurd (false≢true (sym e))
 

@@ -24,7 +24,7 @@ use Rattle.vx_group_edits.proofs.Changed.{policy_keeps, removal_keeps}
 use Rattle.vx_group_edits.proofs.ByKind.{records_vol}
 
 -- the volume that is found by a name is there, and has it
-found_there : (name : Word) (vs : List Vol) (w : Vol) → volume_in name vs ≡ Some w → IsIn vs w × (bytes_eq w.name name ≡ true)
+pub found_there : (name : Word) (vs : List Vol) (w : Vol) → volume_in name vs ≡ Some w → IsIn vs w × (bytes_eq w.name name ≡ true)
 found_there name [] w e = absurd cc
 found_there name (v ∷ vs) w e = by (found_there name vs w) (bytes_eq v.name name) refl e
   where

@@ -1,5 +1,5 @@
 -- All disks of the plex of a mirror are good: each of its subdisks is a new one, and so on a good disk.
-use Rattle.std.proofs.Common.{◌≡◌, ℕ, Bool, true, false, not, Option, Some, None, List, [], ◌∷◌, take, drop, refl, sym, subst, inl, inr}
+use Rattle.std.proofs.Common.{◌≡◌, ◌≢◌, ℕ, Bool, true, false, not, Option, Some, None, List, [], ◌∷◌, ◌++◌, take, drop, refl, sym, subst, inl, inr}
 use Rattle.std.specs.Prelude.{◌||◌, Contains}
 use Rattle.std.specs.List.{list_all}
 use Rattle.std.specs.Str.{bytes_eq}
@@ -23,6 +23,7 @@ use Rattle.vx_objects.specs.declared.edit.Edit.TheVariants.{Make}
 use Rattle.vx_objects.specs.Applied.{IsEdited}
 use Rattle.vx_objects.specs.Config.{objects_of}
 use Rattle.vx_objects.proofs.OneGroup.{second_none, unless_none}
+use Rattle.vx_image.specs.Bytes.{is_held}
 use Rattle.vx_image.specs.Lies.{slot_of}
 use Rattle.vx_image.proofs.PlexMembers.{IsIn, any_in, in_either, subdisk_in}
 use Rattle.vx_image.proofs.Plexes.{config_valid}
@@ -32,7 +33,7 @@ use Rattle.vx_new_volumes.specs.Disks.{names_of}
 use Rattle.vx_new_volumes.specs.Mirrors.{mirror_request}
 use Rattle.vx_group_edits.proofs.ByKind.{plex_recorded}
 use Rattle.vx_group_edits.proofs.Lists.{all_each}
-use Rattle.vx_group_edits.specs.Joins.{Joins, plexes_in, subdisks_in}
+use Rattle.vx_group_edits.specs.Joins.{Joins, subdisks_in}
 use Rattle.vx_group_edits.proofs.Joined.{plex_joins}
 use Rattle.vx_stages.specs.Mirroring.{IsMirrorLaid}
 use Rattle.vx_group_edits.specs.MirrorLaws.{EachLaidMirrorIsHeld}
@@ -42,7 +43,7 @@ use Rattle.vx_group_edits.proofs.Records.{mirror_is_of, mirror_made, mirror_pass
 
 -- ---- a subdisk that was there
 
-references_rule : (all : List Object) → first_broken all ≡ None → fault_of rule.ReferencesAreThere all ≡ None
+pub references_rule : (all : List Object) → first_broken all ≡ None → fault_of rule.ReferencesAreThere all ≡ None
 unfolding first_broken
 references_rule all e = one_rule (take 2 rules) rule.ReferencesAreThere (drop 3 rules) all e
 
@@ -70,7 +71,7 @@ plex_of c s name there on =
 -- ---- a new one
 
 -- a record that is a subdisk is on a disk whose name passes a test
-abbrev lies : (Word → Bool) → Object → Bool
+abbrev pub lies : (Word → Bool) → Object → Bool
 lies good (SubdiskRecord s) = good s.disk
 lies good o = true
 
@@ -79,6 +80,25 @@ subdisk_lies good [] s all there = absurd there
 subdisk_lies good (SubdiskRecord t ∷ os) s all (inl same) = subst (λ (x : Subdisk). good x.disk ≡ true) (sym same) (and_parts (good t.disk) (list_all (lies good) os) all).0
 subdisk_lies good (SubdiskRecord t ∷ os) s all (inr there) = subdisk_lies good os s (and_parts (good t.disk) (list_all (lies good) os) all).1 there
 subdisk_lies good (o ∷ os) s all there = subdisk_lies good os s all there
+
+-- where all that is added lies on disks with the names of good ones, all disks of a new plex are good
+module _ (c c' : Config) (good : ℕ) (added : List Object) (disks : c'.disks ≡ c.disks) (subdisks : c'.subdisks ≡ c.subdisks ++ subdisks_in added) (lie : list_all (lies (good_name c.disks good)) added ≡ true)
+    (p : Plex) (new : (q : Plex) → Contains c.plexes q → q.name ≢ p.name) where
+  -- a subdisk of the plex is new, and so on a good disk
+  on_disk : (s : Subdisk) → IsIn c'.subdisks s → refers s.plex p.name ≡ true → good_name c'.disks good s.disk ≡ true
+  on_disk s here on = elim (in_either c.subdisks (subdisks_in added) s (subst (λ ss. IsIn ss s) subdisks here)) [
+    | inl old ↦ let q = plex_of c s p.name old on in absurd (new q.0 (contains c.plexes q.0 q.1) q.2)
+    | inr there ↦ subst (λ ds. good_name ds good s.disk ≡ true) (sym disks) (subdisk_lies (good_name c.disks good) added s lie there)
+  ]
+
+  pub new_held : is_held c' good p ≡ true
+  new_held = all_each (λ s. not (refers s.plex p.name) || has good (slot_of c'.disks s.disk)) c'.subdisks (λ s here. by s here (refers s.plex p.name) refl)
+    where
+      by : (s : Subdisk) → IsIn c'.subdisks s → (b : Bool) → refers s.plex p.name ≡ b → (not b || has good (slot_of c'.disks s.disk)) ≡ true
+      by s here true on = good_slot c' good s here (on_disk s here on)
+      by s here false on = refl
+
+-- ---- a mirror
 
 module _ (c c' : Config) (good : ℕ) (v : Vol) (disks : List Word) (m : ℕ) (added : List Object) (laid : IsMirrorLaid c good v disks m added) (edits : IsEdited (Make added ∷ []) c c') where
   joined : Joins c v.name added c'
@@ -92,20 +112,7 @@ module _ (c c' : Config) (good : ℕ) (v : Vol) (disks : List Word) (m : ℕ) (a
       let rest = mirror_passes (lies (good_name c.disks good)) (λ e. good_name c.disks good e.disk) (objects_of c) v laid.lowest m laid.plan added made (λ name col at e fits. fits) planned in
       subst (λ os. list_all (lies (good_name c.disks good)) os ≡ true) made.are rest
 
-  module _ (p : Plex) (new : Contains (plexes_in added) p) where
-    -- a subdisk of the plex is new, and so on a good disk
-    on_disk : (s : Subdisk) → IsIn c'.subdisks s → refers s.plex p.name ≡ true → good_name c'.disks good s.disk ≡ true
-    on_disk s here on = elim (in_either c.subdisks (subdisks_in added) s (subst (λ ss. IsIn ss s) joined.subdisks here)) [
-      | inl old ↦ let q = plex_of c s p.name old on in absurd ((joined.new p new).name q.0 (contains c.plexes q.0 q.1) q.2)
-      | inr there ↦ subst (λ ds. good_name ds good s.disk ≡ true) (sym joined.disks) (subdisk_lies (good_name c.disks good) added s added_lie there)
-    ]
-
-    held : list_all (λ s. not (refers s.plex p.name) || has good (slot_of c'.disks s.disk)) c'.subdisks ≡ true
-    held = all_each (λ s. not (refers s.plex p.name) || has good (slot_of c'.disks s.disk)) c'.subdisks (λ s here. by s here (refers s.plex p.name) refl)
-      where
-        by : (s : Subdisk) → IsIn c'.subdisks s → (b : Bool) → refers s.plex p.name ≡ b → (not b || has good (slot_of c'.disks s.disk)) ≡ true
-        by s here true on = good_slot c' good s here (on_disk s here on)
-        by s here false on = refl
-
 pub laid_held : EachLaidMirrorIsHeld
-laid_held c c' good v disks m added laid edits p new = held c c' good v disks m added laid edits p new
+laid_held c c' good v disks m added laid edits p new =
+    let all = joined c c' good v disks m added laid edits in
+    new_held c c' good added all.disks all.subdisks (added_lie c c' good v disks m added laid edits) p (all.new p new).name

@@ -34,8 +34,9 @@ use Rattle.vx_group_edits.specs.OfVolume.{AreOf, is_part_of}
 use Rattle.vx_group_edits.proofs.Added.{made_behind}
 use Rattle.vx_group_edits.proofs.ByKind.{dcos_are, dcos_own, disks_are, disks_own, plexes_are, plexes_own, snaps_are, snaps_own, subdisks_are, subdisks_own, vol_is, volumes_are, volumes_own}
 use Rattle.vx_group_edits.proofs.Columns.{columns_same}
-use Rattle.vx_group_edits.proofs.Lists.{filter_append, none_seen, not_picked, picked}
-use Rattle.vx_group_edits.proofs.OfVolume.{names_are, names_free, no_dcos, no_disks, no_snaps, no_volumes, subdisk_off}
+use Rattle.vx_group_edits.proofs.Lists.{filter_append, filter_passed, none_seen, not_picked, picked}
+use Rattle.vx_group_edits.proofs.OwnEdits.{no_parts}
+use Rattle.vx_group_edits.proofs.PlexNames.{names_are, names_free, subdisk_off}
 use Rattle.vx_group_edits.specs.Joins.{IsNewPlex, Joins, StaysAsItWas, copies_in, images_in, joined_image, plexes_in, subdisks_in, subdisks_of}
 use Rattle.vx_group_edits.specs.JoinedLaws.{EachImageIsJoined, EachNewPlexLiesApart, EachPlexJoins}
 
@@ -44,10 +45,6 @@ use Rattle.vx_group_edits.specs.JoinedLaws.{EachImageIsJoined, EachNewPlexLiesAp
 filter_same : {A : Type 0} (t u : A → Bool) (xs : List A) → ((x : A) → IsIn xs x → u x ≡ t x) → filter u xs ≡ filter t xs
 filter_same t u [] same = refl
 filter_same t u (x ∷ xs) same = ap (λ b. cond b (x ∷ filter u xs) (filter u xs)) (same x (inl refl)) ∙ ap (λ ys. cond (t x) (x ∷ ys) ys) (filter_same t u xs (λ y there. same y (inr there)))
-
-filter_passed : {A : Type 0} (t : A → Bool) (xs : List A) → ((x : A) → IsIn xs x → t x ≡ true) → filter t xs ≡ xs
-filter_passed t [] passes = refl
-filter_passed t (x ∷ xs) passes = ap (λ b. cond b (x ∷ filter t xs) (filter t xs)) (passes x (inl refl)) ∙ ap (λ ys. x ∷ ys) (filter_passed t xs (λ y there. passes y (inr there)))
 
 map_same : {A B : Type 0} (f g : A → B) (xs : List A) → ((x : A) → IsIn xs x → g x ≡ f x) → map g xs ≡ map f xs
 map_same f g [] same = refl
@@ -91,16 +88,16 @@ module _ (c c' : Config) (vol : Word) (more : List Object) (of : AreOf vol more)
   unchanged pick was own none = behind pick was own ∙ ap (λ xs. was ++ xs) none ∙ append-nil was
 
   disks_same : c'.disks ≡ c.disks
-  disks_same = disks_are c' all is ∙ unchanged as_disk c.disks (disks_own c) (no_disks vol more of)
+  disks_same = disks_are c' all is ∙ unchanged as_disk c.disks (disks_own c) (no_parts as_disk (λ p. refl) (λ s. refl) vol more of)
 
   volumes_same : c'.volumes ≡ c.volumes
-  volumes_same = volumes_are c' all is ∙ unchanged as_vol c.volumes (volumes_own c) (no_volumes vol more of)
+  volumes_same = volumes_are c' all is ∙ unchanged as_vol c.volumes (volumes_own c) (no_parts as_vol (λ p. refl) (λ s. refl) vol more of)
 
   dcos_same : c'.dcos ≡ c.dcos
-  dcos_same = dcos_are c' all is ∙ unchanged as_dco c.dcos (dcos_own c) (no_dcos vol more of)
+  dcos_same = dcos_are c' all is ∙ unchanged as_dco c.dcos (dcos_own c) (no_parts as_dco (λ p. refl) (λ s. refl) vol more of)
 
   snaps_same : c'.snaps ≡ c.snaps
-  snaps_same = snaps_are c' all is ∙ unchanged as_snap c.snaps (snaps_own c) (no_snaps vol more of)
+  snaps_same = snaps_are c' all is ∙ unchanged as_snap c.snaps (snaps_own c) (no_parts as_snap (λ p. refl) (λ s. refl) vol more of)
 
   plexes_joined : c'.plexes ≡ c.plexes ++ plexes_in more
   plexes_joined = plexes_are c' all is ∙ behind as_plex c.plexes (plexes_own c)

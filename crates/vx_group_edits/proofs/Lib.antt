@@ -8,6 +8,8 @@ pub mod NewNames
 pub mod Added
 pub mod Restated
 pub mod Commands
+pub mod OwnEdits
+pub mod PlexNames
 pub mod OfVolume
 pub mod Joined
 pub mod Marked
@@ -20,3 +22,10 @@ pub mod Plans
 pub mod GoodDisks
 pub mod Held
 pub mod Each
+pub mod LogRecords
+pub mod DcoEdits
+pub mod EditSteps
+pub mod LonePlexes
+pub mod DcosGiven
+pub mod DcosTaken
+pub mod LoneImages

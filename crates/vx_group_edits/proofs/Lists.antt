@@ -17,6 +17,10 @@ among [] x h = h
 among (y ∷ xs) x (inl h) = inl h
 among (y ∷ xs) x (inr h) = inr (among xs x h)
 
+pub only_in : {A : Type 0} (x y : A) → IsIn (y ∷ []) x → x ≡ y
+only_in x y (inl same) = same
+only_in x y (inr none) = absurd none
+
 -- what is found is there, and passes
 pub found_in : {A : Type 0} (test : A → Bool) (xs : List A) (x : A) → find test xs ≡ Some x → IsIn xs x × (test x ≡ true)
 found_in test [] x e = absurd cc
@@ -39,6 +43,15 @@ filter_append t (x ∷ xs) ys = by (t x) (filter_append t xs ys)
     by : (b : Bool) → filter t (xs ++ ys) ≡ filter t xs ++ filter t ys → cond b (x ∷ filter t (xs ++ ys)) (filter t (xs ++ ys)) ≡ cond b (x ∷ filter t xs) (filter t xs) ++ filter t ys
     by true e = ap (λ zs. x ∷ zs) e
     by false e = e
+
+-- where each passes the whole list is left, and where none passes nothing is
+pub filter_passed : {A : Type 0} (t : A → Bool) (xs : List A) → ((x : A) → IsIn xs x → t x ≡ true) → filter t xs ≡ xs
+filter_passed t [] passes = refl
+filter_passed t (x ∷ xs) passes = ap (λ b. cond b (x ∷ filter t xs) (filter t xs)) (passes x (inl refl)) ∙ ap (λ ys. x ∷ ys) (filter_passed t xs (λ y there. passes y (inr there)))
+
+pub filter_none : {A : Type 0} (t : A → Bool) (xs : List A) → ((x : A) → IsIn xs x → t x ≡ false) → filter t xs ≡ []
+filter_none t [] none = refl
+filter_none t (x ∷ xs) none = rw (none x (inl refl)) (filter_none t xs (λ y there. none y (inr there)))
 
 -- a test that asks more than another finds the same among what passes the other
 pub filter_narrow : {A : Type 0} (r t : A → Bool) → ((x : A) → r x ≡ true → t x ≡ true) → (xs : List A) → filter r xs ≡ filter r (filter t xs)
@@ -148,15 +161,23 @@ module _ {O A : Type 0} (t : A → Bool) (pick : O → Option A) where
   kept_seen true o none = refl
   kept_seen false o none = sym (none refl)
 
-  -- .. and what stands behind the list has nothing
-  pub same_with : (h : O → Option O) (os more : List O) → ((o : O) → IsIn os o → seen (h o) ≡ picked (pick o)) → filter t (filter_map pick more) ≡ [] →
-      filter t (filter_map pick (filter_map h os ++ more)) ≡ filter t (filter_map pick os)
-  same_with h os more same none =
+  -- .. or goes by a test
+  pub gone_seen : (b : Bool) (o : O) → picked (pick o) ≡ [] → seen (cond b None (Some o)) ≡ picked (pick o)
+  gone_seen true o none = sym none
+  gone_seen false o none = refl
+
+  -- .. and more stands behind the list
+  pub seen_with : (h : O → Option O) (os more : List O) → ((o : O) → IsIn os o → seen (h o) ≡ picked (pick o)) →
+      filter t (filter_map pick (filter_map h os ++ more)) ≡ filter t (filter_map pick os) ++ filter t (filter_map pick more)
+  seen_with h os more same =
       ap (λ xs. filter t xs) (filter_map-append pick (filter_map h os) more)
       ∙ filter_append t (filter_map pick (filter_map h os)) (filter_map pick more)
-      ∙ ap (λ xs. filter t (filter_map pick (filter_map h os)) ++ xs) none
-      ∙ append-nil (filter t (filter_map pick (filter_map h os)))
-      ∙ same_seen h os same
+      ∙ ap (λ xs. xs ++ filter t (filter_map pick more)) (same_seen h os same)
+
+  -- .. that has nothing
+  pub same_with : (h : O → Option O) (os more : List O) → ((o : O) → IsIn os o → seen (h o) ≡ picked (pick o)) → filter t (filter_map pick more) ≡ [] →
+      filter t (filter_map pick (filter_map h os ++ more)) ≡ filter t (filter_map pick os)
+  same_with h os more same none = seen_with h os more same ∙ ap (λ xs. filter t (filter_map pick os) ++ xs) none ∙ append-nil (filter t (filter_map pick os))
 
 -- an element that stays is there
 some_in : {B : Type 0} (o : Option B) (y : B) (ys : List B) → o ≡ Some y → IsIn (cons_option o ys) y

@@ -1,13 +1,13 @@
 -- A plex that every copy of the log marks everywhere leaves an image as sound as it was.
-use Rattle.std.proofs.Common.{◌≡◌, ◌∙◌, ℕ, ◌<◌, Bool, true, List, [], ◌∷◌, ◌++◌, sym, ap, inl, inr}
+use Rattle.std.proofs.Common.{◌≡◌, ◌∙◌, ℕ, Bool, true, List, [], ◌∷◌, ◌++◌, sym, ap, inl, inr}
 use Rattle.std.specs.Prelude.{◌⊎◌, Contains}
 use Rattle.std.proofs.lemmas.Bool.{false≢true}
 use Rattle.vx_config_parts.specs.declared.state.VolState.{VolState}
 use Rattle.vx_config_parts.specs.declared.state.VolState.TheVariants as vol
 use Rattle.vx_image.proofs.PlexMembers.{IsIn, in_either, in_left}
 use Rattle.vx_image.proofs.Members.{contains, is_in}
-use Rattle.vx_image.specs.Image.{Image, PlexImage, is_marked_by_all, is_stale, regions_of}
-use Rattle.vx_image.specs.Soundness.{IsChoiceOfMarks, IsDirtyBy, IsSoundBy, IsSoundImage, IsUnmarkedPlex, MayDiffer, PlexesAgree}
+use Rattle.vx_image.specs.Image.{Image, PlexImage, is_stale}
+use Rattle.vx_image.specs.Soundness.{IsChoiceOfMarks, IsDirtyBy, IsSoundBy, IsUnmarkedPlex, MayDiffer, PlexesAgree}
 use Rattle.vx_group_edits.specs.Joins.{with_plex}
 use Rattle.vx_group_edits.specs.JoinedLaws.{EachMarkedPlexStaysSound}
 

@@ -1,8 +1,9 @@
 -- What a plan takes of free extents lies on the disks that they lie on.
-use Rattle.std.proofs.Common.{◌≡◌, ℕ, zero, suc, ◌+◌, ◌*◌, ◌-◌, ◌==◌, min, nat_lt, Bool, true, false, cond, Option, Some, None, Result, Ok, Err, List, [], ◌∷◌, ◌++◌, length, refl, ◌∙◌, subst}
+use Rattle.std.proofs.Common.{◌≡◌, ℕ, zero, suc, ◌+◌, ◌*◌, ◌-◌, ◌==◌, min, nat_lt, Bool, true, false, cond, Option, Some, None, Result, Ok, Err, List, [], ◌∷◌, ◌++◌, length, refl, sym, ◌∙◌, ap, subst, arith}
 use Rattle.std.specs.List.{list_all}
 use Rattle.std.specs.Str.{bytes_eq}
 use Rattle.std.proofs.lemmas.Bool.{and_from, and_parts}
+use Rattle.std.proofs.lemmas.List.{length-append}
 use Rattle.std.proofs.lemmas.List.Folds.{list_all-append}
 use Rattle.vx_base.specs.Named.{Word}
 use Rattle.vx_base.proofs.NamedLemmas.{bytes_eq_same}
@@ -28,6 +29,54 @@ same_taken a b e = cc
 
 same_plan : (a b : Plan) → ◌≡◌ {A = Result Plan PlanFault} (Ok a) (Ok b) → a ≡ b
 same_plan a b e = cc
+
+-- ---- what a plan takes, one after the other
+
+record Steps (r : Request) (disks unused : List Word) (free : List Extent) (plan : Plan) : Type 0 where
+  mirrors : Taken (List (List (List Extent)))
+  mirrors_are : repeated (mirror r) r.mirrors [] unused free ≡ Ok mirrors
+  logs : Taken (List (List Extent))
+  logs_are : repeated (place (log_length r.length r.region)) r.logs [] disks mirrors.free ≡ Ok logs
+  plexes_is : plan.plexes ≡ mirrors.part
+  logs_is : plan.logs ≡ logs.part
+
+steps_of : (r : Request) (disks unused : List Word) (free : List Extent) (plan : Plan) → plan_over r disks unused free ≡ Ok plan → Steps r disks unused free plan
+steps_of r disks unused free plan e = by (nat_lt (length unused) (r.mirrors * r.ncol)) e
+  where
+    by : (b : Bool) → cond b (Err (TooFewDisks (r.mirrors * r.ncol))) (and_then (repeated (mirror r) r.mirrors [] unused free) (then_logs r disks)) ≡ Ok plan → Steps r disks unused free plan
+    by true h = cc
+    by false h =
+        let s = then_ok (repeated (mirror r) r.mirrors [] unused free) (then_logs r disks) plan h in
+        let l = then_ok (repeated (place (log_length r.length r.region)) r.logs [] disks s.0.free) (λ l. Ok (record { plexes = s.0.part; logs = l.part })) plan s.2 in
+        let own : Plan = record { plexes = s.0.part; logs = l.0.part } in
+        let same = same_plan own plan l.2 in
+        record {
+          mirrors = s.0;
+          mirrors_are = s.1;
+          logs = l.0;
+          logs_are = l.1;
+          plexes_is = ap (λ (p : Plan). p.plexes) (sym same);
+          logs_is = ap (λ (p : Plan). p.logs) (sym same);
+        }
+
+repeated_count : {A : Type 0} (step : Step A) (n : ℕ) (done : List A) (ds : List Word) (free : List Extent) (t : Taken (List A)) → repeated step n done ds free ≡ Ok t → length t.part ≡ length done + n
+repeated_count step zero done ds free t e =
+    let own : Taken (List _) = record { part = done; disks = ds; free = free } in
+    let same = ap (λ (x : Taken (List _)). length x.part) (same_taken own t e) in
+    omega (arith, same)
+repeated_count step (suc n) done ds free t e =
+    let s = then_ok (step ds free) (λ s. repeated step n (done ++ s.part ∷ []) s.disks s.free) t e in
+    let rest = repeated_count step n (done ++ s.0.part ∷ []) s.0.disks s.0.free t s.2 in
+    let one = length-append done (s.0.part ∷ []) in
+    omega (arith, rest, one)
+
+-- there are as many logs as were asked for
+pub logs_count : (r : Request) (names : List Word) (free : List Extent) (plan : Plan) → rule r names free ≡ Ok plan → length plan.logs ≡ r.logs
+logs_count r names free plan e =
+    let disks = candidates r.disks names in
+    let steps = steps_of r disks (without r.avoid disks) free plan e in
+    let count = repeated_count (place (log_length r.length r.region)) r.logs [] disks steps.mirrors.free steps.logs steps.logs_are in
+    ap (λ ls. length ls) steps.logs_is ∙ omega (arith, count)
 
 -- the disks that pass a test of names
 module _ (good : Word → Bool) where
@@ -144,18 +193,23 @@ module _ (good : Word → Bool) where
 
   -- ---- the plan
 
-  over_lies : (r : Request) (disks unused : List Word) (free : List Extent) (plan : Plan) → extents_lie free ≡ true → plan_over r disks unused free ≡ Ok plan → plexes_lie plan.plexes ≡ true
-  over_lies r disks unused free plan lie e = by (nat_lt (length unused) (r.mirrors * r.ncol)) e
-    where
-      by : (b : Bool) → cond b (Err (TooFewDisks (r.mirrors * r.ncol))) (and_then (repeated (mirror r) r.mirrors [] unused free) (then_logs r disks)) ≡ Ok plan → plexes_lie plan.plexes ≡ true
-      by true h = cc
-      by false h =
-          let s = then_ok (repeated (mirror r) r.mirrors [] unused free) (then_logs r disks) plan h in
-          let l = then_ok (repeated (place (log_length r.length r.region)) r.logs [] disks s.0.free) (λ l. Ok (record { plexes = s.0.part; logs = l.part })) plan s.2 in
-          let own : Plan = record { plexes = s.0.part; logs = l.0.part } in
-          let all = repeated_lie (mirror r) columns_lie (mirror_lies r) r.mirrors [] unused free s.0 refl lie s.1 in
-          subst (λ (p : Plan). plexes_lie p.plexes ≡ true) (same_plan own plan l.2) all.part
+  module _ (r : Request) (names : List Word) (free : List Extent) (plan : Plan) (lie : extents_lie free ≡ true) (e : rule r names free ≡ Ok plan) where
+    abbrev disks : List Word
+    disks = candidates r.disks names
 
-  -- the plexes of a plan lie on the disks that the free extents lie on
-  pub plan_lies : (r : Request) (names : List Word) (free : List Extent) (plan : Plan) → extents_lie free ≡ true → rule r names free ≡ Ok plan → plexes_lie plan.plexes ≡ true
-  plan_lies r names free plan lie e = over_lies r (candidates r.disks names) (without r.avoid (candidates r.disks names)) free plan lie e
+    steps : Steps r disks (without r.avoid disks) free plan
+    steps = steps_of r disks (without r.avoid disks) free plan e
+
+    mirrors_lie : Lies (list_all columns_lie) steps.mirrors
+    mirrors_lie = repeated_lie (mirror r) columns_lie (mirror_lies r) r.mirrors [] (without r.avoid disks) free steps.mirrors refl lie steps.mirrors_are
+
+    -- the plexes of a plan lie on the disks that the free extents lie on, ..
+    pub plan_lies : plexes_lie plan.plexes ≡ true
+    plan_lies = subst (λ ps. plexes_lie ps ≡ true) (sym steps.plexes_is) mirrors_lie.part
+
+    -- .. and so do its logs
+    pub logs_lie : columns_lie plan.logs ≡ true
+    logs_lie =
+        let need = log_length r.length r.region in
+        subst (λ ls. columns_lie ls ≡ true) (sym steps.logs_is)
+        (repeated_lie (place need) extents_lie (place_lies need) r.logs [] disks steps.mirrors.free steps.logs refl mirrors_lie.free steps.logs_are).part

@@ -5,3 +5,5 @@ pub mod Joins
 pub mod JoinedLaws
 pub mod Mirrors
 pub mod MirrorLaws
+pub mod Dcos
+pub mod DcoLaws

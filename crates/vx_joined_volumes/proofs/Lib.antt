@@ -7,3 +7,7 @@ pub mod Regions
 pub mod Runs
 pub mod Numbers
 pub mod Named
+pub mod Alone
+pub mod RelogForms
+pub mod RelogRuns
+pub mod RelogNamed

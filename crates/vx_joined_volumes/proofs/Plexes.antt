@@ -69,7 +69,7 @@ module _ {P : Type 0} {ghosts : Ghosts P} (see : P → Seen) (running : Running 
       let own = (and_parts (refers p.vol o.vol.name) (is_data p.kind) a.1).0 in
       record { same = record { name = keeps.name; lies = keeps.lies; held = held_joined o c good placed.were_good p q a.0 own b.0 keeps.lies }; map = keeps.map; available = keeps.available }
 
-  same_datas : AllZip (IsSameData o.config o.good c joined) (data_plexes o.config o.vol.name) (data_plexes c v.name)
+  pub same_datas : AllZip (IsSameData o.config o.good c joined) (data_plexes o.config o.vol.name) (data_plexes c v.name)
   same_datas = zip_more (KeepsPlex o.config o.good c good) (IsSameData o.config o.good c joined) (data_plexes o.config o.vol.name) (data_plexes c v.name) placed.runs.keeps.plexes same_data
 
   -- those that pass a test go together, if they pass it alike

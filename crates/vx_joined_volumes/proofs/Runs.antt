@@ -46,7 +46,7 @@ restated vol [] = tt
 restated vol (p ∷ ps) = (record { same = refl; available = λ own. refl; active = λ own. sym (used_active p.state) }, restated vol ps)
 
 -- a configuration keeps its volumes as disks fail
-kept_by : (c : Config) (more good : ℕ) (v : Vol) → ((slot : ℕ) → has good slot ≡ true → has more slot ≡ true) → KeepsVolume c more v false c good v
+pub kept_by : (c : Config) (more good : ℕ) (v : Vol) → ((slot : ℕ) → has good slot ≡ true → has more slot ≡ true) → KeepsVolume c more v false c good v
 kept_by c more good v each =
     restated_kept c more v false c good v (record { vol = refl; disks = refl; subdisks = refl; snaps = refl; plexes = restated v.name c.plexes; failed = each })
 

@@ -1,2 +1,4 @@
 pub mod Joined
 pub mod Laws
+pub mod Relogged
+pub mod RelogLaws

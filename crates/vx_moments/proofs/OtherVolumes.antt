@@ -87,7 +87,7 @@ module _ (g : Group) (vol other : Word) (old new : Word → Option Device) (own 
           same_sector (old m.device) (new m.device) m.device sector (no_sector m (all m (inl refl)) sector (subst (λ s. IsOfVolume g.config other (record { disk = s; sector = sector })) same of)) (changes m.device)
       by rest false e = rest
 
-  same_inside : SameInside g.config other (sectors_of old g.members) (sectors_of new g.members)
+  pub same_inside : SameInside g.config other (sectors_of old g.members) (sectors_of new g.members)
   same_inside place of = same_in g.members (λ m one. contains g.members m one) place.disk place.sector of
 
 pub other_image : EachOtherImageStays

@@ -1,7 +1,7 @@
 -- The records of a new plex and of new logs, behind their names; and that a request for logs is valid.
-use Rattle.std.proofs.Common.{◌≡◌, ◌∙◌, ℕ, ◌+◌, Bool, true, false, Option, Some, None, List, [], ◌∷◌, length, map, refl, sym, ap, arith}
-use Rattle.std.specs.Prelude.{nat_le}
-use Rattle.std.proofs.lemmas.Bool.{and_from, and_parts, leb-true, le-leb}
+use Rattle.std.proofs.Common.{◌≡◌, ◌∙◌, ℕ, ◌+◌, Bool, true, false, Option, Some, None, List, [], ◌∷◌, length, map, refl, sym, ap}
+use Rattle.std.specs.Prelude.{◌==◌, ◌&&◌, nat_le}
+use Rattle.std.proofs.lemmas.Bool.{and_from, and_parts}
 use Rattle.vx_base.specs.Named.{Word}
 use Rattle.vx_block.specs.Geometry.{is_geometry, is_region_size}
 use Rattle.vx_config_parts.specs.declared.plex.Plex.{Plex}
@@ -39,7 +39,7 @@ module _ (group : List Object) (v : Vol) (lowest : Plex) (m : ℕ) (plan : Plan)
 
 module _ (group : List Object) (v : Vol) (dco : Word) (plan : Plan) (state : PlexState) where
   with_logs : List Word → List Word → Option (List Object)
-  with_logs known names = logs_named known v dco names plan state
+  with_logs known names = logs_named known v names plan state
 
   by_names : (known : List Word) → known ≡ dco ∷ map name_of group → logs_of group v dco plan state ≡ and_then (names_behind (length plan.logs) [] known (log_stem v.name) 1) (with_logs known)
   unfolding logs_of with_logs
@@ -48,7 +48,7 @@ module _ (group : List Object) (v : Vol) (dco : Word) (plan : Plan) (state : Ple
   pub no_log_name : (known : List Word) → known ≡ dco ∷ map name_of group → names_behind (length plan.logs) [] known (log_stem v.name) 1 ≡ None → logs_of group v dco plan state ≡ None
   no_log_name known h e = by_names known h ∙ ap (λ (o : Option (List Word)). and_then o (with_logs known)) e
 
-  pub logs_are_named : (known names : List Word) → known ≡ dco ∷ map name_of group → names_behind (length plan.logs) [] known (log_stem v.name) 1 ≡ Some names → logs_of group v dco plan state ≡ logs_named known v dco names plan state
+  pub logs_are_named : (known names : List Word) → known ≡ dco ∷ map name_of group → names_behind (length plan.logs) [] known (log_stem v.name) 1 ≡ Some names → logs_of group v dco plan state ≡ logs_named known v names plan state
   unfolding with_logs
   logs_are_named known names h e = by_names known h ∙ ap (λ (o : Option (List Word)). and_then o (with_logs known)) e
 
@@ -62,5 +62,5 @@ valid group v count region e f =
     let regions = second_none (unless (is_region_size new) (Limit limit.Region)) _ e in
     let geometry = first_none (unless (is_geometry v.len new) (Limit limit.Regions)) (unless (nat_le (plex_count group v.name + count) 32) (Limit limit.Plexes)) regions in
     let fit = holds _ _ (second_none (dco_fault group v.dco (dco_name v.name)) (unless (logs_fit group v.name count) (NoLog v.name)) f) in
-    let few = leb-true (log_count group v.name + count) 2 (and_parts (nat_le 1 count) (nat_le (log_count group v.name + count) 2) fit).1 in
-    and_from _ _ (holds _ _ geometry) (le-leb count 2 (omega (arith, few)))
+    let few = (and_parts (nat_le count 2) (log_count group v.name == 0) (and_parts (nat_le 1 count) (nat_le count 2 && log_count group v.name == 0) fit).1).0 in
+    and_from _ _ (holds _ _ geometry) few

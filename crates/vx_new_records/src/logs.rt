@@ -14,7 +14,7 @@ use crate::tests::{has_name, is_region_size};
 use std::alloc::Global;
 use vx_base::OutOfMemory;
 use vx_block::Geometry;
-use vx_config_parts::{Dco, Limit, Object, ObjectFault, PlexKind, PlexState, Vol, refers};
+use vx_config_parts::{Limit, Object, ObjectFault, PlexKind, PlexState, Vol, refers};
 use vx_names::Name;
 use vx_new_volumes::{Plan, Request};
 use vx_objects::Listed;
@@ -90,11 +90,11 @@ fn dco_fault(group: &[Object], old: Option<Name>, new: Option<Name>) -> Option<O
     }
 }
 
-/// Some logs are to be made, and with them the volume has at most two in use.
+/// One log or two are to be made, and the volume has none in use.
 fn logs_fit(group: &[Object], vol: &Name, count: u32) -> bool
     ensures { result ≡ logs_fit group.now vol.now count }
 {
-    count >= 1 && log_count(group, vol).saturating_add(count as usize) <= 2
+    count >= 1 && count <= 2 && log_count(group, vol) == 0
 }
 
 fn log_count(group: &[Object], vol: &Name) -> usize
@@ -139,8 +139,8 @@ pub fn logs_request(alloc: Global, vol: &Vol, count: u32, region: Option<u64>) -
     }
 }
 
-/// The records of a DCO of that name and of logs of the volume, which lie as is planned and are in this state; None where a name would
-/// be too long.
+/// The records of logs of the volume, which lie as is planned and are in this state, in a group that is to have a DCO of that name; None
+/// where a name would be too long.
 pub fn logs_of(
     alloc: Global,
     group: &[Object],
@@ -159,20 +159,19 @@ pub fn logs_of(
     let Some(logs) = new_names(alloc, &known, plan.logs.as_slice().len(), &stem)? else {
         return Ok(None);
     };
-    logs_named(alloc, known, vol, dco, &logs, plan, state)
+    logs_named(alloc, known, vol, &logs, plan, state)
 }
 
-/// The DCO, logs of these names and their subdisks.
+/// Logs of these names and their subdisks.
 fn logs_named(
     alloc: Global,
     known: Known,
     vol: &Vol,
-    dco: Name,
     names: &[Name],
     plan: &Plan,
     state: PlexState,
 ) -> Result<Option<Vec<Object>>, OutOfMemory>
-    ensures { IfOk result (λ made. MatchOption made (logs_named known.names.items vol.now dco names.now plan.now state ≡ None) (λ records. logs_named known.names.items vol.now dco names.now plan.now state ≡ Some records.items)) }
+    ensures { IfOk result (λ made. MatchOption made (logs_named known.names.items vol.now names.now plan.now state ≡ None) (λ records. logs_named known.names.items vol.now names.now plan.now state ≡ Some records.items)) }
 {
     let known = known.and(alloc, names, &[])?;
     let none = Laid::none(alloc);
@@ -180,12 +179,6 @@ fn logs_named(
         return Ok(None);
     };
     let mut records = Vec::new(alloc);
-    let dco = Dco {
-        name: dco,
-        vol: vol.name,
-        maps: 32,
-    };
-    join(&[Object::DcoRecord(dco)], &mut records)?;
     join(&logs_in(alloc, vol.name, state, names)?, &mut records)?;
     join(&laid.objects, &mut records)?;
     Ok(Some(records))

@@ -1,5 +1,5 @@
 -- Logs that are to be added to a volume, and a DCO with them: the tests before they are planned, the request for them, and their records.
-use Rattle.std.specs.Prelude.{ℕ, ◌+◌, ◌&&◌, not, nat_le, Bool, Option, Some, None, List, [], ◌∷◌, ◌++◌, length, map}
+use Rattle.std.specs.Prelude.{ℕ, ◌+◌, ◌==◌, ◌&&◌, not, nat_le, Bool, Option, Some, None, List, [], ◌∷◌, ◌++◌, length, map}
 use Rattle.vx_base.specs.Named.{Word}
 use Rattle.vx_block.specs.Geometry.{is_region_size, is_geometry}
 use Rattle.vx_config_parts.specs.declared.plex.PlexKind.TheVariants.{Log}
@@ -7,7 +7,7 @@ use Rattle.vx_config_parts.specs.declared.plex.PlexLayout.TheVariants.{Concat}
 use Rattle.vx_config_parts.specs.declared.state.PlexState.{PlexState}
 use Rattle.vx_config_parts.specs.declared.vol.Vol.{Vol}
 use Rattle.vx_config_parts.specs.declared.object.Object.{Object}
-use Rattle.vx_config_parts.specs.declared.object.Object.TheVariants.{PlexRecord, DcoRecord}
+use Rattle.vx_config_parts.specs.declared.object.Object.TheVariants.{PlexRecord}
 use Rattle.vx_config_parts.specs.declared.fault.Limit.TheVariants as limit
 use Rattle.vx_config_parts.specs.declared.fault.ObjectFault.{ObjectFault}
 use Rattle.vx_config_parts.specs.declared.fault.ObjectFault.TheVariants.{Exists, Limit, NoLog}
@@ -44,9 +44,9 @@ abbrev pub dco_fault : List Object → Option Word → Option Word → Option Ob
 dco_fault group None new = dco_name_fault group new
 dco_fault group (Some dco) new = Some (Exists dco)
 
--- some logs are to be made, and with them the volume has at most two in use
+-- one log or two are to be made, and the volume has none in use
 abbrev pub logs_fit : List Object → Word → ℕ → Bool
-logs_fit group vol count = nat_le 1 count && nat_le (log_count group vol + count) 2
+logs_fit group vol count = nat_le 1 count && (nat_le count 2 && log_count group vol == 0)
 
 -- no DCO and none of its name is there, and the number of logs is right
 abbrev pub new_dco_fault : List Object → Vol → ℕ → Option ObjectFault
@@ -73,15 +73,14 @@ abbrev pub log_in : Word → PlexState → Word → Object
 log_in vol state name =
     PlexRecord (record { name = name; vol = Some vol; kind = Log; layout = Concat; ncol = 1; unit = 128; state = state; map = None })
 
--- the DCO, logs of these names and their subdisks, where no other record has the names that are known
-abbrev pub logs_named : List Word → Vol → Word → List Word → Plan → PlexState → Option (List Object)
-logs_named known v dco names plan state =
-    and_then (put_logs (known ++ names) names plan.logs (record { objects = []; nexts = [] }))
-    (λ l. Some (DcoRecord (record { name = dco; vol = v.name; maps = 32 }) ∷ map (log_in v.name state) names ++ l.objects))
+-- logs of these names and their subdisks, where no other record has the names that are known
+abbrev pub logs_named : List Word → Vol → List Word → Plan → PlexState → Option (List Object)
+logs_named known v names plan state =
+    and_then (put_logs (known ++ names) names plan.logs (record { objects = []; nexts = [] })) (λ l. Some (map (log_in v.name state) names ++ l.objects))
 
--- The records of a DCO of that name and of logs of the volume, in a group of these records, where the logs lie as is planned and are in
--- this state; none where some name would be too long. A new name takes the lowest number that is free.
+-- The records of logs of the volume, in a group of these records that is to have a DCO of that name, where the logs lie as is planned and
+-- are in this state; none where some name would be too long. A new name takes the lowest number that is free.
 unfoldable pub logs_of : List Object → Vol → Word → Plan → PlexState → Option (List Object)
 logs_of group v dco plan state =
     and_then (names_behind (length plan.logs) [] (dco ∷ map name_of group) (log_stem v.name) 1)
-    (λ names. logs_named (dco ∷ map name_of group) v dco names plan state)
+    (λ names. logs_named (dco ∷ map name_of group) v names plan state)

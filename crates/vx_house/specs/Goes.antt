@@ -79,6 +79,8 @@ Gives see (stage.Import dg) disks h = Unit {0}
 Gives see stage.LetGo disks h = Unit {0}
 Gives see (stage.Start vol) disks h = Unit {0}
 Gives see (stage.Mirror mirror) disks h = Unit {0}
+Gives see (stage.Prepare logs) disks h = Unit {0}
+Gives see (stage.Unprepare vol) disks h = Unit {0}
 Gives see (stage.Stop vol) disks h = Unit {0}
 
 -- the stages of a command that must be done before this one
@@ -106,6 +108,8 @@ wanted (stage.Import dg) = []
 wanted stage.LetGo = stage.Gate tests.NoneStarted ∷ []
 wanted (stage.Start vol) = stage.Gate (tests.Stopped vol) ∷ []
 wanted (stage.Mirror mirror) = []
+wanted (stage.Prepare logs) = []
+wanted (stage.Unprepare vol) = []
 wanted (stage.Stop vol) = []
 
 -- the stage takes devices into an empty hand

@@ -18,11 +18,15 @@ use Rattle.vx_plans.specs.Laws.{WentWell}
 use Rattle.vx_stages.specs.Records.{devices_of}
 use Rattle.vx_stages.specs.Ends.{EndsIn, IsChange, fault_of, lost}
 use Rattle.vx_stages.specs.Stages.{IsDone, Stops, DeviceEnds, edits_of, IsJoining, joining_edit, TakingStops, LookingStops, EditsStop}
+use Rattle.vx_objects.specs.declared.config.Config.{Config}
 use Rattle.vx_objects.specs.declared.edit.Edit.{Edit}
+use Rattle.vx_new_volumes.specs.declared.logs.NewLogs.{NewLogs}
+use Rattle.vx_state_edits.specs.Edits.{is_new}
 use Rattle.vx_answers.specs.declared.refusal.Refusal.TheVariants as refusal
 use Rattle.vx_moments.specs.World.{World, Group}
 use Rattle.vx_config_parts.specs.declared.vol.Vol.{Vol}
 use Rattle.vx_stages.specs.Starting.{CopyEnds, StopsIn, StopsOf, may_start, regions_copied}
+use Rattle.vx_stages.specs.Logged.{IsLogWritten, PrepareStopsIn, UnprepareStopsIn, by_config}
 use Rattle.vx_stages.specs.Mirrored.{MirrorEnds, MirrorStopsIn}
 use Rattle.vx_stages.specs.Stopping.{StopStops, runs_on_plexes}
 use Rattle.vx_stages.specs.Tests.{volume_in}
@@ -33,7 +37,7 @@ use Rattle.vx_stages.specs.declared.stages.Finish.TheVariants.{Nothing}
 use Rattle.vx_stages.specs.declared.stage.Stage.{Stage}
 use Rattle.vx_stages.specs.declared.stage.Stage.TheVariants as stage
 use Rattle.vx_plans.proofs.Calm.{calm, well_after}
-use Rattle.vx_plans.proofs.Complete.{refused_mirror, runs_later}
+use Rattle.vx_plans.proofs.Complete.{refused_mirror, refused_prepare, refused_unprepare, runs_later}
 use Rattle.vx_laws.specs.Returning.{IsOf, is_done}
 
 -- ---- a stage that ends the command
@@ -82,16 +86,51 @@ module _ (old new : Moment) (end : End) where
   looking (name ∷ names) same (inl (inr fails)) = at_hand name (volumes_of old.world new.world same) fails
   looking (name ∷ names) same (inr more) = looking names same more.1
 
-  stopping : (x : Writing) (from : Moment) → from.world ≡ old.world → IsStopped x from end new → HasStopped old end new
-  stopping x from same stopped =
-      let volumes = stopped.committing.volumes ∙ volumes_of old.world from.world same in
+  stopping_by : (x : Writing) (from : Moment) → from.world.volumes ≡ old.world.volumes → IsStopped x from end new → HasStopped old end new
+  stopping_by x from same stopped =
+      let volumes = stopped.committing.volumes ∙ same in
       elim stopped.ends [ inl l ↦ ended ends.GroupLost tt l.0 volumes | inr r ↦ ended lost tt r.0 volumes ]
+
+  stopping : (x : Writing) (from : Moment) → from.world ≡ old.world → IsStopped x from end new → HasStopped old end new
+  stopping x from same stopped = stopping_by x from (volumes_of old.world from.world same) stopped
 
   editing : (edits : Group → List Edit) (IsWriting : Writing → Type 0) → EditsStop edits IsWriting old end new → HasStopped old end new
   editing edits IsWriting (inl (none, ends)) = denied _ ends
   editing edits IsWriting (inr (inl ((g, here, inl (r, e, is)), rests))) = denied r (is, rests)
   editing edits IsWriting (inr (inl ((g, here, inr (config, edited, (text, printed, long, is))), rests))) = denied _ (is, rests)
   editing edits IsWriting (inr (inr (x, writing, stopped))) = stopping x old refl stopped
+
+  passing : (g : Group) (vol : Word) (from : Moment) (e : End) → PassHasCause g vol from.counts new.counts e → IsNotDone e
+  passing g vol from (ends.Done copied parts blocks) cause = absurd cause
+  passing g vol from (ends.Fault told device parts) cause = tt
+  passing g vol from (ends.Lost parts) cause = tt
+  passing g vol from (ends.Refused r) cause = tt
+  passing g vol from ends.ShelfFailed cause = tt
+  passing g vol from ends.GroupLost cause = tt
+
+  -- ---- logs that come and go
+
+  written_volumes : (g : Group) (next : Config) (v : Vol) (m : Moment) (b : Bool) → MatchBool b (m ≡ old) (IsLogWritten g next v.name old m × AreLater old.counts m.counts) → m.world.volumes ≡ old.world.volumes
+  written_volumes g next v m true same = ap (λ (x : Moment). x.world.volumes) same
+  written_volumes g next v m false writes = ap (λ (w : World). w.volumes) writes.0.log.touched.world
+
+  preparing_in : (g : Group) (n : NewLogs) → PrepareStopsIn g n old end new → HasStopped old end new
+  preparing_in g n (inl (refused, rests)) =
+      let is = refused_prepare (runs_on_plexes old.world n.vol) g n end refused in ended (ends.Refused is.0) tt is.1 (volumes_of old.world new.world rests.stays.world)
+  preparing_in g n (inr (inl u)) = record { not_done = passing (by_config u.next g) n.vol old end u.cause; volumes = ap (λ (w : World). w.volumes) u.log.touched.world }
+  preparing_in g n (inr (inr c)) = stopping_by c.stops.0 c.written (written_volumes g c.next c.volume c.written (is_new c.volume.state) c.writes) c.stops.2
+
+  preparing : (n : NewLogs) (o : Option Group) → MatchOption o (EndsIn (refusal.NoGroup None) old end new) (λ g. PrepareStopsIn g n old end new) → HasStopped old end new
+  preparing n None ends = denied _ ends
+  preparing n (Some g) stops = preparing_in g n stops
+
+  unpreparing_in : (g : Group) (name : Word) → UnprepareStopsIn g name old end new → HasStopped old end new
+  unpreparing_in g name (inl (refused, rests)) = let is = refused_unprepare g name end refused in ended (ends.Refused is.0) tt is.1 (volumes_of old.world new.world rests.stays.world)
+  unpreparing_in g name (inr c) = stopping c.stops.0 old refl c.stops.2
+
+  unpreparing : (name : Word) (o : Option Group) → MatchOption o (EndsIn (refusal.NoGroup None) old end new) (λ g. UnprepareStopsIn g name old end new) → HasStopped old end new
+  unpreparing name None ends = denied _ ends
+  unpreparing name (Some g) stops = unpreparing_in g name stops
 
   pub has_stopped : (s : Stage) (disks : List DiskAt) → runs_volume s ≡ false → Stops s disks old end new → HasStopped old end new
   has_stopped (stage.Gate test) disks other (r, fails, is, same) = ended (ends.Refused r) tt is (ap (λ (m : Moment). m.world.volumes) same)
@@ -129,6 +168,8 @@ module _ (old new : Moment) (end : End) where
   has_stopped stage.LetGo disks other stops = absurd stops
   has_stopped (stage.Start vol) disks other stops = cc
   has_stopped (stage.Mirror mirror) disks other stops = cc
+  has_stopped (stage.Prepare logs) disks other stops = preparing logs old.world.group stops
+  has_stopped (stage.Unprepare vol) disks other stops = unpreparing vol old.world.group stops
   has_stopped (stage.Stop vol) disks other stops = cc
 
   -- ---- a start, a mirror and a stop
@@ -138,14 +179,6 @@ module _ (old new : Moment) (end : End) where
 
   committing : (x : Writing) (from : Moment) → IsStopped x from end new → IsNotDone end
   committing x from stopped = elim stopped.ends [ inl l ↦ told ends.GroupLost tt l.0 | inr r ↦ told lost tt r.0 ]
-
-  passing : (g : Group) (vol : Word) (from : Moment) (e : End) → PassHasCause g vol from.counts new.counts e → IsNotDone e
-  passing g vol from (ends.Done copied parts blocks) cause = absurd cause
-  passing g vol from (ends.Fault told device parts) cause = tt
-  passing g vol from (ends.Lost parts) cause = tt
-  passing g vol from (ends.Refused r) cause = tt
-  passing g vol from ends.ShelfFailed cause = tt
-  passing g vol from ends.GroupLost cause = tt
 
   copying : (g now : Group) (v : Vol) (from : Moment) (e : End) → CopyEnds g now v from.counts new.counts e → IsNotDone e
   copying g now v from (ends.Done None parts blocks) tells = let no : None ≡ Some (regions_copied g v) = tells.0 in cc

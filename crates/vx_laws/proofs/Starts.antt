@@ -1,6 +1,6 @@
--- A start begins a life over what the volume's bytes are read as, and neither copying, a plex that joins nor coming to rest is anything to
--- its history.
-use Rattle.std.proofs.Common.{◌≡◌, ◌∙◌, Bool, true, false, cond, List, [], ◌∷◌, Option, Some, None, MatchBool, MatchOption, refl, sym, ap, subst, inl, inr}
+-- A start begins a life over what the volume's bytes are read as, and neither copying, a plex that joins, another log nor coming to rest is
+-- anything to its history.
+use Rattle.std.proofs.Common.{◌≡◌, ◌∙◌, Bool, true, false, cond, List, [], ◌∷◌, ◌++◌, Option, Some, None, MatchBool, MatchOption, refl, sym, ap, subst, inl, inr}
 use Rattle.std.specs.Str.{bytes_eq}
 use Rattle.vx_base.specs.Named.{Word, put}
 use Rattle.vx_base.proofs.NamedLemmas.{bytes_eq_same}
@@ -8,21 +8,25 @@ use Rattle.vx_life.specs.Life.{begun_from}
 use Rattle.vx_config_parts.specs.declared.state.VolState.{VolState}
 use Rattle.vx_config_parts.specs.declared.state.VolState.TheVariants as vol
 use Rattle.vx_config_parts.specs.declared.vol.Vol.{Vol}
+use Rattle.vx_objects.specs.declared.config.Config.{Config}
+use Rattle.vx_state_edits.specs.Edits.{is_new}
+use Rattle.vx_new_volumes.specs.declared.logs.NewLogs.{NewLogs}
 use Rattle.vx_image.specs.Image.{Image}
 use Rattle.vx_image.specs.Meaning.{candidates_read}
 use Rattle.vx_answers.specs.declared.answer.End.{End}
 use Rattle.vx_answers.specs.declared.answer.End.TheVariants as ends
 use Rattle.vx_answers.specs.declared.refusal.Refusal.TheVariants as refusal
-use Rattle.vx_moments.specs.Moment.{Counts, Moment}
+use Rattle.vx_moments.specs.Moment.{AreLater, Counts, Moment}
 use Rattle.vx_moments.specs.World.{Group, OnPlexes, Volume, World}
 use Rattle.vx_moments.specs.Group.{image_on}
 use Rattle.vx_moments.specs.Lives.{volume_by, volume_copied}
 use Rattle.vx_moments.specs.Owners.{owners_of}
 use Rattle.vx_moments.specs.Tracks.{volume_failed}
 use Rattle.vx_stages.specs.Ends.{EndsIn}
+use Rattle.vx_stages.specs.Logged.{IsLogWritten, IsPrepared, IsRelogged, IsUnprepared, log_names, volume_relogged}
 use Rattle.vx_stages.specs.Mirrored.{IsMirrorCopied, IsMirroredBy, MirrorCopiesTo, MirrorStops, MirrorStopsIn, volume_joined}
 use Rattle.vx_stages.specs.Starting.{BecomesBy, CopiesTo, IsCopied, IsStartedBy, StartStops, StopsIn, StopsOf, is_copied, may_start, plexes_started, volume_started}
-use Rattle.vx_stages.specs.Stopping.{ComesToRest, IsStopDone, StopStops, rested_volume, without_volume}
+use Rattle.vx_stages.specs.Stopping.{ComesToRest, IsStopDone, StopStops, rested_volume, runs_on_plexes, without_volume}
 use Rattle.vx_stages.specs.Tests.{volume_in}
 use Rattle.vx_laws.specs.Histories.{HasHistory, HaveHistories, IsHistoried, IsHistoriedOn}
 use Rattle.vx_laws.proofs.Lives.{Holding, Reading, begun_history, carried, put_history, same_volumes, taken_history}
@@ -210,3 +214,33 @@ module _ (Held : Holding) (Read : Reading) where
 
     pub mirror_kept : (end : End) (new : Moment) → MirrorStops name disks old end new → HaveHistories Held Read new.world
     mirror_kept end new stops = mirror_by old.world.group end new stops
+
+  -- ---- logs that come and go
+
+  -- another log is nothing to the history of the volume
+  relogged_history : (name : Word) (plexes more : List Word) (v : Volume) → v.lies ≡ OnPlexes plexes → IsHistoried Held Read name v → IsHistoried Held Read name (volume_relogged more v)
+  relogged_history name plexes more v on own = subst (λ l. IsHistoriedOn Held Read name l v) on own
+
+  relogged : (name : Word) (Goes : List Word → List Word → Type 0) (m n : Moment) → HaveHistories Held Read m.world → IsRelogged name Goes m n → HaveHistories Held Read n.world
+  relogged name Goes m n have r =
+      let run = volume_relogged r.later r.volume in
+      same_volumes Held Read (record m.world { volumes = put name (Some run) m.world.volumes }) n.world (ap (λ (w : World). w.volumes) r.world)
+      (put_history Held Read m.world name run (relogged_history name r.plexes r.later r.volume r.lies (have name r.volume r.was)) have)
+
+  relogged_if : (name : Word) (Goes : List Word → List Word → Type 0) (m n : Moment) (b : Bool) → HaveHistories Held Read m.world → MatchBool b (IsRelogged name Goes m n) (n ≡ m) → HaveHistories Held Read n.world
+  relogged_if name Goes m n true have r = relogged name Goes m n have r
+  relogged_if name Goes m n false have same = subst (λ (x : Moment). HaveHistories Held Read x.world) (sym same) have
+
+  module _ (old : Moment) (all : HaveHistories Held Read old.world) where
+    written : (g : Group) (next : Config) (v : Vol) (m : Moment) (b : Bool) → MatchBool b (m ≡ old) (IsLogWritten g next v.name old m × AreLater old.counts m.counts) → HaveHistories Held Read m.world
+    written g next v m true same = subst (λ (x : Moment). HaveHistories Held Read x.world) (sym same) all
+    written g next v m false writes = same_volumes Held Read old.world m.world (ap (λ (w : World). w.volumes) writes.0.log.touched.world) all
+
+    pub prepare_done : (n : NewLogs) (new : Moment) → IsPrepared n old new → HaveHistories Held Read new.world
+    prepare_done n new d =
+        relogged_if n.vol (λ plexes later. later ≡ plexes ++ log_names d.next d.group.good n.vol) d.recorded new (runs_on_plexes old.world n.vol)
+        (same_volumes Held Read d.written.world d.recorded.world d.committed.committing.volumes (written d.group d.next d.volume d.written (is_new d.volume.state) d.writes)) d.runs
+
+    pub unprepare_done : (name : Word) (new : Moment) → IsUnprepared name old new → HaveHistories Held Read new.world
+    unprepare_done name new d =
+        relogged_if name (λ plexes later. later ≡ d.plex.name ∷ []) d.recorded new (runs_on_plexes old.world name) (same_volumes Held Read old.world d.recorded.world d.committed.committing.volumes all) d.runs

@@ -24,7 +24,7 @@ use Rattle.vx_life.specs.Candidates.{Candidates, known}
 use Rattle.vx_image.specs.Meaning.{candidates_read}
 use Rattle.vx_moments.specs.Group.{image_on}
 use Rattle.vx_laws.specs.Histories.{FirstHasAdded, HasAdded, HasHistory, IsHistoried, IsHistoriedOn, HaveHistories, NoneStarted, WasRead, WasThere}
-use Rattle.vx_laws.proofs.Starts.{AreRead, IsRead, mirror_kept, start_kept, stop_done, stop_kept}
+use Rattle.vx_laws.proofs.Starts.{AreRead, IsRead, mirror_kept, prepare_done, start_kept, stop_done, stop_kept, unprepare_done}
 use Rattle.vx_laws.proofs.Lives.{Holding, Reading, begun_history, put_history, goes_on_history, same_volumes, without_group, from_nothing}
 use Rattle.vx_base.specs.Blocks.{Contents}
 use Rattle.vx_script_forms.specs.declared.form.Form.{Form}
@@ -75,6 +75,8 @@ module _ (Held : Holding) (Read : Reading) (old new : Moment) (all : HaveHistori
   stage_kept stage.LetGo disks there (gone, counts) = subst (HaveHistories Held Read) (sym gone) (without_group Held Read old.world all)
   stage_kept (stage.Start vol) disks there is = absurd is
   stage_kept (stage.Mirror mirror) disks there is = absurd is
+  stage_kept (stage.Prepare logs) disks there is = prepare_done Held Read old all logs new is
+  stage_kept (stage.Unprepare vol) disks there is = unprepare_done Held Read old all vol new is
   stage_kept (stage.Stop vol) disks there is = stop_done Held Read vol old all new is
   stage_kept other disks there is = same (kept_world other disks old new refl is)
 

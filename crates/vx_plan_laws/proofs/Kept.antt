@@ -38,7 +38,7 @@ use Rattle.vx_stages.specs.declared.stages.Plan.{Plan}
 use Rattle.vx_plans.proofs.Complete.{keeps_world, kept_world}
 use Rattle.vx_plan_laws.specs.Keeping.{IsLeftAdded, IsLeftUnopened, RefusedLeaves}
 use Rattle.vx_plan_laws.proofs.NewVolumes.{added_there, is_opened, no_gate}
-use Rattle.vx_plan_laws.proofs.Volumes.{mirror_left, not_stopped, start_left, start_refuses, stop_left}
+use Rattle.vx_plan_laws.proofs.Volumes.{mirror_left, not_stopped, prepare_left, start_left, start_refuses, stop_left, unprepare_left}
 
 -- ---- stages
 
@@ -90,6 +90,8 @@ refused_kept (stage.Import dg) disks m r n other (inr (inr (mid, between, stops)
 refused_kept stage.LetGo disks m r n other stops = absurd stops
 refused_kept (stage.Start vol) disks m r n other stops = cc
 refused_kept (stage.Mirror mirror) disks m r n other stops = cc
+refused_kept (stage.Prepare logs) disks m r n other stops = prepare_left m r n logs stops
+refused_kept (stage.Unprepare vol) disks m r n other stops = unprepare_left m r n vol stops
 refused_kept (stage.Stop vol) disks m r n other stops = stop_left m r n vol stops
 
 -- ---- plans
@@ -97,10 +99,11 @@ refused_kept (stage.Stop vol) disks m r n other stops = stop_left m r n vol stop
 not_done : (r : Refusal) → refused r ≡ done → ⊥
 not_done r e = cc
 
--- the stage is a start, a mirror or a stop
+-- the stage is a start, a mirror or a stop, or writes a log
 abbrev pub calls_volume : Stage → Bool
 calls_volume (stage.Start vol) = true
 calls_volume (stage.Mirror mirror) = true
+calls_volume (stage.Prepare logs) = true
 calls_volume (stage.Stop vol) = true
 calls_volume other = false
 
@@ -113,6 +116,7 @@ AreStill is_such (s ∷ t ∷ ss) = (is_such s ≡ false) × (keeps_world s ≡ 
 not_itself : (s : Stage) → calls_volume s ≡ false → ends_itself s ≡ false
 not_itself (stage.Start vol) e = cc
 not_itself (stage.Mirror mirror) e = cc
+not_itself (stage.Prepare logs) e = cc
 not_itself other e = refl
 
 pub none_itself : (stages : List Stage) → AreStill calls_volume stages → AreStill ends_itself stages
@@ -137,7 +141,7 @@ abbrev pub behind : List Test → Stage → List Stage
 behind [] s = s ∷ []
 behind (test ∷ gates) s = stage.Gate test ∷ behind gates s
 
--- the gates of a start, that of a mirror, and those of a stop
+-- the gates of a start, that of a mirror and of logs, and those of a stop
 abbrev pub start_gates : Option Word → Word → List Test
 start_gates dg vol = tests.GroupIs dg ∷ tests.HasVolume vol ∷ tests.Stopped vol ∷ []
 
@@ -147,11 +151,12 @@ mirror_gates dg = tests.GroupIs dg ∷ []
 abbrev pub stop_gates : Option Word → Word → List Test
 stop_gates dg vol = tests.GroupIs dg ∷ tests.HasVolume vol ∷ []
 
--- the form starts, mirrors or stops a volume of the group
+-- the form starts, mirrors or stops a volume of the group, or gives it logs
 abbrev pub touches : Form → Bool
 touches (form.Start vol) = true
 touches (form.Stop vol) = true
 touches (form.Mirror vol disks) = true
+touches (form.Prepare vol ndcomirs region) = true
 touches (form.AssistMake vol length attrs disks) = true
 touches other = false
 
@@ -184,8 +189,8 @@ plan_plain dg (form.PrintHt vol) other = tt
 plan_plain dg (form.AssistMake vol length attrs disks) other = cc
 plan_plain dg (form.Mirror vol disks) other = cc
 plan_plain dg (form.PlexDis plex rm) other = tt
-plan_plain dg (form.Prepare vol ndcomirs region) other = tt
-plan_plain dg (form.Unprepare vol) other = tt
+plan_plain dg (form.Prepare vol ndcomirs region) other = cc
+plan_plain dg (form.Unprepare vol) other = (refl, refl, refl)
 plan_plain dg (form.AddMir vol disks) other = tt
 plan_plain dg (form.Dis snap) other = tt
 plan_plain dg (form.Split snap) other = tt
@@ -207,6 +212,7 @@ still_plan (Some plan) plain = none_itself plan.stages plain
 pub plan_still : (dg : Option Word) (f : Form) → ends_so f ≡ false → IsStill (plan_of dg f)
 unfolding plan_of
 plan_still dg (form.Stop vol) other = (refl, refl, (refl, refl, refl))
+plan_still dg (form.Prepare vol ndcomirs region) other = (refl, refl, refl)
 plan_still dg (form.Start vol) other = cc
 plan_still dg (form.Mirror vol disks) other = cc
 plan_still dg (form.AssistMake vol length attrs disks) other = cc

@@ -43,7 +43,7 @@ use Rattle.vx_plan_laws.proofs.Told.{tells_done}
 use Rattle.vx_plan_laws.specs.Unbroken.{LetsThrough, PrefersItsPlex}
 use Rattle.vx_plan_laws.proofs.Makings.{making_kept}
 use Rattle.vx_plan_laws.proofs.Tests.{group_here, let_through, policy_law, removal_law, joining_law, volume_there}
-use Rattle.vx_plan_laws.proofs.Volumes.{mirror_refuses, not_stopped, same_refusal, start_refuses, stop_refuses}
+use Rattle.vx_plan_laws.proofs.Volumes.{mirror_refuses, not_stopped, prepare_refuses, same_refusal, start_refuses, stop_refuses, unprepare_refuses}
 
 -- ---- what a stage needs of those before it
 
@@ -58,6 +58,8 @@ Finds (stage.Make from) disks w = HasGroup w
 Finds stage.Join disks w = HasGroup w × LetsThrough tests.JoinLimits disks w
 Finds (stage.Start vol) disks w = HasGroup w × LetsThrough (tests.HasVolume vol) [] w
 Finds (stage.Mirror mirror) disks w = HasGroup w
+Finds (stage.Prepare logs) disks w = HasGroup w
+Finds (stage.Unprepare vol) disks w = HasGroup w
 Finds (stage.Stop vol) disks w = HasGroup w × LetsThrough (tests.HasVolume vol) [] w
 Finds other disks w = Unit {0}
 
@@ -105,6 +107,8 @@ module _ (old : Moment) (r : Refusal) (new : Moment) where
   refuses stage.Join (p ∷ []) (has, limits) (inr (inr (x, writing, stopped))) = absurd (not_stopped x old r new stopped)
   refuses (stage.Start vol) disks ((g, here), there) stops = start_refuses old r new vol g here (volume_there old.world g here vol [] there) stops
   refuses (stage.Mirror mirror) disks (g, here) stops = mirror_refuses old r new mirror.vol mirror.disks g here stops
+  refuses (stage.Prepare logs) disks (g, here) stops = prepare_refuses old r new logs g here stops
+  refuses (stage.Unprepare vol) disks (g, here) stops = unprepare_refuses old r new vol g here stops
   refuses (stage.Stop vol) disks ((g, here), there) stops = stop_refuses old r new vol g here (volume_there old.world g here vol [] there) stops
   refuses s disks finds stops = stops
 
@@ -177,6 +181,8 @@ plan_guarded dg (form.VxMake text) w = (tt, (refl, λ here. group_here dg [] w h
 plan_guarded dg (form.AssistMake vol length attrs disks) w = (tt, (refl, λ here. (group_here dg [] w here, λ old mid is. (tt, (refl, λ stopped. new_found (new_volume vol length attrs disks) old mid is)))))
 plan_guarded dg (form.Start vol) w = (tt, (refl, λ here. (tt, (refl, λ has. (tt, (refl, λ stopped. (group_here dg [] w here, has)))))))
 plan_guarded dg (form.Mirror vol disks) w = (tt, (refl, λ here. group_here dg [] w here))
+plan_guarded dg (form.Prepare vol ndcomirs region) w = (tt, (refl, λ here. group_here dg [] w here))
+plan_guarded dg (form.Unprepare vol) w = (tt, (refl, λ here. group_here dg [] w here))
 plan_guarded dg (form.Stop vol) w = (tt, (refl, λ here. (tt, (refl, λ has. (group_here dg [] w here, has)))))
 plan_guarded dg f w = tt
 

@@ -3,6 +3,7 @@ use Rattle.std.proofs.Common.{◌≡◌, ℕ, Bool, true, false, List, [], ◌�
 use Rattle.vx_base.specs.Named.{Word}
 use Rattle.vx_config_parts.specs.declared.vol.Vol.{Vol}
 use Rattle.vx_objects.specs.declared.edit.Edit.{Edit}
+use Rattle.vx_new_volumes.specs.declared.logs.NewLogs.{NewLogs}
 use Rattle.vx_new_volumes.specs.declared.mirror.NewPlex.{NewPlex}
 use Rattle.vx_script_words.specs.declared.value.DiskAt.{DiskAt}
 use Rattle.vx_script_forms.specs.declared.form.Form.{Form}
@@ -20,6 +21,7 @@ use Rattle.vx_plans.specs.Plans.{disks_of, new_volume, plan_of}
 use Rattle.vx_stages.specs.Records.{devices_of}
 use Rattle.vx_stages.specs.Stages.{DeviceEnds, EditsStop, FailsAt, IsDone, IsJoining, LookingStops, Stops, TakingStops, edits_of, joining_edit}
 use Rattle.vx_stages.specs.Starting.{StartStops, StopsIn, StopsOf, may_start, regions_copied}
+use Rattle.vx_stages.specs.Logged.{PrepareStopsIn, UnprepareStopsIn}
 use Rattle.vx_stages.specs.Mirrored.{MirrorStops, MirrorStopsIn}
 use Rattle.vx_stages.specs.Stopping.{StopStops, runs_on_plexes}
 use Rattle.vx_plans.specs.Steps.{Runs, done}
@@ -33,7 +35,7 @@ use Rattle.vx_stages.specs.declared.stages.Finish.TheVariants.{Nothing}
 use Rattle.vx_stages.specs.declared.test.Test.{Test}
 use Rattle.vx_stages.specs.declared.test.Test.TheVariants as tests
 use Rattle.vx_stages.specs.declared.stages.Plan.{Plan}
-use Rattle.vx_plans.proofs.Complete.{refused_mirror}
+use Rattle.vx_plans.proofs.Complete.{refused_mirror, refused_prepare, refused_unprepare}
 use Rattle.vx_plan_laws.specs.Refusing.{IsDoneBy, TellsCopied, TellsMirrored}
 use Rattle.vx_plan_laws.proofs.Kept.{AreStill, IsStill, behind, ends_itself, mirror_gates, plan_still, start_gates}
 
@@ -96,6 +98,17 @@ module _ (copied : Option ℕ) where
   stopping old new vol (inr (inl rest)) = rest.cause
   stopping old new vol (inr (inr b)) = not_stopped b.mid new b.writing b.stopped
 
+  preparing : (old new : Moment) (n : NewLogs) (o : Option Group) → MatchOption o (EndsIn (refusal.NoGroup None) old (all_done copied) new) (λ g. PrepareStopsIn g n old (all_done copied) new) → ⊥
+  preparing old new n None ends = denied old new _ ends
+  preparing old new n (Some g) (inl (turned, rests)) = let is = refused_prepare (runs_on_plexes old.world n.vol) g n (all_done copied) turned in no_refusal is.0 is.1
+  preparing old new n (Some g) (inr (inl u)) = u.cause
+  preparing old new n (Some g) (inr (inr c)) = not_stopped c.written new c.stops.0 c.stops.2
+
+  unpreparing : (old new : Moment) (name : Word) (o : Option Group) → MatchOption o (EndsIn (refusal.NoGroup None) old (all_done copied) new) (λ g. UnprepareStopsIn g name old (all_done copied) new) → ⊥
+  unpreparing old new name None ends = denied old new _ ends
+  unpreparing old new name (Some g) (inl (turned, rests)) = let is = refused_unprepare g name (all_done copied) turned in no_refusal is.0 is.1
+  unpreparing old new name (Some g) (inr c) = not_stopped old new c.stops.0 c.stops.2
+
   -- no stage but a start and a mirror is done where it ends the command
   not_done : (s : Stage) (disks : List DiskAt) (old new : Moment) → ends_itself s ≡ false → Stops s disks old (all_done copied) new → ⊥
   not_done (stage.Gate test) disks old new other (r, fails, is, same) = no_refusal r is
@@ -132,6 +145,8 @@ module _ (copied : Option ℕ) where
   not_done stage.LetGo disks old new other stops = stops
   not_done (stage.Start vol) disks old new other stops = cc
   not_done (stage.Mirror mirror) disks old new other stops = cc
+  not_done (stage.Prepare logs) disks old new other stops = preparing old new logs old.world.group stops
+  not_done (stage.Unprepare vol) disks old new other stops = unpreparing old new vol old.world.group stops
   not_done (stage.Stop vol) disks old new other stops = stopping old new vol stops
 
   -- ---- a start

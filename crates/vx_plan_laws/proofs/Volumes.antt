@@ -1,4 +1,4 @@
--- Why a start, a mirror and a stop refuse their volume, and what a start leaves then.
+-- Why a start, a mirror, logs that come or go, and a stop are refused for their volume, and what a start leaves then.
 use Rattle.std.proofs.Common.{◌≡◌, ◌⊎◌, ◌&&◌, ◌∙◌, Bool, true, false, MatchBool, MatchOption, Option, Some, None, List, [], is_some, if◌then◌else◌, refl, sym, ap, subst, inl, inr}
 use Rattle.vx_base.specs.Named.{Word}
 use Rattle.vx_config_parts.specs.declared.vol.Vol.{Vol}
@@ -7,15 +7,18 @@ use Rattle.vx_answers.specs.declared.answer.End.TheVariants as ends
 use Rattle.vx_answers.specs.declared.refusal.Refusal.{Refusal}
 use Rattle.vx_answers.specs.declared.refusal.Refusal.TheVariants as refusal
 use Rattle.vx_moments.specs.Commit.{Writing, IsStopped, CarriersFailed, parties}
-use Rattle.vx_moments.specs.Moment.{Moment}
+use Rattle.vx_moments.specs.Moment.{Moment, Rests}
 use Rattle.vx_moments.specs.World.{Group}
 use Rattle.vx_stages.specs.Ends.{EndsIn, refused}
+use Rattle.vx_new_volumes.specs.declared.logs.NewLogs.{NewLogs}
+use Rattle.vx_stages.specs.Logged.{PrepareStops, PrepareStopsIn, UnprepareStops, UnprepareStopsIn}
+use Rattle.vx_stages.specs.Logging.{IsPrepareRefused, IsUnprepareRefused}
 use Rattle.vx_stages.specs.Mirrored.{MirrorIsRefused, MirrorStops, MirrorStopsIn}
 use Rattle.vx_stages.specs.Starting.{StartStops, StopsIn, StopsOf, StopsUnopened, may_start}
 use Rattle.vx_stages.specs.Stopping.{StopStops, is_active, refusal_by, runs_on_plexes, stop_refusal}
 use Rattle.vx_stages.specs.Tests.{volume_in}
 use Rattle.vx_plan_laws.specs.Keeping.{IsLeftUnopened}
-use Rattle.vx_plan_laws.specs.Refusing.{MirrorRefuses, OfGroup, OfVolume, OpeningRefuses, StartRefuses, StopRefuses}
+use Rattle.vx_plan_laws.specs.Refusing.{MirrorRefuses, OfGroup, OfVolume, OpeningRefuses, PrepareRefuses, StartRefuses, StopRefuses, UnprepareRefuses}
 
 -- a commit that is stopped is no refusal
 pub not_stopped : (x : Writing) (old : Moment) (r : Refusal) (new : Moment) → IsStopped x old (refused r) new → ⊥
@@ -105,6 +108,39 @@ module _ (old : Moment) (r : Refusal) (new : Moment) where
       by : (o : Option Group) → MatchOption o (EndsIn (refusal.NoGroup None) old (refused r) new) (λ g. MirrorStopsIn g name named old (refused r) new) → new.world ≡ old.world
       by None ends = ends.1.stays.world
       by (Some g) more = (mirror_refused g name named more).1.stays.world
+
+  -- ---- logs that come and go
+
+  prepare_refused : (g : Group) (n : NewLogs) → PrepareStopsIn g n old (refused r) new → IsPrepareRefused (runs_on_plexes old.world n.vol) g n (refused r) × Rests old new
+  prepare_refused g n (inl is) = is
+  prepare_refused g n (inr (inl u)) = absurd u.cause
+  prepare_refused g n (inr (inr c)) = absurd (not_stopped c.stops.0 c.written r new c.stops.2)
+
+  pub prepare_refuses : (n : NewLogs) (g : Group) → old.world.group ≡ Some g → PrepareStops n old (refused r) new → OfGroup old.world (λ g. PrepareRefuses n g old.world r)
+  prepare_refuses n g here stops =
+      (g, here, (prepare_refused g n (subst (λ (o : Option Group). MatchOption o (EndsIn (refusal.NoGroup None) old (refused r) new) (λ g. PrepareStopsIn g n old (refused r) new)) here stops)).0)
+
+  pub prepare_left : (n : NewLogs) → PrepareStops n old (refused r) new → new.world ≡ old.world
+  prepare_left n stops = by old.world.group stops
+    where
+      by : (o : Option Group) → MatchOption o (EndsIn (refusal.NoGroup None) old (refused r) new) (λ g. PrepareStopsIn g n old (refused r) new) → new.world ≡ old.world
+      by None ends = ends.1.stays.world
+      by (Some g) more = (prepare_refused g n more).1.stays.world
+
+  unprepare_refused : (g : Group) (name : Word) → UnprepareStopsIn g name old (refused r) new → IsUnprepareRefused g name (refused r) × Rests old new
+  unprepare_refused g name (inl is) = is
+  unprepare_refused g name (inr c) = absurd (not_stopped c.stops.0 old r new c.stops.2)
+
+  pub unprepare_refuses : (name : Word) (g : Group) → old.world.group ≡ Some g → UnprepareStops name old (refused r) new → OfGroup old.world (λ g. UnprepareRefuses name g r)
+  unprepare_refuses name g here stops =
+      (g, here, (unprepare_refused g name (subst (λ (o : Option Group). MatchOption o (EndsIn (refusal.NoGroup None) old (refused r) new) (λ g. UnprepareStopsIn g name old (refused r) new)) here stops)).0)
+
+  pub unprepare_left : (name : Word) → UnprepareStops name old (refused r) new → new.world ≡ old.world
+  unprepare_left name stops = by old.world.group stops
+    where
+      by : (o : Option Group) → MatchOption o (EndsIn (refusal.NoGroup None) old (refused r) new) (λ g. UnprepareStopsIn g name old (refused r) new) → new.world ≡ old.world
+      by None ends = ends.1.stays.world
+      by (Some g) more = (unprepare_refused g name more).1.stays.world
 
   -- ---- a stop
 

@@ -2,15 +2,17 @@
 use Rattle.std.proofs.Common.{◌≡◌, ◌∙◌, ◌⊎◌, ℕ, List, [], ◌∷◌, Option, Some, None, MatchOption, false, refl, subst, inl, inr}
 use Rattle.vx_base.specs.Named.{Word}
 use Rattle.vx_script_words.specs.declared.value.DiskAt.{DiskAt}
+use Rattle.vx_new_volumes.specs.declared.logs.NewLogs.{NewLogs}
 use Rattle.vx_new_volumes.specs.declared.mirror.NewPlex.{NewPlex}
 use Rattle.vx_new_volumes.specs.declared.volume.NewVolume.{NewVolume}
 use Rattle.vx_script_forms.specs.declared.form.Form.{Form}
 use Rattle.vx_script_forms.specs.declared.form.Form.TheVariants as form
 use Rattle.vx_script.specs.declared.command.Command.{Command}
 use Rattle.vx_moments.specs.Moment.{Moment}
-use Rattle.vx_plans.specs.Plans.{disks_of, new_volume, plan_of}
+use Rattle.vx_plans.specs.Plans.{disks_of, new_logs, new_volume, plan_of}
 use Rattle.vx_stages.specs.Stages.{Wants}
 use Rattle.vx_stages.specs.Starting.{StartWants}
+use Rattle.vx_stages.specs.Logged.{PrepareWants}
 use Rattle.vx_stages.specs.Mirrored.{MirrorWants}
 use Rattle.vx_stages.specs.Stopping.{StopWants}
 use Rattle.vx_plans.specs.Steps.{LeavesOff, RunsShort, WantsForm, WantsPlan}
@@ -27,6 +29,7 @@ use Rattle.vx_plan_laws.proofs.Kept.{AreStill, IsPlain, behind, calls_volume, mi
 wanting_kept : (s : Stage) (old new : Moment) → calls_volume s ≡ false → Wants s old new → new.world ≡ old.world
 wanting_kept (stage.Start vol) old new e wants = cc
 wanting_kept (stage.Mirror mirror) old new e wants = cc
+wanting_kept (stage.Prepare logs) old new e wants = cc
 wanting_kept (stage.Stop vol) old new e wants = cc
 wanting_kept other old new e wants = wants
 
@@ -57,6 +60,10 @@ mirror_left : (gates : List Test) (mirror : NewPlex) (old new : Moment) → (new
 mirror_left gates mirror old new (inl same) = inl same
 mirror_left gates mirror old new (inr short) = elim (short_behind gates (stage.Mirror mirror) old new short) [ inl same ↦ inl same | inr wants ↦ wants ]
 
+prepare_left : (gates : List Test) (logs : NewLogs) (old new : Moment) → (new.world ≡ old.world) ⊎ RunsShort [] (behind gates (stage.Prepare logs)) old new → PrepareWants logs old new
+prepare_left gates logs old new (inl same) = inl same
+prepare_left gates logs old new (inr short) = elim (short_behind gates (stage.Prepare logs) old new short) [ inl same ↦ inl same | inr wants ↦ wants ]
+
 stop_left : (gates : List Test) (vol : Word) (old new : Moment) → (new.world ≡ old.world) ⊎ RunsShort [] (behind gates (stage.Stop vol)) old new → StopWants vol old new
 stop_left gates vol old new (inl same) = inl same
 stop_left gates vol old new (inr short) = elim (short_behind gates (stage.Stop vol) old new short) [ inl same ↦ inl same | inr wants ↦ wants ]
@@ -72,10 +79,11 @@ new_left dg n old new (inl same) = inl same
 new_left dg n old new (inr (inl (mid, later, (passed, same), short))) = subst (λ (m : Moment). (new.world ≡ m.world) ⊎ AddedWants n m new) same (adding_left n mid new short)
 new_left dg n old new (inr (inr wants)) = inl wants
 
--- what leaves the world leaves as much as a start, a mirror and a stop do
+-- what leaves the world leaves as much as a start, a mirror, logs and a stop do
 all_left : (f : Form) (old new : Moment) → new.world ≡ old.world → WantLeaves f old new
 all_left (form.Start vol) old new same = inl same
 all_left (form.Mirror vol disks) old new same = inl same
+all_left (form.Prepare vol ndcomirs region) old new same = inl same
 all_left (form.Stop vol) old new same = inl same
 all_left (form.AssistMake vol length attrs disks) old new same = inl same
 all_left other old new same = same
@@ -85,6 +93,7 @@ unfolding plan_of
 form_left dg (form.Calling call) old new wants = wants
 form_left dg (form.Start vol) old new wants = start_left (start_gates dg vol) vol old new wants
 form_left dg (form.Mirror vol disks) old new wants = mirror_left (mirror_gates dg) (record { vol = vol; disks = disks }) old new wants
+form_left dg (form.Prepare vol ndcomirs region) old new wants = prepare_left (mirror_gates dg) (new_logs vol ndcomirs region) old new wants
 form_left dg (form.Stop vol) old new wants = stop_left (stop_gates dg vol) vol old new wants
 form_left dg (form.AssistMake vol length attrs disks) old new wants = new_left dg (new_volume vol length attrs disks) old new wants
 form_left dg other old new wants = plan_kept (disks_of other) (plan_of dg other) old new (plan_plain dg other refl) wants

@@ -12,11 +12,12 @@ use Rattle.vx_moments.specs.Moment.{Moment}
 use Rattle.vx_stages.specs.Ends.{refused}
 use Rattle.vx_stages.specs.Stages.{IsDone}
 use Rattle.vx_stages.specs.Starting.{StartWants, may_start}
+use Rattle.vx_stages.specs.Logged.{PrepareWants}
 use Rattle.vx_stages.specs.Mirrored.{MirrorWants}
 use Rattle.vx_stages.specs.Stopping.{StopWants}
 use Rattle.vx_stages.specs.declared.stage.Source.TheVariants as source
 use Rattle.vx_stages.specs.declared.stage.Stage.TheVariants as stage
-use Rattle.vx_plans.specs.Plans.{new_volume}
+use Rattle.vx_plans.specs.Plans.{new_logs, new_volume}
 use Rattle.vx_plans.specs.Steps.{LeavesOff, Step}
 use Rattle.vx_stages.specs.Touching.{IsTouched}
 use Rattle.vx_plan_laws.specs.Refusing.{OfGroup, OfVolume, OpeningRefuses, StartRefuses}
@@ -49,10 +50,12 @@ abbrev pub AddedWants : NewVolume → Moment → Moment → Type 0
 AddedWants n old new = (mid : Moment) × IsDone (stage.Make (source.Volume n)) [] old mid × StartWants n.vol mid new
 
 -- What want of memory leaves of a command of this form: the world as the command found it. A start may have called the log of its volume,
--- also of a new one whose records were added, and a mirror and a stop may have let their volume come to rest.
+-- also of a new one whose records were added, a mirror and a stop may have let their volume come to rest, and where a volume was to get logs
+-- these may have been written.
 abbrev pub WantLeaves : Form → Moment → Moment → Type 0
 WantLeaves (form.Start vol) old new = StartWants vol old new
 WantLeaves (form.Mirror vol disks) old new = MirrorWants vol old new
+WantLeaves (form.Prepare vol ndcomirs region) old new = PrepareWants (new_logs vol ndcomirs region) old new
 WantLeaves (form.Stop vol) old new = StopWants vol old new
 WantLeaves (form.AssistMake vol length attrs disks) old new = (new.world ≡ old.world) ⊎ AddedWants (new_volume vol length attrs disks) old new
 WantLeaves other old new = new.world ≡ old.world

@@ -33,6 +33,8 @@ use Rattle.vx_stages.specs.Ends.{RefusedAsGrown, RefusedAsLong, refused}
 use Rattle.vx_stages.specs.Stages.{IsDone, OnlyDisk, Stops, edits_of, joining_edit}
 use Rattle.vx_stages.specs.Starting.{HasNoReadCopy, IsFirstMissed, may_start, refusal_at_once, regions_copied}
 use Rattle.vx_plans.specs.Steps.{Runs, done}
+use Rattle.vx_new_volumes.specs.declared.logs.NewLogs.{NewLogs}
+use Rattle.vx_stages.specs.Logging.{IsPrepareRefused, IsUnprepareRefused}
 use Rattle.vx_stages.specs.Mirroring.{IsMirrorRefused}
 use Rattle.vx_stages.specs.Stopping.{is_active, runs_on_plexes}
 use Rattle.vx_stages.specs.Tests.{volume_in}
@@ -79,6 +81,14 @@ StartRefuses g v old r new =
 abbrev pub MirrorRefuses : Word → List Word → Group → World → Refusal → Type 0
 MirrorRefuses name disks g w r = IsMirrorRefused (runs_on_plexes w name) g name disks (refused r)
 
+-- A volume gets no logs: a test before the plan refuses that, or there is no plan, or the edits break a rule, or the text would be too long.
+abbrev pub PrepareRefuses : NewLogs → Group → World → Refusal → Type 0
+PrepareRefuses n g w r = IsPrepareRefused (runs_on_plexes w n.vol) g n (refused r)
+
+-- A volume does not lose its logs: a test refuses that, or the edits break a rule, or the text would be too long.
+abbrev pub UnprepareRefuses : Word → Group → Refusal → Type 0
+UnprepareRefuses name g r = IsUnprepareRefused g name (refused r)
+
 -- A volume is not stopped: it does not run, or its state does not fit; or the text would be too long.
 abbrev pub StopRefuses : Word → Group → Vol → World → Refusal → Type 0
 StopRefuses name g v w r =
@@ -89,7 +99,8 @@ StopRefuses name g v w r =
 
 -- A stage of a plan refuses its command. One that changes a configuration does so where the text would be too long; one that
 -- adds records, where there are none or a test of the records refuses them, too; one by which a disk joins, where the
--- disk's name is taken; and a start, a mirror and a stop by what they find of their volume. Any other stage has tests alone.
+-- disk's name is taken; and a start, a mirror, a stop and logs that come and go by what they find of their volume. Any other
+-- stage has tests alone.
 abbrev pub Refuses : Stage → List DiskAt → Moment → Refusal → Moment → Type 0
 Refuses (stage.Change change) disks old r new = OfGroup old.world (λ g. IsTooLong (edits_of change (Some g)) g r)
 Refuses (stage.Make from) disks old r new =
@@ -100,6 +111,8 @@ Refuses stage.Join disks old r new =
     OnlyDisk disks (λ p. OfGroup old.world (λ g. ((has_name p.disk (objects_of g.config) ≡ true) × (r ≡ refusal.Exists p.disk)) ⊎ IsTooLong (joining_edit p old.world g ∷ []) g r))
 Refuses (stage.Start vol) disks old r new = OfGroup old.world (λ g. OfVolume vol g (λ v. StartRefuses g v old r new))
 Refuses (stage.Mirror mirror) disks old r new = OfGroup old.world (λ g. MirrorRefuses mirror.vol mirror.disks g old.world r)
+Refuses (stage.Prepare logs) disks old r new = OfGroup old.world (λ g. PrepareRefuses logs g old.world r)
+Refuses (stage.Unprepare vol) disks old r new = OfGroup old.world (λ g. UnprepareRefuses vol g r)
 Refuses (stage.Stop vol) disks old r new = OfGroup old.world (λ g. OfVolume vol g (λ v. StopRefuses vol g v old.world r))
 Refuses other disks old r new = Stops other disks old (refused r) new
 
@@ -113,7 +126,8 @@ abbrev pub OneRefuses : List Stage → List DiskAt → Moment → Refusal → Mo
 OneRefuses [] disks old r new = ⊥
 OneRefuses (s ∷ ss) disks old r new = Refuses s disks old r new ⊎ ((mid : Moment) × IsPassed s disks old mid × OneRefuses ss disks mid r new)
 
--- no command of a plan is refused by a rule of a configuration behind its tests, but adddisk for a name, and a mirror whose records break one
+-- no command of a plan is refused by a rule of a configuration behind its tests, but adddisk for a name, and a mirror and logs whose edits break
+-- one
 abbrev pub EachRefusalIsTested : Type 0
 EachRefusalIsTested =
     (dg : Option Word) (f : Form) (plan : Plan) (old : Moment) (views : List View) (r : Refusal) (new : Moment)

@@ -11,6 +11,10 @@ use Rattle.vx_answers.specs.declared.answer.End.TheVariants as ends
 use Rattle.vx_answers.specs.declared.refusal.Refusal.{Refusal}
 use Rattle.vx_answers.specs.declared.refusal.Refusal.TheVariants as refusal
 use Rattle.vx_config_parts.specs.declared.vol.Vol.{Vol}
+use Rattle.vx_objects.specs.declared.config.Config.{Config}
+use Rattle.vx_objects.specs.declared.edit.Edit.{Edit}
+use Rattle.vx_new_volumes.specs.declared.logs.NewLogs.{NewLogs}
+use Rattle.vx_state_edits.specs.Edits.{is_new}
 use Rattle.vx_copies.specs.Lists.{AnyOf}
 use Rattle.vx_life.specs.declared.Part.{Part}
 use Rattle.vx_mask.specs.Mask.{has}
@@ -19,6 +23,8 @@ use Rattle.vx_moments.specs.Commit.{Writing, IsStopped, is_written_slot, parties
 use Rattle.vx_moments.specs.Moment.{Moment, AreLater, Counts, HasFailed}
 use Rattle.vx_moments.specs.World.{Group, Member, World}
 use Rattle.vx_stages.specs.Ends.{EndsIn}
+use Rattle.vx_stages.specs.Logged.{IsLogWritten, PrepareStopsIn, UnprepareStopsIn, by_config}
+use Rattle.vx_stages.specs.Logging.{AreEditsRefused, IsPrepareRefused, IsUnprepareRefused}
 use Rattle.vx_stages.specs.Mirrored.{IsMirroredBy, MirrorEnds, MirrorStopsIn}
 use Rattle.vx_stages.specs.Mirroring.{IsMirrorRefused}
 use Rattle.vx_plans.specs.Laws.{WentWell, IsDoneOrRefused, HasCarriers}
@@ -50,6 +56,8 @@ IsCarried (stage.Make from) disks w = IsAlive w
 IsCarried stage.Join disks w = IsAlive w
 IsCarried (stage.Start vol) disks w = IsAlive w
 IsCarried (stage.Mirror mirror) disks w = IsAlive w
+IsCarried (stage.Prepare logs) disks w = IsAlive w
+IsCarried (stage.Unprepare vol) disks w = IsAlive w
 IsCarried (stage.Stop vol) disks w = IsAlive w
 IsCarried other disks w = Unit {0}
 
@@ -113,6 +121,22 @@ refused_mirror runs g name named end (inr (v, found, fits, inl (r, unlaid, is)))
 refused_mirror runs g name named end (inr (v, found, fits, inr (m, added, laid, inl (r, broken, is)))) = (r, is)
 refused_mirror runs g name named end (inr (v, found, fits, inr (m, added, laid, inr (next, edited, (text, printed, long, is))))) = (_, is)
 
+-- edits that are refused end the command by a refusal
+edits_refused : (c : Config) (edits : List Edit) (end : End) → AreEditsRefused c edits end → (r : Refusal) × (end ≡ ends.Refused r)
+edits_refused c edits end (inl (r, broken, is)) = (r, is)
+edits_refused c edits end (inr (next, edited, (text, printed, long, is))) = (_, is)
+
+-- so does what refuses logs that are to come, ..
+pub refused_prepare : (runs : Bool) (g : Group) (n : NewLogs) (end : End) → IsPrepareRefused runs g n end → (r : Refusal) × (end ≡ ends.Refused r)
+refused_prepare runs g n end (inl (r, unfit, is)) = (r, is)
+refused_prepare runs g n end (inr (v, found, fits, inl (r, unlaid, is))) = (r, is)
+refused_prepare runs g n end (inr (v, found, fits, inr (plex, added, edits, laid, why))) = edits_refused g.config edits end why
+
+-- .. or to go
+pub refused_unprepare : (g : Group) (name : Word) (end : End) → IsUnprepareRefused g name end → (r : Refusal) × (end ≡ ends.Refused r)
+refused_unprepare g name end (inl (r, unfit, is)) = (r, is)
+refused_unprepare g name end (inr (v, plex, edits, loses, why)) = edits_refused g.config edits end why
+
 -- a group that has a good disk has it still
 alive_still : (old new : World) → new.group ≡ old.group → IsAlive old → IsAlive new
 alive_still old new same alive = subst (λ (o : Option Group). MatchOption o (Unit {0}) (λ g. AnyOf (λ m. has g.good m.slot ≡ true) g.members)) (sym same) alive
@@ -163,6 +187,34 @@ module _ (old new : Moment) (well : WentWell old new) (alive : IsAlive old.world
   mirrors : (name : Word) (named : List Word) (end : End) (o : Option Group) → MatchOption o (EndsIn (refusal.NoGroup None) old end new) (λ g. MirrorStopsIn g name named old end new) → IsDoneOrRefused end
   mirrors name named end None ends = inr (_, ends.0)
   mirrors name named end (Some g) stops = mirrors_in g name named end stops
+
+  written_later : (g : Group) (next : Config) (v : Vol) (m : Moment) (b : Bool) → MatchBool b (m ≡ old) (IsLogWritten g next v.name old m × AreLater old.counts m.counts) → AreLater old.counts m.counts
+  written_later g next v m true same = subst (λ (x : Moment). AreLater old.counts x.counts) (sym same) (later_self old.counts)
+  written_later g next v m false writes = writes.1
+
+  written_group : (g : Group) (next : Config) (v : Vol) (m : Moment) (b : Bool) → MatchBool b (m ≡ old) (IsLogWritten g next v.name old m × AreLater old.counts m.counts) → m.world.group ≡ old.world.group
+  written_group g next v m true same = ap (λ (x : Moment). x.world.group) same
+  written_group g next v m false writes = ap (λ (w : World). w.group) writes.0.log.touched.world
+
+  prepares_in : (g : Group) (n : NewLogs) (end : End) → PrepareStopsIn g n old end new → IsDoneOrRefused end
+  prepares_in g n end (inl (refused, rests)) = inr (refused_prepare (runs_on_plexes old.world n.vol) g n end refused)
+  prepares_in g n end (inr (inl u)) = absurd (passing old new well (by_config u.next g) n.vol end u.cause)
+  prepares_in g n end (inr (inr c)) =
+      stopping c.written new (well_after old c.written new (written_later g c.next c.volume c.written (is_new c.volume.state) c.writes) c.rest well) c.stops.0 end
+      (by_group c.written.world c.stops.0 c.stops.1.group c.stops.1.carriers
+      (alive_still old.world c.written.world (written_group g c.next c.volume c.written (is_new c.volume.state) c.writes) alive)) c.stops.2
+
+  prepares : (n : NewLogs) (end : End) (o : Option Group) → MatchOption o (EndsIn (refusal.NoGroup None) old end new) (λ g. PrepareStopsIn g n old end new) → IsDoneOrRefused end
+  prepares n end None ends = inr (_, ends.0)
+  prepares n end (Some g) stops = prepares_in g n end stops
+
+  unprepares_in : (g : Group) (name : Word) (end : End) → UnprepareStopsIn g name old end new → IsDoneOrRefused end
+  unprepares_in g name end (inl (refused, rests)) = inr (refused_unprepare g name end refused)
+  unprepares_in g name end (inr c) = stopping old new well c.stops.0 end (by_group old.world c.stops.0 c.stops.1.group c.stops.1.carriers alive) c.stops.2
+
+  unprepares : (name : Word) (end : End) (o : Option Group) → MatchOption o (EndsIn (refusal.NoGroup None) old end new) (λ g. UnprepareStopsIn g name old end new) → IsDoneOrRefused end
+  unprepares name end None ends = inr (_, ends.0)
+  unprepares name end (Some g) stops = unprepares_in g name end stops
 
   ends_stop : (name : Word) (end : End) → StopStops name old end new → IsDoneOrRefused end
   ends_stop name end (inl (inl (r, e, is), rests)) = inr (r, is)
@@ -215,6 +267,8 @@ stops_well (stage.Import dg) disks old new end well carried (inr (inr (mid, betw
 stops_well stage.LetGo disks old new end well carried stops = absurd stops
 stops_well (stage.Start vol) disks old new end well carried stops = starts old new well carried vol end old.world.group stops
 stops_well (stage.Mirror mirror) disks old new end well carried stops = mirrors old new well carried mirror.vol mirror.disks end old.world.group stops
+stops_well (stage.Prepare logs) disks old new end well carried stops = prepares old new well carried logs end old.world.group stops
+stops_well (stage.Unprepare vol) disks old new end well carried stops = unprepares old new well carried vol end old.world.group stops
 stops_well (stage.Stop vol) disks old new end well carried stops = ends_stop old new well carried vol end stops
 
 -- the stage changes nothing of the world
@@ -247,6 +301,8 @@ kept_world (stage.Import dg) disks old mid keeps done = cc
 kept_world stage.LetGo disks old mid keeps done = cc
 kept_world (stage.Start vol) disks old mid keeps done = cc
 kept_world (stage.Mirror mirror) disks old mid keeps done = cc
+kept_world (stage.Prepare logs) disks old mid keeps done = cc
+kept_world (stage.Unprepare vol) disks old mid keeps done = cc
 kept_world (stage.Stop vol) disks old mid keeps done = cc
 
 -- behind a stage this holds of the world: one that adds records leaves any in which the group has a good disk, each other one keeps the world
@@ -286,6 +342,8 @@ behind (stage.Import dg) disks old mid Holds is done = cc
 behind stage.LetGo disks old mid Holds is done = cc
 behind (stage.Start vol) disks old mid Holds is done = cc
 behind (stage.Mirror mirror) disks old mid Holds is done = cc
+behind (stage.Prepare logs) disks old mid Holds is done = cc
+behind (stage.Unprepare vol) disks old mid Holds is done = cc
 behind (stage.Stop vol) disks old mid Holds is done = cc
 
 pub runs_later : (disks : List DiskAt) (stages : List Stage) (finish : Finish) (old : Moment) (views : List View) (end : End) (new : Moment) → Runs disks stages finish old views end new → AreLater old.counts new.counts
@@ -340,8 +398,8 @@ plan_shaped dg (form.PrintHt vol) w has = tt
 plan_shaped dg (form.AssistMake vol length attrs disks) w has = (tt, (refl, (has.group, λ v alive. (tt, (refl, alive)))))
 plan_shaped dg (form.Mirror vol disks) w has = (tt, (refl, has.group))
 plan_shaped dg (form.PlexDis plex rm) w has = tt
-plan_shaped dg (form.Prepare vol ndcomirs region) w has = tt
-plan_shaped dg (form.Unprepare vol) w has = tt
+plan_shaped dg (form.Prepare vol ndcomirs region) w has = (tt, (refl, has.group))
+plan_shaped dg (form.Unprepare vol) w has = (tt, (refl, has.group))
 plan_shaped dg (form.AddMir vol disks) w has = tt
 plan_shaped dg (form.Dis snap) w has = tt
 plan_shaped dg (form.Split snap) w has = tt

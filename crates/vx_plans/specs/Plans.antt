@@ -1,5 +1,5 @@
 -- The plan of each command: its stages in order, and what it shows at the end.
-use Rattle.std.specs.Prelude.{ℕ, nat_lt, if◌then◌else◌, Option, Some, None, List, [], ◌∷◌}
+use Rattle.std.specs.Prelude.{ℕ, nat_lt, min, if◌then◌else◌, Option, Some, None, List, [], ◌∷◌}
 use Rattle.vx_base.specs.Named.{Word}
 use Rattle.vx_config_parts.specs.declared.vol.PolicyName.TheVariants as policy
 use Rattle.vx_script_words.specs.declared.value.DiskAt.{DiskAt}
@@ -13,6 +13,7 @@ use Rattle.vx_script_forms.specs.declared.form.WordPolicy.TheVariants as words
 use Rattle.vx_stages.specs.declared.stages.Finish.{Finish}
 use Rattle.vx_stages.specs.declared.stages.Finish.TheVariants.{Nothing, Records}
 use Rattle.vx_stages.specs.declared.stages.Plan.{Plan}
+use Rattle.vx_new_volumes.specs.declared.logs.NewLogs.{NewLogs}
 use Rattle.vx_new_volumes.specs.declared.mirror.NewPlex.{NewPlex}
 use Rattle.vx_new_volumes.specs.declared.volume.NewVolume.{NewVolume}
 use Rattle.vx_stages.specs.declared.stage.Change.TheVariants as changes
@@ -108,6 +109,17 @@ plan_new dg n =
 abbrev pub plan_mirror : Option Word → NewPlex → List Stage
 plan_mirror dg new = stage.Gate (tests.GroupIs dg) ∷ stage.Mirror new ∷ []
 
+-- `vxsnap prepare VOL [ndcomirs=N] [regionsize=LENGTH]`: one log where it is not said how many; more than can be counted are too many
+abbrev pub new_logs : Word → Option ℕ → Option ℕ → NewLogs
+new_logs vol count region = record { vol = vol; count = min (or_else count 1) 4294967295; region = region }
+
+abbrev pub plan_prepare : Option Word → NewLogs → List Stage
+plan_prepare dg logs = stage.Gate (tests.GroupIs dg) ∷ stage.Prepare logs ∷ []
+
+-- `vxsnap unprepare VOL`
+abbrev pub plan_unprepare : Option Word → Word → List Stage
+plan_unprepare dg vol = stage.Gate (tests.GroupIs dg) ∷ stage.Unprepare vol ∷ []
+
 -- `vxassist remove volume VOL`
 abbrev pub plan_remove : Option Word → Word → List Stage
 plan_remove dg vol =
@@ -142,6 +154,8 @@ plan_of dg (form.VxMake text) = doing (plan_make dg text)
 plan_of dg (form.AssistMake vol length attrs disks) = doing (plan_new dg (new_volume vol length attrs disks))
 plan_of dg (form.Rdpol vol words) = doing (plan_rdpol dg vol words)
 plan_of dg (form.RemoveVolume vol) = doing (plan_remove dg vol)
+plan_of dg (form.Prepare vol ndcomirs region) = doing (plan_prepare dg (new_logs vol ndcomirs region))
+plan_of dg (form.Unprepare vol) = doing (plan_unprepare dg vol)
 plan_of dg (form.Mirror vol disks) = doing (plan_mirror dg (record { vol = vol; disks = disks }))
 plan_of dg (form.Start vol) = doing (plan_start dg vol)
 plan_of dg (form.Stop vol) = doing (plan_stop dg vol)

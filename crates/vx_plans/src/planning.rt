@@ -1,6 +1,6 @@
 //! The plan of each form.
 ghost use Rattle.std.specs.Prelude.{◌≡◌, IfOk};
-ghost use Rattle.vx_plans.specs.Plans.{columns_of, doing, ending, logs_of, new_volume, or_else, plan_add, plan_bare, plan_deport, plan_init, plan_make, plan_mirror, plan_new, plan_of, plan_print, plan_rdpol, plan_remove, plan_start, plan_stop, plan_unsetup};
+ghost use Rattle.vx_plans.specs.Plans.{columns_of, doing, ending, logs_of, new_logs, new_volume, or_else, plan_add, plan_bare, plan_deport, plan_init, plan_make, plan_mirror, plan_new, plan_of, plan_prepare, plan_print, plan_rdpol, plan_remove, plan_start, plan_stop, plan_unprepare, plan_unsetup};
 ghost use Rattle.vx_stages.specs.declared.stages.Finish.TheVariants.{Records};
 ghost use Rattle.vx_stages.specs.declared.stage.Change.TheVariants as changes;
 ghost use Rattle.vx_stages.specs.declared.stage.Stage.TheVariants as stages;
@@ -9,7 +9,7 @@ use std::alloc::Global;
 use vx_base::OutOfMemory;
 use vx_config_parts::PolicyName;
 use vx_names::Name;
-use vx_new_volumes::{NewPlex, NewVolume, Request};
+use vx_new_volumes::{NewLogs, NewPlex, NewVolume, Request};
 use vx_objects::Listed;
 use vx_script_forms::{Form, MakeAttrs, WordLayout, WordPolicy};
 use vx_script_words::{Bytes, Names};
@@ -47,6 +47,12 @@ pub fn plan(alloc: Global, group: Option<Name>, form: &Form) -> Result<Option<Pl
         Form::Rdpol { vol, policy } => rdpol(alloc, group, *vol, *policy),
         Form::RemoveVolume { vol } => remove(alloc, group, *vol),
         Form::Mirror { vol, disks } => mirror(alloc, group, new_plex(alloc, *vol, disks)?),
+        Form::Prepare {
+            vol,
+            ndcomirs,
+            region,
+        } => prepare(alloc, group, new_logs(*vol, *ndcomirs, *region)),
+        Form::Unprepare { vol } => unprepare(alloc, group, *vol),
         Form::Start { vol } => start(alloc, group, *vol),
         Form::Stop { vol } => stop(alloc, group, *vol),
         _ => Ok(None),
@@ -293,6 +299,32 @@ fn mirror(alloc: Global, group: Option<Name>, new: NewPlex) -> Result<Option<Pla
     doing(
         alloc,
         [Stage::Gate(Test::GroupIs(group)), Stage::Mirror(new)],
+    )
+}
+
+/// The logs that are asked for: one, where it is not said how many.
+fn new_logs(vol: Name, count: Option<u64>, region: Option<u64>) -> NewLogs
+    ensures { result ≡ new_logs vol count region }
+{
+    let count = count.unwrap_or(1).min(u64::from(u32::MAX)) as u32;
+    NewLogs { vol, count, region }
+}
+
+fn prepare(alloc: Global, group: Option<Name>, new: NewLogs) -> Result<Option<Plan>, OutOfMemory>
+    ensures { IfOk result (λ plan. plan ≡ doing (plan_prepare group new)) }
+{
+    doing(
+        alloc,
+        [Stage::Gate(Test::GroupIs(group)), Stage::Prepare(new)],
+    )
+}
+
+fn unprepare(alloc: Global, group: Option<Name>, vol: Name) -> Result<Option<Plan>, OutOfMemory>
+    ensures { IfOk result (λ plan. plan ≡ doing (plan_unprepare group vol)) }
+{
+    doing(
+        alloc,
+        [Stage::Gate(Test::GroupIs(group)), Stage::Unprepare(vol)],
     )
 }
 

@@ -121,7 +121,7 @@ found_recorded name (u ∷ us) v is = by (bytes_eq u.name name) (found_recorded 
     by false more found = or_from_right (bytes_eq u.name v.name) (list_any (λ u. bytes_eq u.name v.name) us) (more found)
 
 module _ (old : Moment) (end : End) (new : Moment) (s : IsStanding old.world) where
-  still : new.world ≡ old.world → Ends end new.world
+  pub still : new.world ≡ old.world → Ends end new.world
   still same = inl (subst IsStanding (sym same) s)
 
   module _ (g : Group) (here : old.world.group ≡ Some g) (v : Vol) (recorded : list_any (λ u. bytes_eq u.name v.name) g.config.volumes ≡ true) where

@@ -35,6 +35,8 @@ Passed (stage.Import dg) disks w = ⊥
 Passed stage.LetGo disks w = ⊥
 Passed (stage.Start vol) disks w = ⊥
 Passed (stage.Mirror mirror) disks w = ⊥
+Passed (stage.Prepare logs) disks w = ⊥
+Passed (stage.Unprepare vol) disks w = ⊥
 Passed (stage.Stop vol) disks w = ⊥
 
 -- the stage leaves the world
@@ -57,6 +59,8 @@ leaves_world (stage.Import dg) = false
 leaves_world stage.LetGo = false
 leaves_world (stage.Start vol) = false
 leaves_world (stage.Mirror mirror) = false
+leaves_world (stage.Prepare logs) = false
+leaves_world (stage.Unprepare vol) = false
 leaves_world (stage.Stop vol) = false
 
 -- such a stage that is done
@@ -79,6 +83,8 @@ calm_done (stage.Import dg) disks old new calm done = cc
 calm_done stage.LetGo disks old new calm done = cc
 calm_done (stage.Start vol) disks old new calm done = cc
 calm_done (stage.Mirror mirror) disks old new calm done = cc
+calm_done (stage.Prepare logs) disks old new calm done = cc
+calm_done (stage.Unprepare vol) disks old new calm done = cc
 calm_done (stage.Stop vol) disks old new calm done = cc
 
 taking_stays : (taken names : List Word) (old : Moment) (end : End) (new : Moment) → TakingStops taken names old end new → new.world ≡ old.world
@@ -107,6 +113,8 @@ calm_stops (stage.Import dg) disks old end new calm stops = cc
 calm_stops stage.LetGo disks old end new calm stops = cc
 calm_stops (stage.Start vol) disks old end new calm stops = cc
 calm_stops (stage.Mirror mirror) disks old end new calm stops = cc
+calm_stops (stage.Prepare logs) disks old end new calm stops = cc
+calm_stops (stage.Unprepare vol) disks old end new calm stops = cc
 calm_stops (stage.Stop vol) disks old end new calm stops = cc
 
 abbrev pub AreCalm : List Stage → Type 0

@@ -24,8 +24,9 @@ use Rattle.vx_moments.specs.Leaving.{PowerGoes}
 use Rattle.vx_moments.specs.Holding.{has_volume}
 use Rattle.vx_moments.proofs.Lone.{none_lone}
 use Rattle.vx_moments.specs.Commit.{Writing}
+use Rattle.vx_new_volumes.specs.declared.logs.NewLogs.{NewLogs}
 use Rattle.vx_new_volumes.specs.declared.mirror.NewPlex.{NewPlex}
-use Rattle.vx_plans.specs.Plans.{new_volume, plan_of}
+use Rattle.vx_plans.specs.Plans.{new_logs, new_volume, plan_of}
 use Rattle.vx_stages.specs.Records.{devices_of}
 use Rattle.vx_stages.specs.Ends.{IsChange}
 use Rattle.vx_stages.specs.Stages.{IsDone, Stops, EditsStop, edits_of, joining_edit, IsJoining, IsCreating}
@@ -51,6 +52,7 @@ use Rattle.vx_sound.proofs.Ready.{IsReady}
 use Rattle.vx_sound.proofs.Runs.{AreCalm, AllPassed, Through, runs_through}
 use Rattle.vx_sound.proofs.Settlement.{settled, standing_gone, standing_left}
 use Rattle.vx_sound.proofs.Names.{IsApart, create_apart}
+use Rattle.vx_sound.proofs.Logs.{prepare_done, prepare_ends, unprepare_done, unprepare_ends}
 use Rattle.vx_sound.proofs.Running.{mirror_ends, start_ends, stop_done, stop_ends}
 use Rattle.vx_sound.proofs.Volumes.{standing_bare, standing_served}
 
@@ -215,6 +217,12 @@ module _ (views : List View) (end : End) (new : Moment) where
   mirroring_ends : (mirror : NewPlex) (mid : Moment) → IsStanding mid.world → Runs [] (stage.Mirror mirror ∷ []) Nothing mid views end new → Ends end new.world
   mirroring_ends mirror mid s runs = one_stage (stage.Mirror mirror) [] Nothing mid views end new (λ m done. absurd done) (λ stops. mirror_ends mid end new s mirror.vol mirror.disks stops) runs
 
+  preparing_ends : (logs : NewLogs) (mid : Moment) → IsStanding mid.world → Runs [] (stage.Prepare logs ∷ []) Nothing mid views end new → Ends end new.world
+  preparing_ends logs mid s runs = one_stage (stage.Prepare logs) [] Nothing mid views end new (λ m done. prepare_done mid s logs m done) (λ stops. prepare_ends mid s end new logs stops) runs
+
+  unpreparing_ends : (vol : Word) (mid : Moment) → IsStanding mid.world → Runs [] (stage.Unprepare vol ∷ []) Nothing mid views end new → Ends end new.world
+  unpreparing_ends vol mid s runs = one_stage (stage.Unprepare vol) [] Nothing mid views end new (λ m done. unprepare_done mid s vol m done) (λ stops. unprepare_ends mid s end new vol stops) runs
+
   shown_ends : (finish : Finish) (mid : Moment) → IsStanding mid.world → Runs [] [] finish mid views end new → Ends end new.world
   shown_ends finish mid s runs = inl (subst (λ (n : Moment). IsStanding n.world) (sym runs.2) s)
 
@@ -288,8 +296,13 @@ module _ (old : Moment) (views : List View) (end : End) (new : Moment) (s : IsSt
       let calm = stage.Gate (tests.GroupIs dg) ∷ stage.Gate (tests.HasVolume vol) ∷ [] in
       at_last calm (stage.Stop vol ∷ []) [] Nothing old views end new s (stopping_ends views end new dg vol) (runs_through calm (stage.Stop vol ∷ []) [] Nothing old views end new (refl, (refl, tt)) does)
   form_ends place dg (form.PlexDis plex rm) none does = not_built does
-  form_ends place dg (form.Prepare vol ndcomirs region) none does = not_built does
-  form_ends place dg (form.Unprepare vol) none does = not_built does
+  form_ends place dg (form.Prepare vol ndcomirs region) none does =
+      let logs = new_logs vol ndcomirs region in
+      let calm = stage.Gate (tests.GroupIs dg) ∷ [] in
+      at_last calm (stage.Prepare logs ∷ []) [] Nothing old views end new s (λ mid t passed runs. preparing_ends views end new logs mid t runs) (runs_through calm (stage.Prepare logs ∷ []) [] Nothing old views end new (refl, tt) does)
+  form_ends place dg (form.Unprepare vol) none does =
+      let calm = stage.Gate (tests.GroupIs dg) ∷ [] in
+      at_last calm (stage.Unprepare vol ∷ []) [] Nothing old views end new s (λ mid t passed runs. unpreparing_ends views end new vol mid t runs) (runs_through calm (stage.Unprepare vol ∷ []) [] Nothing old views end new (refl, tt) does)
   form_ends place dg (form.AddMir vol disks) none does = not_built does
   form_ends place dg (form.Dis snap) none does = not_built does
   form_ends place dg (form.Split snap) none does = not_built does

@@ -21,6 +21,7 @@ use Rattle.vx_plans.proofs.Complete.{keeps_world, kept_world}
 use Rattle.vx_sound.specs.Laws.{IsIdle, WriteNoHeader}
 use Rattle.vx_sound.specs.Sound.{AreSound}
 use Rattle.vx_sound.specs.Standing.{IsStanding}
+use Rattle.vx_sound.proofs.Logs.{prepare_wants}
 use Rattle.vx_sound.proofs.Running.{rested, standing_touched}
 use Rattle.vx_sound.proofs.Settlement.{settled, standing_left}
 use Rattle.vx_sound.proofs.Steps.{make_stands, run_stands, sound_stands}
@@ -33,6 +34,7 @@ wants_stand (stage.Start vol) old new s (inl same) = same_stands old.world new.w
 wants_stand (stage.Start vol) old new s (inr (g, v, here, found, may, touched, near)) = standing_touched g vol old new touched s
 wants_stand (stage.Mirror mirror) old new s (inl same) = same_stands old.world new.world same s
 wants_stand (stage.Mirror mirror) old new s (inr rest) = rested mirror.vol old s new rest
+wants_stand (stage.Prepare logs) old new s wants = prepare_wants old s logs new wants
 wants_stand (stage.Stop vol) old new s (inl same) = same_stands old.world new.world same s
 wants_stand (stage.Stop vol) old new s (inr rest) = rested vol old s new rest
 wants_stand other old new s same = same_stands old.world new.world same s

@@ -8,6 +8,7 @@ mod Found
 mod Places
 mod Stages
 mod Volumes
+mod Logs
 mod Starts
 mod Mirrors
 mod Steps

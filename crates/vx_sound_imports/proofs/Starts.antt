@@ -26,6 +26,7 @@ use Rattle.vx_sound_volumes.proofs.Parts.{grouped_runs, not_none, some_same}
 use Rattle.vx_sound_volumes.proofs.Running.{found_there}
 use Rattle.vx_sound_volumes.proofs.Stages.{StateLaws}
 use Rattle.vx_sound_imports.specs.Offered.{HaveSoundOffers}
+use Rattle.vx_sound_imports.proofs.Logs.{prepare_wants}
 use Rattle.vx_sound_imports.proofs.Writings.{HasWhole, start_safe, stop_safe}
 use Rattle.vx_sound_imports.proofs.Places.{lent_on_plexes, lent_put}
 use Rattle.vx_sound_imports.proofs.Stages.{Settles, committed_known, imported_away, stopped_settles, whole_before}
@@ -149,6 +150,7 @@ wants_known laws place (stage.Start vol) old new k sound (inl same) = subst IsKn
 wants_known laws place (stage.Start vol) old new k sound (inr (g, v, here, found, may, touched, narrows)) = touched_known g vol old new here touched k
 wants_known laws place (stage.Mirror mirror) old new k sound (inl same) = subst IsKnown (sym same) k
 wants_known laws place (stage.Mirror mirror) old new k sound (inr rest) = rested_known laws place mirror.vol old k sound new rest
+wants_known laws place (stage.Prepare logs) old new k sound wants = prepare_wants old k logs new wants
 wants_known laws place (stage.Stop vol) old new k sound (inl same) = subst IsKnown (sym same) k
 wants_known laws place (stage.Stop vol) old new k sound (inr rest) = rested_known laws place vol old k sound new rest
 wants_known laws place other old new k sound same = subst IsKnown (sym same) k

@@ -10,6 +10,7 @@ use Rattle.vx_image.specs.Soundness.{IsSoundImage}
 use Rattle.vx_config_parts.specs.declared.vol.PolicyName.TheVariants as policy
 use Rattle.vx_config_parts.specs.declared.vol.Vol.{Vol}
 use Rattle.vx_objects.specs.declared.edit.Edit.{Edit}
+use Rattle.vx_new_volumes.specs.declared.logs.NewLogs.{NewLogs}
 use Rattle.vx_new_volumes.specs.declared.mirror.NewPlex.{NewPlex}
 use Rattle.vx_new_volumes.specs.declared.volume.NewVolume.{NewVolume}
 use Rattle.vx_script_words.specs.declared.value.DiskAt.{DiskAt}
@@ -25,7 +26,7 @@ use Rattle.vx_moments.specs.Holding.{IsMemberDevice}
 use Rattle.vx_moments.specs.Leaving.{group_gone}
 use Rattle.vx_moments.specs.Moment.{Moment}
 use Rattle.vx_moments.specs.World.{Group, Volume, World}
-use Rattle.vx_plans.specs.Plans.{new_volume, plan_of}
+use Rattle.vx_plans.specs.Plans.{new_logs, new_volume, plan_of}
 use Rattle.vx_plans.specs.Steps.{DoesForm, DoesPlan, IsNotBuilt, Runs, done}
 use Rattle.vx_stages.specs.Ends.{IsChange}
 use Rattle.vx_stages.specs.Records.{devices_of}
@@ -61,6 +62,7 @@ use Rattle.vx_sound_imports.proofs.Writings.{HasWhole, change_safe, create_safe,
 use Rattle.vx_sound_imports.proofs.Leading.{leading_read}
 use Rattle.vx_sound_imports.proofs.Nexts.{IsSafe}
 use Rattle.vx_sound_imports.proofs.Stages.{IsLostBy, Settles, committed_known, imported_away, leads, stopped_settles, unknown_settles}
+use Rattle.vx_sound_imports.proofs.Logs.{prepare_known, prepare_settles, unprepare_known, unprepare_settles}
 use Rattle.vx_sound_imports.proofs.Mirrors.{mirror_settles}
 use Rattle.vx_sound_imports.proofs.Starts.{start_settles, stop_done_known, stop_settles}
 use Rattle.vx_sound_imports.proofs.Volumes.{IsKnown, call_settles, known_settles, still_settles}
@@ -272,6 +274,14 @@ module _ (laws : StateLaws) (place : ℕ) (views : List View) (end : End) (new :
   mirroring_settles mirror mid k sound runs =
       one_stage (stage.Mirror mirror) [] Nothing mid views end new (λ m is. absurd is) (λ stops. mirror_settles laws place mirror.vol mirror.disks mid end new k sound stops) runs
 
+  preparing_settles : (logs : NewLogs) (mid : Moment) → IsKnown mid.world → Runs [] (stage.Prepare logs ∷ []) Nothing mid views end new → Settles end new.world
+  preparing_settles logs mid k runs =
+      one_stage (stage.Prepare logs) [] Nothing mid views end new (λ m is. prepare_known mid k logs m is) (λ stops. prepare_settles mid k end new logs stops) runs
+
+  unpreparing_settles : (vol : Word) (mid : Moment) → IsKnown mid.world → Runs [] (stage.Unprepare vol ∷ []) Nothing mid views end new → Settles end new.world
+  unpreparing_settles vol mid k runs =
+      one_stage (stage.Unprepare vol) [] Nothing mid views end new (λ m is. unprepare_known mid k vol m is) (λ stops. unprepare_settles mid k end new vol stops) runs
+
   shown_settles : (finish : Finish) (mid : Moment) → IsKnown mid.world → Runs [] [] finish mid views end new → Settles end new.world
   shown_settles finish mid k runs = still_settles end mid.world new.world (ap (λ (m : Moment). m.world) runs.2) k
 
@@ -343,6 +353,13 @@ module _ (laws : StateLaws) (place : ℕ) (old : Moment) (views : List View) (en
       let mirror : NewPlex = record { vol = vol; disks = disks } in
       let calm = stage.Gate (tests.GroupIs dg) ∷ [] in
       at_last calm (stage.Mirror mirror ∷ []) [] Nothing old views end new k (λ mid same t passed runs. mirroring_settles laws place views end new mirror mid t (sound_still mid same) runs) (runs_through calm (stage.Mirror mirror ∷ []) [] Nothing old views end new (refl, tt) does)
+  form_settles dg (form.Prepare vol ndcomirs region) none does =
+      let logs = new_logs vol ndcomirs region in
+      let calm = stage.Gate (tests.GroupIs dg) ∷ [] in
+      at_last calm (stage.Prepare logs ∷ []) [] Nothing old views end new k (λ mid same t passed runs. preparing_settles laws place views end new logs mid t runs) (runs_through calm (stage.Prepare logs ∷ []) [] Nothing old views end new (refl, tt) does)
+  form_settles dg (form.Unprepare vol) none does =
+      let calm = stage.Gate (tests.GroupIs dg) ∷ [] in
+      at_last calm (stage.Unprepare vol ∷ []) [] Nothing old views end new k (λ mid same t passed runs. unpreparing_settles laws place views end new vol mid t runs) (runs_through calm (stage.Unprepare vol ∷ []) [] Nothing old views end new (refl, tt) does)
   form_settles dg (form.Stop vol) none does =
       let calm = stage.Gate (tests.GroupIs dg) ∷ stage.Gate (tests.HasVolume vol) ∷ [] in
       at_last calm (stage.Stop vol ∷ []) [] Nothing old views end new k (λ mid same t passed runs. stopping_settles laws place views end new vol mid t (sound_still mid same) runs) (runs_through calm (stage.Stop vol ∷ []) [] Nothing old views end new (refl, (refl, tt)) does)

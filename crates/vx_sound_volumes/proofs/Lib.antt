@@ -6,6 +6,7 @@ pub mod Named
 mod Lives
 pub mod Running
 pub mod Mirrors
+pub mod Logs
 pub mod Devices
 pub mod Joiners
 pub mod Stages

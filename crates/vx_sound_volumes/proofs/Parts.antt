@@ -170,7 +170,7 @@ others_change place P w devices same k = record {
       record { own = d.own; there = λ m one. subst (λ o. IsSome o) (sym (same m.device (member_device w g m one here))) (d.there m one); apart = d.apart };
 }
 
-stays_there : (Q : ℕ → Type 0) (old new : Option Device) → DeviceStaysBut Q old new → IsSome old → IsSome new
+pub stays_there : (Q : ℕ → Type 0) (old new : Option Device) → DeviceStaysBut Q old new → IsSome old → IsSome new
 stays_there Q None None stays is = is
 stays_there Q None (Some e) stays is = absurd stays
 stays_there Q (Some d) None stays is = absurd stays

@@ -65,7 +65,7 @@ pub fewer_names : (place : ℕ) (w : World) (vol : Word) → Keeps place Every w
 fewer_names place w vol k = record { running = k.running; stopped = λ g here v there other started idle. k.stopped g here v there tt started idle; disks = k.disks }
 
 -- one volume is sound besides the others
-one_more : (place : ℕ) (w : World) (vol : Word) → ((g : Group) → w.group ≡ Some g → (v : Vol) → Contains g.config.volumes v → v.name ≡ vol → is_new v.state ≡ false → grouped (w.volumes v.name) ≡ None → IsSoundImage (image_on w.devices g v)) → Keeps place (Besides vol) w → Keeps place Every w
+pub one_more : (place : ℕ) (w : World) (vol : Word) → ((g : Group) → w.group ≡ Some g → (v : Vol) → Contains g.config.volumes v → v.name ≡ vol → is_new v.state ≡ false → grouped (w.volumes v.name) ≡ None → IsSoundImage (image_on w.devices g v)) → Keeps place (Besides vol) w → Keeps place Every w
 one_more place w vol own k = record {
   running = k.running;
   stopped = λ g here v there of started idle. elim (name_cases v.name vol) [

@@ -29,6 +29,7 @@ use Rattle.vx_sound_volumes.proofs.Changes.{change_kept, change_stops}
 use Rattle.vx_sound_volumes.proofs.Commits.{commit_stops}
 use Rattle.vx_sound_volumes.proofs.Devices.{bare_kept, image_kept, wipe_kept}
 use Rattle.vx_sound_volumes.proofs.Joiners.{create_done, create_stops, import_done, import_stops, join_done}
+use Rattle.vx_sound_volumes.proofs.Logs.{prepare_done, prepare_ends, prepare_wants, unprepare_done, unprepare_ends}
 use Rattle.vx_sound_volumes.proofs.Mirrors.{mirror_ends}
 use Rattle.vx_sound_volumes.proofs.Named.{change_back, make_back}
 use Rattle.vx_sound_volumes.proofs.Parts.{Every, Keeps, group_goes, some_same}
@@ -88,6 +89,8 @@ module _ (laws : StateLaws) (place : ℕ) (old new : Moment) (k : Keeps place Ev
   stage_done stage.LetGo disks needs brings (gone, counts) = subst (Keeps place Every) (sym gone) (group_goes place old.world)
   stage_done (stage.Start vol) disks needs brings is = absurd is
   stage_done (stage.Mirror mirror) disks needs brings is = absurd is
+  stage_done (stage.Prepare logs) disks needs brings is = prepare_done place old k logs new is
+  stage_done (stage.Unprepare vol) disks needs brings is = unprepare_done place old k vol new is
   stage_done (stage.Stop vol) disks needs brings is = stop_done place vol old k laws.stop_restates laws.stop_keeps new is
   stage_done other disks needs brings is = same_kept (kept_world other disks old new refl is)
 
@@ -138,6 +141,8 @@ module _ (laws : StateLaws) (place : ℕ) (old new : Moment) (k : Keeps place Ev
   stage_stops stage.LetGo disks end needs stops = absurd stops
   stage_stops (stage.Start vol) disks end needs stops = start_ends laws.start_restates laws.start_keeps place old end new k vol stops
   stage_stops (stage.Mirror mirror) disks end needs stops = mirror_ends place mirror.vol mirror.disks old k end new stops
+  stage_stops (stage.Prepare logs) disks end needs stops = prepare_ends place old k end new logs stops
+  stage_stops (stage.Unprepare vol) disks end needs stops = unprepare_ends place old k end new vol stops
   stage_stops (stage.Stop vol) disks end needs stops = stop_ends place vol old k end new stops
   stage_stops other disks end needs stops = calm_ends other disks end refl stops
 
@@ -148,6 +153,7 @@ stage_wants place (stage.Start vol) old new k (inl same) = subst (Keeps place Ev
 stage_wants place (stage.Start vol) old new k (inr (g, v, here, found, may, touched, narrows)) = start_wants place old new vol g v here found touched narrows k
 stage_wants place (stage.Mirror mirror) old new k (inl same) = subst (Keeps place Every) (sym same) k
 stage_wants place (stage.Mirror mirror) old new k (inr rest) = rested place mirror.vol old k new rest
+stage_wants place (stage.Prepare logs) old new k wants = prepare_wants place old k logs new wants
 stage_wants place (stage.Stop vol) old new k (inl same) = subst (Keeps place Every) (sym same) k
 stage_wants place (stage.Stop vol) old new k (inr rest) = rested place vol old k new rest
 stage_wants place other old new k same = subst (Keeps place Every) (sym same) k

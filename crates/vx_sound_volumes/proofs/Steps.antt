@@ -92,6 +92,8 @@ module _ (dg : Option Word) (w : World) (end : End) (new : World) where
   plan_ready (form.DiskUnsetup device) brings = (refl, λ free. (refl, λ t. (free, λ e. tt)))
   plan_ready (form.Start vol) brings = (refl, λ t. (refl, λ t. (refl, λ t. (tt, λ e. tt))))
   plan_ready (form.Mirror vol disks) brings = (refl, λ t. (tt, λ e. tt))
+  plan_ready (form.Prepare vol ndcomirs region) brings = (refl, λ t. (tt, λ e. tt))
+  plan_ready (form.Unprepare vol) brings = (refl, λ t. (tt, λ e. tt))
   plan_ready (form.Stop vol) brings = (refl, λ t. (refl, λ t. (tt, λ e. tt)))
   plan_ready (form.PrintM vol) brings = print_ready vol
   plan_ready (form.Rdpol vol how) brings = policy_ready vol how

@@ -13,5 +13,7 @@ pub mod Recorded
 pub mod Starting
 pub mod Stopping
 pub mod Mirrored
+pub mod Logging
+pub mod Logged
 pub mod Stages
 pub mod Logs

@@ -30,6 +30,7 @@ use Rattle.vx_moments.specs.Commit.{Writing}
 use Rattle.vx_stages.specs.Ends.{fault_of, lost, refused, IsChange, RefusedAsGrown, RefusedAsLong, CommitsBy, EndsIn, StopsBy}
 use Rattle.vx_stages.specs.Finding.{Found, Finds, group_found, import_records, import_sectors}
 use Rattle.vx_stages.specs.Making.{adding_refusal, is_started}
+use Rattle.vx_stages.specs.Logged.{IsPrepared, IsUnprepared, PrepareStops, PrepareWants, UnprepareStops}
 use Rattle.vx_stages.specs.Mirrored.{MirrorStops, MirrorWants}
 use Rattle.vx_stages.specs.Records.{devices_of, sectors_at, disk_record, member_at, next_slot, new_records, new_members}
 use Rattle.vx_stages.specs.Refusals.{refusal_from}
@@ -255,6 +256,8 @@ IsDone (stage.Import dg) disks old new = (old.world.group ≡ None) × (mid : Mo
 IsDone stage.LetGo disks old new = (new.world ≡ group_gone old.world) × (new.counts ≡ old.counts)
 IsDone (stage.Start vol) disks old new = ⊥
 IsDone (stage.Mirror mirror) disks old new = ⊥
+IsDone (stage.Prepare logs) disks old new = IsPrepared logs old new
+IsDone (stage.Unprepare vol) disks old new = IsUnprepared vol old new
 IsDone (stage.Stop vol) disks old new = IsStopDone vol old new
 
 -- a device in hand ends the command: it has failed, or its power is gone
@@ -329,11 +332,14 @@ Stops (stage.Import dg) disks old end new =
 Stops stage.LetGo disks old end new = ⊥
 Stops (stage.Start vol) disks old end new = StartStops vol old end new
 Stops (stage.Mirror mirror) disks old end new = MirrorStops mirror.vol mirror.disks old end new
+Stops (stage.Prepare logs) disks old end new = PrepareStops logs old end new
+Stops (stage.Unprepare vol) disks old end new = UnprepareStops vol old end new
 Stops (stage.Stop vol) disks old end new = StopStops vol old end new
 
 -- what want of memory leaves of a stage: the world as it was, but where devices of a volume were called before
 abbrev pub Wants : Stage → Moment → Moment → Type 0
 Wants (stage.Start vol) old new = StartWants vol old new
 Wants (stage.Mirror mirror) old new = MirrorWants mirror.vol old new
+Wants (stage.Prepare logs) old new = PrepareWants logs old new
 Wants (stage.Stop vol) old new = StopWants vol old new
 Wants other old new = new.world ≡ old.world

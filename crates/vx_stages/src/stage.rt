@@ -1,7 +1,7 @@
 use crate::Test;
 use vx_config_parts::PolicyName;
 use vx_names::Name;
-use vx_new_volumes::{NewPlex, NewVolume};
+use vx_new_volumes::{NewLogs, NewPlex, NewVolume};
 use vx_script_words::Bytes;
 
 /// A change of the group's configuration.
@@ -61,6 +61,11 @@ pub enum Stage {
     /// The running volume of the imported group gets a mirror: its map is marked, its records are committed, it joins the volume, and is
     /// copied to; this ends the command.
     Mirror(NewPlex),
+    /// The volume of the imported group gets logs: an empty one is written where it was started before, the records are committed, and
+    /// where it runs it goes on with the log.
+    Prepare(NewLogs),
+    /// The volume of the imported group loses its logs by a commit, and where it runs it goes on without one.
+    Unprepare(Name),
     /// The volume of the imported group comes to rest, its states are recorded, and it runs no more.
     Stop(Name),
 }

@@ -26,4 +26,6 @@ world_kept (stage.Import dg) disks m n keeps done = cc
 world_kept stage.LetGo disks m n keeps done = cc
 world_kept (stage.Start vol) disks m n keeps done = cc
 world_kept (stage.Mirror mirror) disks m n keeps done = cc
+world_kept (stage.Prepare logs) disks m n keeps done = cc
+world_kept (stage.Unprepare vol) disks m n keeps done = cc
 world_kept (stage.Stop vol) disks m n keeps done = cc

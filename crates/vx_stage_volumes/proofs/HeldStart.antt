@@ -25,7 +25,6 @@ use Rattle.vx_lending.specs.declared.public.Running.{Running}
 use Rattle.vx_lending.specs.Public.{lent_pieces, remaining_pieces, still_pieces}
 use Rattle.vx_group_start.specs.Fresh.{is_fresh}
 use Rattle.vx_group_start.specs.Laying.{AreStuckVolumes}
-use Rattle.vx_group_start.specs.Together.{GoByLog}
 use Rattle.vx_lending.specs.Form.{IsFormOf}
 use Rattle.vx_group_volumes.specs.Places.{IsSlotOf}
 use Rattle.vx_group_volumes.proofs.Taken.{sector_own}
@@ -142,18 +141,18 @@ module _ {P : Type 0} {ghosts : Ghosts P} (alike : (p q : P) → is_some (ghosts
 
   pub held_at : (m : Moment) → IsMoment see (at shelf h) m → IsTouchedAt see shelf held_house (world_of see g) v.name m
   held_at m is = record {
-    then = n see shelf h g has pieces pieces' held_group on keeps v.name disks opens.numbers slots_are own some_pieces refl held.entries m is;
-    is = moment_now see shelf h g has pieces pieces' held_group on keeps v.name disks opens.numbers slots_are own some_pieces refl held.entries m is;
-    later = counts_are_later see shelf h g has pieces pieces' held_group on keeps v.name disks opens.numbers slots_are own some_pieces refl held.entries m is;
-    touched = touched see shelf h g has pieces pieces' held_group on keeps v.name disks opens.numbers slots_are own some_pieces refl held.entries m is;
+    then = n see shelf h g has pieces pieces' held_group on keeps g.config v.name disks opens.numbers slots_are own some_pieces refl held.entries m is;
+    is = moment_now see shelf h g has pieces pieces' held_group on keeps g.config v.name disks opens.numbers slots_are own some_pieces refl held.entries m is;
+    later = counts_are_later see shelf h g has pieces pieces' held_group on keeps g.config v.name disks opens.numbers slots_are own some_pieces refl held.entries m is;
+    touched = touched see shelf h g has pieces pieces' held_group on keeps g.config v.name disks opens.numbers slots_are own some_pieces refl held.entries m is;
   }
 
   -- the copies of its log have come nearer to one another
   pub held_narrows : HaveNarrowing see → (m : Moment) (is : IsMoment see (at shelf h) m) → Narrows (world_of see g) v m (held_at m is).then
   held_narrows laws m is old =
       let same : is_fresh v.state ≡ false = sym (new_is_fresh v.state) ∙ old in
-      narrows see laws.ends laws.counts shelf h keeps g has public held_keeps m (held_at m is).then is (held_at m is).is v X there opens.numbers opens.are opens.numbered running.form
-      (subst (λ b. IsFormOf g.config (good_of see g) v b running.form) same opens.form) (subst (λ b. GoByLog opens.numbers running.form b (still_pieces see g.public) X) same opens.goes) laws.law
+      narrows see laws.ends laws.counts shelf h keeps g has public held_keeps m (held_at m is).then is (held_at m is).is g.config v X there opens.numbers opens.are opens.numbered running.form
+      (subst (λ b. IsFormOf g.config (good_of see g) v b running.form) same opens.form) (is_fresh v.state) opens.goes same laws.law
     where
       there : SameSectors (X ++ lent_pieces see g.public) (behind_of see public)
       there = subst (λ ps. SameSectors ((held_pieces see running.volume ++ ps) ++ lent_pieces see g.public) (behind_of see public)) same_still (one_held see g public held.entries running held.stuck)

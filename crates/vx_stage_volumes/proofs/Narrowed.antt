@@ -18,6 +18,7 @@ use Rattle.vx_carve.specs.Together.{AreOnce, Holds, SameSectors, covers, has as 
 use Rattle.vx_carve.proofs.Runs.{same_after}
 use Rattle.vx_carve.proofs.Same.{same_beside, same_refl, same_trans}
 use Rattle.vx_config_parts.specs.declared.vol.Vol.{Vol}
+use Rattle.vx_objects.specs.declared.config.Config.{Config}
 use Rattle.vx_copies.specs.Disks.{DiskSeen, disk_seen, good_mask}
 use Rattle.vx_copies.specs.Lists.{AllOf, AnyOf}
 use Rattle.vx_copies.specs.declared.disk.Disk.{Disk}
@@ -30,7 +31,8 @@ use Rattle.vx_fronts.specs.Rests.{AllTell, IsTelling, sector_in}
 use Rattle.vx_fronts.proofs.Behind.{turned}
 use Rattle.vx_fronts.proofs.Parted.{parted_once}
 use Rattle.vx_fronts.proofs.Sectors.{own_told, sector_from, sector_same}
-use Rattle.vx_image.specs.Bytes.{Sectors}
+use Rattle.vx_image.specs.Bytes.{Sectors, log_copies, relation_maps}
+use Rattle.vx_image.specs.Image.{PlexImage}
 use Rattle.vx_image.specs.Narrowing.{IsNarrowed}
 use Rattle.vx_image.specs.Own.{SameInside}
 use Rattle.vx_image.proofs.Narrowing.{narrowed_self}
@@ -51,6 +53,7 @@ use Rattle.vx_group_start.specs.Together.{GoByCopies, GoByLog}
 use Rattle.vx_maps.specs.Creating.{AllTell as EachTells}
 use Rattle.vx_group_start.proofs.Together.{all_hold_as, among, beside, contents as later_contents, copies_told, holding, own}
 use Rattle.vx_group_volumes.specs.LogLaws.{EachCopyNarrows}
+use Rattle.vx_group_volumes.proofs.NearerPlexes.{same_plexes}
 use Rattle.vx_group_volumes.proofs.Taken.{sector_own as taken_sector}
 use Rattle.vx_house.specs.Holders.{AreApart, Holder, IsTakenFrom, group_holders, group_rests, hand_holder, holder_in, volume_holder, whole_members}
 use Rattle.vx_house.specs.Runs.{IsNumbered}
@@ -144,19 +147,20 @@ devices_apart rests (h ∷ hs) apart = (each hs apart.0, devices_apart rests hs 
 
 -- ---- the image
 
--- Pieces of the group that lie still have become others, and lie where they did among all of the group.
+-- Pieces of the group that lie still have become others, and lie where they did among all of the group. The image of the volume is that by its
+-- configuration, or by one that is still to come.
 module _ {P : Type 0} {ghosts : Ghosts P} (see : P → Seen) (ends : (p : P) → EndsThere (see p)) (counts : (p : P) → AreCounts (see p)) (shelf : Shelved) (h : House P ghosts) (keeps : Keeps see (at shelf h)) (g : Imported P ghosts) (has : h.group ≡ Some g)
     (public : Public P ghosts) (keeps' : Keeps see (at shelf (with_group h (record g { public = public })))) (m n : Moment) (is : IsMoment see (at shelf h) m) (is' : IsMoment see (at shelf (with_group h (record g { public = public }))) n)
-    (v : Vol) (X : List Seen) (there : SameSectors (X ++ lent_pieces see g.public) (behind_of see public)) where
+    (c : Config) (v : Vol) (X : List Seen) (there : SameSectors (X ++ lent_pieces see g.public) (behind_of see public)) where
   abbrev now : Imported P ghosts
   now = record g { public = public }
 
   abbrev hs : List DiskSeen
   hs = members see g.base
 
-  -- the group, as the world has it
-  abbrev gm : Group
-  gm = record { config = g.config; good = good_mask hs; members = map member_of g.base.disks.items; sequence = g.base.sequence }
+  -- the group, as the world has it, with that configuration
+  abbrev pub gm : Group
+  gm = record { config = c; good = good_mask hs; members = map member_of g.base.disks.items; sequence = g.base.sequence }
 
   kept : IsGroupKept see g
   kept = subst (λ o. IfSome o (IsGroupKept see)) has keeps.house.group
@@ -165,7 +169,7 @@ module _ {P : Type 0} {ghosts : Ghosts P} (see : P → Seen) (ends : (p : P) →
   abbrev olds : List Seen
   olds = pieces see ends counts (at shelf h) (keeps_but_group see (at shelf h) keeps) m (moment_but_group see (at shelf h) m is) g has
 
-  abbrev news : List Seen
+  abbrev pub news : List Seen
   news = pieces see ends counts (at shelf (with_group h now)) (keeps_but_group see (at shelf (with_group h now)) keeps') n (moment_but_group see (at shelf (with_group h now)) n is') now refl
 
   once : AreOnce olds
@@ -177,7 +181,7 @@ module _ {P : Type 0} {ghosts : Ghosts P} (see : P → Seen) (ends : (p : P) →
   abbrev bytes : Sectors
   bytes = sectors_of m.world.devices gm.members
 
-  abbrev bytes' : Sectors
+  abbrev pub bytes' : Sectors
   bytes' = sectors_of n.world.devices gm.members
 
   were_there : AllOf (λ (x : DiskSeen). (k : ℕ) → public_of (m.world.devices x.device) k ≡ sector_in olds x.seen.device (2048 + k)) hs
@@ -207,17 +211,17 @@ module _ {P : Type 0} {ghosts : Ghosts P} (see : P → Seen) (ends : (p : P) →
   -- the image is what it was
   pub stays : SameSectors (still_pieces see g.public) X → IsNarrowed (image_on m.world.devices gm v) (image_on n.world.devices gm v)
   stays still =
-      subst (λ i. IsNarrowed (image_on m.world.devices gm v) i) (sym (image_own gm.config gm.good v bytes bytes' inside)) (narrowed_self (image_on m.world.devices gm v))
+      subst (λ i. IsNarrowed (image_on m.world.devices gm v) i) (sym (image_own c gm.good v bytes bytes' inside)) (narrowed_self (image_on m.world.devices gm v))
     where
       all_same : SameSectors olds news
       all_same = same_after (fronts_of hs) (behind_of see g.public) (behind_of see public) (same_trans _ _ _ (same_beside (lent_pieces see g.public) (still_pieces see g.public) X still) there)
 
-      inside : SameInside gm.config v.name bytes bytes'
+      inside : SameInside c v.name bytes bytes'
       inside place of = bytes_at place.disk place.sector (λ x one slot. sector_same olds news once told all_same x.seen.device (2048 + place.sector))
 
   -- ---- copies of its log were called
 
-  module _ (numbers : List ℕ) (are : AreSlotNumbers see g numbers) (numbered : AreNumbered numbers (good_of see g) g.config.disks) (form : VolumeForm) (form_is : IsFormOf g.config (good_of see g) v false form) (log : GoByLog numbers form false (still_pieces see g.public) X) where
+  module _ (numbers : List ℕ) (are : AreSlotNumbers see g numbers) (numbered : AreNumbered numbers (good_of see g) c.disks) (form : VolumeForm) (form_is : IsFormOf c (good_of see g) v false form) (made : Bool) (log : GoByLog numbers form made (still_pieces see g.public) X) where
     abbrev called : List Seen
     called = copy_pieces log.copies
 
@@ -283,8 +287,8 @@ module _ {P : Type 0} {ghosts : Ghosts P} (see : P → Seen) (ends : (p : P) →
         by : (b : Bool) → list_any (covers x.seen.device (2048 + sector)) called ≡ b → b ≡ false
         by false e = refl
         by true e =
-            let s = taken_sector g.config (good_of see g) v false form form_is numbers log.copies log.are x.seen.device (2048 + sector) e in
-            let good = slot_is_good (good_of see g) g.config.disks s.slot s.on in
+            let s = taken_sector c (good_of see g) v false form form_is numbers log.copies log.are x.seen.device (2048 + sector) e in
+            let good = slot_is_good (good_of see g) c.disks s.slot s.on in
             let d = at_slot s.slot good in
             let its : HasNumber shelf.held d.disk.device x.seen.device = subst (HasNumber shelf.held d.disk.device) (sym d.number ∙ s.number_is) (all_at_one (λ (y : DiskSeen). HasNumber shelf.held y.device y.seen.device) hs d.disk numbers_taken d.there) in
             let mine = all_at_one (λ (y : DiskSeen). HasNumber shelf.held y.device y.seen.device) hs x numbers_taken one in
@@ -292,10 +296,29 @@ module _ {P : Type 0} {ghosts : Ghosts P} (see : P → Seen) (ends : (p : P) →
             let slots : slot ≡ s.slot = sym slot_is ∙ ap (λ (y : DiskSeen). y.slot) same ∙ d.slot_is in
             absurd (false≢true (sym bad ∙ subst (λ n. has_slot (good_of see g) n ≡ true) (sym slots) good))
 
-    -- the copies of the image have come nearer to one another
-    pub narrows : EachCopyNarrows → IsNarrowed (image_on m.world.devices gm v) (image_on n.world.devices gm v)
+    -- the sectors of good slots are these, before and after, and those of the others stay
+    were_sectors : AreSectorsOf (good_of see g) numbers (sector_in olds) bytes
+    were_sectors = sectors_are m.world.devices hs gm.members (good_of see g) numbers (sector_in olds) were_there numbered_at
+
+    pub are_sectors : AreSectorsOf (good_of see g) numbers (sector_in news) bytes'
+    are_sectors = sectors_are n.world.devices hs gm.members (good_of see g) numbers (sector_in news) are_there numbered_at
+
+    idle : (slot sector : ℕ) → has_slot (good_of see g) slot ≡ false → bytes' slot sector ≡ bytes slot sector
+    idle slot sector bad = bytes_at slot sector (λ x one slot_is. uncovered x.seen.device (2048 + sector) (off_copies slot sector bad x one slot_is))
+
+    -- the copies of the image have come nearer to one another, if the log was loaded
+    pub narrows : made ≡ false → EachCopyNarrows → IsNarrowed (image_on m.world.devices gm v) (image_on n.world.devices gm v)
     unfolding go go_behind among beside
-    narrows law =
-        law g.config (good_of see g) v form form_is numbers are.own numbered log.copies go.later log.are go.cut (log.nearer refl told_copies) (sector_in olds) (sector_in news) both.2 later_hold uncovered bytes bytes'
-        (sectors_are m.world.devices hs gm.members (good_of see g) numbers (sector_in olds) were_there numbered_at) (sectors_are n.world.devices hs gm.members (good_of see g) numbers (sector_in news) are_there numbered_at)
-        (λ slot sector bad. bytes_at slot sector (λ x one slot_is. uncovered x.seen.device (2048 + sector) (off_copies slot sector bad x one slot_is)))
+    narrows loaded law =
+        law c (good_of see g) v form form_is numbers are.own numbered log.copies go.later log.are go.cut (log.nearer loaded told_copies) (sector_in olds) (sector_in news) both.2 later_hold uncovered bytes bytes' were_sectors are_sectors idle
+
+    -- whether it was loaded or made, nothing else of the image has changed, ..
+    pub same_but_log : image_on n.world.devices gm v ≡ record (image_on m.world.devices gm v) { copies = (image_on n.world.devices gm v).copies }
+    same_but_log =
+        ap (λ (ps : List PlexImage). record { state = v.state; length = v.len; region = v.region; plexes = ps; snaps = relation_maps c.snaps v.name; copies = log_copies v.dco c (good_of see g) bytes' v })
+        (same_plexes c (good_of see g) v form form_is numbers are.own numbered log.copies log.are (sector_in olds) (sector_in news) uncovered bytes bytes' were_sectors are_sectors idle)
+
+    -- .. and its copies hold what those that were called do
+    pub hold_then : All (Holds (sector_in news)) (copy_pieces log.go.later)
+    unfolding go go_behind among beside
+    hold_then = later_hold

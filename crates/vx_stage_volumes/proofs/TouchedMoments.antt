@@ -1,4 +1,5 @@
--- The moments of a house of whose group pieces were called that are a volume's: the devices have changed in its sectors alone.
+-- The moments of a house of whose group pieces were called that are a volume's, by this configuration or by one that is still to come: the
+-- devices have changed in its sectors alone.
 use Rattle.std.proofs.Common.{◌≡◌, ◌∙◌, inl, inr, ℕ, Bool, true, false, List, [], ◌∷◌, map, Option, Some, refl, sym, ap, subst}
 use Rattle.std.specs.Prelude.{Contains}
 use Rattle.std.specs.BTreeMap.{is_at}
@@ -13,6 +14,7 @@ use Rattle.vx_piece.specs.Seen.{Seen}
 use Rattle.vx_runs.specs.Run.{SomeCut}
 use Rattle.vx_carve.specs.Together.{HasSome, covers, cut_on, faults_on}
 use Rattle.vx_config_parts.specs.declared.disk.Disk.{Disk}
+use Rattle.vx_objects.specs.declared.config.Config.{Config}
 use Rattle.vx_image.proofs.PlexMembers.{IsIn, in_map}
 use Rattle.vx_image.proofs.Members.{contains}
 use Rattle.vx_copies.specs.Disks.{DiskSeen, good_mask}
@@ -64,11 +66,15 @@ module _ {P : Type 0} {ghosts : Ghosts P} (see : P → Seen) (shelf : Shelved) (
   abbrev pub new : Scene
   new = scene see (at shelf k)
 
-  -- the group, as the world has it
+  -- the group, as the world has it, ..
   abbrev pub gm : Group
   gm = record { config = g.config; good = good_mask (members see g.base); members = map member_of g.base.disks.items; sequence = g.base.sequence }
 
-  module _ (name : Word) (disks : List Disk) (numbers : List ℕ) (opened : (slot : ℕ) → IsSlotOf disks slot → IsNumbered numbers hs gm.members slot) (own : AreOwnSectors g.config name disks numbers pieces) (some : All HasSome pieces)
+  -- .. and with the configuration that says where the volume lies
+  abbrev pub by : Config → Group
+  by c = record { config = c; good = good_mask (members see g.base); members = map member_of g.base.disks.items; sequence = g.base.sequence }
+
+  module _ (c : Config) (name : Word) (disks : List Disk) (numbers : List ℕ) (opened : (slot : ℕ) → IsSlotOf disks slot → IsNumbered numbers hs gm.members slot) (own : AreOwnSectors c name disks numbers pieces) (some : All HasSome pieces)
       (config : now.config ≡ g.config) (running : now.public.running.entries ≡ g.public.running.entries) (m : Moment) (at_m : IsMoment see (at shelf h) m) where
     pub here : m.world.group ≡ Some gm
     here = at_m.group_is ∙ ap (group_of see) has_group
@@ -80,10 +86,10 @@ module _ {P : Type 0} {ghosts : Ghosts P} (see : P → Seen) (shelf : Shelved) (
     ms = numbered see shelf h g has_group pieces pieces' now on keeps
 
     -- a device with the number of one of the pieces is one of its plexes'
-    device_is_own : (d : ℕ) (device : Word) → HasNumber shelf.held device d → list_any (is_of d) pieces ≡ true → IsDeviceOfVolume gm name device
-    device_is_own = device_own hs gm name disks numbers opened shelf.held keeps.devices.numbers ms pieces own some
+    device_is_own : (d : ℕ) (device : Word) → HasNumber shelf.held device d → list_any (is_of d) pieces ≡ true → IsDeviceOfVolume (by c) name device
+    device_is_own = device_own hs (by c) name disks numbers opened shelf.held keeps.devices.numbers ms pieces own some
 
-    disk_step : (o n : DiskSeen) → IsTakenFrom shelf.held (holder_in o) → DiskIsCalled pieces pieces' o n → IsStep (SeenStep gm name) (holder_in o) (holder_in n)
+    disk_step : (o n : DiskSeen) → IsTakenFrom shelf.held (holder_in o) → DiskIsCalled pieces pieces' o n → IsStep (SeenStep (by c) name) (holder_in o) (holder_in n)
     disk_step o n from on = record {
       name = on.goes.device;
       goes = record {
@@ -94,59 +100,59 @@ module _ {P : Type 0} {ghosts : Ghosts P} (see : P → Seen) (shelf : Shelved) (
       };
     }
       where
-        told : (k : ℕ) → (IsSectorOf gm name o.device k → ⊥) → (b : Bool) → list_any (covers o.seen.device k) pieces ≡ b → told_at n.seen.told k ≡ told_at o.seen.told k
-        told k other true e = absurd (other (sector_own hs gm name disks numbers opened shelf.held keeps.devices.numbers ms pieces own o.seen.device o.device (own_number o from) k e))
+        told : (k : ℕ) → (IsSectorOf (by c) name o.device k → ⊥) → (b : Bool) → list_any (covers o.seen.device k) pieces ≡ b → told_at n.seen.told k ≡ told_at o.seen.told k
+        told k other true e = absurd (other (sector_own hs (by c) name disks numbers opened shelf.held keeps.devices.numbers ms pieces own o.seen.device o.device (own_number o from) k e))
         told k other false e = on.goes.told k e
 
-        still : (IsDeviceOfVolume gm name o.device → ⊥) → (b : Bool) → list_any (is_of o.seen.device) pieces ≡ b → SameCounts o.seen n.seen
+        still : (IsDeviceOfVolume (by c) name o.device → ⊥) → (b : Bool) → list_any (is_of o.seen.device) pieces ≡ b → SameCounts o.seen n.seen
         still away true e = absurd (away (device_is_own o.seen.device o.device (own_number o from) e))
         still away false e = on.counts.quiet e
 
-    group_steps : Each (IsStep (SeenStep gm name)) (group_holders see (Some g)) (group_holders see k.group)
+    group_steps : Each (IsStep (SeenStep (by c) name)) (group_holders see (Some g)) (group_holders see k.group)
     group_steps =
-        each_mapped (λ o n. IsStep (SeenStep gm name) (holder_in o) (holder_in n)) (IsStep (SeenStep gm name)) holder_in (λ o n step. step)
+        each_mapped (λ o n. IsStep (SeenStep (by c) name) (holder_in o) (holder_in n)) (IsStep (SeenStep (by c) name)) holder_in (λ o n step. step)
         (whole_members see g) (whole_members see now)
-        (each_first (λ o. IsTakenFrom shelf.held (holder_in o)) (DiskIsCalled pieces pieces') (λ o n. IsStep (SeenStep gm name) (holder_in o) (holder_in n))
+        (each_first (λ o. IsTakenFrom shelf.held (holder_in o)) (DiskIsCalled pieces pieces') (λ o n. IsStep (SeenStep (by c) name) (holder_in o) (holder_in n))
         (λ o n from on. disk_step o n from on)
         (whole_members see g) (whole_members see now) (taken see shelf h g has_group pieces pieces' now on keeps) on.disks)
 
     -- each device goes on
-    steps : Each (IsStep (SeenStep gm name)) (holders see h) (holders see k)
+    steps : Each (IsStep (SeenStep (by c) name)) (holders see h) (holders see k)
     steps =
         let vs = map (volume_holder see) h.volumes.entries in
         let ts = map (hand_holder see) h.hand.items in
-        let self = λ (x : Word) (s : Seen). step_self gm name x s in
-        subst (λ os. Each (IsStep (SeenStep gm name)) os (holders see k)) (sym (were see shelf h g has_group pieces pieces' now on keeps))
-        (each_append (IsStep (SeenStep gm name)) vs vs _ _ (steps_self (SeenStep gm name) self vs)
-        (each_append (IsStep (SeenStep gm name)) (group_holders see (Some g)) (group_holders see k.group) ts ts group_steps (steps_self (SeenStep gm name) self ts)))
+        let self = λ (x : Word) (s : Seen). step_self (by c) name x s in
+        subst (λ os. Each (IsStep (SeenStep (by c) name)) os (holders see k)) (sym (were see shelf h g has_group pieces pieces' now on keeps))
+        (each_append (IsStep (SeenStep (by c) name)) vs vs _ _ (steps_self (SeenStep (by c) name) self vs)
+        (each_append (IsStep (SeenStep (by c) name)) (group_holders see (Some g)) (group_holders see k.group) ts ts group_steps (steps_self (SeenStep (by c) name) self ts)))
 
-    held_step : (x : Word) → HeldStep (SeenStep gm name x) (held_as (holders see h) x) (held_as (holders see k) x)
-    held_step x = held_steps (SeenStep gm name) (holders see h) (holders see k) x steps
+    held_step : (x : Word) → HeldStep (SeenStep (by c) name x) (held_as (holders see h) x) (held_as (holders see k) x)
+    held_step x = held_steps (SeenStep (by c) name) (holders see h) (holders see k) x steps
 
-    place_step : (x : Word) → HeldStep (SeenStep gm name x) (seen_at old x) (seen_at new x)
+    place_step : (x : Word) → HeldStep (SeenStep (by c) name x) (seen_at old x) (seen_at new x)
     place_step x =
-        place_by (SeenStep gm name x) (HeldStep (SeenStep gm name x)) (held_as (holders see h) x) (held_as (holders see k) x) shelf.free x
-        (held_step x) (λ none o. place_self gm name x o) (λ s t step. step)
+        place_by (SeenStep (by c) name x) (HeldStep (SeenStep (by c) name x)) (held_as (holders see h) x) (held_as (holders see k) x) shelf.free x
+        (held_step x) (λ none o. place_self (by c) name x o) (λ s t step. step)
 
     -- the devices of the world: of each that is told what it holds now
     abbrev pub devices : Word → Option Device
     devices x = device_seen (is_lent h x) (seen_at new x) (m.world.devices x)
 
     devices_now : (x : Word) → IsDeviceOf (is_lent h x) (seen_at new x) (devices x)
-    devices_now x = device_now gm name x (is_lent h x) (seen_at old x) (seen_at new x) (m.world.devices x) (place_step x) (at_m.devices_are x)
+    devices_now x = device_now (by c) name x (is_lent h x) (seen_at old x) (seen_at new x) (m.world.devices x) (place_step x) (at_m.devices_are x)
 
-    changes : ChangesOnly gm name m.world.devices devices
-    changes x = device_stays gm name x (is_lent h x) (seen_at old x) (seen_at new x) (m.world.devices x) (place_step x) (at_m.devices_are x)
+    changes : ChangesOnly (by c) name m.world.devices devices
+    changes x = device_stays (by c) name x (is_lent h x) (seen_at old x) (seen_at new x) (m.world.devices x) (place_step x) (at_m.devices_are x)
 
     pub counts_are_later : AreLater m.counts (counts_of new)
-    counts_are_later = steps_counts (SeenStep gm name) (λ x s t step. step.keeps) (holders see h) (holders see k) steps shelf m.counts at_m.counts
+    counts_are_later = steps_counts (SeenStep (by c) name) (λ x s t step. step.keeps) (holders see h) (holders see k) steps shelf m.counts at_m.counts
 
-    calls : CallsOnly gm name m.counts (counts_of new)
+    calls : CallsOnly (by c) name m.counts (counts_of new)
     calls = record {
-      reads = λ x away. count_stays gm name x (λ (s : Seen). s.reads) 0 (λ s t same. same.reads) away (seen_at old x) (seen_at new x) (place_step x) ∙ sym (at_m.counts.reads x);
-      writes = λ x away. count_stays gm name x (λ (s : Seen). s.writes) 0 (λ s t same. same.writes) away (seen_at old x) (seen_at new x) (place_step x) ∙ sym (at_m.counts.writes x);
+      reads = λ x away. count_stays (by c) name x (λ (s : Seen). s.reads) 0 (λ s t same. same.reads) away (seen_at old x) (seen_at new x) (place_step x) ∙ sym (at_m.counts.reads x);
+      writes = λ x away. count_stays (by c) name x (λ (s : Seen). s.writes) 0 (λ s t same. same.writes) away (seen_at old x) (seen_at new x) (place_step x) ∙ sym (at_m.counts.writes x);
       faults = λ x away.
-          faults_by (SeenStep gm name x) (λ a b. b ≡ a) (held_as (holders see h) x) (held_as (holders see k) x) (shelf.counted x) (held_step x) refl (λ s t step. (step.still away).faults)
+          faults_by (SeenStep (by c) name x) (λ a b. b ≡ a) (held_as (holders see h) x) (held_as (holders see k) x) (shelf.counted x) (held_step x) refl (λ s t step. (step.still away).faults)
           ∙ sym (at_m.counts.faults x);
       shelf = sym at_m.counts.shelf;
     }
@@ -159,7 +165,7 @@ module _ {P : Type 0} {ghosts : Ghosts P} (see : P → Seen) (shelf : Shelved) (
     n = moment_at after new
 
     -- nothing but sectors of the volume has changed
-    pub touched : IsTouched gm name m n
+    pub touched : IsTouched (by c) name m n
     touched = record { world = refl; changes = changes; calls = calls }
 
     group_now : group_of see (Some now) ≡ Some gm
@@ -201,7 +207,7 @@ module _ {P : Type 0} {ghosts : Ghosts P} (see : P → Seen) (shelf : Shelved) (
       its_number = all_at_one (λ y. HasNumber shelf.held y.device y.seen.device) hs x ms one
 
       -- a disk that some piece is on is a device of the volume
-      pub disk_own : list_any (is_of x.seen.device) pieces ≡ true → IsDeviceOfVolume gm name x.device
+      pub disk_own : list_any (is_of x.seen.device) pieces ≡ true → IsDeviceOfVolume (by c) name x.device
       disk_own any = device_is_own x.seen.device x.device its_number any
 
       -- where the count of the pieces on it rose, that of the device did
@@ -215,7 +221,7 @@ module _ {P : Type 0} {ghosts : Ghosts P} (see : P → Seen) (shelf : Shelved) (
           ∙ disk_cut see shelf h g has_group pieces pieces' now on keeps x one cut
 
       -- the disk on it is told, and the device
-      pub disk_fault : Rose (faults_on x.seen.device pieces) (faults_on x.seen.device pieces') → FailsOn gm name m.counts (counts_of new) x.name x.device
+      pub disk_fault : Rose (faults_on x.seen.device pieces) (faults_on x.seen.device pieces') → FailsOn (by c) name m.counts (counts_of new) x.name x.device
       disk_fault rose = record {
         member = member_in x;
         there = member_there x one;
@@ -226,12 +232,12 @@ module _ {P : Type 0} {ghosts : Ghosts P} (see : P → Seen) (shelf : Shelved) (
       }
 
     -- where some piece is cut, a device of the volume is
-    pub some_lost : SomeCut pieces' → IsCutOff gm name (counts_of new)
+    pub some_lost : SomeCut pieces' → IsCutOff (by c) name (counts_of new)
     some_lost lost =
-        let c = some_cut_on pieces' lost in
-        let any : list_any (is_of c.0) pieces ≡ true = sym (same_of see shelf h g has_group pieces pieces' now on keeps c.0) ∙ c.1.there in
-        let d = number_disk see shelf h g has_group pieces pieces' now on keeps c.0 any in (
+        let s = some_cut_on pieces' lost in
+        let any : list_any (is_of s.0) pieces ≡ true = sym (same_of see shelf h g has_group pieces pieces' now on keeps s.0) ∙ s.1.there in
+        let d = number_disk see shelf h g has_group pieces pieces' now on keeps s.0 any in (
           d.disk.device,
           disk_own d.disk d.there (subst (λ n. list_any (is_of n) pieces ≡ true) (sym d.number_is) any),
-          disk_is_cut d.disk d.there (subst (λ n. cut_on n pieces' ≡ 1) (sym d.number_is) c.1.cut),
+          disk_is_cut d.disk d.there (subst (λ n. cut_on n pieces' ≡ 1) (sym d.number_is) s.1.cut),
         )

@@ -12,7 +12,6 @@ use Rattle.vx_carve.specs.Together.{HasSome, Holds, SameSectors, cut_on, faults_
 use Rattle.vx_carve.proofs.Same.{same_refl}
 use Rattle.std.specs.Global.{Vec}
 use Rattle.vx_image.specs.Narrowing.{IsNarrowed}
-use Rattle.vx_group_start.specs.Together.{GoByLog}
 use Rattle.vx_group_volumes.specs.LogLaws.{EachCopyNarrows}
 use Rattle.vx_lending.specs.declared.public.Running.{Running}
 use Rattle.vx_config_parts.specs.declared.disk.Disk.{Disk}
@@ -178,20 +177,20 @@ module _ {P : Type 0} {ghosts : Ghosts P} (see : P → Seen) (alike : (p q : P) 
 
     -- the moment that follows
     abbrev pub n : Moment
-    n = next see shelf h g has t.pieces t.later now on keeps v.name t.disks t.numbers t.opened t.own some_pieces refl t.touched.running m is
+    n = next see shelf h g has t.pieces t.later now on keeps g.config v.name t.disks t.numbers t.opened t.own some_pieces refl t.touched.running m is
 
     pub is_next : IsMoment see (at shelf k) n
     is_next =
-        moment_now see shelf h g has t.pieces t.later now on keeps v.name t.disks t.numbers t.opened t.own some_pieces refl t.touched.running m is
+        moment_now see shelf h g has t.pieces t.later now on keeps g.config v.name t.disks t.numbers t.opened t.own some_pieces refl t.touched.running m is
 
     pub comes_later : AreLater m.counts n.counts
     comes_later =
-        counts_are_later see shelf h g has t.pieces t.later now on keeps v.name t.disks t.numbers t.opened t.own some_pieces refl
+        counts_are_later see shelf h g has t.pieces t.later now on keeps g.config v.name t.disks t.numbers t.opened t.own some_pieces refl
         t.touched.running m is
 
     pub is_touched : IsTouched gm v.name m n
     is_touched =
-        touched see shelf h g has t.pieces t.later now on keeps v.name t.disks t.numbers t.opened t.own some_pieces refl t.touched.running m is
+        touched see shelf h g has t.pieces t.later now on keeps g.config v.name t.disks t.numbers t.opened t.own some_pieces refl t.touched.running m is
 
     -- the copies of its log have come nearer to one another, or nothing was called
     pub narrows_to : EachCopyNarrows → Narrows gm v m n
@@ -199,8 +198,8 @@ module _ {P : Type 0} {ghosts : Ghosts P} (see : P → Seen) (alike : (p q : P) 
       | inl (wants, same) ↦ stay (subst (λ ps. SameSectors still ps) (sym same) (same_refl still))
       | inr (fault, told, refused) ↦ elim refused.comes [
         | inl still_same ↦ stay still_same
-        | inr (form, form_is, log) ↦ narrows see ends counts shelf h keeps g has g'.public keeps_on m n is is_next v still' lie_there refused.numbers refused.are refused.numbered form
-            (subst (λ b. IsFormOf g.config (good_of see g) v b form) fresh form_is) (subst (λ b. GoByLog refused.numbers form b still still') fresh log) law
+        | inr (form, form_is, log) ↦ narrows see ends counts shelf h keeps g has g'.public keeps_on m n is is_next g.config v still' lie_there refused.numbers refused.are refused.numbered form
+            (subst (λ b. IsFormOf g.config (good_of see g) v b form) fresh form_is) (is_fresh v.state) log fresh law
       ]
     ]
       where
@@ -211,7 +210,7 @@ module _ {P : Type 0} {ghosts : Ghosts P} (see : P → Seen) (alike : (p q : P) 
         lie_there = all_still see g g'.public (λ i. (unopened.same.running i).entries) (ap (λ (s : Vec (Running P ghosts)). s.items) unopened.same.stuck)
 
         stay : SameSectors still still' → IsNarrowed (image_on m.world.devices gm v) (image_on n.world.devices gm v)
-        stay same = stays see ends counts shelf h keeps g has g'.public keeps_on m n is is_next v still' lie_there same
+        stay same = stays see ends counts shelf h keeps g has g'.public keeps_on m n is is_next g.config v still' lie_there same
 
     -- ---- a device that failed, or has no power
 
@@ -226,7 +225,7 @@ module _ {P : Type 0} {ghosts : Ghosts P} (see : P → Seen) (alike : (p q : P) 
         let o = log_disk numbers are form form_is number log.copies log.are.taken log.own in
         record {
           member = member_in x.disk;
-          there = member_there see shelf h g has t.pieces t.later now on keeps v.name t.disks t.numbers t.opened t.own some_pieces refl
+          there = member_there see shelf h g has t.pieces t.later now on keeps g.config v.name t.disks t.numbers t.opened t.own some_pieces refl
               t.touched.running m is x.disk x.there;
           device_is = x.device_is;
           disk_is = x.name_is;

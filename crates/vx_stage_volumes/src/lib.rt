@@ -15,6 +15,7 @@ mod starting;
 mod stopping;
 
 pub use disks::have_disks;
+pub use naming::unopened;
 pub use numbering::numbers_of;
 pub use opening::prepare;
 pub use resting::told;

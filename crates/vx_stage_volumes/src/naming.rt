@@ -52,12 +52,7 @@ fn lost(alloc: Global) -> End
 }
 
 /// How a start ends whose volume is not opened.
-pub(crate) fn unopened<P: Piece>(
-    alloc: Global,
-    disks: &[Disk<P>],
-    vol: Name,
-    fault: StartFault,
-) -> Stop
+pub fn unopened<P: Piece>(alloc: Global, disks: &[Disk<P>], vol: Name, fault: StartFault) -> Stop
     ensures { result ≡ unopened P.seen disks.now vol fault }
 {
     match fault {

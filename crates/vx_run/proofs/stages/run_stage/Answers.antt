@@ -58,3 +58,9 @@ returns-in-Stop g c = record { goes = rw c.in-Stop.is (stage_ends g.S.P.Piece.se
 
 pub returns-in-Mirror : goal.returns-in-Mirror
 returns-in-Mirror g c = record { goes = rw c.in-Mirror.is (stage_ends g.S.P.Piece.seen c.args.disks.now _ _ _ _ (c.mirror.ensures.goes c.args.disks.now (shelved g.S.Shelf.free g.S.Shelf.held g.S.Shelf.counted g.S.Shelf.faults c.args.shelf.now) (rw c.in-Mirror.is at c.requires.ready) c.requires.keeps.devices)) }
+
+pub returns-in-Prepare : goal.returns-in-Prepare
+returns-in-Prepare g c = record { goes = rw c.in-Prepare.is (stage_ends g.S.P.Piece.seen c.args.disks.now _ _ _ _ (c.prepare.ensures.goes c.args.disks.now (shelved g.S.Shelf.free g.S.Shelf.held g.S.Shelf.counted g.S.Shelf.faults c.args.shelf.now) (rw c.in-Prepare.is at c.requires.ready) c.requires.keeps.devices)) }
+
+pub returns-in-Unprepare : goal.returns-in-Unprepare
+returns-in-Unprepare g c = record { goes = rw c.in-Unprepare.is (stage_ends g.S.P.Piece.seen c.args.disks.now _ _ _ _ (c.unprepare.ensures.goes c.args.disks.now (shelved g.S.Shelf.free g.S.Shelf.held g.S.Shelf.counted g.S.Shelf.faults c.args.shelf.now) (rw c.in-Unprepare.is at c.requires.ready) c.requires.keeps.devices)) }

@@ -1,0 +1,6 @@
+pub mod Planned
+pub mod Next
+pub mod Making
+pub mod Relogging
+pub mod Ending
+pub mod Moments

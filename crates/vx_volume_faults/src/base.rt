@@ -2,7 +2,7 @@
 use crate::trial::run_on;
 use std::alloc::{AllocError, Global};
 use vx_volume_judge::{
-    Candidates, Finding, Known, PRIVATE, REGION, Records, Step, VolumeState, take_all,
+    Candidates, Finding, Form, Known, PRIVATE, REGION, Records, Step, VolumeState, take_all,
 };
 
 /// The blocks of the volume.
@@ -74,10 +74,10 @@ impl Base {
 /// stopped once; and ACTIVE, started, written and left.
 #[derive(Drop)]
 pub struct Bases {
-    /// The records of the volume.
-    records: String,
-    /// Those that it has with a mirror; where it gets none they are empty.
-    mirrored: String,
+    /// The records that the volume may have; it begins with the first.
+    texts: Vec<String>,
+    /// The form in which it begins.
+    pub form: Form,
     none: Images,
     empty: Images,
     clean: Images,
@@ -85,18 +85,20 @@ pub struct Bases {
 }
 
 impl Bases {
-    /// The bases of a group with these records, and what they are with a mirror.
-    pub fn make(alloc: Global, records: String, mirrored: String) -> Result<Bases, Finding> {
+    /// The bases of a volume that may have these records, and begins with the first.
+    pub fn make(alloc: Global, texts: Vec<String>) -> Result<Bases, Finding> {
+        let records = texts.first().ok_or(Finding::Records)?.as_str();
+        let form = Form::read(alloc, records)?;
         let none = after(alloc, &blank(alloc)?, TO_GROUP, GROUPED)?;
         let script = format!(in alloc;
             "vxdg import dg\nvxmake -d\n{records}end\nvxdg deport dg\n"
         )?;
         let empty = after(alloc, &none, script.as_str(), "ok\nok\nok\n")?;
-        let clean = after(alloc, &empty, TO_CLEAN, cleaned(records.as_str()))?;
+        let clean = after(alloc, &empty, TO_CLEAN, cleaned(form))?;
         let active = after(alloc, &clean, TO_ACTIVE, STARTED)?;
         Ok(Bases {
-            records,
-            mirrored,
+            texts,
+            form,
             none,
             empty,
             clean,
@@ -107,8 +109,7 @@ impl Bases {
     /// The records that the volume may have.
     pub fn records(&self) -> Records<'_> {
         Records {
-            first: self.records.as_str(),
-            mirrored: self.mirrored.as_str(),
+            texts: self.texts.as_slice(),
         }
     }
 
@@ -123,17 +124,17 @@ impl Bases {
     }
 }
 
-fn cleaned(records: &str) -> &'static str {
-    if records.contains("plex v-02") {
+fn cleaned(form: Form) -> &'static str {
+    if form.mirrored {
         CLEANED
     } else {
         CLEANED_ALONE
     }
 }
 
-/// What is known of the volume as a trial begins: it holds what its lowest plex was full of, which is on the disk, and what was written
-/// to it. One that is not recorded will hold the same.
-pub fn known(alloc: Global, from: Base, disk: &str) -> Result<Known, Finding> {
+/// What is known of the volume of this form as a trial begins: it holds what its lowest plex was full of, which is on the disk, and what was
+/// written to it. One that is not recorded will hold the same.
+pub fn known(alloc: Global, from: Base, form: Form, disk: &str) -> Result<Known, Finding> {
     let lowest = if disk == "disk02" { OTHER } else { LOWEST };
     let mut bytes = Vec::new(alloc);
     for block in 0..LENGTH {
@@ -141,16 +142,16 @@ pub fn known(alloc: Global, from: Base, disk: &str) -> Result<Known, Finding> {
     }
     let candidates = Candidates::new(alloc, bytes.as_slice())?;
     match from {
-        Base::NoVolume => Ok(Known::new(None, candidates)),
-        Base::Empty => Ok(Known::new(Some(VolumeState::Empty), candidates)),
-        Base::Clean => Ok(Known::new(Some(VolumeState::Clean), candidates)),
-        Base::Active => started(alloc, candidates),
+        Base::NoVolume => Ok(Known::new(None, form, candidates)),
+        Base::Empty => Ok(Known::new(Some(VolumeState::Empty), form, candidates)),
+        Base::Clean => Ok(Known::new(Some(VolumeState::Clean), form, candidates)),
+        Base::Active => started(alloc, form, candidates),
     }
 }
 
 /// What is known of the volume once it was started, written and left.
-fn started(alloc: Global, candidates: Candidates) -> Result<Known, Finding> {
-    let mut known = Known::new(Some(VolumeState::Clean), candidates);
+fn started(alloc: Global, form: Form, candidates: Candidates) -> Result<Known, Finding> {
+    let mut known = Known::new(Some(VolumeState::Clean), form, candidates);
     let steps = steps_of(alloc, TO_ACTIVE)?;
     take_all(&mut known, steps.as_slice(), STARTED)?;
     known.end();

@@ -2,16 +2,24 @@
 use crate::base::{Base, Bases, Images, LOG, copy, known, slices, steps_of};
 use std::alloc::{AllocError, Global};
 use vx_volume_judge::{
-    Finding, Known, PRIVATE, Records, cut, decimal, hexadecimal, judge, take_all,
+    Finding, Form, Known, PRIVATE, VolumeState, cut, decimal, hexadecimal, judge, take_all,
 };
 
-/// What gives a volume a mirror, and the answers.
-const TO_MIRROR: &str = "vxdg import dg\nvxvol start v\nvxassist mirror v\n";
+/// What imports the group, what starts the volume behind that, and the answers.
+const TO_GROUP: &str = "vxdg import dg\n";
 
-const MIRRORED: &str = "ok\nok copied 0\nok copied 3\n";
+const GROUPED: &str = "ok\n";
 
-/// The word that stands for a mirror.
-const MIRROR: &str = "MIRROR";
+const TO_START: &str = "vxdg import dg\nvxvol start v\n";
+
+const STARTED: &str = "ok\nok copied 0\n";
+
+/// What gives the volume a mirror, or logs, what takes them away, and the answers.
+const MIRROR: (&str, &str) = ("vxassist mirror v", "ok copied 3");
+
+const LOGS: (&str, &str) = ("vxsnap prepare v", "ok");
+
+const NO_LOGS: (&str, &str) = ("vxsnap unprepare v", "ok");
 
 /// Images in a state, with what is known of them.
 #[derive(Drop)]
@@ -19,14 +27,11 @@ struct Case {
     title: String,
     images: Images,
     known: Known,
-    /// Whether the records are those that the volume has with a mirror.
-    has_mirror: bool,
 }
 
 /// The lines that tell of each case of a file whether the judge finds of it what it has to. The file has for each case a line
-/// `case STATE TITLE`, then its changes, or a line `known STATE` where another state is known, a line `known MIRROR` where it was answered
-/// then that a mirror is done, a line `records MIRROR` where the records are those with a mirror, and a line `wanted TEXT`: what is found,
-/// or `nothing`.
+/// `case STATE TITLE`, then its changes, or lines `known WORD` where something else is known, and a line `wanted TEXT`: what is found, or
+/// `nothing`.
 pub fn told(alloc: Global, bases: &Bases, text: &str) -> Result<Vec<String>, Finding> {
     let mut told = Vec::new(alloc);
     let mut case = begun(alloc, bases, "CLEAN ")?;
@@ -37,9 +42,7 @@ pub fn told(alloc: Global, bases: &Bases, text: &str) -> Result<Vec<String>, Fin
         match word {
             "case" => case = begun(alloc, bases, rest)?,
             "wanted" => told.push(case.told(alloc, bases, rest)?)?,
-            "known" if rest == MIRROR => case.take_mirror(alloc)?,
-            "records" if rest == MIRROR => case.has_mirror = true,
-            "known" => case.known = known_in(alloc, rest)?,
+            "known" => case.know(alloc, bases, rest)?,
             _ => {
                 if case.change(alloc, word, rest)?.is_none() {
                     return Err(Finding::Answer(number));
@@ -57,23 +60,26 @@ fn begun(alloc: Global, bases: &Bases, words: &str) -> Result<Case, Finding> {
     Ok(Case {
         title: String::from_str(alloc, title)?,
         images: copy(alloc, bases.of(from))?,
-        known: known_in(alloc, state)?,
-        has_mirror: false,
+        known: known_in(alloc, bases, state)?,
     })
 }
 
 /// What is known of the volume in this state.
-fn known_in(alloc: Global, state: &str) -> Result<Known, Finding> {
+fn known_in(alloc: Global, bases: &Bases, state: &str) -> Result<Known, Finding> {
     let from = Base::read(state).ok_or(Finding::Records)?;
-    known(alloc, from, "disk01")
+    known(alloc, from, bases.form, "disk01")
+}
+
+/// The form, with logs or without.
+fn logged(form: Form, logged: bool) -> Form {
+    Form { logged, ..form }
 }
 
 impl Case {
     /// The line of the case.
     fn told(&self, alloc: Global, bases: &Bases, wanted: &str) -> Result<String, Finding> {
         let images = slices(alloc, &self.images)?;
-        let records = self.records(bases);
-        let found = match judge(alloc, images.as_slice(), records, &self.known) {
+        let found = match judge(alloc, images.as_slice(), bases.records(), &self.known) {
             Ok(_) => String::from_str(alloc, "nothing")?,
             Err(finding) => format!(in alloc; "{finding}")?,
         };
@@ -84,23 +90,41 @@ impl Case {
         }
     }
 
-    /// The records of the bases, as those that the volume begins with or as those that it has with a mirror.
-    fn records<'b>(&self, bases: &'b Bases) -> Records<'b> {
-        let records = bases.records();
-        if self.has_mirror {
-            Records {
-                first: "",
-                mirrored: records.first,
+    /// What is known: `known STATE` the volume in another state, `known ALONE` that it has one plex, `known MIRROR` that a mirror of it was
+    /// answered to be done, `known LOGS` and `known NO_LOGS` that it was answered that it got logs or lost them.
+    fn know(&mut self, alloc: Global, bases: &Bases, word: &str) -> Result<(), Finding> {
+        let form = bases.form;
+        let alone = Form {
+            mirrored: false,
+            ..form
+        };
+        match word {
+            "ALONE" => {
+                self.known.find(alone);
+                Ok(())
             }
-        } else {
-            records
+            "MIRROR" => self.answered(alloc, alone, MIRROR),
+            "LOGS" => self.answered(alloc, logged(form, false), LOGS),
+            "NO_LOGS" => self.answered(alloc, logged(form, true), NO_LOGS),
+            _ => {
+                self.known = known_in(alloc, bases, word)?;
+                Ok(())
+            }
         }
     }
 
-    /// It was answered that a mirror is done.
-    fn take_mirror(&mut self, alloc: Global) -> Result<(), Finding> {
-        let steps = steps_of(alloc, TO_MIRROR)?;
-        take_all(&mut self.known, steps.as_slice(), MIRRORED)?;
+    /// A line was answered so, of the volume in a form before it; where it may run, behind a start.
+    fn answered(&mut self, alloc: Global, before: Form, line: (&str, &str)) -> Result<(), Finding> {
+        let (head, answers) = if self.known.may_be(VolumeState::Active) {
+            (TO_START, STARTED)
+        } else {
+            (TO_GROUP, GROUPED)
+        };
+        let script = format!(in alloc; "{head}{}\n", line.0)?;
+        let answers = format!(in alloc; "{answers}{}\n", line.1)?;
+        self.known.find(before);
+        let steps = steps_of(alloc, script.as_str())?;
+        take_all(&mut self.known, steps.as_slice(), answers.as_str())?;
         self.known.end();
         Ok(())
     }

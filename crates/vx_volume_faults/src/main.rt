@@ -1,5 +1,5 @@
-//! A volume of two plexes, or of one that gets a mirror, is started, written, read, stopped and imported beside a fault that is moved along
-//! all device calls, and while the power goes at each of them. What each run leaves is read by the formats alone, and judged by the
+//! A volume of two plexes, or of one that gets a mirror or logs, is started, written, read, stopped and imported beside a fault that is moved
+//! along all device calls, and while the power goes at each of them. What each run leaves is read by the formats alone, and judged by the
 //! definitions.
 #![tactic(auto)]
 
@@ -9,6 +9,7 @@ mod clock;
 mod cut_piece;
 mod cut_shelf;
 mod later;
+mod next;
 mod power;
 mod scenario;
 mod sweep;
@@ -20,34 +21,37 @@ use scenario::Scenario;
 use std::rt::Files;
 use std::{env, fs, io};
 use sweep::{Part, Place, sweep};
-use vx_volume_judge::Finding;
+use vx_volume_judge::{Finding, cut};
 
 /// The kinds of faults.
 const FAULTS: [(bool, bool); 4] = [(true, false), (true, true), (false, false), (false, true)];
 
-/// Tries the images of the file that the first word names, over the records of the second, and the scenarios of the files that the
-/// others name, in order.
+/// Tries the images or the scenario of each file that the words name, in order.
 fn main(rt: HostRuntime) -> io::Result<()> {
-    let mut files = env::args(&rt)?.skip(1);
-    if let (Some(cases), Some(records)) = (files.next(), files.next()) {
-        try_cases(&rt, cases.as_str(), records.as_str())?;
-    }
-    for file in files {
-        try_file(&rt, file.as_str())?;
+    for file in env::args(&rt)?.skip(1) {
+        if file.as_str().ends_with(".cases") {
+            try_cases(&rt, file.as_str())?;
+        } else {
+            try_file(&rt, file.as_str())?;
+        }
     }
     Ok(())
 }
 
-fn try_cases<R: Files + AllocGlobal + Print>(rt: &R, cases: &str, records: &str) -> io::Result<()> {
-    let records = fs::read_to_string(rt, records)?;
-    let cases = fs::read_to_string(rt, cases)?;
-    let told = match Bases::make(rt.alloc(), records, String::new(rt.alloc())) {
-        Ok(bases) => case::told(rt.alloc(), &bases, cases.as_str()),
+/// The first line of the file names that of the records.
+fn try_cases<R: Files + AllocGlobal + Print>(rt: &R, file: &str) -> io::Result<()> {
+    let text = fs::read_to_string(rt, file)?;
+    let (head, cases) = cut(text.as_str(), '\n').unwrap_or(("", ""));
+    let name = head.strip_prefix("records ").unwrap_or("");
+    let mut texts = Vec::new(rt.alloc());
+    texts.push(fs::read_to_string(rt, name)?)?;
+    let told = match Bases::make(rt.alloc(), texts) {
+        Ok(bases) => case::told(rt.alloc(), &bases, cases),
         Err(finding) => Err(finding),
     };
     match told {
         Ok(lines) => tell_all(rt, &lines),
-        Err(finding) => println!(rt; "the images: {finding}"),
+        Err(finding) => println!(rt; "{file}: {finding}"),
     }
 }
 
@@ -64,13 +68,11 @@ fn try_file<R: Files + AllocGlobal + Print>(rt: &R, file: &str) -> io::Result<()
         Ok(scenario) => scenario,
         Err(finding) => return println!(rt; "{file}: {finding}"),
     };
-    let records = fs::read_to_string(rt, scenario.records.as_str())?;
-    let mirrored = if scenario.has_mirror() {
-        fs::read_to_string(rt, scenario.mirrored.as_str())?
-    } else {
-        String::new(rt.alloc())
-    };
-    let bases = match Bases::make(rt.alloc(), records, mirrored) {
+    let mut texts = Vec::new(rt.alloc());
+    for name in &scenario.records {
+        texts.push(fs::read_to_string(rt, name.as_str())?)?;
+    }
+    let bases = match Bases::make(rt.alloc(), texts) {
         Ok(bases) => bases,
         Err(finding) => return println!(rt; "{file}: {finding}"),
     };

@@ -67,7 +67,7 @@ fn try_clock(
     let ran = run_until(alloc, images.as_slice(), clock, scenario.script.as_str())?;
     judge_status(ran.answers(), ran.status)?;
     judge_answers(scenario, clock.is_gone(), ran.answers())?;
-    let mut known = known(alloc, scenario.from, scenario.lowest())?;
+    let mut known = known(alloc, scenario.from, bases.form, scenario.lowest())?;
     take_all(&mut known, scenario.steps.as_slice(), ran.answers())?;
     go_on(alloc, bases, scenario, &ran, &mut known)?;
     if clock.is_gone() {

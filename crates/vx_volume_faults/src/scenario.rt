@@ -6,11 +6,9 @@ use vx_volume_judge::{Command, Finding, Step, cut, decimal};
 #[derive(Drop)]
 pub struct Scenario {
     pub title: String,
-    /// The file of the volume's records.
-    pub records: String,
-    /// The file of its records with a mirror; where it gets none it is empty.
-    pub mirrored: String,
-    /// The disk of the only copy of the log; with two copies or none it is empty.
+    /// The files of the records that the volume may have; it begins with the first.
+    pub records: Vec<String>,
+    /// The disk of the only copy of the log that it has or is to have; with two copies or none it is empty.
     pub only_log: String,
     /// The disk of the only plex that there is before a mirror; with two plexes it is empty.
     pub only_plex: String,
@@ -20,25 +18,32 @@ pub struct Scenario {
     pub script: String,
     /// The line that makes the volume; where it is recorded first it is empty.
     pub making: String,
+    /// The line that gives it a mirror; where none does it is empty.
+    pub mirroring: String,
+    /// The last line that gives it logs, or takes them away, and whether it comes before a start; where none does it is empty.
+    pub logging: String,
+    pub logs_first: bool,
     /// The answers where nothing fails.
     pub wanted: String,
 }
 
 impl Scenario {
-    /// The scenario of a file: `title TEXT`, `records FILE`, `from STATE` or `from NONE`, where the log has one copy `log DISK`, where
-    /// there is one plex first `plex DISK`, where that gets a mirror `mirrored FILE`, and for each step a line `> COMMAND` and a line
-    /// `< ANSWER`. In an answer `=XX*N` stands for N blocks.
+    /// The scenario of a file: `title TEXT`, `records FILE`, for other records that the volume may have `or FILE`, `from STATE` or
+    /// `from NONE`, where the log has one copy `log DISK`, where there is one plex first `plex DISK`, and for each step a line `> COMMAND`
+    /// and a line `< ANSWER`. In an answer `=XX*N` stands for N blocks.
     pub fn read(alloc: Global, text: &str) -> Result<Scenario, Finding> {
         let mut scenario = Scenario {
             title: String::new(alloc),
-            records: String::new(alloc),
-            mirrored: String::new(alloc),
+            records: Vec::new(alloc),
             only_log: String::new(alloc),
             only_plex: String::new(alloc),
             from: Base::Empty,
             steps: Vec::new(alloc),
             script: String::new(alloc),
             making: String::new(alloc),
+            mirroring: String::new(alloc),
+            logging: String::new(alloc),
+            logs_first: true,
             wanted: String::new(alloc),
         };
         let mut number = 0u64;
@@ -54,11 +59,6 @@ impl Scenario {
         Ok(scenario)
     }
 
-    /// Whether the volume gets a mirror.
-    pub fn has_mirror(&self) -> bool {
-        !self.mirrored.is_empty()
-    }
-
     /// The disk of the lowest plex.
     pub fn lowest(&self) -> &str {
         if self.only_plex.is_empty() {
@@ -72,8 +72,7 @@ impl Scenario {
     fn take(&mut self, alloc: Global, word: &str, rest: &str) -> Result<bool, AllocError> {
         match word {
             "title" => self.title = String::from_str(alloc, rest)?,
-            "records" => self.records = String::from_str(alloc, rest)?,
-            "mirrored" => self.mirrored = String::from_str(alloc, rest)?,
+            "records" | "or" => self.records.push(String::from_str(alloc, rest)?)?,
             "log" => self.only_log = String::from_str(alloc, rest)?,
             "plex" => self.only_plex = String::from_str(alloc, rest)?,
             "from" => return Ok(self.begin(rest)),
@@ -99,13 +98,23 @@ impl Scenario {
         let Some(step) = Step::read(line) else {
             return Ok(false);
         };
-        if step.command == Command::Make {
-            self.making = String::from_str(alloc, line)?;
+        match step.command {
+            Command::Make => self.making = String::from_str(alloc, line)?,
+            Command::Mirror => self.mirroring = String::from_str(alloc, line)?,
+            Command::Prepare | Command::Unprepare => self.take_logging(alloc, line)?,
+            _ => {}
         }
         self.steps.push(step)?;
         self.script.push_str(line)?;
         self.script.push('\n')?;
         Ok(true)
+    }
+
+    /// Takes a line that gives the volume logs, or takes them away.
+    fn take_logging(&mut self, alloc: Global, line: &str) -> Result<(), AllocError> {
+        self.logging = String::from_str(alloc, line)?;
+        self.logs_first = self.steps.iter().all(|step| step.command != Command::Start);
+        Ok(())
     }
 
     /// Adds a wanted answer.

@@ -133,7 +133,7 @@ fn try_call(
     let has_failed = ran.has_failed()?;
     judge_status(ran.answers(), ran.status)?;
     judge_answers(scenario, place, has_failed, ran.answers())?;
-    let mut known = known(alloc, scenario.from, scenario.lowest())?;
+    let mut known = known(alloc, scenario.from, bases.form, scenario.lowest())?;
     known.log_failed = place.on_write && place.part == Part::Log;
     known.data_failed = place.on_write && place.part == Part::Data;
     take_all(&mut known, scenario.steps.as_slice(), ran.answers())?;
@@ -187,6 +187,14 @@ impl Told {
     fn is_mirror(&self) -> bool {
         self.command == Some(Command::Mirror)
     }
+
+    fn is_prepare(&self) -> bool {
+        self.command == Some(Command::Prepare)
+    }
+
+    fn is_unprepare(&self) -> bool {
+        self.command == Some(Command::Unprepare)
+    }
 }
 
 /// Whether an answer that is not the wanted one may be given.
@@ -205,10 +213,12 @@ fn may_be(scenario: &Scenario, place: Place, told: Told, line: &str) -> bool {
 /// Whether an answer may tell the fault; one that fires once does so on each piece. A disk whose private region fails is dropped. A read of
 /// data has another plex, and so has a write of it, unless there is one plex, or one alone before a mirror is done; but the first start of two
 /// plexes copies from one to the other, and a mirror to the new one. A write of the log is done on each copy, and a read of it has another
-/// copy, or there is no log.
+/// copy, or there is no log. New logs are written, and no data; where logs go neither is called.
 fn may_fail(scenario: &Scenario, place: Place, told: Told) -> bool {
     match place.part {
         Part::Private => false,
+        _ if told.is_unprepare() => false,
+        Part::Data if told.is_prepare() => false,
         Part::Data if is_only_plex(scenario, place) => !told.is_mirrored,
         Part::Data if told.is_mirror() => place.on_write,
         Part::Data => scenario.from.is_first() && scenario.only_plex.is_empty(),
@@ -218,8 +228,8 @@ fn may_fail(scenario: &Scenario, place: Place, told: Told) -> bool {
 
 /// Whether an answer may be refused, before which all were as wanted: an import that cannot read a private region; a start of a
 /// volume whose only log, or whose lowest plex where it is the first or there is no other, lies on a disk that the import has dropped, or
-/// the commit that made the volume; the making of one, or a mirror, that would need a disk which a commit has dropped; and a start that
-/// cannot read the only log.
+/// the commit that made the volume; the making of one, a mirror, or new logs, that would need a disk which a commit has dropped; and a start
+/// that cannot read the only log.
 fn may_refuse(scenario: &Scenario, place: Place, told: Told, refusal: &str) -> bool {
     match place.part {
         Part::Private if place.on_write => may_lack(scenario, place, told, refusal),
@@ -229,7 +239,8 @@ fn may_refuse(scenario: &Scenario, place: Place, told: Told, refusal: &str) -> b
     }
 }
 
-/// Whether a start, a making or a mirror may be refused so where a commit has dropped the disk. A mirror may use one other disk.
+/// Whether a start, a making, a mirror or new logs may be refused so where a commit has dropped the disk. A mirror may use one other disk,
+/// and so may one log.
 fn may_lack(scenario: &Scenario, place: Place, told: Told, refusal: &str) -> bool {
     match refusal {
         "no log v" => is_only_log(scenario, place),
@@ -237,6 +248,7 @@ fn may_lack(scenario: &Scenario, place: Place, told: Told, refusal: &str) -> boo
         "too few disks 1" if told.is_mirror() => place.disk != scenario.lowest(),
         "too few disks 1" => scenario.from == Base::NoVolume && is_only_plex(scenario, place),
         "too few disks 2" => scenario.from == Base::NoVolume && scenario.only_plex.is_empty(),
+        "no space 0 560" => told.is_prepare() && scenario.only_log.is_empty(),
         _ => false,
     }
 }

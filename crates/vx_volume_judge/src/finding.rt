@@ -23,6 +23,14 @@ pub enum Finding {
     Mirrored,
     /// The plex of a mirror is not recorded, and has to be.
     NotMirrored,
+    /// Logs are recorded, and must not be.
+    Logged,
+    /// Logs are not recorded, and have to be.
+    NotLogged,
+    /// A copy of the log has no header.
+    NoHeader,
+    /// The volume was stopped, and a copy of the log shows this region as dirty.
+    Dirty(u64),
     /// The volume is recorded in a state in which it cannot be.
     VolumeState,
     /// A plex is recorded in a state in which it cannot be.
@@ -55,6 +63,10 @@ impl Finding {
             Finding::NotRecorded => "the volume is not recorded",
             Finding::Mirrored => "the plex of a mirror is recorded",
             Finding::NotMirrored => "the plex of a mirror is not recorded",
+            Finding::Logged => "logs are recorded",
+            Finding::NotLogged => "no logs are recorded",
+            Finding::NoHeader => "a copy of the log has no header",
+            Finding::Dirty(_) => "a volume that was stopped is dirty in region",
             Finding::VolumeState => "the volume is in another state",
             Finding::PlexState => "a plex is in another state",
             Finding::Marked(_) => "a plex that was copied to is marked in region",
@@ -70,6 +82,7 @@ impl Finding {
     /// The region, the block or the line.
     fn place(self) -> Option<u64> {
         match self {
+            Finding::Dirty(region) => Some(region),
             Finding::Marked(region) => Some(region),
             Finding::NoUnmarked(region) => Some(region),
             Finding::Differ(region) => Some(region),

@@ -1,23 +1,15 @@
 //! What is known of the volume by the answers that were given.
-use crate::bytes::decimal;
 use crate::candidates::Candidates;
 use crate::finding::Finding;
+use crate::form::{Form, Is};
 use crate::state::{States, VolumeState};
 use crate::step::{Answer, Command, Sort, Step, byte_of, region_of};
 
-/// The blocks of a region.
+/// The blocks of a region, where nothing else is said.
 pub const REGION: u64 = 128;
 
-/// Whether something is so.
-#[derive(Clone, Copy, PartialEq, Eq)]
-enum Is {
-    So,
-    Not,
-    Unsure,
-}
-
-/// The candidates of the volume, the states in which it may be recorded, whether its group is imported and it runs, and whether it has a
-/// mirror.
+/// The candidates of the volume, the states in which it may be recorded, whether its group is imported and it runs, and what commands have
+/// changed of its form.
 #[derive(Drop)]
 pub struct Known {
     pub candidates: Candidates,
@@ -25,18 +17,22 @@ pub struct Known {
     pub log_failed: bool,
     /// Whether a write of data has failed: then a plex may be marked that was copied to.
     pub data_failed: bool,
-    states: States,
-    imported: Is,
-    runs: Is,
+    pub(crate) states: States,
+    pub(crate) imported: Is,
+    pub(crate) runs: Is,
+    /// The blocks of its regions, unless it is unsure whether it has the logs that were to give it others.
+    pub(crate) region: u64,
     /// Whether the plex of a mirror is recorded.
-    mirrored: Is,
+    pub(crate) mirrored: Is,
     /// Whether a mirror was done.
-    copied: bool,
+    pub(crate) copied: bool,
+    /// Whether logs are recorded.
+    pub(crate) logged: Is,
 }
 
 impl Known {
-    /// Of a volume in this state, or one that is not recorded, whose group is not imported.
-    pub fn new(state: Option<VolumeState>, candidates: Candidates) -> Known {
+    /// Of a volume in this state and of this form, or one that is not recorded and is to have this form, whose group is not imported.
+    pub fn new(state: Option<VolumeState>, form: Form, candidates: Candidates) -> Known {
         let states = match state {
             Some(state) => States::none().and(state),
             None => States::unrecorded(),
@@ -48,8 +44,10 @@ impl Known {
             states,
             imported: Is::Not,
             runs: Is::Not,
-            mirrored: Is::Not,
+            region: form.region,
+            mirrored: Is::of(form.mirrored),
             copied: false,
+            logged: Is::of(form.logged),
         }
     }
 
@@ -68,23 +66,35 @@ impl Known {
         self.states.has(state)
     }
 
-    /// Whether the volume may be recorded with the plex of a mirror, or without it.
-    pub fn may_have(&self, mirror: bool) -> bool {
-        if mirror {
-            self.mirrored != Is::Not
-        } else {
-            self.mirrored != Is::So
+    /// What is found where the volume is recorded in a form in which it may not be.
+    pub fn misfit(&self, form: Form) -> Option<Finding> {
+        if !self.mirrored.may_be(form.mirrored) {
+            return Some(if form.mirrored {
+                Finding::Mirrored
+            } else {
+                Finding::NotMirrored
+            });
         }
+        if !self.logged.may_be(form.logged) {
+            return Some(if form.logged {
+                Finding::Logged
+            } else {
+                Finding::NotLogged
+            });
+        }
+        None
     }
 
-    /// The volume was found to be recorded with the plex of a mirror, or without it.
-    pub fn find(&mut self, mirror: bool) {
-        self.mirrored = if mirror { Is::So } else { Is::Not };
+    /// The volume was found to be recorded in this form.
+    pub fn find(&mut self, form: Form) {
+        self.region = form.region;
+        self.mirrored = Is::of(form.mirrored);
+        self.logged = Is::of(form.logged);
     }
 
-    /// Whether a mirror was done, and nothing has failed that marks a plex.
-    pub fn is_copied(&self) -> bool {
-        self.copied && !self.log_failed && !self.data_failed
+    /// How many regions the volume has.
+    pub(crate) fn regions(&self) -> u64 {
+        self.candidates.blocks().div_ceil(self.region.max(1))
     }
 
     /// All devices are given back.
@@ -101,6 +111,8 @@ impl Known {
             Command::Make => self.make(answer),
             Command::Start => self.start(answer),
             Command::Mirror => self.mirror(answer),
+            Command::Prepare => self.prepare(step, answer),
+            Command::Unprepare => self.unprepare(answer),
             Command::Stop => self.stop(answer),
             Command::Read => self.read(step, answer),
             Command::Write => self.write(step, answer),
@@ -236,57 +248,10 @@ impl Known {
         }
     }
 
-    // ---- the volume gets a mirror
-
-    /// Its map is marked on the log, its records are added by a commit, and then its plex is copied to. Where the log has not failed a
-    /// fault is one of copying.
-    fn mirror(&mut self, answer: Answer<'_>) -> bool {
-        match answer.sort {
-            Sort::Ok => {
-                let fits = self.mirrored != Is::So && self.are_all(answer.rest);
-                self.mirrored = Is::So;
-                self.copied = true;
-                self.runs() && fits
-            }
-            Sort::Refused => self.refuses_mirror(answer.rest),
-            Sort::Fault if answer.name != "group" => {
-                let is_sure = !self.log_failed || self.mirrored == Is::So;
-                self.mirrored = if is_sure { Is::So } else { Is::Unsure };
-                self.runs()
-            }
-            Sort::Fault | Sort::Lost => {
-                if self.mirrored == Is::Not {
-                    self.mirrored = Is::Unsure;
-                }
-                let may_be = self.runs != Is::Not;
-                self.end();
-                may_be
-            }
-        }
-    }
-
-    /// Whether it is told that all regions were copied.
-    fn are_all(&self, words: &str) -> bool {
-        match words.strip_prefix("copied ") {
-            Some(count) => decimal(count) == Some(self.candidates.blocks().div_ceil(REGION)),
-            None => false,
-        }
-    }
-
-    /// Whether a mirror may be refused so: there is no group, no volume, it does not run, or no good disk is left.
-    fn refuses_mirror(&mut self, refusal: &str) -> bool {
-        match refusal {
-            "no group -" => self.imported != Is::So,
-            "no object v" => self.imported == Is::So && self.states.may_be_unrecorded(),
-            "not started v" => self.is_there() && self.rests(refusal),
-            _ => refusal == "too few disks 1" && self.runs(),
-        }
-    }
-
     // ---- what all of them ask
 
     /// Whether the group is imported and the volume may be recorded.
-    fn is_there(&self) -> bool {
+    pub(crate) fn is_there(&self) -> bool {
         self.imported == Is::So && self.states.may_be_recorded()
     }
 
@@ -310,14 +275,14 @@ impl Known {
     }
 
     /// The volume has answered, so it runs. Whether it may.
-    fn runs(&mut self) -> bool {
+    pub(crate) fn runs(&mut self) -> bool {
         let may_be = self.runs != Is::Not;
         self.runs = Is::So;
         may_be
     }
 
     /// The volume does not run. Whether that may be.
-    fn rests(&mut self, refusal: &str) -> bool {
+    pub(crate) fn rests(&mut self, refusal: &str) -> bool {
         let may_be = self.runs != Is::So && refusal == "not started v";
         self.runs = Is::Not;
         may_be
@@ -340,11 +305,11 @@ impl Known {
         if answer.sort == Sort::Refused {
             return self.rests(answer.rest);
         }
-        let Some(told) = parts_told(step, answer.rest) else {
+        let Some(told) = self.parts_told(step, answer.rest) else {
             return false;
         };
         let fits = match answer.sort {
-            Sort::Ok => told == regions_of(step),
+            Sort::Ok => told == self.regions_of(step),
             Sort::Fault => 0 < told,
             _ => true,
         };
@@ -360,9 +325,10 @@ impl Known {
     /// The first parts of a write are done, and the next up to those that are told may be.
     fn write_parts(&mut self, step: Step, done: u64, told: u64) {
         for block in step.start..step.end() {
-            if part_of(step, block) < done {
+            let part = self.part_of(step, block);
+            if part < done {
                 self.candidates.set(block, step.byte);
-            } else if part_of(step, block) < told {
+            } else if part < told {
                 self.candidates.add(block, step.byte);
             }
         }
@@ -373,11 +339,11 @@ impl Known {
         if answer.sort == Sort::Refused {
             return self.rests(answer.rest);
         }
-        let Some(told) = parts_told(step, answer.rest) else {
+        let Some(told) = self.parts_told(step, answer.rest) else {
             return false;
         };
         let fits = answer.sort != Sort::Ok
-            || (told == regions_of(step) && self.read_blocks(step, answer.rest));
+            || (told == self.regions_of(step) && self.read_blocks(step, answer.rest));
         self.calls(answer.sort) && fits
     }
 
@@ -403,34 +369,43 @@ impl Known {
         }
         is_among
     }
-}
 
-/// How many regions of a step lie before that of a block.
-fn part_of(step: Step, block: u64) -> u64 {
-    (block / REGION).saturating_sub(step.start / REGION)
-}
+    // ---- the regions of a call
 
-/// How many regions the blocks lie in.
-fn regions_of(step: Step) -> u64 {
-    part_of(step, step.end().saturating_sub(1)).saturating_add(1)
-}
-
-/// How many parts are told, where they are those of the first regions of the range.
-fn parts_told(step: Step, words: &str) -> Option<u64> {
-    let first = step.start / REGION;
-    let mut told = 0u64;
-    for word in words.split_whitespace() {
-        if let Some(region) = region_of(word) {
-            if region != first.saturating_add(told) {
-                return None;
-            }
-            told = told.saturating_add(1);
-        }
+    /// The region of a block.
+    fn region_at(&self, block: u64) -> u64 {
+        block / self.region.max(1)
     }
-    if told <= regions_of(step) {
-        Some(told)
-    } else {
-        None
+
+    /// How many regions of a step lie before that of a block.
+    fn part_of(&self, step: Step, block: u64) -> u64 {
+        self.region_at(block)
+            .saturating_sub(self.region_at(step.start))
+    }
+
+    /// How many regions the blocks lie in.
+    fn regions_of(&self, step: Step) -> u64 {
+        self.part_of(step, step.end().saturating_sub(1))
+            .saturating_add(1)
+    }
+
+    /// How many parts are told, where they are those of the first regions of the range.
+    fn parts_told(&self, step: Step, words: &str) -> Option<u64> {
+        let first = self.region_at(step.start);
+        let mut told = 0u64;
+        for word in words.split_whitespace() {
+            if let Some(region) = region_of(word) {
+                if region != first.saturating_add(told) {
+                    return None;
+                }
+                told = told.saturating_add(1);
+            }
+        }
+        if told <= self.regions_of(step) {
+            Some(told)
+        } else {
+            None
+        }
     }
 }
 

@@ -1,7 +1,8 @@
 //! A volume that is made: what is asked for, and the answer that the disks want.
 use crate::bytes::{decimal, has};
+use crate::finding::Finding;
 use crate::known::REGION;
-use crate::private::{is_named, slot_of};
+use crate::private::{is_named, newest, slot_of};
 use std::alloc::{AllocError, Global};
 
 /// The words of a line `vxassist make v LENGTH [nmirror=N] [ndcomirror=N] DISK ..`: the plexes that it asks for have one column.
@@ -30,7 +31,7 @@ impl<'a> Making<'a> {
 
     /// The answer where nothing fails, of a group that has no volume and whose disks have room: each plex takes a good disk, and all but
     /// the lowest are copied to.
-    pub fn answer(self, alloc: Global, images: &[&[u8]], good: u64) -> Result<String, AllocError> {
+    fn answer(self, alloc: Global, images: &[&[u8]], good: u64) -> Result<String, AllocError> {
         if self.disks(images, good) < self.plexes {
             return format!(in alloc; "refused too few disks {}", self.plexes);
         }
@@ -68,4 +69,13 @@ impl<'a> Making<'a> {
 
 fn is_attribute(word: &str) -> bool {
     word.strip_prefix("nmirror=").is_some() || word.strip_prefix("ndcomirror=").is_some()
+}
+
+/// The answer of a line that makes the volume, on a group that has none.
+pub fn making_of(alloc: Global, images: &[&[u8]], line: &str) -> Result<String, Finding> {
+    let good = newest(images)?.good;
+    match Making::read(line) {
+        Some(making) => Ok(making.answer(alloc, images, good)?),
+        None => Err(Finding::NotRecorded),
+    }
 }

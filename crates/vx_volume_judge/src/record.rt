@@ -78,24 +78,21 @@ fn are_alike(attributes: &[Attribute<'_>], others: &[Attribute<'_>]) -> bool {
     rest.next().is_none()
 }
 
-/// The records that a volume may have, but for the states: those that it begins with, and those that it has with a mirror. The latter
-/// text is empty where it gets none.
+/// The records that a volume may have, but for the states: those of one of these texts.
 #[derive(Clone, Copy)]
 pub struct Records<'r> {
-    pub first: &'r str,
-    pub mirrored: &'r str,
+    pub texts: &'r [String],
 }
 
 impl<'r> Records<'r> {
-    /// Whether these records of a volume are those with the mirror, and not those that it begins with.
-    pub fn have_mirror(self, alloc: Global, attributes: &[Attribute<'_>]) -> Result<bool, Finding> {
-        if are_those(alloc, attributes, self.first)? {
-            return Ok(false);
+    /// Whether these records of a volume are those of one of the texts.
+    pub fn have(self, alloc: Global, attributes: &[Attribute<'_>]) -> Result<bool, Finding> {
+        for text in self.texts {
+            if are_those(alloc, attributes, text.as_str())? {
+                return Ok(true);
+            }
         }
-        if !self.mirrored.is_empty() && are_those(alloc, attributes, self.mirrored)? {
-            return Ok(true);
-        }
-        Err(Finding::Records)
+        Ok(false)
     }
 }
 

@@ -3,40 +3,24 @@ use crate::bytes::{fill_of, has};
 use crate::candidates::Candidates;
 use crate::finding::Finding;
 use crate::known::Known;
+use crate::logs::look_at_logs;
+use crate::mirror::look_at_marks;
 use crate::state::{PlexState, VolumeState};
 use crate::volume::{DIRTY, Plex, Volume};
 
 /// Looks at the volume: its plexes' states, whether each region is sound, and whether what is read of it is among the candidates.
 pub fn look(volume: &Volume, known: &Known) -> Result<(), Finding> {
-    look_at_logs(volume)?;
+    look_at_logs(volume, known)?;
     look_at_plexes(volume, known.log_failed)?;
     for region in 0..volume.regions() {
         look_at_region(volume, region)?;
         look_at_values(volume, region, &known.candidates)?;
-        if known.is_copied() {
-            look_at_marks(volume, region)?;
-        }
+        look_at_marks(volume, region, known)?;
     }
     Ok(())
 }
 
 // ---- states
-
-/// The log of an EMPTY volume is EMPTY, that of another ACTIVE.
-fn look_at_logs(volume: &Volume) -> Result<(), Finding> {
-    let is_empty = volume.state == VolumeState::Empty;
-    for log in &volume.logs {
-        let fits = if is_empty {
-            log.state == PlexState::Empty
-        } else {
-            log.state == PlexState::Active
-        };
-        if !fits {
-            return Err(Finding::PlexState);
-        }
-    }
-    Ok(())
-}
 
 fn look_at_plexes(volume: &Volume, log_failed: bool) -> Result<(), Finding> {
     for plex in &volume.plexes {
@@ -170,16 +154,6 @@ fn has_stale(volume: &Volume, marks: u64) -> bool {
     false
 }
 
-/// Each plex on good disks is unmarked on each copy of the log: a mirror was done, and nothing failed that marks a plex.
-fn look_at_marks(volume: &Volume, region: u64) -> Result<(), Finding> {
-    for plex in &volume.plexes {
-        if plex.held && has(volume.possible(region), plex.map) {
-            return Err(Finding::Marked(region));
-        }
-    }
-    Ok(())
-}
-
 // ---- values
 
 /// Whether each plex that is read in a region holds in each of its blocks one of the block's candidates.
@@ -207,12 +181,12 @@ fn look_at_blocks(
 }
 
 /// Whether the plex is read in the region: of an EMPTY volume the one of the lowest map, else each that is available and that some
-/// copy of the log shows unmarked.
+/// copy of the log shows unmarked, or that is alone where no copy counts.
 fn is_read(volume: &Volume, plex: &Plex, region: u64) -> bool {
     if volume.state == VolumeState::Empty {
         return volume.is_lowest(plex);
     }
-    let is_alone = !volume.is_logged() && volume.plexes.len() == 1;
+    let is_alone = volume.copies() == 0 && volume.plexes.len() == 1;
     plex.is_available() && (is_alone || !has(volume.sure(region), plex.map))
 }
 

@@ -1,5 +1,6 @@
 //! What a line of a script does, and what its answer says.
 use crate::bytes::{cut, decimal, hexadecimal};
+use crate::logs::NewLogs;
 use crate::making::Making;
 
 /// What is done to the volume `v` or the group `dg`.
@@ -10,18 +11,21 @@ pub enum Command {
     Make,
     Start,
     Mirror,
+    Prepare,
+    Unprepare,
     Stop,
     Read,
     Write,
 }
 
-/// A line of a script: of a read and a write with its blocks, of a write with its byte.
+/// A line of a script: of a read and a write with its blocks, of a write with its byte, of new logs with the region that is asked for.
 #[derive(Clone, Copy)]
 pub struct Step {
     pub command: Command,
     pub start: u64,
     pub count: u64,
     pub byte: u8,
+    pub region: Option<u64>,
 }
 
 impl Step {
@@ -32,9 +36,16 @@ impl Step {
             "vxdg deport dg" => Some(Step::plain(Command::Deport)),
             "vxvol start v" => Some(Step::plain(Command::Start)),
             "vxassist mirror v" => Some(Step::plain(Command::Mirror)),
+            "vxsnap unprepare v" => Some(Step::plain(Command::Unprepare)),
             "vxvol stop v" => Some(Step::plain(Command::Stop)),
             _ if Making::read(line).is_some() => Some(Step::plain(Command::Make)),
-            _ => Step::read_call(line),
+            _ => match NewLogs::read(line) {
+                Some(new) => Some(Step {
+                    region: new.region,
+                    ..Step::plain(Command::Prepare)
+                }),
+                None => Step::read_call(line),
+            },
         }
     }
 
@@ -45,6 +56,7 @@ impl Step {
             start: 0,
             count: 0,
             byte: 0,
+            region: None,
         }
     }
 
@@ -64,6 +76,7 @@ impl Step {
             start: decimal(start)?,
             count: decimal(count)?,
             byte,
+            region: None,
         })
     }
 

@@ -2,6 +2,7 @@
 //! the formats alone.
 use crate::bytes::{are_zero, decimal, field, has, only, part, sectors};
 use crate::finding::Finding;
+use crate::form::Form;
 use crate::private::{PRIVATE, is_disk, is_named, newest};
 use crate::record::{Attribute, Records, figure, read, value};
 use crate::state::{PlexState, VolumeState};
@@ -30,8 +31,6 @@ pub struct Volume {
     pub state: VolumeState,
     pub length: u64,
     pub region: u64,
-    /// Whether its records are those with the mirror.
-    pub has_mirror: bool,
     /// The data plexes, by name.
     pub plexes: Vec<Plex>,
     /// The log plexes, by name.
@@ -57,13 +56,15 @@ pub fn volume_on(
     if !has_volume(attributes.as_slice()) {
         return Ok(None);
     }
-    let has_mirror = records.have_mirror(alloc, attributes.as_slice())?;
+    if !records.have(alloc, attributes.as_slice())? {
+        return Err(Finding::Records);
+    }
     let group = Group {
         attributes: attributes.as_slice(),
         images,
         good: offer.good,
     };
-    Ok(Some(group.volume(alloc, has_mirror)?))
+    Ok(Some(group.volume(alloc)?))
 }
 
 /// Whether something is recorded beside the group and its disks.
@@ -93,13 +94,12 @@ impl<'g, 'a> Group<'g, 'a> {
         figure(self.attributes, kind, name, attribute)
     }
 
-    fn volume(&self, alloc: Global, has_mirror: bool) -> Result<Volume, Finding> {
+    fn volume(&self, alloc: Global) -> Result<Volume, Finding> {
         let state = VolumeState::read(self.value("vol", "v", "state")?);
         let mut volume = Volume {
             state: state.ok_or(Finding::Records)?,
             length: self.number("vol", "v", "len")?,
             region: self.number("vol", "v", "region")?,
-            has_mirror,
             plexes: Vec::new(alloc),
             logs: Vec::new(alloc),
         };
@@ -207,6 +207,15 @@ impl Plex {
 }
 
 impl Volume {
+    /// How it is recorded, but for its states.
+    pub fn form(&self) -> Form {
+        Form {
+            mirrored: 1 < self.plexes.len(),
+            logged: self.is_logged(),
+            region: self.region,
+        }
+    }
+
     pub fn regions(&self) -> u64 {
         self.length.div_ceil(self.region.max(1))
     }

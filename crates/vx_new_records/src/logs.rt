@@ -2,7 +2,7 @@ ghost use Rattle.std.specs.Prelude.{◌≡◌, ◌&&◌, true, IfOk, MatchOption
 ghost use Rattle.vx_config_parts.specs.Objects.{is_plex, is_log_plex_of};
 ghost use Rattle.vx_rules.specs.Maps.{is_in_use, log_count};
 ghost use Rattle.vx_new_volumes.specs.Rule.{is_request};
-ghost use Rattle.vx_new_volumes.specs.Logs.{region_with, logs_limit_fault, dco_fault, logs_fit, new_dco_fault, logs_fault, logs_request, logs_named, logs_of};
+ghost use Rattle.vx_new_volumes.specs.Logs.{region_with, logs_limit_fault, told_dco, dco_fault, logs_fit, new_dco_fault, logs_fault, logs_request, logs_named, logs_of};
 
 use crate::known::Known;
 use crate::laying::{Laid, put_logs};
@@ -84,9 +84,19 @@ fn dco_fault(group: &[Object], old: Option<Name>, new: Option<Name>) -> Option<O
     ensures { result ≡ dco_fault group.now old new }
 {
     match (old, new) {
-        (Some(dco), _) => Some(ObjectFault::Exists(dco)),
+        (Some(dco), new) => Some(ObjectFault::Exists(told_dco(dco, new))),
         (None, Some(dco)) if has_name(group, &dco) => Some(ObjectFault::Exists(dco)),
         _ => None,
+    }
+}
+
+/// The name that is told of a volume which has this DCO: that of the new one, or its own where that would be too long.
+fn told_dco(dco: Name, new: Option<Name>) -> Name
+    ensures { result ≡ told_dco dco new }
+{
+    match new {
+        Some(name) => name,
+        None => dco,
     }
 }
 

@@ -39,10 +39,15 @@ abbrev pub dco_name_fault : List Object → Option Word → Option ObjectFault
 dco_name_fault group None = None
 dco_name_fault group (Some dco) = unless (not (has_name dco group)) (Exists dco)
 
+-- the name that is told of a volume which has this DCO: that of the new one, or its own where that would be too long
+abbrev pub told_dco : Word → Option Word → Word
+told_dco dco None = dco
+told_dco dco (Some new) = new
+
 -- the volume has that DCO, or else some record has the name of the new one
 abbrev pub dco_fault : List Object → Option Word → Option Word → Option ObjectFault
 dco_fault group None new = dco_name_fault group new
-dco_fault group (Some dco) new = Some (Exists dco)
+dco_fault group (Some dco) new = Some (Exists (told_dco dco new))
 
 -- one log or two are to be made, and the volume has none in use
 abbrev pub logs_fit : List Object → Word → ℕ → Bool

@@ -1,0 +1,4 @@
+pub mod BerthLemmas
+pub mod ShelfFacts
+pub mod Joins
+pub mod Steps

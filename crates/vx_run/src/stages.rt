@@ -15,8 +15,7 @@ use vx_stage_changes::{change, create, join, make};
 use vx_stage_devices::{look_blank, look_disks, look_headed, make_image, search, start_bare, wipe};
 use vx_stage_gates::failing;
 use vx_stage_import::import;
-use vx_stage_logs::{prepare, unprepare};
-use vx_stage_mirrors::mirror;
+use vx_stage_mirrors::{mirror, prepare, unprepare};
 use vx_stage_volumes::{start, stop};
 use vx_stages::{Stage, Test};
 

@@ -13,3 +13,9 @@ pub mod JoiningLaws
 pub mod ParkedPieces
 pub mod Ending
 pub mod Going
+pub mod PlannedLogs
+pub mod Next
+pub mod Making
+pub mod Relogging
+pub mod LogEnding
+pub mod LogMoments

@@ -1,10 +1,10 @@
 //! What becomes of a running volume that a plex has joined: laws, as functions that do nothing and promise them.
 
-ghost use Rattle.vx_piece.specs.Seen.{AreCounts, EndsThere};
 ghost use Rattle.vx_stage_mirrors.specs.JoiningLaws.{EachJoinedPlexIsInPlace, EachJoinedPlexRuns};
 ghost use Rattle.vx_stage_mirrors.specs.Parking.{EachParkedPlexMayJoin, EachParkingParts};
 ghost use Rattle.vx_stage_mirrors.specs.Moments.{EachFailedJoinStops, EachJoinGoesOn};
 
+use crate::piece_laws::each_piece_ends;
 use vx_change_laws::each_joining_runs_on;
 use vx_house::{House, Imported};
 use vx_lending::{Public, Running};
@@ -74,9 +74,3 @@ pub fn each_failed_join_stops<P: Piece + Drop>(
     let _ = old;
     let _ = new;
 }
-
-/// Nothing is told behind the last sector of a piece, and its counts are numbers of 64 bits: laws of pieces, said to callers.
-fn each_piece_ends<P: Piece>()
-    ensures ends { (p : P) → EndsThere (P.seen p) }
-    ensures counts { (p : P) → AreCounts (P.seen p) }
-{}

@@ -50,8 +50,13 @@ pub(crate) fn laid_mirror(
     recorded(alloc, &group, vol, &lowest, &plan)
 }
 
-/// Where the plex goes, on the good disks.
-fn plan_of(alloc: Global, config: &Config, good: u32, request: &Request) -> Result<Plan, Stop>
+/// Where the plexes go that are asked for, on the good disks.
+pub(crate) fn plan_of(
+    alloc: Global,
+    config: &Config,
+    good: u32,
+    request: &Request,
+) -> Result<Plan, Stop>
     requires { is_request request.now ≡ true }
     ensures planned { IfOk result (λ plan. IsPlanned config.now good request.now (Ok plan)) }
     ensures unplanned { IfErr result (EndsAs (RefusedFor (HasNoPlan config.now good request.now))) }

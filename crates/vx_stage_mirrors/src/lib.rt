@@ -1,18 +1,31 @@
-//! The stage that mirrors a running volume of the imported group. It is tested and planned before anything is touched; the pieces of the new
-//! plex are taken, a free map is marked in each region, the plex joins the volume by a commit, and is copied to.
+//! The stages that give a volume of the imported group plexes or logs, or take logs away: a running volume gets a mirror; one of one plex gets
+//! logs, or loses them. Each is tested and planned before anything is touched. For a mirror the pieces of the new plex are taken, a free map is
+//! marked in each region, the plex joins the volume by a commit, and is copied to. For logs of a volume that was started before an empty log
+//! is written on the new plexes before these are recorded by a commit; a volume that runs goes on with the log, or without one.
 #![tactic(auto)]
 
+mod committing;
 mod copying;
 mod join_laws;
 mod joining;
 mod laying;
+mod log_laws;
+mod log_laying;
+mod log_planning;
+mod log_testing;
+mod making;
 mod marked;
 mod marking;
 mod mirroring;
 mod new_places;
 mod parking;
+mod piece_laws;
 mod planning;
+mod powering;
+mod preparing;
+mod relogging;
 mod testing;
+mod unpreparing;
 
 pub use copying::{copy_plexes, each_copying_goes, each_marked_region_is_missed};
 pub use join_laws::{
@@ -20,9 +33,15 @@ pub use join_laws::{
     each_parked_plex_may_join, each_parking_parts,
 };
 pub use joining::join_plex;
+pub use log_laws::{
+    each_failed_record_stops, each_log_is_made, each_log_is_unmade, each_record_goes,
+    each_relog_goes,
+};
 pub use marked::{each_mark_is_shown, each_marked_volume_is_sound, each_shown_plex_is_sound};
 pub use marking::{Unmarked, each_free_map_is_free, each_marking_rests, mark_plex};
 pub use mirroring::mirror;
 pub use new_places::{each_held_plex_can_be_taken, each_new_plex_is_free};
 pub use planning::{PlannedMirror, planned_mirror};
+pub use preparing::prepare;
 pub use testing::test_mirror;
+pub use unpreparing::unprepare;

@@ -7,11 +7,11 @@ ghost use Rattle.vx_house.specs.Holders.{holders, AreHeld};
 ghost use Rattle.vx_house.specs.Scene.{Shelved};
 ghost use Rattle.vx_house.specs.View.{IsGroupKept, KeepsHouse, at};
 ghost use Rattle.vx_lending.specs.Public.{running_at};
-ghost use Rattle.vx_piece.specs.Seen.{AreCounts, EndsThere};
 ghost use Rattle.vx_stage_volumes.specs.Parting.{IsReadyToOpen};
 ghost use Rattle.vx_stage_mirrors.specs.Ending.{IsPlannedMirror, JoinStopsIn, MirrorEnds};
 
 use crate::parking::park;
+use crate::piece_laws::each_piece_ends;
 use crate::{PlannedMirror, copy_plexes, join_plex, mark_plex, planned_mirror, test_mirror};
 use std::alloc::Global;
 use vx_answers::Refusal;
@@ -94,9 +94,3 @@ fn join<P: Piece + Drop>(
     )?;
     Err(copy_plexes(alloc, group, name, vx_mask::of(u32::from(map))))
 }
-
-/// Nothing is told behind the last sector of a piece, and its counts are numbers of 64 bits: laws of pieces, said to callers.
-fn each_piece_ends<P: Piece>()
-    ensures ends { (p : P) → EndsThere (P.seen p) }
-    ensures counts { (p : P) → AreCounts (P.seen p) }
-{}

@@ -1,5 +1,0 @@
-use Rattle.vx_stage_logs.proofs.Unrecorded.{record_stops}
-use Rattle.vx_stage_logs.proofs.laws.each_failed_record_stops.Goals as goal
-
-pub returns : goal.returns
-returns g c = record_stops g.P.Piece.seen c.args.house.now c.args.old.now c.args.new.now

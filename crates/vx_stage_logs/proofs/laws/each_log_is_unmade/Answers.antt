@@ -1,5 +1,0 @@
-use Rattle.vx_stage_logs.proofs.LogUnmade.{log_unmade}
-use Rattle.vx_stage_logs.proofs.laws.each_log_is_unmade.Goals as goal
-
-pub returns : goal.returns
-returns g c = log_unmade g.P.Piece.seen c.each_piece_ends.ensures.ends c.each_piece_ends.ensures.counts c.args.house.now c.args.old.now c.args.new.now

@@ -1,5 +1,0 @@
-use Rattle.vx_stage_logs.proofs.Recorded.{record_goes}
-use Rattle.vx_stage_logs.proofs.laws.each_record_goes.Goals as goal
-
-pub returns : goal.returns
-returns g c = record_goes g.P.Piece.seen c.args.house.now c.args.old.now c.args.new.now

@@ -28,7 +28,7 @@ use Rattle.vx_stages.specs.Records.{next_slot}
 use Rattle.vx_stages.specs.Refusals.{refusal_from}
 use Rattle.vx_stages.specs.Ends.{RefusedAsLong}
 use Rattle.vx_stages.specs.Stages.{Stops, IsBetween, IsImporting, ImportRefused}
-use Rattle.vx_plans.specs.Steps.{Runs, Serves}
+use Rattle.vx_plans.specs.Steps.{Runs, Serves, AreAsBefore}
 use Rattle.vx_plans.specs.Laws.{WentWell}
 use Rattle.vx_stages.specs.declared.stages.Finish.TheVariants.{Nothing}
 use Rattle.vx_stages.specs.declared.stage.Stage.TheVariants.{Import}
@@ -271,7 +271,7 @@ not_stopped g old new end left low well (inr (inr (mid, between, (x, writing, st
     (λ gone. absurd (nowhere (λ m. new.counts.cut m.device ≡ true) (parties x) (λ m cut. powered mid new rest m.device cut) gone.1))
     stopped.ends
 
-import_gives : (g : Group) (old new : Moment) (answer : Answer) → Serves (Runs [] (Import g.config.group ∷ []) Nothing) old answer new → IsLeftBehind g old.world → g.sequence ≤ 2 ^ 63 → WentWell old new → (answer ≡ is_done) × IsReturned g old.world new.world
+import_gives : (g : Group) (old new : Moment) (answer : Answer) → Serves (Runs [] (Import g.config.group ∷ []) Nothing) AreAsBefore old answer new → IsLeftBehind g old.world → g.sequence ≤ 2 ^ 63 → WentWell old new → (answer ≡ is_done) × IsReturned g old.world new.world
 import_gives g old new answer s left low well = by s.does
   where
     by : Runs [] (Import g.config.group ∷ []) Nothing old s.views s.end s.over → (answer ≡ is_done) × IsReturned g old.world new.world
@@ -308,7 +308,7 @@ pub record IsLetGo (told : Answer) (old new : Moment) : Type 0 where
   pub gone : new.world ≡ group_gone old.world
   pub counts : new.counts ≡ old.counts
 
-deport_done : (g : Group) (old new : Moment) (told : Answer) → IsWhole g old.world → Serves (Runs [] (plan_deport g.config.group) Nothing) old told new → IsLetGo told old new
+deport_done : (g : Group) (old new : Moment) (told : Answer) → IsWhole g old.world → Serves (Runs [] (plan_deport g.config.group) Nothing) AreAsBefore old told new → IsLetGo told old new
 deport_done g old new told whole s = by s.does
   where
     started : (m : Moment) → m ≡ old → fails tests.NoneStarted [] m.world ≡ None

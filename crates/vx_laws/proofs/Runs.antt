@@ -31,7 +31,7 @@ use Rattle.vx_stages.specs.Mirrored.{MirrorEnds, MirrorStopsIn}
 use Rattle.vx_stages.specs.Stopping.{StopStops, runs_on_plexes}
 use Rattle.vx_stages.specs.Tests.{volume_in}
 use Rattle.vx_stages.specs.Touching.{PassHasCause}
-use Rattle.vx_plans.specs.Steps.{Runs, Serves, Step, Leaves, DoesForm, IsNotBuilt, done}
+use Rattle.vx_plans.specs.Steps.{AreAsBefore, CountsAfter, DoesForm, Leaves, Runs, Serves, Step, done}
 use Rattle.vx_stages.specs.declared.stages.Finish.{Finish}
 use Rattle.vx_stages.specs.declared.stages.Finish.TheVariants.{Nothing}
 use Rattle.vx_stages.specs.declared.stage.Stage.{Stage}
@@ -261,10 +261,10 @@ same_moment : (a b : Moment) → a.world ≡ b.world → a.counts ≡ b.counts �
 same_moment a b worlds counts = λ i. record { world = worlds i; counts = counts i }
 
 -- a command that is done leaves the moment at which it was over
-pub left_so : (Does : Moment → List View → End → Moment → Type 0) (old : Moment) (answer : Answer) (new : Moment) (s : Serves Does old answer new) → s.end ≡ done → new ≡ s.over
+pub left_so : (Does : Moment → List View → End → Moment → Type 0) (old : Moment) (answer : Answer) (new : Moment) (s : Serves Does AreAsBefore old answer new) → s.end ≡ done → new ≡ s.over
 left_so Does old answer new s is = same_moment new s.over (subst (λ (e : End). Leaves e s.over.world new.world) is s.leaves) s.counts
 
-pub stages_done : (disks : List DiskAt) (stages : List Stage) (old new : Moment) → Serves (Runs disks stages Nothing) old is_done new → WentWell old new → AllDone disks stages old new
+pub stages_done : (disks : List DiskAt) (stages : List Stage) (old new : Moment) → Serves (Runs disks stages Nothing) AreAsBefore old is_done new → WentWell old new → AllDone disks stages old new
 stages_done disks stages old new s well =
     let told : is_done ≡ One s.views s.end = s.told in
     let is : s.end ≡ done = cc in
@@ -272,10 +272,10 @@ stages_done disks stages old new s well =
     subst (λ (m : Moment). AllDone disks stages old m) (sym same) (all_done disks stages Nothing old s.views s.end s.over s.does is (subst (λ (m : Moment). WentWell old m) same well))
 
 -- what a command of this form does
-pub served : (place : ℕ) (c : Command) (f : Form) (old : Moment) (answer : Answer) (new : Moment) → IsOf f c → Step place c old answer new → Serves (DoesForm place c.group f) old answer new
+pub served : (place : ℕ) (c : Command) (f : Form) (old : Moment) (answer : Answer) (new : Moment) → IsOf f c → Step place c old answer new → Serves (DoesForm place c.group f) AreAsBefore old answer new
 served place c f old answer new is step =
-    subst (λ (x : Form). Serves (DoesForm place c.group x) old answer new) is.form_is
-    (subst (λ (o : Option ℕ). Serves (λ from views end to. MatchOption o (DoesForm place c.group c.form from views end to) (λ n. IsNotBuilt from views end to)) old answer new) is.uncut step)
+    subst (λ (x : Form). Serves (DoesForm place c.group x) AreAsBefore old answer new) is.form_is
+    (subst (λ (o : Option ℕ). Serves (DoesForm place c.group c.form) (CountsAfter o) old answer new) is.uncut step)
 
 -- ---- what went well
 

@@ -211,10 +211,6 @@ module _ (Held : Holding) (Read : Reading) where
       new_kept (source.Volume (new_volume vol length attrs disks)) vol views end new dg old (λ mid is. added vol mid (refl, is)) all does
   form_kept place dg other old views end new there added all does = plan_kept (disks_of other) (plan_of dg other) old views end new (plan_shaped dg other refl) there all does
 
-  cut_kept : (place : ℕ) (c : Command) (cut : Option ℕ) (old : Moment) (views : List View) (end : End) (new : Moment) → AreKnown Held Read old.world → (cut ≡ None → AreReadIn Read c.form old) → HaveHistories Held Read old.world → MatchOption cut (DoesForm place c.group c.form old views end new) (λ n. IsNotBuilt old views end new) → HaveHistories Held Read new.world
-  cut_kept place c None old views end new there added all does = form_kept place c.group c.form old views end new there (added refl) all does
-  cut_kept place c (Some n) old views end new there added all does = not_built old views end new all does
-
   left_kept : (end : End) (over left : World) → HaveHistories Held Read over → Leaves end over left → HaveHistories Held Read left
   left_kept ends.GroupLost over left all is = subst (HaveHistories Held Read) (sym is.1) (without_group Held Read over all)
   left_kept (ends.Lost parts) over left all gone = from_nothing Held Read left gone.1.volumes
@@ -223,8 +219,8 @@ module _ (Held : Holding) (Read : Reading) where
   left_kept (ends.Fault told device parts) over left all is = subst (HaveHistories Held Read) (sym is) all
   left_kept ends.ShelfFailed over left all is = subst (HaveHistories Held Read) (sym is) all
 
-  step_kept : (place : ℕ) (c : Command) (old : Moment) (answer : Answer) (new : Moment) → AreKnown Held Read old.world → (c.cut ≡ None → AreReadIn Read c.form old) → HaveHistories Held Read old.world → Step place c old answer new → HaveHistories Held Read new.world
-  step_kept place c old answer new there added all step = left_kept step.end step.over.world new.world (cut_kept place c c.cut old step.views step.end step.over there added all step.does) step.leaves
+  step_kept : (place : ℕ) (c : Command) (old : Moment) (answer : Answer) (new : Moment) → AreKnown Held Read old.world → AreReadIn Read c.form old → HaveHistories Held Read old.world → Step place c old answer new → HaveHistories Held Read new.world
+  step_kept place c old answer new there added all step = left_kept step.end step.over.world new.world (form_kept place c.group c.form old step.views step.end step.over there added all step.does) step.leaves
 
 -- ---- transcripts
 
@@ -319,7 +315,7 @@ module _ (Held : Holding) (Read : Reading) where
         held = λ name sectors blocks was. known.held name sectors blocks (was_later place old mid c cs a rest step name sectors blocks was);
         read = λ name sectors first was. known.read name sectors first (read_later place old mid c cs a rest step name sectors first was);
       })
-      (step_kept Held Read place c old a mid (there, λ name. read name old (inl refl)) (λ uncut name at has. read name at (inr (uncut, has))) all step) more
+      (step_kept Held Read place c old a mid (there, λ name. read name old (inl refl)) (λ name at has. read name at (inr has)) all step) more
 
 pub each_volume_has_a_history : (place : ℕ) (old new : Moment) (commands : List Command) (answers : List Answer) → NoneStarted old.world → IsTranscript place old commands answers new → HaveHistories (WasThere place old commands answers) (WasRead place old commands answers) new.world
 each_volume_has_a_history place old new commands answers none transcript =

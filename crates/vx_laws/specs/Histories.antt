@@ -53,7 +53,7 @@ HasAdded other name old new = ⊥
 -- the first of these commands has
 abbrev pub FirstHasAdded : List Command → Word → Moment → Moment → Type 0
 FirstHasAdded [] name old new = ⊥
-FirstHasAdded (c ∷ cs) name old new = (c.cut ≡ None) × HasAdded c.form name old new
+FirstHasAdded (c ∷ cs) name old new = HasAdded c.form name old new
 
 -- before some command of the transcript, or in one as it has added the records of the volume, a group was imported that recorded a volume of
 -- this name and size, in a state from which it can be started, and these candidates are read from the bytes that it had then

@@ -282,12 +282,6 @@ module _ (old : Moment) (views : List View) (r : Refusal) (new : Moment) where
       by None h = h.1.stays.world
       by (Some v) h = at_range v (nat_lt v.length (start_of call + count_of call)) h
 
-  -- what leaves the world leaves as much as a start does
-  all_left : (f : Form) → new.world ≡ old.world → RefusedLeaves f old r new
-  all_left (form.Start vol) same = inl same
-  all_left (form.AssistMake vol length attrs disks) same = inl same
-  all_left other same = same
-
   form_left : (place : ℕ) (dg : Option Word) (f : Form) → DoesForm place dg f old views (refused r) new → RefusedLeaves f old r new
   unfolding plan_of
   form_left place dg (form.Calling call) does = call_left place call does.2
@@ -296,18 +290,11 @@ module _ (old : Moment) (views : List View) (r : Refusal) (new : Moment) where
   form_left place dg (form.Mirror vol disks) does = mirroring_left (mirror_gates dg) (record { vol = vol; disks = disks }) old does
   form_left place dg other does = plan_left (disks_of other) (plan_of dg other) (plan_still dg other refl) does
 
-  command_left : (place : ℕ) (c : Command) (cut : Option ℕ) → MatchOption cut (DoesForm place c.group c.form old views (refused r) new) (λ n. IsNotBuilt old views (refused r) new) → RefusedLeaves c.form old r new
-  command_left place c None does = form_left place c.group c.form does
-  command_left place c (Some n) does = all_left c.form (not_built does)
-
-same_moment : (a b : Moment) → a.world ≡ b.world → a.counts ≡ b.counts → a ≡ b
-same_moment a b worlds counts = λ i. record { world = worlds i; counts = counts i }
-
-pub each_refusal_keeps_the_world : (place : ℕ) (c : Command) (old : Moment) (views : List View) (r : Refusal) (new : Moment) → Step place c old (One views (refused r)) new → RefusedLeaves c.form old r new
+pub each_refusal_keeps_the_world : (place : ℕ) (c : Command) (old : Moment) (views : List View) (r : Refusal) (new : Moment) → Step place c old (One views (refused r)) new → (over : Moment) × (new.world ≡ over.world) × RefusedLeaves c.form old r over
 each_refusal_keeps_the_world place c old views r new step =
     let told : One views (refused r) ≡ One step.views step.end = step.told in
-    let is : step.end ≡ refused r = cc in
-    let same : new ≡ step.over = same_moment new step.over (subst (λ (e : End). Leaves e step.over.world new.world) is step.leaves) step.counts in
-    subst (λ (m : Moment). RefusedLeaves c.form old r m) (sym same)
-    (command_left old step.views r step.over place c c.cut
-    (subst (λ (e : End). MatchOption c.cut (DoesForm place c.group c.form old step.views e step.over) (λ n. IsNotBuilt old step.views e step.over)) is step.does))
+    let is : step.end ≡ refused r = cc in (
+      step.over,
+      subst (λ (e : End). Leaves e step.over.world new.world) is step.leaves,
+      form_left old step.views r step.over place c.group c.form (subst (λ (e : End). DoesForm place c.group c.form old step.views e step.over) is step.does),
+    )

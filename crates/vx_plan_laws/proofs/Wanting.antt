@@ -1,5 +1,5 @@
 -- Want of memory leaves the world as the command found it, but for the volume of a start, a mirror or a stop, and the records of a new volume.
-use Rattle.std.proofs.Common.{◌≡◌, ◌∙◌, ◌⊎◌, ℕ, List, [], ◌∷◌, Option, Some, None, MatchOption, false, refl, subst, inl, inr}
+use Rattle.std.proofs.Common.{◌≡◌, ◌∙◌, ◌⊎◌, ℕ, List, [], ◌∷◌, Option, Some, None, false, refl, subst, inl, inr}
 use Rattle.vx_base.specs.Named.{Word}
 use Rattle.vx_script_words.specs.declared.value.DiskAt.{DiskAt}
 use Rattle.vx_new_volumes.specs.declared.logs.NewLogs.{NewLogs}
@@ -79,15 +79,6 @@ new_left dg n old new (inl same) = inl same
 new_left dg n old new (inr (inl (mid, later, (passed, same), short))) = subst (λ (m : Moment). (new.world ≡ m.world) ⊎ AddedWants n m new) same (adding_left n mid new short)
 new_left dg n old new (inr (inr wants)) = inl wants
 
--- what leaves the world leaves as much as a start, a mirror, logs and a stop do
-all_left : (f : Form) (old new : Moment) → new.world ≡ old.world → WantLeaves f old new
-all_left (form.Start vol) old new same = inl same
-all_left (form.Mirror vol disks) old new same = inl same
-all_left (form.Prepare vol ndcomirs region) old new same = inl same
-all_left (form.Stop vol) old new same = inl same
-all_left (form.AssistMake vol length attrs disks) old new same = inl same
-all_left other old new same = same
-
 form_left : (dg : Option Word) (f : Form) (old new : Moment) → WantsForm dg f old new → WantLeaves f old new
 unfolding plan_of
 form_left dg (form.Calling call) old new wants = wants
@@ -99,8 +90,4 @@ form_left dg (form.AssistMake vol length attrs disks) old new wants = new_left d
 form_left dg other old new wants = plan_kept (disks_of other) (plan_of dg other) old new (plan_plain dg other refl) wants
 
 pub each_want_keeps_the_world : (c : Command) (old new : Moment) → LeavesOff c old new → WantLeaves c.form old new
-each_want_keeps_the_world c old new wants = by c.cut wants
-  where
-    by : (cut : Option ℕ) → MatchOption cut (WantsForm c.group c.form old new) (λ n. new.world ≡ old.world) → WantLeaves c.form old new
-    by None left = form_left c.group c.form old new left
-    by (Some n) same = all_left c.form old new same
+each_want_keeps_the_world c old new wants = form_left c.group c.form old new wants

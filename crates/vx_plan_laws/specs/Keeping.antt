@@ -39,11 +39,11 @@ RefusedLeaves (form.Start vol) old r new = (new.world ≡ old.world) ⊎ IsLeftU
 RefusedLeaves (form.AssistMake vol length attrs disks) old r new = (new.world ≡ old.world) ⊎ IsLeftAdded (new_volume vol length attrs disks) old r new
 RefusedLeaves other old r new = new.world ≡ old.world
 
--- each command that is refused leaves so much of the world
+-- each command that is refused leaves so much of the world, at the moment at which it was over
 abbrev pub EachRefusalKeepsTheWorld : Type 0
 EachRefusalKeepsTheWorld =
     (place : ℕ) (c : Command) (old : Moment) (views : List View) (r : Refusal) (new : Moment)
-    → Step place c old (One views (refused r)) new → RefusedLeaves c.form old r new
+    → Step place c old (One views (refused r)) new → (over : Moment) × (new.world ≡ over.world) × RefusedLeaves c.form old r over
 
 -- the records of the new volume were added, and the start left so much of that world
 abbrev pub AddedWants : NewVolume → Moment → Moment → Type 0

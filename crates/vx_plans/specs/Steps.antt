@@ -1,5 +1,5 @@
 -- A command from one moment to the next, and a run of commands.
-use Rattle.std.specs.Prelude.{◌≡◌, ◌⊎◌, ℕ, ◌+◌, Option, Some, None, List, [], ◌∷◌, MatchOption}
+use Rattle.std.specs.Prelude.{◌≡◌, ◌⊎◌, ℕ, ◌+◌, ◌≤◌, false, Option, Some, None, List, [], ◌∷◌, MatchOption}
 use Rattle.vx_base.specs.Named.{Word}
 use Rattle.vx_objects.specs.Config.{objects_of}
 use Rattle.vx_print.specs.Shown.{IsPrinted}
@@ -15,7 +15,7 @@ use Rattle.vx_answers.specs.declared.answer.View.{View}
 use Rattle.vx_answers.specs.declared.answer.View.TheVariants.{Text}
 use Rattle.vx_answers.specs.declared.refusal.Refusal.TheVariants.{NotBuilt}
 use Rattle.vx_moments.specs.World.{World}
-use Rattle.vx_moments.specs.Moment.{Moment, AreLater}
+use Rattle.vx_moments.specs.Moment.{Moment, AreLater, Counts}
 use Rattle.vx_moments.specs.Leaving.{PowerGoes, group_gone}
 use Rattle.vx_moments.specs.Lives.{GroupStands}
 use Rattle.vx_plans.specs.Serving.{CallRuns}
@@ -58,15 +58,19 @@ Leaves ends.ShelfFailed w left = left ≡ w
 Leaves ends.GroupLost w left = GroupStands w × (left ≡ group_gone w)
 Leaves (ends.Lost parts) w left = GroupStands w × PowerGoes w left
 
--- from one moment to the next, by what the command does and what is left then
-pub record Serves (Does : Moment → List View → End → Moment → Type 0) (old : Moment) (answer : Answer) (new : Moment) : Type 0 where
+-- the counts are as they were
+abbrev pub AreAsBefore : Counts → Counts → Type 0
+AreAsBefore over new = new ≡ over
+
+-- from one moment to the next, by what the command does, what is left then, and what becomes of the counts
+pub record Serves (Does : Moment → List View → End → Moment → Type 0) (After : Counts → Counts → Type 0) (old : Moment) (answer : Answer) (new : Moment) : Type 0 where
   pub views : List View
   pub end : End
   pub told : answer ≡ One views end
   pub over : Moment
   pub does : Does old views end over
   pub leaves : Leaves end over.world new.world
-  pub counts : new.counts ≡ over.counts
+  pub counts : After over.counts new.counts
 
 -- a command that is not built is refused before all else
 abbrev pub IsNotBuilt : Moment → List View → End → Moment → Type 0
@@ -85,9 +89,9 @@ abbrev pub DoesForm : ℕ → Option Word → Form → Moment → List View → 
 DoesForm place dg (form.Calling call) old views end new = DoesCall place call old views end new
 DoesForm place dg other old views end new = DoesPlan (disks_of other) (plan_of dg other) old views end new
 
--- what a command does; one with a word `cut=N` is not built
+-- what a command does, also one with a word `cut=N`: by that the power may go, as it may by itself
 abbrev pub Does : ℕ → Command → Moment → List View → End → Moment → Type 0
-Does place c old views end new = MatchOption c.cut (DoesForm place c.group c.form old views end new) (λ n. IsNotBuilt old views end new)
+Does place c old views end new = DoesForm place c.group c.form old views end new
 
 -- what want of memory leaves of a plan: the world as it began, or one of its stages was left
 abbrev pub WantsPlan : List DiskAt → Option Plan → Moment → Moment → Type 0
@@ -100,11 +104,25 @@ WantsForm dg other old new = WantsPlan (disks_of other) (plan_of dg other) old n
 
 -- what want of memory leaves of a command
 abbrev pub LeavesOff : Command → Moment → Moment → Type 0
-LeavesOff c old new = MatchOption c.cut (WantsForm c.group c.form old new) (λ n. new.world ≡ old.world)
+LeavesOff c old new = WantsForm c.group c.form old new
+
+-- The power is back that a switch has taken from devices. No count of faults has changed. A device that had its power has the counts that it
+-- had, and of one that had not no more is counted.
+pub record PowerReturns (over new : Counts) : Type 0 where
+  pub faults : (name : Word) → new.faults name ≡ over.faults name
+  pub shelf : new.shelf ≡ over.shelf
+  pub cut : (name : Word) → over.cut name ≡ false → new.cut name ≡ false
+  pub reads : (name : Word) → (new.reads name ≤ over.reads name) × (over.cut name ≡ false → new.reads name ≡ over.reads name)
+  pub writes : (name : Word) → (new.writes name ≤ over.writes name) × (over.cut name ≡ false → new.writes name ≡ over.writes name)
+
+-- the counts once the command is over: as they were, but that behind one with a word `cut=N` the power is back
+abbrev pub CountsAfter : Option ℕ → Counts → Counts → Type 0
+CountsAfter None over new = new ≡ over
+CountsAfter (Some n) over new = PowerReturns over new
 
 -- the command at this place of the script may have this answer
 abbrev pub Step : ℕ → Command → Moment → Answer → Moment → Type 0
-Step place c old answer new = Serves (Does place c) old answer new
+Step place c old answer new = Serves (Does place c) (CountsAfter c.cut) old answer new
 
 -- the commands from this place on may have these answers, one after the other
 abbrev pub IsTranscript : ℕ → Moment → List Command → List Answer → Moment → Type 0

@@ -1,6 +1,5 @@
 -- What is asked of calls and forms holds of a command of a script.
 use Rattle.std.proofs.Common.{◌≡◌, ◌%◌, ◌<◌, ◌≤◌, ◌^◌, ◌==◌, ℕ, eqb-true, nat_lt, nat_le, true, false, ◌&&◌, List, length, arith, Option, Some, None, refl, sym, subst}
-use Rattle.std.specs.Prelude.{is_some, MatchOption}
 use Rattle.std.proofs.lemmas.Bool.{and_parts, leb-true, ltb-true}
 use Rattle.vx_base.specs.Named.{Word}
 use Rattle.vx_names.specs.Form.{is_name}
@@ -18,7 +17,7 @@ use Rattle.vx_answers.specs.declared.answer.End.{End}
 use Rattle.vx_answers.specs.declared.answer.View.{View}
 use Rattle.vx_moments.specs.Moment.{Moment}
 use Rattle.vx_plans.specs.Plans.{plan_of, disks_of}
-use Rattle.vx_plans.specs.Steps.{Does, DoesForm, DoesPlan, IsNotBuilt, LeavesOff, WantsForm, WantsPlan}
+use Rattle.vx_plans.specs.Steps.{DoesForm, DoesPlan, WantsForm, WantsPlan}
 use Rattle.vx_group_calls.specs.Serving.{IsWithinLimits}
 
 in_range : (start count : ℕ) → (nat_lt start (2 ^ 40) && nat_lt 0 count && nat_le count 2048) ≡ true → (start < 2 ^ 40) × (0 < count) × (count ≤ 2048)
@@ -88,11 +87,3 @@ other_form Q place dg (form.PrintSnaps a) none q = q
 other_form Q place dg (form.Recover a) none q = q
 other_form Q place dg (form.Acting a) none q = q
 other_form Q place dg (form.Sessions a) none q = q
-
--- a command without a word `cut=N` does what its form does
-pub uncut_form : (Q : Goings → Leavings → Type 0) (place : ℕ) (c : Command) (x : Form) → c.form ≡ x → is_some c.cut ≡ false → Q (DoesForm place c.group x) (WantsForm c.group x) → Q (Does place c) (LeavesOff c)
-uncut_form Q place c x is none q = by c.cut none
-  where
-    by : (o : Option ℕ) → is_some o ≡ false → Q (λ m views end n. MatchOption o (DoesForm place c.group c.form m views end n) (λ k. IsNotBuilt m views end n)) (λ m n. MatchOption o (WantsForm c.group c.form m n) (λ k. n.world ≡ m.world))
-    by None e = subst (λ f. Q (DoesForm place c.group f) (WantsForm c.group f)) (sym is) q
-    by (Some n) e = cc

@@ -22,10 +22,9 @@ use Rattle.vx_answers.specs.declared.answer.End.TheVariants as ends
 use Rattle.vx_moments.specs.Moment.{Moment}
 use Rattle.vx_plans.specs.Steps.{IsTranscript}
 use Rattle.vx_house.specs.Closing.{NoneHeld}
-use Rattle.vx_house.specs.Goes.{Goes}
 use Rattle.vx_house.specs.Holders.{AreHeld, IsTakenFrom, holders, group_holders, group_rests, hand_holder, holder_in, volume_holder, volume_at}
 use Rattle.vx_house.specs.Leaves.{IsLeft}
-use Rattle.vx_house.specs.Scene.{Shelved, Scene, seen_at, AreCountsOf, FaultsGoOn}
+use Rattle.vx_house.specs.Scene.{Shelved, Scene, seen_at, AreCountsOf, FaultsGoOn, counts_of}
 use Rattle.vx_house.specs.View.{View, at, scene, is_lent, IsDeviceOf, IsAtVolume, group_of, IsMoment, Keeps, KeepsButGroup, HasDisk, IsGroupKept}
 use Rattle.vx_house.specs.declared.house.House.{House}
 use Rattle.vx_house.specs.declared.house.Imported.{Imported}
@@ -34,9 +33,11 @@ use Rattle.vx_house.proofs.AfterLoss.{all_gone, power_goes}
 use Rattle.vx_house.proofs.AfterLoss.{left as left_world}
 use Rattle.vx_house.proofs.AllLaws.{all_back, all_front, found_in}
 use Rattle.vx_house.proofs.Moments.{faults_moved, faults_trans}
-use Rattle.vx_run.specs.Ends.{CarriesOut, IsShelfOf, ShelfGoes, StopsShort, bare}
+use Rattle.vx_run.specs.Ends.{CarriesOut, IsShelfOf, IsShut, ShelfGoes, StopsShort, bare}
 use Rattle.vx_run.specs.Run.{AreBlamed, HasRun, HasRunPartly, IsTranscriptThen}
+use Rattle.vx_run.specs.Powers.{GetsPower, GoesOn}
 use Rattle.vx_run.specs.Stops.{HoldsSome}
+use Rattle.vx_run.proofs.Powers.{bare_back, bare_faults, bare_power}
 use Rattle.vx_run.proofs.Runs.{all_on}
 use Rattle.vx_moments.specs.Leaving.{lone, grouped}
 use Rattle.vx_moments.proofs.Lone.{none_lone}
@@ -100,8 +101,20 @@ module _ {P : Type 0} {ghosts : Ghosts P} (see : P → Seen) (h : House P ghosts
   }
 
 -- a house that began with nothing, and has given all back
-module _ {P : Type 0} {ghosts : Ghosts P} (see : P → Seen) (commands : List Command) (h : House P ghosts) (no_volumes : h.volumes.entries ≡ []) (no_group : h.group ≡ None) (no_hand : h.hand.items ≡ []) (s t : Shelved) (mid : View P ghosts) (k : House P ghosts)
-    (keeps : KeepsButGroup see mid) (gone : IsLeft see (ends.Lost []) mid (at t k)) (taken taken' : Option (List ℕ)) where
+module _ {P : Type 0} {ghosts : Ghosts P} (see : P → Seen) (commands : List Command) (h : House P ghosts) (no_volumes : h.volumes.entries ≡ []) (no_group : h.group ≡ None) (no_hand : h.hand.items ≡ []) (s u : Shelved) (mid : View P ghosts) (k : House P ghosts)
+    (keeps : KeepsButGroup see mid) (shut : IsShut see mid u k) (taken taken' : Option (List ℕ)) where
+  abbrev t : Shelved
+  t = shut.between
+
+  abbrev gone : IsLeft see (ends.Lost []) mid (at shut.between k)
+  gone = shut.left
+
+  abbrev without : Word → Bool
+  without = shut.gone
+
+  abbrev back : GetsPower shut.gone shut.between u
+  back = shut.back
+
   old_scene : scene see (at s h) ≡ bare s
   old_scene = bare_scene see h no_volumes no_group no_hand s
 
@@ -111,25 +124,31 @@ module _ {P : Type 0} {ghosts : Ghosts P} (see : P → Seen) (commands : List Co
   last_faults : FaultsGoOn (scene see mid) (scene see (at t k))
   last_faults = faults_moved (scene see mid) (scene see (at t k)) gone.later.moved
 
-  shelf_goes : (R : Moment → Moment → Type 0) → Goes see R (at s h) mid → ShelfGoes R s t
+  shelf_goes : (R : Moment → Moment → Type 0) → GoesOn see R (at s h) mid → ShelfGoes R s u
   shelf_goes R goes m is =
       let n = goes m (moment_there see h no_volumes no_group no_hand s m is) in
-      let but = moment_but_group see mid n.0 n.1 in (
+      let but = moment_but_group see mid n.0 n.1 in
+      let there = shelf_there see k gone.stays.volumes gone.stays.group gone.later.hand t _ (all_gone see mid n.0 but keeps (at t k) gone) (λ vol. refl) in (
         n.0,
         left_world see mid n.0 but keeps,
         n.3,
         n.2,
         (gone.stands n.0 keeps but, power_goes see mid n.0 but keeps),
-        shelf_there see k gone.stays.volumes gone.stays.group gone.later.hand t _ (all_gone see mid n.0 but keeps (at t k) gone) (λ vol. refl),
+        counts_of (bare u),
+        bare_power without t u back (record { world = left_world see mid n.0 but keeps; counts = n.0.counts }) there,
+        bare_back without t u back (record { world = left_world see mid n.0 but keeps; counts = n.0.counts }) there,
       )
 
-  all_faults : FaultsGoOn (scene see (at s h)) (scene see mid) → FaultsGoOn (bare s) (bare t)
-  all_faults on = subst (λ x. FaultsGoOn x (bare t)) old_scene (subst (FaultsGoOn (scene see (at s h))) new_scene (faults_trans (scene see (at s h)) (scene see mid) (scene see (at t k)) on last_faults))
+  to_bare : FaultsGoOn (scene see mid) (bare u)
+  to_bare = faults_trans (scene see mid) (bare t) (bare u) (subst (FaultsGoOn (scene see mid)) new_scene last_faults) (bare_faults without t u back)
 
-  all_blamed : (answers : List Answer) → AreBlamed answers (scene see (at s h)) (scene see mid) → AreBlamed answers (bare s) (bare t)
-  all_blamed answers blamed = subst (λ x. AreBlamed answers x (bare t)) old_scene (subst (AreBlamed answers (scene see (at s h))) new_scene (all_on answers (scene see (at s h)) (scene see mid) (scene see (at t k)) blamed last_faults))
+  all_faults : FaultsGoOn (scene see (at s h)) (scene see mid) → FaultsGoOn (bare s) (bare u)
+  all_faults on = subst (λ x. FaultsGoOn x (bare u)) old_scene (faults_trans (scene see (at s h)) (scene see mid) (bare u) on to_bare)
 
-  pub carried_out : (fine : Bool) → HasRun see 0 commands (at s h) taken mid taken' fine → CarriesOut commands s taken t taken' fine
+  all_blamed : (answers : List Answer) → AreBlamed answers (scene see (at s h)) (scene see mid) → AreBlamed answers (bare s) (bare u)
+  all_blamed answers blamed = subst (λ x. AreBlamed answers x (bare u)) old_scene (all_on answers (scene see (at s h)) (scene see mid) (bare u) blamed to_bare)
+
+  pub carried_out : (fine : Bool) → HasRun see 0 commands (at s h) taken mid taken' fine → CarriesOut commands s taken u taken' fine
   carried_out fine run = record {
     answers = run.answers;
     goes = shelf_goes (λ m last. IsTranscript 0 m commands run.answers last) run.goes;
@@ -139,7 +158,7 @@ module _ {P : Type 0} {ghosts : Ghosts P} (see : P → Seen) (commands : List Co
     blamed = all_blamed run.answers run.blamed;
   }
 
-  pub stopped_short : HasRunPartly see 0 commands (at s h) taken mid taken' → StopsShort commands s taken t taken'
+  pub stopped_short : HasRunPartly see 0 commands (at s h) taken mid taken' → StopsShort commands s taken u taken'
   stopped_short run = record {
     begun = run.begun;
     left = run.left;
@@ -174,7 +193,7 @@ module _ {P : Type 0} {ghosts : Ghosts P} (see : P → Seen) (s : Shelved) (h : 
       (all_back (IsTakenFrom s.held) (map (volume_holder see) h.volumes.entries) (group_holders see h.group ++ map (hand_holder see) h.hand.items) are.each))
 
 -- all went back, where none is held
-pub left_or_held : {P E : Type 0} {ghosts : Ghosts P} (see : P → Seen) (result : Result (Unit {0}) E) (held : Word → Option Held) (mid new : View P ghosts) →
-    OnOk result (IsLeft see (ends.Lost []) mid new) → OnErr result (HoldsSome held) → NoneHeld held → IsLeft see (ends.Lost []) mid new
-left_or_held see (Ok u) held mid new gone stuck none = gone
-left_or_held see (Err e) held mid new gone stuck none = none_holds held stuck none
+pub left_or_held : {P E : Type 0} {ghosts : Ghosts P} (see : P → Seen) (result : Result (Unit {0}) E) (held : Word → Option Held) (mid : View P ghosts) (shelf : Shelved) (house : House P ghosts) →
+    OnOk result (IsShut see mid shelf house) → OnErr result (HoldsSome held) → NoneHeld held → IsShut see mid shelf house
+left_or_held see (Ok u) held mid shelf house shut stuck none = shut
+left_or_held see (Err e) held mid shelf house shut stuck none = none_holds held stuck none

@@ -11,15 +11,15 @@ use Rattle.vx_answers.specs.Lines.{lines_of}
 use Rattle.vx_answers.specs.declared.answer.Answer.{Answer}
 use Rattle.vx_answers.specs.declared.answer.Answer.TheVariants.{One, Block}
 use Rattle.vx_answers.specs.declared.answer.End.{End}
-use Rattle.vx_answers.specs.declared.answer.View.{View as Shown}
-use Rattle.vx_moments.specs.Moment.{Moment}
-use Rattle.vx_plans.specs.Steps.{IsTranscript, Does, LeavesOff}
+use Rattle.vx_moments.specs.Moment.{Counts, Moment}
+use Rattle.vx_plans.specs.Steps.{IsTranscript}
 use Rattle.vx_house.specs.Scene.{Scene, FaultsGoOn}
 use Rattle.vx_house.specs.View.{View, Keeps, scene}
 use Rattle.vx_house.proofs.Ends.{keeps_but_group}
-use Rattle.vx_house.proofs.Moments.{later_refl, later_trans, faults_refl, faults_trans}
+use Rattle.vx_house.proofs.Moments.{faults_refl, faults_trans}
 use Rattle.vx_house.proofs.Takes.{blamed_later}
-use Rattle.vx_run.specs.Serving.{AnswerBlamed, CommandEnds, CommandGoes, IsRefused}
+use Rattle.vx_run.specs.Powers.{FaultsAreLater, IsLeftOff, StepEnds, StepGoes}
+use Rattle.vx_run.specs.Serving.{AnswerBlamed}
 use Rattle.vx_run.specs.declared.unserved.Unserved.{Unserved}
 use Rattle.vx_run.specs.declared.unserved.Unserved.TheVariants as unserved
 use Rattle.vx_run.proofs.CommandEnds.{blamed_on}
@@ -28,6 +28,14 @@ use Rattle.vx_run.specs.Run.{AreBlamed, HasRun, HasRunPartly, HoldsButLast, Rest
 use Rattle.vx_run.specs.Stops.{IsKept, IsKeptButGroup, LeftBy, OnShort, fault_of}
 use Rattle.vx_run.specs.declared.lines.ServeFault.{ServeFault}
 use Rattle.vx_run.specs.declared.lines.ServeFault.TheVariants as stops
+
+-- ---- counts
+
+counts_stay : (a : Counts) → FaultsAreLater a a
+counts_stay a = record { faults = λ name. omega arith; shelf = omega arith }
+
+pub counts_go : (a b c : Counts) → FaultsAreLater a b → FaultsAreLater b c → FaultsAreLater a c
+counts_go a b c first next = record { faults = λ name. (let one = first.faults name in let two = next.faults name in omega (arith, one, two)); shelf = (let one = first.shelf in let two = next.shelf in omega (arith, one, two)) }
 
 -- ---- transcripts
 
@@ -98,7 +106,7 @@ module _ {P : Type 0} {ghosts : Ghosts P} (see : P → Seen) where
   pub none_run : (place : ℕ) (v : View P ghosts) (taken : Option (List ℕ)) → HasRun see place [] v taken v taken true
   none_run place v taken = record {
     answers = [];
-    goes = λ m is. (m, is, later_refl m.counts, refl);
+    goes = λ m is. (m, is, counts_stay m.counts, refl);
     written = λ text is. is ∙ ap (λ t. Some t) (sym (append-nil text));
     fine_is = refl;
     faults = faults_refl (scene see v);
@@ -106,7 +114,7 @@ module _ {P : Type 0} {ghosts : Ghosts P} (see : P → Seen) where
   }
 
   -- a command that was served, with its line
-  pub one_run : (place : ℕ) (c : Command) (answer : Answer) (old new : View P ghosts) (taken taken' : Option (List ℕ)) (fine : Bool) → CommandGoes see (Does place c) answer old new → ((text : List ℕ) → taken ≡ Some text → taken' ≡ Some (text ++ lines_of answer)) → fine ≡ is_fine answer → HasRun see place (c ∷ []) old taken new taken' fine
+  pub one_run : (place : ℕ) (c : Command) (answer : Answer) (old new : View P ghosts) (taken taken' : Option (List ℕ)) (fine : Bool) → StepGoes see place c answer old new → ((text : List ℕ) → taken ≡ Some text → taken' ≡ Some (text ++ lines_of answer)) → fine ≡ is_fine answer → HasRun see place (c ∷ []) old taken new taken' fine
   one_run place c answer old new taken taken' fine go written is = record {
     answers = answer ∷ [];
     goes = λ m there. (let n = go.goes m there in (n.0, n.1, n.2, (n.0, n.3, refl)));
@@ -117,13 +125,13 @@ module _ {P : Type 0} {ghosts : Ghosts P} (see : P → Seen) where
   }
 
   -- one whose line was not written whole
-  pub one_partly : (place : ℕ) (c : Command) (answer : Answer) (old new : View P ghosts) (taken taken' : Option (List ℕ)) → CommandGoes see (Does place c) answer old new → ((text : List ℕ) → taken ≡ Some text → (n : ℕ) × (taken' ≡ Some (text ++ take n (lines_of answer)))) → HasRunPartly see place (c ∷ []) old taken new taken'
+  pub one_partly : (place : ℕ) (c : Command) (answer : Answer) (old new : View P ghosts) (taken taken' : Option (List ℕ)) → StepGoes see place c answer old new → ((text : List ℕ) → taken ≡ Some text → (n : ℕ) × (taken' ≡ Some (text ++ take n (lines_of answer)))) → HasRunPartly see place (c ∷ []) old taken new taken'
   one_partly place c answer old new taken taken' go written = record {
     begun = c ∷ [];
     left = [];
     split = refl;
     answers = answer ∷ [];
-    goes = λ m there. (let n = go.goes m there in (n.0, n.1, n.2, (n.0, (n.0, n.3, refl), later_refl n.0.counts, refl)));
+    goes = λ m there. (let n = go.goes m there in (n.0, n.1, n.2, (n.0, (n.0, n.3, refl), counts_stay n.0.counts, refl)));
     written = λ text told. (let n = written text told in record {
       bytes = n.0;
       written = n.1 ∙ ap (λ l. Some (text ++ take n.0 l)) (sym (line_alone answer));
@@ -133,8 +141,12 @@ module _ {P : Type 0} {ghosts : Ghosts P} (see : P → Seen) where
     blamed = (go.blamed, tt);
   }
 
+  -- one of whose line nothing was written
+  pub unwritten_partly : (place : ℕ) (c : Command) (answer : Answer) (old new : View P ghosts) (taken : Option (List ℕ)) → StepGoes see place c answer old new → HasRunPartly see place (c ∷ []) old taken new taken
+  unwritten_partly place c answer old new taken go = one_partly place c answer old new taken taken go (λ text told. (0, told ∙ ap (λ l. Some l) (sym (append-nil text))))
+
   -- one that was not begun
-  pub none_partly : (place : ℕ) (c : Command) (old new : View P ghosts) (taken : Option (List ℕ)) → IsRefused see (LeavesOff c) old new → HasRunPartly see place (c ∷ []) old taken new taken
+  pub none_partly : (place : ℕ) (c : Command) (old new : View P ghosts) (taken : Option (List ℕ)) → IsLeftOff see c old new → HasRunPartly see place (c ∷ []) old taken new taken
   none_partly place c old new taken go = record {
     begun = [];
     left = c ∷ [];
@@ -156,7 +168,7 @@ module _ {P : Type 0} {ghosts : Ghosts P} (see : P → Seen) where
     goes = λ m there.
         let n = a.goes m there in
         let k = b.goes n.0 n.1 in
-        (k.0, k.1, later_trans m.counts n.0.counts k.0.counts n.2 k.2, transcript_then place m n.0 k.0 cs ds a.answers b.answers n.3 k.3);
+        (k.0, k.1, counts_go m.counts n.0.counts k.0.counts n.2 k.2, transcript_then place m n.0 k.0 cs ds a.answers b.answers n.3 k.3);
     written = λ text told. b.written (text ++ text_of a.answers) (a.written text told) ∙ ap (λ t. Some t) (append_assoc text (text_of a.answers) (text_of b.answers) ∙ ap (λ l. text ++ l) (sym (text_more a.answers b.answers)));
     fine_is = ap (λ x. x && fine') a.fine_is ∙ ap (λ x. are_fine a.answers && x) b.fine_is ∙ sym (list_all-append is_fine a.answers b.answers);
     faults = faults_trans (scene see old) (scene see mid) (scene see new) a.faults b.faults;
@@ -172,7 +184,7 @@ module _ {P : Type 0} {ghosts : Ghosts P} (see : P → Seen) where
     goes = λ m there.
         let n = a.goes m there in
         let k = b.goes n.0 n.1 in
-        (k.0, k.1, later_trans m.counts n.0.counts k.0.counts n.2 k.2, (k.3.0, transcript_then place m n.0 k.3.0 cs b.begun a.answers b.answers n.3 k.3.1, k.3.2, k.3.3));
+        (k.0, k.1, counts_go m.counts n.0.counts k.0.counts n.2 k.2, (k.3.0, transcript_then place m n.0 k.3.0 cs b.begun a.answers b.answers n.3 k.3.1, k.3.2, k.3.3));
     written = λ text told. (let w = b.written (text ++ text_of a.answers) (a.written text told) in record {
       bytes = length (text_of a.answers) + w.bytes;
       written = w.written ∙ ap (λ t. Some t) (append_assoc text (text_of a.answers) (take w.bytes (text_of b.answers)) ∙ ap (λ l. text ++ l) (sym (ap (take (length (text_of a.answers) + w.bytes)) (text_more a.answers b.answers) ∙ front_more (text_of a.answers) (text_of b.answers) w.bytes)));
@@ -199,11 +211,11 @@ module _ {P : Type 0} {ghosts : Ghosts P} (see : P → Seen) where
 
 module _ {P : Type 0} {ghosts : Ghosts P} (see : P → Seen) where
   -- it had no answer
-  pub unserved_left : (T : Type 0) (why : Unserved) (Do : Moment → List Shown → End → Moment → Type 0) (Left : Moment → Moment → Type 0) (old new : View P ghosts) → CommandEnds see Do Left (Err why) old new → LeftBy {T = T} see (Err (fault_of why)) new
-  unserved_left T unserved.OutOfMemory Do Left old new ends = record { keeps = ends.keeps; empty = ends.empty }
-  unserved_left T unserved.HeldUp Do Left old new ends = ends
+  pub unserved_left : (T : Type 0) (why : Unserved) (place : ℕ) (c : Command) (old new : View P ghosts) → StepEnds see place c (Err why) old new → LeftBy {T = T} see (Err (fault_of why)) new
+  unserved_left T unserved.OutOfMemory place c old new ends = record { keeps = ends.keeps; empty = ends.empty }
+  unserved_left T unserved.HeldUp place c old new ends = ends
 
-  pub unserved_partly : (T : Type 0) (why : Unserved) (c : Command) (old new : View P ghosts) (taken : Option (List ℕ)) → ((place : ℕ) → CommandEnds see (Does place c) (LeavesOff c) (Err why) old new) →
+  pub unserved_partly : (T : Type 0) (why : Unserved) (c : Command) (old new : View P ghosts) (taken : Option (List ℕ)) → ((place : ℕ) → StepEnds see place c (Err why) old new) →
       OnShort {T = T} (Err (fault_of why)) ((place : ℕ) → HasRunPartly see place (c ∷ []) old taken new taken)
   unserved_partly T unserved.OutOfMemory c old new taken ends = λ place. none_partly see place c old new taken (ends place)
   unserved_partly T unserved.HeldUp c old new taken ends = tt

@@ -30,8 +30,8 @@ rested_sound old begun answers last [] off left none idle sound run same goes =
     each_run_keeps_devices_sound 0 old begun answers last left none idle sound run (subst (λ (w : World). PowerGoes w left) same goes)
 rested_sound old begun answers last (c ∷ cs) off left none idle sound run (inl same) goes =
     each_run_keeps_devices_sound 0 old begun answers last left none idle sound run (subst (λ (w : World). PowerGoes w left) same goes)
-rested_sound old begun answers last (c ∷ cs) off left none idle sound run (inr wants) goes =
-    each_run_left_off_keeps_devices_sound 0 old begun answers last c off left none idle sound run wants goes
+rested_sound old begun answers last (c ∷ cs) off left none idle sound run (inr (at, same, wants)) goes =
+    each_run_left_off_keeps_devices_sound 0 old begun answers last c at left none idle sound run wants (subst (λ (w : World). PowerGoes w left) same goes)
 
 -- so it is with the volumes of all groups
 rested_all : EachRunKeepsDevicesSound → EachRunLeftOffKeepsDevicesSound → (old : Moment) (begun : List Command) (answers : List Answer) (last : Moment) (rest : List Command) (off : Moment) (left : World)
@@ -40,7 +40,8 @@ rested_all whole part old begun answers last [] off left none idle sound run sam
     whole 0 old begun answers last left none idle sound run (subst GroupStands same stands) (subst (λ (w : World). PowerGoes w left) same goes)
 rested_all whole part old begun answers last (c ∷ cs) off left none idle sound run (inl same) stands goes =
     whole 0 old begun answers last left none idle sound run (subst GroupStands same stands) (subst (λ (w : World). PowerGoes w left) same goes)
-rested_all whole part old begun answers last (c ∷ cs) off left none idle sound run (inr wants) stands goes = part 0 old begun answers last c off left none idle sound run wants stands goes
+rested_all whole part old begun answers last (c ∷ cs) off left none idle sound run (inr (at, same, wants)) stands goes =
+    part 0 old begun answers last c at left none idle sound run wants (subst GroupStands same stands) (subst (λ (w : World). PowerGoes w left) same goes)
 
 -- a shelf has no group and no volumes
 idle : (s : Shelved) (m : Moment) → IsShelfOf s m → IsIdle m.world
@@ -51,16 +52,16 @@ module _ (commands : List Command) (old : Shelved) (taken : Option (List ℕ)) (
   carried_copies : IsSoundShelf old → IsSoundShelf new
   carried_copies (m, is, sound) =
       let goes = run.goes m is in (
-        record { world = goes.1; counts = goes.0.counts },
-        goes.5,
+        record { world = goes.1; counts = goes.5 },
+        goes.7,
         each_run_keeps_devices_sound 0 m commands run.answers goes.0 goes.1 none (idle old m is) sound goes.2 goes.4.1,
       )
 
   carried_volumes : EachRunKeepsDevicesSound → HasSoundVolumes old → HasSoundVolumes new
   carried_volumes whole (m, is, sound) =
       let goes = run.goes m is in (
-        record { world = goes.1; counts = goes.0.counts },
-        goes.5,
+        record { world = goes.1; counts = goes.5 },
+        goes.7,
         whole 0 m commands run.answers goes.0 goes.1 none (idle old m is) sound goes.2 goes.4.0 goes.4.1,
       )
 
@@ -78,16 +79,16 @@ module _ (commands : List Command) (old : Shelved) (taken : Option (List ℕ)) (
   short_copies : IsSoundShelf old → IsSoundShelf new
   short_copies (m, is, sound) =
       let goes = run.goes m is in (
-        record { world = goes.1; counts = goes.0.counts },
-        goes.5,
+        record { world = goes.1; counts = goes.5 },
+        goes.7,
         rested_sound m run.begun run.answers goes.2.0 run.left goes.0 goes.1 front (idle old m is) sound goes.2.1 goes.2.3 goes.4.1,
       )
 
   short_volumes : EachRunKeepsDevicesSound → EachRunLeftOffKeepsDevicesSound → HasSoundVolumes old → HasSoundVolumes new
   short_volumes whole part (m, is, sound) =
       let goes = run.goes m is in (
-        record { world = goes.1; counts = goes.0.counts },
-        goes.5,
+        record { world = goes.1; counts = goes.5 },
+        goes.7,
         rested_all whole part m run.begun run.answers goes.2.0 run.left goes.0 goes.1 front (idle old m is) sound goes.2.1 goes.2.3 goes.4.0 goes.4.1,
       )
 

@@ -6,6 +6,7 @@ pub mod Serving
 pub mod Calling
 pub mod Grouped
 pub mod Fine
+pub mod Powers
 pub mod Run
 pub mod Stops
 pub mod Ends

@@ -7,7 +7,7 @@ use Rattle.vx_answers.specs.declared.answer.Answer.TheVariants.{One, Block}
 use Rattle.vx_answers.specs.declared.answer.End.{End}
 use Rattle.vx_answers.specs.declared.answer.View.{View as Shown}
 use Rattle.vx_moments.specs.Moment.{Moment}
-use Rattle.vx_plans.specs.Steps.{Serves}
+use Rattle.vx_plans.specs.Steps.{AreAsBefore, Serves}
 use Rattle.vx_run.specs.declared.unserved.Unserved.{Unserved}
 use Rattle.vx_run.specs.declared.unserved.Unserved.TheVariants as unserved
 use Rattle.vx_house.specs.Goes.{Goes}
@@ -24,7 +24,7 @@ AnswerBlamed (Block lines lost) old new = Unit {0}
 pub record CommandGoes {P : Type 0} {ghosts : Ghosts P} (see : P → Seen) (Does : Moment → List Shown → End → Moment → Type 0) (answer : Answer) (old new : View P ghosts) : Type 0 where
   pub keeps : Keeps see new
   pub empty : new.house.hand.items ≡ []
-  pub goes : Goes see (λ m n. Serves Does m answer n) old new
+  pub goes : Goes see (λ m n. Serves Does AreAsBefore m answer n) old new
   pub faults : FaultsGoOn (scene see old) (scene see new)
   pub blamed : AnswerBlamed answer (scene see old) (scene see new)
 

@@ -25,7 +25,7 @@ use vx_script_forms::{Form, name_in};
 use vx_script_words::DiskAt;
 use vx_shelf::Shelf;
 
-/// Serves a command. After a refusal of memory it is left as `LeavesOff` says: the world is as before, but where the records of a new volume
+/// Serves a command, whatever its word `cut=N` says. After a refusal of memory it is left as `LeavesOff` says: the world is as before, but where the records of a new volume
 /// were added or devices of a volume were called already.
 pub fn execute<S: Shelf>(
     alloc: Global,
@@ -39,9 +39,6 @@ pub fn execute<S: Shelf>(
     ensures goes { (place : ℕ) → CommandEnds S.P.seen (Does place command.now) (LeavesOff command.now) result
         (at (shelved S.free S.held S.counted S.faults shelf.old) house.old) (at (shelved S.free S.held S.counted S.faults shelf.new) house.new) }
 {
-    if command.cut.is_some() {
-        return Ok(not_built(alloc));
-    }
     match &command.form {
         Form::Calling(call) => serve_call(alloc, house, shelf, call),
         form => serve_form(alloc, house, shelf, name_in(&command.group), form),

@@ -12,17 +12,19 @@ ghost use Rattle.vx_house.specs.View.{IsGroupWhole, Keeps, at};
 ghost use Rattle.vx_run.specs.Fine.{is_fine};
 ghost use Rattle.vx_run.specs.Run.{HasRun, HasRunPartly};
 ghost use Rattle.vx_run.specs.Stops.{HoldsSome, LeftBy, OnShort, fault_of};
-ghost use Rattle.vx_run.specs.Ends.{CarriesOut, StopsShort};
+ghost use Rattle.vx_run.specs.Ends.{CarriesOut, IsShut, StopsShort};
+ghost use Rattle.vx_run.specs.Powers.{NoneGone};
 ghost use Rattle.vx_run.specs.Soundly.{StaysSound};
 ghost use Rattle.vx_run.specs.declared.lines.ServeFault.TheVariants as stops;
 
 use crate::fine::is_fine;
-use crate::{Unserved, execute};
+use crate::{Unserved, serve};
 use std::alloc::Global;
 use vx_answers::{Answer, End, Parts, put_answer};
 use vx_base::OutOfMemory;
 use vx_flow::Sink;
 use vx_house::{House, leave};
+use vx_power::PowerShelf;
 use vx_script::Command;
 use vx_shelf::Shelf;
 use vx_sound_imports::each_run_keeps_all_devices_sound;
@@ -79,8 +81,9 @@ impl From<Unserved> for ServeFault {
     }
 }
 
-/// Serves a command, and writes the line of its answer.
-fn one_line<S: Shelf, B: Sink>(
+/// Serves a command, and writes the line of its answer. No device is without its power for the switch by then: no fuse acts but in a command
+/// with a word `cut=N`. What stands between does not promise that, so it is looked at, and memory is said to be wanting where it is not so.
+fn one_line<S: PowerShelf, B: Sink>(
     alloc: Global,
     house: &mut House<S::P>,
     shelf: &mut S,
@@ -98,12 +101,16 @@ fn one_line<S: Shelf, B: Sink>(
     ensures partly { OnShort result ((place : ℕ) → HasRunPartly S.P.seen place (command.now ∷ [])
         (at (shelved S.free S.held S.counted S.faults shelf.old) house.old) (B.taken sink.old)
         (at (shelved S.free S.held S.counted S.faults shelf.new) house.new) (B.taken sink.new)) }
+    ensures powered { OnOk result (NoneGone (S.gone shelf.new)) }
     ensures cause { IsErrOf result ServeFault.SinkFailed → Rose (B.faults sink.old) (B.faults sink.new) }
     ensures quiet { OnOk result (B.faults sink.new ≡ B.faults sink.old) }
     ensures quiet_refused { (IsErrOf result ServeFault.OutOfMemory ⊎ IsErrOf result ServeFault.HeldUp) → B.faults sink.new ≡ B.faults sink.old }
     ensures later { B.faults sink.old ≤ B.faults sink.new }
 {
-    let answer = execute(alloc, house, shelf, command)?;
+    let answer = serve(alloc, house, shelf, command)?;
+    if shelf.has_gone() {
+        return Err(ServeFault::OutOfMemory);
+    }
     write_line(sink, line, &answer)
 }
 
@@ -114,7 +121,7 @@ fn both(one: bool, other: bool) -> bool
 }
 
 /// Serves all commands of a script, one after the other.
-fn all_lines<S: Shelf, B: Sink>(
+fn all_lines<S: PowerShelf, B: Sink>(
     alloc: Global,
     house: &mut House<S::P>,
     shelf: &mut S,
@@ -156,9 +163,26 @@ fn close<S: Shelf>(alloc: Global, house: &mut House<S::P>, shelf: &mut S) -> Res
     leave(alloc, house, shelf, &End::Lost { parts })
 }
 
+/// The power goes, and is back once all devices were given back.
+fn shut<S: PowerShelf>(
+    alloc: Global,
+    house: &mut House<S::P>,
+    shelf: &mut S,
+) -> Result<(), OutOfMemory>
+    requires held { AreHeld (S.held shelf.old) (holders S.P.seen house.old) }
+    requires whole { IfSome house.old.group (IsGroupWhole S.P.seen) }
+    ensures gone { OnOk result (IsShut S.P.seen (at (shelved S.free S.held S.counted S.faults shelf.old) house.old) (shelved S.free S.held S.counted S.faults shelf.new) house.new) }
+    ensures stuck { OnErr result (HoldsSome (S.held shelf.new)) }
+    ensures powered { NoneGone (S.gone shelf.new) }
+{
+    let result = close(alloc, house, shelf);
+    shelf.restore();
+    result
+}
+
 /// Serves the commands of a script, and gives all devices back at the end; after an error those of a group may still be held, where
 /// there was no memory to join them. It tells whether all answers were fine.
-pub fn run_commands<S: Shelf, B: Sink>(
+pub fn run_commands<S: PowerShelf, B: Sink>(
     alloc: Global,
     shelf: &mut S,
     sink: &mut B,
@@ -174,6 +198,7 @@ pub fn run_commands<S: Shelf, B: Sink>(
         (shelved S.free S.held S.counted S.faults shelf.new) (B.taken sink.new)) }
     ensures sound { NoneHeld (S.held shelf.new) → StaysSound commands.now (shelved S.free S.held S.counted S.faults shelf.old) (shelved S.free S.held S.counted S.faults shelf.new) }
     ensures back { OnOk result (NoneHeld (S.held shelf.new)) }
+    ensures powered { OnOk result (NoneGone (S.gone shelf.new)) }
     ensures cause { IsErrOf result ServeFault.SinkFailed → Rose (B.faults sink.old) (B.faults sink.new) }
     ensures quiet { OnOk result (B.faults sink.new ≡ B.faults sink.old) }
     ensures quiet_refused { (IsErrOf result ServeFault.OutOfMemory ⊎ IsErrOf result ServeFault.HeldUp) → B.faults sink.new ≡ B.faults sink.old }
@@ -182,17 +207,17 @@ pub fn run_commands<S: Shelf, B: Sink>(
     each_run_keeps_all_devices_sound();
     let mut house = House::new(alloc);
     match all_lines(alloc, &mut house, shelf, sink, commands) {
-        Ok(fine) => match close(alloc, &mut house, shelf) {
+        Ok(fine) => match shut(alloc, &mut house, shelf) {
             Ok(()) => Ok(fine),
             Err(_) => Err(ServeFault::HeldUp),
         },
         Err(ServeFault::HeldUp) => Err(ServeFault::HeldUp),
         Err(ServeFault::OutOfMemory) => {
-            let _ = close(alloc, &mut house, shelf);
+            let _ = shut(alloc, &mut house, shelf);
             Err(ServeFault::OutOfMemory)
         }
         Err(ServeFault::SinkFailed) => {
-            let _ = close(alloc, &mut house, shelf);
+            let _ = shut(alloc, &mut house, shelf);
             Err(ServeFault::SinkFailed)
         }
     }

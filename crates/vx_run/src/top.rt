@@ -13,13 +13,13 @@ use crate::words::folder_of;
 use crate::{ServeFault, run_commands};
 use std::alloc::Global;
 use vx_flow::{Sink, Source};
+use vx_power::PowerShelf;
 use vx_script::{ScriptFault, read};
-use vx_shelf::Shelf;
 
 /// Runs the script of the source on the shelf, and writes the line of each answer to the sink. It answers the status:
 /// 0 all answers are fine, 1 the words are not `--images DIR`, 2 the bytes are no script, 3 the source failed, 4 the
 /// sink failed, 5 some answer is not fine, 6 memory was wanting, 7 the script has more than 16,777,216 bytes.
-pub fn run<S: Shelf, A: Source, B: Sink>(
+pub fn run<S: PowerShelf, A: Source, B: Sink>(
     alloc: Global,
     words: &[&str],
     shelf: &mut S,
@@ -94,7 +94,7 @@ fn tell<B: Sink>(sink: &mut B, line: &[u8])
 }
 
 /// Runs the script that the bytes spell.
-fn run_bytes<S: Shelf, B: Sink>(alloc: Global, shelf: &mut S, sink: &mut B, bytes: &[u8]) -> u8
+fn run_bytes<S: PowerShelf, B: Sink>(alloc: Global, shelf: &mut S, sink: &mut B, bytes: &[u8]) -> u8
     requires here { NoneHeld (S.held shelf.old) }
     ensures fine { result ≡ 0 → IsSpelledRun bytes.now
         (shelved S.free S.held S.counted S.faults shelf.old) (B.taken sink.old)

@@ -312,11 +312,7 @@ module _ (old : Moment) (views : List View) (end : End) (new : Moment) (s : IsSt
   form_ends place dg (form.Sessions block) none does = not_built does
 
   pub command_ends : (place : ℕ) (c : Command) → FormWritesNoHeader c.form → Does place c old views end new → Ends end new.world
-  command_ends place c none does = by c.cut does
-    where
-      by : (cut : Option ℕ) → MatchOption cut (DoesForm place c.group c.form old views end new) (λ n. IsNotBuilt old views end new) → Ends end new.world
-      by None does = form_ends place c.group c.form none does
-      by (Some n) does = not_built does
+  command_ends place c none does = form_ends place c.group c.form none does
 
 -- ---- what is left
 

@@ -1,5 +1,5 @@
 -- What want of memory leaves of a command is sound: the world as it was, or a volume whose own sectors alone have changed.
-use Rattle.std.proofs.Common.{◌≡◌, ◌&&◌, ℕ, Bool, true, List, [], ◌∷◌, Option, Some, None, MatchOption, refl, sym, subst, inl, inr}
+use Rattle.std.proofs.Common.{◌≡◌, ◌&&◌, ℕ, Bool, true, List, [], ◌∷◌, Option, Some, None, refl, sym, subst, inl, inr}
 use Rattle.std.proofs.lemmas.Bool.{and_parts}
 use Rattle.vx_base.specs.Named.{Word}
 use Rattle.vx_script_words.specs.declared.value.DiskAt.{DiskAt}
@@ -87,11 +87,7 @@ form_stands dg (form.Calling call) old new s same = same_stands old.world new.wo
 form_stands dg other old new s wants = plan_stands (disks_of other) (plan_of dg other) old new (plan_shaped dg other) s wants
 
 pub each_want_keeps_the_world_sound : (c : Command) (old new : Moment) → IsStanding old.world → LeavesOff c old new → IsStanding new.world
-each_want_keeps_the_world_sound c old new s off = by c.cut off
-  where
-    by : (cut : Option ℕ) → MatchOption cut (WantsForm c.group c.form old new) (λ n. new.world ≡ old.world) → IsStanding new.world
-    by None wants = form_stands c.group c.form old new s wants
-    by (Some n) same = same_stands old.world new.world same s
+each_want_keeps_the_world_sound c old new s off = form_stands c.group c.form old new s off
 
 pub each_run_left_off_keeps_devices_sound : (place : ℕ) (old : Moment) (commands : List Command) (answers : List Answer) (last : Moment) (c : Command) (off : Moment) (left : World)
     → WriteNoHeader commands → IsIdle old.world → AreSound old.world → IsTranscript place old commands answers last → LeavesOff c last off → PowerGoes off.world left → AreSound left

@@ -1,9 +1,10 @@
 -- What an import finds of a group that has left is the group as it was.
-use Rattle.std.proofs.Common.{◌≡◌, ◌∙◌, ℕ, zero, suc, ◌+◌, ◌==◌, ◌&&◌, ◌||◌, not, Bool, true, false, cond, List, [], ◌∷◌, ◌++◌, length, map, Option, Some, None, MatchOption, refl, sym, ap, subst, inl, inr, arith}
+use Rattle.std.proofs.Common.{◌≡◌, ◌∙◌, ℕ, zero, suc, ◌+◌, ◌==◌, ◌&&◌, ◌||◌, not, Bool, true, false, cond, List, [], ◌∷◌, ◌++◌, length, map, Option, Some, None, refl, sym, ap, subst, inl, inr, arith}
 use Rattle.std.specs.Prelude.{Contains, fold, sum_by}
 use Rattle.std.specs.List.{filter, filter_map, find, list_all}
 use Rattle.std.proofs.lemmas.List.{append-nil}
 use Rattle.std.proofs.lemmas.List.Sorted.{sum_by-IsPermutation}
+use Rattle.vx_base.specs.Counts.{Rose}
 use Rattle.vx_base.specs.Named.{Word}
 use Rattle.vx_base.proofs.CountLemmas.{later_and_rose}
 use Rattle.vx_mask.specs.Mask.{has}
@@ -38,12 +39,12 @@ use Rattle.vx_answers.specs.declared.answer.End.{End}
 use Rattle.vx_answers.specs.declared.answer.View.{View}
 use Rattle.vx_state_edits.specs.Edits.{is_new}
 use Rattle.vx_moments.specs.Commit.{IsCommitted, NoneFailed, Writing, is_slot_of, is_written_slot, parties}
-use Rattle.vx_moments.specs.Moment.{HasFailed, Moment}
+use Rattle.vx_moments.specs.Moment.{Counts, HasFailed, Moment}
 use Rattle.vx_moments.specs.World.{Group, Member, Volume, World}
 use Rattle.vx_moments.specs.Group.{image_on, public_of, sectors_of}
 use Rattle.vx_moments.specs.Volumes.{StandsForVolume}
 use Rattle.vx_plans.specs.Plans.{plan_of}
-use Rattle.vx_plans.specs.Steps.{DoesForm, IsNotBuilt}
+use Rattle.vx_plans.specs.Steps.{DoesForm, CountsAfter}
 use Rattle.vx_stages.specs.Finding.{import_records, needs_sync_state}
 use Rattle.vx_stages.specs.Stages.{IsDone, IsImporting}
 use Rattle.vx_stages.specs.declared.stage.Stage.TheVariants as stage
@@ -326,9 +327,6 @@ module _ (place : ℕ) (w left : World) (g : Group) (s : AreAllSound place w) (h
       (is_back place w left g s here leaves old new same none mid between.world (λ device failed. later_and_rose 1 (old.counts.faults device) (mid.counts.faults device) (new.counts.faults device) (between.first.faults device) failed) x i c)
 
   module _ (at : ℕ) (dg : Option Word) (old : Moment) (views : List View) (end : End) (new : Moment) (same : old.world ≡ left) where
-    not_built_never : {A : Type 0} → IsNotBuilt old views end new → (h : Group) → new.world.group ≡ Some h → A
-    not_built_never is h there = not_none h (sym (ap (λ (m : Moment). m.world.group) is.2 ∙ ap (λ (v : World). v.group) same ∙ none_left) ∙ there)
-
     form_back : (none : NoneFailed old.counts new.counts) → DoesForm at dg (form.DgImport g.config.group) old views end new → (h : Group) → new.world.group ≡ Some h → IsBack g left h new.world
     unfolding plan_of
     form_back none (inl (mid, later, is, (shows, over, stays))) h there =
@@ -336,12 +334,16 @@ module _ (place : ℕ) (w left : World) (g : Group) (s : AreAllSound place w) (h
         (done_back old mid same (subst (λ (m : Moment). NoneFailed old.counts m.counts) stays none) is h (ap (λ (m : Moment). m.world.group) (sym stays) ∙ there))
     form_back none (inr (no_views, later, stops)) h there = stopped_none g.config.group old new end (ap (λ (v : World). v.group) same ∙ none_left) stops h there
 
-    cut_back : (f : Form) → f ≡ form.DgImport g.config.group → (cut : Option ℕ) → NoneFailed old.counts new.counts → MatchOption cut (DoesForm at dg f old views end new) (λ n. IsNotBuilt old views end new) → (h : Group) → new.world.group ≡ Some h → IsBack g left h new.world
-    cut_back f is None none does h there = form_back none (subst (λ k. DoesForm at dg k old views end new) is does) h there
-    cut_back f is (Some n) none does h there = not_built_never does h there
+    command_back : (f : Form) → f ≡ form.DgImport g.config.group → NoneFailed old.counts new.counts → DoesForm at dg f old views end new → (h : Group) → new.world.group ≡ Some h → IsBack g left h new.world
+    command_back f is none does h there = form_back none (subst (λ k. DoesForm at dg k old views end new) is does) h there
+
+-- where no device is seen to have failed once the power is back, none had failed before
+none_failed_over : (cut : Option ℕ) (old over new : Counts) → CountsAfter cut over new → NoneFailed old new → NoneFailed old over
+none_failed_over None old over new same none = subst (λ n. NoneFailed old n) same none
+none_failed_over (Some n) old over new back none = λ device failed. none device (subst (Rose (old.faults device)) (sym (back.faults device)) failed)
 
 pub each_group_comes_back : EachGroupComesBack
 each_group_comes_back place w left g s here leaves at c old answer new form_is same step none h there =
     let over : new.world ≡ step.over.world = left_group step.end step.over.world new.world step.leaves h there in
     subst (IsBack g left h) (sym over)
-    (cut_back place w left g s here leaves at c.group old step.views step.end step.over same c.form form_is c.cut (subst (λ n. NoneFailed old.counts n) step.counts none) step.does h (ap (λ (v : World). v.group) (sym over) ∙ there))
+    (command_back place w left g s here leaves at c.group old step.views step.end step.over same c.form form_is (none_failed_over c.cut old.counts step.over.counts new.counts step.counts none) step.does h (ap (λ (v : World). v.group) (sym over) ∙ there))

@@ -1,5 +1,5 @@
 -- Each command keeps all sound, and so does each run.
-use Rattle.std.proofs.Common.{◌≡◌, ◌∙◌, ℕ, ◌+◌, true, List, [], ◌∷◌, ◌++◌, Option, Some, None, MatchOption, refl, sym, ap, subst, inl, inr}
+use Rattle.std.proofs.Common.{◌≡◌, ◌∙◌, ℕ, ◌+◌, true, List, [], ◌∷◌, ◌++◌, Option, Some, None, refl, sym, ap, subst, inl, inr}
 use Rattle.std.specs.Prelude.{Contains}
 use Rattle.std.specs.Str.{bytes_eq}
 use Rattle.std.proofs.lemmas.Bool.{and_parts}
@@ -24,7 +24,7 @@ use Rattle.vx_moments.specs.World.{Group, World}
 use Rattle.vx_moments.specs.Group.{image_on, public_of, sectors_of}
 use Rattle.vx_moments.specs.Lives.{GroupStands}
 use Rattle.vx_plans.specs.Plans.{disks_of, plan_of}
-use Rattle.vx_plans.specs.Steps.{DoesForm, IsNotBuilt, IsTranscript, Leaves, Runs, RunsShort, WantsForm, WantsPlan, done}
+use Rattle.vx_plans.specs.Steps.{DoesForm, IsTranscript, Leaves, Runs, RunsShort, WantsForm, WantsPlan, done}
 use Rattle.vx_plans.proofs.Complete.{kept_world}
 use Rattle.vx_stages.specs.Stages.{IsDone, Stops}
 use Rattle.vx_stages.specs.declared.stage.Stage.{Stage}
@@ -42,7 +42,7 @@ use Rattle.vx_sound_volumes.specs.Volumes.{AreSoundOn, BringsSound, IsSoundBefor
 use Rattle.vx_sound_volumes.proofs.Leavings.{each_leaving}
 use Rattle.vx_sound_volumes.proofs.Parts.{all_kept, image_same, keeps_all, not_none, some_same}
 use Rattle.vx_sound_volumes.proofs.Stages.{StateLaws, make_done}
-use Rattle.vx_sound_volumes.proofs.Steps.{cut_kept, idle_sound}
+use Rattle.vx_sound_volumes.proofs.Steps.{form_kept, idle_sound}
 use Rattle.vx_sound_imports.specs.Laws.{AreDevicesSound, EachImportBringsSound, EachRunKeepsDevicesSound, EachRunLeftOffKeepsDevicesSound, EachStepKeepsAllSound, EachWantKeepsAllSound}
 use Rattle.vx_sound_imports.specs.Offered.{AreAllSound, HasSoundOffer, HaveSoundOffers}
 use Rattle.vx_sound_imports.proofs.Commits.{public_stays}
@@ -51,7 +51,7 @@ use Rattle.vx_sound_imports.proofs.Found.{found_sound, import_safe}
 use Rattle.vx_sound_imports.proofs.Writings.{HasWhole}
 use Rattle.vx_sound_imports.proofs.Stages.{Settles, standing_settles}
 use Rattle.vx_sound_imports.proofs.Starts.{wants_known}
-use Rattle.vx_sound_imports.proofs.Steps.{command_settles, make_known}
+use Rattle.vx_sound_imports.proofs.Steps.{form_settles, make_known}
 use Rattle.vx_sound_imports.proofs.Volumes.{IsKnown}
 
 known : (place : ℕ) (w : World) → AreAllSound place w → IsKnown w
@@ -83,9 +83,6 @@ module _ (dg : Word) (old new : Moment) where
   stopped_none end none (inr (inr (mid, between, (x, is, stopped)))) g here = not_none g (sym none ∙ sym (ap (λ (w : World). w.group) between.world) ∙ sym stopped.group ∙ here)
 
 module _ (place : ℕ) (dg : Option Word) (old : Moment) (views : List View) (end : End) (new : Moment) (k : IsKnown old.world) where
-  not_built_none : {A : Type 0} → IsNotBuilt old views end new → old.world.group ≡ None → (g : Group) → new.world.group ≡ Some g → A
-  not_built_none is none g here = not_none g (sym none ∙ sym (ap (λ (m : Moment). m.world.group) is.2) ∙ here)
-
   import_brings : (name : Word) → Runs [] (stage.Import name ∷ []) Nothing old views end new → old.world.group ≡ None → (g : Group) → new.world.group ≡ Some g → AreSoundOn new.world.devices g
   import_brings name (inl (mid, later, is, (shows, over, same))) none g here =
       subst (λ (m : Moment). AreSoundOn m.world.devices g) (sym same) (committed_sound name old mid k none is g (ap (λ (m : Moment). m.world.group) (sym same) ∙ here))
@@ -95,11 +92,6 @@ module _ (place : ℕ) (dg : Option Word) (old : Moment) (views : List View) (en
   unfolding plan_of
   form_brings (form.DgImport name) does = import_brings name does
   form_brings other does = tt
-
-  cut_brings : (f : Form) (cut : Option ℕ) → MatchOption cut (DoesForm place dg f old views end new) (λ n. IsNotBuilt old views end new) → BringsSound f old.world new.world
-  cut_brings f None does = form_brings f does
-  cut_brings (form.DgImport name) (Some n) does = λ none g here. not_built_none does none g here
-  cut_brings other (Some n) does = tt
 
 -- a command that ends so leaves the world, if it leaves a group
 pub left_group : (end : End) (over left : World) → Leaves end over left → (g : Group) → left.group ≡ Some g → left ≡ over
@@ -118,7 +110,7 @@ brings_left other old over left brings same = tt
 
 pub each_import : EachImportBringsSound
 each_import place c old answer new s step =
-    brings_left c.form old.world step.over.world new.world (cut_brings place c.group old step.views step.end step.over (known place old.world s) c.form c.cut step.does)
+    brings_left c.form old.world step.over.world new.world (form_brings place c.group old step.views step.end step.over (known place old.world s) c.form step.does)
     (left_group step.end step.over.world new.world step.leaves)
 
 -- ---- what is left
@@ -162,9 +154,9 @@ pub each_step : StateLaws → EachStepKeepsVolumesSound → EachStepKeepsAllSoun
 each_step laws volumes place c old answer new none s step =
     let k = known place old.world s in
     let rest = left_known (place + 1) step.end step.over.world new.world
-    (command_settles laws place old step.views step.end step.over k s.volumes c.group c.form c.cut none step.does)
+    (form_settles laws place old step.views step.end step.over k s.volumes c.group c.form none step.does)
     (settled_by step.end step.over.world (command_ends old step.views step.end step.over s.standing place c none step.does))
-    (λ lost. all_kept (place + 1) step.over.world (cut_kept laws place c.group c.form c.cut old step.views step.end step.over (λ is. absurd (lost is)) (keeps_all place old.world s.volumes) step.does))
+    (λ lost. all_kept (place + 1) step.over.world (form_kept laws place c.group c.form old step.views step.end step.over (λ is. absurd (lost is)) (keeps_all place old.world s.volumes) step.does))
     step.leaves in
     record {
       standing = each_step_keeps_the_world_sound place c old answer new none s.standing step;
@@ -204,17 +196,13 @@ module _ (laws : StateLaws) (place : ℕ) where
 
 pub each_want : StateLaws → EachWantKeepsVolumesSound → EachWantKeepsAllSound
 each_want laws volumes place c old new s off =
-    let k = by c.cut off in
+    let k = form_known laws place c.group c.form old new (known place old.world s) s.volumes off in
     record {
       standing = each_want_keeps_the_world_sound c old new s.standing off;
       volumes = volumes place c old new s.volumes off;
       offers = k.offers;
       whole = k.whole;
     }
-  where
-    by : (cut : Option ℕ) → MatchOption cut (WantsForm c.group c.form old new) (λ n. new.world ≡ old.world) → IsKnown new.world
-    by None wants = form_known laws place c.group c.form old new (known place old.world s) s.volumes wants
-    by (Some n) same = subst IsKnown (sym same) (known place old.world s)
 
 -- ---- runs
 

@@ -1,5 +1,5 @@
 -- What each command leaves as it is over, by its last stage.
-use Rattle.std.proofs.Common.{◌≡◌, ◌∙◌, ℕ, true, List, [], ◌∷◌, ◌++◌, Option, Some, None, MatchOption, refl, sym, ap, subst, inl, inr}
+use Rattle.std.proofs.Common.{◌≡◌, ◌∙◌, ℕ, true, List, [], ◌∷◌, ◌++◌, Option, Some, None, refl, sym, ap, subst, inl, inr}
 use Rattle.std.specs.Prelude.{if◌then◌else◌, is_some, replicate}
 use Rattle.std.specs.Str.{bytes_eq}
 use Rattle.vx_base.specs.Blocks.{IsTorn}
@@ -313,7 +313,7 @@ module _ (laws : StateLaws) (place : ℕ) (old : Moment) (views : List View) (en
   policy_settles dg vol words.Select does = gated (stage.Gate (tests.GroupIs dg) ∷ stage.Gate (tests.HasVolume vol) ∷ []) (changes.Policy vol policy.Select) (refl, (refl, tt)) does
   policy_settles dg vol (words.Prefer plex) does = gated (stage.Gate (tests.GroupIs dg) ∷ stage.Gate (tests.HasVolume vol) ∷ stage.Gate (tests.HasPlex vol plex) ∷ []) (changes.Policy vol (policy.Prefer plex)) (refl, (refl, (refl, tt))) does
 
-  form_settles : (dg : Option Word) (f : Form) → FormWritesNoHeader f → DoesForm place dg f old views end new → Settles end new.world
+  pub form_settles : (dg : Option Word) (f : Form) → FormWritesNoHeader f → DoesForm place dg f old views end new → Settles end new.world
   unfolding plan_of
   form_settles dg (form.Calling call) none does = call_settles place call old end new k none does.2
   form_settles dg (form.MkImage device length) none does = image_settles device length [] Nothing old views end new k does
@@ -364,7 +364,3 @@ module _ (laws : StateLaws) (place : ℕ) (old : Moment) (views : List View) (en
       let calm = stage.Gate (tests.GroupIs dg) ∷ stage.Gate (tests.HasVolume vol) ∷ [] in
       at_last calm (stage.Stop vol ∷ []) [] Nothing old views end new k (λ mid same t passed runs. stopping_settles laws place views end new vol mid t (sound_still mid same) runs) (runs_through calm (stage.Stop vol ∷ []) [] Nothing old views end new (refl, (refl, tt)) does)
   form_settles dg other none does = not_built does
-
-  pub command_settles : (dg : Option Word) (f : Form) (cut : Option ℕ) → FormWritesNoHeader f → MatchOption cut (DoesForm place dg f old views end new) (λ n. IsNotBuilt old views end new) → Settles end new.world
-  command_settles dg f None none does = form_settles dg f none does
-  command_settles dg f (Some n) none does = not_built does

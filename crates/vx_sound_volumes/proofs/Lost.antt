@@ -1,5 +1,5 @@
 -- What a command leaves by which the group has left is sound.
-use Rattle.std.proofs.Common.{◌≡◌, ◌∙◌, ℕ, ◌+◌, List, [], Option, Some, None, MatchOption, sym, ap, subst, inl, inr}
+use Rattle.std.proofs.Common.{◌≡◌, ◌∙◌, ℕ, ◌+◌, List, [], Option, Some, None, sym, ap, subst, inl, inr}
 use Rattle.vx_base.specs.Named.{Word}
 use Rattle.vx_script_forms.specs.declared.form.Form.{Form}
 use Rattle.vx_script_forms.specs.declared.form.Form.TheVariants as form
@@ -11,7 +11,7 @@ use Rattle.vx_moments.specs.Leaving.{group_gone}
 use Rattle.vx_moments.specs.Moment.{Moment}
 use Rattle.vx_moments.specs.World.{Group, World}
 use Rattle.vx_plans.specs.Plans.{plan_deport, plan_of}
-use Rattle.vx_plans.specs.Steps.{DoesForm, IsNotBuilt, Leaves, Runs}
+use Rattle.vx_plans.specs.Steps.{DoesForm, Leaves, Runs}
 use Rattle.vx_stages.specs.Tests.{fails}
 use Rattle.vx_stages.specs.declared.stages.Finish.TheVariants.{Nothing}
 use Rattle.vx_stages.specs.declared.test.Test.TheVariants as tests
@@ -20,7 +20,7 @@ use Rattle.vx_sound_volumes.specs.Volumes.{AreSoundOn, HadGroup, IsSoundBefore}
 use Rattle.vx_sound_volumes.proofs.Leavings.{each_leaving}
 use Rattle.vx_sound_volumes.proofs.Parts.{all_kept, keeps_all, not_none}
 use Rattle.vx_sound_volumes.proofs.Stages.{StateLaws}
-use Rattle.vx_sound_volumes.proofs.Steps.{cut_kept}
+use Rattle.vx_sound_volumes.proofs.Steps.{form_kept}
 
 -- a world that has the group is none that lacks it
 never : {A : Type 0} (w left : World) (g : Group) → w.group ≡ Some g → left ≡ w → left.group ≡ None → A
@@ -51,21 +51,16 @@ module _ (place : ℕ) (old : Moment) (views : List View) (end : End) (over : Mo
       each_leaving place old.world left g s here (inl (subst (λ (m : Moment). fails tests.NoneStarted [] m.world ≡ None) at idle, same))
 
 module _ (laws : StateLaws) (place : ℕ) (dg : Option Word) (old : Moment) (views : List View) (end : End) (over : Moment) (left : World) (g : Group) (s : IsSoundBefore place old.world) (none : left.group ≡ None) (leaves : Leaves end over.world left) where
-  by_form : (f : Form) (cut : Option ℕ) → (over.world.group ≡ Some g) → MatchOption cut (DoesForm place dg f old views end over) (λ n. IsNotBuilt old views end over) → AreSoundOn left.devices g
-  by_form f cut here does =
+  by_form : (f : Form) → (over.world.group ≡ Some g) → DoesForm place dg f old views end over → AreSoundOn left.devices g
+  by_form f here does =
       lost_sound (place + 1) end over.world left g
       (all_kept (place + 1) over.world
-      (cut_kept laws place dg f cut old views end over (λ is. never over.world left g here (subst (λ (e : End). Leaves e over.world left) is leaves) none) (keeps_all place old.world s) does)) here none leaves
+      (form_kept laws place dg f old views end over (λ is. never over.world left g here (subst (λ (e : End). Leaves e over.world left) is leaves) none) (keeps_all place old.world s) does)) here none leaves
 
-  -- a command that is not built leaves the group
-  unbuilt : {A : Type 0} → old.world.group ≡ Some g → IsNotBuilt old views end over → A
-  unbuilt here (no_views, is, same) = refused_never place old views end over left g s here none leaves _ is (ap (λ (m : Moment). m.world) same)
-
-  left_by : (f : Form) (cut : Option ℕ) → HadGroup f old.world over.world g → MatchOption cut (DoesForm place dg f old views end over) (λ n. IsNotBuilt old views end over) → AreSoundOn left.devices g
+  left_by : (f : Form) → HadGroup f old.world over.world g → DoesForm place dg f old views end over → AreSoundOn left.devices g
   unfolding plan_of
-  left_by (form.DgDeport name) None here does = deport_sound place old views end over left g s here none leaves name does
-  left_by (form.DgDeport name) (Some n) here does = unbuilt here does
-  left_by other cut here does = by_form other cut here does
+  left_by (form.DgDeport name) here does = deport_sound place old views end over left g s here none leaves name does
+  left_by other here does = by_form other here does
 
 pub each_step_leaves : StateLaws → EachStepLeavesVolumesSound
-each_step_leaves laws place c old answer new step g s had none = left_by laws place c.group old step.views step.end step.over new.world g s none step.leaves c.form c.cut had step.does
+each_step_leaves laws place c old answer new step g s had none = left_by laws place c.group old step.views step.end step.over new.world g s none step.leaves c.form had step.does

@@ -1,5 +1,5 @@
 -- Each command keeps volumes sound, and so does each run.
-use Rattle.std.proofs.Common.{◌≡◌, ◌∙◌, ℕ, ◌+◌, true, List, [], ◌∷◌, Option, Some, None, MatchOption, refl, sym, ap, subst, inl, inr}
+use Rattle.std.proofs.Common.{◌≡◌, ◌∙◌, ℕ, ◌+◌, true, List, [], ◌∷◌, Option, Some, None, refl, sym, ap, subst, inl, inr}
 use Rattle.vx_base.specs.Named.{Word}
 use Rattle.vx_script_words.specs.declared.value.DiskAt.{DiskAt}
 use Rattle.vx_script_forms.specs.declared.form.Form.{Form}
@@ -128,14 +128,9 @@ module _ (laws : StateLaws) (place : ℕ) where
 
   -- ---- commands
 
-  form_kept : (dg : Option Word) (f : Form) (old : Moment) (views : List View) (end : End) (new : Moment) → (end ≡ done → BringsSound f old.world new.world) → Keeps place Every old.world → DoesForm place dg f old views end new → Keeps (place + 1) Every new.world
+  pub form_kept : (dg : Option Word) (f : Form) (old : Moment) (views : List View) (end : End) (new : Moment) → (end ≡ done → BringsSound f old.world new.world) → Keeps place Every old.world → DoesForm place dg f old views end new → Keeps (place + 1) Every new.world
   form_kept dg (form.Calling call) old views end new brings k does = call_kept place call old end new k does.2
   form_kept dg other old views end new brings k does = next_running place Every new.world (plan_kept (disks_of other) (plan_of dg other) old views end new (plan_ready dg old.world end new.world other brings) k does)
-
-  pub cut_kept : (dg : Option Word) (f : Form) (cut : Option ℕ) (old : Moment) (views : List View) (end : End) (new : Moment) → (end ≡ done → BringsSound f old.world new.world) → Keeps place Every old.world
-      → MatchOption cut (DoesForm place dg f old views end new) (λ n. IsNotBuilt old views end new) → Keeps (place + 1) Every new.world
-  cut_kept dg f None old views end new brings k does = form_kept dg f old views end new brings k does
-  cut_kept dg f (Some n) old views end new brings k does = next_running place Every new.world (not_built old views end new k does)
 
 left_kept : (place : ℕ) (end : End) (over left : World) → Leaves end over left → Keeps place Every over → Keeps place Every left
 left_kept place ends.GroupLost over left gone k = subst (Keeps place Every) (sym gone.1) (group_goes place over)
@@ -149,7 +144,7 @@ pub each_step : StateLaws → EachStepKeepsVolumesSound
 each_step laws place c old answer new s brings step =
     all_kept (place + 1) new.world
     (left_kept (place + 1) step.end step.over.world new.world step.leaves
-    (cut_kept laws place c.group c.form c.cut old step.views step.end step.over
+    (form_kept laws place c.group c.form old step.views step.end step.over
     (λ is. subst (λ (w : World). BringsSound c.form old.world w) (subst (λ (e : End). Leaves e step.over.world new.world) is step.leaves) brings)
     (keeps_all place old.world s) step.does))
 
@@ -179,11 +174,7 @@ module _ (place : ℕ) where
       plan_wants (disks_of other) (plan_of dg other) ends.ShelfFailed new.world old new (plan_ready dg old.world ends.ShelfFailed new.world other (λ (e : ends.ShelfFailed ≡ done). cc)) k wants
 
 pub each_want : EachWantKeepsVolumesSound
-each_want place c old new s off = all_kept place new.world (by c.cut off)
-  where
-    by : (cut : Option ℕ) → MatchOption cut (WantsForm c.group c.form old new) (λ n. new.world ≡ old.world) → Keeps place Every new.world
-    by None wants = form_wants place c.group c.form old new (keeps_all place old.world s) wants
-    by (Some n) same = still place old new (keeps_all place old.world s) same
+each_want place c old new s off = all_kept place new.world (form_wants place c.group c.form old new (keeps_all place old.world s) off)
 
 -- ---- runs
 

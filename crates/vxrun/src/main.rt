@@ -1,4 +1,4 @@
-//! The program: a folder of device images as a shelf, standard input as a script, standard output for its answers.
+//! The program: a folder of device images as a shelf with a power switch, standard input as a script, standard output for its answers.
 #![tactic(auto)]
 
 use std::alloc::AllocError;
@@ -6,6 +6,7 @@ use std::process::ExitCode;
 use std::{env, io};
 use vx_files::FileShelf;
 use vx_flow::{ReaderSource, WriterSink};
+use vx_power::Powered;
 use vx_run::{folder, run};
 
 /// Runs the script of standard input, and ends with its status. Where memory is wanting before it begins that is 6.
@@ -20,7 +21,10 @@ fn served(rt: &HostRuntime) -> Result<u8, AllocError> {
         Ok(dir) => dir.unwrap_or("."),
         Err(_) => return Err(AllocError),
     };
-    let Ok(mut shelf) = FileShelf::new(rt.clone()?, dir) else {
+    let Ok(folder) = FileShelf::new(rt.clone()?, dir) else {
+        return Err(AllocError);
+    };
+    let Ok(mut shelf) = Powered::untold(rt.alloc(), folder) else {
         return Err(AllocError);
     };
     let mut source = ReaderSource::new(rt.reader());

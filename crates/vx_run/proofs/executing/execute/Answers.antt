@@ -1,23 +1,26 @@
-use Rattle.std.proofs.Common.{◌∙◌, refl, sym, subst}
+use Rattle.std.proofs.Common.{sym, subst}
 use Rattle.vx_plans.specs.Plans.{disks_of, plan_of}
-use Rattle.vx_plans.specs.Steps.{DoesPlan, WantsPlan}
+use Rattle.vx_plans.specs.Steps.{DoesForm, DoesPlan, WantsForm, WantsPlan}
 use Rattle.std.proofs.lemmas.Bool.{and_parts}
-use Rattle.vx_script_forms.specs.declared.form.Form.TheVariants as form
 use Rattle.vx_run.specs.Serving.{CommandEnds}
 use Rattle.vx_house.specs.Scene.{shelved}
 use Rattle.vx_house.specs.View.{at}
-use Rattle.vx_run.proofs.CommandRanges.{call_within, other_form, uncut_form}
+use Rattle.vx_run.proofs.CommandRanges.{call_within, other_form}
 use Rattle.vx_run.proofs.executing.execute.Goals as goal
 
 pub serve_call-requires-clause-valid : goal.serve_call-requires-clause-valid
 serve_call-requires-clause-valid g c κs within = call_within c.args.command.now.group c.args.command.now.form c.in-Calling.call c.in-Calling.is (and_parts _ _ (and_parts _ _ c.requires.kept).0).0
 
 pub returns-in-Calling : goal.returns-in-Calling
-returns-in-Calling g c = record { goes = λ place. uncut_form (λ Do Left. CommandEnds g.S.P.Piece.seen Do Left c.serve_call.result (at (shelved g.S.Shelf.free g.S.Shelf.held g.S.Shelf.counted g.S.Shelf.faults c.args.shelf.now) c.args.house.now) (at (shelved g.S.Shelf.free g.S.Shelf.held g.S.Shelf.counted g.S.Shelf.faults c.serve_call.new.shelf) c.serve_call.new.house)) place c.args.command.now (form.Calling c.in-Calling.call) c.in-Calling.is (sym c.is_some.ensures ∙ c.if-is_some.false) (c.serve_call.ensures.goes place) }
+returns-in-Calling g c = record {
+  goes = λ place.
+      subst (λ f. CommandEnds g.S.P.Piece.seen (DoesForm place c.args.command.now.group f) (WantsForm c.args.command.now.group f) c.serve_call.result (at (shelved g.S.Shelf.free g.S.Shelf.held g.S.Shelf.counted g.S.Shelf.faults c.args.shelf.now) c.args.house.now) (at (shelved g.S.Shelf.free g.S.Shelf.held g.S.Shelf.counted g.S.Shelf.faults c.serve_call.new.shelf) c.serve_call.new.house)) (sym c.in-Calling.is)
+      (c.serve_call.ensures.goes place);
+}
 
 pub returns-in_default : goal.returns-in_default
 returns-in_default g c = record {
-  goes = λ place. uncut_form (λ Do Left. CommandEnds g.S.P.Piece.seen Do Left c.serve_form.result (at (shelved g.S.Shelf.free g.S.Shelf.held g.S.Shelf.counted g.S.Shelf.faults c.args.shelf.now) c.args.house.now) (at (shelved g.S.Shelf.free g.S.Shelf.held g.S.Shelf.counted g.S.Shelf.faults c.serve_form.new.shelf) c.serve_form.new.house)) place c.args.command.now c.args.command.now.form refl (sym c.is_some.ensures ∙ c.if-is_some.false)
-      (other_form (λ Do Left. CommandEnds g.S.P.Piece.seen Do Left c.serve_form.result (at (shelved g.S.Shelf.free g.S.Shelf.held g.S.Shelf.counted g.S.Shelf.faults c.args.shelf.now) c.args.house.now) (at (shelved g.S.Shelf.free g.S.Shelf.held g.S.Shelf.counted g.S.Shelf.faults c.serve_form.new.shelf) c.serve_form.new.house)) place c.args.command.now.group c.args.command.now.form c.in_default.not-Calling
-      (subst (λ o. CommandEnds g.S.P.Piece.seen (DoesPlan (disks_of c.args.command.now.form) (plan_of o c.args.command.now.form)) (WantsPlan (disks_of c.args.command.now.form) (plan_of o c.args.command.now.form)) c.serve_form.result (at (shelved g.S.Shelf.free g.S.Shelf.held g.S.Shelf.counted g.S.Shelf.faults c.args.shelf.now) c.args.house.now) (at (shelved g.S.Shelf.free g.S.Shelf.held g.S.Shelf.counted g.S.Shelf.faults c.serve_form.new.shelf) c.serve_form.new.house)) c.name_in.ensures c.serve_form.ensures.goes));
+  goes = λ place.
+      other_form (λ Do Left. CommandEnds g.S.P.Piece.seen Do Left c.serve_form.result (at (shelved g.S.Shelf.free g.S.Shelf.held g.S.Shelf.counted g.S.Shelf.faults c.args.shelf.now) c.args.house.now) (at (shelved g.S.Shelf.free g.S.Shelf.held g.S.Shelf.counted g.S.Shelf.faults c.serve_form.new.shelf) c.serve_form.new.house)) place c.args.command.now.group c.args.command.now.form c.in_default.not-Calling
+      (subst (λ o. CommandEnds g.S.P.Piece.seen (DoesPlan (disks_of c.args.command.now.form) (plan_of o c.args.command.now.form)) (WantsPlan (disks_of c.args.command.now.form) (plan_of o c.args.command.now.form)) c.serve_form.result (at (shelved g.S.Shelf.free g.S.Shelf.held g.S.Shelf.counted g.S.Shelf.faults c.args.shelf.now) c.args.house.now) (at (shelved g.S.Shelf.free g.S.Shelf.held g.S.Shelf.counted g.S.Shelf.faults c.serve_form.new.shelf) c.serve_form.new.house)) c.name_in.ensures c.serve_form.ensures.goes);
 }

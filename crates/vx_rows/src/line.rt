@@ -61,6 +61,13 @@ pub enum Line<'a> {
     Words(&'a str),
     /// `> TEXT`: a line of the script.
     Script(&'a str),
+    /// `subdisks DISK FIRST LAST`: the records of so many free subdisks, `f` and a number in five digits each, of one sector at the even
+    /// place of that number, as lines of the script.
+    Subdisks {
+        disk: &'a str,
+        first: u64,
+        last: u64,
+    },
     /// `no last newline`: the script's last line has none.
     NoLastNewline,
     /// `< TEXT`: a line of the answers.
@@ -102,6 +109,7 @@ pub fn read_line(text: &str) -> Option<Line<'_>> {
         "moving" => read_moving(rest),
         "order" => Some(Line::Order(rest)),
         "cuts" => read_cuts(rest),
+        "subdisks" => read_subdisks(rest),
         _ => read_figure(text),
     }
 }
@@ -194,6 +202,13 @@ fn read_cuts(text: &str) -> Option<Line<'_>> {
         first,
         last: last.parse().ok()?,
     })
+}
+
+fn read_subdisks(text: &str) -> Option<Line<'_>> {
+    let (disk, rest) = text.split_once(' ')?;
+    let (first, last) = read_number(rest)?;
+    let last = last.parse().ok()?;
+    Some(Line::Subdisks { disk, first, last })
 }
 
 fn read_end(text: &str) -> Option<Line<'_>> {

@@ -123,6 +123,9 @@ impl Run {
             Line::Room(room) => self.room = room,
             Line::Words(words) => self.words = String::from_str(alloc, words)?,
             Line::Script(text) => put_line(&mut self.script, text)?,
+            Line::Subdisks { disk, first, last } => {
+                put_subdisks(alloc, &mut self.script, disk, first, last)?;
+            }
             Line::NoLastNewline => {
                 let _ = self.script.pop();
             }
@@ -292,6 +295,24 @@ impl Row {
         }
         Ok(false)
     }
+}
+
+/// Adds the records of free subdisks of these numbers, each of one sector at the even place of its number.
+fn put_subdisks(
+    alloc: Global,
+    lines: &mut Vec<u8>,
+    disk: &str,
+    first: u64,
+    last: u64,
+) -> Result<(), AllocError> {
+    for number in first..last.saturating_add(1) {
+        let place = number.saturating_mul(2);
+        put_line(lines, format!(in alloc; "sd f{number:05}")?.as_str())?;
+        put_line(lines, format!(in alloc; "\tdisk={disk}")?.as_str())?;
+        put_line(lines, format!(in alloc; "\toff={place}")?.as_str())?;
+        put_line(lines, "\tlen=1\n\tplex=-\n\tcol=0\n\tat=0")?;
+    }
+    Ok(())
 }
 
 fn put_line(lines: &mut Vec<u8>, text: &str) -> Result<(), AllocError> {

@@ -11,6 +11,7 @@ use std::alloc::{AllocError, Global};
 use vx_flow::{MemSink, MemSource};
 use vx_names::Name;
 use vx_piece::{Bad, MemPiece, Piece};
+use vx_power::Powered;
 use vx_run::run;
 use vx_shelf::{MemShelf, Shelf};
 
@@ -89,8 +90,8 @@ fn try_runs(
         if !MemShelf::accepts(here.as_slice()) {
             return Ok(Err(Difference::Images));
         }
-        let mut shelf = MemShelf::new(here);
-        if let Some(difference) = try_on(alloc, run, &mut shelf)? {
+        let (difference, shelf) = try_on(alloc, run, MemShelf::new(here))?;
+        if let Some(difference) = difference {
             return Ok(Err(difference));
         }
         devices = collect(alloc, shelf, away)?;
@@ -175,8 +176,13 @@ fn collect(
     Ok(all)
 }
 
-fn try_on(alloc: Global, row: &Run, shelf: &mut MemShelf) -> Result<Option<Difference>, AllocError>
-    requires { (name : Word) → held_on shelf.old name ≡ None }
+/// Runs the script on the shelf, with a power switch about it, and gives the shelf back.
+fn try_on(
+    alloc: Global,
+    row: &Run,
+    shelf: MemShelf,
+) -> Result<(Option<Difference>, MemShelf), AllocError>
+    requires { (name : Word) → held_on shelf name ≡ None }
 {
     let words: Vec<&str> = row.words.as_str().split_whitespace().collect(alloc)?;
     let script = Vec::from_slice(alloc, row.script.as_slice())?;
@@ -184,8 +190,19 @@ fn try_on(alloc: Global, row: &Run, shelf: &mut MemShelf) -> Result<Option<Diffe
     let Ok(mut sink) = MemSink::new(alloc, row.room) else {
         return Err(AllocError);
     };
-    let status = run(alloc, words.as_slice(), shelf, &mut source, &mut sink);
-    judge(alloc, row, shelf, status, sink.bytes())
+    let Ok(mut powered) = Powered::new(alloc, shelf) else {
+        return Err(AllocError);
+    };
+    let status = run(
+        alloc,
+        words.as_slice(),
+        &mut powered,
+        &mut source,
+        &mut sink,
+    );
+    let shelf = powered.into_shelf();
+    let difference = judge(alloc, row, &shelf, status, sink.bytes())?;
+    Ok((difference, shelf))
 }
 
 /// The first thing of a run that differs from what is wanted.

@@ -1,5 +1,5 @@
 //! A volume of two plexes, or of one that gets a mirror or logs, is started, written, read, stopped and imported beside a fault that is moved
-//! along all device calls, and while the power goes at each of them. What each run leaves is read by the formats alone, and judged by the
+//! along all device calls, and while the power goes at each of them, or is cut for a command behind each number of writes. What each run leaves is read by the formats alone, and judged by the
 //! definitions.
 #![tactic(auto)]
 
@@ -8,6 +8,7 @@ mod case;
 mod clock;
 mod cut_piece;
 mod cut_shelf;
+mod cuts;
 mod later;
 mod next;
 mod power;
@@ -16,6 +17,7 @@ mod sweep;
 mod trial;
 
 use base::Bases;
+use cuts::cut_each;
 use power::lose_power;
 use scenario::Scenario;
 use std::rt::Files;
@@ -86,7 +88,8 @@ fn try_file<R: Files + AllocGlobal + Print>(rt: &R, file: &str) -> io::Result<()
         };
         try_kind(rt, &bases, &scenario, kind)?;
     }
-    try_power(rt, &bases, &scenario)
+    try_power(rt, &bases, &scenario)?;
+    try_cuts(rt, &bases, &scenario)
 }
 
 /// Tells whether all was as it has to be, or what was found first.
@@ -129,6 +132,21 @@ fn try_power<R: AllocGlobal + Print>(rt: &R, bases: &Bases, scenario: &Scenario)
             println!(rt;
                 "{title}, the power goes: call {}, which leaves {}: {}",
                 found.call, found.leaves, found.finding
+            )
+        }
+    }
+}
+
+/// The same where each command is cut behind each number of writes.
+fn try_cuts<R: AllocGlobal + Print>(rt: &R, bases: &Bases, scenario: &Scenario) -> io::Result<()> {
+    let title = scenario.title.as_str();
+    match cut_each(rt.alloc(), bases, scenario) {
+        Ok(0) => println!(rt; "{title}, each command is cut: no cut is reached"),
+        Ok(_) => println!(rt; "{title}, each command is cut: ok"),
+        Err(found) => {
+            println!(rt;
+                "{title}, each command is cut: command {} behind {} writes: {}",
+                found.command, found.writes, found.finding
             )
         }
     }

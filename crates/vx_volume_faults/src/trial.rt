@@ -9,6 +9,7 @@ use std::str;
 use vx_flow::{MemSink, MemSource};
 use vx_names::Name;
 use vx_piece::{Bad, MemPiece};
+use vx_power::Powered;
 use vx_run::run;
 use vx_shelf::{MemShelf, Shelf};
 use vx_volume_judge::Finding;
@@ -75,8 +76,7 @@ pub fn run_on(
     if !MemShelf::accepts(devices.as_slice()) {
         return Err(Finding::Images);
     }
-    let mut shelf = MemShelf::new(devices);
-    let (answers, status) = run_script(alloc, &mut shelf, script)?;
+    let (shelf, answers, status) = run_script(alloc, MemShelf::new(devices), script)?;
     Ok(Ran {
         shelf,
         answers,
@@ -95,8 +95,8 @@ pub fn run_until(
     if !MemShelf::accepts(devices.as_slice()) {
         return Err(Finding::Images);
     }
-    let mut shelf = CutShelf::new(MemShelf::new(devices), clock);
-    let (answers, status) = run_script(alloc, &mut shelf, script)?;
+    let shelf = CutShelf::new(MemShelf::new(devices), clock);
+    let (shelf, answers, status) = run_script(alloc, shelf, script)?;
     Ok(Ran {
         shelf: shelf.devices,
         answers,
@@ -133,13 +133,13 @@ fn bads_of(alloc: Global, name: &str, bad: Option<(&str, Bad)>) -> Result<Vec<Ba
     Ok(bads)
 }
 
-/// Runs a script, and tells its answers and its status.
-fn run_script<S: Shelf>(
+/// Runs a script on a shelf, with a power switch about it. It gives the shelf back, and tells the answers and the status.
+fn run_script<S: Shelf + Drop>(
     alloc: Global,
-    shelf: &mut S,
+    shelf: S,
     script: &str,
-) -> Result<(Vec<u8>, u8), Finding>
-    requires { (name : Word) → S.held shelf.old name ≡ None }
+) -> Result<(S, Vec<u8>, u8), Finding>
+    requires { (name : Word) → S.held shelf name ≡ None }
 {
     let script = Vec::from_slice(alloc, script.as_bytes())?;
     let mut source = MemSource::new(script, None);
@@ -147,6 +147,16 @@ fn run_script<S: Shelf>(
         return Err(Finding::OutOfMemory);
     };
     let words = ["--images", "."];
-    let status = run(alloc, words.as_slice(), shelf, &mut source, &mut sink);
-    Ok((Vec::from_slice(alloc, sink.bytes())?, status))
+    let Ok(mut powered) = Powered::new(alloc, shelf) else {
+        return Err(Finding::OutOfMemory);
+    };
+    let status = run(
+        alloc,
+        words.as_slice(),
+        &mut powered,
+        &mut source,
+        &mut sink,
+    );
+    let answers = Vec::from_slice(alloc, sink.bytes())?;
+    Ok((powered.into_shelf(), answers, status))
 }

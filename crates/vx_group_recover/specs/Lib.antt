@@ -1,0 +1,2 @@
+pub mod Healing
+pub mod Laws

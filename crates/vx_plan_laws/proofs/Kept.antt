@@ -26,7 +26,7 @@ use Rattle.vx_plans.specs.Serving.{CallRuns, ServesOn}
 use Rattle.vx_stages.specs.Stages.{IsDone, Stops, TakingStops}
 use Rattle.vx_stages.specs.Starting.{StartStops}
 use Rattle.vx_stages.specs.Tests.{volume_in}
-use Rattle.vx_plans.specs.Steps.{DoesForm, DoesPlan, IsNotBuilt, Leaves, Runs, Step, done}
+use Rattle.vx_plans.specs.Steps.{CountsAfter, DoesForm, DoesPlan, IsNotBuilt, Leaves, Runs, Step, done}
 use Rattle.vx_stages.specs.declared.stage.Source.TheVariants as source
 use Rattle.vx_stages.specs.declared.stage.Stage.{Stage}
 use Rattle.vx_stages.specs.declared.stage.Stage.TheVariants as stage
@@ -290,11 +290,12 @@ module _ (old : Moment) (views : List View) (r : Refusal) (new : Moment) where
   form_left place dg (form.Mirror vol disks) does = mirroring_left (mirror_gates dg) (record { vol = vol; disks = disks }) old does
   form_left place dg other does = plan_left (disks_of other) (plan_of dg other) (plan_still dg other refl) does
 
-pub each_refusal_keeps_the_world : (place : ℕ) (c : Command) (old : Moment) (views : List View) (r : Refusal) (new : Moment) → Step place c old (One views (refused r)) new → (over : Moment) × (new.world ≡ over.world) × RefusedLeaves c.form old r over
+pub each_refusal_keeps_the_world : (place : ℕ) (c : Command) (old : Moment) (views : List View) (r : Refusal) (new : Moment) → Step place c old (One views (refused r)) new → (over : Moment) × (new.world ≡ over.world) × CountsAfter c.cut over.counts new.counts × RefusedLeaves c.form old r over
 each_refusal_keeps_the_world place c old views r new step =
     let told : One views (refused r) ≡ One step.views step.end = step.told in
     let is : step.end ≡ refused r = cc in (
       step.over,
       subst (λ (e : End). Leaves e step.over.world new.world) is step.leaves,
+      step.counts,
       form_left old step.views r step.over place c.group c.form (subst (λ (e : End). DoesForm place c.group c.form old step.views e step.over) is step.does),
     )

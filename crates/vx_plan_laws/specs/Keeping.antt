@@ -18,7 +18,7 @@ use Rattle.vx_stages.specs.Stopping.{StopWants}
 use Rattle.vx_stages.specs.declared.stage.Source.TheVariants as source
 use Rattle.vx_stages.specs.declared.stage.Stage.TheVariants as stage
 use Rattle.vx_plans.specs.Plans.{new_logs, new_volume}
-use Rattle.vx_plans.specs.Steps.{LeavesOff, Step}
+use Rattle.vx_plans.specs.Steps.{CountsAfter, LeavesOff, Step}
 use Rattle.vx_stages.specs.Touching.{IsTouched}
 use Rattle.vx_plan_laws.specs.Refusing.{OfGroup, OfVolume, OpeningRefuses, StartRefuses}
 
@@ -39,11 +39,12 @@ RefusedLeaves (form.Start vol) old r new = (new.world ≡ old.world) ⊎ IsLeftU
 RefusedLeaves (form.AssistMake vol length attrs disks) old r new = (new.world ≡ old.world) ⊎ IsLeftAdded (new_volume vol length attrs disks) old r new
 RefusedLeaves other old r new = new.world ≡ old.world
 
--- each command that is refused leaves so much of the world, at the moment at which it was over
+-- each command that is refused leaves so much of the world, at the moment at which it was over; behind it nothing changes but counts, and those
+-- only where a switch has taken power that is back then
 abbrev pub EachRefusalKeepsTheWorld : Type 0
 EachRefusalKeepsTheWorld =
     (place : ℕ) (c : Command) (old : Moment) (views : List View) (r : Refusal) (new : Moment)
-    → Step place c old (One views (refused r)) new → (over : Moment) × (new.world ≡ over.world) × RefusedLeaves c.form old r over
+    → Step place c old (One views (refused r)) new → (over : Moment) × (new.world ≡ over.world) × CountsAfter c.cut over.counts new.counts × RefusedLeaves c.form old r over
 
 -- the records of the new volume were added, and the start left so much of that world
 abbrev pub AddedWants : NewVolume → Moment → Moment → Type 0

@@ -137,12 +137,14 @@ module _ {T : Type 0} (done skipped : T) (job : Job) (io : Bytes) (old new : Reg
             );
         phase = stands;
         cause = lent;
+        well = tt;
+        courses = tt;
         calls = record { act = act; first = first; calls = run.calls; last = tt; blames = tt };
         writes = run.writes;
       }
 
   ended_done : (first : Option Place) → IsRunning job io old new first Done io' → new.stage.phase ≡ Settled → Ended (Ok done)
-  ended_done first run settled = record { whole = run.whole; kept = run.kept; number = run.number; masks = run.masks; tells = run.tells; goes = run.goes; phase = settled; cause = tt; calls = record { act = Done; first = first; calls = run.calls; last = inl refl; blames = tt }; writes = run.writes }
+  ended_done first run settled = record { whole = run.whole; kept = run.kept; number = run.number; masks = run.masks; tells = run.tells; goes = run.goes; phase = settled; cause = tt; well = run.well (λ e. cc) (λ e. cc); courses = run.courses (λ e. cc) (λ e. cc); calls = record { act = Done; first = first; calls = run.calls; last = inl refl; blames = tt }; writes = run.writes }
 
   ended_skipped : (first : Option Place) → IsRunning job io old new first Skipped io' → new.stage.phase ≡ Settled → EndsSettled job Skipped → Ended (Ok skipped)
   ended_skipped first run settled may =
@@ -159,12 +161,14 @@ module _ {T : Type 0} (done skipped : T) (job : Job) (io : Bytes) (old new : Reg
             (g.0, told_as _ g.0 old new _ _ NoCall NoCall (λ es. es) (entries_after Done call values) refl (λ es. skipped_entries job io old who values es may) g.1);
         phase = settled;
         cause = tt;
+        well = run.well (λ e. cc) (λ e. cc);
+        courses = run.courses (λ e. cc) (λ e. cc);
         calls = record { act = Skipped; first = first; calls = run.calls; last = inr refl; blames = tt };
         writes = run.writes;
       }
 
   ended_lost : (first : Option Place) → IsRunning job io old new first Lost io' → new.stage.phase ≡ Dead → Ended (Err PowerLost)
-  ended_lost first run dead = record { whole = run.whole; kept = run.kept; number = run.number; masks = run.masks; tells = run.tells; goes = run.goes; phase = dead; cause = run.cut refl; calls = record { act = Lost; first = first; calls = run.calls; last = refl; blames = tt }; writes = run.writes }
+  ended_lost first run dead = record { whole = run.whole; kept = run.kept; number = run.number; masks = run.masks; tells = run.tells; goes = run.goes; phase = dead; cause = run.cut refl; well = tt; courses = tt; calls = record { act = Lost; first = first; calls = run.calls; last = refl; blames = tt }; writes = run.writes }
 
   ended_fault : (place : Place) → IsRunning job io old new (Some place) Fault io' → (new.stage.phase ≡ Settled) ⊎ (new.stage.phase ≡ Unsettled) → Ended (Err (FaultAnswer place))
   ended_fault place run phase =
@@ -182,6 +186,8 @@ module _ {T : Type 0} (done skipped : T) (job : Job) (io : Bytes) (old new : Reg
               let c = run.causes plain begins in
               elim c.2.1 [ inl log ↦ inl (c.1.log log) | inr all ↦ inr (λ k there. c.1.plexes k (all k there)) ],
         );
+        well = tt;
+        courses = tt;
         calls = record { act = Fault; first = Some place; calls = run.calls; last = refl; blames = refl };
         writes = run.writes;
       }

@@ -17,7 +17,7 @@ use Rattle.vx_core.specs.declared.stage.Event.TheVariants.{Begin, Marked, MarkFa
 use Rattle.vx_core.specs.declared.stage.Act.TheVariants.{Mark, Unmark, WriteCall, WriteRegion, ReadCall, ReadRegion, Done, Skipped, Fault, Lost}
 use Rattle.vx_core.specs.declared.stage.Step.TheVariants.{Mark as AtMark, Write as AtWrite, MarkFailed as AtMarkFailed, Find as AtFind, Equal as AtEqual, Copy as AtCopy, Unmark as AtUnmark, Read as AtRead}
 use Rattle.vx_core.specs.declared.stage.Phase.TheVariants.{Settled, Unsettled, Dead, Busy}
-use Rattle.vx_core.specs.Table.{current, act_at, read_act, busy, answered, begun, next_of, IsNamed, NamesAct}
+use Rattle.vx_core.specs.Table.{current, act_at, read_act, busy, answered, begun, goes_on, next_of, IsNamed, NamesAct}
 use Rattle.vx_core.specs.History.{Pending}
 use Rattle.vx_core.specs.Region.{Around, Disks, Fixed, RegionState, CallOf, FitsIn, Answers, ReadGives, MayAnswer, entries_after, pending_after, last_at}
 use Rattle.vx_core.specs.Schedule.{Happening, Comes, Elsewhere, happens, IsIdle}
@@ -28,6 +28,7 @@ use Rattle.vx_core.specs.Form.{IsFormed, MayCome}
 use Rattle.vx_core.specs.Follow.{AsksPossible, FollowsFrom, FailsFrom, ReadsFrom, IsFailure, IsReadDone, SameMasks, Rewrites, IsPossible, PossibleIn}
 use Rattle.vx_core.specs.Causes.{Faults, IsPlain, Blames, CausesFrom}
 use Rattle.vx_core.proofs.PossibleLaws.{possible_in}
+use Rattle.vx_core_laws.specs.Exact.{AreWell, IsWell}
 use Rattle.vx_core_laws.specs.Course.{EachFits}
 use Rattle.vx_core_laws.proofs.Courses.{after_both, fits_both}
 use Rattle.vx_marks.specs.Log.{LogSeen, KeepsLog, OnMarks}
@@ -36,8 +37,8 @@ use Rattle.vx_cell.specs.declared.fault.Place.{Place}
 use Rattle.vx_cell.specs.declared.fault.Place.TheVariants.{Data, Log}
 use Rattle.vx_cell.specs.declared.acts.Answered.{Answered}
 use Rattle.vx_cell.specs.Plexes.{PlexSeen, contents_of, holds, AllTell, KeepPlexes, ChangesPlex}
-use Rattle.vx_cell.specs.Acts.{Bytes, IsRange, IsAskable, IsPlaced, HasRisen, earlier, Carries, IsPlexRead, read_event}
-use Rattle.vx_cell.specs.Region.{RegionSeen, IsWhole, IsLogOf, Tells, TidiesOthers, disks_of, state_of}
+use Rattle.vx_cell.specs.Acts.{Bytes, IsRange, IsAskable, IsPlaced, HasRisen, LogCause, earlier, Carries, IsPlexRead, read_event}
+use Rattle.vx_cell.specs.Region.{RegionSeen, IsWhole, IsLogOf, SameLogFaults, Tells, TidiesOthers, disks_of, state_of}
 use Rattle.vx_cell.specs.Running.{Caller, values_at, call_of, IsCallable, plex_fails, log_fails, IsBacked, act_of, AreBacked, GoesBy, start_last, start_call, Allows, IsMarking, MayRun, Begins, RunsIn, SameBytes, HasBlame, IsRunning}
 use Rattle.vx_cell.proofs.Changes.{keep_same, keep_more, keep_tell, keep_cover, keep_cut, keep_differ, holds_alike, rose_now, rose_still, at_now, at_still}
 use Rattle.vx_cell.proofs.Blocks.{read_same, read_blocks}
@@ -203,6 +204,8 @@ module _ (s : Stage) (region start size number epoch : ℕ) (ps : List PlexSeen)
         writes = same_writes (MayWrite job (settles_in s.phase)) ps;
         calls = called_none s job x table;
         rose = tt;
+        well = λ fault lost copy device. refl;
+        courses = λ fault lost told who. (tt, tt);
         blames = no_blame x.1 None (λ fault. absurd (fails (holds ps) whole.formed come fault));
         gives = λ done is told. absurd (no_read_begun s s.phase job x fresh may reads is done);
       }
@@ -292,6 +295,8 @@ module _ (s : Stage) (region start size number epoch : ℕ) (ps : List PlexSeen)
         writes = same_writes (MayWrite job (settles_in s.phase)) ps;
         calls = called_none s job (s, act_at s w w.step) (sym (named_again w job is));
         rose = tt;
+        well = λ fault lost copy device. refl;
+        courses = λ fault lost told who. tt;
         blames = no_blame (act_at s w w.step) None (λ fault. absurd (not_an_end w Fault can fault));
         gives = λ done read told. absurd (not_an_end w Done can done);
       }
@@ -478,6 +483,107 @@ given ps qs k at at' into result e c tell same i lt =
     read_blocks k at into ps qs tell c_ok i lt ∙ sym (ap (λ (f : ℕ → Contents). f k (at + i)) (read_same k at into (Ok tt) ps qs c_ok))
     ∙ ap (λ (n : ℕ). contents_of qs k (n + i)) (sym same)
 
+-- ---- the counts of the log
+
+-- a call on the log that failed ends the job with a fault, and a cut ends it without power
+mark_faults : (s : Stage) (w : Work) (step : Step) (b : ℕ) → Mark b ≡ act_at s w step → (answered s w step MarkFailed).1 ≡ Fault
+mark_faults s w AtMark b e = refl
+mark_faults s w AtMarkFailed b e = refl
+mark_faults s w AtWrite b e = cc
+mark_faults s w AtFind b e = cc
+mark_faults s w AtEqual b e = cc
+mark_faults s w AtCopy b e = cc
+mark_faults s w AtUnmark b e = cc
+mark_faults s w AtRead b e = by w.job e
+  where
+    by : (job : Job) → Mark b ≡ read_act w job → (answered s w AtRead MarkFailed).1 ≡ Fault
+    by ReadJob e = cc
+    by WriteJob e = cc
+    by (CopyJob k) e = cc
+    by Settle e = cc
+    by Clear e = cc
+
+unmark_faults : (s : Stage) (w : Work) (step : Step) (b : ℕ) → Unmark b ≡ act_at s w step → (answered s w step UnmarkFailed).1 ≡ Fault
+unmark_faults s w AtUnmark b e = refl
+unmark_faults s w AtMark b e = cc
+unmark_faults s w AtMarkFailed b e = cc
+unmark_faults s w AtWrite b e = cc
+unmark_faults s w AtFind b e = cc
+unmark_faults s w AtEqual b e = cc
+unmark_faults s w AtCopy b e = cc
+unmark_faults s w AtRead b e = by w.job e
+  where
+    by : (job : Job) → Unmark b ≡ read_act w job → (answered s w AtRead UnmarkFailed).1 ≡ Fault
+    by ReadJob e = cc
+    by WriteJob e = cc
+    by (CopyJob k) e = cc
+    by Settle e = cc
+    by Clear e = cc
+
+goes_by : (s : Stage) (w : Work) (event : Event) → s.phase ≡ Busy w → goes_on s s.phase event ≡ answered s w w.step event
+goes_by s w event is = ap (λ (p : Phase). goes_on s p event) is
+
+-- where the act that comes next is no such end, no count has risen
+module _ (s : Stage) (w : Work) (x : Stage × Act) (region : ℕ) (ps qs : List PlexSeen) (log log' : LogSeen) (io io' : Bytes) (is : s.phase ≡ Busy w) (fault : x.1 ≡ Fault → ⊥) (lost : x.1 ≡ Lost → ⊥) where
+  well_mark : (b : ℕ) (event : Event) → Mark b ≡ act_at s w w.step → x ≡ next_of s event → MayAnswer (Mark b) event → LogCause (Some event) log log' → SameLogFaults log log'
+  well_mark b Marked at table may cause = cause
+  well_mark b MarkFailed at table may cause = absurd (fault (ap (λ (y : Stage × Act). y.1) table ∙ ap (λ (y : Stage × Act). y.1) (goes_by s w MarkFailed is) ∙ mark_faults s w w.step b at))
+  well_mark b Cut at table may cause = absurd (lost (ap (λ (y : Stage × Act). y.1) table))
+  well_mark b (Begin job) at table may cause = absurd may
+  well_mark b Unmarked at table may cause = absurd may
+  well_mark b UnmarkFailed at table may cause = absurd may
+  well_mark b Wrote at table may cause = absurd may
+  well_mark b WriteFailed at table may cause = absurd may
+  well_mark b Got at table may cause = absurd may
+  well_mark b (ReadFailed k) at table may cause = absurd may
+
+  well_unmark : (b : ℕ) (event : Event) → Unmark b ≡ act_at s w w.step → x ≡ next_of s event → MayAnswer (Unmark b) event → LogCause (Some event) log log' → SameLogFaults log log'
+  well_unmark b Unmarked at table may cause = cause
+  well_unmark b UnmarkFailed at table may cause = absurd (fault (ap (λ (y : Stage × Act). y.1) table ∙ ap (λ (y : Stage × Act). y.1) (goes_by s w UnmarkFailed is) ∙ unmark_faults s w w.step b at))
+  well_unmark b Cut at table may cause = absurd (lost (ap (λ (y : Stage × Act). y.1) table))
+  well_unmark b (Begin job) at table may cause = absurd may
+  well_unmark b Marked at table may cause = absurd may
+  well_unmark b MarkFailed at table may cause = absurd may
+  well_unmark b Wrote at table may cause = absurd may
+  well_unmark b WriteFailed at table may cause = absurd may
+  well_unmark b Got at table may cause = absurd may
+  well_unmark b (ReadFailed k) at table may cause = absurd may
+
+  same_well : log' ≡ log → SameLogFaults log log'
+  same_well e copy device = ap (λ (l : LogSeen). l.faults copy device) e
+
+  well_here : (act : Act) (event : Event) → act ≡ act_at s w w.step → x ≡ next_of s event → Carries region act (Some event) io ps log io' qs log' → SameLogFaults log log'
+  well_here (Mark b) event at table h = well_mark b event at table h.0.fits h.0.cause
+  well_here (Unmark b) event at table h = well_unmark b event at table h.0.fits h.0.cause
+  well_here (WriteCall k) event at table h = same_well h.1
+  well_here (WriteRegion k) event at table h = same_well h.1
+  well_here (ReadCall b) event at table h = same_well h.3
+  well_here (ReadRegion k) event at table h = same_well h.1
+  well_here Done event at table h = absurd h
+  well_here Skipped event at table h = absurd h
+  well_here Fault event at table h = absurd h
+  well_here Lost event at table h = absurd h
+
+-- nor is the event one that tells a call on the log that failed, or a cut
+module _ (s : Stage) (w : Work) (x : Stage × Act) (is : s.phase ≡ Busy w) (fault : x.1 ≡ Fault → ⊥) (lost : x.1 ≡ Lost → ⊥) (now : Disks) (call : Pending) (values : Contents) where
+  well_event : (act : Act) (event : Event) → act ≡ act_at s w w.step → x ≡ next_of s event → MayAnswer act event → IsWell (Comes event now call values)
+  well_event (Mark b) MarkFailed at table may = fault (ap (λ (y : Stage × Act). y.1) table ∙ ap (λ (y : Stage × Act). y.1) (goes_by s w MarkFailed is) ∙ mark_faults s w w.step b at)
+  well_event (Unmark b) UnmarkFailed at table may = fault (ap (λ (y : Stage × Act). y.1) table ∙ ap (λ (y : Stage × Act). y.1) (goes_by s w UnmarkFailed is) ∙ unmark_faults s w w.step b at)
+  well_event act Cut at table may = lost (ap (λ (y : Stage × Act). y.1) table)
+  well_event act MarkFailed at table may = absurd may
+  well_event act UnmarkFailed at table may = absurd may
+  well_event act (Begin job) at table may = tt
+  well_event act Marked at table may = tt
+  well_event act Unmarked at table may = tt
+  well_event act Wrote at table may = tt
+  well_event act WriteFailed at table may = tt
+  well_event act Got at table may = tt
+  well_event act (ReadFailed k) at table may = tt
+
+well_more : (course : List Happening) (h : Happening) → AreWell course → IsWell h → AreWell (course ++ (h ∷ []))
+well_more [] h well last = (last, tt)
+well_more (x ∷ xs) h well last = (well.0, well_more xs h well.1 last)
+
 module _ (job : Job) (io0 : Bytes) (old : RegionSeen) (s : Stage) (region start size number epoch : ℕ) (ps : List PlexSeen) (log : LogSeen) (first : Option Place) (act : Act) (io : Bytes) (w : Work) (answer : Answered)
     (qs : List PlexSeen) (log' : LogSeen) (io' : Bytes) (x : Stage × Act) where
   abbrev now : RegionSeen
@@ -599,6 +705,15 @@ module _ (job : Job) (io0 : Bytes) (old : RegionSeen) (s : Stage) (region start 
             (λ began. quiet_step s.phase w is (run.quiet began)) at_step can_job carries);
         calls = called_more old.stage job s act first answer.place event x run.calls may placed.1 table;
         rose = risen_first first answer.place old.plexes ps qs old.log log log' run.kept.plexes run.kept.log kept_plexes kept_log run.rose placed.0;
+        well = λ fault lost copy device.
+            well_here s w x region ps qs log log' io io' is fault lost act event at_step table carries copy device
+            ∙ run.well (λ e. (let no : IsPossible s (holds ps) w.job w.source Fault = subst (λ (a : Act). IsPossible s (holds ps) w.job w.source a) e can in no))
+            (λ e. (let no : IsPossible s (holds ps) w.job w.source Lost = subst (λ (a : Act). IsPossible s (holds ps) w.job w.source a) e can in no)) copy device;
+        courses = λ fault lost told who.
+            well_more ((run.goes told who).0) (Comes event (disks_of next_region) (call_of job io0 old who) (values_at (old.start + io'.at) io'.into))
+            (run.courses (λ e. (let no : IsPossible s (holds ps) w.job w.source Fault = subst (λ (a : Act). IsPossible s (holds ps) w.job w.source a) e can in no))
+            (λ e. (let no : IsPossible s (holds ps) w.job w.source Lost = subst (λ (a : Act). IsPossible s (holds ps) w.job w.source a) e can in no)) told who)
+            (well_event s w x is fault lost (disks_of next_region) (call_of job io0 old who) (values_at (old.start + io'.at) io'.into) act event at_step table may);
         blames = no_blame x.1 (earlier first answer.place) (λ fault. some_earlier first answer.place (some_from_fits act event answer.place placed.1 (fails (holds ps) run.whole.formed come fault)));
         gives = λ done read told.
             let fact = reads_work s s.phase w act event x (holds ps) is run.named may run.whole.formed reads (runs.0 ∙ read) done in

@@ -17,7 +17,7 @@ use Rattle.vx_cell.specs.declared.fault.Place.{Place}
 use Rattle.vx_cell.specs.declared.fault.Place.TheVariants.{Data, Log}
 use Rattle.vx_cell.specs.declared.acts.Answered.{Answered}
 use Rattle.vx_cell.specs.Plexes.{PlexSeen, ChangesPlex, holds, RoseAt}
-use Rattle.vx_cell.specs.Region.{LogRose}
+use Rattle.vx_cell.specs.Region.{LogRose, SameLogFaults}
 
 -- whole blocks, at least one, inside the region
 pub record IsRange (size at bytes : ℕ) : Type 0 where
@@ -121,7 +121,9 @@ UnmarksBy b _ old now = ⊥
 
 -- why the log answers so
 abbrev pub LogCause : Option Event → LogSeen → LogSeen → Type 0
+LogCause (Some Marked) old new = SameLogFaults old new
 LogCause (Some MarkFailed) old new = LogRose old new
+LogCause (Some Unmarked) old new = SameLogFaults old new
 LogCause (Some UnmarkFailed) old new = LogRose old new
 LogCause (Some Cut) old new = IsTrue new.cut
 LogCause None old new = (new ≡ old) × (old.lent ≡ true)

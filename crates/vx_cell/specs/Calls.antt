@@ -1,5 +1,5 @@
 -- What the calls on a cell say.
-use Rattle.std.specs.Prelude.{◌≡◌, ◌⊎◌, ◌&&◌, ℕ, ◌+◌, ◌-◌, ◌≤◌, Bool, true, false, if◌then◌else◌, List, Option, Some, None, Result, Ok, Err, IfOk}
+use Rattle.std.specs.Prelude.{◌≡◌, ◌⊎◌, ◌&&◌, ℕ, ◌+◌, ◌-◌, ◌≤◌, Bool, true, false, if◌then◌else◌, List, Option, Some, None, Result, Ok, Err, IfOk, OnOk}
 use Rattle.vx_base.specs.Blocks.{Contents}
 use Rattle.vx_life.specs.Entry.{Entry}
 use Rattle.vx_core.specs.declared.stage.Job.{Job}
@@ -16,6 +16,7 @@ use Rattle.vx_core.specs.Region.{Fixed, entries_after}
 use Rattle.vx_core.specs.Schedule.{Happening, IsIdle}
 use Rattle.vx_core.specs.Follow.{SameMasks}
 use Rattle.vx_core.specs.Causes.{IsPlain}
+use Rattle.vx_core_laws.specs.Exact.{AreWell}
 use Rattle.vx_piece.specs.Seen.{Seen}
 use Rattle.vx_marks.specs.Log.{LogSeen}
 use Rattle.vx_cell.specs.declared.cell.Cell.{Cell}
@@ -24,7 +25,7 @@ use Rattle.vx_cell.specs.declared.fault.CellFault.{CellFault}
 use Rattle.vx_cell.specs.declared.fault.CellFault.TheVariants.{Fault, PowerLost, Held, Only}
 use Rattle.vx_cell.specs.Plexes.{plexes_seen, WritesOnly}
 use Rattle.vx_cell.specs.Acts.{Bytes, IsRange, PlaceRose}
-use Rattle.vx_cell.specs.Region.{RegionSeen, IsWhole, IsTold, KeepsRegion, AllFailed, IsCut}
+use Rattle.vx_cell.specs.Region.{RegionSeen, IsWhole, IsTold, KeepsRegion, AllFailed, SameLogFaults, IsCut}
 use Rattle.vx_cell.specs.Running.{Caller, call_of, values_at, GoesBy, start_last, start_call, Allows, IsMarking, Begins, IsCallable, settles_in, MayWrite, HasCalled, IsRunning}
 
 -- the region of a cell, with the log that its calls are given
@@ -139,6 +140,9 @@ pub record HasEnded {T : Type 0} (job : Job) (io : Bytes) (old new : RegionSeen)
       new (call_left result (call_of job io old who)) (entries_by result (call_of job io old who) (values_at (old.start + io'.at) io'.into))
   pub phase : LeavesPhase result new.stage.phase
   pub cause : CallHasCause job old new result
+  -- where it is done no call on the log has failed, and the course tells none
+  pub well : OnOk result (SameLogFaults old.log new.log)
+  pub courses : OnOk result ((told : IsTold old) (who : Caller) → AreWell (goes told who).0)
   pub calls : AnswersLast job old.stage new.stage result
   -- the counts of writes rise on these plexes alone
   pub writes : WritesOnly (MayWrite job (settles_in old.stage.phase)) old.plexes new.plexes

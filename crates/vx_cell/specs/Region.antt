@@ -91,6 +91,10 @@ pub record KeepsRegion (old new : RegionSeen) : Type 0 where
 abbrev pub LogRose : LogSeen → LogSeen → Type 0
 LogRose old new = (copy : ℕ) × (device : ℕ) × Rose (old.faults copy device) (new.faults copy device)
 
+-- each count of the log is as it was
+abbrev pub SameLogFaults : LogSeen → LogSeen → Type 0
+SameLogFaults old new = (copy device : ℕ) → new.faults copy device ≡ old.faults copy device
+
 -- a count of the log has risen, or one of each plex that was current before
 abbrev pub AllFailed : RegionSeen → RegionSeen → Type 0
 AllFailed old new = LogRose old.log new.log ⊎ ((k : ℕ) → has (current old.stage) k ≡ true → PlexRose k old.plexes new.plexes)

@@ -22,10 +22,11 @@ use Rattle.vx_core.specs.Recovery.{region_after}
 use Rattle.vx_core.specs.Follow.{SameMasks, Rewrites, EndsSettled, PossibleIn, settles}
 use Rattle.vx_core.specs.Causes.{Faults, IsPlain, Blames}
 use Rattle.vx_core_laws.specs.Course.{EachFits}
+use Rattle.vx_core_laws.specs.Exact.{AreWell}
 use Rattle.vx_cell.specs.declared.fault.Place.{Place}
 use Rattle.vx_cell.specs.Plexes.{PlexSeen, holds, contents_of, PlexRose, WritesOnly}
 use Rattle.vx_cell.specs.Acts.{Bytes, IsRange, HasRisen, FailsAt, FitsPlace}
-use Rattle.vx_cell.specs.Region.{RegionSeen, IsWhole, IsTold, KeepsRegion, LogRose, IsCut, state_of}
+use Rattle.vx_cell.specs.Region.{RegionSeen, IsWhole, IsTold, KeepsRegion, LogRose, SameLogFaults, IsCut, state_of}
 
 -- ---- calls
 
@@ -251,5 +252,8 @@ pub record IsRunning (job : Job) (io : Bytes) (old now : RegionSeen) (first : Op
   pub writes : WritesOnly (MayWrite job (settles_in old.stage.phase)) old.plexes now.plexes
   pub calls : HasCalled old.stage job now.stage act first
   pub rose : HasRisen first old.plexes old.log now.plexes now.log
+  pub well : (act ≡ Fault → ⊥) → (act ≡ Lost → ⊥) → SameLogFaults old.log now.log
+  -- nor does its course tell a call on the log that failed
+  pub courses : (act ≡ Fault → ⊥) → (act ≡ Lost → ⊥) → (told : IsTold old) (who : Caller) → AreWell (goes told who).0
   pub blames : HasBlame act first
   pub gives : act ≡ Done → job ≡ ReadJob → IsTold old → GivesCurrent now io'.at io'.into

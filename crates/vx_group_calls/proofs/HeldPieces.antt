@@ -65,7 +65,7 @@ pub log_stays : {P : Type 0} {ghosts : Ghosts P} (x y : VolumeLog P ghosts) → 
 log_stays Absent Absent go = tt
 log_stays Absent (Maps y) go = absurd go
 log_stays (Maps x) Absent go = absurd go
-log_stays (Maps x) (Maps y) go = copies_stay _ _ (store_goes KeepsPiece piece_same x y go)
+log_stays (Maps x) (Maps y) go = copies_stay _ _ (store_goes KeepsPiece piece_same x y go.0)
 
 -- ---- one of them has failed
 

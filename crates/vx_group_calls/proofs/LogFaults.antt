@@ -242,7 +242,7 @@ module _ {P : Type 0} {ghosts : Ghosts P} where
   log_rose (Maps old) (Maps new) go copy device rose =
       let a = grid_pages old.pages.items copy device in
       let b = grid_pages new.pages.items copy device in
-      store_rose old new go copy device (omega (arith, a, b, rose))
+      store_rose old new go.0 copy device (omega (arith, a, b, rose))
 
   pub log_cut : (log : VolumeLog P ghosts) → IsTrue (log_seen ghosts.seen log).cut → SomeCut (log_pieces ghosts.seen log)
   log_cut Absent is = cc

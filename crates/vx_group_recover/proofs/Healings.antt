@@ -21,9 +21,9 @@ use Rattle.vx_volume.specs.Volume.{VolumeSeen, cell_at, no_cell, region_at}
 use Rattle.vx_group_start.specs.Copying.{CopiesMap}
 use Rattle.vx_group_stop.specs.Laws.{AreClean, AreSettled, SamePlexMarks}
 use Rattle.vx_group_stop.specs.Stops.{is_marked}
-use Rattle.vx_group_stop.proofs.Passes.{clear_leaves_rest, settling_settles}
+use Rattle.vx_group_stop.proofs.Passes.{clear_leaves_rest, settles_count, settling_settles}
 use Rattle.vx_group_volumes.specs.Copies.{IsUnmarkedAt}
-use Rattle.vx_group_volumes.proofs.Copied.{copy_unmarks_all}
+use Rattle.vx_group_volumes.proofs.Copied.{copy_unmarks_all, still_by}
 use Rattle.vx_group_volumes.proofs.Tight.{copy_alive, copy_settles, done_of, pass_done}
 use Rattle.vx_group_recover.specs.Healing.{IsHealed}
 use Rattle.vx_group_recover.specs.Laws.{EachHealingHeals, IsWhole}
@@ -45,17 +45,6 @@ shrinks_on s t u first then = record {
   settled = λ is. then.settled (first.settled is);
   still = λ k is. then.still k (record { settled = first.settled is.settled; unmarked = first.still k is });
 }
-
--- a mark that was not there is not there either
-never : (marks other k : ℕ) → has marks k ≡ false → has (without marks other) k ≡ false
-never marks other k none = has-without marks other k ∙ ap (λ (b : Bool). b && not (has other k)) none
-
-still_by : (map k : ℕ) (s t : Stage) (found : Bool) → LeavesMarks (CopyJob map) s t found → IsUnmarkedAt s k → has t.bits k ≡ false
-still_by map k s t found left was = by found left.left (ap (λ (m : ℕ). has m k) (left.were.settled was.settled) ∙ was.unmarked)
-  where
-    by : (b : Bool) → t.bits ≡ cond b (without left.marks (only map)) left.marks → has left.marks k ≡ false → has t.bits k ≡ false
-    by true is none = ap (λ (m : ℕ). has m k) is ∙ never left.marks (only map) k none
-    by false is none = ap (λ (m : ℕ). has m k) is ∙ none
 
 copy_shrinks : (map : ℕ) (found : Bool) (old new : RegionSeen) → IsCopiedAt map (Ok found) old new → Shrinks old.stage new.stage
 copy_shrinks map found old new is = record {
@@ -145,10 +134,6 @@ none_at : (p : CellSeen → Bool) (cells : List CellSeen) (r : ℕ) → list_any
 none_at p [] r none lt = absurd (omega (arith, lt))
 none_at p (c ∷ cells) zero none lt = or_left (p c) (list_any p cells) none
 none_at p (c ∷ cells) (suc r) none lt = none_at p cells r (or_right (p c) (list_any p cells) none) (omega (arith, lt))
-
-settles_count : (n : ℕ) (old new : VolumeSeen) → AreDone Settles n old new → length new.cells ≡ length old.cells
-settles_count zero old new done = ap (λ (v : VolumeSeen). length v.cells) done
-settles_count (suc n) old new done = done.2.count ∙ settles_count n old done.0 done.1
 
 pub healing_heals : EachHealingHeals
 healing_heals old new healed is = (rest.0 ∙ copies.count ∙ settles_count (length old.cells) old is.mid is.settled.settled.0, record { settled = rest.1.0; clean = rest.1.1; unmarked = unmarked })

@@ -39,7 +39,7 @@ settles_done (suc n) old new done r lt =
       | inr apart ↦ ap (λ (c : CellSeen). c.stage.phase) (step.others r apart) ∙ before r (less r n lt apart)
     ]
 
-settles_count : (n : ℕ) (old new : VolumeSeen) → AreDone Settles n old new → length new.cells ≡ length old.cells
+pub settles_count : (n : ℕ) (old new : VolumeSeen) → AreDone Settles n old new → length new.cells ≡ length old.cells
 settles_count zero old new done = ap (λ (v : VolumeSeen). length v.cells) done
 settles_count (suc n) old new done = done.2.count ∙ settles_count n old done.0 done.1
 

@@ -54,7 +54,7 @@ here_by : (map : ℕ) (s t : Stage) (found : Bool) → map < 64 → LeavesMarks 
 here_by map s t true low left on = ap (λ (m : ℕ). has m map) left.left ∙ freed left.marks map low
 here_by map s t false low left on = ap (λ (m : ℕ). has m map) left.left ∙ sym (ap (λ (b : Bool). b && has left.marks map) on) ∙ left.is_found
 
-still_by : (map k : ℕ) (s t : Stage) (found : Bool) → LeavesMarks (CopyJob map) s t found → IsUnmarkedAt s k → has t.bits k ≡ false
+pub still_by : (map k : ℕ) (s t : Stage) (found : Bool) → LeavesMarks (CopyJob map) s t found → IsUnmarkedAt s k → has t.bits k ≡ false
 still_by map k s t found left was =
     let none : has left.marks k ≡ false = ap (λ (m : ℕ). has m k) (left.were.settled was.settled) ∙ was.unmarked in
     by found left.left none

@@ -1,10 +1,8 @@
 -- A volume whose plexes are copied to runs on as the volume of the world whose devices have failed too.
-use Rattle.std.proofs.Common.{◌≡◌, ◌⊎◌, inl, inr, ℕ, zero, suc, ◌*◌, ◌<◌, Bool, List, length, Option, Some, None, Result, Ok, Err, refl, sym, ◌∙◌, ap, subst}
+use Rattle.std.proofs.Common.{◌≡◌, ◌⊎◌, inl, inr, ℕ, zero, suc, ◌*◌, ◌<◌, Bool, List, length, Option, Some, None, Result, Ok, Err, refl, sym, ◌∙◌, subst}
 use Rattle.vx_base.specs.Named.{Word}
 use Rattle.vx_mask.specs.Mask.{has}
 use Rattle.vx_mask.proofs.Tests.{true_or_false}
-use Rattle.vx_core.specs.declared.stage.Stage.{Stage}
-use Rattle.vx_core.specs.Follow.{SameMasks}
 use Rattle.vx_cell.specs.declared.fault.CellFault.{CellFault}
 use Rattle.vx_cell.proofs.Changes.{rose_now, rose_still}
 use Rattle.vx_image.specs.Image.{PlexImage}
@@ -18,14 +16,13 @@ use Rattle.vx_volume.specs.Volume.{IsVolume, VolumeSeen, blocks_in, cell_at, reg
 use Rattle.vx_volume.proofs.Regions.{IsLeft, copied_left}
 use Rattle.vx_volume.proofs.Steps.{step_volume, volume_ready}
 use Rattle.vx_volume_laws.specs.Calls.{KeepsPlaces}
-use Rattle.vx_volume_laws.specs.Tracks.{HasMap}
 use Rattle.vx_volume_laws.specs.RunLaws.{EachCopyRunsOn, FailuresAreTold, OwnersFit}
 use Rattle.vx_volume_laws.specs.Running.{IsSureOfOthers, RunsAsVolume}
 use Rattle.vx_volume_laws.proofs.Keepings.{each_copy_keeps, keeping_keeps, keeps_same}
 use Rattle.vx_group_calls.proofs.Failures.{copying_gone}
 use Rattle.vx_group_calls.proofs.Keeping.{HasGone, gone_same, gone_then}
 use Rattle.vx_group_start.specs.Copying.{AreCopied, CopiesMap}
-use Rattle.vx_group_volumes.proofs.Rests.{failed_twice}
+use Rattle.vx_group_volumes.proofs.Rests.{failed_twice, same_map}
 
 -- ---- it is a volume still
 
@@ -54,18 +51,21 @@ pub pass_volume : (map : ℕ) (old new : VolumeSeen) (result : Result ℕ IoFaul
 pass_volume map old new (Ok n) ends is = made_volume map (length old.cells) None (record { volume = old; copied = 0 }) (record { volume = new; copied = n }) ends is
 pass_volume map old new (Err fault) ends is = made_volume map (length old.cells) (io_stop {T = ℕ} (Err fault)) (record { volume = old; copied = 0 }) (record { volume = new; copied = ends.0 }) ends.1 is
 
--- ---- it runs on
+map_volume : (mask map : ℕ) (stop : Option CellFault) (old new : VolumeSeen) → CopiesMap mask map stop old new → IsVolume old → IsVolume new
+map_volume mask map stop old new copies is = elim (true_or_false (has mask map)) [
+  | inl there ↦ let pass = copies.pass there in pass_volume map old new pass.result pass.ends is
+  | inr away ↦ subst IsVolume (sym (copies.none away).1) is
+]
 
-same_map : (s t : Stage) → SameMasks s t → (k : ℕ) (o : TrackOwner) → HasMap s k o → HasMap t k o
-same_map s t same k o is = record {
-  available = is.available ∙ ap (λ m. has m k) (sym same.0);
-  known = elim is.known [
-    | inl on ↦ inl (ap (λ m. has m k) same.0 ∙ on)
-    | inr (inl off) ↦ inr (inl (ap (λ m. has m k) same.1 ∙ off))
-    | inr (inr snap) ↦ inr (inr (ap (λ m. has m k) same.2 ∙ snap))
-  ];
-  not_dirty = is.not_dirty;
-}
+maps_volume : (mask n : ℕ) (old new : VolumeSeen) → AreDone (CopiesMap mask) n old new → IsVolume old → IsVolume new
+maps_volume mask zero old new same is = subst IsVolume (sym same) is
+maps_volume mask (suc n) old new (mid, done, last) is = map_volume mask n None mid new last (maps_volume mask n old mid done is)
+
+-- once all copies were made it is one
+pub copied_volume : (mask n : ℕ) (old new : VolumeSeen) → AreCopied mask old new (Ok n) → IsVolume old → IsVolume new
+copied_volume mask n old new copied is = maps_volume mask copied.maps old new copied.made is
+
+-- ---- it runs on
 
 -- the volume runs as this one, of which nothing is sure of plexes that are written to if nothing was of the other before
 abbrev pub RunsAfter : List PlexImage → VolumeSeen → Volume → VolumeSeen → Volume → Type 0

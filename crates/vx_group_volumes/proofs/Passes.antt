@@ -23,20 +23,20 @@ use Rattle.vx_group_calls.proofs.Service.{gone_stays}
 use Rattle.vx_group_volumes.specs.Laws.{CopiesGoOn, GoesOn, RestGoesOn}
 
 -- the cells keep their plexes, and each piece its place
-record Keeps (old new : VolumeSeen) : Type 0 where
+pub record Keeps (old new : VolumeSeen) : Type 0 where
   pub gone : HasGone old new
   pub places : KeepsPlaces old new
 
-keep_same : (v : VolumeSeen) → Keeps v v
+pub keep_same : (v : VolumeSeen) → Keeps v v
 keep_same v = record { gone = gone_same v; places = keeps_same v }
 
-keep_then : (a b c : VolumeSeen) → Keeps a b → Keeps b c → Keeps a c
+pub keep_then : (a b c : VolumeSeen) → Keeps a b → Keeps b c → Keeps a c
 keep_then a b c first after = record { gone = gone_then a b c first.gone after.gone; places = keeping_keeps a b c first.places after.places }
 
-settling : (old new : VolumeSeen) (result : Result (Unit {0}) IoFault) → PassEnds Settles old new result → Keeps old new
+pub settling : (old new : VolumeSeen) (result : Result (Unit {0}) IoFault) → PassEnds Settles old new result → Keeps old new
 settling old new result ends = record { gone = settling_gone old new result ends; places = each_settling_keeps old new result ends }
 
-clearing : (old new : VolumeSeen) (result : Result (Unit {0}) IoFault) → PassEnds Clears old new result → Keeps old new
+pub clearing : (old new : VolumeSeen) (result : Result (Unit {0}) IoFault) → PassEnds Clears old new result → Keeps old new
 clearing old new result ends = record { gone = clearing_gone old new result ends; places = each_clearing_keeps old new result ends }
 
 -- ---- copies to plexes
@@ -54,7 +54,7 @@ module _ (mask : ℕ) where
   copies_done zero old new is = subst (Keeps old) (sym is) (keep_same old)
   copies_done (suc n) old new (mid, done, last) = keep_then old mid new (copies_done n old mid done) (copying n None mid new last)
 
-  copies_made : (total : ℕ) (stop : Option CellFault) (old new : VolumeSeen) → AreMade (CopiesMap mask) total stop old new → Keeps old new
+  pub copies_made : (total : ℕ) (stop : Option CellFault) (old new : VolumeSeen) → AreMade (CopiesMap mask) total stop old new → Keeps old new
   copies_made total None old new done = copies_done total old new done
   copies_made total (Some fault) old new (n, mid, low, done, last) = keep_then old mid new (copies_done n old mid done) (copying n (Some fault) mid new last)
 
@@ -68,7 +68,7 @@ rest old new (Err fault) (inr is) = keep_then old is.1.mid new (settling old is.
 -- ---- a volume of the code
 
 module _ {P : Type 0} {ghosts : Ghosts P} (old new : Volume P ghosts) where
-  goes_on : Keeps (volume_seen ghosts.seen old) (volume_seen ghosts.seen new) → LogGoes ghosts.seen (log_of old) (log_of new) → GoesOn ghosts.seen old new
+  pub goes_on : Keeps (volume_seen ghosts.seen old) (volume_seen ghosts.seen new) → LogGoes ghosts.seen (log_of old) (log_of new) → GoesOn ghosts.seen old new
   goes_on keeps follows = record {
     together = gone_stays old new follows keeps.gone;
     lies = λ numbers form was. lies_on numbers form old new was keeps.places follows;

@@ -105,6 +105,19 @@ settling_fault place old new ((n, mid, low, done, changes), plain) =
       rose = place_rose Settle (region_at mid n) (region_at new n) changes.goes.result e.dead (λ alive. (e.ended alive).phase) (λ alive. (e.ended alive).cause) place changes.goes.stopped;
     }
 
+-- a place failed as their dirty marks were taken away
+pub clearing_fault : (place : Place) (old new : VolumeSeen) → PassEnds Clears old new (Err (Fault place)) → FailedIn place old new
+clearing_fault place old new ((n, mid, low, done, changes), plain) =
+    let e = changes.goes.ends.ended in
+    record {
+      mid = mid;
+      gone = done_gone itself Clears clears_gone n old mid done;
+      last = clears_gone n (Some (cell.Fault place)) mid new changes;
+      region = n;
+      inside = changes.inside;
+      rose = place_rose Clear (region_at mid n) (region_at new n) changes.goes.result e.dead (λ alive. (e.ended alive).phase) (λ alive. (e.ended alive).cause) place changes.goes.stopped;
+    }
+
 lost_here : (r : ℕ) (old new : VolumeSeen) → r < length old.cells → length new.cells ≡ length old.cells → AreCutWhereDead old → (((cell_at old r).stage.phase ≡ Dead) × (region_at new r ≡ region_at old r)) ⊎ IsCut (region_at new r) → SomeRegionCut new
 lost_here r old new inside count cut (inl dead) =
     record { region = r; inside = subst (λ (n : ℕ). r < n) (sym count) inside; cut = subst (λ (x : RegionSeen). IsCut x) (sym dead.1) (cut r inside dead.0) }
@@ -117,7 +130,7 @@ settling_lost old new ((n, mid, low, done, changes), plain) cut =
     lost_here n mid new changes.inside changes.count ((done_gone itself Settles settles_gone n old mid done).cut cut)
     (power_cut Settle (region_at mid n) (region_at new n) changes.goes.result e.dead (λ alive. (e.ended alive).phase) (λ alive. (e.ended alive).cause) changes.goes.stopped)
 
-clearing_lost : (old new : VolumeSeen) → PassEnds Clears old new (Err PowerLost) → AreCutWhereDead old → SomeRegionCut new
+pub clearing_lost : (old new : VolumeSeen) → PassEnds Clears old new (Err PowerLost) → AreCutWhereDead old → SomeRegionCut new
 clearing_lost old new ((n, mid, low, done, changes), plain) cut =
     let e = changes.goes.ends.ended in
     lost_here n mid new changes.inside changes.count ((done_gone itself Clears clears_gone n old mid done).cut cut)
@@ -177,7 +190,7 @@ lost_by map old new (Err (Fault other)) is ends cut = cc
 lost_by map old new (Err PowerLost) is ends cut = copying_lost map old new ends cut
 lost_by map old new (Err Range) is ends cut = cc
 
-copies_fault : (place : Place) (mask total : ℕ) (old new : VolumeSeen) → AreMade (CopiesMap mask) total (Some (cell.Fault place)) old new → FailedIn place old new
+pub copies_fault : (place : Place) (mask total : ℕ) (old new : VolumeSeen) → AreMade (CopiesMap mask) total (Some (cell.Fault place)) old new → FailedIn place old new
 copies_fault place mask total old new (n, mid, low, done, last) = by (true_or_false (has mask n))
   where
     by : (has mask n ≡ true) ⊎ (has mask n ≡ false) → FailedIn place old new
@@ -187,7 +200,7 @@ copies_fault place mask total old new (n, mid, low, done, last) = by (true_or_fa
         record { mid = f.mid; gone = gone_then old mid f.mid (done_gone itself (CopiesMap mask) (map_gone mask) n old mid done) f.gone; last = f.last; region = f.region; inside = f.inside; rose = f.rose }
     by (inr away) = let no = (last.none away).0 in cc
 
-copies_lost : (mask total : ℕ) (old new : VolumeSeen) → AreMade (CopiesMap mask) total (Some cell.PowerLost) old new → AreCutWhereDead old → SomeRegionCut new
+pub copies_lost : (mask total : ℕ) (old new : VolumeSeen) → AreMade (CopiesMap mask) total (Some cell.PowerLost) old new → AreCutWhereDead old → SomeRegionCut new
 copies_lost mask total old new (n, mid, low, done, last) cut = by (true_or_false (has mask n))
   where
     by : (has mask n ≡ true) ⊎ (has mask n ≡ false) → SomeRegionCut new
@@ -221,7 +234,7 @@ module _ {P : Type 0} {ghosts : Ghosts P} (old new : Volume P ghosts) (follows :
   rose_on : (device : ℕ) → SumRose (sum_by (faults_of device) (held_pieces ghosts.seen old)) (sum_by (faults_of device) (held_pieces ghosts.seen new)) → Rose (faults_on device (held_pieces ghosts.seen old)) (faults_on device (held_pieces ghosts.seen new))
   rose_on device rose = clipped _ _ rose
 
-  failed_on : (place : Place) → FailedIn place was now → Rose (faults_on (device_of place) (held_pieces ghosts.seen old)) (faults_on (device_of place) (held_pieces ghosts.seen new))
+  pub failed_on : (place : Place) → FailedIn place was now → Rose (faults_on (device_of place) (held_pieces ghosts.seen old)) (faults_on (device_of place) (held_pieces ghosts.seen new))
   failed_on (Data map piece device) failed =
       let last = kept_cells failed.mid now failed.last in
       let rose = sum_rose device (cells_of failed.mid) (cells_of now) last
@@ -236,7 +249,7 @@ module _ {P : Type 0} {ghosts : Ghosts P} (old new : Volume P ghosts) (follows :
       (beside_then device (cells_of was) (cells_of now) (log_pieces ghosts.seen (log_of old)) (log_pieces ghosts.seen (log_of new)) (kept_cells was now (gone_then was failed.mid now failed.gone failed.last))
       (log_rose (log_of old) (log_of new) follows copy device rose))
 
-  cut_in : SomeRegionCut now → SomeCut (held_pieces ghosts.seen new)
+  pub cut_in : SomeRegionCut now → SomeCut (held_pieces ghosts.seen new)
   cut_in some = by some.cut
     where
       by : IsCut (region_at now some.region) → SomeCut (held_pieces ghosts.seen new)

@@ -76,7 +76,7 @@ failed_twice owners f w = λ i. record w {
 
 -- ---- it runs on
 
-same_map : (s t : Stage) → SameMasks s t → (k : ℕ) (o : TrackOwner) → HasMap s k o → HasMap t k o
+pub same_map : (s t : Stage) → SameMasks s t → (k : ℕ) (o : TrackOwner) → HasMap s k o → HasMap t k o
 same_map s t same k o is = record {
   available = is.available ∙ ap (λ m. has m k) (sym same.0);
   known = elim is.known [

@@ -21,4 +21,4 @@ pub use committing::{LATE, commit, stop_of};
 pub use creating::create;
 pub use joining::join;
 pub use making::make;
-pub use planning::{NextConfig, broken, planned, volume_in};
+pub use planning::{NextConfig, broken, edited, planned, volume_in};

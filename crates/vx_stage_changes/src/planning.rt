@@ -46,7 +46,7 @@ fn copied(alloc: Global, config: &Config) -> Result<Config, OutOfMemory>
 }
 
 /// The configuration after the edits; the old one stays as it is.
-fn edited(alloc: Global, config: &Config, edits: &[Edit]) -> Result<Config, Stop>
+pub fn edited(alloc: Global, config: &Config, edits: &[Edit]) -> Result<Config, Stop>
     ensures edited { IfOk result (IsEdited edits.now config.now) }
     ensures unedited { IfErr result (IsUnedited edits.now config.now) }
 {

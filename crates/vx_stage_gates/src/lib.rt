@@ -10,3 +10,4 @@ mod volumes;
 pub use devices::new_records;
 pub use slots::next_slot;
 pub use test::failing;
+pub use volumes::is_started;

@@ -11,7 +11,7 @@ use vx_objects::Vol;
 use vx_piece::Piece;
 
 /// A volume of the name is started.
-pub(crate) fn is_started<P: Piece>(house: &House<P>, vol: &Name) -> bool
+pub fn is_started<P: Piece>(house: &House<P>, vol: &Name) -> bool
     ensures { result ≡ is_some ((plain P.seen house.now).volumes vol.now) }
 {
     house.volumes.contains_key(vol) || runs(&house.group, vol)

@@ -1,6 +1,7 @@
--- A volume that was opened is recorded as started, and begins to run: each moment of the house goes to one in which it does.
+-- A volume that was opened, by a start or as a recovery ends, is recorded as active, and begins to run: each moment of the house goes to one in which it
+-- does.
 use Rattle.std.proofs.Common.{◌≡◌, ◌∙◌, ℕ, suc, ◌+◌, ◌<◌, ◌≤◌, ◌&&◌, Bool, true, false, cond, List, [], ◌∷◌, ◌++◌, map, length, Option, Some, None, refl, sym, ap, subst, arith, append_assoc}
-use Rattle.std.specs.Prelude.{IfSome, IsSome, is_some}
+use Rattle.std.specs.Prelude.{IsSome, is_some}
 use Rattle.std.specs.BTreeMap.{get}
 use Rattle.std.specs.Cmp.Lexicographic.{slice_cmp}
 use Rattle.std.specs.List.{All, flat_map}
@@ -24,18 +25,15 @@ use Rattle.vx_copies.specs.Disks.{CommitGoes, DiskSeen, good_mask}
 use Rattle.vx_copies.specs.Lists.{AllOf, Each}
 use Rattle.vx_confdb.specs.Groups.{members}
 use Rattle.vx_fronts.specs.Rests.{rests_of}
-use Rattle.vx_objects.specs.declared.config.Config.{Config}
 use Rattle.vx_image.proofs.PlexMembers.{IsIn, any_in}
 use Rattle.vx_objects.specs.declared.edit.Edit.{Edit}
-use Rattle.vx_state_edits.specs.Edits.{is_new, start_edits}
-use Rattle.vx_state_edits.specs.Laws.{EachRestatedVolumeIsRecorded, EachStartRestates}
+use Rattle.vx_state_edits.specs.Edits.{is_new}
 use Rattle.vx_image.specs.Bytes.{Sectors, map_or_zero}
 use Rattle.vx_image.specs.UsedPlexes.{IsVolOf}
-use Rattle.vx_script_words.specs.declared.value.DiskAt.{DiskAt}
+use Rattle.vx_moments.specs.Commit.{IsCommitted, Writing}
 use Rattle.vx_moments.specs.Leaving.{grouped, lone}
 use Rattle.vx_moments.specs.Moment.{Moment, AreLater}
 use Rattle.vx_moments.specs.World.{Group, OnPlexes, Volume, World}
-use Rattle.vx_group_edits.proofs.Restated.{start_keeps}
 use Rattle.vx_moments.specs.Group.{image_on, sectors_of}
 use Rattle.vx_volume.specs.Volume.{IsVolume, volume_seen}
 use Rattle.vx_volume_laws.specs.Contents.{AreSectorsOf}
@@ -50,8 +48,9 @@ use Rattle.vx_lending.specs.Public.{lent_pieces, running_at, running_pieces, sti
 use Rattle.vx_group_start.specs.Fresh.{is_fresh}
 use Rattle.vx_group_volumes.specs.Copies.{AreTight}
 use Rattle.vx_group_volumes.proofs.Firsts.{fresh_tight}
-use Rattle.vx_group_volumes.proofs.Recorded.{start_changes}
-use Rattle.vx_stages.specs.Starting.{IsStartedBy, is_copied, is_copied_plex, plexes_started, volume_started}
+use Rattle.vx_stages.specs.Ends.{IsChange}
+use Rattle.vx_stages.specs.Starting.{BeginsIn, is_copied, is_copied_plex, plexes_started, volume_started}
+use Rattle.vx_stages.specs.Touching.{IsTouched, Narrows}
 use Rattle.vx_house.specs.Holders.{group_holders}
 use Rattle.vx_house.specs.Runs.{AllInPlace, AreInPlace, AreRuns, IsAtRun, IsInPlace, IsRunOf}
 use Rattle.vx_house.specs.Scene.{FaultsGoOn, Shelved}
@@ -73,24 +72,21 @@ use Rattle.vx_stage_changes.specs.Changing.{IsMeant}
 use Rattle.vx_stage_changes.specs.declared.planning.NextConfig.{NextConfig}
 use Rattle.vx_stage_volumes.specs.Opening.{OpensIn}
 use Rattle.vx_stage_volumes.specs.Recording.{IsRecordedIn}
-use Rattle.vx_stage_volumes.specs.Starting.{IsPrepared}
-use Rattle.vx_stage_volumes.proofs.Absent.{not_running}
 use Rattle.vx_stage_volumes.proofs.Commit.{IsCommittedAt, KeepsRunning, committed_at, done_keeps, written_faults}
 use Rattle.vx_stage_volumes.proofs.Held.{held, hold_still, public_there}
-use Rattle.vx_stage_volumes.proofs.HeldStart.{IsHeldPublic, IsTouchedAt, good_slots, world_of}
+use Rattle.vx_stage_volumes.proofs.HeldOpen.{at1, faults1, g1, h1, k, kept1, keeps1, mid_at, mid_keeps, narrows1, slots1}
+use Rattle.vx_stage_volumes.proofs.HeldStart.{IsHeldPublic, IsTouchedAt, world_of}
 use Rattle.vx_stage_volumes.proofs.Inserted.{IsInserted, all_between, flat_between, flat_last, inserted}
-use Rattle.vx_stage_volumes.proofs.Named.{found_of}
+use Rattle.vx_stage_volumes.proofs.Narrowed.{HaveNarrowing}
 use Rattle.vx_stage_volumes.proofs.Otherwise.{IsHeldOtherwise, otherwise_keeps, otherwise_moment, otherwise_scene, sized_by}
+use Rattle.vx_stage_volumes.proofs.Prepared.{IsOpenable, changes_states, meant, named, of_v, others_stay, same_disks, v_name}
 use Rattle.vx_stage_volumes.proofs.Slots.{IsAtSlot, at_slot_on, is_numbered}
 use Rattle.vx_stage_volumes.proofs.StillSectors.{sectors_are}
 use Rattle.vx_stage_volumes.proofs.StartRun.{BeginsAs, HaveLifeLaws, Runs as RunsBy, begins, in_place, run_of, w_lies}
 use Rattle.vx_stage_volumes.proofs.TouchedBy.{put_back}
-use Rattle.vx_stage_volumes.proofs.UnrecordedStage.{at1, faults1, g1, h1, k, kept1, keeps1, meant, mid_at, mid_keeps, named, restated, same_base, untested, v_name}
 
--- What laws promise of a start.
-pub record HaveStartLaws {P : Type 0} (see : P → Seen) : Type 0 where
-  pub restates : EachStartRestates
-  pub recorded : EachRestatedVolumeIsRecorded
+-- What laws promise of a volume that is opened and begins to run.
+pub record HaveBegunLaws {P : Type 0} (see : P → Seen) : Type 0 where
   pub lives : HaveLifeLaws
   pub ends : (p : P) → EndsThere (see p)
   pub counts : (p : P) → AreCounts (see p)
@@ -108,40 +104,51 @@ pub length_end : {X : Type 0} (xs : List X) (x : X) → length (xs ++ x ∷ []) 
 length_end [] x = refl
 length_end (y ∷ xs) x = ap suc (length_end xs x)
 
--- The moment in which the volume runs, and the volume of the world that it runs as.
-pub record IsBegunAt {P : Type 0} {ghosts : Ghosts P} (see : P → Seen) (shelf : Shelved) (h : House P ghosts) (before now : Group) (hs : List DiskSeen) (v : Vol) (running : Running P ghosts) (m : Moment) : Type 0 where
+-- The moment in which the volume runs, those before it, and the volume of the world that it runs as: sectors of it alone have changed as it was opened,
+-- and then these edits are committed.
+pub record IsBegunAt {P : Type 0} {ghosts : Ghosts P} (see : P → Seen) (shelf : Shelved) (h : House P ghosts) (edits : List Edit) (before now : Group) (v : Vol) (m : Moment) : Type 0 where
   pub then : Moment
   pub is : IsMoment see (at shelf h) then
   pub later : AreLater m.counts then.counts
-  pub started : IsStartedBy before v m then
+  pub free : m.world.volumes v.name ≡ None
+  pub opened : Moment
+  pub touched : IsTouched before v.name m opened
+  pub narrows : HaveNarrowing see → Narrows before v m opened
+  pub first : AreLater m.counts opened.counts
+  pub writing : Writing
+  pub change : IsChange edits opened.world writing
+  pub recorded : Moment
+  pub committed : IsCommitted writing opened recorded
+  pub rest : AreLater opened.counts recorded.counts
+  pub begins : BeginsIn before v (image_on m.world.devices before v) recorded then
   pub volume : Volume
   pub there : then.world.volumes v.name ≡ Some volume
   pub lies : volume.lies ≡ OnPlexes (plexes_started before v)
   pub group : then.world.group ≡ Some now
 
-module _ {P : Type 0} {ghosts : Ghosts P} (alike : (p q : P) → is_some (ghosts.seen p).told ≡ is_some (ghosts.seen q).told) (laws : HaveStartLaws ghosts.seen) (name : Word) (disks : List DiskAt) (shelf : Shelved) (h : House P ghosts)
-    (keeps : Keeps ghosts.seen (at shelf h)) (g : Imported P ghosts) (has : h.group ≡ Some g) (v : Vol) (next : NextConfig) (mid : Imported P ghosts) (prepared : IsPrepared ghosts.seen name v next g mid)
-    (opened : Imported P ghosts) (running : Running P ghosts) (opens : OpensIn ghosts.seen v mid opened running) (recorded : Imported P ghosts) (records : IsRecordedIn ghosts.seen name running next opened recorded) where
+module _ {P : Type 0} {ghosts : Ghosts P} (alike : (p q : P) → is_some (ghosts.seen p).told ≡ is_some (ghosts.seen q).told) (laws : HaveBegunLaws ghosts.seen) (shelf : Shelved) (h : House P ghosts)
+    (keeps : Keeps ghosts.seen (at shelf h)) {edits : List Edit} {name : Word} {v : Vol} {next : NextConfig} {g mid : Imported P ghosts} (has : h.group ≡ Some g) (openable : IsOpenable ghosts.seen edits name v next g mid)
+    {opened : Imported P ghosts} {running : Running P ghosts} (opens : OpensIn ghosts.seen v mid opened running) {recorded : Imported P ghosts} (records : IsRecordedIn ghosts.seen name running next opened recorded) where
   abbrev pub see : P → Seen
   see = ghosts.seen
 
   abbrev pub hk : House P ghosts
-  hk = k alike laws.restates name disks shelf h keeps g has v next mid prepared
+  hk = k alike shelf h keeps has openable.parts
 
   abbrev gm : Group
   gm = world_of see mid
 
   keeps_mid : Keeps see (at shelf hk)
-  keeps_mid = mid_keeps alike laws.restates name disks shelf h keeps g has v next mid prepared
+  keeps_mid = mid_keeps alike shelf h keeps has openable.parts
 
   v_named : v.name ≡ name
-  v_named = v_name alike laws.restates name disks shelf h keeps g has v next mid prepared
+  v_named = v_name openable
 
   -- ---- held among those that could not be put back
 
   -- it would have had a place there
   pub stuck_room : suc opened.public.stuck.len ≤ opened.public.stuck.cap
-  stuck_room = let room = subst (λ s. s.len < s.cap) (sym opens.same.stuck) prepared.ready.room in omega (arith, room)
+  stuck_room = let room = subst (λ s. s.len < s.cap) (sym opens.same.stuck) openable.ready.room in omega (arith, room)
 
   abbrev pub p1 : Public P ghosts
   p1 = record opened.public {
@@ -156,44 +163,37 @@ module _ {P : Type 0} {ghosts : Ghosts P} (alike : (p q : P) → is_some (ghosts
   held1 = record { pool = refl; left = refl; entries = ap (λ r. r.entries) opens.same.running; stuck = ap (λ s. s.items ++ running ∷ []) opens.same.stuck }
 
   abbrev pub g_held : Imported P ghosts
-  g_held = g1 alike laws.restates name disks shelf h keeps g has v next mid prepared opened running opens p1 held1
+  g_held = g1 alike shelf h keeps has openable.parts opens held1
 
   abbrev pub h_held : House P ghosts
-  h_held = h1 alike laws.restates name disks shelf h keeps g has v next mid prepared opened running opens p1 held1
+  h_held = h1 alike shelf h keeps has openable.parts opens held1
 
   keeps_held : Keeps see (at shelf h_held)
-  keeps_held = keeps1 alike laws.restates name disks shelf h keeps g has v next mid prepared opened running opens p1 held1
+  keeps_held = keeps1 alike shelf h keeps has openable.parts opens held1
 
   kept_held : IsGroupKept see g_held
-  kept_held = kept1 alike laws.restates name disks shelf h keeps g has v next mid prepared opened running opens p1 held1
+  kept_held = kept1 alike shelf h keeps has openable.parts opens held1
 
   abbrev touched_at : (m : Moment) → IsMoment see (at shelf h) m → IsTouchedAt see shelf h_held gm v.name m
-  touched_at m is = at1 alike laws.restates name disks shelf h keeps g has v next mid prepared opened running opens p1 held1 m is
+  touched_at m is = at1 alike shelf h keeps has openable.parts opens held1 m is
 
   -- ---- the commit
 
-  abbrev edits : List Edit
-  edits = start_edits mid.config v
-
   is_meant : IsMeant edits mid.config next.config next.text.items
-  is_meant = meant alike laws.restates name disks shelf h keeps g has v next mid prepared
+  is_meant = meant openable
 
-  pub of_v : IsVolOf mid.config v
-  of_v = subst (λ c. IsVolOf c v) (sym prepared.parts.config) (found_of g.config name v prepared.found)
+  of_mid : IsVolOf mid.config v
+  of_mid = of_v openable
 
   -- nothing of the name runs
-  absent_in : running_at g.public name ≡ None
-  absent_in = not_running see g (subst (λ o. IfSome o (IsGroupKept see)) has keeps.house.group) name v prepared.found prepared.planned.may
-
   absent : running_at opened.public name ≡ None
-  absent = ap (λ r. get (slice_cmp nat_cmp) r name) (opens.same.running ∙ prepared.parts.running) ∙ absent_in
+  absent = ap (λ r. get (slice_cmp nat_cmp) r name) (opens.same.running ∙ openable.parts.running) ∙ openable.absent
 
   stays_running : KeepsRunning g_held next.config
   stays_running = record {
-    group = named alike laws.restates name disks shelf h keeps g has v next mid prepared;
-    disks = (restated alike laws.restates name disks shelf h keeps g has v next mid prepared).disks ∙ sym (ap (λ (c : Config). c.disks) prepared.parts.config);
-    stays = λ u of_u runs good good' fewer. start_keeps laws.restates mid.config next.config v of_v is_meant.edited u of_u
-        (λ same. none (running_at p1 u.name) (ap (running_at opened.public) (same ∙ v_named) ∙ absent) runs) good good' fewer;
+    group = named openable;
+    disks = same_disks openable;
+    stays = λ u of_u runs good good' fewer. others_stay openable u of_u (λ same. none (running_at p1 u.name) (ap (running_at opened.public) (same ∙ v_named) ∙ absent) runs) good good' fewer;
   }
     where
       none : (o : Option (Running P ghosts)) → o ≡ None → IsSome o → ⊥
@@ -207,7 +207,7 @@ module _ {P : Type 0} {ghosts : Ghosts P} (alike : (p q : P) → is_some (ghosts
   h2 = with_group h_held g2
 
   finished : IsFinished see next.text.items mid.base recorded.base
-  finished = subst (λ b. IsFinished see next.text.items b recorded.base) (same_base alike laws.restates name disks shelf h keeps g has v next mid prepared opened running opens) records.finished
+  finished = subst (λ b. IsFinished see next.text.items b recorded.base) (ap (λ (x : Imported P ghosts). x.base) opens.same.group) records.finished
 
   keeps2 : Keeps see (at shelf h2)
   keeps2 = done_keeps see shelf h_held g_held g2 refl keeps_held kept_held next.text.items refl finished edits is_meant stays_running
@@ -217,7 +217,7 @@ module _ {P : Type 0} {ghosts : Ghosts P} (alike : (p q : P) → is_some (ghosts
 
   faults2 : FaultsGoOn (scene see (at shelf h)) (scene see (at shelf h2))
   faults2 = faults_trans (scene see (at shelf h)) (scene see (at shelf h_held)) (scene see (at shelf h2))
-      (faults1 alike laws.restates name disks shelf h keeps g has v next mid prepared opened running opens p1 held1)
+      (faults1 alike shelf h keeps has openable.parts opens held1)
       (written_faults see shelf h_held g_held g2 refl keeps_held kept_held next.text.items refl finished.tried)
 
   abbrev done_at : (m : Moment) (is : IsMoment see (at shelf h) m) → IsCommittedAt see shelf h2 edits next.config (touched_at m is).then
@@ -241,7 +241,7 @@ module _ {P : Type 0} {ghosts : Ghosts P} (alike : (p q : P) → is_some (ghosts
   fewer slot e = mask_was hs ns (went_by (mid.base.sequence + 1) recorded.base.sequence next.text.items hs ns goes) (low_by hs kept_held.carries.alive.ready) slot e
 
   slot_before : (slot : ℕ) → has_slot (good_mask hs) slot ≡ true → IsAtSlot opens.numbers hs gm.members slot
-  slot_before slot good = good_slots alike shelf hk mid opened refl keeps_mid v running opens p1 held1 slot good
+  slot_before slot good = slots1 alike shelf h keeps has openable.parts opens held1 slot good
 
   slot_after : (slot : ℕ) → has_slot (good_mask hs) slot ≡ true → IsAtSlot opens.numbers ns (map member_of recorded.base.disks.items) slot
   slot_after slot good = at_slot_on opens.numbers hs ns gm.members (map member_of recorded.base.disks.items) (disks_on (mid.base.sequence + 1) recorded.base.sequence next.text.items hs ns goes) same_named slot (slot_before slot good)
@@ -252,13 +252,13 @@ module _ {P : Type 0} {ghosts : Ghosts P} (alike : (p q : P) → is_some (ghosts
   v_started = record v { state = vol.Active }
 
   both : IsVolOf next.config v_started × ChangesStates mid.config (good_mask hs) v (is_fresh v.state) next.config (good_mask hs) v_started
-  both = start_changes laws.restates laws.recorded mid.config v of_v next.config is_meant.edited (good_mask hs)
+  both = changes_states openable next.config is_meant.edited (good_mask hs)
 
   changes : ChangesStates mid.config (good_mask hs) v (is_fresh v.state) next.config (good_mask ns) v_started
   changes = record { vol = both.1.vol; disks = both.1.disks; subdisks = both.1.subdisks; snaps = both.1.snaps; plexes = both.1.plexes; failed = fewer }
 
   new_in_place : IsInPlace see ns next.config (good_mask ns) name running
-  new_in_place = in_place laws.lives gm v of_v prepared.planned.may opens.numbers mid.public opened.public running opens.form opens.started opens.numbered opens.are.own next.config (good_mask ns) ns (map member_of recorded.base.disks.items) both.0 changes slot_after name v_named
+  new_in_place = in_place laws.lives gm v of_mid openable.may opens.numbers mid.public opened.public running opens.form opens.started opens.numbered opens.are.own next.config (good_mask ns) ns (map member_of recorded.base.disks.items) both.0 changes slot_after name v_named
 
   -- a plex that is copied to, by its name in the new configuration
   pub to_copy : (q : Plex) → IsIn next.config.plexes q → is_copied gm v q.name ≡ true → (p : Plex) × IsIn mid.config.plexes p × (is_copied_plex gm v p ≡ true) × (map_or_zero q.map ≡ map_or_zero p.map)
@@ -355,11 +355,11 @@ module _ {P : Type 0} {ghosts : Ghosts P} (alike : (p q : P) → is_some (ghosts
     abbrev t : IsTouchedAt see shelf (h_held) gm v.name m
     t = touched_at m at_m
 
-    abbrev d : IsCommittedAt see shelf (h2) (start_edits mid.config v) next.config t.then
+    abbrev d : IsCommittedAt see shelf (h2) edits next.config t.then
     d = done_at m at_m
 
     at_k : IsMoment see (at shelf hk) m
-    at_k = mid_at alike laws.restates name disks shelf h keeps g has v next mid prepared m at_m
+    at_k = mid_at alike shelf h keeps has openable.parts m at_m
 
     -- ---- its bytes, as they were
 
@@ -378,14 +378,14 @@ module _ {P : Type 0} {ghosts : Ghosts P} (alike : (p q : P) → is_some (ghosts
         (public_there see laws.ends laws.counts (at shelf hk) (keeps_but_group see (at shelf hk) keeps_mid) m (moment_but_group see (at shelf hk) m at_k) mid refl)
         (λ slot good. is_numbered opens.numbers hs gm.members slot (slot_before slot good))
 
-    begun : BeginsAs gm v (image_on m.world.devices gm v) (RunsBy laws.lives gm v of_v prepared.planned.may opens.numbers mid.public opened.public running opens.form opens.started bytes)
-    begun = begins laws.lives gm v of_v prepared.planned.may opens.numbers mid.public opened.public running opens.form opens.started bytes contents still sectors
+    begun : BeginsAs gm v (image_on m.world.devices gm v) (RunsBy laws.lives gm v of_mid openable.may opens.numbers mid.public opened.public running opens.form opens.started bytes)
+    begun = begins laws.lives gm v of_mid openable.may opens.numbers mid.public opened.public running opens.form opens.started bytes contents still sectors
 
     -- of a volume that was never started no mark is loose
     pub none_loose : is_new v.state ≡ true → AreTight (volume_seen see running.volume)
     none_loose never =
         let empty = empty_of v.state never in
-        fresh_tight mid.config (good_mask hs) v opens.numbers mid.public opened.public running of_v empty (subst (λ s. IsFormOf mid.config (good_mask hs) v (is_fresh s) running.form) empty opens.form) opens.started contents still bytes sectors
+        fresh_tight mid.config (good_mask hs) v opens.numbers mid.public opened.public running of_mid empty (subst (λ s. IsFormOf mid.config (good_mask hs) v (is_fresh s) running.form) empty opens.form) opens.started contents still bytes sectors
 
     -- ---- the volume that begins
 
@@ -393,7 +393,7 @@ module _ {P : Type 0} {ghosts : Ghosts P} (alike : (p q : P) → is_some (ghosts
     w = volume_started gm v (image_on m.world.devices gm v) begun.sound
 
     lies_w : w.lies ≡ OnPlexes (plexes_started gm v)
-    lies_w = w_lies laws.lives gm v of_v prepared.planned.may opens.numbers mid.public opened.public running opens.form opens.started opens.numbered opens.are.own next.config (good_mask ns) ns (map member_of recorded.base.disks.items)
+    lies_w = w_lies laws.lives gm v of_mid openable.may opens.numbers mid.public opened.public running opens.form opens.started opens.numbered opens.are.own next.config (good_mask ns) ns (map member_of recorded.base.disks.items)
         (both).0
         (changes)
         (slot_after) recorded.base.sequence bytes begun
@@ -402,7 +402,7 @@ module _ {P : Type 0} {ghosts : Ghosts P} (alike : (p q : P) → is_some (ghosts
     gn = record { config = next.config; good = good_mask ns; members = map member_of recorded.base.disks.items; sequence = recorded.base.sequence }
 
     run_w : (x : Word) → v.name ≡ x → IsRunOf see ns gn x running w
-    run_w = run_of laws.lives gm v of_v prepared.planned.may opens.numbers mid.public opened.public running opens.form opens.started opens.numbered opens.are.own next.config (good_mask ns) ns (map member_of recorded.base.disks.items)
+    run_w = run_of laws.lives gm v of_mid openable.may opens.numbers mid.public opened.public running opens.form opens.started opens.numbered opens.are.own next.config (good_mask ns) ns (map member_of recorded.base.disks.items)
         (both).0
         (changes)
         (slot_after) recorded.base.sequence bytes begun
@@ -446,27 +446,22 @@ module _ {P : Type 0} {ghosts : Ghosts P} (alike : (p q : P) → is_some (ghosts
     abbrev now : Moment
     now = record { world = record d.then.world { volumes = volumes_now }; counts = d.then.counts }
 
-    pub begun_at : IsBegunAt see shelf (h3) gm gn ns v running m
+    pub begun_at : IsBegunAt see shelf h3 edits gm gn v m
     begun_at = record {
       then = now;
-      is = otherwise_moment see shelf (h2)
-          (g2)
-          (g3) refl
-          (held3) d.then d.is volumes_now alone runs_now;
+      is = otherwise_moment see shelf h2 g2 g3 refl held3 d.then d.is volumes_now alone runs_now;
       later = later_trans m.counts t.then.counts d.then.counts t.later d.later;
-      started = record {
-        untested = untested alike laws.restates name disks shelf h keeps g has v next mid prepared;
-        free = none_v;
-        opened = t.then;
-        touched = t.touched;
-        first = t.later;
-        writing = d.writing;
-        change = d.change;
-        recorded = d.then;
-        committed = d.committed;
-        rest = d.later;
-        begins = record { sound = begun.sound; if_sound = begun.if_sound; if_new = begun.if_new; world = refl; counts = refl };
-      };
+      free = none_v;
+      opened = t.then;
+      touched = t.touched;
+      narrows = λ near. narrows1 alike shelf h keeps has openable.parts opens held1 near m at_m;
+      first = t.later;
+      writing = d.writing;
+      change = d.change;
+      recorded = d.then;
+      committed = d.committed;
+      rest = d.later;
+      begins = record { sound = begun.sound; if_sound = begun.if_sound; if_new = begun.if_new; world = refl; counts = refl };
       volume = w;
       there = ap (λ b. cond b (Some w) (d.then.world.volumes v.name)) (bytes_eq_self v.name);
       lies = lies_w;

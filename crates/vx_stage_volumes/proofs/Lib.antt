@@ -12,6 +12,7 @@ pub mod FirstMissed
 pub mod Free
 pub mod FreshCount
 pub mod Held
+pub mod HeldOpen
 pub mod HeldStart
 pub mod Inserted
 pub mod Laid
@@ -20,11 +21,13 @@ pub mod Marks
 pub mod Named
 pub mod Narrowed
 pub mod Numbers
+pub mod OpenedGroup
 pub mod Openings
 pub mod Otherwise
 pub mod Owned
 pub mod PartedGroup
 pub mod PartedHouse
+pub mod Prepared
 pub mod RestMoments
 pub mod Rested
 pub mod Resync
@@ -37,6 +40,7 @@ pub mod Stands
 pub mod StartEnds
 pub mod StartFine
 pub mod StartLogs
+pub mod StartPrepared
 pub mod StartRun
 pub mod StartStages
 pub mod Steps
@@ -49,6 +53,7 @@ pub mod TouchedGroup
 pub mod TouchedHouse
 pub mod TouchedMoments
 pub mod TouchedOwners
+pub mod UnopenedHouse
 pub mod UnopenedMoments
 pub mod UnopenedNames
 pub mod UnopenedStage

@@ -1,6 +1,6 @@
 -- A start whose volume runs, and is copied to.
 use Rattle.std.proofs.Common.{◌≡◌, ◌∙◌, inr, ℕ, true, cond, List, map, Option, Some, None, Ok, Err, refl, sym, ap, subst, arith}
-use Rattle.std.specs.Prelude.{is_some, if◌then◌else◌}
+use Rattle.std.specs.Prelude.{IfSome, is_some, if◌then◌else◌}
 use Rattle.vx_pages.specs.declared.local_piece.LocalPiece.{Ghosts}
 use Rattle.vx_base.specs.Named.{Word}
 use Rattle.vx_base.proofs.NamedLemmas.{bytes_eq_self}
@@ -12,7 +12,8 @@ use Rattle.vx_config_parts.specs.declared.plex.Plex.{Plex}
 use Rattle.vx_config_parts.specs.declared.vol.Vol.{Vol}
 use Rattle.vx_config_parts.specs.Objects.{is_data_plex_of}
 use Rattle.vx_image.proofs.PlexMembers.{IsIn}
-use Rattle.vx_state_edits.specs.Edits.{is_new}
+use Rattle.vx_objects.specs.declared.config.Config.{Config}
+use Rattle.vx_state_edits.specs.Edits.{is_new, start_edits}
 use Rattle.vx_image.specs.Bytes.{map_or_zero}
 use Rattle.vx_answers.specs.declared.answer.End.{End}
 use Rattle.vx_answers.specs.declared.refusal.Refusal.TheVariants as refusal
@@ -21,7 +22,8 @@ use Rattle.vx_moments.specs.Leaving.{grouped, grouped_by, lone, lone_by}
 use Rattle.vx_moments.specs.Moment.{Moment}
 use Rattle.vx_moments.specs.World.{Group, Lies, OnDevice, OnPlexes, Volume}
 use Rattle.vx_started.specs.declared.started.Started.{Started}
-use Rattle.vx_stages.specs.Starting.{StopsOf, is_copied, regions_copied}
+use Rattle.vx_stages.specs.Ends.{IsChange}
+use Rattle.vx_stages.specs.Starting.{IsStartedBy, StopsOf, is_copied, regions_copied}
 use Rattle.vx_stages.specs.Tests.{fails, state_of, recorded as recorded_in}
 use Rattle.vx_stages.specs.declared.stage.Stage.TheVariants as stage
 use Rattle.vx_volume.specs.Volume.{volume_seen}
@@ -37,7 +39,7 @@ use Rattle.vx_house.specs.Holders.{volume_at}
 use Rattle.vx_house.specs.Plain.{told_volume}
 use Rattle.vx_house.specs.Runs.{IsAtRun, fronts_in, run_in}
 use Rattle.vx_house.specs.Scene.{FaultsGoOn, Shelved}
-use Rattle.vx_house.specs.View.{IsAtVolume, IsMoment, Keeps, at, group_of, member_of, scene}
+use Rattle.vx_house.specs.View.{IsAtVolume, IsGroupKept, IsMoment, Keeps, at, group_of, member_of, scene}
 use Rattle.vx_house.specs.declared.house.House.{House}
 use Rattle.vx_house.specs.declared.house.Imported.{Imported}
 use Rattle.vx_house.specs.declared.stop.Stop.{Stop}
@@ -48,12 +50,13 @@ use Rattle.vx_house_calls.specs.Passes.{with_group}
 use Rattle.vx_stage_volumes.specs.Recording.{IsResynchronised, maps_copied}
 use Rattle.vx_stage_volumes.specs.Starting.{EndsRunning}
 use Rattle.vx_stage_volumes.proofs.AtOnce.{new_is_fresh}
-use Rattle.vx_stage_volumes.proofs.Begun.{HaveStartLaws, IsBegunAt, begun_at, faults3, g3, h3, keeps3, none_loose, of_v, to_copy}
+use Rattle.vx_stage_volumes.proofs.Begun.{HaveBegunLaws, IsBegunAt, begun_at, faults3, g3, h3, keeps3, none_loose, to_copy}
 use Rattle.vx_stage_volumes.proofs.FreshCount.{copied_by, count_is}
 use Rattle.vx_stage_volumes.proofs.HeldStart.{world_of}
+use Rattle.vx_stage_volumes.proofs.Prepared.{IsOpenable, mid_world, of_v, untested, v_name}
 use Rattle.vx_stage_volumes.proofs.Resync.{IsToCopy, blamed, copied_at, ended, house}
+use Rattle.vx_stage_volumes.proofs.StartPrepared.{HaveEditLaws, start_openable}
 use Rattle.vx_stage_volumes.proofs.StartStages.{has_ended, stops_of}
-use Rattle.vx_stage_volumes.proofs.UnrecordedStage.{mid_world, v_name}
 
 -- ---- nothing of the name is started
 
@@ -68,7 +71,7 @@ no_lone (Some w) a b = by w.lies refl a b
 some_one : {X : Type 0} (x y : X) → Some x ≡ Some y → x ≡ y
 some_one x y e = cc
 
-module _ {P : Type 0} {ghosts : Ghosts P} (alike : (p q : P) → is_some (ghosts.seen p).told ≡ is_some (ghosts.seen q).told) (laws : HaveStartLaws ghosts.seen) (copy_law : EachCopyRunsOn) (fresh_law : EachFreshRegionIsMissed) (name : Word) (disks : List DiskAt) (shelf : Shelved) (h : House P ghosts)
+module _ {P : Type 0} {ghosts : Ghosts P} (alike : (p q : P) → is_some (ghosts.seen p).told ≡ is_some (ghosts.seen q).told) (edits : HaveEditLaws) (laws : HaveBegunLaws ghosts.seen) (copy_law : EachCopyRunsOn) (fresh_law : EachFreshRegionIsMissed) (name : Word) (disks : List DiskAt) (shelf : Shelved) (h : House P ghosts)
     (keeps : Keeps ghosts.seen (at shelf h)) (g : Imported P ghosts) (has : h.group ≡ Some g) (ready : IsReady ghosts.seen (stage.Start name) disks h) where
   abbrev see : P → Seen
   see = ghosts.seen
@@ -108,14 +111,17 @@ module _ {P : Type 0} {ghosts : Ghosts P} (alike : (p q : P) → is_some (ghosts
       not_run (Some w) there = absurd there
 
   module _ (g' : Imported P ghosts) (stop : Stop) (e : EndsRunning see name stop g g') where
+    openable : IsOpenable see (start_edits g.config e.volume) name e.volume e.next g e.mid
+    openable = start_openable edits (subst (λ o. IfSome o (IsGroupKept see)) has keeps.house.group) e.prepared
+
     abbrev begun_group : Imported P ghosts
-    begun_group = g3 alike laws name disks shelf h keeps g has e.volume e.next e.mid e.prepared e.opened e.running e.opens e.recorded e.records
+    begun_group = g3 alike laws shelf h keeps has openable e.opens e.records
 
     abbrev begun_house : House P ghosts
-    begun_house = h3 alike laws name disks shelf h keeps g has e.volume e.next e.mid e.prepared e.opened e.running e.opens e.recorded e.records
+    begun_house = h3 alike laws shelf h keeps has openable e.opens e.records
 
     keeps_begun : Keeps see (at shelf begun_house)
-    keeps_begun = keeps3 alike laws name disks shelf h keeps g has e.volume e.next e.mid e.prepared e.opened e.running e.opens e.recorded e.records
+    keeps_begun = keeps3 alike laws shelf h keeps has openable e.opens e.records
 
     same_group : e.recorded ≡ begun_group
     same_group =
@@ -136,7 +142,7 @@ module _ {P : Type 0} {ghosts : Ghosts P} (alike : (p q : P) → is_some (ghosts
     gn = record { config = e.next.config; good = good_mask (members see e.recorded.base); members = map member_of e.recorded.base.disks.items; sequence = e.recorded.base.sequence }
 
     named : e.volume.name ≡ name
-    named = v_name alike laws.restates name disks shelf h keeps g has e.volume e.next e.mid e.prepared
+    named = v_name openable
 
     found : recorded_in name (group_of see h.group) ≡ Some e.volume
     found = ap (λ o. recorded_in name (group_of see o)) has ∙ e.prepared.found
@@ -145,12 +151,12 @@ module _ {P : Type 0} {ghosts : Ghosts P} (alike : (p q : P) → is_some (ghosts
     counted n done =
         copying.among.count n done
         ∙ ap (λ (r : Running P ghosts). missed_regions (maps_copied (is_fresh e.volume.state) r) (volume_seen see r.volume)) same_run
-        ∙ count_is fresh_law gm e.volume (of_v alike laws name disks shelf h keeps g has e.volume e.next e.mid e.prepared e.opened e.running e.opens e.recorded e.records) e.opens.numbers e.mid.public e.opened.public e.running e.opens.form e.opens.started
+        ∙ count_is fresh_law gm e.volume (of_v openable) e.opens.numbers e.mid.public e.opened.public e.running e.opens.form e.opens.started
 
     chosen : (q : Plex) → IsIn gn.config.plexes q → is_data_plex_of e.volume.name q ≡ true → is_copied gm e.volume q.name ≡ true → IsToCopy (maps_copied (is_fresh e.volume.state) copying.among.before) copying.among.before q
     chosen q there data_is is =
-        let p = to_copy alike laws name disks shelf h keeps g has e.volume e.next e.mid e.prepared e.opened e.running e.opens e.recorded e.records q there is in
-        let c = copied_by fresh_law gm e.volume (of_v alike laws name disks shelf h keeps g has e.volume e.next e.mid e.prepared e.opened e.running e.opens e.recorded e.records) e.opens.numbers e.mid.public e.opened.public e.running e.opens.form e.opens.started p.0 p.1 p.2 in
+        let p = to_copy alike laws shelf h keeps has openable e.opens e.records q there is in
+        let c = copied_by fresh_law gm e.volume (of_v openable) e.opens.numbers e.mid.public e.opened.public e.running e.opens.form e.opens.started p.0 p.1 p.2 in
         let small = c.low in
         let same = p.3 in
         let fresh : is_fresh e.volume.state ≡ true = sym (new_is_fresh e.volume.state) ∙ c.never in
@@ -167,7 +173,7 @@ module _ {P : Type 0} {ghosts : Ghosts P} (alike : (p q : P) → is_some (ghosts
     keeps_last = (house alike copy_law shelf begun_house begun_group g' refl name (is_fresh e.volume.state) stop copying keeps_begun).keeps
 
     faults_begun : FaultsGoOn (scene see (at shelf h)) (scene see (at shelf begun_house))
-    faults_begun = faults3 alike laws name disks shelf h keeps g has e.volume e.next e.mid e.prepared e.opened e.running e.opens e.recorded e.records
+    faults_begun = faults3 alike laws shelf h keeps has openable e.opens e.records
 
     faults_last : FaultsGoOn (scene see (at shelf begun_house)) (scene see (at shelf last_house))
     faults_last = (house alike copy_law shelf begun_house begun_group g' refl name (is_fresh e.volume.state) stop copying keeps_begun).faults
@@ -178,22 +184,38 @@ module _ {P : Type 0} {ghosts : Ghosts P} (alike : (p q : P) → is_some (ghosts
     stop_is : stop ≡ stops.Ended end
     stop_is = (ended alike copy_law shelf begun_house begun_group g' refl name (is_fresh e.volume.state) stop copying keeps_begun).1
 
+    -- a start has recorded it
+    started_by : (m : Moment) → (b : IsBegunAt see shelf begun_house (start_edits g.config e.volume) gm gn e.volume m) → IsStartedBy gm e.volume m b.then
+    started_by m b = record {
+      untested = untested openable;
+      free = b.free;
+      opened = b.opened;
+      touched = b.touched;
+      first = b.first;
+      writing = b.writing;
+      change = subst (λ (c : Config). IsChange (start_edits c e.volume) b.opened.world b.writing) (sym e.prepared.parts.config) b.change;
+      recorded = b.recorded;
+      committed = b.committed;
+      rest = b.rest;
+      begins = b.begins;
+    }
+
     goes : StageGoes {T = Unit {0}} see (stage.Start name) disks (Err (stops.Ended end)) (at shelf h) (at shelf last_house)
     goes = has_ended see name disks end (at shelf h) (at shelf last_house) keeps_last
         (λ m is.
         let none = none_in e.volume found m is in
-        let b : IsBegunAt see shelf begun_house gm gn (members see e.recorded.base) e.volume e.running m =
-        begun_at alike laws name disks shelf h keeps g has e.volume e.next e.mid e.prepared e.opened e.running e.opens e.recorded e.records m is none in
+        let b : IsBegunAt see shelf begun_house (start_edits g.config e.volume) gm gn e.volume m =
+        begun_at alike laws shelf h keeps has openable e.opens e.records m is none in
         let loose : is_new e.volume.state ≡ true → AreTight (volume_seen see copying.among.before.volume) =
         λ never. subst (λ (r : Running P ghosts). AreTight (volume_seen see r.volume)) (sym same_run)
-        (none_loose alike laws name disks shelf h keeps g has e.volume e.next e.mid e.prepared e.opened e.running e.opens e.recorded e.records m is none never) in
+        (none_loose alike laws shelf h keeps has openable e.opens e.records m is none never) in
         let c = copied_at alike copy_law shelf begun_house begun_group g' refl name (is_fresh e.volume.state) stop copying keeps_begun gm e.volume named (sym (new_is_fresh e.volume.state)) gn b.then b.is b.group b.volume b.there b.lies loose counted chosen in (
           c.0,
           c.1,
           later_trans m.counts b.then.counts c.0.counts b.later c.2,
           stops_of see name disks shelf h keeps g has e.volume e.prepared.found e.prepared.planned.may m c.0 end is
-              (subst (λ (w : Group). StopsOf w e.volume m end c.0) (mid_world alike laws.restates name disks shelf h keeps g has e.volume e.next e.mid e.prepared)
-              (inr (inr (inr (record { begun = b.then; started = b.started; rest = c.2; copied = c.3 }))))),
+              (subst (λ (w : Group). StopsOf w e.volume m end c.0) (mid_world openable)
+              (inr (inr (inr (record { begun = b.then; started = started_by m b; rest = c.2; copied = c.3 }))))),
         ))
         (faults_trans (scene see (at shelf h)) (scene see (at shelf begun_house)) (scene see (at shelf last_house)) faults_begun faults_last)
         (blamed_later end (scene see (at shelf h)) (scene see (at shelf begun_house)) (scene see (at shelf last_house)) faults_begun

@@ -1,6 +1,6 @@
--- Where the power goes in the commit of a start or of a stop, an import may find the new configuration: as that records it too, the volume is sound
--- by its bytes.
-use Rattle.std.proofs.Common.{◌≡◌, ◌∙◌, ℕ, ◌+◌, Bool, true, false, List, [], ◌∷◌, ◌++◌, Option, Some, refl, sym, ap, subst}
+-- Where the power goes in the commit of a start, of the end of a recovery or of a stop, an import may find the new configuration: as that records
+-- it too, the volume is sound by its bytes.
+use Rattle.std.proofs.Common.{◌≡◌, ◌∙◌, ℕ, Bool, true, false, List, [], ◌∷◌, ◌++◌, Some, refl, sym, ap, subst}
 use Rattle.std.specs.Prelude.{Contains}
 use Rattle.std.specs.List.{All, flat_map}
 use Rattle.vx_pages.specs.declared.local_piece.LocalPiece.{Ghosts}
@@ -21,7 +21,7 @@ use Rattle.vx_objects.specs.Applied.{IsEdited}
 use Rattle.vx_objects.specs.Config.{objects_of}
 use Rattle.vx_image.proofs.PlexMembers.{one_in, one_named}
 use Rattle.vx_image.proofs.Plexes.{config_valid}
-use Rattle.vx_state_edits.specs.Edits.{is_new, start_edits, stop_edits}
+use Rattle.vx_state_edits.specs.Edits.{is_new, stop_edits}
 use Rattle.vx_image.specs.Bytes.{Sectors, image_of}
 use Rattle.vx_image.specs.Soundness.{IsSoundImage}
 use Rattle.vx_image.specs.UsedPlexes.{IsVolOf}
@@ -43,15 +43,16 @@ use Rattle.vx_lending.specs.declared.public.Running.{Running}
 use Rattle.vx_lending.specs.Public.{running_pieces, still_pieces, stuck_pieces}
 use Rattle.vx_group_start.specs.Fresh.{is_fresh}
 use Rattle.vx_group_start.specs.Started.{IsStarted}
-use Rattle.vx_group_volumes.specs.Laws.{EachStartChangesStates, EachStopChangesStates}
+use Rattle.vx_group_volumes.specs.Laws.{EachStopChangesStates}
 use Rattle.vx_group_volumes.specs.Runs.{RunsIn}
 use Rattle.vx_group_volumes.proofs.Leavings.{leaving_stands}
 use Rattle.vx_group_volumes.proofs.Starts.{started_runs}
 use Rattle.vx_stages.specs.Recorded.{IsSoundAs}
-use Rattle.vx_stages.specs.Starting.{may_start, volume_started}
+use Rattle.vx_stages.specs.Starting.{volume_started}
 use Rattle.vx_house.specs.Runs.{IsRunOf}
 use Rattle.vx_house.specs.View.{View, IsMomentButGroup, KeepsButGroup}
 use Rattle.vx_house.specs.declared.house.Imported.{Imported}
+use Rattle.vx_stage_volumes.specs.Opening.{may_open}
 use Rattle.vx_stage_volumes.proofs.Held.{HoldsAlike, held, hold_lent, public_there}
 use Rattle.vx_stage_volumes.proofs.Inserted.{flat_last}
 use Rattle.vx_stage_volumes.proofs.Slots.{IsAtSlot, is_numbered}
@@ -62,7 +63,6 @@ use Rattle.vx_stage_volumes.proofs.StillSectors.{sectors_are}
 -- What laws promise of a volume that was opened and is to be recorded.
 pub record HaveRecordedLaws : Type 0 where
   pub lives : HaveLifeLaws
-  pub states : EachStartChangesStates
   pub leaving : EachLeavingStands
 
 -- ---- the volume of the name
@@ -89,13 +89,14 @@ module _ {P : Type 0} {ghosts : Ghosts P} (see : P → Seen) (ends : (p : P) →
       let own = subst (All (Holds contents)) (ap (flat_map (stuck_pieces see)) last ∙ flat_last (stuck_pieces see) before r) stuck in
       record { held = contents; hold = (all_parts (Holds contents) (flat_map (stuck_pieces see) before) (stuck_pieces see r) own).1; public = public_there see ends counts v keeps m is g has_group }
 
--- ---- a start
+-- ---- a start or a recovery
 
 -- The volume v of the group was opened, and runs by the configuration that is to be written: so what it has left is sound.
-module _ {P : Type 0} {ghosts : Ghosts P} (laws : HaveRecordedLaws) (hs : List DiskSeen) (g : Group) (v : Vol) (of : IsVolOf g.config v) (may : may_start v.state ≡ true) (numbers : List ℕ) (old new : Public P ghosts) (running : Running P ghosts)
+module _ {P : Type 0} {ghosts : Ghosts P} (laws : HaveRecordedLaws) (hs : List DiskSeen) (g : Group) (v : Vol) (of : IsVolOf g.config v) (may : may_open v.state ≡ true) (numbers : List ℕ) (old new : Public P ghosts) (running : Running P ghosts)
     (form : IsFormOf g.config g.good v (is_fresh v.state) running.form) (started : IsStarted ghosts.seen v numbers old new running) (at_slot : (slot : ℕ) → has g.good slot ≡ true → IsAtSlot numbers hs g.members slot)
     (before : World) (contents : ℕ → Contents) (still : All (Holds contents) (still_pieces ghosts.seen old)) (sectors : AreSectorsOf g.good numbers contents (sectors_of before.devices g.members))
-    (after : World) (alike : HoldsAlike ghosts.seen hs after.devices running) (c : Config) (edited : IsEdited (start_edits g.config v) g.config c) where
+    (after : World) (alike : HoldsAlike ghosts.seen hs after.devices running) (c : Config)
+    (recorded : IsVolOf c (record v { state = vol.Active }) × ChangesStates g.config g.good v (is_fresh v.state) c g.good (record v { state = vol.Active })) where
   abbrev see : P → Seen
   see = ghosts.seen
 
@@ -108,17 +109,14 @@ module _ {P : Type 0} {ghosts : Ghosts P} (laws : HaveRecordedLaws) (hs : List D
   abbrev active : Vol
   active = record v { state = vol.Active }
 
-  recorded : IsVolOf c active × ChangesStates g.config g.good v (is_fresh v.state) c g.good active
-  recorded = laws.states g.config v of c edited g.good
-
   runs : RunsIn see c g.good numbers active running
   runs = started_runs g.config g.good v numbers old new running of form started c g.good active recorded.0 tt recorded.1
 
   begun : BeginsAs g v (image_on before.devices g v) (Runs laws.lives g v of may numbers old new running form started bytes)
   begun = begins laws.lives g v of may numbers old new running form started bytes contents still sectors
 
-  begun_sound : (is_new v.state ≡ false → IsSoundImage (image_on before.devices g v)) → begun.sound ≡ true
-  begun_sound was = by (is_new v.state) refl
+  sound_begun : (is_new v.state ≡ false → IsSoundImage (image_on before.devices g v)) → begun.sound ≡ true
+  sound_begun was = by (is_new v.state) refl
     where
       by : (b : Bool) → is_new v.state ≡ b → begun.sound ≡ true
       by true never = begun.if_new never
@@ -130,9 +128,9 @@ module _ {P : Type 0} {ghosts : Ghosts P} (laws : HaveRecordedLaws) (hs : List D
   names_left : AreNamedIn (image_of c g.good bytes' active).plexes (image_of g.config g.good bytes v).plexes
   names_left = kept_named g.config g.good v (is_fresh v.state) c g.good active (restated_kept g.config g.good v (is_fresh v.state) c g.good active recorded.1) bytes bytes'
 
-  pub start_sound : (is_new v.state ≡ false → IsSoundImage (image_on before.devices g v)) → IsSoundAs g c v.name after
-  start_sound was =
-      let known = begun_sound was in
+  pub begin_sound : (is_new v.state ≡ false → IsSoundImage (image_on before.devices g v)) → IsSoundAs g c v.name after
+  begin_sound was =
+      let known = sound_begun was in
       let as_begun = begun.runs known in
       let w : Volume = volume_started g v (image_on before.devices g v) begun.sound in
       sound_as g c after active recorded.0

@@ -1,19 +1,14 @@
 -- How the start of a volume ends, on its group, by the step that it ends in.
-use Rattle.std.proofs.Common.{◌≡◌, ◌∙◌, inl, inr, ℕ, Bool, true, false, Some, None, Result, Ok, Err, refl, sym, ap, subst, cond}
+use Rattle.std.proofs.Common.{◌≡◌, inl, inr, ℕ, Bool, true, false, Some, None, Result, Ok, Err, refl, subst}
 use Rattle.std.specs.Prelude.{is_err, is_some, IsSome, OnOk}
-use Rattle.std.specs.BTreeMap.{BTreeMap, get}
-use Rattle.std.specs.Cmp.Lexicographic.{slice_cmp}
-use Rattle.std.specs.Ordering.{nat_cmp}
 use Rattle.vx_pages.specs.declared.local_piece.LocalPiece.{Ghosts}
 use Rattle.vx_base.specs.Named.{Word}
 use Rattle.vx_base.specs.declared.memory.OutOfMemory.{OutOfMemory}
-use Rattle.vx_base.proofs.NamedLemmas.{bytes_eq_self}
 use Rattle.vx_piece.specs.Seen.{Seen}
 use Rattle.vx_config_parts.specs.declared.vol.Vol.{Vol}
 use Rattle.vx_answers.specs.declared.answer.End.TheVariants as ends
 use Rattle.vx_answers.specs.declared.refusal.Refusal.TheVariants as refusal
 use Rattle.vx_image.specs.UsedPlexes.{IsVolOf}
-use Rattle.vx_volume.specs.Volume.{IsVolume, volume_seen}
 use Rattle.vx_lending.specs.declared.public.Running.{Running}
 use Rattle.vx_lending.specs.Public.{running_at}
 use Rattle.vx_group_start.specs.Fresh.{is_fresh}
@@ -31,10 +26,8 @@ use Rattle.vx_stage_volumes.specs.Parting.{IsReadyToOpen, PartsGroup}
 use Rattle.vx_stage_volumes.specs.Recording.{IsHeldIn, IsRecordedIn, IsResynchronised}
 use Rattle.vx_stage_volumes.specs.Starting.{IsPlannedStart, IsPrepared, IsRefusedStart, StartEnds}
 use Rattle.vx_stage_volumes.proofs.Absent.{not_running}
-use Rattle.vx_stage_volumes.proofs.Entries.{all_inserted}
-use Rattle.vx_stage_volumes.proofs.Free.{free_here}
 use Rattle.vx_stage_volumes.proofs.PartedGroup.{parts_self}
-use Rattle.vx_stage_volumes.proofs.Named.{found_name, found_of}
+use Rattle.vx_stage_volumes.proofs.OpenedGroup.{free_parted, idle_opened, of_parted, runs_there, volumes_there}
 
 -- what is not refused was done
 pub was_done : {X E : Type 0} (Q : Type 0) (r : Result X E) (refused : Bool) → OnOk r Q → refused ≡ is_err r → refused ≡ false → Q
@@ -68,18 +61,15 @@ module _ {P : Type 0} {ghosts : Ghosts P} (see : P → Seen) (name : Word) (g : 
   }
 
   module _ {v : Vol} {next : NextConfig} {mid : Imported P ghosts} (prepared : IsPrepared see name v next g mid) where
+    absent : running_at g.public name ≡ None
+    absent = not_running see g kept name v prepared.found prepared.planned.may
+
     pub of_mid : IsVolOf mid.config v
-    of_mid = subst (λ c. IsVolOf c v) (sym prepared.parts.config) (found_of g.config name v prepared.found)
-
-    idle : running_at mid.public name ≡ None
-    idle = ap (λ (m : BTreeMap Word (Running P ghosts)). get (slice_cmp nat_cmp) m name) prepared.parts.running ∙ not_running see g kept name v prepared.found prepared.planned.may
-
-    idle_named : running_at mid.public v.name ≡ None
-    idle_named = subst (λ n. running_at mid.public n ≡ None) (sym (found_name g.config name v prepared.found)) idle
+    of_mid = of_parted see name g kept prepared.found absent prepared.parts
 
     -- its sectors lie in the pool
     pub free_mid : EachIdleVolumeIsFree see mid → have_disks mid.base.disks.items (good_of see mid) mid.config.disks ≡ true → IsFreeIn see mid v
-    free_mid law have = free_here see mid law prepared.parts.kept prepared.ready.open_group prepared.ready.left prepared.ready.stuck v idle_named have
+    free_mid = free_parted see name g kept prepared.found absent prepared.parts prepared.ready
 
     -- it was not opened
     pub ends_unopened : {new : Imported P ghosts} {stop : Stop} → IsUnopenedIn see v mid new stop → StartEnds see name stop g new
@@ -89,7 +79,7 @@ module _ {P : Type 0} {ghosts : Ghosts P} (see : P → Seen) (name : Word) (g : 
 
     module _ {opened : Imported P ghosts} {running : Running P ghosts} (opens : OpensIn see v mid opened running) where
       pub absent_opened : running_at opened.public name ≡ None
-      absent_opened = ap (λ (m : BTreeMap Word (Running P ghosts)). get (slice_cmp nat_cmp) m name) opens.same.running ∙ idle
+      absent_opened = idle_opened see name g kept prepared.found absent prepared.parts opens
 
       -- .. and not recorded
       pub ends_unrecorded : {new : Imported P ghosts} {stop : Stop} → IsHeldIn see running next stop opened new → StartEnds see name stop g new
@@ -98,20 +88,11 @@ module _ {P : Type 0} {ghosts : Ghosts P} (see : P → Seen) (name : Word) (g : 
       -- ---- it was recorded
 
       module _ {recorded : Imported P ghosts} (records : IsRecordedIn see name running next opened recorded) where
-        -- it runs
-        runs_as : running_at recorded.public name ≡ Some running
-        runs_as = records.puts name ∙ ap (λ b. cond b (Some running) (running_at opened.public name)) (bytes_eq_self name)
-
         pub runs_recorded : IsSome (running_at recorded.public name)
-        runs_recorded = subst IsSome (sym runs_as) refl
-
-        -- all that run are volumes
-        volumes_opened : AreRunningVolumes see opened.public.running.entries
-        volumes_opened = subst (λ (m : BTreeMap Word (Running P ghosts)). AreRunningVolumes see m.entries) (sym (opens.same.running ∙ prepared.parts.running)) kept.whole.volumes
+        runs_recorded = runs_there see name g kept prepared.found absent prepared.parts opens records
 
         pub volumes_recorded : AreRunningVolumes see recorded.public.running.entries
-        volumes_recorded = subst (AreRunningVolumes see) (sym records.entries)
-            (all_inserted (λ r. IsVolume (volume_seen see r.volume)) name running opened.public.running.entries volumes_opened opens.started.whole)
+        volumes_recorded = volumes_there see name g kept prepared.found absent prepared.parts opens records
 
         -- it was copied to
         pub ends_running : {new : Imported P ghosts} {stop : Stop} {fresh : Bool} → fresh ≡ is_fresh v.state → IsResynchronised see name fresh stop recorded new → StartEnds see name stop g new

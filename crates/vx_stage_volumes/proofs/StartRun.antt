@@ -1,4 +1,5 @@
--- A volume that was opened runs by the configuration that records it as started, as the volume of the world whose life begins over its bytes.
+-- A volume that was opened, by a start or a recovery, runs by the configuration that records it as started, as the volume of the world whose life
+-- begins over its bytes.
 use Rattle.std.proofs.Common.{◌≡◌, ◌∙◌, ◌⊎◌, inl, inr, ℕ, ◌&&◌, Bool, true, false, List, ◌++◌, map, refl, sym, ap, subst}
 use Rattle.std.specs.Prelude.{Contains}
 use Rattle.std.specs.List.{All}
@@ -54,9 +55,10 @@ use Rattle.vx_group_volumes.proofs.Owners.{owners_fit}
 use Rattle.vx_group_volumes.proofs.Places.{restated_keep}
 use Rattle.vx_group_volumes.proofs.Plexes.{among_held, held_among, owner_is}
 use Rattle.vx_group_volumes.proofs.Starts.{loaded_exact, loaded_runs, started_runs}
-use Rattle.vx_stages.specs.Starting.{may_start, plexes_started, volume_started}
+use Rattle.vx_stages.specs.Starting.{plexes_started, volume_started}
 use Rattle.vx_carve.specs.Carved.{HaveNumbers}
 use Rattle.vx_house.specs.Runs.{IsInPlace, IsRunOf}
+use Rattle.vx_stage_volumes.specs.Opening.{may_open}
 use Rattle.vx_stage_volumes.proofs.AtOnce.{new_is_fresh}
 use Rattle.vx_stage_volumes.proofs.Slots.{IsAtSlot, is_numbered, on_disk, slot_is_good}
 
@@ -116,7 +118,7 @@ pub record BeginsAs (g : Group) (v : Vol) (image : Image) (Runs : Volume → Typ
   pub runs : sound ≡ true → Runs (volume_started g v image sound)
 
 -- the volume v of the group, over the configuration c and the good disks of it, opened out of `old`
-module _ {P : Type 0} {ghosts : Ghosts P} (laws : HaveLifeLaws) (g : Group) (v : Vol) (of : IsVolOf g.config v) (may : may_start v.state ≡ true) (numbers : List ℕ) (old new : Public P ghosts) (running : Running P ghosts)
+module _ {P : Type 0} {ghosts : Ghosts P} (laws : HaveLifeLaws) (g : Group) (v : Vol) (of : IsVolOf g.config v) (may : may_open v.state ≡ true) (numbers : List ℕ) (old new : Public P ghosts) (running : Running P ghosts)
     (form : IsFormOf g.config g.good v (is_fresh v.state) running.form) (started : IsStarted ghosts.seen v numbers old new running) where
   abbrev pub see : P → Seen
   see = ghosts.seen
@@ -165,16 +167,12 @@ module _ {P : Type 0} {ghosts : Ghosts P} (laws : HaveLifeLaws) (g : Group) (v :
           (fresh_runs g.config g.good v numbers old new running of e form_is started contents hold bytes sectors laws.empty laws.opening names) owners fit in
           (runs.0, runs.1, fresh_exact g.config g.good v numbers old new running of e form_is started contents hold bytes sectors)
 
-      clean_runs : v.state ≡ vol.Clean → IsSoundImage image → Runs (unsure owners (volume_read names image))
-      clean_runs e sound =
-          let filled = subst IsFilled_ (sym e) tt in
-          let form_is = subst (λ s. IsFormOf g.config g.good v (is_fresh s) running.form) e form in
+      filled_runs : IsFilled v.state → is_fresh v.state ≡ false → IsSoundImage image → Runs (unsure owners (volume_read names image))
+      filled_runs filled old_is sound =
+          let form_is = subst (λ b. IsFormOf g.config g.good v b running.form) old_is form in
           let runs = laws.forgets image.plexes (volume_seen see running.volume) (volume_read names image)
           (loaded_runs g.config g.good v numbers old new running of filled form_is started contents hold bytes sectors laws.opening sound names) owners fit in
           (runs.0, runs.1, loaded_exact g.config g.good v numbers old new running of filled form_is started contents hold bytes sectors)
-        where
-          IsFilled_ : VolState → Type 0
-          IsFilled_ s = IsFilled s
 
       -- the volume that begins by the state that it has
       as_begun : (s : VolState) → v.state ≡ s → (b : Bool) → b ≡ true → Runs (unsure owners (volume_by s names image)) → Runs (volume_started g v image b)
@@ -185,21 +183,30 @@ module _ {P : Type 0} {ghosts : Ghosts P} (laws : HaveLifeLaws) (g : Group) (v :
       pub begins : BeginsAs g v image Runs
       begins = by v.state refl may
         where
-          by : (s : VolState) → v.state ≡ s → may_start s ≡ true → BeginsAs g v image Runs
-          by vol.Empty e may = record { sound = true; if_sound = λ sound. refl; if_new = λ new. refl; runs = λ is. as_begun vol.Empty e true refl (empty_runs e) }
-          by vol.Clean e may = decide (laws.decided image)
+          -- one that was started before is sound by its bytes, or not
+          filled : (s : VolState) → v.state ≡ s → IsFilled s → is_fresh s ≡ false → is_new s ≡ false → (Runs (unsure owners (volume_read names image)) → Runs (unsure owners (volume_by s names image))) → BeginsAs g v image Runs
+          filled s e has old_is not_new read = decide (laws.decided image)
             where
               decide : IsSoundImage image ⊎ (IsSoundImage image → ⊥) → BeginsAs g v image Runs
-              decide (inl sound) = record { sound = true; if_sound = λ s. refl; if_new = λ new. refl; runs = λ is. as_begun vol.Clean e true refl (clean_runs e sound) }
+              decide (inl sound) = record {
+                sound = true;
+                if_sound = λ s. refl;
+                if_new = λ new. refl;
+                runs = λ is. as_begun s e true refl (read (filled_runs (subst (λ (x : VolState). IsFilled x) (sym e) has) (ap is_fresh e ∙ old_is) sound));
+              }
               decide (inr not) = record {
                 sound = false;
                 if_sound = λ s. absurd (not s);
-                if_new = λ new. (let no : false ≡ true = ap is_new (sym e) ∙ new in no);
+                if_new = λ new. (let no : false ≡ true = sym (ap is_new e ∙ not_new) ∙ new in no);
                 runs = λ is. absurd (let no : false ≡ true = is in cc);
               }
+
+          by : (s : VolState) → v.state ≡ s → may_open s ≡ true → BeginsAs g v image Runs
+          by vol.Empty e may = record { sound = true; if_sound = λ sound. refl; if_new = λ new. refl; runs = λ is. as_begun vol.Empty e true refl (empty_runs e) }
+          by vol.Clean e may = filled vol.Clean e tt refl refl (λ runs. runs)
           by vol.Active e may = absurd (let no : false ≡ true = may in cc)
-          by vol.NeedSync e may = absurd (let no : false ≡ true = may in cc)
-          by vol.Sync e may = absurd (let no : false ≡ true = may in cc)
+          by vol.NeedSync e may = filled vol.NeedSync e tt refl refl (λ runs. runs)
+          by vol.Sync e may = filled vol.Sync e tt refl refl (λ runs. runs)
 
   -- ---- recorded as started
 

@@ -1,10 +1,12 @@
 -- How a volume of the imported group is opened, before anything is recorded.
-use Rattle.std.specs.Prelude.{◌≡◌, ◌^◌, ◌⊎◌, ◌++◌, ℕ, List, map}
+use Rattle.std.specs.Prelude.{◌≡◌, ◌^◌, ◌⊎◌, ◌++◌, ℕ, Bool, true, false, List, map}
 use Rattle.vx_pages.specs.declared.local_piece.LocalPiece.{Ghosts}
 use Rattle.vx_piece.specs.Seen.{Seen}
 use Rattle.vx_copies.specs.Disks.{good_mask}
 use Rattle.vx_copies.specs.Lists.{AllOf}
 use Rattle.vx_confdb.specs.Groups.{members}
+use Rattle.vx_config_parts.specs.declared.state.VolState.{VolState}
+use Rattle.vx_config_parts.specs.declared.state.VolState.TheVariants as vol
 use Rattle.vx_config_parts.specs.declared.vol.Vol.{Vol}
 use Rattle.vx_fronts.specs.Parted.{IsCutShort}
 use Rattle.vx_lending.specs.Form.{IsFormOf}
@@ -24,6 +26,14 @@ use Rattle.vx_house.specs.declared.stop.Stop.{Stop}
 use Rattle.vx_house.specs.declared.stop.Stop.TheVariants as stops
 use Rattle.vx_stage_volumes.specs.Naming.{unopened}
 use Rattle.vx_stage_volumes.specs.Numbers.{AreNumbersOf}
+
+-- a volume in this state is opened by a start or a recovery
+abbrev pub may_open : VolState → Bool
+may_open vol.Empty = true
+may_open vol.Clean = true
+may_open vol.Active = false
+may_open vol.NeedSync = true
+may_open vol.Sync = true
 
 -- the good slots of the group
 abbrev pub good_of : {P : Type 0} {ghosts : Ghosts P} → (P → Seen) → Imported P ghosts → ℕ

@@ -13,7 +13,7 @@ use vx_volume::VolumeShape;
 
 /// Tests whether the volume can be started by the configuration and the slots whose disks are good: a log of it has to be on good disks
 /// where it has a DCO, and some plex has to be current.
-pub(crate) fn test_early(alloc: Global, config: &Config, good: u32, vol: &Vol) -> Result<(), Stop>
+pub fn test_early(alloc: Global, config: &Config, good: u32, vol: &Vol) -> Result<(), Stop>
     requires of { IsVolOf config.now vol.now }
     ensures passes { OnOk result (refusal_here config.now good vol.now ≡ None) }
     ensures refused { IfErr result (IsRefusedEarly config.now good vol.now) }

@@ -29,7 +29,7 @@ pub(crate) fn lay<P: Piece + Drop>(alloc: Global, public: &mut Public<P>, name: 
 
 /// Puts the pieces of a volume back. Where there is no memory for that it is kept among those that could not be put back, which have a
 /// place for it.
-fn put_back<P: Piece + Drop>(alloc: Global, public: &mut Public<P>, running: Running<P>)
+pub fn put_back<P: Piece + Drop>(alloc: Global, public: &mut Public<P>, running: Running<P>)
     requires whole { IsVolume (volume_seen P.seen running.volume) }
     requires place { vec_len public.old.stuck < vec_capacity public.old.stuck }
     requires stuck { AreStuckVolumes P.seen public.old.stuck.items }

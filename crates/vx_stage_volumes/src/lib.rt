@@ -15,9 +15,12 @@ mod starting;
 mod stopping;
 
 pub use disks::have_disks;
-pub use naming::unopened;
+pub use early::test_early;
+pub use laying::put_back;
+pub use naming::{copied, unopened};
 pub use numbering::numbers_of;
-pub use opening::prepare;
+pub use opening::{each_piece_ends, open_in, prepare};
+pub use recording::record_start;
 pub use resting::told;
 pub use starting::start;
 pub use stopping::stop;

@@ -65,11 +65,7 @@ pub fn unopened<P: Piece>(alloc: Global, disks: &[Disk<P>], vol: Name, fault: St
 }
 
 /// How a start ends whose volume runs, by its copying.
-pub(crate) fn copied<P: Piece>(
-    alloc: Global,
-    disks: &[Disk<P>],
-    outcome: Result<u64, IoFault>,
-) -> Stop
+pub fn copied<P: Piece>(alloc: Global, disks: &[Disk<P>], outcome: Result<u64, IoFault>) -> Stop
     ensures { result ≡ copied P.seen disks.now outcome }
 {
     match outcome {

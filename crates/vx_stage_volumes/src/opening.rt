@@ -49,14 +49,14 @@ fn part<P: Piece + Drop>(alloc: Global, group: &mut Imported<P>) -> Result<(), O
 }
 
 /// Nothing is told behind the last sector of a piece, and its counts are numbers of 64 bits: laws of pieces, said to callers.
-pub(crate) fn each_piece_ends<P: Piece>()
+pub fn each_piece_ends<P: Piece>()
     ensures ends { (p : P) → EndsThere (P.seen p) }
     ensures counts { (p : P) → AreCounts (P.seen p) }
 {}
 
 /// Opens the volume out of the pieces of the group. It does not run yet. Where a record of a good disk is not that of a disk of the group,
 /// memory is said to be wanting.
-pub(crate) fn open_in<P: Piece + Drop>(
+pub fn open_in<P: Piece + Drop>(
     alloc: Global,
     group: &mut Imported<P>,
     vol: &Vol,

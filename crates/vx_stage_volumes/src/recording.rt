@@ -22,7 +22,7 @@ use vx_volume::IoFault;
 
 /// Records by a commit that the volume is started; then it runs, in a place that was made for it before. Where that is not done it is held
 /// among those that could not be put back.
-pub(crate) fn record_start<P: Piece + Drop>(
+pub fn record_start<P: Piece + Drop>(
     alloc: Global,
     group: &mut Imported<P>,
     name: Name,

@@ -22,7 +22,7 @@ use Rattle.vx_objects.specs.declared.config.Config.{Config}
 use Rattle.vx_objects.specs.Config.{objects_of}
 use Rattle.vx_objects.specs.Edits.{set_vol, edited, edited_by, target_fault, refusal_of}
 use Rattle.vx_objects.specs.Parts.{in_kinds}
-use Rattle.vx_state_edits.specs.Edits.{plexes_of, plex_edit, vol_edit, policy_of, state_edits, log_started, started_as, started, stopped_as, stopped, is_marked}
+use Rattle.vx_state_edits.specs.Edits.{plexes_of, plex_edit, vol_edit, policy_of, state_edits, log_started, started_as, started, stopped_as, stopped, recovered_as, recovered, is_marked}
 use Rattle.vx_state_edits.specs.Laws.{IsAmong, IsRecorded}
 use Rattle.vx_state_edits.proofs.ByKind.{sorted_restated, records_plex}
 use Rattle.vx_state_edits.proofs.Changes.{is_kept, plex_state, vol_state, all_set}
@@ -131,3 +131,10 @@ start_counts first p e = start_steady first p.kind p.state e
 
 pub stop_counts : (marks : ℕ) (p : Plex) → is_log p.kind ≡ true → is_in_use (stopped marks p) ≡ is_in_use p.state
 stop_counts marks p e = stop_steady p.kind (is_marked marks p.map) p.state e
+
+recovered_steady : (k : PlexKind) (marked : Bool) (s : PlexState) → is_log k ≡ true → is_in_use (recovered_as k marked s) ≡ is_in_use s
+recovered_steady Data marked s e = cc
+recovered_steady Log marked s e = refl
+
+pub recovered_counts : (marks : ℕ) (p : Plex) → is_log p.kind ≡ true → is_in_use (recovered marks p) ≡ is_in_use p.state
+recovered_counts marks p e = recovered_steady p.kind (is_marked marks p.map) p.state e

@@ -1,4 +1,4 @@
--- What a start and a stop record of a volume, as edits of its configuration.
+-- What a start, a stop and a recovery record of a volume, as edits of its configuration.
 use Rattle.std.specs.Prelude.{ℕ, Bool, true, false, if◌then◌else◌, Option, Some, None, List, ◌∷◌, map}
 use Rattle.std.specs.List.{filter}
 use Rattle.vx_base.specs.Named.{Word}
@@ -19,7 +19,7 @@ use Rattle.vx_config_parts.specs.Objects.{refers}
 use Rattle.vx_objects.specs.declared.config.Config.{Config}
 use Rattle.vx_objects.specs.declared.edit.Edit.{Edit}
 use Rattle.vx_objects.specs.declared.edit.Edit.TheVariants.{SetPlex, SetVol}
-use Rattle.vx_states.specs.Table.{plex_started, plex_stopped}
+use Rattle.vx_states.specs.Table.{plex_recovered, plex_started, plex_stopped}
 
 -- the plexes of a volume, data and log plexes, in the order of the configuration
 abbrev pub plexes_of : Config → Word → List Plex
@@ -58,6 +58,14 @@ stopped_as Log marked now = now
 abbrev pub stopped : ℕ → Plex → PlexState
 stopped marks p = stopped_as p.kind (is_marked marks p.map) p.state
 
+abbrev pub recovered_as : PlexKind → Bool → PlexState → PlexState
+recovered_as Data marked now = plex_recovered marked now
+recovered_as Log marked now = now
+
+-- the plex after a recovery of its volume, where these maps have marks still
+abbrev pub recovered : ℕ → Plex → PlexState
+recovered marks p = recovered_as p.kind (is_marked marks p.map) p.state
+
 -- ---- edits
 
 -- the policy of a volume; one that prefers a plex names it
@@ -86,3 +94,11 @@ start_edits c v = state_edits vol.Active (started (is_new v.state)) c v
 -- what a stop records, where these maps have marks
 abbrev pub stop_edits : Config → Vol → ℕ → List Edit
 stop_edits c v marks = state_edits vol.Clean (stopped marks) c v
+
+-- what a recovery records as it begins: its plexes stay as they are
+abbrev pub recovery_edits : Config → Vol → List Edit
+recovery_edits c v = state_edits vol.Sync (λ p. p.state) c v
+
+-- what it records at its end, where these maps have marks still
+abbrev pub recovered_edits : Config → Vol → ℕ → List Edit
+recovered_edits c v marks = state_edits vol.Active (recovered marks) c v

@@ -1,4 +1,4 @@
--- No rule refuses what a start and a stop record, and nothing but states changes by it.
+-- No rule refuses what a start, a stop and a recovery record, and nothing but states changes by it.
 use Rattle.std.specs.Prelude.{◌≡◌, ◌⊎◌, ℕ, true, false, None, List, [], ◌∷◌, map, if◌then◌else◌}
 use Rattle.std.specs.List.{AllZip}
 use Rattle.std.specs.Str.{bytes_eq}
@@ -14,7 +14,7 @@ use Rattle.vx_objects.specs.declared.config.Config.{Config}
 use Rattle.vx_objects.specs.Applied.{IsEdited}
 use Rattle.vx_objects.specs.Config.{objects_of}
 use Rattle.vx_objects.specs.Edits.{refusal_of}
-use Rattle.vx_state_edits.specs.Edits.{is_new, started, stopped, start_edits, stop_edits}
+use Rattle.vx_state_edits.specs.Edits.{is_new, recovered, recovered_edits, recovery_edits, started, stopped, start_edits, stop_edits}
 
 -- it is one of these
 abbrev pub IsAmong : {X : Type 0} → List X → X → Type 0
@@ -33,6 +33,12 @@ EachStartIsFine = (c : Config) (v : Vol) → IsRecorded c v → refusal_of (star
 
 abbrev pub EachStopIsFine : Type 0
 EachStopIsFine = (c : Config) (v : Vol) (marks : ℕ) → IsRecorded c v → refusal_of (stop_edits c v marks) (objects_of c) ≡ None
+
+abbrev pub EachRecoveryIsFine : Type 0
+EachRecoveryIsFine = (c : Config) (v : Vol) → IsRecorded c v → refusal_of (recovery_edits c v) (objects_of c) ≡ None
+
+abbrev pub EachRecoveredIsFine : Type 0
+EachRecoveredIsFine = (c : Config) (v : Vol) (marks : ℕ) → IsRecorded c v → refusal_of (recovered_edits c v marks) (objects_of c) ≡ None
 
 -- ---- nothing but states changes
 
@@ -62,6 +68,12 @@ EachStartRestates = (c : Config) (v : Vol) → IsRecorded c v → (c' : Config) 
 
 abbrev pub EachStopRestates : Type 0
 EachStopRestates = (c : Config) (v : Vol) (marks : ℕ) → IsRecorded c v → (c' : Config) → IsEdited (stop_edits c v marks) c c' → Restates v.name vol.Clean (stopped marks) c c'
+
+abbrev pub EachRecoveryRestates : Type 0
+EachRecoveryRestates = (c : Config) (v : Vol) → IsRecorded c v → (c' : Config) → IsEdited (recovery_edits c v) c c' → Restates v.name vol.Sync (λ p. p.state) c c'
+
+abbrev pub EachRecoveredRestates : Type 0
+EachRecoveredRestates = (c : Config) (v : Vol) (marks : ℕ) → IsRecorded c v → (c' : Config) → IsEdited (recovered_edits c v marks) c c' → Restates v.name vol.Active (recovered marks) c c'
 
 -- the configuration then records the volume in its new state
 abbrev pub EachRestatedVolumeIsRecorded : Type 0

@@ -1,6 +1,6 @@
 ghost use Rattle.std.specs.Prelude.{◌≡◌, ◌∷◌, IfOk, map};
-ghost use Rattle.vx_states.specs.Table.{plex_started, plex_stopped};
-ghost use Rattle.vx_state_edits.specs.Edits.{is_marked, is_new, log_started, plex_edit, plexes_of, policy_of, start_edits, started, stop_edits, stopped, vol_edit};
+ghost use Rattle.vx_states.specs.Table.{plex_recovered, plex_started, plex_stopped};
+ghost use Rattle.vx_state_edits.specs.Edits.{is_marked, is_new, log_started, plex_edit, plexes_of, policy_of, recovered, recovered_edits, recovery_edits, start_edits, started, stop_edits, stopped, vol_edit};
 
 use std::alloc::Global;
 use vx_base::OutOfMemory;
@@ -31,6 +31,28 @@ pub fn stop_edits(
 {
     let edits = stopped_plexes(alloc, config, &vol.name, marks)?;
     headed(vol_edit(vol, VolState::Clean), edits)
+}
+
+/// What a recovery records before it calls a device: the volume is being recovered, and its plexes stay as they are.
+pub fn recovery_edits(alloc: Global, config: &Config, vol: &Vol) -> Result<Vec<Edit>, OutOfMemory>
+    ensures { IfOk result (λ edits. edits.items ≡ recovery_edits config.now vol.now) }
+{
+    let edits = same_plexes(alloc, config, &vol.name)?;
+    headed(vol_edit(vol, VolState::Sync), edits)
+}
+
+/// What a recovery records at its end: the volume is active, a plex that only failed too, and a plex that was being copied to for a snapshot
+/// is complete, unless it misses something still. `marks` are the maps that have marks.
+pub fn recovered_edits(
+    alloc: Global,
+    config: &Config,
+    vol: &Vol,
+    marks: u64,
+) -> Result<Vec<Edit>, OutOfMemory>
+    ensures { IfOk result (λ edits. edits.items ≡ recovered_edits config.now vol.now marks) }
+{
+    let edits = recovered_plexes(alloc, config, &vol.name, marks)?;
+    headed(vol_edit(vol, VolState::Active), edits)
 }
 
 fn headed(first: Edit, rest: Vec<Edit>) -> Result<Vec<Edit>, OutOfMemory>
@@ -73,6 +95,37 @@ fn stopped_plexes(
         .iter()
         .filter(|plex| refers(&plex.vol, vol))
         .map(|plex| plex_edit(plex, stopped(plex, marks)))
+        .collect(alloc)?;
+    Ok(edits)
+}
+
+fn same_plexes(alloc: Global, config: &Config, vol: &Name) -> Result<Vec<Edit>, OutOfMemory>
+    ensures { IfOk result (λ edits. edits.items ≡ map (plex_edit (λ p. p.state)) (plexes_of config.now vol.now)) }
+{
+    let edits = config
+        .plexes
+        .as_slice()
+        .iter()
+        .filter(|plex| refers(&plex.vol, vol))
+        .map(|plex| plex_edit(plex, plex.state))
+        .collect(alloc)?;
+    Ok(edits)
+}
+
+fn recovered_plexes(
+    alloc: Global,
+    config: &Config,
+    vol: &Name,
+    marks: u64,
+) -> Result<Vec<Edit>, OutOfMemory>
+    ensures { IfOk result (λ edits. edits.items ≡ map (plex_edit (recovered marks)) (plexes_of config.now vol.now)) }
+{
+    let edits = config
+        .plexes
+        .as_slice()
+        .iter()
+        .filter(|plex| refers(&plex.vol, vol))
+        .map(|plex| plex_edit(plex, recovered(plex, marks)))
         .collect(alloc)?;
     Ok(edits)
 }
@@ -162,6 +215,24 @@ fn data_stopped(state: PlexState, marked: bool) -> PlexState
     ensures { result ≡ plex_stopped marked state }
 {
     match next_state(Action::Stop { marked }, VolState::Active, Some(state)) {
+        Ok((_, Some(after))) => after,
+        _ => state,
+    }
+}
+
+fn recovered(plex: &Plex, marks: u64) -> PlexState
+    ensures { result ≡ recovered marks plex.now }
+{
+    match plex.kind {
+        PlexKind::Data => data_recovered(plex.state, is_marked(plex.map, marks)),
+        PlexKind::Log => plex.state,
+    }
+}
+
+fn data_recovered(state: PlexState, marked: bool) -> PlexState
+    ensures { result ≡ plex_recovered marked state }
+{
+    match next_state(Action::RecoverEnd { marked }, VolState::Sync, Some(state)) {
         Ok((_, Some(after))) => after,
         _ => state,
     }

@@ -26,7 +26,7 @@ use Rattle.vx_state_texts.proofs.Sizes.{line_size, lines_below, size_of, text_si
 use Rattle.vx_state_texts.proofs.Sums.{sum_before, sum_behind, sum_below}
 
 -- the line of a plex that tells its state
-abbrev state_line : PlexState → ℕ
+abbrev pub state_line : PlexState → ℕ
 state_line s = line_size (attr labels.State (Some (plex_state_word s)))
 
 same_size : (n : ℕ) → n ≤ n
@@ -54,7 +54,7 @@ stopped_below : (marks more : ℕ) → AreWithin marks more → (p : Plex) → s
 stopped_below marks more within p = as_below p.kind (is_marked marks p.map) (is_marked more p.map) p.state (marked_within marks more within p.map)
 
 -- a plex in two states
-restated_below : (p : Plex) (s t : PlexState) → state_line s ≤ state_line t → size_of (PlexRecord (record p { state = s })) ≤ size_of (PlexRecord (record p { state = t }))
+pub restated_below : (p : Plex) (s t : PlexState) → state_line s ≤ state_line t → size_of (PlexRecord (record p { state = s })) ≤ size_of (PlexRecord (record p { state = t }))
 restated_below p s t le =
     lines_below kinds.Plex p.name (attrs_of (PlexRecord (record p { state = s }))) (attrs_of (PlexRecord (record p { state = t })))
     (same_size _, (same_size _, (same_size _, (same_size _, (same_size _, (le, (same_size _, tt)))))))
@@ -88,7 +88,7 @@ plexes_below vol after more below (p ∷ ps) (q ∷ qs) (r ∷ rs) one other =
     (plex_below vol after more below p q r one.0 other.0, plexes_below vol after more below ps qs rs one.1 other.1)
 
 -- the records of two configurations, of which the plexes of the one are nowhere longer and all else is the same
-config_below : (c d : Config) → d.group ≡ c.group → d.version ≡ c.version → d.disks ≡ c.disks → d.subdisks ≡ c.subdisks → d.volumes ≡ c.volumes → d.dcos ≡ c.dcos → d.snaps ≡ c.snaps →
+pub config_below : (c d : Config) → d.group ≡ c.group → d.version ≡ c.version → d.disks ≡ c.disks → d.subdisks ≡ c.subdisks → d.volumes ≡ c.volumes → d.dcos ≡ c.dcos → d.snaps ≡ c.snaps →
     sum_by size_of (map PlexRecord c.plexes) ≤ sum_by size_of (map PlexRecord d.plexes) → sum_by size_of (objects_of c) ≤ sum_by size_of (objects_of d)
 config_below c d group version disks subdisks volumes dcos snaps le =
     subst (λ os. sum_by size_of (objects_of c) ≤ sum_by size_of os) same

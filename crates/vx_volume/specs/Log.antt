@@ -1,5 +1,6 @@
 -- What contracts see of the log of a volume, and how it goes on.
-use Rattle.std.specs.Prelude.{true, false, Some}
+use Rattle.std.specs.Prelude.{◌≡◌, true, false, Some, refl}
+use Rattle.std.proofs.Common.{◌∙◌}
 use Rattle.vx_piece.specs.Seen.{Seen}
 use Rattle.vx_marks.specs.Log.{LogSeen}
 use Rattle.vx_pages.specs.declared.local_piece.LocalPiece.{Ghosts}
@@ -29,19 +30,19 @@ abbrev pub log_seen : {P : Type 0} {ghosts : Ghosts P} → (P → Seen) → Volu
 log_seen seen Absent = absent_log
 log_seen seen (Maps store) = store_seen seen store
 
--- the log is of the same volume, and each of its pieces goes on
+-- The log is of the same volume, and each of its pieces goes on. But for its pages it is the same: its header is not written again.
 abbrev pub LogGoes : {P : Type 0} {ghosts : Ghosts P} → (P → Seen) → VolumeLog P ghosts → VolumeLog P ghosts → Type 0
 LogGoes seen Absent Absent = Unit {0}
-LogGoes seen (Maps old) (Maps new) = StoreGoes seen KeepsPiece old new
+LogGoes seen (Maps old) (Maps new) = StoreGoes seen KeepsPiece old new × (new.base ≡ old.base)
 LogGoes seen _ _ = ⊥
 
 pub log_kept : {P : Type 0} {ghosts : Ghosts P} (x : VolumeLog P ghosts) → LogGoes ghosts.seen x x
 log_kept Absent = tt
-log_kept (Maps store) = store_kept store
+log_kept (Maps store) = (store_kept store, refl)
 
 pub log_kept_on : {P : Type 0} {ghosts : Ghosts P} (x y z : VolumeLog P ghosts) → LogGoes ghosts.seen x y → LogGoes ghosts.seen y z → LogGoes ghosts.seen x z
 log_kept_on Absent Absent Absent first then = tt
-log_kept_on (Maps x) (Maps y) (Maps z) first then = store_kept_on x y z first then
+log_kept_on (Maps x) (Maps y) (Maps z) first then = (store_kept_on x y z first.0 then.0, then.1 ∙ first.1)
 log_kept_on Absent Absent (Maps z) first then = absurd then
 log_kept_on Absent (Maps y) z first then = absurd first
 log_kept_on (Maps x) Absent z first then = absurd first

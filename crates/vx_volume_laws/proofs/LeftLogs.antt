@@ -77,7 +77,7 @@ pub log_goes : {P : Type 0} {ghosts : Ghosts P} (old new : VolumeLog P ghosts) �
 log_goes Absent Absent goes = (tt, λ geometry fits. fits)
 log_goes Absent (Maps new) goes = absurd goes
 log_goes (Maps old) Absent goes = absurd goes
-log_goes {ghosts = ghosts} (Maps old) (Maps new) goes = (copies_weaker KeepsPiece IsSamePlace (λ p q h. place_kept p q h.kept) (store_copies ghosts.seen old) (store_copies ghosts.seen new) (store_goes KeepsPiece piece_same old new goes), λ geometry fits. ap (λ shape. shape.geometry) goes.shape ∙ fits)
+log_goes {ghosts = ghosts} (Maps old) (Maps new) goes = (copies_weaker KeepsPiece IsSamePlace (λ p q h. place_kept p q h.kept) (store_copies ghosts.seen old) (store_copies ghosts.seen new) (store_goes KeepsPiece piece_same old new goes.0), λ geometry fits. ap (λ shape. shape.geometry) goes.0.shape ∙ fits)
 
 -- a log that was loaded, or made new, is one for its volume
 pub loaded_for : {P : Type 0} {ghosts : Ghosts P} (geometry : Geometry) (old : List (List Seen)) (log : VolumeLog P ghosts) → IsLoadedLog ghosts.seen geometry old log → IsLogFor geometry log

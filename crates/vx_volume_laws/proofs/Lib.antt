@@ -37,6 +37,6 @@ pub mod Armings
 pub mod Forms
 pub mod Lasting
 pub mod LeftOpenings
-mod OneCopies
+pub mod OneCopies
 pub mod ExactLogs
 pub mod ExactLeft

@@ -1,0 +1,3 @@
+pub mod Healed
+pub mod Whole
+pub mod Laws

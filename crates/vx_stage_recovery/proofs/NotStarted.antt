@@ -1,0 +1,55 @@
+-- A name of which nothing is started in a house: so nothing is in the world.
+use Rattle.std.proofs.Common.{◌≡◌, ◌∙◌, false, true, Option, Some, None, refl, sym, ap, subst}
+use Rattle.std.specs.Prelude.{is_some}
+use Rattle.vx_pages.specs.declared.local_piece.LocalPiece.{Ghosts}
+use Rattle.vx_base.specs.Named.{Word}
+use Rattle.vx_piece.specs.Seen.{Seen}
+use Rattle.vx_started.specs.declared.started.Started.{Started}
+use Rattle.vx_moments.specs.Leaving.{grouped, grouped_by, lone, lone_by}
+use Rattle.vx_moments.specs.Moment.{Moment}
+use Rattle.vx_moments.specs.World.{Lies, OnDevice, OnPlexes, Volume}
+use Rattle.vx_lending.specs.declared.public.Running.{Running}
+use Rattle.vx_lending.specs.Public.{running_at}
+use Rattle.vx_house.specs.Holders.{volume_at}
+use Rattle.vx_house.specs.Plain.{plain, told_volume}
+use Rattle.vx_house.specs.Runs.{IsAtRun, fronts_in, run_in}
+use Rattle.vx_house.specs.Scene.{Shelved}
+use Rattle.vx_house.specs.View.{IsAtVolume, IsMoment, at}
+use Rattle.vx_house.specs.declared.house.House.{House}
+use Rattle.vx_house.specs.declared.house.Imported.{Imported}
+
+no_lone : (o : Option Volume) → lone o ≡ None → grouped o ≡ None → o ≡ None
+no_lone None a b = refl
+no_lone (Some w) a b = by w.lies refl a b
+  where
+    by : (l : Lies) → w.lies ≡ l → lone (Some w) ≡ None → grouped (Some w) ≡ None → Some w ≡ None
+    by (OnDevice device) e a b = absurd (let both : Some w ≡ None = sym (ap (λ l. lone_by l w) e) ∙ a in cc)
+    by (OnPlexes plexes) e a b = absurd (let both : Some w ≡ None = sym (ap (λ l. grouped_by l w) e) ∙ b in cc)
+
+both_none : {P : Type 0} {ghosts : Ghosts P} (o : Option (Started P)) (r : Option (Running P ghosts)) → is_some (told_volume o r) ≡ false → (o ≡ None) × (r ≡ None)
+both_none None None e = (refl, refl)
+both_none None (Some r) e = absurd (let no : true ≡ false = e in cc)
+both_none (Some b) r e = absurd (let no : true ≡ false = e in cc)
+
+not_lone : {P : Type 0} (see : P → Seen) (o : Option Volume) → IsAtVolume see None o → o ≡ None
+not_lone see None there = refl
+not_lone see (Some w) there = absurd there
+
+module _ {P : Type 0} {ghosts : Ghosts P} (see : P → Seen) where
+  module _ (name : Word) (h : House P ghosts) (none : is_some ((plain see h).volumes name) ≡ false) where
+    two : (volume_at h name ≡ None) × (run_in h.group name ≡ None)
+    two = both_none (volume_at h name) (run_in h.group name) none
+
+    -- nothing of the name runs in its group
+    pub absent_in : (g : Imported P ghosts) → h.group ≡ Some g → running_at g.public name ≡ None
+    absent_in g has = subst (λ o. run_in o name ≡ None) has two.1
+
+    pub none_in : (shelf : Shelved) (m : Moment) → IsMoment see (at shelf h) m → m.world.volumes name ≡ None
+    none_in shelf m is =
+        no_lone (m.world.volumes name)
+        (not_lone see (lone (m.world.volumes name)) (subst (λ o. IsAtVolume see o (lone (m.world.volumes name))) two.0 (is.volumes_are name)))
+        (not_run (grouped (m.world.volumes name)) (subst (λ o. IsAtRun see (fronts_in see h.group) m.world.group name o (grouped (m.world.volumes name))) two.1 (is.runs_are name)))
+      where
+        not_run : (o : Option Volume) → IsAtRun {P = P} {ghosts = ghosts} see (fronts_in see h.group) m.world.group name None o → o ≡ None
+        not_run None there = refl
+        not_run (Some w) there = absurd there

@@ -1,0 +1,10 @@
+pub mod Opening
+pub mod Steps
+pub mod Beginning
+pub mod Healing
+pub mod Ending
+pub mod Needs
+pub mod Names
+pub mod Texts
+pub mod Seeing
+pub mod Planning

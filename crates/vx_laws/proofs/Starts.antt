@@ -56,7 +56,7 @@ lives_so vol.NeedSync plexes image = refl
 lives_so vol.Sync plexes image = refl
 
 -- the volume that is found under a name has it
-found_named : (name : Word) (vs : List Vol) (v : Vol) → volume_in name vs ≡ Some v → v.name ≡ name
+pub found_named : (name : Word) (vs : List Vol) (v : Vol) → volume_in name vs ≡ Some v → v.name ≡ name
 found_named name [] v is = cc
 found_named name (u ∷ us) v is = by (bytes_eq u.name name) refl (found_named name us v) is
   where
@@ -73,7 +73,7 @@ abbrev pub AreRead : Reading → World → Type 0
 AreRead Read w = (name : Word) → IsRead Read name w
 
 module _ (Held : Holding) (Read : Reading) where
-  started_history : (g : Group) (v : Vol) (image : Image) (sound : Bool) → Read v.name image.length (candidates_read image) → IsHistoried Held Read v.name (volume_started g v image sound)
+  pub started_history : (g : Group) (v : Vol) (image : Image) (sound : Bool) → Read v.name image.length (candidates_read image) → IsHistoried Held Read v.name (volume_started g v image sound)
   started_history g v image sound was =
       subst (λ l. IsHistoriedOn Held Read v.name l (volume_started g v image sound)) (sym (lies_so v.state (plexes_started g v) image))
       (λ is. (candidates_read image, subst (λ n. Read v.name n (candidates_read image)) (sym (long_so v.state (plexes_started g v) image)) was, subst (HasHistory (candidates_read image)) (sym (lives_so v.state (plexes_started g v) image)) (begun_history (candidates_read image))))

@@ -8,7 +8,9 @@ use Rattle.vx_script_forms.specs.declared.call.Call.{Call}
 use Rattle.vx_answers.specs.declared.answer.End.{End}
 use Rattle.vx_answers.specs.declared.answer.End.TheVariants as ends
 use Rattle.vx_answers.specs.declared.refusal.Refusal.TheVariants.{NotStarted, Range}
-use Rattle.vx_moments.specs.World.{World, Device, Volume, Lies, OnDevice, OnPlexes}
+use Rattle.vx_config_parts.specs.declared.vol.Vol.{Vol}
+use Rattle.vx_stages.specs.Tests.{volume_in}
+use Rattle.vx_moments.specs.World.{Group, World, Device, Volume, Lies, OnDevice, OnPlexes}
 use Rattle.vx_moments.specs.Owners.{owners_of}
 use Rattle.vx_moments.specs.Tracks.{volume_failed}
 use Rattle.vx_moments.proofs.Tracked.{goes_length, goes_lies}
@@ -23,7 +25,8 @@ use Rattle.vx_plans.proofs.Complete.{kept_world, keeps_world}
 use Rattle.vx_life.specs.Candidates.{Candidates, known}
 use Rattle.vx_image.specs.Meaning.{candidates_read}
 use Rattle.vx_moments.specs.Group.{image_on}
-use Rattle.vx_laws.specs.Histories.{FirstHasAdded, HasAdded, HasHistory, IsHistoried, IsHistoriedOn, HaveHistories, NoneStarted, WasRead, WasThere}
+use Rattle.vx_laws.specs.Histories.{FirstStartsNext, HasHealed, HasHistory, StartsNext, IsHistoried, IsHistoriedOn, HaveHistories, NoneStarted, WasRead, WasThere}
+use Rattle.vx_laws.proofs.Recoveries.{recover_kept}
 use Rattle.vx_laws.proofs.Starts.{AreRead, IsRead, mirror_kept, prepare_done, start_kept, stop_done, stop_kept, unprepare_done}
 use Rattle.vx_laws.proofs.Lives.{Holding, Reading, begun_history, put_history, goes_on_history, same_volumes, without_group, from_nothing}
 use Rattle.vx_base.specs.Blocks.{Contents}
@@ -157,9 +160,10 @@ plan_shaped dg (form.Rdpol vol words.Select) other = refl
 plan_shaped dg (form.Rdpol vol (words.Prefer plex)) other = refl
 plan_shaped dg f other = refl
 
--- what is read of a volume whose records a command of this form has added
-abbrev AreReadIn : Reading → Form → Moment → Type 0
-AreReadIn Read f old = (name : Word) (mid : Moment) → HasAdded f name old mid → IsRead Read name mid.world
+-- what is read of a volume that a command of this form starts next, or has healed
+pub record AreReadIn (Read : Reading) (f : Form) (old : Moment) : Type 0 where
+  pub starts : (name : Word) (mid : Moment) → StartsNext f name old mid → IsRead Read name mid.world
+  pub healed : (name : Word) (g : Group) (v : Vol) (at : Moment) → HasHealed f name g v old at → Read name v.len (candidates_read (image_on at.world.devices g v))
 
 module _ (Held : Holding) (Read : Reading) where
   runs_kept : (disks : List DiskAt) (stages : List Stage) (finish : Finish) (old : Moment) (views : List View) (end : End) (new : Moment) → all_keep_but_last stages ≡ true → AreKnown Held Read old.world → HaveHistories Held Read old.world → Runs disks stages finish old views end new → HaveHistories Held Read new.world
@@ -208,7 +212,9 @@ module _ (Held : Holding) (Read : Reading) where
   unfolding plan_of
   form_kept place dg (form.Calling call) old views end new there added all does = call_kept Held Read place call old new end all does.2
   form_kept place dg (form.AssistMake vol length attrs disks) old views end new there added all does =
-      new_kept (source.Volume (new_volume vol length attrs disks)) vol views end new dg old (λ mid is. added vol mid (refl, is)) all does
+      new_kept (source.Volume (new_volume vol length attrs disks)) vol views end new dg old (λ mid is. added.starts vol mid (refl, is)) all does
+  form_kept place dg (form.Recover vol) old views end new there added all does =
+      recover_kept Held Read end new dg vol old views (λ name mid come. (added.starts name mid come, λ g v begun dirty copied marks healed b h. added.healed name g v healed (mid, come, begun, b, dirty, copied, marks, h))) all does.1
   form_kept place dg other old views end new there added all does = plan_kept (disks_of other) (plan_of dg other) old views end new (plan_shaped dg other refl) there all does
 
   left_kept : (end : End) (over left : World) → HaveHistories Held Read over → Leaves end over left → HaveHistories Held Read left
@@ -250,13 +256,12 @@ module _ (place : ℕ) (old mid : Moment) (c : Command) (cs : List Command) (a :
     moment = was.moment;
     transcript = (mid, step, was.transcript);
     at = was.at;
-    reached = was.reached;
     group = was.group;
     imported = was.imported;
     of = was.of;
     recorded = was.recorded;
     size = was.size;
-    state = was.state;
+    reached = was.reached;
     candidates = was.candidates;
   }
 
@@ -275,7 +280,7 @@ module _ (place : ℕ) (old : Moment) (commands : List Command) (answers : List 
     here = is;
   }
 
-  read_first : (name : Word) (at : Moment) → (at ≡ old) ⊎ FirstHasAdded commands name old at → IsRead (WasRead place old commands answers) name at.world
+  read_first : (name : Word) (at : Moment) → (at ≡ old) ⊎ FirstStartsNext commands name old at → IsRead (WasRead place old commands answers) name at.world
   read_first name at reached g here v is may = record {
     before = [];
     others = commands;
@@ -286,15 +291,43 @@ module _ (place : ℕ) (old : Moment) (commands : List Command) (answers : List 
     moment = old;
     transcript = refl;
     at = at;
-    reached = reached;
     group = g;
     imported = here;
     of = v;
     recorded = is;
     size = refl;
-    state = may;
+    reached = inl (may, reached);
     candidates = refl;
   }
+
+-- what is healed is a volume of the group
+healed_of : (f : Form) (name : Word) (g : Group) (v : Vol) (old at : Moment) → HasHealed f name g v old at → (at.world.group ≡ Some g) × (volume_in name g.config.volumes ≡ Some v)
+healed_of (form.Recover vol) name g v old at (mid, come, begun, b, dirty, copied, marks, h) = (ap (λ (w : World). w.group) h.healing.touched.world ∙ b.is.group, b.is.volume)
+healed_of other name g v old at never = absurd never
+
+-- what was healed in the first command was read
+healed_first : (place : ℕ) (old : Moment) (c : Command) (cs : List Command) (answers : List Answer) (name : Word) (g : Group) (v : Vol) (at : Moment) → HasHealed c.form name g v old at →
+    WasRead place old (c ∷ cs) answers name v.len (candidates_read (image_on at.world.devices g v))
+healed_first place old c cs answers name g v at has =
+    let of = healed_of c.form name g v old at has in
+    record {
+      before = [];
+      others = c ∷ cs;
+      commands_are = refl;
+      told = [];
+      later = answers;
+      answers_are = refl;
+      moment = old;
+      transcript = refl;
+      at = at;
+      group = g;
+      imported = of.0;
+      of = v;
+      recorded = of.1;
+      size = refl;
+      reached = inr has;
+      candidates = refl;
+    }
 
 -- what was there or was read in the transcript is known
 record IsKnownOf (Held : Holding) (Read : Reading) (place : ℕ) (old : Moment) (commands : List Command) (answers : List Answer) : Type 0 where
@@ -308,14 +341,19 @@ module _ (Held : Holding) (Read : Reading) where
   transcript_kept place old new (c ∷ cs) [] known all h = absurd h
   transcript_kept place old new (c ∷ cs) (a ∷ rest) known all (mid, step, more) =
       let there : AreThere Held old.world = λ name d is. known.held name d.sectors d.contents (was_first place old (c ∷ cs) (a ∷ rest) name d is) in
-      let read : (name : Word) (at : Moment) → (at ≡ old) ⊎ FirstHasAdded (c ∷ cs) name old at → IsRead Read name at.world =
+      let read : (name : Word) (at : Moment) → (at ≡ old) ⊎ FirstStartsNext (c ∷ cs) name old at → IsRead Read name at.world =
       λ name at reached g here v is may. known.read name v.len (candidates_read (image_on at.world.devices g v)) (read_first place old (c ∷ cs) (a ∷ rest) name at reached g here v is may) in
       transcript_kept (place + 1) mid new cs rest
       (record {
         held = λ name sectors blocks was. known.held name sectors blocks (was_later place old mid c cs a rest step name sectors blocks was);
         read = λ name sectors first was. known.read name sectors first (read_later place old mid c cs a rest step name sectors first was);
       })
-      (step_kept Held Read place c old a mid (there, λ name. read name old (inl refl)) (λ name at has. read name at (inr has)) all step) more
+      (step_kept Held Read place c old a mid (there, λ name. read name old (inl refl))
+      (record {
+        starts = λ name at has. read name at (inr has);
+        healed = λ name g v at has. known.read name v.len (candidates_read (image_on at.world.devices g v)) (healed_first place old c cs (a ∷ rest) name g v at has);
+      })
+      all step) more
 
 pub each_volume_has_a_history : (place : ℕ) (old new : Moment) (commands : List Command) (answers : List Answer) → NoneStarted old.world → IsTranscript place old commands answers new → HaveHistories (WasThere place old commands answers) (WasRead place old commands answers) new.world
 each_volume_has_a_history place old new commands answers none transcript =

@@ -7,7 +7,8 @@ ghost use Rattle.vx_laws.specs.Returning.{EachGroupReturns, EachMadeGroupIsWhole
 /// In the last world of each transcript from devices alone, the entries of each started volume, in the order of their
 /// numbers, are a legal history from the blocks that its device held in the world before some command: each number of a
 /// region is there once, from 1 up, and each value that was read is what the entries before it allow. Of a volume on plexes
-/// of the group whose bytes were sound as it began, they are one from the candidates that these were read as before some command.
+/// of the group whose bytes were sound as it began, they are one from the candidates that these were read as before some command, or
+/// within one that had made the volume, or that recovers volumes.
 pub fn each_volume_has_a_history()
     ensures { EachVolumeHasAHistory }
 {}

@@ -1,5 +1,5 @@
 -- A stage that refuses its command leaves the world, but for a start that cannot open its volume.
-use Rattle.std.proofs.Common.{◌≡◌, ◌∙◌, ◌⊎◌, ℕ, ◌+◌, Bool, true, false, is_some, nat_lt, List, [], ◌∷◌, ◌++◌, Option, Some, None, MatchBool, MatchOption, refl, sym, ap, subst, inl, inr}
+use Rattle.std.proofs.Common.{◌≡◌, ◌∙◌, ◌⊎◌, ℕ, ◌+◌, Bool, true, false, is_some, nat_lt, List, [], ◌∷◌, ◌++◌, Option, Some, None, MatchBool, MatchOption, refl, ap, subst, inl, inr}
 use Rattle.vx_base.specs.Named.{Word}
 use Rattle.vx_script_words.specs.declared.value.DiskAt.{DiskAt}
 use Rattle.vx_script_forms.specs.declared.call.Call.{Call}
@@ -38,6 +38,7 @@ use Rattle.vx_stages.specs.declared.stages.Plan.{Plan}
 use Rattle.vx_plans.proofs.Complete.{keeps_world, kept_world}
 use Rattle.vx_plan_laws.specs.Keeping.{IsLeftAdded, IsLeftUnopened, RefusedLeaves}
 use Rattle.vx_plan_laws.proofs.NewVolumes.{added_there, is_opened, no_gate}
+use Rattle.vx_plan_laws.proofs.Recoveries.{recover_left}
 use Rattle.vx_plan_laws.proofs.Volumes.{mirror_left, not_stopped, prepare_left, start_left, start_refuses, stop_left, unprepare_left}
 
 -- ---- stages
@@ -288,6 +289,7 @@ module _ (old : Moment) (views : List View) (r : Refusal) (new : Moment) where
   form_left place dg (form.Start vol) does = starting_left (start_gates dg vol) vol old does
   form_left place dg (form.AssistMake vol length attrs disks) does = new_left dg (new_volume vol length attrs disks) does
   form_left place dg (form.Mirror vol disks) does = mirroring_left (mirror_gates dg) (record { vol = vol; disks = disks }) old does
+  form_left place dg (form.Recover vol) does = recover_left r new dg vol old views does.1
   form_left place dg other does = plan_left (disks_of other) (plan_of dg other) (plan_still dg other refl) does
 
 pub each_refusal_keeps_the_world : (place : ℕ) (c : Command) (old : Moment) (views : List View) (r : Refusal) (new : Moment) → Step place c old (One views (refused r)) new → (over : Moment) × (new.world ≡ over.world) × CountsAfter c.cut over.counts new.counts × RefusedLeaves c.form old r over

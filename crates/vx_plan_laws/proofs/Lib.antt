@@ -12,6 +12,7 @@ mod Makings
 mod Tests
 mod Volumes
 mod NewVolumes
+mod Recoveries
 mod Kept
 mod Wanting
 mod Told

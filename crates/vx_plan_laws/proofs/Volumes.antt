@@ -34,7 +34,7 @@ same_refusal r s e = cc
 module _ (old : Moment) (r : Refusal) (new : Moment) where
   -- ---- a start
 
-  opening : (g : Group) (v : Vol) → StopsUnopened g v old (refused r) new → OpeningRefuses g v old r new
+  pub opening : (g : Group) (v : Vol) → StopsUnopened g v old (refused r) new → OpeningRefuses g v old r new
   opening g v stops = elim stops.cause [
     | inl unread ↦ (stops.untested, unread.1, inl (same_refusal r (refusal.NoLog v.name) unread.0, unread.2, unread.3))
     | inr (inl (region, is, filled, missed)) ↦ (stops.untested, filled, inr (region, same_refusal r (refusal.NoCurrent region) is, missed))

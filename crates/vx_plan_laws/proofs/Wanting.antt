@@ -1,5 +1,6 @@
--- Want of memory leaves the world as the command found it, but for the volume of a start, a mirror or a stop, and the records of a new volume.
-use Rattle.std.proofs.Common.{◌≡◌, ◌∙◌, ◌⊎◌, ℕ, List, [], ◌∷◌, Option, Some, None, false, refl, subst, inl, inr}
+-- Want of memory leaves the world as the command found it, but for the volume of a start, a mirror or a stop, the records of a new
+-- volume, and the volumes of a recovery.
+use Rattle.std.proofs.Common.{◌≡◌, ◌∙◌, ◌⊎◌, List, [], ◌∷◌, Option, Some, None, false, refl, subst, inl, inr}
 use Rattle.vx_base.specs.Named.{Word}
 use Rattle.vx_script_words.specs.declared.value.DiskAt.{DiskAt}
 use Rattle.vx_new_volumes.specs.declared.logs.NewLogs.{NewLogs}
@@ -87,6 +88,7 @@ form_left dg (form.Mirror vol disks) old new wants = mirror_left (mirror_gates d
 form_left dg (form.Prepare vol ndcomirs region) old new wants = prepare_left (mirror_gates dg) (new_logs vol ndcomirs region) old new wants
 form_left dg (form.Stop vol) old new wants = stop_left (stop_gates dg vol) vol old new wants
 form_left dg (form.AssistMake vol length attrs disks) old new wants = new_left dg (new_volume vol length attrs disks) old new wants
+form_left dg (form.Recover vol) old new wants = wants
 form_left dg other old new wants = plan_kept (disks_of other) (plan_of dg other) old new (plan_plain dg other refl) wants
 
 pub each_want_keeps_the_world : (c : Command) (old new : Moment) → LeavesOff c old new → WantLeaves c.form old new

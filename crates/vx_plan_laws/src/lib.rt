@@ -39,13 +39,15 @@ pub fn each_command_is_done_or_tested()
 {}
 
 /// A command that is refused leaves the world as it began; but a start whose volume cannot be opened may have called its log,
-/// and then the devices have changed in sectors of that volume alone; and where a new volume cannot be started its records stay.
+/// and then the devices have changed in sectors of that volume alone; where a new volume cannot be started its records stay; and where a
+/// recovery is refused for a volume, those before it were seen to, and its own recovery may be recorded as begun.
 pub fn each_refusal_keeps_the_world()
     ensures { EachRefusalKeepsTheWorld }
 {}
 
 /// Want of memory leaves the world as the command found it; but a start may have called the log of its volume, which does not run then,
-/// also that of a new volume whose records were added before, and a mirror and a stop may have let their volume come to rest.
+/// also that of a new volume whose records were added before, a mirror and a stop may have let their volume come to rest, and a recovery
+/// may have seen to some volumes.
 pub fn each_want_keeps_the_world()
     ensures { EachWantKeepsTheWorld }
 {}

@@ -1,3 +1,4 @@
 pub mod Calm
 pub mod Carriers
 pub mod Complete
+pub mod Recoveries

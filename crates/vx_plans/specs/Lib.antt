@@ -1,4 +1,5 @@
 pub mod Plans
 pub mod Serving
 pub mod Steps
+pub mod Recoveries
 pub mod Laws

@@ -26,6 +26,7 @@ use Rattle.vx_stages.specs.declared.stages.Finish.TheVariants.{Nothing, Records}
 use Rattle.vx_stages.specs.declared.stages.Plan.{Plan}
 use Rattle.vx_stages.specs.declared.stage.Stage.{Stage}
 use Rattle.vx_script_words.specs.declared.value.DiskAt.{DiskAt}
+use Rattle.vx_recovery.specs.Going.{Recovers, RecoversShort}
 
 -- all was done, and nothing is told beside
 abbrev pub done : End
@@ -84,9 +85,14 @@ DoesPlan disks (Some plan) old views end new = Runs disks plan.stages plan.finis
 abbrev pub DoesCall : ℕ → Call → Moment → List View → End → Moment → Type 0
 DoesCall place call old views end new = (views ≡ []) × AreLater old.counts new.counts × CallRuns place call old end new
 
+-- what a recovery of volumes does
+abbrev pub DoesRecover : Option Word → Option Word → Moment → List View → End → Moment → Type 0
+DoesRecover dg vol old views end new = AreLater old.counts new.counts × Recovers dg vol old views end new
+
 -- what a form does
 abbrev pub DoesForm : ℕ → Option Word → Form → Moment → List View → End → Moment → Type 0
 DoesForm place dg (form.Calling call) old views end new = DoesCall place call old views end new
+DoesForm place dg (form.Recover vol) old views end new = DoesRecover dg vol old views end new
 DoesForm place dg other old views end new = DoesPlan (disks_of other) (plan_of dg other) old views end new
 
 -- what a command does, also one with a word `cut=N`: by that the power may go, as it may by itself
@@ -100,6 +106,7 @@ WantsPlan disks (Some plan) old new = (new.world ≡ old.world) ⊎ RunsShort di
 
 abbrev pub WantsForm : Option Word → Form → Moment → Moment → Type 0
 WantsForm dg (form.Calling call) old new = new.world ≡ old.world
+WantsForm dg (form.Recover vol) old new = RecoversShort vol old new
 WantsForm dg other old new = WantsPlan (disks_of other) (plan_of dg other) old new
 
 -- what want of memory leaves of a command

@@ -156,21 +156,21 @@ moment_end see (ends.Lost parts) v m is = moment_but_group see v m is
 abbrev LeftOff : List DiskAt → List Stage → Moment → Moment → Type 0
 LeftOff disks stages m n = (n.world ≡ m.world) ⊎ RunsShort disks stages m n
 
--- what a command that ended has done by then
-pub record HasDone {P : Type 0} {ghosts : Ghosts P} (see : P → Seen) (Does : Moment → List Shown → End → Moment → Type 0) (end : End) (mid : View P ghosts) (m n : Moment) : Type 0 where
+-- what a command that ended has done by then, and told
+pub record HasDone {P : Type 0} {ghosts : Ghosts P} (see : P → Seen) (Does : Moment → List Shown → End → Moment → Type 0) (views : List Shown) (end : End) (mid : View P ghosts) (m n : Moment) : Type 0 where
   pub is : IsMomentBy end see mid n
   pub later : AreLater m.counts n.counts
-  pub does : Does m [] end n
+  pub does : Does m views end n
 
-pub over_goes : {P : Type 0} {ghosts : Ghosts P} (see : P → Seen) (Does : Moment → List Shown → End → Moment → Type 0) (end : End) (old mid new : View P ghosts) → KeepsBy {T = Unit {0}} see (Err (stops.Ended end)) mid
-    → ((m : Moment) → IsMoment see old m → (n : Moment) × HasDone see Does end mid m n) → FaultsGoOn (scene see old) (scene see mid) → IsBlamed end (scene see old) (scene see mid) → IsLeft see end mid new → CommandGoes see Does (One [] end) old new
-over_goes see Does end old mid new keeps goes faults blamed gone = record {
+pub over_goes : {P : Type 0} {ghosts : Ghosts P} (see : P → Seen) (Does : Moment → List Shown → End → Moment → Type 0) (views : List Shown) (end : End) (old mid new : View P ghosts) → KeepsBy {T = Unit {0}} see (Err (stops.Ended end)) mid
+    → ((m : Moment) → IsMoment see old m → (n : Moment) × HasDone see Does views end mid m n) → FaultsGoOn (scene see old) (scene see mid) → IsBlamed end (scene see old) (scene see mid) → IsLeft see end mid new → CommandGoes see Does (One views end) old new
+over_goes see Does views end old mid new keeps goes faults blamed gone = record {
   keeps = left_kept see mid new gone.later end gone.stays keeps;
   empty = gone.later.hand;
   goes = λ m is.
       let n = goes m is in
       let w = left_moment see mid new gone.later gone.stands end gone.stays keeps n.0 n.1.is in
-      (record { world = w.0; counts = n.0.counts }, w.1, n.1.later, record { views = []; end = end; told = refl; over = n.0; does = n.1.does; leaves = w.2; counts = refl });
+      (record { world = w.0; counts = n.0.counts }, w.1, n.1.later, record { views = views; end = end; told = refl; over = n.0; does = n.1.does; leaves = w.2; counts = refl });
   faults = faults_trans (scene see old) (scene see mid) (scene see new) faults (faults_moved (scene see mid) (scene see new) gone.later.moved);
   blamed = blamed_on end (scene see old) (scene see mid) (scene see new) blamed (faults_moved (scene see mid) (scene see new) gone.later.moved);
 }
@@ -179,7 +179,7 @@ module _ {P : Type 0} {ghosts : Ghosts P} (see : P → Seen) (disks : List DiskA
   -- a stage has ended the command
   pub ended_goes : (end : End) (old mid new : View P ghosts) → HasEnded see disks stages end old mid → IsLeft see end mid new → CommandGoes see (λ m views end n. Runs disks stages finish m views end n) (One [] end) old new
   ended_goes end old mid new run gone =
-      over_goes see (λ m views end n. Runs disks stages finish m views end n) end old mid new run.keeps
+      over_goes see (λ m views end n. Runs disks stages finish m views end n) [] end old mid new run.keeps
       (λ m is. let n = run.goes m is in (n.0, record { is = n.1.is; later = n.1.later; does = n.1.runs finish }))
       run.faults run.blamed gone
 

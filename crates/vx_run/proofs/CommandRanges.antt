@@ -58,32 +58,32 @@ Goings = Moment → List View → End → Moment → Type 0
 abbrev Leavings : Type 1
 Leavings = Moment → Moment → Type 0
 
--- a form that is no call does what its plan does
-pub other_form : (Q : Goings → Leavings → Type 0) (place : ℕ) (dg : Option Word) (x : Form) → ((call : Call) → x ≡ form.Calling call → ⊥) → Q (DoesPlan (disks_of x) (plan_of dg x)) (WantsPlan (disks_of x) (plan_of dg x)) → Q (DoesForm place dg x) (WantsForm dg x)
-other_form Q place dg (form.Calling call) none q = absurd (none call refl)
-other_form Q place dg (form.MkImage a b) none q = q
-other_form Q place dg (form.Bare a b) none q = q
-other_form Q place dg (form.DgInit a b) none q = q
-other_form Q place dg (form.DgAddDisk a b) none q = q
-other_form Q place dg (form.DgImport a) none q = q
-other_form Q place dg (form.DgDeport a) none q = q
-other_form Q place dg (form.DiskUnsetup a) none q = q
-other_form Q place dg (form.PrintM a) none q = q
-other_form Q place dg (form.VxMake a) none q = q
-other_form Q place dg (form.PrintHt a) none q = q
-other_form Q place dg (form.AssistMake a b d e) none q = q
-other_form Q place dg (form.Mirror a b) none q = q
-other_form Q place dg (form.RemoveVolume a) none q = q
-other_form Q place dg (form.Start a) none q = q
-other_form Q place dg (form.Stop a) none q = q
-other_form Q place dg (form.Rdpol a b) none q = q
-other_form Q place dg (form.PlexDis a b) none q = q
-other_form Q place dg (form.Prepare a b d) none q = q
-other_form Q place dg (form.Unprepare a) none q = q
-other_form Q place dg (form.AddMir a b) none q = q
-other_form Q place dg (form.Dis a) none q = q
-other_form Q place dg (form.Split a) none q = q
-other_form Q place dg (form.PrintSnaps a) none q = q
-other_form Q place dg (form.Recover a) none q = q
-other_form Q place dg (form.Acting a) none q = q
-other_form Q place dg (form.Sessions a) none q = q
+-- a form that is neither a call nor a recovery does what its plan does
+pub other_form : (Q : Goings → Leavings → Type 0) (place : ℕ) (dg : Option Word) (x : Form) → ((call : Call) → x ≡ form.Calling call → ⊥) → ((vol : Option Word) → x ≡ form.Recover vol → ⊥) → Q (DoesPlan (disks_of x) (plan_of dg x)) (WantsPlan (disks_of x) (plan_of dg x)) → Q (DoesForm place dg x) (WantsForm dg x)
+other_form Q place dg (form.Calling call) none unhealed q = absurd (none call refl)
+other_form Q place dg (form.MkImage a b) none unhealed q = q
+other_form Q place dg (form.Bare a b) none unhealed q = q
+other_form Q place dg (form.DgInit a b) none unhealed q = q
+other_form Q place dg (form.DgAddDisk a b) none unhealed q = q
+other_form Q place dg (form.DgImport a) none unhealed q = q
+other_form Q place dg (form.DgDeport a) none unhealed q = q
+other_form Q place dg (form.DiskUnsetup a) none unhealed q = q
+other_form Q place dg (form.PrintM a) none unhealed q = q
+other_form Q place dg (form.VxMake a) none unhealed q = q
+other_form Q place dg (form.PrintHt a) none unhealed q = q
+other_form Q place dg (form.AssistMake a b d e) none unhealed q = q
+other_form Q place dg (form.Mirror a b) none unhealed q = q
+other_form Q place dg (form.RemoveVolume a) none unhealed q = q
+other_form Q place dg (form.Start a) none unhealed q = q
+other_form Q place dg (form.Stop a) none unhealed q = q
+other_form Q place dg (form.Rdpol a b) none unhealed q = q
+other_form Q place dg (form.PlexDis a b) none unhealed q = q
+other_form Q place dg (form.Prepare a b d) none unhealed q = q
+other_form Q place dg (form.Unprepare a) none unhealed q = q
+other_form Q place dg (form.AddMir a b) none unhealed q = q
+other_form Q place dg (form.Dis a) none unhealed q = q
+other_form Q place dg (form.Split a) none unhealed q = q
+other_form Q place dg (form.PrintSnaps a) none unhealed q = q
+other_form Q place dg (form.Recover vol) none unhealed q = absurd (unhealed vol refl)
+other_form Q place dg (form.Acting a) none unhealed q = q
+other_form Q place dg (form.Sessions a) none unhealed q = q

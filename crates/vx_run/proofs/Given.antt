@@ -24,7 +24,7 @@ use Rattle.vx_run.proofs.SameHouse.{same_faults, same_kept, same_moment}
 -- what a served call gives, before it is over
 pub record Given {P : Type 0} {ghosts : Ghosts P} (see : P → Seen) (shelf : Shelved) (call : Call) (place : ℕ) (end : End) (h mid : House P ghosts) : Type 0 where
   pub keeps : Keeps see (at shelf mid)
-  pub goes : (m : Moment) → IsMoment see (at shelf h) m → (o : Moment) × HasDone see (DoesCall place call) end (at shelf mid) m o
+  pub goes : (m : Moment) → IsMoment see (at shelf h) m → (o : Moment) × HasDone see (DoesCall place call) [] end (at shelf mid) m o
   pub faults : FaultsGoOn (scene see (at shelf h)) (scene see (at shelf mid))
   pub blamed : IsBlamed end (scene see (at shelf h)) (scene see (at shelf mid))
 
@@ -47,7 +47,7 @@ module _ {P : Type 0} {ghosts : Ghosts P} (see : P → Seen) (shelf : Shelved) (
 
   -- the command is over
   pub given_over : (place : ℕ) (end : End) (new : View P ghosts) → Given see shelf call place end h mid → IsLeft see end (at shelf mid) new → CommandGoes see (DoesCall place call) (One [] end) (at shelf h) new
-  given_over place end new g left = over_goes see (DoesCall place call) end (at shelf h) (at shelf mid) new (keeps_ended see end (at shelf mid) g.keeps) g.goes g.faults g.blamed left
+  given_over place end new g left = over_goes see (DoesCall place call) [] end (at shelf h) (at shelf mid) new (keeps_ended see end (at shelf mid) g.keeps) g.goes g.faults g.blamed left
 
   -- memory was wanting
   pub call_refused : IsSameHouse h mid → Keeps see (at shelf h) → h.hand.items ≡ [] → IsRefused see (λ m n. n.world ≡ m.world) (at shelf h) (at shelf mid)

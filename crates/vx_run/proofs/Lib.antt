@@ -15,6 +15,7 @@ pub mod CallLaws
 pub mod NoneRun
 pub mod GateStage
 pub mod CommandRanges
+mod Recovered
 pub mod Powers
 pub mod Runs
 pub mod Ends

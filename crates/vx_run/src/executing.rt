@@ -13,6 +13,7 @@ ghost use Rattle.vx_script.specs.Kept.{is_command};
 
 use crate::calling::serve_call;
 use crate::planning::serve_plan;
+use crate::recovering::serve_recovery;
 use crate::unserved::Unserved;
 use std::alloc::Global;
 use vx_answers::{Answer, End, Refusal, Views};
@@ -41,6 +42,7 @@ pub fn execute<S: Shelf>(
 {
     match &command.form {
         Form::Calling(call) => serve_call(alloc, house, shelf, call),
+        Form::Recover { vol } => serve_recovery(alloc, house, shelf, name_in(&command.group), *vol),
         form => serve_form(alloc, house, shelf, name_in(&command.group), form),
     }
 }

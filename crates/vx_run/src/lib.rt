@@ -12,6 +12,7 @@ mod place;
 mod planning;
 mod powering;
 mod ranges;
+mod recovering;
 mod running;
 mod showing;
 mod source;

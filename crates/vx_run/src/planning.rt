@@ -45,7 +45,7 @@ pub fn serve_plan<S: Shelf>(
 }
 
 /// All was done.
-fn done(alloc: Global) -> End
+pub(crate) fn done(alloc: Global) -> End
     ensures { result ≡ ends.Done None [] [] }
 {
     End::Done {
@@ -76,7 +76,11 @@ pub(crate) fn over<S: Shelf>(
 }
 
 /// Memory was wanting, and the devices in hand go back.
-fn rest<S: Shelf>(alloc: Global, house: &mut House<S::P>, shelf: &mut S) -> Result<Answer, Unserved>
+pub(crate) fn rest<S: Shelf>(
+    alloc: Global,
+    house: &mut House<S::P>,
+    shelf: &mut S,
+) -> Result<Answer, Unserved>
     requires held { AreHeld (S.held shelf.old) (holders S.P.seen house.old) }
     ensures refused { result ≡ Err Unserved.OutOfMemory }
     ensures left { IsLeft S.P.seen (ends.Done None [] []) (at (shelved S.free S.held S.counted S.faults shelf.old) house.old) (at (shelved S.free S.held S.counted S.faults shelf.new) house.new) }

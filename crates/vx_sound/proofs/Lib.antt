@@ -18,6 +18,7 @@ pub mod Volumes
 pub mod Joiners
 pub mod Commits
 pub mod Running
+pub mod Recoveries
 pub mod Logs
 pub mod Runs
 pub mod Steps

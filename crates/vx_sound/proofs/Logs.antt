@@ -1,7 +1,7 @@
 -- A volume of the group that gets logs or loses them leaves the world sound: what is written of its log lies behind the private regions, its
 -- edits leave the disks and record no other name, and with another log it lies on plexes as before.
 use Rattle.std.proofs.Common.{◌≡◌, ◌∙◌, Bool, true, false, List, [], ◌∷◌, ◌++◌, Option, Some, None, MatchBool, MatchOption, refl, sym, ap, subst, inl, inr}
-use Rattle.vx_base.specs.Named.{Word, put}
+use Rattle.vx_base.specs.Named.{Word}
 use Rattle.vx_config_parts.specs.declared.vol.Vol.{Vol}
 use Rattle.vx_objects.specs.declared.config.Config.{Config}
 use Rattle.vx_objects.specs.declared.edit.Edit.{Edit}
@@ -12,7 +12,7 @@ use Rattle.vx_answers.specs.declared.refusal.Refusal.TheVariants as refusal
 use Rattle.vx_moments.specs.Commit.{Writing}
 use Rattle.vx_moments.specs.Leaving.{lone}
 use Rattle.vx_moments.specs.Moment.{AreLater, Moment}
-use Rattle.vx_moments.specs.World.{Group, Volume, World}
+use Rattle.vx_moments.specs.World.{Group, World}
 use Rattle.vx_group_edits.specs.OfVolume.{AreEditsOf}
 use Rattle.vx_group_edits.proofs.DcoEdits.{own_group, preparing_own, unpreparing_own}
 use Rattle.vx_stages.specs.Ends.{EndsIn, IsChange}

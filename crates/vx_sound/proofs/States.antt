@@ -100,16 +100,24 @@ module _ (es : List Edit) (sets : AllOf IsSetting es) (old new : Config) (made :
   pub set_records : (name : Word) → RecordsVolume new name → RecordsVolume old name
   set_records name h = recorded_named old name ∙ kept.names name (sym (made_named new (GroupRecord own ∷ kept.rest) name after) ∙ h)
 
+-- ---- other states of a volume and of its plexes
+
+pub states_grown : (next : VolState) (after : Plex → PlexState) (v : Vol) (old new : Config) → IsEdited (state_edits next after old v) old new → IsGrown old new
+states_grown next after v old new made = set_grown (state_edits next after old v) (all_set next after old v) old new made
+
+pub states_apart : (next : VolState) (after : Plex → PlexState) (w : World) (v : Vol) (old new : Config) → IsEdited (state_edits next after old v) old new → IsApart old w → IsApart new w
+states_apart next after w v old new made apart name h = apart name (set_records (state_edits next after old v) (all_set next after old v) old new made name h)
+
 -- ---- a start and a stop
 
 pub start_grown : (v : Vol) (old new : Config) → IsEdited (start_edits old v) old new → IsGrown old new
-start_grown v old new made = set_grown (start_edits old v) (all_set vol.Active (started (is_new v.state)) old v) old new made
+start_grown v old new made = states_grown vol.Active (started (is_new v.state)) v old new made
 
 pub start_apart : (w : World) (v : Vol) (old new : Config) → IsEdited (start_edits old v) old new → IsApart old w → IsApart new w
-start_apart w v old new made apart name h = apart name (set_records (start_edits old v) (all_set vol.Active (started (is_new v.state)) old v) old new made name h)
+start_apart w v old new made apart = states_apart vol.Active (started (is_new v.state)) w v old new made apart
 
 pub stop_grown : (v : Vol) (marks : ℕ) (old new : Config) → IsEdited (stop_edits old v marks) old new → IsGrown old new
-stop_grown v marks old new made = set_grown (stop_edits old v marks) (all_set vol.Clean (stopped marks) old v) old new made
+stop_grown v marks old new made = states_grown vol.Clean (stopped marks) v old new made
 
 pub stop_apart : (w : World) (v : Vol) (marks : ℕ) (old new : Config) → IsEdited (stop_edits old v marks) old new → IsApart old w → IsApart new w
-stop_apart w v marks old new made apart name h = apart name (set_records (stop_edits old v marks) (all_set vol.Clean (stopped marks) old v) old new made name h)
+stop_apart w v marks old new made apart = states_apart vol.Clean (stopped marks) w v old new made apart

@@ -49,6 +49,7 @@ use Rattle.vx_sound.proofs.Commits.{Ends, commit_done, commit_stopped, change_re
 use Rattle.vx_sound.proofs.Devices.{standing_image, standing_torn, standing_wiped}
 use Rattle.vx_sound.proofs.Joiners.{all_unheld, all_blank, room_for, ready_join, ready_create}
 use Rattle.vx_sound.proofs.Ready.{IsReady}
+use Rattle.vx_sound.proofs.Recoveries.{recover_ends}
 use Rattle.vx_sound.proofs.Runs.{AreCalm, AllPassed, Through, runs_through}
 use Rattle.vx_sound.proofs.Settlement.{settled, standing_gone, standing_left}
 use Rattle.vx_sound.proofs.Names.{IsApart, create_apart}
@@ -307,7 +308,7 @@ module _ (old : Moment) (views : List View) (end : End) (new : Moment) (s : IsSt
   form_ends place dg (form.Dis snap) none does = not_built does
   form_ends place dg (form.Split snap) none does = not_built does
   form_ends place dg (form.PrintSnaps vol) none does = not_built does
-  form_ends place dg (form.Recover vol) none does = not_built does
+  form_ends place dg (form.Recover vol) none does = recover_ends dg vol old views end new s does.1
   form_ends place dg (form.Acting act) none does = not_built does
   form_ends place dg (form.Sessions block) none does = not_built does
 

@@ -22,6 +22,7 @@ use Rattle.vx_sound.specs.Laws.{IsIdle, WriteNoHeader}
 use Rattle.vx_sound.specs.Sound.{AreSound}
 use Rattle.vx_sound.specs.Standing.{IsStanding}
 use Rattle.vx_sound.proofs.Logs.{prepare_wants}
+use Rattle.vx_sound.proofs.Recoveries.{recover_left}
 use Rattle.vx_sound.proofs.Running.{rested, standing_touched}
 use Rattle.vx_sound.proofs.Settlement.{settled, standing_left}
 use Rattle.vx_sound.proofs.Steps.{make_stands, run_stands, sound_stands}
@@ -84,6 +85,7 @@ plan_stands disks (Some plan) old new shaped s (inr short) = short_stands disks 
 
 form_stands : (dg : Option Word) (f : Form) (old new : Moment) → IsStanding old.world → WantsForm dg f old new → IsStanding new.world
 form_stands dg (form.Calling call) old new s same = same_stands old.world new.world same s
+form_stands dg (form.Recover vol) old new s wants = recover_left vol old new s wants
 form_stands dg other old new s wants = plan_stands (disks_of other) (plan_of dg other) old new (plan_shaped dg other) s wants
 
 pub each_want_keeps_the_world_sound : (c : Command) (old new : Moment) → IsStanding old.world → LeavesOff c old new → IsStanding new.world

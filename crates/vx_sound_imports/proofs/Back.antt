@@ -59,7 +59,7 @@ use Rattle.vx_readings.proofs.Images.{less_image}
 use Rattle.vx_readings.proofs.Records.{turned}
 use Rattle.vx_readings.proofs.Texts.{one_reading, vol_here}
 use Rattle.vx_sound_volumes.specs.Volumes.{GroupLeaves}
-use Rattle.vx_sound_volumes.proofs.Parts.{not_none, sectors_same, some_same}
+use Rattle.vx_sound_volumes.proofs.Parts.{sectors_same, some_same}
 use Rattle.vx_sound_imports.specs.Back.{EachGroupComesBack, IsBack, imported}
 use Rattle.vx_sound_imports.specs.Offered.{AreAllSound, IsReadAs, IsWholeGroup}
 use Rattle.vx_sound_imports.proofs.Alike.{AreAlike, alike_stands}

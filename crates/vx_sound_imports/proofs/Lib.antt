@@ -11,6 +11,7 @@ mod Volumes
 mod Logs
 mod Starts
 mod Mirrors
+mod Recoveries
 mod Steps
 mod Runs
 mod Alike

@@ -1,5 +1,5 @@
 -- A volume of the imported group that gets a log or loses it.
-use Rattle.std.proofs.Common.{◌≡◌, ◌≢◌, ◌∙◌, ℕ, Bool, true, false, List, [], ◌∷◌, ◌++◌, Option, Some, None, MatchBool, MatchOption, refl, sym, ap, subst, inl, inr}
+use Rattle.std.proofs.Common.{◌≡◌, ◌≢◌, ◌∙◌, Bool, true, false, List, [], ◌∷◌, ◌++◌, Option, Some, None, MatchBool, MatchOption, refl, sym, ap, subst, inl, inr}
 use Rattle.vx_base.specs.Named.{Word, put}
 use Rattle.vx_copies.specs.Lists.{AllOf}
 use Rattle.vx_config_parts.specs.declared.vol.Vol.{Vol}
@@ -10,9 +10,8 @@ use Rattle.vx_state_edits.specs.Edits.{is_new}
 use Rattle.vx_answers.specs.declared.answer.End.{End}
 use Rattle.vx_answers.specs.declared.refusal.Refusal.TheVariants as refusal
 use Rattle.vx_moments.specs.Commit.{IsCommitted, Writing}
-use Rattle.vx_moments.specs.Group.{ChangesOnly}
 use Rattle.vx_moments.specs.Moment.{AreLater, Moment}
-use Rattle.vx_moments.specs.World.{Device, Group, Volume, World}
+use Rattle.vx_moments.specs.World.{Group, Volume, World}
 use Rattle.vx_group_edits.specs.OfVolume.{AreEditsOf}
 use Rattle.vx_group_edits.proofs.DcoEdits.{own_group, preparing_own, unpreparing_own}
 use Rattle.vx_group_edits.proofs.OfVolume.{own_edit_keeps_others}

@@ -50,6 +50,7 @@ use Rattle.vx_sound_imports.proofs.Fewer.{fewer_sound}
 use Rattle.vx_sound_imports.proofs.Found.{found_sound, import_safe}
 use Rattle.vx_sound_imports.proofs.Writings.{HasWhole}
 use Rattle.vx_sound_imports.proofs.Stages.{Settles, standing_settles}
+use Rattle.vx_sound_imports.proofs.Recoveries.{recover_left}
 use Rattle.vx_sound_imports.proofs.Starts.{wants_known}
 use Rattle.vx_sound_imports.proofs.Steps.{form_settles, make_known}
 use Rattle.vx_sound_imports.proofs.Volumes.{IsKnown}
@@ -192,6 +193,7 @@ module _ (laws : StateLaws) (place : ℕ) where
 
   form_known : (dg : Option Word) (f : Form) (old new : Moment) → IsKnown old.world → IsSoundBefore place old.world → WantsForm dg f old new → IsKnown new.world
   form_known dg (form.Calling call) old new k sound same = subst IsKnown (sym same) k
+  form_known dg (form.Recover vol) old new k sound wants = recover_left laws place vol old new (record { known = k; kept = keeps_all place old.world sound }) wants
   form_known dg other old new k sound wants = plan_known (disks_of other) (plan_of dg other) old new (plan_shaped dg other) k sound wants
 
 pub each_want : StateLaws → EachWantKeepsVolumesSound → EachWantKeepsAllSound

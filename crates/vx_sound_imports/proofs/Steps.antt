@@ -64,6 +64,7 @@ use Rattle.vx_sound_imports.proofs.Nexts.{IsSafe}
 use Rattle.vx_sound_imports.proofs.Stages.{IsLostBy, Settles, committed_known, imported_away, leads, stopped_settles, unknown_settles}
 use Rattle.vx_sound_imports.proofs.Logs.{prepare_known, prepare_settles, unprepare_known, unprepare_settles}
 use Rattle.vx_sound_imports.proofs.Mirrors.{mirror_settles}
+use Rattle.vx_sound_imports.proofs.Recoveries.{recover_settles}
 use Rattle.vx_sound_imports.proofs.Starts.{start_settles, stop_done_known, stop_settles}
 use Rattle.vx_sound_imports.proofs.Volumes.{IsKnown, call_settles, known_settles, still_settles}
 
@@ -363,4 +364,5 @@ module _ (laws : StateLaws) (place : ℕ) (old : Moment) (views : List View) (en
   form_settles dg (form.Stop vol) none does =
       let calm = stage.Gate (tests.GroupIs dg) ∷ stage.Gate (tests.HasVolume vol) ∷ [] in
       at_last calm (stage.Stop vol ∷ []) [] Nothing old views end new k (λ mid same t passed runs. stopping_settles laws place views end new vol mid t (sound_still mid same) runs) (runs_through calm (stage.Stop vol ∷ []) [] Nothing old views end new (refl, (refl, tt)) does)
+  form_settles dg (form.Recover vol) none does = recover_settles laws place dg vol old views end new (record { known = k; kept = keeps_all place old.world sound }) does.1
   form_settles dg other none does = not_built does

@@ -71,7 +71,7 @@ record IsStill (p q : PlexImage) : Type 0 where
   held : q.held ≡ true → p.held ≡ true
   values : q.values ≡ p.values
 
-module _ (c : Config) (good : ℕ) (v : Vol) (c' : Config) (good' : ℕ) (v' : Vol) (keeps : KeepsVolume c good v false c' good' v') (state : v'.state ≡ v.state) (bytes : Sectors) where
+module _ (c : Config) (good : ℕ) (v : Vol) (c' : Config) (good' : ℕ) (v' : Vol) (keeps : KeepsVolume c good v false c' good' v') (bytes : Sectors) where
   abbrev old : Image
   old = image_of c good bytes v
 
@@ -184,12 +184,16 @@ module _ (c : Config) (good : ℕ) (v : Vol) (c' : Config) (good' : ℕ) (v' : V
   may_still vol.NeedSync B may = dirty_still B may
   may_still vol.Sync B may = dirty_still B may
 
-  pub kept_sound : IsSoundImage old → IsSoundImage new
-  kept_sound sound r B low choice =
+  -- by its other state it may differ where it might by its own
+  pub restated_sound : ((B : ℕ → Bool) → MayDiffer v.state new B → MayDiffer v'.state new B) → IsSoundImage old → IsSoundImage new
+  restated_sound differs sound r B low choice =
       let same_regions : regions_of new ≡ regions_of old = ap (λ n. region_count n v'.region) keeps.length_is ∙ ap (region_count v.len) keeps.region_is in
       let by = sound r B (subst (λ n. r < n) same_regions low) (choice_before r B choice) in
       record {
         unmarked = let q = after by.unmarked.0 by.unmarked.1 in (q.0, q.1, ap B q.2.map ∙ by.unmarked.2);
-        agree = elim by.agree [ inl agree ↦ inl (agree_still r B agree) | inr may ↦ inr (subst (λ s. MayDiffer s new B) (sym state) (may_still v.state B may)) ];
+        agree = elim by.agree [ inl agree ↦ inl (agree_still r B agree) | inr may ↦ inr (differs B (may_still v.state B may)) ];
         tracked = λ m one clear. agree_still r B (by.tracked m (subst (λ ms. Contains ms m) keeps.relations one) clear);
       }
+
+pub kept_sound : (c : Config) (good : ℕ) (v : Vol) (c' : Config) (good' : ℕ) (v' : Vol) → KeepsVolume c good v false c' good' v' → v'.state ≡ v.state → (bytes : Sectors) → IsSoundImage (image_of c good bytes v) → IsSoundImage (image_of c' good' bytes v')
+kept_sound c good v c' good' v' keeps state bytes sound = restated_sound c good v c' good' v' keeps bytes (λ B may. subst (λ s. MayDiffer s (image_of c' good' bytes v') B) (sym state) may) sound

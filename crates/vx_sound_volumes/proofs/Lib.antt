@@ -11,5 +11,6 @@ pub mod Devices
 pub mod Joiners
 pub mod Stages
 pub mod Leavings
+pub mod Recoveries
 pub mod Steps
 mod Lost

@@ -1,8 +1,8 @@
 -- A volume of the group that gets a log or loses it. The sectors of a new log are of no volume as the group records them, so all are as sound
 -- while it is written; and as its new configuration records the volume it is sound by its bytes, whichever of the disks the commit leaves good.
 use Rattle.std.proofs.Common.{◌≡◌, ◌≢◌, ◌∙◌, ℕ, Bool, true, false, List, [], ◌∷◌, ◌++◌, Option, Some, None, MatchBool, MatchOption, refl, sym, ap, subst, inl, inr}
-use Rattle.std.specs.Prelude.{Contains, ◌<◌}
-use Rattle.std.specs.List.{flat_map, list_any}
+use Rattle.std.specs.Prelude.{Contains}
+use Rattle.std.specs.List.{flat_map}
 use Rattle.std.specs.Str.{bytes_eq}
 use Rattle.std.proofs.lemmas.List.{append-nil}
 use Rattle.std.proofs.lemmas.List.Sorted.{IsPermutation-refl}
@@ -21,7 +21,7 @@ use Rattle.vx_objects.specs.Applied.{IsEdited}
 use Rattle.vx_objects.specs.Config.{objects_of}
 use Rattle.vx_image.specs.Bytes.{log_copies}
 use Rattle.vx_image.specs.Image.{LogCopy}
-use Rattle.vx_image.specs.Own.{IsOfPlex, IsOfVolume, SameInside}
+use Rattle.vx_image.specs.Own.{IsOfPlex, SameInside}
 use Rattle.vx_image.specs.Soundness.{IsSoundImage}
 use Rattle.vx_image.proofs.Members.{contains, is_in}
 use Rattle.vx_image.proofs.Own.{image_own}
@@ -31,16 +31,14 @@ use Rattle.vx_state_edits.specs.Edits.{is_new}
 use Rattle.vx_answers.specs.declared.answer.End.{End}
 use Rattle.vx_answers.specs.declared.refusal.Refusal.TheVariants as refusal
 use Rattle.vx_moments.specs.Commit.{IsCommitted, Writing, is_slot_of, parties}
-use Rattle.vx_moments.specs.Group.{ChangesOnly, IsSectorOf, image_on, sectors_of}
+use Rattle.vx_moments.specs.Group.{IsSectorOf, image_on, sectors_of}
 use Rattle.vx_moments.specs.Leaving.{grouped}
 use Rattle.vx_moments.specs.Moment.{AreLater, Moment}
-use Rattle.vx_moments.specs.World.{Device, Group, Volume, World}
+use Rattle.vx_moments.specs.World.{Group, World}
 use Rattle.vx_moments.proofs.OtherVolumes.{same_inside}
 use Rattle.vx_volume_laws.specs.Keeping.{LiesStill}
 use Rattle.vx_readings.proofs.Images.{reading_sound}
-use Rattle.vx_group_edits.specs.Dcos.{ChangesDco, GetsLogs}
 use Rattle.vx_group_edits.specs.OfVolume.{AreEditsOf}
-use Rattle.vx_group_edits.specs.Stays.{EachStays}
 use Rattle.vx_group_edits.proofs.DcoEdits.{fits_logs, own_group, preparing_own, unpreparing_own}
 use Rattle.vx_group_edits.proofs.DcosGiven.{preparing_changes}
 use Rattle.vx_group_edits.proofs.LoneImages.{lone_image_sound, lone_plex_holds}

@@ -79,18 +79,23 @@ module _ (place : ℕ) (old : Moment) (k : Keeps place Every old.world) where
   touched_kept : (g : Group) (vol : Word) (new : Moment) → old.world.group ≡ Some g → IsTouched g vol old new → Keeps place (Besides vol) new.world
   touched_kept g vol new here t = subst (Keeps place (Besides vol)) (sym t.world) (changed place old.world g vol new.world.devices here t.changes k)
 
-  -- its log was called, and it does not run
-  pub narrowed_kept : (g : Group) (v : Vol) (new : Moment) → old.world.group ≡ Some g → IsIn g.config.volumes v → IsTouched g v.name old new → Narrows g v old new → Keeps place Every new.world
-  narrowed_kept g v new here there t narrows =
+  -- its devices were called, and it does not run: its bytes are as sound as they were
+  pub own_kept : (g : Group) (v : Vol) (new : Moment) → old.world.group ≡ Some g → IsIn g.config.volumes v → IsTouched g v.name old new →
+      (is_new v.state ≡ false → IsSoundImage (image_on old.world.devices g v) → IsSoundImage (image_on new.world.devices g v)) → Keeps place Every new.world
+  own_kept g v new here there t as_sound =
       one_more place new.world v.name
       (λ h is u one same started idle.
       let groups : g ≡ h = some_same g h (sym here ∙ sym (ap (λ (w : World). w.group) t.world) ∙ is) in
       let vols : v ≡ u = one_vol g.config v u there (is_in g.config.volumes u (subst (λ (x : Group). Contains x.config.volumes u) (sym groups) one)) (sym same) in
       let new_too : is_new v.state ≡ false = subst (λ (x : Vol). is_new x.state ≡ false) (sym vols) started in
       let rests : grouped (old.world.volumes v.name) ≡ None = subst (λ (x : Vol). grouped (old.world.volumes x.name) ≡ None) (sym vols) (sym (ap (λ (w : World). grouped (w.volumes u.name)) t.world) ∙ idle) in
-      let sound = narrowed_sound (image_on old.world.devices g v) (image_on new.world.devices g v) (narrows new_too) (k.stopped g here v (contains g.config.volumes v there) tt new_too rests) in
+      let sound = as_sound new_too (k.stopped g here v (contains g.config.volumes v there) tt new_too rests) in
       subst (λ (x : Vol). IsSoundImage (image_on new.world.devices h x)) vols (subst (λ (x : Group). IsSoundImage (image_on new.world.devices x v)) groups sound))
       (touched_kept g v.name new here t)
+
+  -- its log was called, and it does not run
+  pub narrowed_kept : (g : Group) (v : Vol) (new : Moment) → old.world.group ≡ Some g → IsIn g.config.volumes v → IsTouched g v.name old new → Narrows g v old new → Keeps place Every new.world
+  narrowed_kept g v new here there t narrows = own_kept g v new here there t (λ started sound. narrowed_sound (image_on old.world.devices g v) (image_on new.world.devices g v) (narrows started) sound)
 
   -- it runs, and is another volume on the same plexes
   pub goes_kept : (g : Group) (name : Word) (later : Volume) (plexes : List Word) (new : Moment) → old.world.group ≡ Some g → later.lies ≡ OnPlexes plexes → later.sound ≡ true → comes_next place later.life ≡ true → VolumeGoes g name later old new → Keeps place Every new.world
@@ -100,7 +105,7 @@ module _ (place : ℕ) (old : Moment) (k : Keeps place Every old.world) where
 
 -- ---- a start
 
-lies_so : (state : VolState) (plexes : List Word) (image : Image) → (volume_by state plexes image).lies ≡ OnPlexes plexes
+pub lies_so : (state : VolState) (plexes : List Word) (image : Image) → (volume_by state plexes image).lies ≡ OnPlexes plexes
 lies_so vol.Empty plexes image = refl
 lies_so vol.Clean plexes image = refl
 lies_so vol.Active plexes image = refl
@@ -114,7 +119,7 @@ lives_so vol.Active plexes image = refl
 lives_so vol.NeedSync plexes image = refl
 lives_so vol.Sync plexes image = refl
 
-started_next : (place : ℕ) (g : Group) (v : Vol) (image : Image) (sound : Bool) → comes_next place (volume_started g v image sound).life ≡ true
+pub started_next : (place : ℕ) (g : Group) (v : Vol) (image : Image) (sound : Bool) → comes_next place (volume_started g v image sound).life ≡ true
 started_next place g v image sound = subst (λ (l : Life). comes_next place l ≡ true) (sym (lives_so v.state (plexes_started g v) image)) refl
 
 -- what copying leaves of the volume

@@ -4,7 +4,7 @@ use Rattle.vx_base.specs.Named.{Word}
 use Rattle.vx_objects.specs.declared.edit.Edit.{Edit}
 use Rattle.vx_objects.specs.declared.edit.Edit.TheVariants.{Make}
 use Rattle.vx_objects.specs.Applied.{IsEdited}
-use Rattle.vx_state_edits.specs.Laws.{EachStartRestates, EachStopRestates}
+use Rattle.vx_state_edits.specs.Laws.{EachRecoveredRestates, EachRecoveryRestates, EachStartRestates, EachStopRestates}
 use Rattle.vx_script_words.specs.declared.value.DiskAt.{DiskAt}
 use Rattle.vx_answers.specs.declared.answer.End.{End}
 use Rattle.vx_moments.specs.Commit.{IsCommitted, Writing}
@@ -35,10 +35,12 @@ use Rattle.vx_sound_volumes.proofs.Named.{change_back, make_back}
 use Rattle.vx_sound_volumes.proofs.Parts.{Every, Keeps, group_goes, some_same}
 use Rattle.vx_sound_volumes.proofs.Running.{rested, start_ends, start_wants, stop_done, stop_ends}
 
--- the laws of what a start and a stop record
+-- the laws of what a start, a stop and a recovery record
 pub record StateLaws : Type 0 where
   pub start_restates : EachStartRestates
   pub stop_restates : EachStopRestates
+  pub recovery_restates : EachRecoveryRestates
+  pub recovered_restates : EachRecoveredRestates
   pub start_keeps : EachStartKeeps
   pub stop_keeps : EachStopKeeps
 

@@ -29,6 +29,7 @@ use Rattle.vx_sound_volumes.specs.Volumes.{BringsSound, IsSoundBefore}
 use Rattle.vx_sound_volumes.proofs.Leavings.{each_leaving}
 use Rattle.vx_sound_volumes.proofs.Lives.{next_running}
 use Rattle.vx_sound_volumes.proofs.Parts.{Every, Keeps, all_kept, group_goes, keeps_all, not_none, power_goes}
+use Rattle.vx_sound_volumes.proofs.Recoveries.{recover_kept, recover_left}
 use Rattle.vx_sound_volumes.proofs.Running.{call_kept}
 use Rattle.vx_sound_volumes.proofs.Stages.{Needs, StageBrings, StateLaws, calm_ends, make_done, same_kept, stage_done, stage_stops, stage_wants}
 
@@ -130,6 +131,7 @@ module _ (laws : StateLaws) (place : ℕ) where
 
   pub form_kept : (dg : Option Word) (f : Form) (old : Moment) (views : List View) (end : End) (new : Moment) → (end ≡ done → BringsSound f old.world new.world) → Keeps place Every old.world → DoesForm place dg f old views end new → Keeps (place + 1) Every new.world
   form_kept dg (form.Calling call) old views end new brings k does = call_kept place call old end new k does.2
+  form_kept dg (form.Recover vol) old views end new brings k does = next_running place Every new.world (recover_kept laws place dg vol old views end new k does.1)
   form_kept dg other old views end new brings k does = next_running place Every new.world (plan_kept (disks_of other) (plan_of dg other) old views end new (plan_ready dg old.world end new.world other brings) k does)
 
 left_kept : (place : ℕ) (end : End) (over left : World) → Leaves end over left → Keeps place Every over → Keeps place Every left
@@ -150,7 +152,7 @@ each_step laws place c old answer new s brings step =
 
 -- ---- want of memory
 
-module _ (place : ℕ) where
+module _ (laws : StateLaws) (place : ℕ) where
   still : (old new : Moment) → Keeps place Every old.world → new.world ≡ old.world → Keeps place Every new.world
   still old new k same = subst (Keeps place Every) (sym same) k
 
@@ -170,11 +172,12 @@ module _ (place : ℕ) where
 
   form_wants : (dg : Option Word) (f : Form) (old new : Moment) → Keeps place Every old.world → WantsForm dg f old new → Keeps place Every new.world
   form_wants dg (form.Calling call) old new k same = still old new k same
+  form_wants dg (form.Recover vol) old new k wants = recover_left laws place vol old new k wants
   form_wants dg other old new k wants =
       plan_wants (disks_of other) (plan_of dg other) ends.ShelfFailed new.world old new (plan_ready dg old.world ends.ShelfFailed new.world other (λ (e : ends.ShelfFailed ≡ done). cc)) k wants
 
-pub each_want : EachWantKeepsVolumesSound
-each_want place c old new s off = all_kept place new.world (form_wants place c.group c.form old new (keeps_all place old.world s) off)
+pub each_want : StateLaws → EachWantKeepsVolumesSound
+each_want laws place c old new s off = all_kept place new.world (form_wants laws place c.group c.form old new (keeps_all place old.world s) off)
 
 -- ---- runs
 

@@ -17,7 +17,10 @@ pub fn each_step_keeps_volumes_sound()
 /// What want of memory leaves of a command keeps volumes sound.
 pub fn each_want_keeps_volumes_sound()
     ensures { EachWantKeepsVolumesSound }
-{}
+{
+    each_change_restates();
+    each_record_keeps();
+}
 
 /// As a group leaves, each of its volumes that was started before is sound by what the devices then hold.
 pub fn each_leaving_leaves_volumes_sound()

@@ -6,6 +6,8 @@ returns c =
     each_want (record {
       start_restates = c.each_change_restates.ensures.start;
       stop_restates = c.each_change_restates.ensures.stop;
+      recovery_restates = c.each_change_restates.ensures.recovery;
+      recovered_restates = c.each_change_restates.ensures.ended;
       start_keeps = c.each_record_keeps.ensures.started;
       stop_keeps = c.each_record_keeps.ensures.stopped;
     }) c.each_want_keeps_volumes_sound.ensures

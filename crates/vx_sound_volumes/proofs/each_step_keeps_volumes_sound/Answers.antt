@@ -5,6 +5,8 @@ pub returns : goal.returns
 returns c = each_step (record {
   start_restates = c.each_change_restates.ensures.start;
   stop_restates = c.each_change_restates.ensures.stop;
+  recovery_restates = c.each_change_restates.ensures.recovery;
+  recovered_restates = c.each_change_restates.ensures.ended;
   start_keeps = c.each_record_keeps.ensures.started;
   stop_keeps = c.each_record_keeps.ensures.stopped;
 })

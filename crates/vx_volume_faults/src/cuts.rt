@@ -1,13 +1,17 @@
 //! Each command of a script is cut behind each number of device writes.
 use crate::base::{Bases, known, slices};
 use crate::later::go_on;
+use crate::recovery::cut_recovery;
 use crate::scenario::Scenario;
 use crate::trial::run_on;
 use std::alloc::{AllocError, Global};
-use vx_volume_judge::{Answer, Finding, Sort, Step, judge_status, take_all};
+use vx_volume_judge::{Answer, Command, Finding, Sort, Step, judge_status, take_all};
 
 /// The most writes behind which a command is cut.
 const WRITES: u64 = 2_000;
+
+/// Behind so many writes a write to two plexes has both copies of the log marked, or the only one, and a plex written.
+const HALF: u64 = 3;
 
 /// What was found where a command, counted from 1, was cut behind so many writes.
 #[derive(Clone, Copy)]
@@ -49,7 +53,7 @@ fn cut_one(alloc: Global, bases: &Bases, scenario: &Scenario, command: u64) -> R
 }
 
 /// A trial in which this command is cut behind so many writes, and is the last. It tells whether the cut was reached; then what is left is
-/// judged, and so is the run behind it.
+/// judged, and so is the run behind it. Of a write that was cut in its midst the recovery of what is left is cut too.
 fn try_cut(
     alloc: Global,
     bases: &Bases,
@@ -65,10 +69,21 @@ fn try_cut(
         return Ok(false);
     }
     let steps = first_steps(alloc, scenario, command)?;
+    if writes == HALF && is_write(steps.as_slice()) {
+        let _cuts = cut_recovery(alloc, bases, scenario, steps.as_slice(), &ran)?;
+    }
     let mut known = known(alloc, scenario.from, bases.form, scenario.lowest())?;
     take_all(&mut known, steps.as_slice(), ran.answers())?;
     go_on(alloc, bases, scenario, &ran, &mut known)?;
     Ok(true)
+}
+
+/// Whether the last step is a write: then the volume runs.
+fn is_write(steps: &[Step]) -> bool {
+    match steps.last() {
+        Some(step) => step.command == Command::Write,
+        None => false,
+    }
 }
 
 /// The script up to this command, which has the word `cut=N`.

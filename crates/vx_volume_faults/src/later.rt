@@ -1,12 +1,14 @@
 //! What a run leaves, and the run behind it, in which nothing fails.
 use crate::base::{Bases, steps_of};
 use crate::next::Next;
+use crate::recovery::recover;
 use crate::scenario::Scenario;
 use crate::trial::{Ran, run_on};
 use std::alloc::Global;
 use vx_volume_judge::{Finding, Known, judge, judge_next, judge_status, take_all};
 
-/// Looks at what a run has left, runs on, with nothing that fails, and looks at what that leaves.
+/// Looks at what a run has left, runs on, with nothing that fails, and looks at what that leaves. Where the volume is left started it is
+/// recovered at the end.
 pub fn go_on(
     alloc: Global,
     bases: &Bases,
@@ -28,6 +30,6 @@ pub fn go_on(
     take_all(known, steps.as_slice(), second.answers())?;
     known.end();
     let images = second.images(alloc)?;
-    let _volume = judge(alloc, images.as_slice(), bases.records(), known)?;
-    Ok(())
+    let volume = judge(alloc, images.as_slice(), bases.records(), known)?;
+    recover(alloc, bases, images.as_slice(), &volume, known)
 }

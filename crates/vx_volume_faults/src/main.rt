@@ -12,6 +12,7 @@ mod cuts;
 mod later;
 mod next;
 mod power;
+mod recovery;
 mod scenario;
 mod sweep;
 mod trial;

@@ -110,6 +110,7 @@ impl Known {
             Command::Deport => self.deport(answer),
             Command::Make => self.make(answer),
             Command::Start => self.start(answer),
+            Command::Recover => self.recover(answer),
             Command::Mirror => self.mirror(answer),
             Command::Prepare => self.prepare(step, answer),
             Command::Unprepare => self.unprepare(answer),
@@ -224,6 +225,19 @@ impl Known {
                 true
             }
         }
+    }
+
+    /// A volume that was left started is recovered. Where that is not done its recovery may be recorded as begun or as ended.
+    fn recover(&mut self, answer: Answer<'_>) -> bool {
+        let may_be = self.is_there() && self.runs != Is::So;
+        if answer.sort == Sort::Ok {
+            self.states = States::none().and(VolumeState::Active);
+            self.runs = Is::So;
+            return may_be && answer.rest.is_empty();
+        }
+        self.states = self.states.and(VolumeState::Sync).and(VolumeState::Active);
+        self.end();
+        may_be
     }
 
     fn stop(&mut self, answer: Answer<'_>) -> bool {
@@ -409,13 +423,19 @@ impl Known {
     }
 }
 
-/// Takes the answers of a script, a line for each step.
+/// Takes the answers of a script, a line for each step, and one before it where a volume was recovered.
 pub fn take_all(known: &mut Known, steps: &[Step], answers: &str) -> Result<(), Finding> {
     let mut lines = answers.lines();
     let mut number = 0u64;
     for step in steps {
         number = number.saturating_add(1);
-        if !take_line(known, *step, lines.next().unwrap_or("")) {
+        let line = lines.next().unwrap_or("");
+        let line = if tells_recovery(line) {
+            lines.next().unwrap_or("")
+        } else {
+            line
+        };
+        if !take_line(known, *step, line) {
             return Err(Finding::Answer(number));
         }
     }
@@ -423,6 +443,11 @@ pub fn take_all(known: &mut Known, steps: &[Step], answers: &str) -> Result<(), 
         None => Ok(()),
         Some(_) => Err(Finding::Answer(number.saturating_add(1))),
     }
+}
+
+/// Whether the line tells of a volume that was recovered; the answer comes behind it.
+pub fn tells_recovery(line: &str) -> bool {
+    line.starts_with("volume v recovered ")
 }
 
 fn take_line(known: &mut Known, step: Step, line: &str) -> bool {

@@ -32,5 +32,5 @@ pub use record::Records;
 pub use start::{lone_start_of, start_of};
 pub use state::VolumeState;
 pub use step::{Answer, Command, Sort, Step};
-pub use verdict::{Want, judge, judge_next, judge_status};
+pub use verdict::{Want, is_ok, judge, judge_next, judge_status};
 pub use volume::Volume;

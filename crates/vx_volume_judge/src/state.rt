@@ -58,6 +58,7 @@ pub struct States {
     clean: bool,
     active: bool,
     need_sync: bool,
+    sync: bool,
 }
 
 impl States {
@@ -69,6 +70,7 @@ impl States {
             clean: false,
             active: false,
             need_sync: false,
+            sync: false,
         }
     }
 
@@ -88,7 +90,7 @@ impl States {
             VolumeState::Clean => states.clean = true,
             VolumeState::Active => states.active = true,
             VolumeState::NeedSync => states.need_sync = true,
-            VolumeState::Sync => {}
+            VolumeState::Sync => states.sync = true,
         }
         states
     }
@@ -99,7 +101,7 @@ impl States {
             VolumeState::Clean => self.clean,
             VolumeState::Active => self.active,
             VolumeState::NeedSync => self.need_sync,
-            VolumeState::Sync => false,
+            VolumeState::Sync => self.sync,
         }
     }
 
@@ -115,14 +117,14 @@ impl States {
 
     /// Whether some state is one of a volume that was started as its bytes were left.
     pub fn may_be_started(self) -> bool {
-        self.active || self.need_sync
+        self.active || self.need_sync || self.sync
     }
 
-    /// The states that an import leaves: what was started is recorded as one that has to be made equal.
+    /// The states that an import leaves: what was started is recorded as one that has to be made equal, unless its recovery was begun.
     pub fn imported(self) -> States {
         States {
             active: false,
-            need_sync: self.may_be_started(),
+            need_sync: self.active || self.need_sync,
             ..self
         }
     }

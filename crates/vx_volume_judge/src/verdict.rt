@@ -1,6 +1,6 @@
 //! Whether what a run has left, and what it has answered, is as it has to be.
 use crate::finding::Finding;
-use crate::known::Known;
+use crate::known::{Known, tells_recovery};
 use crate::record::Records;
 use crate::sound::look;
 use crate::volume::{Volume, volume_on};
@@ -54,8 +54,9 @@ pub fn judge_status(answers: &str, status: u8) -> Result<(), Finding> {
     }
 }
 
-fn is_ok(line: &str) -> bool {
-    line.starts_with("ok")
+/// Whether the line is an answer that all was done, or tells of a volume that was recovered.
+pub fn is_ok(line: &str) -> bool {
+    line.starts_with("ok") || tells_recovery(line)
 }
 
 /// What is wanted of an answer: that it is this one, that it is ok, or nothing.

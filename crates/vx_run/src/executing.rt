@@ -26,8 +26,8 @@ use vx_script_forms::{Form, name_in};
 use vx_script_words::DiskAt;
 use vx_shelf::Shelf;
 
-/// Serves a command, whatever its word `cut=N` says. After a refusal of memory it is left as `LeavesOff` says: the world is as before, but where the records of a new volume
-/// were added or devices of a volume were called already.
+/// Serves a command, whatever its word `cut=N` says. After a refusal of memory it is left as `LeavesOff` says: the world is as before, but
+/// where the records of a new volume were added, devices of a volume were called already, or volumes were recovered.
 pub fn execute<S: Shelf>(
     alloc: Global,
     house: &mut House<S::P>,

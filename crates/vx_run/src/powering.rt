@@ -34,7 +34,7 @@ pub fn serve<S: PowerShelf>(
     }
 }
 
-/// Serves a command behind which the power goes once it has drawn so many writes. A number that is too large sets nothing.
+/// Serves a command in which the power goes once it has drawn so many writes. A number that is too large sets nothing.
 fn serve_cut<S: PowerShelf>(
     alloc: Global,
     house: &mut House<S::P>,

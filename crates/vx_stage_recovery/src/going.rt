@@ -20,9 +20,9 @@ use vx_house::{House, Stop, refused};
 use vx_names::Name;
 use vx_piece::Piece;
 
-/// Goes over the volume of the name, or over all of the imported group, by name. A volume that runs or was never started is passed over, one that was stopped
-/// is started, and one that ran as the power went is recovered; of each that was recovered a line is told, also where a later one ends the
-/// command. Texts that would be too long are refused before anything is written.
+/// Goes over the volume of the name, or over all of the imported group, by name. A volume that runs or was never started is passed over, one
+/// that was stopped is started, and one that ran as the power went is recovered; of each that was recovered a line is told, also where a
+/// later one ends the command. Texts that would be too long are refused before anything is written.
 pub fn recover<P: Piece + Drop>(
     alloc: Global,
     house: &mut House<P>,

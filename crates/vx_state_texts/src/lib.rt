@@ -1,4 +1,5 @@
-//! How long the text of a configuration is after a stop of a volume, and where it is alike another but for states: laws, as functions that do nothing and promise them.
+//! How long the text of a configuration is after a stop of a volume, and where it is alike another but for states: laws, as functions that do
+//! nothing and promise them.
 #![tactic(auto)]
 
 ghost use Rattle.vx_state_texts.specs.Alike.{EachAlikeIsNoLonger, EachChangeStaysAlike};

@@ -10,7 +10,7 @@ use vx_volume_judge::{Answer, Command, Finding, Sort, Step, judge_status, take_a
 /// The most writes behind which a command is cut.
 const WRITES: u64 = 2_000;
 
-/// Behind so many writes a write to two plexes has both copies of the log marked, or the only one, and a plex written.
+/// Behind so many writes a write to two plexes has both copies of the log marked and one plex written, or the only copy and both plexes.
 const HALF: u64 = 3;
 
 /// What was found where a command, counted from 1, was cut behind so many writes.

@@ -1,6 +1,6 @@
 //! A volume of two plexes, or of one that gets a mirror or logs, is started, written, read, stopped and imported beside a fault that is moved
-//! along all device calls, and while the power goes at each of them, or is cut for a command behind each number of writes. What each run leaves is read by the formats alone, and judged by the
-//! definitions.
+//! along all device calls, and while the power goes at each of them, or is cut for a command behind each number of writes. What each run
+//! leaves is read by the formats alone, and judged by the definitions.
 #![tactic(auto)]
 
 mod base;

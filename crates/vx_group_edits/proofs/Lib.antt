@@ -12,6 +12,7 @@ pub mod OwnEdits
 pub mod PlexNames
 pub mod OfVolume
 pub mod Joined
+pub mod PlexAdded
 pub mod Marked
 pub mod Lowest
 pub mod Requests

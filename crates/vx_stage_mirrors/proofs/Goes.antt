@@ -28,7 +28,7 @@ use Rattle.vx_volume.specs.declared.fault.IoFault.{IoFault}
 use Rattle.vx_volume.specs.declared.fault.IoFault.TheVariants.{Fault, PowerLost, Range}
 use Rattle.vx_marks.specs.declared.marker.MarkFault.{MarkFault}
 use Rattle.vx_stages.specs.Ends.{EndsIn, IsChange, refused}
-use Rattle.vx_stages.specs.Recorded.{IsSoundAs}
+use Rattle.vx_stages.specs.Recorded.{IsMarkedEverywhere, IsSoundAs}
 use Rattle.vx_stages.specs.Stopping.{RestStops, runs_on_plexes}
 use Rattle.vx_stages.specs.Mirroring.{IsMirrorRefused, IsMirrorUnplanned, IsAdditionRefused}
 use Rattle.vx_stages.specs.Mirrored.{IsMarkedFor, IsMirror, IsMirrorCopied, IsMirroredBy, MirrorStops, MirrorStopsIn, MirrorWants}
@@ -229,7 +229,8 @@ module _ {P : Type 0} {ghosts : Ghosts P} (alike : (p q : P) → is_some (ghosts
             -- ---- not committed
 
             module _ (g4 : Imported P ghosts)
-                (sound : (m : Moment) (is : IsMoment see (at shelf h) m) → (marked3 m is).rest.volume.sound ≡ true → (x : Writing) → IsChange (Make planned.planned.added ∷ []) (marked3 m is).then.world x → IsSoundAs (marked3 m is).rest.group x.config name (marked3 m is).then.world) where
+                (sound : (m : Moment) (is : IsMoment see (at shelf h) m) → (marked3 m is).rest.volume.sound ≡ true → (x : Writing) → IsChange (Make planned.planned.added ∷ []) (marked3 m is).then.world x → IsSoundAs (marked3 m is).rest.group x.config name (marked3 m is).then.world)
+                (shown : (m : Moment) (is : IsMoment see (at shelf h) m) → (marked3 m is).rest.volume.sound ≡ true → (x : Writing) → IsChange (Make planned.planned.added ∷ []) (marked3 m is).then.world x → IsMarkedEverywhere (marked3 m is).rest.group name p.map (marked3 m is).then.world) where
               abbrev h4 : House P ghosts
               h4 = with_group h3 g4
 
@@ -246,6 +247,7 @@ module _ {P : Type 0} {ghosts : Ghosts P} (alike : (p q : P) → is_some (ghosts
                       rest = s.later;
                       stops = (s.writing, s.change, s.stopped);
                       sound = λ known. sound m is known s.writing s.change;
+                      shown = λ known. shown m is known s.writing s.change;
                     })))),
                   )
 

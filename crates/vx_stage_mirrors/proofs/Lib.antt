@@ -8,7 +8,6 @@ pub mod MarkingMoments
 pub mod MarkingFacts
 pub mod FreeMaps
 pub mod Shown
-pub mod Added
 pub mod Sound
 pub mod Missed
 pub mod CopyingFacts

@@ -45,12 +45,12 @@ use Rattle.vx_group_volumes.proofs.Leavings.{leaving_stands}
 use Rattle.vx_group_edits.specs.Joins.{Joins}
 use Rattle.vx_group_edits.proofs.Joined.{plex_joins}
 use Rattle.vx_group_edits.proofs.Marked.{marked_sound}
-use Rattle.vx_stages.specs.Recorded.{IsSoundAs}
+use Rattle.vx_stages.specs.Recorded.{IsMarkedEverywhere, IsSoundAs}
 use Rattle.vx_house.specs.Runs.{IsRunOf}
 use Rattle.vx_house_calls.proofs.Entries.{all_at_one}
 use Rattle.vx_stage_volumes.proofs.Stands.{sectors_at}
 use Rattle.vx_stage_mirrors.specs.MarkedLaws.{AddsPlex, EachMarkedVolumeIsSound, EachShownPlexIsSound, HoldsOnDevices, IsShownIn, IsSoundMarked}
-use Rattle.vx_stage_mirrors.proofs.Added.{image_added}
+use Rattle.vx_group_edits.proofs.PlexAdded.{image_added}
 use Rattle.vx_stage_mirrors.proofs.Shown.{mark_shown}
 
 -- one that is recorded under the name of another is that one
@@ -135,6 +135,9 @@ module _ {P : Type 0} {ghosts : Ghosts P} (see : P → Seen) (law : EachLeavingS
   now : IsSoundMarked map (image_of g.config g.good bytes run.of)
   now = subst (IsSoundMarked map) (sym (image_own g.config g.good run.of meant bytes same_inside)) (record { sound = image_sound; marked = image_marked })
 
+  marked_there : IsMarkedEverywhere g run.of.name map world
+  marked_there v there named = subst (λ (x : Vol). (i : ℕ) → i < regions_of (image_on world.devices g x) → is_marked_by_all (image_on world.devices g x) i map ≡ true) (sym (same_vol g.config run.of v runs.recorded there named)) now.marked
+
   -- ---- the next configuration
 
   module _ (added : List Object) (next : Config) (adds : AddsPlex g run.of.name map added next) where
@@ -156,8 +159,10 @@ module _ {P : Type 0} {ghosts : Ghosts P} (see : P → Seen) (law : EachLeavingS
 
 pub shown_sound : {P : Type 0} {ghosts : Ghosts P} (see : P → Seen) → EachLeavingStands → (running : Running P ghosts) → EachShownPlexIsSound see running
 shown_sound see law running hs g name w run known map shown world held holds added next adds =
-    subst (λ n. IsSoundAs g next n world) run.named
-    (sound_there see law hs g name running w run known map shown world held holds added next (subst (λ n. AddsPlex g n map added next) (sym run.named) adds))
+    subst (λ n. IsSoundAs g next n world × IsMarkedEverywhere g n map world) run.named (
+      sound_there see law hs g name running w run known map shown world held holds added next (subst (λ n. AddsPlex g n map added next) (sym run.named) adds),
+      marked_there see law hs g name running w run known map shown world held holds,
+    )
 
 pub marked_volume_sound : {P : Type 0} {ghosts : Ghosts P} (see : P → Seen) → EachLeavingStands → (before after : Running P ghosts) → EachMarkedVolumeIsSound see before after
 marked_volume_sound see law before after hs g name w run known map marked told world held holds added next adds =

@@ -22,7 +22,7 @@ use Rattle.vx_volume.specs.Laws.{AreTold}
 use Rattle.vx_volume.specs.Volume.{volume_seen}
 use Rattle.vx_group_start.specs.Copying.{missed_regions}
 use Rattle.vx_stages.specs.Ends.{IsChange}
-use Rattle.vx_stages.specs.Recorded.{IsSoundAs}
+use Rattle.vx_stages.specs.Recorded.{IsMarkedEverywhere, IsSoundAs}
 use Rattle.vx_stages.specs.Stopping.{rested_volume}
 use Rattle.vx_house.specs.Runs.{IsAtRun}
 use Rattle.vx_house.specs.Scene.{Shelved}
@@ -179,8 +179,8 @@ module _ {P : Type 0} {ghosts : Ghosts P} (alike : (p q : P) → is_some (ghosts
           group_same : x.group ≡ r.rest.group
           group_same = some_one x.group r.rest.group (sym change.group ∙ r.group)
 
-          sound_then : IsSoundAs r.rest.group x.config name r.then.world
-          sound_then = laws.sound before after hs r.rest.group name (rested_volume r.rest) r.run known p.map marks.runs.marks told r.then.world holds.held (record { hold = holds.hold; public = holds.public }) added x.config
+          both_then : IsSoundAs r.rest.group x.config name r.then.world × IsMarkedEverywhere r.rest.group name p.map r.then.world
+          both_then = laws.sound before after hs r.rest.group name (rested_volume r.rest) r.run known p.map marks.runs.marks told r.then.world holds.held (record { hold = holds.hold; public = holds.public }) added x.config
               (record {
                 edited = subst (λ (w : Group). IsEdited (Make added ∷ []) w.config x.config) group_same change.edited;
                 of = subst (λ n. AreOf n added) (found_name g.config name planned.volume planned.found) planned.planned.at.of;
@@ -189,6 +189,12 @@ module _ {P : Type 0} {ghosts : Ghosts P} (alike : (p q : P) → is_some (ghosts
                 data_is = subst (λ n. is_data_plex_of n p.plex ≡ true) (found_name g.config name planned.volume planned.found) planned.planned.at.own;
                 has_map = planned.planned.at.map;
               })
+
+          sound_then : IsSoundAs r.rest.group x.config name r.then.world
+          sound_then = both_then.0
+
+          shown_then : IsMarkedEverywhere r.rest.group name p.map r.then.world
+          shown_then = both_then.1
 
         stops_as : (end : End) (new : Imported P ghosts) → JoinEnds see name p.map parks.parked.layout p.next (Err (stops.Ended end)) g3 new → JoinStops see shelf h3 added new end
         stops_as end new ends =
@@ -199,8 +205,8 @@ module _ {P : Type 0} {ghosts : Ghosts P} (alike : (p q : P) → is_some (ghosts
         unjoined_by stops.OutOfMemory new (same, rest) =
             subst (MirrorsTo stops.OutOfMemory) (sym (rest ∙ ap (λ b. (let x : Imported P ghosts = record { config = g3.config; base = b; public = g3.public } in x)) same))
             (marked_wants alike laws.have name disks shelf h keeps g has_group p planned g1 parts mid parks.lies may (Ok tt) g3 marks)
-        unjoined_by (stops.Ended ends.GroupLost) new e = lost_goes alike laws.have name disks shelf h keeps g has_group p planned g1 parts mid parks.lies may (Ok tt) g3 marks new sound_then (stops_as ends.GroupLost new e)
-        unjoined_by (stops.Ended (ends.Lost parts')) new e = cut_goes alike laws.have name disks shelf h keeps g has_group p planned g1 parts mid parks.lies may (Ok tt) g3 marks new sound_then parts' (stops_as (ends.Lost parts') new e)
+        unjoined_by (stops.Ended ends.GroupLost) new e = lost_goes alike laws.have name disks shelf h keeps g has_group p planned g1 parts mid parks.lies may (Ok tt) g3 marks new sound_then shown_then (stops_as ends.GroupLost new e)
+        unjoined_by (stops.Ended (ends.Lost parts')) new e = cut_goes alike laws.have name disks shelf h keeps g has_group p planned g1 parts mid parks.lies may (Ok tt) g3 marks new sound_then shown_then parts' (stops_as (ends.Lost parts') new e)
         unjoined_by (stops.Ended (ends.Done copied parts' blocks)) new e = absurd e.0
         unjoined_by (stops.Ended (ends.Refused why)) new e = absurd e.0
         unjoined_by (stops.Ended (ends.Fault told_name device parts')) new e = absurd e.0

@@ -25,7 +25,7 @@ use Rattle.vx_moments.specs.World.{Device, Group, Volume, World}
 use Rattle.vx_moments.specs.Group.{public_of}
 use Rattle.vx_lending.specs.declared.public.Running.{Running}
 use Rattle.vx_lending.specs.Left.{held_pieces}
-use Rattle.vx_stages.specs.Recorded.{IsSoundAs}
+use Rattle.vx_stages.specs.Recorded.{IsMarkedEverywhere, IsSoundAs}
 use Rattle.vx_group_edits.specs.OfVolume.{AreOf}
 use Rattle.vx_group_volumes.specs.Runs.{RunsIn}
 use Rattle.vx_group_edits.specs.Joins.{plexes_in}
@@ -69,7 +69,7 @@ pub record AddsPlex (g : Group) (name : Word) (map : ℕ) (added : List Object) 
   pub has_map : plex.map ≡ Some map
 
 -- A data plex with a map that each copy of the log shows everywhere is added to a running volume whose bytes were sound as it began: as
--- the next configuration records it, the volume is sound by what the devices hold. Disks may have failed since. A copy on a disk that is
+-- the next configuration records it, the volume is sound by what the devices hold, and its log marks the plex everywhere. Disks may have failed since. A copy on a disk that is
 -- no longer good does not count; where none counts there is no choice of marks, and any such image is sound.
 abbrev pub EachShownPlexIsSound : {P : Type 0} {ghosts : Ghosts P} → (P → Seen) → Running P ghosts → Type 0
 EachShownPlexIsSound see running =
@@ -77,7 +77,7 @@ EachShownPlexIsSound see running =
     (map : ℕ) → IsShownIn map (volume_seen see running.volume) →
     (world : World) (held : ℕ → Contents) → HoldsOnDevices see hs world.devices held running →
     (added : List Object) (next : Config) → AddsPlex g name map added next →
-    IsSoundAs g next name world
+    IsSoundAs g next name world × IsMarkedEverywhere g name map world
 
 -- So it is where all bits of the map were set in the log, and no page of it failed.
 abbrev pub EachMarkedVolumeIsSound : {P : Type 0} {ghosts : Ghosts P} → (P → Seen) → Running P ghosts → Running P ghosts → Type 0
@@ -86,4 +86,4 @@ EachMarkedVolumeIsSound see before after =
     (map : ℕ) → SetsAll map (Ok tt) (volume_seen see before.volume) (volume_seen see after.volume) → AreTold (volume_seen see before.volume) →
     (world : World) (held : ℕ → Contents) → HoldsOnDevices see hs world.devices held after →
     (added : List Object) (next : Config) → AddsPlex g name map added next →
-    IsSoundAs g next name world
+    IsSoundAs g next name world × IsMarkedEverywhere g name map world

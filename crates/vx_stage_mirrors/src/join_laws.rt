@@ -4,12 +4,12 @@ ghost use Rattle.vx_stage_mirrors.specs.JoiningLaws.{EachJoinedPlexIsInPlace, Ea
 ghost use Rattle.vx_stage_mirrors.specs.Parking.{EachParkedPlexMayJoin, EachParkingParts};
 ghost use Rattle.vx_stage_mirrors.specs.Moments.{EachFailedJoinStops, EachJoinGoesOn};
 
-use crate::piece_laws::each_piece_ends;
 use vx_change_laws::each_joining_runs_on;
 use vx_house::{House, Imported};
 use vx_lending::{Public, Running};
 use vx_piece::Piece;
 use vx_plex_pieces::laws::{each_taken_plex_may_be_put, each_taken_region_is_a_run};
+use vx_stage_volumes::each_piece_ends;
 
 /// A group of which pieces were parked is the same, with other parts of its devices.
 pub fn each_parking_parts<P: Piece + Drop>(old: &Imported<P>, new: &Imported<P>)

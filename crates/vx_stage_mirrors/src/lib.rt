@@ -19,7 +19,6 @@ mod marking;
 mod mirroring;
 mod new_places;
 mod parking;
-mod piece_laws;
 mod planning;
 mod powering;
 mod preparing;

@@ -2,9 +2,9 @@
 
 ghost use Rattle.vx_stage_mirrors.specs.LogMoments.{EachFailedRecordStops, EachLogIsMade, EachLogIsUnmade, EachRecordGoes, EachRelogGoes};
 
-use crate::piece_laws::each_piece_ends;
 use vx_house::{House, Imported};
 use vx_piece::Piece;
+use vx_stage_volumes::each_piece_ends;
 
 /// Where an empty log was made for a volume, sectors of the volume alone have changed, and nothing is marked in its log.
 pub fn each_log_is_made<P: Piece + Drop>(house: &House<P>, old: &Imported<P>, new: &Imported<P>)

@@ -11,7 +11,6 @@ ghost use Rattle.vx_stage_volumes.specs.Parting.{IsReadyToOpen};
 ghost use Rattle.vx_stage_mirrors.specs.Ending.{IsPlannedMirror, JoinStopsIn, MirrorEnds};
 
 use crate::parking::park;
-use crate::piece_laws::each_piece_ends;
 use crate::{PlannedMirror, copy_plexes, join_plex, mark_plex, planned_mirror, test_mirror};
 use std::alloc::Global;
 use vx_answers::Refusal;
@@ -19,7 +18,7 @@ use vx_house::{House, Imported, Stop, refused};
 use vx_names::Name;
 use vx_new_volumes::NewPlex;
 use vx_piece::Piece;
-use vx_stage_volumes::prepare;
+use vx_stage_volumes::{each_piece_ends, prepare};
 use vx_volume_laws::lives::{each_left_volume_stands, each_pass_runs_on};
 
 /// Adds a data plex to the running volume, on these disks, or on any where none is named, and so ends the command: its pieces are taken, its

@@ -15,7 +15,6 @@ use crate::committing::commit_next;
 use crate::log_planning::planned_logs;
 use crate::log_testing::test_prepare;
 use crate::making::make;
-use crate::piece_laws::each_piece_ends;
 use crate::powering::is_powered;
 use crate::relogging::relog;
 use std::alloc::Global;
@@ -27,7 +26,7 @@ use vx_layout::Layout;
 use vx_names::Name;
 use vx_new_volumes::NewLogs;
 use vx_piece::Piece;
-use vx_stage_volumes::prepare as make_ready;
+use vx_stage_volumes::{each_piece_ends, prepare as make_ready};
 use vx_volume::VolumeLog;
 
 /// Adds logs and a DCO to the volume. Where it was started before, an empty log is written on them first; where it runs, it goes on with that

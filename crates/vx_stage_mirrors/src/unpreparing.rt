@@ -14,7 +14,6 @@ ghost use Rattle.vx_stage_mirrors.specs.Relogging.{MayRelog, RelogsIn};
 use crate::committing::commit_next;
 use crate::log_planning::planned_loss;
 use crate::log_testing::test_unprepare;
-use crate::piece_laws::each_piece_ends;
 use crate::powering::is_powered;
 use crate::relogging::relog;
 use std::alloc::Global;
@@ -24,6 +23,7 @@ use vx_house::{House, Imported, Stop, refused};
 use vx_lending::Remains;
 use vx_names::Name;
 use vx_piece::Piece;
+use vx_stage_volumes::each_piece_ends;
 use vx_volume::VolumeLog;
 
 /// Removes the logs and the DCO of the volume of the name, which has one data plex. Where it runs, it goes on without a log once that is

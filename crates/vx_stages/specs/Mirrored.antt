@@ -22,7 +22,7 @@ use Rattle.vx_stages.specs.Ends.{EndsIn, IsChange, StopsBy}
 use Rattle.vx_stages.specs.GroupCalls.{LogHasFailed}
 use Rattle.vx_stages.specs.Logs.{LogIsSpared}
 use Rattle.vx_stages.specs.Mirroring.{IsMirrorLaid, IsMirrorRefused, mirror_refusal}
-use Rattle.vx_stages.specs.Recorded.{IsSoundAs}
+use Rattle.vx_stages.specs.Recorded.{IsMarkedEverywhere, IsSoundAs}
 use Rattle.vx_stages.specs.Stopping.{ComesToRest, RestStops, runs_on_plexes}
 use Rattle.vx_stages.specs.Tests.{volume_in}
 use Rattle.vx_stages.specs.Touching.{PassHasCause, VolumeGoes}
@@ -141,6 +141,8 @@ pub record StopsUncommitted (g : Group) (name : Word) (disks : List Word) (old :
   pub stops : StopsBy (IsChange (Make mark.added ∷ []) marked.world) marked end new
   -- with the plex the volume is sound by its bytes, if they were as it began
   pub sound : mark.rest.volume.sound ≡ true → IsSoundAs mark.rest.group stops.0.config name marked.world
+  -- and each copy of its log marks the plex everywhere
+  pub shown : mark.rest.volume.sound ≡ true → IsMarkedEverywhere mark.rest.group name mark.map marked.world
 
 -- it has joined, and copying ends the command
 pub record StopsMirrored (g : Group) (name : Word) (disks : List Word) (old : Moment) (end : End) (new : Moment) : Type 0 where

@@ -208,7 +208,7 @@ module _ (Held : Holding) (Read : Reading) where
 
   -- ---- commands
 
-  form_kept : (place : ℕ) (dg : Option Word) (f : Form) (old : Moment) (views : List View) (end : End) (new : Moment) → AreKnown Held Read old.world → AreReadIn Read f old → HaveHistories Held Read old.world → DoesForm place dg f old views end new → HaveHistories Held Read new.world
+  pub form_kept : (place : ℕ) (dg : Option Word) (f : Form) (old : Moment) (views : List View) (end : End) (new : Moment) → AreKnown Held Read old.world → AreReadIn Read f old → HaveHistories Held Read old.world → DoesForm place dg f old views end new → HaveHistories Held Read new.world
   unfolding plan_of
   form_kept place dg (form.Calling call) old views end new there added all does = call_kept Held Read place call old new end all does.2
   form_kept place dg (form.AssistMake vol length attrs disks) old views end new there added all does =
@@ -330,12 +330,12 @@ healed_first place old c cs answers name g v at has =
     }
 
 -- what was there or was read in the transcript is known
-record IsKnownOf (Held : Holding) (Read : Reading) (place : ℕ) (old : Moment) (commands : List Command) (answers : List Answer) : Type 0 where
-  held : (name : Word) (sectors : ℕ) (blocks : Contents) → WasThere place old commands answers name sectors blocks → Held name sectors blocks
-  read : (name : Word) (sectors : ℕ) (first : Candidates) → WasRead place old commands answers name sectors first → Read name sectors first
+pub record IsKnownOf (Held : Holding) (Read : Reading) (place : ℕ) (old : Moment) (commands : List Command) (answers : List Answer) : Type 0 where
+  pub held : (name : Word) (sectors : ℕ) (blocks : Contents) → WasThere place old commands answers name sectors blocks → Held name sectors blocks
+  pub read : (name : Word) (sectors : ℕ) (first : Candidates) → WasRead place old commands answers name sectors first → Read name sectors first
 
 module _ (Held : Holding) (Read : Reading) where
-  transcript_kept : (place : ℕ) (old new : Moment) (commands : List Command) (answers : List Answer) → IsKnownOf Held Read place old commands answers → HaveHistories Held Read old.world → IsTranscript place old commands answers new → HaveHistories Held Read new.world
+  pub transcript_kept : (place : ℕ) (old new : Moment) (commands : List Command) (answers : List Answer) → IsKnownOf Held Read place old commands answers → HaveHistories Held Read old.world → IsTranscript place old commands answers new → HaveHistories Held Read new.world
   transcript_kept place old new [] [] known all h = same Held Read old new all (ap (λ (m : Moment). m.world) h)
   transcript_kept place old new [] (a ∷ rest) known all h = absurd h
   transcript_kept place old new (c ∷ cs) [] known all h = absurd h

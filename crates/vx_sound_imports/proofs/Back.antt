@@ -1,9 +1,8 @@
 -- What an import finds of a group that has left is the group as it was.
-use Rattle.std.proofs.Common.{◌≡◌, ◌∙◌, ℕ, zero, suc, ◌+◌, ◌==◌, ◌&&◌, ◌||◌, not, Bool, true, false, cond, List, [], ◌∷◌, ◌++◌, length, map, Option, Some, None, refl, sym, ap, subst, inl, inr, arith}
-use Rattle.std.specs.Prelude.{Contains, fold, sum_by}
-use Rattle.std.specs.List.{filter, filter_map, find, list_all}
+use Rattle.std.proofs.Common.{◌≡◌, ◌∙◌, ℕ, zero, suc, ◌+◌, ◌==◌, ◌&&◌, ◌||◌, not, true, false, List, [], ◌∷◌, ◌++◌, length, map, Option, Some, None, refl, sym, ap, subst, inl, inr}
+use Rattle.std.specs.Prelude.{Contains}
+use Rattle.std.specs.List.{filter, find, list_all}
 use Rattle.std.proofs.lemmas.List.{append-nil}
-use Rattle.std.proofs.lemmas.List.Sorted.{sum_by-IsPermutation}
 use Rattle.vx_base.specs.Counts.{Rose}
 use Rattle.vx_base.specs.Named.{Word}
 use Rattle.vx_base.proofs.CountLemmas.{later_and_rose}
@@ -14,8 +13,6 @@ use Rattle.vx_life.specs.Candidates.{Candidates}
 use Rattle.vx_mapfmt.specs.Bits.{is_headed, marks}
 use Rattle.vx_copies.specs.Image.{Offer}
 use Rattle.vx_layout.specs.Columns.{place_of}
-use Rattle.vx_config_parts.specs.declared.object.Object.{Object}
-use Rattle.vx_config_parts.specs.declared.object.Object.TheVariants.{DcoRecord, DiskRecord, GroupRecord, PlexRecord, SnapRecord, SubdiskRecord, VolRecord}
 use Rattle.vx_config_parts.specs.declared.plex.Plex.{Plex}
 use Rattle.vx_config_parts.specs.declared.state.VolState.{VolState}
 use Rattle.vx_config_parts.specs.declared.state.VolState.TheVariants as vol
@@ -23,8 +20,6 @@ use Rattle.vx_config_parts.specs.declared.vol.Vol.{Vol}
 use Rattle.vx_config_parts.specs.Objects.{is_data_plex_of, is_log_plex_of, refers}
 use Rattle.vx_objects.specs.declared.config.Config.{Config}
 use Rattle.vx_objects.specs.Config.{objects_of}
-use Rattle.vx_objects.specs.Parts.{as_plex}
-use Rattle.vx_objects.proofs.InKinds.{plexes_below}
 use Rattle.vx_image.specs.Lies.{columns_from, slot_of, strip_then, strips_from}
 use Rattle.vx_rules.specs.Columns.{is_in_column}
 use Rattle.vx_image.proofs.PlexMembers.{IsIn, in_left, in_map}
@@ -64,6 +59,7 @@ use Rattle.vx_sound_imports.specs.Back.{EachGroupComesBack, IsBack, imported}
 use Rattle.vx_sound_imports.specs.Offered.{AreAllSound, IsReadAs, IsWholeGroup}
 use Rattle.vx_sound_imports.proofs.Alike.{AreAlike, alike_stands}
 use Rattle.vx_sound_imports.proofs.Commits.{public_stays}
+use Rattle.vx_sound_imports.proofs.Counted.{reading_plexes}
 use Rattle.vx_sound_imports.proofs.Fewer.{newest_before}
 use Rattle.vx_sound_imports.proofs.Found.{HasParts, image_in_state, all, found_group, found_read, found_whole, has_parts, imported_sound, offers}
 use Rattle.vx_sound_imports.proofs.Leading.{first, newest_is, own_headed, read_headed}
@@ -71,40 +67,6 @@ use Rattle.vx_sound_imports.proofs.Nexts.{alone_few}
 use Rattle.vx_sound_imports.proofs.Runs.{left_group, stopped_none}
 use Rattle.vx_sound_imports.proofs.Slots.{AreHeadedIn, each_of, same_slot}
 use Rattle.vx_sound_imports.proofs.Stages.{leads}
-
--- ---- how many data plexes a volume has
-
-abbrev weight : Word → Object → ℕ
-weight name (PlexRecord p) = cond (is_data_plex_of name p) 1 0
-weight name o = 0
-
-count_from : (name : Word) (n : ℕ) (os : List Object) → fold (λ a o. a + weight name o) n os ≡ n + length (filter (is_data_plex_of name) (filter_map as_plex os))
-count_from name n [] = omega arith
-count_from name n (PlexRecord p ∷ os) = by (is_data_plex_of name p) (λ k. count_from name k os)
-  where
-    by : (b : Bool) → ((k : ℕ) → fold (λ a o. a + weight name o) k os ≡ k + length (filter (is_data_plex_of name) (filter_map as_plex os))) →
-        fold (λ a o. a + weight name o) (n + cond b 1 0) os ≡ n + length (cond b (p ∷ filter (is_data_plex_of name) (filter_map as_plex os)) (filter (is_data_plex_of name) (filter_map as_plex os)))
-    by true all = let more = all (n + 1) in omega (arith, more)
-    by false all = let more = all (n + 0) in omega (arith, more)
-count_from name n (GroupRecord g ∷ os) = let more = count_from name (n + 0) os in omega (arith, more)
-count_from name n (DiskRecord d ∷ os) = let more = count_from name (n + 0) os in omega (arith, more)
-count_from name n (SubdiskRecord s ∷ os) = let more = count_from name (n + 0) os in omega (arith, more)
-count_from name n (VolRecord v ∷ os) = let more = count_from name (n + 0) os in omega (arith, more)
-count_from name n (DcoRecord d ∷ os) = let more = count_from name (n + 0) os in omega (arith, more)
-count_from name n (SnapRecord s ∷ os) = let more = count_from name (n + 0) os in omega (arith, more)
-
-none_added : (n : ℕ) → 0 + n ≡ n
-none_added n = omega arith
-
-plexes_counted : (c : Config) (name : Word) → sum_by (weight name) (objects_of c) ≡ length (filter (is_data_plex_of name) c.plexes)
-plexes_counted c name = count_from name 0 (objects_of c) ∙ none_added (length (filter (is_data_plex_of name) (filter_map as_plex (objects_of c)))) ∙ ap (λ ps. length (filter (is_data_plex_of name) ps)) (plexes_below c.disks c.subdisks c.plexes c.volumes c.dcos c.snaps)
-
-mapped_length : {X Y : Type 0} (f : X → Y) (xs : List X) → length (map f xs) ≡ length xs
-mapped_length f [] = refl
-mapped_length f (x ∷ xs) = ap suc (mapped_length f xs)
-
-same_count : (c other : Config) (name : Word) → HaveSameRecords c other → length (filter (is_data_plex_of name) other.plexes) ≡ length (filter (is_data_plex_of name) c.plexes)
-same_count c other name same = sym (plexes_counted other name) ∙ sum_by-IsPermutation (weight name) (objects_of c) (objects_of other) same ∙ plexes_counted c name
 
 -- ---- another reading
 
@@ -115,30 +77,30 @@ module _ (c other : Config) (v : Vol) (good good' : ℕ) (bytes bytes' : Sectors
     less = less_image c other v good good' bytes bytes' same (record { good = λ place of is. sym (goods place.disk) ∙ is; same = λ place of is. reads place.disk place.sector (sym (goods place.disk) ∙ is) });
     more = less_image other c v good' good bytes' bytes (turned c other same)
         (record { good = λ place of is. goods place.disk ∙ is; same = λ place of is. sym (reads place.disk place.sector is) });
-    plexes = mapped_length _ (filter (is_data_plex_of v.name) other.plexes) ∙ same_count c other v.name same ∙ sym (mapped_length _ (filter (is_data_plex_of v.name) c.plexes));
+    plexes = reading_plexes c other v good good' bytes bytes' same;
   }
 
 -- ---- the state that an import records
 
--- what stands for a volume in one state in which it was started stands for it in the other
+-- what is read of a volume in one state in which it was started is read of it in the other
+pub state_among : (image : Image) → is_new image.state ≡ false → (candidates : Candidates) → StandsForCandidates image candidates → StandsForCandidates (record image { state = needs_sync_state image.state }) candidates
+state_among image started candidates stands = by image.state refl
+  where
+    by : (s : VolState) → image.state ≡ s → StandsForCandidates (record image { state = needs_sync_state s }) candidates
+    by vol.Empty is = absurd (not_both (ap is_new is) started)
+    by vol.Clean is = subst (λ s. StandsForCandidates (record image { state = s }) candidates) is stands
+    by vol.Active is = stands_recorded image vol.NeedSync candidates (subst WasStarted (sym is) tt) tt stands
+    by vol.NeedSync is = subst (λ s. StandsForCandidates (record image { state = s }) candidates) is stands
+    by vol.Sync is = stands_recorded image vol.NeedSync candidates (subst WasStarted (sym is) tt) tt stands
+
 state_stands : (image : Image) → is_new image.state ≡ false → (run : Volume) → StandsForVolume image run → StandsForVolume (record image { state = needs_sync_state image.state }) run
 state_stands image started run stands = record {
   sound = imported_sound image started stands.sound;
-  candidates = by image.state refl;
+  candidates = state_among image started run.life.candidates stands.candidates;
   sure = λ p one. stands.sure p one;
   possible = λ p one. stands.possible p one;
   dirty = stands.dirty;
 }
-  where
-    candidates : Candidates
-    candidates = run.life.candidates
-
-    by : (s : VolState) → image.state ≡ s → StandsForCandidates (record image { state = needs_sync_state s }) candidates
-    by vol.Empty is = absurd (not_both (ap is_new is) started)
-    by vol.Clean is = subst (λ s. StandsForCandidates (record image { state = s }) candidates) is stands.candidates
-    by vol.Active is = stands_recorded image vol.NeedSync candidates (subst WasStarted (sym is) tt) tt stands.candidates
-    by vol.NeedSync is = subst (λ s. StandsForCandidates (record image { state = s }) candidates) is stands.candidates
-    by vol.Sync is = stands_recorded image vol.NeedSync candidates (subst WasStarted (sym is) tt) tt stands.candidates
 
 -- a configuration with the same disks, subdisks, plexes and relations has the same image of a volume
 module _ (c next : Config) (parts : HasParts c next) (good : ℕ) (bytes : Sectors) (v : Vol) where

@@ -76,7 +76,7 @@ module _ (x : Writing) (last : ℕ) (old new : Moment) (c : IsCommitting x last 
     -- ---- the old configuration
 
     module _ (was : Offers dg old.world name slot o) where
-      newest_old : IsNewest dg old.world o
+      pub newest_old : IsNewest dg old.world o
       newest_old other place p before = elim (offers_fore x last old new c r other place p before) [
         | inl still ↦ newest other place p still
         | inr n ↦
@@ -97,7 +97,7 @@ module _ (x : Writing) (last : ℕ) (old new : Moment) (c : IsCommitting x last 
                 absurd ((r.vacant m.slot joined).unnamed name slot o was (subst (λ n. has n m.slot ≡ true) read.good (read.named m one)))
           ]
 
-      read_old : IsReadAs dg old.world o g
+      pub read_old : IsReadAs dg old.world o g
       read_old = record {
         config = read.config;
         good = read.good;
@@ -112,10 +112,10 @@ module _ (x : Writing) (last : ℕ) (old new : Moment) (c : IsCommitting x last 
       is : o ≡ n.renewed.offer
       is = new_one x last old new c r name n slot o offers
 
-      records : HaveSameRecords x.config g.config
+      pub records : HaveSameRecords x.config g.config
       records = one_reading x.config g.config x.text c.text_is (subst (λ t. IsConfigOf t g.config) (ap (λ (p : Offer). p.text) is ∙ n.renewed.text) read.config)
 
-      few : AreWritten x g.good
+      pub few : AreWritten x g.good
       few disk good = n.renewed.mask.few disk (subst (λ m. has m disk ≡ true) (read.good ∙ ap (λ (p : Offer). p.good) is) good)
 
       -- the good members of the group have their headers still
@@ -132,7 +132,7 @@ module _ (x : Writing) (last : ℕ) (old new : Moment) (c : IsCommitting x last 
           same_slot dg new.world (sound_on x last old new c r sound dg) new.world.devices x.group.members g.members disk (still_headed disk good) (read_headed dg new.world o g read disk)
           m.0 (is_in x.group.members m.0 m.1) m.2 i.0 (is_in g.members i.0 i.1) i.2
 
-      on_disk : (v : Vol) → Contains x.config.volumes v → is_new v.state ≡ false → IsFar x → (place : Place) → IsOfVolume x.config v.name place → has g.good place.disk ≡ true → sectors_of new.world.devices g.members place.disk place.sector ≡ sectors_of new.world.devices x.group.members place.disk place.sector
+      pub on_disk : (v : Vol) → Contains x.config.volumes v → is_new v.state ≡ false → IsFar x → (place : Place) → IsOfVolume x.config v.name place → has g.good place.disk ≡ true → sectors_of new.world.devices g.members place.disk place.sector ≡ sectors_of new.world.devices x.group.members place.disk place.sector
       on_disk v there started far place of now = elim (or_cases (has x.group.good place.disk) (is_slot_of x.joiners place.disk) (few place.disk now)) [
         | inl good ↦ same place.disk good now place.sector
         | inr joins ↦ absurd (far v there started place of joins)

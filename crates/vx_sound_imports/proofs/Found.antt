@@ -255,7 +255,8 @@ module _ (dg : Word) (w : World) (old new : Counts) (x : Writing) (i : IsImporti
   pub import_named : IsStanding w → x.config.group ≡ dg
   import_named s = (import_grown x.group.config x.config (all.holds.1 ∙ sym (ap (λ (g : Group). import_records g.config) all.holds.0))).group ∙ found_named
 
-  pub import_safe : IsStanding w → IsSafe x w
+  -- no volume runs on its plexes
+  pub import_safe : IsStanding w → IsSafe (λ name. ⊥) x w
   import_safe s =
       let ready = import_ready dg w x old new s i in
       let whole = subst IsWholeGroup (sym all.holds.0) found_whole in
@@ -264,4 +265,5 @@ module _ (dg : Word) (w : World) (old new : Counts) (x : Writing) (i : IsImporti
         whole = whole;
         far = λ v there started place of joins. none_joins x i.joiners place.disk joins;
         next = λ devices same sound. import_next x devices (all.holds.1 ∙ sym (ap (λ (g : Group). import_records g.config) all.holds.0)) i.joiners (alone_few x i.joiners) sound;
+        stands = λ devices same name u never. absurd never;
       }

@@ -1,18 +1,24 @@
-mod Fewer
-mod Slots
-mod Leading
-mod Commits
-mod Nexts
-mod Writings
-mod Found
-mod Places
-mod Stages
-mod Volumes
-mod Logs
-mod Starts
-mod Mirrors
-mod Recoveries
-mod Steps
-mod Runs
-mod Alike
-mod Back
+pub mod Alike
+pub mod Kept
+pub mod Counted
+pub mod Fewer
+pub mod Slots
+pub mod Leading
+pub mod Commits
+pub mod Left
+pub mod Nexts
+pub mod Stopped
+pub mod Lone
+pub mod Marked
+pub mod Writings
+pub mod Found
+pub mod Places
+pub mod Stages
+pub mod Volumes
+pub mod Logs
+pub mod Starts
+pub mod Mirrors
+pub mod Recoveries
+pub mod Steps
+pub mod Runs
+pub mod Back

@@ -38,14 +38,14 @@ use Rattle.vx_sound.specs.Standing.{IsStanding}
 use Rattle.vx_sound.proofs.Recoveries.{begun_stands, done_stands, ended_recorded, ended_stands, group_still, opened_still, states_ready}
 use Rattle.vx_sound.proofs.Running.{start_ends}
 use Rattle.vx_sound_volumes.proofs.Named.{restated_back}
-use Rattle.vx_sound_volumes.proofs.Parts.{Every, Keeps, all_kept, not_none, some_same}
+use Rattle.vx_sound_volumes.proofs.Parts.{Besides, Every, Keeps, all_kept, not_none, some_same}
 use Rattle.vx_sound_volumes.proofs.Recoveries.{begin_own, begin_restates, begin_there, begun_before, begun_free, begun_kept, differs_so, ended_kept, healing_kept, own_now, own_sound, recovered_before, restated_keeps, starts}
 use Rattle.vx_sound_volumes.proofs.Running.{found_there}
 use Rattle.vx_sound_volumes.proofs.Stages.{StateLaws}
 use Rattle.vx_sound_imports.specs.Offered.{HaveSoundOffers}
 use Rattle.vx_sound_imports.proofs.Nexts.{IsSafe, recorded_safe}
 use Rattle.vx_sound_imports.proofs.Places.{lent_put}
-use Rattle.vx_sound_imports.proofs.Stages.{Settles, committed_known, imported_away, stopped_settles, whole_before}
+use Rattle.vx_sound_imports.proofs.Stages.{Settles, committed_known, imported_away, settles_idle, stopped_settles, whole_before}
 use Rattle.vx_sound_imports.proofs.Starts.{start_settles, wants_known}
 use Rattle.vx_sound_imports.proofs.Volumes.{IsKnown, known_settles, lent_offers, still_settles, touched_known}
 use Rattle.vx_sound_imports.proofs.Writings.{HasWhole}
@@ -54,7 +54,7 @@ use Rattle.vx_sound_imports.proofs.Writings.{HasWhole}
 
 -- other states of a volume, by which it is sound too
 states_safe : (w : World) (x : Writing) → IsStanding w → (g : Group) → w.group ≡ Some g → HasWhole w → (next : VolState) (after : Plex → PlexState) (v : Vol) → (is : IsChange (state_edits next after g.config v) w x) →
-    Restates v.name next after x.group.config x.config → IsSoundAs g x.config v.name w → IsSafe x w
+    Restates v.name next after x.group.config x.config → IsSoundAs g x.config v.name w → IsSafe (Besides v.name) x w
 states_safe w x s g here whole next after v is r sound_as =
     recorded_safe x w (states_ready w x s g here next after v is) (whole x.group is.group) is.joiners g (some_same g x.group (sym here ∙ is.group)) v.name sound_as (λ u. u.name ≢ v.name)
     (restated_keeps x.group.config x.config v next after r) (λ u one other started. restated_back x.group.config x.config u v.name next after r other one)
@@ -107,9 +107,11 @@ module _ (laws : StateLaws) (place : ℕ) where
         (subst (λ (y : Vol). IsSoundImage (image_of x.config x.group.good bytes y)) (sym at)
         (own_sound x.group.config x.config b.of there vol.Sync (λ p. p.state) r (λ p. refl) (differs_so b.of.state b.state) x.group.good x.group.good (λ slot good. good) bytes sound))
 
-    begin_settles : Settles end new.world
+    begin_settles : Settles Every end new.world
     begin_settles =
-        stopped_settles x old f.known.standing (states_safe old.world x f.known.standing b.group b.was.group f.known.whole vol.Sync (λ p. p.state) b.of is r sound_as) end new b.stops.2 is.group f.known.whole f.known.offers
+        let idle : new.world.volumes b.of.name ≡ None = ap (λ (g : Word → Option Volume). g b.of.name) b.stops.2.committing.volumes ∙ ap old.world.volumes (found_there name b.group.config.volumes b.of b.was.volume).1 ∙ b.free in
+        settles_idle b.of.name end new.world idle
+        (stopped_settles (Besides b.of.name) x old f.known.standing (states_safe old.world x f.known.standing b.group b.was.group f.known.whole vol.Sync (λ p. p.state) b.of is r sound_as) end new b.stops.2 is.group f.known.whole f.known.offers)
 
   -- this volume of the group
   module _ (name : Word) (old : Moment) (f : IsFine place old) (g : Group) (v : Vol) (of : IsOf name old.world g v) where
@@ -137,8 +139,8 @@ module _ (laws : StateLaws) (place : ℕ) where
     ended_fine marks new e = record { known = ended_known marks new e; kept = ended_kept laws place name old f.kept g v of marks new e }
 
     -- that cannot be recorded
-    unended_settles : (marks : ℕ) (end : End) (new : Moment) → IsSoundImage (image_on old.world.devices g v) → StopsAtEnd g v marks old end new → Settles end new.world
-    unended_settles marks end new sound e =
+    unended_settles : (marks : ℕ) (end : End) (new : Moment) → old.world.volumes v.name ≡ None → IsSoundImage (image_on old.world.devices g v) → StopsAtEnd g v marks old end new → Settles Every end new.world
+    unended_settles marks end new idle sound e =
         let x = e.stops.0 in
         let opened = touched_known g v.name old e.opened of.group e.opens.touched f.known in
         let at = opened_still g v old e.opened e.opens of.group in
@@ -147,7 +149,9 @@ module _ (laws : StateLaws) (place : ℕ) where
         let edited : IsEdited (recovered_edits x.group.config v marks) x.group.config x.config = subst (λ (h : Group). IsEdited (recovered_edits h.config v marks) x.group.config x.config) own e.stops.1.edited in
         let r : Restates v.name vol.Active (recovered marks) x.group.config x.config =
         laws.recovered_restates x.group.config v marks (among (objects_of x.group.config) (VolRecord v) (records_vol x.group.config v mine)) x.config edited in
-        stopped_settles x e.opened opened.standing (states_safe e.opened.world x opened.standing g at opened.whole vol.Active (recovered marks) v e.stops.1 r (e.sound sound)) end new e.stops.2 e.stops.1.group opened.whole opened.offers
+        let none : new.world.volumes v.name ≡ None = ap (λ (f : Word → Option Volume). f v.name) (e.stops.2.committing.volumes ∙ ap (λ (w : World). w.volumes) e.opens.touched.world) ∙ idle in
+        settles_idle v.name end new.world none
+        (stopped_settles (Besides v.name) x e.opened opened.standing (states_safe e.opened.world x opened.standing g at opened.whole vol.Active (recovered marks) v e.stops.1 r (e.sound sound)) end new e.stops.2 e.stops.1.group opened.whole opened.offers)
 
     -- ---- want of memory
 
@@ -171,15 +175,15 @@ module _ (laws : StateLaws) (place : ℕ) where
 
   module _ (name : Word) (old : Moment) (end : End) (new : Moment) (f : IsFine place old) where
     stops_begun : (How : Group → Vol → Moment → End → Moment → Type 0)
-        → ((g : Group) (v : Vol) (m : Moment) → IsFine place m → IsOf name m.world g v → is_new v.state ≡ false → m.world.volumes v.name ≡ None → How g v m end new → Settles end new.world)
-        → StopsBegun name How old end new → Settles end new.world
+        → ((g : Group) (v : Vol) (m : Moment) → IsFine place m → IsOf name m.world g v → is_new v.state ≡ false → m.world.volumes v.name ≡ None → How g v m end new → Settles Every end new.world)
+        → StopsBegun name How old end new → Settles Every end new.world
     stops_begun How goes b =
         goes b.group b.of b.begun (begun_fine name old b.group b.of b.begun f b.begins) b.begins.is (begun_before laws place name old b.group b.of b.begun b.begins) (begun_free laws place name old b.group b.of b.begun b.begins) b.ends
 
-    touches : (g : Group) (v : Vol) (m : Moment) → IsFine place m → m.world.group ≡ Some g → IsTouched g v.name m new → Settles end new.world
+    touches : (g : Group) (v : Vol) (m : Moment) → IsFine place m → m.world.group ≡ Some g → IsTouched g v.name m new → Settles Every end new.world
     touches g v m fine here t = known_settles end new.world (touched_known g v.name m new here t fine.known)
 
-    healed_ends : (g : Group) (v : Vol) (m : Moment) → IsFine place m → IsOf name m.world g v → is_new v.state ≡ false → m.world.volumes v.name ≡ None → StopsHealed g v m end new → Settles end new.world
+    healed_ends : (g : Group) (v : Vol) (m : Moment) → IsFine place m → IsOf name m.world g v → is_new v.state ≡ false → m.world.volumes v.name ≡ None → StopsHealed g v m end new → Settles Every end new.world
     healed_ends g v m fine of before free h =
         let healing = h.heals.healing in
         let healed = healed_fine name m fine g v of h.healed healing in
@@ -188,10 +192,10 @@ module _ (laws : StateLaws) (place : ℕ) where
         let there = contains g.config.volumes v (found_there name g.config.volumes v of.volume).0 in
         elim h.ends [
           | inl u ↦ touches g v h.healed healed still.group u.touched
-          | inr e ↦ unended_settles name h.healed healed g v still h.marks end new (healed.kept.stopped g still.group v there tt before (ap grouped idle)) e
+          | inr e ↦ unended_settles name h.healed healed g v still h.marks end new idle (healed.kept.stopped g still.group v there tt before (ap grouped idle)) e
         ]
 
-    recovery_settles : RecoveryStops name old end new → Settles end new.world
+    recovery_settles : RecoveryStops name old end new → Settles Every end new.world
     recovery_settles (inl b) = begin_settles name old end new f b
     recovery_settles (inr (inl b)) = stops_begun IsRefusedBegun (λ g v m fine of before free h. still_settles end m.world new.world h.2.1.stays.world fine.known) b
     recovery_settles (inr (inr (inl b))) = stops_begun StopsUnopened (λ g v m fine of before free h. touches g v m fine of.group h.touched) b
@@ -207,7 +211,7 @@ module _ (laws : StateLaws) (place : ℕ) where
 
   -- ---- the volumes
 
-  starts_settle : (name : Word) (old : Moment) (end : End) (new : Moment) → IsFine place old → old.world.volumes name ≡ None → StartStops name old end new → Settles end new.world
+  starts_settle : (name : Word) (old : Moment) (end : End) (new : Moment) → IsFine place old → old.world.volumes name ≡ None → StartStops name old end new → Settles Every end new.world
   starts_settle name old end new f idle stops = start_settles laws place old end new f.known (all_kept place old.world f.kept) name idle stops
 
   carried : AreCarried (IsFine place)
@@ -219,7 +223,7 @@ module _ (laws : StateLaws) (place : ℕ) where
     healed = λ name dirty copied old mid f need later r. recovered_fine name dirty copied old mid f r;
   }
 
-  ended : IsEndedBy (IsFine place) (λ end m. Settles end m.world)
+  ended : IsEndedBy (IsFine place) (λ end m. Settles Every end m.world)
   ended = record {
     over = λ m f. known_settles _ m.world f.known;
     refused = λ r old end new f is. still_settles end old.world new.world is.1.stays.world f.known;
@@ -227,8 +231,8 @@ module _ (laws : StateLaws) (place : ℕ) where
     healed = λ name old end new f need later stops. recovery_settles name old end new f stops;
   }
 
-  pub recover_settles : (dg vol : Option Word) (old : Moment) (views : List View) (end : End) (new : Moment) → IsFine place old → Recovers dg vol old views end new → Settles end new.world
-  recover_settles dg vol old views end new f does = recovers_on (IsFine place) (λ e m. Settles e m.world) carried ended dg vol old views end new f does
+  pub recover_settles : (dg vol : Option Word) (old : Moment) (views : List View) (end : End) (new : Moment) → IsFine place old → Recovers dg vol old views end new → Settles Every end new.world
+  recover_settles dg vol old views end new f does = recovers_on (IsFine place) (λ e m. Settles Every e m.world) carried ended dg vol old views end new f does
 
   pub recover_left : (vol : Option Word) (old new : Moment) → IsFine place old → RecoversShort vol old new → IsKnown new.world
   recover_left vol old new f short =

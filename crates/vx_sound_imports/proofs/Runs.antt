@@ -40,7 +40,7 @@ use Rattle.vx_sound.proofs.Wants.{all_keep_but_last, keeps_or_adds, each_want_ke
 use Rattle.vx_sound_volumes.specs.Laws.{EachStepKeepsVolumesSound, EachWantKeepsVolumesSound}
 use Rattle.vx_sound_volumes.specs.Volumes.{AreSoundOn, BringsSound, IsSoundBefore}
 use Rattle.vx_sound_volumes.proofs.Leavings.{each_leaving}
-use Rattle.vx_sound_volumes.proofs.Parts.{all_kept, image_same, keeps_all, not_none, some_same}
+use Rattle.vx_sound_volumes.proofs.Parts.{Every, all_kept, image_same, keeps_all, not_none, some_same}
 use Rattle.vx_sound_volumes.proofs.Stages.{StateLaws, make_done}
 use Rattle.vx_sound_volumes.proofs.Steps.{form_kept, idle_sound}
 use Rattle.vx_sound_imports.specs.Laws.{AreDevicesSound, EachImportBringsSound, EachRunKeepsDevicesSound, EachRunLeftOffKeepsDevicesSound, EachStepKeepsAllSound, EachWantKeepsAllSound}
@@ -116,7 +116,7 @@ each_import place c old answer new s step =
 
 -- ---- what is left
 
-module _ (end : End) (w : World) (s : Settles end w) (settled_is : IsSettled w) where
+module _ {P : Word → Type 0} (end : End) (w : World) (s : Settles P end w) (settled_is : IsSettled w) where
   -- the group has left, whose own volumes were sound
   all_offers : (left : World) → ((dg : Word) → HadEach dg w left) → ((g : Group) → w.group ≡ Some g → HasSoundOffer g.config.group w) → HaveSoundOffers left
   all_offers left had own dg away = fewer_sound dg w left (had dg) (settled_is.copies dg) (by w.group refl)
@@ -128,11 +128,11 @@ module _ (end : End) (w : World) (s : Settles end w) (settled_is : IsSettled w) 
         | inr other ↦ s.elsewhere dg (λ h at is. not_both (subst (λ n. bytes_eq g.config.group n ≡ true) (ap (λ (i : Group). i.config.group) (some_same g h (sym here ∙ at)) ∙ is) (bytes_eq_self g.config.group)) other)
       ]
 
-settled_by : (end : End) (w : World) → Ends end w → IsSettled w
+pub settled_by : (end : End) (w : World) → Ends end w → IsSettled w
 settled_by end w (inl stands) = settled w stands
 settled_by end w (inr (is, must)) = is
 
-left_known : (place : ℕ) (end : End) (over left : World) → Settles end over → IsSettled over → ((end ≡ done → ⊥) → IsSoundBefore place over) → Leaves end over left → HaveSoundOffers left × HasWhole left
+left_known : {P : Word → Type 0} (place : ℕ) (end : End) (over left : World) → Settles P end over → IsSettled over → ((end ≡ done → ⊥) → IsSoundBefore place over) → Leaves end over left → HaveSoundOffers left × HasWhole left
 left_known place ends.GroupLost over left s is sound (stands, gone) =
     let before = sound (λ e. cc) in
     subst (λ (w : World). HaveSoundOffers w × HasWhole w) (sym gone) (
@@ -208,7 +208,7 @@ each_want laws volumes place c old new s off =
 
 -- ---- runs
 
-idle_all : (place : ℕ) (w : World) → IsIdle w → AreDevicesSound w → AreAllSound place w
+pub idle_all : (place : ℕ) (w : World) → IsIdle w → AreDevicesSound w → AreAllSound place w
 idle_all place w idle sound = record {
   standing = sound_stands w idle sound.copies;
   volumes = idle_sound place w (record { group = idle.group; volumes = idle.volumes });
@@ -219,14 +219,14 @@ idle_all place w idle sound = record {
 -- as the power goes
 powerless : (place : ℕ) (w left : World) → AreAllSound place w → GroupStands w → PowerGoes w left → AreDevicesSound left
 powerless place w left s stands goes =
-    let settles : Settles (ends.Lost []) w = lost_settles in
+    let settles : Settles Every (ends.Lost []) w = lost_settles in
     record {
       copies = (standing_left w left goes (settled w s.standing)).copies;
       offers = all_offers (ends.Lost []) w settles (settled w s.standing) left (power_back w left goes (settled w s.standing))
           (λ g here. settles.own g here tt (each_leaving place w (group_gone w) g s.volumes here (inr (stands, inl refl))));
     }
   where
-    lost_settles : Settles (ends.Lost []) w
+    lost_settles : Settles Every (ends.Lost []) w
     lost_settles = standing_settles (ends.Lost []) w s.standing s.whole s.offers
 
 module _ (step : EachStepKeepsAllSound) where

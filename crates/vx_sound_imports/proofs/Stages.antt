@@ -1,7 +1,8 @@
 -- What a stage leaves of the groups that are not imported, and of the imported one where it is lost.
-use Rattle.std.proofs.Common.{◌≡◌, ◌∙◌, ℕ, ◌==◌, true, false, Option, Some, MatchOption, sym, ap, subst, inl, inr}
+use Rattle.std.proofs.Common.{◌≡◌, ◌∙◌, ℕ, ◌==◌, true, false, Option, Some, None, MatchOption, sym, ap, subst, inl, inr}
 use Rattle.std.proofs.lemmas.Bool.{eqb-true}
 use Rattle.std.specs.Str.{bytes_eq}
+use Rattle.vx_life.specs.Candidates.{Candidates}
 use Rattle.vx_base.specs.Named.{Word}
 use Rattle.vx_base.proofs.NamedLemmas.{name_cases, bytes_eq_self}
 use Rattle.vx_mask.specs.Mask.{has}
@@ -13,7 +14,8 @@ use Rattle.vx_answers.specs.declared.answer.End.{End}
 use Rattle.vx_answers.specs.declared.answer.End.TheVariants as ends
 use Rattle.vx_moments.specs.Commit.{IsCommitted, IsCommitting, IsStopped, Writing, is_slot_of, parties}
 use Rattle.vx_moments.specs.Moment.{Moment}
-use Rattle.vx_moments.specs.World.{Group, Member, World}
+use Rattle.vx_moments.specs.Leaving.{grouped}
+use Rattle.vx_moments.specs.World.{Group, Member, Volume, World}
 use Rattle.vx_sound.specs.Sound.{AreSound}
 use Rattle.vx_sound.specs.Standing.{Carries, IsLeading, IsStanding}
 use Rattle.vx_sound.proofs.CommitSteps.{other_back}
@@ -22,12 +24,14 @@ use Rattle.vx_sound.proofs.Headers.{one_group}
 use Rattle.vx_sound.proofs.Lists.{all_two, one_of}
 use Rattle.vx_sound.proofs.Ready.{IsHeadedAs, IsReady}
 use Rattle.vx_sound_volumes.specs.Volumes.{AreSoundOn}
-use Rattle.vx_sound_volumes.proofs.Parts.{image_same, some_same}
+use Rattle.vx_sound_volumes.proofs.Parts.{Besides, Every, image_same, not_none, some_same}
 use Rattle.vx_sound_imports.specs.Offered.{HasSoundOffer, HaveSoundOffers, IsElsewhere, IsWholeGroup}
 use Rattle.vx_sound_imports.proofs.Commits.{commit_offers, public_stays}
 use Rattle.vx_sound_imports.proofs.Fewer.{AreReadSound, fewer_read, fewer_sound}
 use Rattle.vx_sound_imports.proofs.Writings.{HasWhole}
+use Rattle.vx_sound_imports.specs.Left.{HoldWithin, IsLeft}
 use Rattle.vx_sound_imports.proofs.Leading.{leading_read}
+use Rattle.vx_sound_imports.proofs.Left.{AreReadAs, commit_left, fewer_as, leading_as}
 use Rattle.vx_sound_imports.proofs.Nexts.{IsSafe}
 
 -- the group, or the power, is lost by this end
@@ -40,25 +44,43 @@ IsLostBy (ends.Fault told device parts) = ⊥
 IsLostBy ends.ShelfFailed = ⊥
 
 -- What a command leaves as it is over: sound volumes of each group that is not imported; and where it has lost the imported one, the devices of
--- that offer sound volumes, if its own are sound.
-pub record Settles (end : End) (w : World) : Type 0 where
+-- that offer sound volumes, if its own are sound, and stand for those that ran, of such names, if its own bytes do.
+pub record Settles (P : Word → Type 0) (end : End) (w : World) : Type 0 where
   pub elsewhere : HaveSoundOffers w
   pub whole : HasWhole w
   pub own : (g : Group) → w.group ≡ Some g → IsLostBy end → AreSoundOn w.devices g → HasSoundOffer g.config.group w
+  pub left : (g : Group) → w.group ≡ Some g → IsLostBy end → (name : Word) (u : Volume) → P name → grouped (w.volumes name) ≡ Some u → HoldWithin w.devices g name u.life.candidates → IsLeft g.config.group w name u.life.candidates
+
+-- for fewer names
+pub settles_fewer : (P Q : Word → Type 0) (end : End) (w : World) → ((name : Word) → P name → Q name) → Settles Q end w → Settles P end w
+settles_fewer P Q end w fewer s = record { elsewhere = s.elsewhere; whole = s.whole; own = s.own; left = λ g here lost name u p. s.left g here lost name u (fewer name p) }
+
+pub settles_some : {P : Word → Type 0} (end : End) (w : World) → Settles Every end w → Settles P end w
+settles_some {P = P} end w s = settles_fewer P Every end w (λ name p. tt) s
+
+-- also for a name of which no volume runs on plexes
+pub settles_idle : (vol : Word) (end : End) (w : World) → w.volumes vol ≡ None → Settles (Besides vol) end w → Settles Every end w
+settles_idle vol end w idle s = record {
+  elsewhere = s.elsewhere;
+  whole = s.whole;
+  own = s.own;
+  left = λ g here lost name u p runs. s.left g here lost name u (λ same. not_none u (sym (ap grouped (subst (λ n. w.volumes n ≡ None) (sym same) idle)) ∙ runs)) runs;
+}
 
 pub leads : (w : World) (g : Group) → IsStanding w → w.group ≡ Some g → IsLeading w g
 leads w g s here = subst (λ (o : Option Group). MatchOption o (Unit {0}) (IsLeading w)) here s.group
 
 -- so it is where the imported group leads
-pub standing_settles : (end : End) (w : World) → IsStanding w → HasWhole w → HaveSoundOffers w → Settles end w
+pub standing_settles : (end : End) (w : World) → IsStanding w → HasWhole w → HaveSoundOffers w → Settles Every end w
 standing_settles end w s whole offers = record {
   elsewhere = offers;
   whole = whole;
   own = λ g here lost sound. leading_read w g (leads w g s here) (s.copies g.config.group) (whole g here) w.devices sound;
+  left = λ g here lost name u p runs stands. leading_as w g (leads w g s here) (s.copies g.config.group) (whole g here) name u.life.candidates w.devices stands;
 }
 
-pub same_settles : (end : End) (old new : World) → new ≡ old → IsStanding old → HasWhole old → HaveSoundOffers old → Settles end new
-same_settles end old new same s whole offers = subst (Settles end) (sym same) (standing_settles end old s whole offers)
+pub same_settles : (end : End) (old new : World) → new ≡ old → IsStanding old → HasWhole old → HaveSoundOffers old → Settles Every end new
+same_settles end old new same s whole offers = subst (Settles Every end) (sym same) (standing_settles end old s whole offers)
 
 -- ---- headers that stay or go
 
@@ -114,7 +136,7 @@ module _ (x : Writing) (old : Moment) (s : IsStanding old.world) (ready : IsRead
 
 -- ---- a commit that is stopped
 
-module _ (x : Writing) (old : Moment) (s : IsStanding old.world) (safe : IsSafe x old.world) (end : End) (new : Moment) (stopped : IsStopped x old end new) where
+module _ (P : Word → Type 0) (x : Writing) (old : Moment) (s : IsStanding old.world) (safe : IsSafe P x old.world) (end : End) (new : Moment) (stopped : IsStopped x old end new) where
   abbrev c : IsCommitting x stopped.last old new
   c = stopped.committing
 
@@ -130,8 +152,14 @@ module _ (x : Writing) (old : Moment) (s : IsStanding old.world) (safe : IsSafe 
       (subst (λ dg. AreReadSound new.world.devices dg old.world) (one_named here) (leading_read old.world x.group (leads old.world x.group s here) (s.copies x.group.config.group) safe.whole new.world.devices sound))
       (safe.next new.world.devices (public_stays x stopped.last old new c) sound) safe.far
 
+  own_left : old.world.group ≡ Some x.group → (name : Word) (u : Candidates) → P name → HoldWithin new.world.devices x.group name u → IsLeft x.config.group new.world name u
+  own_left here name u p stands =
+      commit_left x stopped.last old new c safe.ready s.copies safe.whole name u
+      (subst (λ dg. AreReadAs new.world.devices dg old.world name u) (one_named here) (leading_as old.world x.group (leads old.world x.group s here) (s.copies x.group.config.group) safe.whole name u new.world.devices stands))
+      (safe.stands new.world.devices (public_stays x stopped.last old new c) name u p stands) safe.far
+
   -- of the imported group
-  pub stopped_settles : old.world.group ≡ Some x.group → HasWhole old.world → HaveSoundOffers old.world → Settles end new.world
+  pub stopped_settles : old.world.group ≡ Some x.group → HasWhole old.world → HaveSoundOffers old.world → Settles P end new.world
   stopped_settles here whole offers = record {
     elsewhere = offers_kept old.world new.world s.copies (λ dg other.
         let before = elsewhere_before old.world new.world stopped.group dg other in
@@ -141,6 +169,10 @@ module _ (x : Writing) (old : Moment) (s : IsStanding old.world) (safe : IsSafe 
         let same : x.group ≡ g = some_same x.group g (sym here ∙ sym stopped.group ∙ at) in
         subst (λ (h : Group). HasSoundOffer h.config.group new.world) same
         (subst (λ dg. HasSoundOffer dg new.world) (sym (one_named here)) (own_offers here (subst (AreSoundOn new.world.devices) (sym same) sound)));
+    left = λ g at lost name u p runs stands.
+        let same : x.group ≡ g = some_same x.group g (sym here ∙ sym stopped.group ∙ at) in
+        subst (λ (h : Group). IsLeft h.config.group new.world name u.life.candidates) same
+        (subst (λ dg. IsLeft dg new.world name u.life.candidates) (sym (one_named here)) (own_left here name u.life.candidates p (subst (λ (h : Group). HoldWithin new.world.devices h name u.life.candidates) (sym same) stands)));
   }
 
   -- of a group that is not imported
@@ -161,7 +193,12 @@ module _ (x : Writing) (old : Moment) (s : IsStanding old.world) (safe : IsSafe 
         fewer_read g.config.group old.world new.world (others_stay g.config.group (λ is. away g here (sym is))) (s.copies g.config.group) new.world.devices
         (leading_read old.world g (leads old.world g s here) (s.copies g.config.group) (whole g here) new.world.devices all)
 
-    pub unknown_settles : Settles end new.world
+    own_as : (g : Group) → old.world.group ≡ Some g → (name : Word) (u : Candidates) → HoldWithin new.world.devices g name u → IsLeft g.config.group new.world name u
+    own_as g here name u stands =
+        fewer_as g.config.group old.world new.world (others_stay g.config.group (λ is. away g here (sym is))) (s.copies g.config.group) name u new.world.devices
+        (leading_as old.world g (leads old.world g s here) (s.copies g.config.group) (whole g here) name u new.world.devices stands)
+
+    pub unknown_settles : Settles Every end new.world
     unknown_settles = record {
       elsewhere = λ dg other. elim (name_cases x.config.group dg) [
         | inl same ↦ subst (λ n. HasSoundOffer n new.world) same written
@@ -169,4 +206,5 @@ module _ (x : Writing) (old : Moment) (s : IsStanding old.world) (safe : IsSafe 
       ];
       whole = whole_before old.world new.world stopped.group whole;
       own = λ g at lost all. own_stays g (sym stopped.group ∙ at) all;
+      left = λ g at lost name u p runs stands. own_as g (sym stopped.group ∙ at) name u.life.candidates stands;
     }

@@ -2,6 +2,8 @@
 use Rattle.std.proofs.Common.{◌≡◌, ◌∙◌, ℕ, Bool, true, false, Option, Some, None, MatchBool, MatchOption, refl, sym, ap, subst, inl, inr}
 use Rattle.vx_base.specs.Named.{Word, put}
 use Rattle.vx_base.proofs.NamedLemmas.{put_same}
+use Rattle.vx_config_parts.specs.declared.state.VolState.{VolState}
+use Rattle.vx_config_parts.specs.declared.state.VolState.TheVariants as vol
 use Rattle.vx_config_parts.specs.declared.vol.Vol.{Vol}
 use Rattle.vx_image.proofs.PlexMembers.{IsIn}
 use Rattle.vx_image.specs.Soundness.{IsSoundImage}
@@ -16,20 +18,20 @@ use Rattle.vx_moments.specs.Group.{image_on}
 use Rattle.vx_stages.specs.Ends.{EndsIn, IsChange}
 use Rattle.vx_stages.specs.Stages.{Wants}
 use Rattle.vx_stages.specs.Starting.{IsStartedBy, StartStops, StopsIn, StopsOf, may_start, plexes_started, volume_started}
-use Rattle.vx_stages.specs.Stopping.{ComesToRest, IsStopBroken, IsStopDone, StopStops, rested_volume, without_volume}
+use Rattle.vx_stages.specs.Stopping.{ComesToRest, IsStopBroken, IsStopDone, StopStops, is_active, rested_volume, without_volume}
 use Rattle.vx_stages.specs.Tests.{recorded, volume_in}
 use Rattle.vx_stages.specs.declared.stage.Stage.{Stage}
 use Rattle.vx_stages.specs.declared.stage.Stage.TheVariants as stage
 use Rattle.vx_sound.proofs.Running.{after, begun, found_recorded, gone, recorded_stands, rested, rested_group, start_ready, started_lies, stop_ready}
 use Rattle.vx_sound_volumes.specs.Volumes.{IsSoundBefore}
-use Rattle.vx_sound_volumes.proofs.Parts.{grouped_runs, not_none, some_same}
+use Rattle.vx_sound_volumes.proofs.Parts.{Besides, Every, grouped_runs, not_none, some_same}
 use Rattle.vx_sound_volumes.proofs.Running.{found_there}
 use Rattle.vx_sound_volumes.proofs.Stages.{StateLaws}
 use Rattle.vx_sound_imports.specs.Offered.{HaveSoundOffers}
 use Rattle.vx_sound_imports.proofs.Logs.{prepare_wants}
 use Rattle.vx_sound_imports.proofs.Writings.{HasWhole, start_safe, stop_safe}
 use Rattle.vx_sound_imports.proofs.Places.{lent_on_plexes, lent_put}
-use Rattle.vx_sound_imports.proofs.Stages.{Settles, committed_known, imported_away, stopped_settles, whole_before}
+use Rattle.vx_sound_imports.proofs.Stages.{Settles, committed_known, imported_away, settles_idle, stopped_settles, whole_before}
 use Rattle.vx_sound_imports.proofs.Volumes.{IsKnown, goes_known, known_settles, lent_offers, still_settles, touched_known}
 
 -- ---- a start
@@ -62,15 +64,16 @@ module _ (laws : StateLaws) (place : ℕ) (old : Moment) (end : End) (new : Mome
               (recorded_stands old end new k.standing g here v (found_recorded v.name g.config.volumes v found) m b) recorded.0);
         }
 
-    of_volume : StopsOf g v old end new → Settles end new.world
+    of_volume : StopsOf g v old end new → Settles Every end new.world
     of_volume (inl (why, rests)) = still_settles end old.world new.world rests.stays.world k
     of_volume (inr (inl stops)) = known_settles end new.world (touched_known g v.name old new here stops.touched k)
     of_volume (inr (inr (inl c))) =
         let opened = touched_known g v.name old c.opened here c.touched k in
         let at : c.opened.world.group ≡ Some g = ap (λ (w : World). w.group) c.touched.world ∙ here in
-        stopped_settles c.stops.0 c.opened opened.standing
+        let none : new.world.volumes v.name ≡ None = ap (λ (f : Word → Option Volume). f v.name) (c.stops.2.committing.volumes ∙ ap (λ (w : World). w.volumes) c.touched.world) ∙ idle in
+        settles_idle v.name end new.world none (stopped_settles (Besides v.name) c.stops.0 c.opened opened.standing
         (start_safe c.opened.world c.stops.0 opened.standing g at opened.whole v laws.start_restates laws.start_keeps there c.stops.1 (c.recorded sound_at_first))
-        end new c.stops.2 c.stops.1.group opened.whole opened.offers
+        end new c.stops.2 c.stops.1.group opened.whole opened.offers)
     of_volume (inr (inr (inr a))) =
         let m = begun_known a.begun a.started in
         let run = volume_started g v (image_on old.world.devices g v) a.started.begins.sound in
@@ -80,24 +83,32 @@ module _ (laws : StateLaws) (place : ℕ) (old : Moment) (end : End) (new : Mome
         (λ u is. ap (λ (x : Volume). x.lies) (some_same u a.copied.volume (sym is ∙ a.copied.was) ∙ sym same) ∙ started_lies g v (image_on old.world.devices g v) a.started.begins.sound)
         a.copied.goes (after old end new k.standing g here v (found_recorded v.name g.config.volumes v found) a.begun a.started a.copied) m)
 
-    of_state : (may : Bool) → MatchBool may (StopsOf g v old end new) (EndsIn (refusal.VolState v.state) old end new) → Settles end new.world
+    of_state : (may : Bool) → MatchBool may (StopsOf g v old end new) (EndsIn (refusal.VolState v.state) old end new) → Settles Every end new.world
     of_state true stops = of_volume stops
     of_state false ends = still_settles end old.world new.world ends.1.stays.world k
 
-  in_group : (g : Group) (name : Word) (o : Option Vol) → old.world.group ≡ Some g → old.world.volumes name ≡ None → volume_in name g.config.volumes ≡ o → MatchOption o (EndsIn (refusal.NoObject name) old end new) (λ v. MatchBool (may_start v.state) (StopsOf g v old end new) (EndsIn (refusal.VolState v.state) old end new)) → Settles end new.world
+  in_group : (g : Group) (name : Word) (o : Option Vol) → old.world.group ≡ Some g → old.world.volumes name ≡ None → volume_in name g.config.volumes ≡ o → MatchOption o (EndsIn (refusal.NoObject name) old end new) (λ v. MatchBool (may_start v.state) (StopsOf g v old end new) (EndsIn (refusal.VolState v.state) old end new)) → Settles Every end new.world
   in_group g name None here idle is ends = still_settles end old.world new.world ends.1.stays.world k
   in_group g name (Some v) here idle is stops =
       let named : v.name ≡ name = (found_there name g.config.volumes v is).1 in
       of_state g here v (subst (λ n. volume_in n g.config.volumes ≡ Some v) (sym named) is) (subst (λ n. old.world.volumes n ≡ None) (sym named) idle) (may_start v.state) stops
 
-  pub start_settles : (name : Word) → old.world.volumes name ≡ None → StartStops name old end new → Settles end new.world
+  pub start_settles : (name : Word) → old.world.volumes name ≡ None → StartStops name old end new → Settles Every end new.world
   start_settles name idle stops = in_world old.world.group refl stops
     where
-      in_world : (o : Option Group) → old.world.group ≡ o → MatchOption o (EndsIn (refusal.NoGroup None) old end new) (λ g. StopsIn g name old end new) → Settles end new.world
+      in_world : (o : Option Group) → old.world.group ≡ o → MatchOption o (EndsIn (refusal.NoGroup None) old end new) (λ g. StopsIn g name old end new) → Settles Every end new.world
       in_world None here ends = still_settles end old.world new.world ends.1.stays.world k
       in_world (Some g) here more = in_group g name (volume_in name g.config.volumes) here idle refl more
 
 -- ---- a stop
+
+-- an active volume was started before
+active_before : (s : VolState) → is_active s ≡ true → is_new s ≡ false
+active_before vol.Empty e = cc
+active_before vol.Clean e = refl
+active_before vol.Active e = refl
+active_before vol.NeedSync e = refl
+active_before vol.Sync e = refl
 
 module _ (laws : StateLaws) (place : ℕ) (name : Word) (old : Moment) (k : IsKnown old.world) (sound : IsSoundBefore place old.world) where
   pub rested_known : (mid : Moment) → ComesToRest name old mid → IsKnown mid.world
@@ -127,18 +138,18 @@ module _ (laws : StateLaws) (place : ℕ) (name : Word) (old : Moment) (k : IsKn
       let ready = stop_ready w.world d.writing known.standing r.rest.group (rested_group name old k.standing d.mid r.rest) r.of r.marks d.edits r.edits_are d.change in
       committed_known d.writing w known.standing ready (known.whole d.writing.group d.change.group) new d.committed known.offers (imported_away d.writing w known.standing ready d.change.group)
 
-  broken_settles : (end : End) (new : Moment) → IsStopBroken name old end new → Settles end new.world
+  broken_settles : (end : End) (new : Moment) → IsStopBroken name old end new → Settles Every end new.world
   broken_settles end new b =
       let r = b.record_is in
       let known = rested_known b.mid r.rest in
       let found = found_there name r.rest.group.config.volumes r.of (sym (ap (recorded name) r.rest.here) ∙ r.recorded_is) in
       let change : IsChange (stop_edits r.rest.group.config r.of r.marks) b.mid.world b.writing = subst (λ es. IsChange es b.mid.world b.writing) r.edits_are b.change in
-      stopped_settles b.writing b.mid known.standing
-      (stop_safe b.mid.world b.writing known.standing r.rest.group (rested_group name old k.standing b.mid r.rest) known.whole r.of laws.stop_restates laws.stop_keeps found.0 r.marks change
+      stopped_settles Every b.writing b.mid known.standing
+      (stop_safe b.mid.world b.writing known.standing r.rest.group (rested_group name old k.standing b.mid r.rest) known.whole r.of laws.stop_restates laws.stop_keeps found.0 (active_before r.of.state r.active) r.marks change
       (λ v there is. b.sound (was_sound b.mid r.rest) v there (is ∙ found.1)))
       end new b.stopped b.change.group known.whole known.offers
 
-  pub stop_settles : (end : End) (new : Moment) → StopStops name old end new → Settles end new.world
+  pub stop_settles : (end : End) (new : Moment) → StopStops name old end new → Settles Every end new.world
   stop_settles end new (inl (why, rests)) = still_settles end old.world new.world rests.stays.world k
   stop_settles end new (inr (inl r)) = known_settles end new.world (rested_known new r.rest)
   stop_settles end new (inr (inr b)) = broken_settles end new b

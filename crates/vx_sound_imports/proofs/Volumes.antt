@@ -17,7 +17,7 @@ use Rattle.vx_sound.specs.Standing.{IsStanding}
 use Rattle.vx_sound.proofs.Fewer.{HadEach}
 use Rattle.vx_sound.proofs.Running.{standing_touched}
 use Rattle.vx_sound.proofs.Volumes.{standing_served}
-use Rattle.vx_sound_volumes.proofs.Parts.{some_same}
+use Rattle.vx_sound_volumes.proofs.Parts.{Every, some_same}
 use Rattle.vx_sound_imports.specs.Offered.{HaveSoundOffers}
 use Rattle.vx_sound_imports.proofs.Writings.{HasWhole}
 use Rattle.vx_sound_imports.proofs.Places.{had_elsewhere, lent_on_plexes, lent_put}
@@ -29,10 +29,10 @@ pub record IsKnown (w : World) : Type 0 where
   pub whole : HasWhole w
   pub offers : HaveSoundOffers w
 
-pub known_settles : (end : End) (w : World) → IsKnown w → Settles end w
+pub known_settles : (end : End) (w : World) → IsKnown w → Settles Every end w
 known_settles end w k = standing_settles end w k.standing k.whole k.offers
 
-pub still_settles : (end : End) (old new : World) → new ≡ old → IsKnown old → Settles end new
+pub still_settles : (end : End) (old new : World) → new ≡ old → IsKnown old → Settles Every end new
 still_settles end old new same k = same_settles end old new same k.standing k.whole k.offers
 
 -- ---- one volume
@@ -87,16 +87,16 @@ module _ (place : ℕ) (call : Call) (old : Moment) (end : End) (new : Moment) (
   served_group v (OnDevice device) served = ap (λ (w : World). w.group) served.world
   served_group v (OnPlexes plexes) served = ap (λ (w : World). w.group) served.world
 
-  pub call_settles : CallWritesNoHeader call → CallRuns place call old end new → Settles end new.world
+  pub call_settles : CallWritesNoHeader call → CallRuns place call old end new → Settles Every end new.world
   call_settles none runs = at_volume (old.world.volumes (volume_of call)) refl runs
     where
       stands : IsStanding new.world
       stands = standing_served place call old end new none k.standing runs
 
-      at_range : (v : Volume) (b : Bool) → old.world.volumes (volume_of call) ≡ Some v → MatchBool b ((end ≡ ends.Refused refusal.Range) × Rests old new) (ServesOn v.lies place call v old end new) → Settles end new.world
+      at_range : (v : Volume) (b : Bool) → old.world.volumes (volume_of call) ≡ Some v → MatchBool b ((end ≡ ends.Refused refusal.Range) × Rests old new) (ServesOn v.lies place call v old end new) → Settles Every end new.world
       at_range v true is h = still_settles end old.world new.world h.1.stays.world k
       at_range v false is h = standing_settles end new.world stands (whole_before old.world new.world (served_group v v.lies h) k.whole) (served_offers v is v.lies refl h)
 
-      at_volume : (o : Option Volume) → old.world.volumes (volume_of call) ≡ o → MatchOption o ((end ≡ ends.Refused (refusal.NotStarted (volume_of call))) × Rests old new) (λ v. MatchBool (nat_lt v.length (start_of call + count_of call)) ((end ≡ ends.Refused refusal.Range) × Rests old new) (ServesOn v.lies place call v old end new)) → Settles end new.world
+      at_volume : (o : Option Volume) → old.world.volumes (volume_of call) ≡ o → MatchOption o ((end ≡ ends.Refused (refusal.NotStarted (volume_of call))) × Rests old new) (λ v. MatchBool (nat_lt v.length (start_of call + count_of call)) ((end ≡ ends.Refused refusal.Range) × Rests old new) (ServesOn v.lies place call v old end new)) → Settles Every end new.world
       at_volume None is h = still_settles end old.world new.world h.1.stays.world k
       at_volume (Some v) is h = at_range v (nat_lt v.length (start_of call + count_of call)) is h

@@ -14,7 +14,7 @@ use Rattle.vx_group_edits.proofs.Lists.{among}
 use Rattle.vx_config_parts.specs.declared.object.Object.{Object}
 use Rattle.vx_config_parts.specs.declared.object.Object.TheVariants.{VolRecord}
 use Rattle.vx_objects.specs.declared.edit.Edit.TheVariants.{Make}
-use Rattle.vx_image.proofs.Members.{is_in}
+use Rattle.vx_image.proofs.Members.{contains, is_in}
 use Rattle.vx_script_words.specs.declared.value.DiskAt.{DiskAt}
 use Rattle.vx_state_edits.specs.Edits.{is_new, start_edits, started, stop_edits, stopped}
 use Rattle.vx_state_edits.specs.Laws.{EachStartRestates, EachStopRestates}
@@ -44,9 +44,15 @@ use Rattle.vx_sound_volumes.specs.Volumes.{AreSoundOn}
 use Rattle.vx_sound_volumes.proofs.Commits.{vol_of}
 use Rattle.vx_sound_volumes.proofs.Joiners.{no_new_vol}
 use Rattle.vx_sound_volumes.proofs.Named.{change_back, join_back, make_back, no_volumes, parts_back, restated_back}
-use Rattle.vx_sound_volumes.proofs.Parts.{some_same}
+use Rattle.vx_sound_volumes.proofs.Parts.{Besides, Every, some_same}
+use Rattle.vx_sound_imports.specs.Left.{LiesWithin}
 use Rattle.vx_sound_imports.specs.Offered.{IsWholeGroup}
-use Rattle.vx_sound_imports.proofs.Nexts.{IsSafe, kept_safe, none_vacant, recorded_safe}
+use Rattle.vx_sound_imports.proofs.Nexts.{IsSafe, KeepsOwn, kept_safe, none_vacant, recorded_safe, whole_safe}
+use Rattle.vx_sound_imports.proofs.Stopped.{stopped_within}
+use Rattle.vx_sound_volumes.proofs.Recoveries.{own_now}
+use Rattle.vx_image.specs.Bytes.{image_of}
+use Rattle.vx_image.specs.Soundness.{IsSoundImage}
+use Rattle.vx_moments.specs.Group.{sectors_of}
 
 -- each good slot of the imported group has a member
 abbrev pub HasWhole : World → Type 0
@@ -54,13 +60,13 @@ HasWhole w = (g : Group) → w.group ≡ Some g → IsWholeGroup g
 
 -- ---- changes
 
-pub change_safe : (change : Change) (w : World) (x : Writing) → IsStanding w → HasWhole w → IsChange (edits_of change w.group) w x → IsSafe x w
+pub change_safe : (change : Change) (w : World) (x : Writing) → IsStanding w → HasWhole w → IsChange (edits_of change w.group) w x → IsSafe Every x w
 change_safe change w x s whole is =
     let edited : IsEdited (edits_of change (Some x.group)) x.group.config x.config = subst (λ (o : Option Group). IsEdited (edits_of change o) x.group.config x.config) is.group is.edited in
     let ready = change_ready change w x s is in
     kept_safe x w ready (whole x.group is.group) (StaysBy change) (change_keeps x.group change x.config edited) (none_vacant x is.joiners) (λ v one started. change_back x.group change x.config v edited one)
 
-pub make_safe : (from : Source) (w : World) (x : Writing) → IsStanding w → HasWhole w → IsMaking from w x → IsSafe x w
+pub make_safe : (from : Source) (w : World) (x : Writing) → IsStanding w → HasWhole w → IsMaking from w x → IsSafe Every x w
 make_safe from w x s whole is =
     let ready = make_ready from w x s is in
     let all = whole x.group is.change.group in
@@ -69,7 +75,7 @@ make_safe from w x s whole is =
 
 -- ---- a disk joins
 
-pub join_safe : (p : DiskAt) (w : World) (x : Writing) → IsReady x w → HasWhole w → IsJoining p w x → next_slot x.group.config < 32 → IsSafe x w
+pub join_safe : (p : DiskAt) (w : World) (x : Writing) → IsReady x w → HasWhole w → IsJoining p w x → next_slot x.group.config < 32 → IsSafe Every x w
 join_safe p w x ready whole j room =
     kept_safe x w ready (whole x.group j.group) (λ u. Unit {0}) (joining_keeps x.group.config x.config (disk_record p next (sectors_at w p.device)) j.edited)
     (λ m one. let at = slot_is m one in (subst (λ n. n < 64) (sym at) (omega (arith, room)), subst (λ n. has_disk_in x.group.config n ≡ false) (sym at) free))
@@ -94,12 +100,13 @@ module _ (dg : Word) (pairs : List DiskAt) (w : World) (x : Writing) (c : IsCrea
   pub created_sound : (devices : Word → Option Device) → AreSoundOn devices x.group
   created_sound devices v there started = absurd (no_volume v (subst (λ (g : Group). Contains g.config.volumes v) c.group there))
 
-pub create_safe : (dg : Word) (pairs : List DiskAt) (w : World) (x : Writing) → IsReady x w → IsCreating dg pairs w x → IsSafe x w
+pub create_safe : (dg : Word) (pairs : List DiskAt) (w : World) (x : Writing) → IsReady x w → IsCreating dg pairs w x → IsSafe Every x w
 create_safe dg pairs w x ready c = record {
   ready = ready;
   whole = λ slot good. absurd (not_both good (ap (λ (g : Group). has g.good slot) c.group ∙ has-zero slot));
   far = λ v there started place of joins. no_volume dg pairs w x c v there;
   next = λ devices same sound good few v there started. absurd (no_volume dg pairs w x c v there);
+  stands = λ devices same name u p stands good few v there named started. absurd (no_volume dg pairs w x c v there);
 }
 
 -- ---- states
@@ -108,7 +115,7 @@ module _ (w : World) (x : Writing) (s : IsStanding w) (g : Group) (here : w.grou
   own_group : w.group ≡ Some x.group → g ≡ x.group
   own_group at = some_same g x.group (sym here ∙ at)
 
-  pub start_safe : EachStartRestates → EachStartKeeps → IsIn g.config.volumes v → (is : IsChange (start_edits g.config v) w x) → IsSoundAs g x.config v.name w → IsSafe x w
+  pub start_safe : EachStartRestates → EachStartKeeps → IsIn g.config.volumes v → (is : IsChange (start_edits g.config v) w x) → IsSoundAs g x.config v.name w → IsSafe (Besides v.name) x w
   start_safe restates keeps there is sound_as =
       let own = own_group is.group in
       let mine = subst (λ (h : Group). IsIn h.config.volumes v) own there in
@@ -119,21 +126,34 @@ module _ (w : World) (x : Writing) (s : IsStanding w) (g : Group) (here : w.grou
       restated_back x.group.config x.config u v.name vol.Active (started (is_new v.state))
       (restates x.group.config v (among (objects_of x.group.config) (VolRecord v) (records_vol x.group.config v mine)) x.config edited) other one)
 
-  pub stop_safe : EachStopRestates → EachStopKeeps → IsIn g.config.volumes v → (marks : ℕ) (is : IsChange (stop_edits g.config v marks) w x) → IsSoundAs g x.config v.name w → IsSafe x w
-  stop_safe restates keeps there marks is sound_as =
+  -- what it stands for it stands for as it is stopped too
+  pub stop_safe : EachStopRestates → EachStopKeeps → IsIn g.config.volumes v → is_new v.state ≡ false → (marks : ℕ) (is : IsChange (stop_edits g.config v marks) w x) → IsSoundAs g x.config v.name w → IsSafe Every x w
+  stop_safe restates keeps there filled marks is sound_as =
       let own = own_group is.group in
       let mine = subst (λ (h : Group). IsIn h.config.volumes v) own there in
       let edited : IsEdited (stop_edits x.group.config v marks) x.group.config x.config = subst (λ (h : Group). IsEdited (stop_edits h.config v marks) x.group.config x.config) own is.edited in
-      recorded_safe x w (stop_ready w x s g here v marks (stop_edits g.config v marks) refl is) (whole x.group is.group) is.joiners g own v.name sound_as (λ u. u.name ≢ v.name)
+      let r = restates x.group.config v marks (among (objects_of x.group.config) (VolRecord v) (records_vol x.group.config v mine)) x.config edited in
+      let ready = stop_ready w x s g here v marks (stop_edits g.config v marks) refl is in
+      let all = whole x.group is.group in
+      let others = recorded_safe x w ready all is.joiners g own v.name sound_as (λ u. u.name ≢ v.name)
       (keeps x.group.config x.config v marks (vol_of x.group.config v mine) edited)
-      (λ u one other started_before.
-      restated_back x.group.config x.config u v.name vol.Clean (stopped marks)
-      (restates x.group.config v marks (among (objects_of x.group.config) (VolRecord v) (records_vol x.group.config v mine)) x.config edited) other one)
+      (λ u one other started_before. restated_back x.group.config x.config u v.name vol.Clean (stopped marks) r other one) in
+      whole_safe x w ready all is.joiners g own v.name sound_as others
+      (λ devices same candidates holds y one at before sound.
+      let bytes = sectors_of devices x.group.members in
+      let is_now : y ≡ record v { state = vol.Clean } = own_now x.group.config x.config v mine vol.Clean (stopped marks) r y (is_in x.config.volumes y one) at in
+      subst (λ (z : Vol). LiesWithin (image_of x.config x.group.good bytes z) candidates) (sym is_now)
+      (stopped_within x.group.config x.config v mine marks r filled x.group.good x.group.good (λ slot good. good) bytes candidates (holds v (contains x.group.config.volumes v mine) refl filled)
+      (subst (λ (z : Vol). IsSoundImage (image_of x.config x.group.good bytes z)) is_now sound)))
 
 -- ---- records of one volume that are added
 
-pub added_safe : (w : World) (x : Writing) → IsStanding w → (g : Group) → w.group ≡ Some g → HasWhole w → (name : Word) (added : List Object) → AreOf name added → IsChange (Make added ∷ []) w x → IsSoundAs g x.config name w → IsSafe x w
-added_safe w x s g here whole name added of is sound_as =
-    recorded_safe x w (added_ready added w x s is) (whole x.group is.group) is.joiners g (some_same g x.group (sym here ∙ is.group)) name sound_as (λ u. u.name ≢ name)
-    (plex_keeps_others x.group.config x.config name added of is.edited)
-    (λ u one other started_before. (u, parts_back x.group.config x.config u name added of is.edited one, refl, other))
+pub added_safe : (w : World) (x : Writing) → IsStanding w → (g : Group) → w.group ≡ Some g → HasWhole w → (name : Word) (added : List Object) → AreOf name added → IsChange (Make added ∷ []) w x → IsSoundAs g x.config name w → KeepsOwn x w name → IsSafe Every x w
+added_safe w x s g here whole name added of is sound_as keeps =
+    let ready = added_ready added w x s is in
+    let all = whole x.group is.group in
+    let own = some_same g x.group (sym here ∙ is.group) in
+    whole_safe x w ready all is.joiners g own name sound_as
+    (recorded_safe x w ready all is.joiners g own name sound_as (λ u. u.name ≢ name) (plex_keeps_others x.group.config x.config name added of is.edited)
+    (λ u one other started_before. (u, parts_back x.group.config x.config u name added of is.edited one, refl, other)))
+    keeps

@@ -1,3 +1,4 @@
 pub mod Offered
 pub mod Laws
 pub mod Back
+pub mod Left

@@ -1,8 +1,9 @@
 -- A volume that another configuration keeps is as sound, by the same bytes.
-use Rattle.std.proofs.Common.{◌≡◌, ◌∙◌, inl, inr, ℕ, ◌/◌, ◌<◌, Bool, true, false, ◌&&◌, not, Option, Some, None, List, [], ◌∷◌, refl, sym, ap, subst}
+use Rattle.std.proofs.Common.{◌≡◌, ◌∙◌, inl, inr, ℕ, suc, ◌/◌, ◌<◌, Bool, true, false, ◌&&◌, not, Option, Some, None, List, [], ◌∷◌, length, refl, sym, ap, subst}
 use Rattle.std.specs.Prelude.{Contains}
 use Rattle.std.specs.List.{AllZip, filter}
 use Rattle.std.proofs.lemmas.Bool.{and_parts, and_from, false≢true}
+use Rattle.std.proofs.lemmas.List.{length-map}
 use Rattle.vx_base.specs.Blocks.{Contents}
 use Rattle.vx_base.specs.Named.{Word}
 use Rattle.vx_block.specs.Regions.{region_count}
@@ -25,6 +26,7 @@ use Rattle.vx_image.specs.Soundness.{IsChoiceOfMarks, IsDirtyBy, IsSoundImage, I
 use Rattle.vx_image.specs.UsedPlexes.{is_used_log, is_used_state, used_logs}
 use Rattle.vx_image.proofs.Members.{all_from_each, any_from_one, contains, each_from_all, from_filter, into_filter, is_in, one_from_any}
 use Rattle.vx_volume_laws.specs.Keeping.{KeepsPlex, KeepsVolume, LiesStill, data_plexes}
+use Rattle.vx_readings.proofs.Less.{IsLessImage}
 
 pub used_active : (s : PlexState) → is_active s ≡ true → is_used_state false s ≡ true
 used_active plex.Empty h = absurd (false≢true h)
@@ -61,11 +63,18 @@ after_in R (x ∷ ps) [] each p one = absurd each
 after_in R (x ∷ ps) (q ∷ qs) each p (inl same) = (q, inl refl, subst (λ y. R y q) (sym same) each.0)
 after_in R (x ∷ ps) (q ∷ qs) each p (inr one) = let r = after_in R ps qs each.1 p one in (r.0, inr r.1, r.2)
 
+as_many : {X : Type 0} (R : X → X → Type 0) (ps qs : List X) → AllZip R ps qs → length qs ≡ length ps
+as_many R [] [] each = refl
+as_many R [] (x ∷ qs) each = absurd each
+as_many R (x ∷ ps) [] each = absurd each
+as_many R (x ∷ ps) (y ∷ qs) each = ap suc (as_many R ps qs each.1)
+
 moved : {X : Type 0} (xs : List X) (x y : X) → x ≡ y → IsIn xs y → IsIn xs x
 moved xs x y same one = subst (IsIn xs) (sym same) one
 
 -- the same plex, which is held no more than it was
 record IsStill (p q : PlexImage) : Type 0 where
+  name : q.name ≡ p.name
   map : q.map ≡ p.map
   available : is_available_state q.state ≡ is_available_state p.state
   held : q.held ≡ true → p.held ≡ true
@@ -86,7 +95,7 @@ module _ (c : Config) (good : ℕ) (v : Vol) (c' : Config) (good' : ℕ) (v' : V
   -- ---- plexes
 
   is_still : (p q : Plex) → KeepsPlex c good c' good' p q → IsStill (plex_image c good bytes p) (plex_image c' good' bytes q)
-  is_still p q k = record { map = k.map; available = k.available; held = k.held; values = same_contents p q k.lies }
+  is_still p q k = record { name = k.name; map = k.map; available = k.available; held = k.held; values = same_contents p q k.lies }
 
   before : (y : PlexImage) → Contains new.plexes y → (x : PlexImage) × Contains old.plexes x × IsStill x y
   before y one =
@@ -151,6 +160,21 @@ module _ (c : Config) (good : ℕ) (v : Vol) (c' : Config) (good' : ℕ) (v' : V
 
   copies : (x : LogCopy) → Contains new.copies x → Contains old.copies x
   copies x one = contains old.copies x (copy_before v'.dco v.dco keeps.dco keeps.logs x (is_in new.copies x one))
+
+  -- it says no more than it said, of as many plexes
+  pub kept_less : v'.state ≡ v.state → IsLessImage old new
+  kept_less state = record {
+    state = state;
+    length = keeps.length_is;
+    region = keeps.region_is;
+    before = λ y one. let r = before y one in (r.0, r.1, record { name = r.2.name; map = r.2.map; available = r.2.available; held = r.2.held; values = λ held. r.2.values });
+    after = λ x one. let r = after x one in (r.0, r.1, r.2.map);
+    snaps = λ m one. subst (λ ms. Contains ms m) keeps.relations one;
+    copies = copies;
+  }
+
+  pub kept_plexes : length new.plexes ≡ length old.plexes
+  kept_plexes = length-map (data_plexes c' v'.name) (plex_image c' good' bytes) ∙ as_many (KeepsPlex c good c' good') (data_plexes c v.name) (data_plexes c' v'.name) keeps.plexes ∙ sym (length-map (data_plexes c v.name) (plex_image c good bytes))
 
   -- ---- soundness
 

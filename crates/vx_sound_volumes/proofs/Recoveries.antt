@@ -56,7 +56,7 @@ use Rattle.vx_sound_volumes.proofs.Stages.{StateLaws}
 
 -- ---- other states of a volume are recorded
 
-zip_all : {A B : Type 0} (R S : A → B → Type 0) → ((a : A) (b : B) → R a b → S a b) → (xs : List A) (ys : List B) → AllZip R xs ys → AllZip S xs ys
+pub zip_all : {A B : Type 0} (R S : A → B → Type 0) → ((a : A) (b : B) → R a b → S a b) → (xs : List A) (ys : List B) → AllZip R xs ys → AllZip S xs ys
 zip_all R S each [] [] all = tt
 zip_all R S each [] (y ∷ ys) all = absurd all
 zip_all R S each (x ∷ xs) [] all = absurd all
@@ -84,7 +84,7 @@ module _ (c c' : Config) (v : Vol) (there : IsIn c.volumes v) (next : VolState) 
         let state : q.state ≡ p.state = elim (true_or_false (refers p.vol v.name)) [ inl own ↦ one.own own ∙ plexes_stay p | inr other ↦ one.other other ] in
         record { same = one.same; available = λ kind. ap is_available_state state; active = λ log. ap is_active state ∙ active_used p.state }
 
-    changes : ChangesStates c good v false c' good' (record v { state = next })
+    pub changes : ChangesStates c good v false c' good' (record v { state = next })
     changes = record {
       vol = refl;
       disks = r.disks;

@@ -112,7 +112,7 @@ lies_so vol.Active plexes image = refl
 lies_so vol.NeedSync plexes image = refl
 lies_so vol.Sync plexes image = refl
 
-lives_so : (state : VolState) (plexes : List Word) (image : Image) → (volume_by state plexes image).life ≡ begun_from (candidates_read image)
+pub lives_so : (state : VolState) (plexes : List Word) (image : Image) → (volume_by state plexes image).life ≡ begun_from (candidates_read image)
 lives_so vol.Empty plexes image = refl
 lives_so vol.Clean plexes image = refl
 lives_so vol.Active plexes image = refl

@@ -18,6 +18,12 @@ impl Candidates {
         Ok(Candidates { blocks })
     }
 
+    /// The same again.
+    pub fn copy(&self, alloc: Global) -> Result<Candidates, AllocError> {
+        let blocks = Vec::from_slice(alloc, self.blocks.as_slice())?;
+        Ok(Candidates { blocks })
+    }
+
     /// How many blocks there are.
     pub fn blocks(&self) -> u64 {
         self.blocks.len() as u64

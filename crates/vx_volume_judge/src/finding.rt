@@ -47,6 +47,12 @@ pub enum Finding {
     Answer(u64),
     /// The status is not that of the answers.
     Status,
+    /// A recovery tells numbers of regions that were dirty or copied which cannot be so.
+    Counts,
+    /// By the bytes a volume can be neither started nor recovered, and nothing stands against that.
+    Unrecoverable,
+    /// A command that is cut one write later has written more than that one write.
+    Writes,
     /// A fault fires at each call.
     Endless,
 }
@@ -75,6 +81,9 @@ impl Finding {
             Finding::Value(_) => "something else is held in block",
             Finding::Answer(_) => "what may not be given is answer",
             Finding::Status => "the status is another",
+            Finding::Counts => "a recovery tells other numbers of regions",
+            Finding::Unrecoverable => "the volume cannot be recovered",
+            Finding::Writes => "more was written than the next write",
             Finding::Endless => "the fault fires at each call",
         }
     }

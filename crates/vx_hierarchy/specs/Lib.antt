@@ -1,0 +1,4 @@
+pub mod Kernel
+pub mod Rows
+pub mod Lines
+pub mod Hierarchy

@@ -215,7 +215,8 @@ impl<P: Piece> Cell<P> {
         }
     }
 
-    fn has_other(&self, map: u8) -> bool
+    /// Whether another plex is on and unmarked.
+    pub fn has_other(&self, map: u8) -> bool
         ensures { result ≡ has_other (cell_seen P.seen self.now).stage map }
     {
         let current = vx_mask::less(self.stage.on, self.stage.bits);

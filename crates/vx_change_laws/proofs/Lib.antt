@@ -5,3 +5,4 @@ pub mod Joinings
 pub mod Exactness
 pub mod Places
 pub mod Loggings
+pub mod Switchings

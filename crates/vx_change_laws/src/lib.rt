@@ -1,11 +1,15 @@
-//! What becomes of a running volume of the world where a map of its log is set, a plex joins it, or it gets another log: laws, as
-//! functions that do nothing and promise them.
+//! What becomes of a running volume of the world where a map of its log is set, its log is made firm, a plex joins it, goes on or off, or it
+//! gets another log: laws, as functions that do nothing and promise them.
 #![tactic(auto)]
 
 ghost use Rattle.vx_change_laws.specs.Laws.{EachFailureIsNoted, EachFreeMapIsNew, EachJoiningFits, EachJoiningRunsOn, EachJoiningStaysCut, EachJoiningStaysExact, EachSettingFits, EachSettingIsQuiet, EachSettingKeepsPlaces, EachSettingLeavesFree, EachSettingRunsOn, EachSettingStaysCut, EachSettingStaysExact};
+ghost use Rattle.vx_change_laws.specs.Switching.{EachFirmingFits, EachFirmingKeepsPlaces, EachFirmingRunsOn, EachFirmingStaysCut, EachFirmingStaysExact, EachPlexOffRunsOn, EachPlexOnRunsOn, EachSwitchFits, EachSwitchStaysCut, EachSwitchStaysExact};
 ghost use Rattle.vx_change_laws.specs.Logging.{EachLogChangeFits, EachLogChangeIsExact, EachLogChangeRunsOn, EachLogChangeStaysCut};
 
-use vx_volume::laws::{each_putting_stands, each_setting_stands};
+use vx_volume::laws::{
+    each_firming_goes_on, each_history_goes_on, each_plex_may_switch, each_putting_stands,
+    each_setting_stands,
+};
 
 /// A volume that runs also runs as one of which some devices have failed too.
 pub fn each_failure_is_noted()
@@ -84,4 +88,35 @@ pub fn each_log_change_is_exact()
 /// Its regions are dead then only where they are cut, if they were so before and the power of the old log is there.
 pub fn each_log_change_stays_cut()
     ensures { EachLogChangeStaysCut }
+{}
+
+/// After what was left open on its log was written again, or that failed, a volume runs as the same one.
+pub fn each_firming_runs_on()
+    ensures { EachFirmingRunsOn }
+{
+    each_firming_goes_on();
+    each_history_goes_on();
+}
+
+/// The owners of tracks fit then, its log stays exact, it lies where it lay, and its regions are dead only where they are cut.
+pub fn each_firming_keeps()
+    ensures fits { EachFirmingFits }
+    ensures exact { EachFirmingStaysExact }
+    ensures places { EachFirmingKeepsPlaces }
+    ensures cut { EachFirmingStaysCut }
+{}
+
+/// After a plex went off that can be spared, a volume runs as the same one, and after one went on, as the one in which nothing is sure of it.
+pub fn each_switch_runs_on()
+    ensures off { EachPlexOffRunsOn }
+    ensures on { EachPlexOnRunsOn }
+{
+    each_plex_may_switch();
+}
+
+/// The owners of tracks fit then, the log stays exact, and regions are dead only where they are cut.
+pub fn each_switch_keeps()
+    ensures fits { EachSwitchFits }
+    ensures exact { EachSwitchStaysExact }
+    ensures cut { EachSwitchStaysCut }
 {}

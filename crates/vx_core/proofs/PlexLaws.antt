@@ -57,7 +57,7 @@ only_one s held plex k h plain (inl on) there =
     elim (union_cases _ _ _ there) [ inl was ↦ was | inr here ↦ rw (same_as_only plex k here) on ]
 only_one s held plex k h plain (inr off) there = not_both off (h.unlogged plain plex).0
 
-stage_on : (s : Stage) (held : ℕ → Bool) (plex : ℕ) → IsStage s held → held plex ≡ true → IsStage (set_on s plex) held
+pub stage_on : (s : Stage) (held : ℕ → Bool) (plex : ℕ) → IsStage s held → held plex ≡ true → IsStage (set_on s plex) held
 stage_on s held plex h is_held =
     let is_data = h.plexes plex is_held in
     let low = data_low s held plex h is_data in
@@ -148,7 +148,7 @@ off_30 s held plex stage is_data =
       | inl here ↦ absurd (data_30 s held stage (subst (λ (k : ℕ). IsData s k) (sym (same_as_only plex 30 here)) is_data))
     ]
 
-stage_off : (s : Stage) (held : ℕ → Bool) (plex j : ℕ) → IsStage s held → IsData s plex → has s.on j ≡ true → j ≢ plex → IsStage (set_off s plex) held
+pub stage_off : (s : Stage) (held : ℕ → Bool) (plex j : ℕ) → IsStage s held → IsData s plex → has s.on j ≡ true → j ≢ plex → IsStage (set_off s plex) held
 stage_off s held plex j h is_data on_j apart =
     record {
       on_fits = without-lt s.on (only plex) h.on_fits;

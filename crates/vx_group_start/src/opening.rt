@@ -187,7 +187,7 @@ fn open_over<P: Piece + Drop>(
     ensures running { public.new.running ≡ public.old.running }
     ensures stuck { public.new.stuck ≡ public.old.stuck }
 {
-    match Volume::open(alloc, form.shape, regions, log) {
+    match Volume::open(alloc, form.shape, form.policy, regions, log) {
         Ok(volume) => Ok(Running { form, volume }),
         Err(
             OpenRefused {

@@ -6,3 +6,4 @@ pub mod Houses
 pub mod Steps
 pub mod Moments
 pub mod Logs
+pub mod Unseen

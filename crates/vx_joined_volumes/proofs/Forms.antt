@@ -1,22 +1,18 @@
 -- The form of a volume with one plex more is that of the volume by the new configuration.
-use Rattle.std.proofs.Common.{◌≡◌, ℕ, Bool, true, false, cond, not, Option, Some, None, List, [], ◌∷◌, ◌++◌, inl, inr, refl, sym, ◌∙◌, ap, subst, arith}
+use Rattle.std.proofs.Common.{◌≡◌, ℕ, Bool, true, false, cond, not, Option, Some, None, List, [], ◌∷◌, ◌++◌, inl, refl, sym, ◌∙◌, ap, subst, arith}
 use Rattle.std.specs.Prelude.{◌&&◌}
 use Rattle.std.specs.List.{filter}
-use Rattle.std.proofs.lemmas.Bool.{and_from, and_parts, false≢true, false_from_ne_true}
+use Rattle.std.proofs.lemmas.Bool.{and_from, false_from_ne_true}
 use Rattle.std.proofs.lemmas.List.{append-nil, map-append}
 use Rattle.vx_base.specs.Named.{Word}
 use Rattle.vx_mask.specs.Mask.{has}
-use Rattle.vx_mask.proofs.Sets.{in_union}
 use Rattle.vx_piece.specs.Seen.{Seen}
 use Rattle.vx_layout.specs.declared.layout.Layout.{Layout}
 use Rattle.vx_pages.specs.declared.local_piece.LocalPiece.{Ghosts}
-use Rattle.vx_config_parts.specs.declared.disk.Disk.{Disk}
 use Rattle.vx_config_parts.specs.declared.object.Object.{Object}
 use Rattle.vx_config_parts.specs.declared.plex.Plex.{Plex}
-use Rattle.vx_config_parts.specs.declared.plex.PlexKind.{PlexKind}
-use Rattle.vx_config_parts.specs.declared.plex.PlexKind.TheVariants.{Data, Log}
 use Rattle.vx_config_parts.specs.declared.vol.Vol.{Vol}
-use Rattle.vx_config_parts.specs.Objects.{is_data, is_data_plex_of, is_log, is_log_plex_of, refers}
+use Rattle.vx_config_parts.specs.Objects.{is_data_plex_of}
 use Rattle.vx_objects.specs.declared.config.Config.{Config}
 use Rattle.vx_image.proofs.PlexMembers.{IsIn, in_left, in_right}
 use Rattle.vx_image.specs.Bytes.{is_held, map_or_zero, relation_maps}
@@ -26,29 +22,21 @@ use Rattle.vx_volume.specs.declared.volume.VolumeShape.{VolumeShape}
 use Rattle.vx_lending.specs.RegionsTaken.{is_among}
 use Rattle.vx_lending.specs.declared.form.VolumeForm.{VolumeForm}
 use Rattle.vx_lending.specs.Form.{AreLayouts, IsFormOf, IsLayoutOf, IsMaskOf}
-use Rattle.vx_lending.proofs.Distinct.{filtered}
 use Rattle.vx_lending.proofs.Maps.{one_of_map, plex_among}
+use Rattle.vx_lending.proofs.Places.{held_taken, log_taken}
 use Rattle.vx_lending.proofs.Unions.{mask_push}
 use Rattle.vx_lending.proofs.Zips.{zip_push}
 use Rattle.vx_lending.specs.declared.public.Running.{Running}
 use Rattle.vx_group_edits.specs.Joins.{Joins, plexes_in}
 use Rattle.vx_group_edits.proofs.Joined.{plex_joins}
-use Rattle.vx_group_volumes.specs.Places.{RunsInPlace, disks_at}
+use Rattle.vx_group_volumes.specs.Places.{RunsInPlace}
 use Rattle.vx_group_volumes.specs.Runs.{Opening}
-use Rattle.vx_joined_volumes.specs.Joined.{IsFormJoined, JoinsOne, good_joined, mask_of_slots}
+use Rattle.vx_joined_volumes.specs.Joined.{IsFormJoined, JoinsOne, good_joined}
 use Rattle.vx_joined_volumes.specs.Laws.{EachJoinedFormIsItsOwn}
-use Rattle.vx_joined_volumes.proofs.Held.{held_over}
-use Rattle.vx_joined_volumes.proofs.Plexes.{IsSameData, IsSameLog, held_same, logs_same, maps_same, off_same, on_same}
-use Rattle.vx_joined_volumes.proofs.Zips.{zip_more, zip_turn}
-
-no_log : (k : PlexKind) → is_data k ≡ true → is_log k ≡ false
-no_log Data data_is = refl
-no_log Log data_is = absurd (false≢true data_is)
-
--- disks that are more leave a plex held
-held_more : (c : Config) (good more : ℕ) → ((slot : ℕ) → has good slot ≡ true → has more slot ≡ true) → (p : Plex) → IsIn c.plexes p → is_held c good p ≡ true → is_held c more p ≡ true
-held_more c good more each p here held = held_over c c more good p p here refl (λ x in_p some d one slot.
-    each x.disk (subst (λ (s : ℕ). has good s ≡ true) slot (filtered (λ (d : Disk). has good d.slot) c.disks d one).1)) held
+use Rattle.vx_joined_volumes.proofs.Held.{held_more}
+use Rattle.vx_joined_volumes.proofs.Now.{form_now, more_good}
+use Rattle.vx_joined_volumes.proofs.Plexes.{data_no_log}
+use Rattle.vx_joined_volumes.proofs.Zips.{zip_more}
 
 module _ {P : Type 0} {ghosts : Ghosts P} (see : P → Seen) (running : Running P ghosts) (c : Config) (good : ℕ) (numbers : List ℕ) (v : Vol) (placed : RunsInPlace see c good numbers v running)
     (added : List Object) (c' : Config) (p : Plex) (m : ℕ) (one : JoinsOne c good v added c' p m) where
@@ -76,19 +64,11 @@ module _ {P : Type 0} {ghosts : Ghosts P} (see : P → Seen) (running : Running 
   left_one : (t : Plex → Bool) → t p ≡ false → filter t (plexes_in added) ≡ []
   left_one t fails = ap (λ ps. filter t ps) one.alone ∙ ap (λ b. cond b (p ∷ []) []) fails
 
-  pub good_more : (slot : ℕ) → has good slot ≡ true → has joined slot ≡ true
-  good_more slot is = in_union (mask_of_slots (disks_at o)) good slot (inr is)
-
   held_now : is_held c' joined p ≡ true
-  held_now = held_more c' good joined good_more p new_there one.held
+  held_now = held_more c' good joined (more_good see running c good numbers v placed) p new_there one.held
 
   on_now : is_on c' joined p ≡ true
   on_now = and_from _ _ held_now one.state
-
-  not_log : is_log_plex_of v.name p ≡ false
-  not_log =
-      let data_is = (and_parts (refers p.vol v.name) (is_data p.kind) one.data_is).1 in
-      false_from_ne_true _ (λ log. false≢true (sym (no_log p.kind data_is) ∙ (and_parts (refers p.vol v.name) (is_log p.kind) log).1))
 
   pub held_joined : held_plexes c' joined v.name ≡ held_plexes c joined v.name ++ p ∷ []
   held_joined = joins.held joined ∙ ap (λ ps. held_plexes c joined v.name ++ ps) (kept_one (λ q. is_data_plex_of v.name q && is_held c' joined q) (and_from _ _ one.data_is held_now))
@@ -104,7 +84,7 @@ module _ {P : Type 0} {ghosts : Ghosts P} (see : P → Seen) (running : Running 
   logs_by : (dco : Option Word) → used_logs dco c' joined false v.name ≡ used_logs dco c joined false v.name
   logs_by None = refl
   logs_by (Some dco) =
-      let fails : is_used_log c' joined false v.name p ≡ false = ap (λ b. b && (is_used_state false p.state && is_held c' joined p)) not_log in
+      let fails : is_used_log c' joined false v.name p ≡ false = ap (λ b. b && (is_used_state false p.state && is_held c' joined p)) (data_no_log v.name p one.data_is) in
       joins.logs dco joined false ∙ ap (λ ps. used_logs (Some dco) c joined false v.name ++ ps) (left_one (is_used_log c' joined false v.name) fails) ∙ append-nil (used_logs (Some dco) c joined false v.name)
 
   pub logs_joined : used_logs v.dco c' joined false v.name ≡ used_logs v.dco c joined false v.name
@@ -112,21 +92,11 @@ module _ {P : Type 0} {ghosts : Ghosts P} (see : P → Seen) (running : Running 
 
   -- ---- its maps
 
+  abbrev now : IsFormOf c joined v false running.form
+  now = form_now see running c good numbers v placed
+
   maps_one : (ps : List Plex) → maps_of (ps ++ p ∷ []) ≡ maps_of ps ++ m ∷ []
   maps_one ps = map-append (λ (q : Plex). map_or_zero q.map) ps (p ∷ []) ∙ ap (λ o. maps_of ps ++ map_or_zero o ∷ []) one.map
-
-  held_maps : maps_of (held_plexes c' joined v.name) ≡ maps_of (held_plexes o.config o.good o.vol.name) ++ m ∷ []
-  held_maps =
-      ap maps_of held_joined ∙ maps_one (held_plexes c joined v.name)
-      ∙ ap (λ ms. ms ++ m ∷ []) (maps_same see running c good numbers v placed (held_plexes o.config o.good o.vol.name) (held_plexes c joined v.name) (held_same see running c good numbers v placed))
-
-  on_maps : maps_of (on_plexes c' joined v.name) ≡ maps_of (on_plexes o.config o.good o.vol.name) ++ m ∷ []
-  on_maps =
-      ap maps_of on_joined ∙ maps_one (on_plexes c joined v.name)
-      ∙ ap (λ ms. ms ++ m ∷ []) (maps_same see running c good numbers v placed (on_plexes o.config o.good o.vol.name) (on_plexes c joined v.name) (on_same see running c good numbers v placed))
-
-  off_maps : maps_of (off_plexes c' joined v.name) ≡ maps_of (off_plexes o.config o.good o.vol.name)
-  off_maps = ap maps_of off_joined ∙ maps_same see running c good numbers v placed (off_plexes o.config o.good o.vol.name) (off_plexes c joined v.name) (off_same see running c good numbers v placed)
 
   -- a data plex that was there has another
   pub other_map : (q : Plex) → IsIn c.plexes q → is_data_plex_of v.name q ≡ true → map_or_zero q.map ≡ m → ⊥
@@ -135,12 +105,11 @@ module _ {P : Type 0} {ghosts : Ghosts P} (see : P → Seen) (running : Running 
       let is = one_of_map c' v recorded_now q p q_there new_there own one.data_is (same ∙ sym (ap map_or_zero one.map)) in
       (joins.new p (contains (plexes_in added) p (subst (λ ps. IsIn ps p) (sym one.alone) (inl refl)))).name q (contains c.plexes q there) (ap (λ (x : Plex). x.name) is)
 
-  pub map_new : is_among m (maps_of (held_plexes o.config o.good o.vol.name)) ≡ false
+  pub map_new : is_among m running.form.maps.items ≡ false
   map_new = false_from_ne_true _ (λ among.
-      let same = maps_same see running c good numbers v placed (held_plexes o.config o.good o.vol.name) (held_plexes c joined v.name) (held_same see running c good numbers v placed) in
-      let r = plex_among (held_plexes c joined v.name) m (subst (λ ms. is_among m ms ≡ true) (sym same) among) in
-      let w = filtered (λ q. is_data_plex_of v.name q && is_held c joined q) c.plexes r.plex r.there in
-      other_map r.plex w.0 (and_parts (is_data_plex_of v.name r.plex) (is_held c joined r.plex) w.1).0 r.map_is)
+      let r = plex_among (held_plexes c joined v.name) m (subst (λ ms. is_among m ms ≡ true) now.maps among) in
+      let w = held_taken c joined v r.plex r.there in
+      other_map r.plex w.0.there w.1 r.map_is)
 
   -- ---- its layouts
 
@@ -148,23 +117,10 @@ module _ {P : Type 0} {ghosts : Ghosts P} (see : P → Seen) (running : Running 
   lay_on q l there lay = record { unit = lay.unit; columns = lay.columns ∙ sym (joins.old q (contains c.plexes q there)).lies.columns }
 
   data_layouts : AreLayouts c' (held_plexes c joined v.name) running.form.layouts.items
-  data_layouts =
-      let now = zip_turn (IsSameData o.config o.good c joined) (IsLayoutOf o.config) (IsLayoutOf c)
-      (λ q r l same lay. record { unit = lay.unit ∙ sym same.same.lies.unit; columns = lay.columns ∙ sym same.same.lies.columns })
-      (held_plexes o.config o.good o.vol.name) (held_plexes c joined v.name) running.form.layouts.items (held_same see running c good numbers v placed) placed.runs.form.layouts in
-      zip_more (IsLayoutOf c) (IsLayoutOf c') (held_plexes c joined v.name) running.form.layouts.items now
-      (λ q l there in_form lay. lay_on q l (filtered (λ x. is_data_plex_of v.name x && is_held c joined x) c.plexes q there).0 lay)
-
-  log_there : (dco : Option Word) (q : Plex) → IsIn (used_logs dco c joined false v.name) q → IsIn c.plexes q
-  log_there None q there = absurd there
-  log_there (Some dco) q there = (filtered (is_used_log c joined false v.name) c.plexes q there).0
+  data_layouts = zip_more (IsLayoutOf c) (IsLayoutOf c') (held_plexes c joined v.name) running.form.layouts.items now.layouts (λ q l there in_form lay. lay_on q l (held_taken c joined v q there).0.there lay)
 
   log_layouts : AreLayouts c' (used_logs v.dco c joined false v.name) running.form.logs.items
-  log_layouts =
-      let now = zip_turn (IsSameLog o.config o.good o.fresh c joined) (IsLayoutOf o.config) (IsLayoutOf c)
-      (λ q r l same lay. record { unit = lay.unit ∙ sym same.same.lies.unit; columns = lay.columns ∙ sym same.same.lies.columns })
-      (used_logs o.vol.dco o.config o.good o.fresh o.vol.name) (used_logs v.dco c joined false v.name) running.form.logs.items (logs_same see running c good numbers v placed) placed.runs.form.logs in
-      zip_more (IsLayoutOf c) (IsLayoutOf c') (used_logs v.dco c joined false v.name) running.form.logs.items now (λ q l there in_form lay. lay_on q l (log_there v.dco q there) lay)
+  log_layouts = zip_more (IsLayoutOf c) (IsLayoutOf c') (used_logs v.dco c joined false v.name) running.form.logs.items now.logs (λ q l there in_form lay. lay_on q l (log_taken c joined v false v.dco q there).0.there lay)
 
   -- ---- the form
 
@@ -172,23 +128,22 @@ module _ {P : Type 0} {ghosts : Ghosts P} (see : P → Seen) (running : Running 
     on_mask : IsMaskOf (maps_of (on_plexes c' joined v.name)) form.shape.on
     on_mask =
         let low = one.low in
-        subst (λ ms. IsMaskOf ms form.shape.on) (sym on_maps)
-        (subst (λ n. IsMaskOf (maps_of (on_plexes o.config o.good o.vol.name) ++ m ∷ []) n) (sym (ap (λ (s : VolumeShape). s.on) is.shape))
-        (mask_push (maps_of (on_plexes o.config o.good o.vol.name)) running.form.shape.on m placed.runs.form.shape_is.on (omega (arith, low))))
+        subst (λ ms. IsMaskOf ms form.shape.on) (sym (ap maps_of on_joined ∙ maps_one (on_plexes c joined v.name)))
+        (subst (λ n. IsMaskOf (maps_of (on_plexes c joined v.name) ++ m ∷ []) n) (sym (ap (λ (s : VolumeShape). s.on) is.shape))
+        (mask_push (maps_of (on_plexes c joined v.name)) running.form.shape.on m now.shape_is.on (omega (arith, low))))
 
     pub form_joined : IsFormOf c' joined v false form
     form_joined = record {
       shape_is = record {
-        length_is = ap (λ (s : VolumeShape). s.geometry.length) is.shape ∙ placed.runs.form.shape_is.length_is ∙ sym placed.runs.keeps.length_is;
-        region_is = ap (λ (s : VolumeShape). s.geometry.region) is.shape ∙ placed.runs.form.shape_is.region_is ∙ sym placed.runs.keeps.region_is;
+        length_is = ap (λ (s : VolumeShape). s.geometry.length) is.shape ∙ now.shape_is.length_is;
+        region_is = ap (λ (s : VolumeShape). s.geometry.region) is.shape ∙ now.shape_is.region_is;
         on = on_mask;
-        off = subst (λ ms. IsMaskOf ms form.shape.off) (sym off_maps)
-            (subst (λ n. IsMaskOf (maps_of (off_plexes o.config o.good o.vol.name)) n) (sym (ap (λ (s : VolumeShape). s.off) is.shape)) placed.runs.form.shape_is.off);
-        snaps = subst (λ ms. IsMaskOf ms form.shape.snaps) (sym (ap (λ ss. relation_maps ss v.name) joins.snaps ∙ placed.runs.keeps.relations))
-            (subst (λ n. IsMaskOf (relation_maps o.config.snaps o.vol.name) n) (sym (ap (λ (s : VolumeShape). s.snaps) is.shape)) placed.runs.form.shape_is.snaps);
-        in_turn = ap (λ (s : VolumeShape). s.policy) is.shape ∙ placed.runs.form.shape_is.in_turn;
+        off = subst (λ ms. IsMaskOf ms form.shape.off) (sym (ap maps_of off_joined))
+            (subst (λ n. IsMaskOf (maps_of (off_plexes c joined v.name)) n) (sym (ap (λ (s : VolumeShape). s.off) is.shape)) now.shape_is.off);
+        snaps = subst (λ ms. IsMaskOf ms form.shape.snaps) (sym (ap (λ ss. relation_maps ss v.name) joins.snaps))
+            (subst (λ n. IsMaskOf (relation_maps c.snaps v.name) n) (sym (ap (λ (s : VolumeShape). s.snaps) is.shape)) now.shape_is.snaps);
       };
-      maps = is.maps ∙ ap (λ ms. ms ++ m ∷ []) placed.runs.form.maps ∙ sym held_maps;
+      maps = is.maps ∙ ap (λ ms. ms ++ m ∷ []) now.maps ∙ sym (ap maps_of held_joined ∙ maps_one (held_plexes c joined v.name));
       layouts = subst (λ ps. AreLayouts c' ps form.layouts.items) (sym held_joined)
           (subst (λ ls. AreLayouts c' (held_plexes c joined v.name ++ p ∷ []) ls) (sym is.layouts) (zip_push (IsLayoutOf c') (held_plexes c joined v.name) running.form.layouts.items p l data_layouts lay));
       logs = subst (λ ps. AreLayouts c' ps form.logs.items) (sym logs_joined) (subst (λ ls. AreLayouts c' (used_logs v.dco c joined false v.name) ls) (sym is.logs) log_layouts);

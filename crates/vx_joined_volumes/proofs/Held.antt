@@ -97,6 +97,11 @@ held_over c0 c good0 good p q here columns each held = all_from (λ s. not (refe
     by s one true of = good_slot s one of
     by s one false of = refl
 
+-- disks that are more leave a plex held
+pub held_more : (c : Config) (good more : ℕ) → ((slot : ℕ) → has good slot ≡ true → has more slot ≡ true) → (p : Plex) → IsIn c.plexes p → is_held c good p ≡ true → is_held c more p ≡ true
+held_more c good more each p here held = held_over c c more good p p here refl (λ x in_p some d one slot.
+    each x.disk (subst (λ (s : ℕ). has good s ≡ true) slot (filtered (λ (d : Disk). has good d.slot) c.disks d one).1)) held
+
 pub same_test : (a b : Bool) → (a ≡ true → b ≡ true) → (b ≡ true → a ≡ true) → a ≡ b
 same_test true b there back = sym (there refl)
 same_test false true there back = back refl

@@ -11,3 +11,10 @@ pub mod Alone
 pub mod RelogForms
 pub mod RelogRuns
 pub mod RelogNamed
+pub mod Now
+pub mod SwitchEdits
+pub mod SwitchMasks
+pub mod SwitchForms
+pub mod SwitchRuns
+pub mod SwitchPlexes
+pub mod SwitchNamed

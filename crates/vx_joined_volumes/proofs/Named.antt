@@ -1,5 +1,5 @@
 -- The plexes of a volume that a plex has joined, by their names and maps.
-use Rattle.std.proofs.Common.{◌≡◌, ◌⊎◌, inl, inr, ℕ, true, false, List, [], ◌∷◌, ◌++◌, map, refl, sym, ◌∙◌, ap, subst}
+use Rattle.std.proofs.Common.{◌≡◌, ◌⊎◌, inl, inr, ℕ, false, List, [], ◌∷◌, ◌++◌, map, refl, sym, ◌∙◌, ap, subst}
 use Rattle.std.specs.Prelude.{Contains}
 use Rattle.std.proofs.lemmas.List.{append_assoc, map-append}
 use Rattle.vx_base.specs.Named.{Word}
@@ -8,7 +8,6 @@ use Rattle.vx_pages.specs.declared.local_piece.LocalPiece.{Ghosts}
 use Rattle.vx_config_parts.specs.declared.object.Object.{Object}
 use Rattle.vx_config_parts.specs.declared.plex.Plex.{Plex}
 use Rattle.vx_config_parts.specs.declared.vol.Vol.{Vol}
-use Rattle.vx_config_parts.specs.Objects.{is_data_plex_of}
 use Rattle.vx_objects.specs.declared.config.Config.{Config}
 use Rattle.vx_image.proofs.PlexMembers.{IsIn, in_either, in_left, in_right}
 use Rattle.vx_image.specs.Bytes.{Sectors, image_of, map_or_zero}
@@ -23,10 +22,10 @@ use Rattle.vx_group_edits.specs.Joins.{plexes_in}
 use Rattle.vx_group_volumes.specs.Opened.{WereThere, opened_plexes}
 use Rattle.vx_group_volumes.specs.Places.{RunsInPlace}
 use Rattle.vx_group_volumes.specs.Runs.{Opening}
-use Rattle.vx_group_volumes.proofs.Plexes.{opened_plex, plex_now}
 use Rattle.vx_joined_volumes.specs.Joined.{JoinsOne, good_joined, opening_joined}
 use Rattle.vx_joined_volumes.specs.Laws.{EachJoinedVolumeIsNamed, IsNamedSo}
 use Rattle.vx_joined_volumes.proofs.Forms.{held_joined, joins, logs_joined, new_there, other_map}
+use Rattle.vx_joined_volumes.proofs.Now.{IsNow, image_now}
 use Rattle.vx_joined_volumes.proofs.Plexes.{IsSameData, IsSameLog, held_same, logs_same}
 use Rattle.vx_joined_volumes.proofs.Zips.{zip_map}
 
@@ -81,19 +80,8 @@ module _ {P : Type 0} {ghosts : Ghosts P} (see : P → Seen) (running : Running 
     abbrev later : List PlexImage
     later = plexes ++ image ∷ []
 
-    -- the data plex of now that has the name and map of an image
-    record IsNow (x : PlexImage) : Type 0 where
-      pub plex : Plex
-      pub there : IsIn c.plexes plex
-      pub own : is_data_plex_of v.name plex ≡ true
-      pub name : plex.name ≡ x.name
-      pub map : map_or_zero plex.map ≡ x.map
-
-    now : (x : PlexImage) → Contains plexes x → IsNow x
-    now x here =
-        let q = opened_plex o plexes were x here in
-        let r = plex_now o.config o.good o.vol o.fresh c good v placed.runs.keeps q.plex q.there q.data_is in
-        record { plex = r.plex; there = r.there; own = r.data_is; name = r.keeps.name ∙ q.name_is; map = r.keeps.map ∙ q.map_is }
+    now : (x : PlexImage) → Contains plexes x → IsNow c v x
+    now x here = image_now see running c good numbers v placed plexes were x here
 
     either : (x : PlexImage) → Contains later x → Contains plexes x ⊎ (x ≡ image)
     either x here = elim (in_either plexes (image ∷ []) x (is_in later x here)) [

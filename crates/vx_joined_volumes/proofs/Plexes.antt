@@ -1,12 +1,14 @@
 -- The plexes of a volume as it was opened, and now: they go together, and all disks of one are good where those of the other were.
-use Rattle.std.proofs.Common.{◌≡◌, ℕ, Bool, false, not, Option, Some, None, List, map, refl, ◌∙◌, ap, subst}
+use Rattle.std.proofs.Common.{◌≡◌, ℕ, Bool, true, false, not, Option, Some, None, List, map, refl, sym, ◌∙◌, ap, subst}
 use Rattle.std.specs.Prelude.{◌&&◌}
 use Rattle.std.specs.List.{AllZip, filter}
-use Rattle.std.proofs.lemmas.Bool.{and_parts}
+use Rattle.std.proofs.lemmas.Bool.{and_parts, false≢true, false_from_ne_true}
 use Rattle.vx_base.specs.Named.{Word}
 use Rattle.vx_piece.specs.Seen.{Seen}
 use Rattle.vx_pages.specs.declared.local_piece.LocalPiece.{Ghosts}
 use Rattle.vx_config_parts.specs.declared.plex.Plex.{Plex}
+use Rattle.vx_config_parts.specs.declared.plex.PlexKind.{PlexKind}
+use Rattle.vx_config_parts.specs.declared.plex.PlexKind.TheVariants.{Data, Log}
 use Rattle.vx_config_parts.specs.declared.state.PlexState.{PlexState}
 use Rattle.vx_config_parts.specs.declared.state.PlexState.TheVariants as plex
 use Rattle.vx_config_parts.specs.declared.vol.Vol.{Vol}
@@ -52,6 +54,16 @@ used_active plex.Stale = refl
 used_active plex.SnapAtt = refl
 used_active plex.SnapDone = refl
 used_active plex.DcoSnp = refl
+
+no_log : (k : PlexKind) → is_data k ≡ true → is_log k ≡ false
+no_log Data data_is = refl
+no_log Log data_is = absurd (false≢true data_is)
+
+-- a data plex is no log plex
+pub data_no_log : (vol : Word) (p : Plex) → is_data_plex_of vol p ≡ true → is_log_plex_of vol p ≡ false
+data_no_log vol p data_is =
+    let own = (and_parts (refers p.vol vol) (is_data p.kind) data_is).1 in
+    false_from_ne_true _ (λ log. false≢true (sym (no_log p.kind own) ∙ (and_parts (refers p.vol vol) (is_log p.kind) log).1))
 
 module _ {P : Type 0} {ghosts : Ghosts P} (see : P → Seen) (running : Running P ghosts) (c : Config) (good : ℕ) (numbers : List ℕ) (v : Vol) (placed : RunsInPlace see c good numbers v running) where
   abbrev o : Opening

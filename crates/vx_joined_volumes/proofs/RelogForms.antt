@@ -98,7 +98,6 @@ module _ {P : Type 0} {ghosts : Ghosts P} (see : P → Seen) (running : Running 
             (subst (λ n. IsMaskOf [] n) (sym (ap (λ (s : VolumeShape). s.off) is.shape)) mask_none);
         snaps = subst (λ ms. IsMaskOf ms form.shape.snaps) (sym (ap (λ n. relation_maps c'.snaps n) name_is ∙ changes.alone_now))
             (subst (λ n. IsMaskOf [] n) (sym (ap (λ (s : VolumeShape). s.snaps) is.shape)) mask_none);
-        in_turn = ap (λ (s : VolumeShape). s.policy) is.shape ∙ placed.runs.form.shape_is.in_turn;
       };
       maps = is.maps ∙ ap (λ ms. map (λ (m : ℕ). 0) ms) (lone_maps see running c good numbers v placed p changes.was) ∙ sym (ap maps_of held_all ∙ maps_now);
       layouts = subst (λ ps. AreLayouts c' ps form.layouts.items) (sym held_all) lay_now;

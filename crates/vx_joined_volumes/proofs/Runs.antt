@@ -35,7 +35,8 @@ use Rattle.vx_group_volumes.specs.Runs.{Opening}
 use Rattle.vx_group_volumes.proofs.Places.{places_stay}
 use Rattle.vx_joined_volumes.specs.Joined.{HasJoined, IsFormJoined, JoinsOne, good_joined, opening_joined, plex_of_run}
 use Rattle.vx_joined_volumes.specs.Laws.{EachJoinedVolumeRunsInPlace}
-use Rattle.vx_joined_volumes.proofs.Forms.{form_joined, good_more, map_new, recorded_now}
+use Rattle.vx_joined_volumes.proofs.Forms.{form_joined, map_new, recorded_now}
+use Rattle.vx_joined_volumes.proofs.Now.{more_good}
 use Rattle.vx_joined_volumes.proofs.Plexes.{used_active}
 use Rattle.vx_joined_volumes.proofs.Regions.{lies_joined}
 
@@ -67,7 +68,7 @@ module _ {P : Type 0} {ghosts : Ghosts P} (see : P → Seen) (running joined : R
       ∙ sym (zip_length (IsLayoutOf o.config) (held_plexes o.config o.good o.vol.name) running.form.layouts.items placed.runs.form.layouts)
 
   none : is_among m running.form.maps.items ≡ false
-  none = ap (λ ms. is_among m ms) placed.runs.form.maps ∙ map_new see running c good numbers v placed added c' p m one
+  none = map_new see running c good numbers v placed added c' p m one
 
   length_is : v.len ≡ running.form.shape.geometry.length
   length_is = placed.runs.keeps.length_is ∙ sym placed.runs.form.shape_is.length_is
@@ -106,7 +107,7 @@ module _ {P : Type 0} {ghosts : Ghosts P} (see : P → Seen) (running joined : R
       (now : RunsInPlace see c' good' numbers v joined) × (now.runs.opening ≡ opening_joined placed.runs.opening c' good v)
   runs_joined numbered good' fewer =
       let recorded = recorded_now see running c good numbers v placed added c' p m one in
-      let more : (slot : ℕ) → has good' slot ≡ true → has (good_joined placed.runs.opening good) slot ≡ true = λ slot here. good_more see running c good numbers v placed added c' p m one slot (fewer slot here) in (
+      let more : (slot : ℕ) → has good' slot ≡ true → has (good_joined placed.runs.opening good) slot ≡ true = λ slot here. more_good see running c good numbers v placed slot (fewer slot here) in (
         record {
           runs = record {
             recorded = recorded;

@@ -2,3 +2,5 @@ pub mod Joined
 pub mod Laws
 pub mod Relogged
 pub mod RelogLaws
+pub mod Switched
+pub mod SwitchLaws

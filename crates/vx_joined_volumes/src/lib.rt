@@ -1,8 +1,9 @@
-//! A running volume of a group that a plex joins, or that is given another log, runs in its place by the new configuration, as if it had
-//! been opened by that. Laws, as functions that do nothing and promise them.
+//! A running volume of a group that a plex joins, that is given another log, or of which a plex goes on or off, runs in its place by the
+//! new configuration, as if it had been opened by that. Laws, as functions that do nothing and promise them.
 #![tactic(auto)]
 
 ghost use Rattle.vx_joined_volumes.specs.RelogLaws.{EachLonePlexIsAlone, EachReloggedFormIsItsOwn, EachReloggedVolumeIsNamed, EachReloggedVolumeRunsInPlace};
+ghost use Rattle.vx_joined_volumes.specs.SwitchLaws.{EachPlexLeftOutIsOff, EachStateIsSet, EachSwitchedFormIsItsOwn, EachSwitchedOwnerIsSwitched, EachSwitchedVolumeIsNamed, EachSwitchedVolumeRunsInPlace, EachTakenPlexIsThere};
 ghost use Rattle.vx_joined_volumes.specs.Laws.{EachJoinedFormIsItsOwn, EachJoinedVolumeIsNamed, EachJoinedVolumeRunsInPlace, EachNumberingAgrees};
 
 use vx_lending::Running;
@@ -62,6 +63,50 @@ pub fn each_relogged_volume_runs_in_place<P: Piece + Drop>(running: &Running<P>,
 /// It counts as opened with its data plex and the logs that it has then.
 pub fn each_relogged_volume_is_named<P: Piece + Drop>(running: &Running<P>)
     ensures { EachReloggedVolumeIsNamed P.seen running.now }
+{
+    let _ = running;
+}
+
+/// The edit of a state of a data plex sets that alone.
+pub fn each_state_is_set()
+    ensures { EachStateIsSet }
+{}
+
+/// A running volume was opened with each data plex whose disks are good now, and with each that is on; and each region has those that it
+/// was opened with.
+pub fn each_taken_plex_is_there<P: Piece + Drop>(running: &Running<P>)
+    ensures { EachTakenPlexIsThere P.seen running.now }
+{
+    let _ = running;
+}
+
+/// A running volume that was opened without a plex is as one in which that went off.
+pub fn each_plex_left_out_is_off<P: Piece + Drop>(running: &Running<P>)
+    ensures { EachPlexLeftOutIsOff P.seen running.now }
+{
+    let _ = running;
+}
+
+/// The form with a plex on or off is that of the volume by the new configuration.
+pub fn each_switched_form_is_its_own<P: Piece + Drop>(running: &Running<P>)
+    ensures { EachSwitchedFormIsItsOwn P.seen running.now }
+{
+    let _ = running;
+}
+
+/// A volume in which a plex was set on or off runs in its place by the new configuration.
+pub fn each_switched_volume_runs_in_place<P: Piece + Drop>(running: &Running<P>, later: &Running<P>)
+    ensures { EachSwitchedVolumeRunsInPlace P.seen running.now later.now }
+{
+    let _ = running;
+    let _ = later;
+}
+
+/// It counts as opened with the plexes that it had, by their names and maps. The owners of their tracks are as they were, but for that of
+/// the plex, which is written to just where it is on.
+pub fn each_switched_volume_is_named<P: Piece + Drop>(running: &Running<P>)
+    ensures names { EachSwitchedVolumeIsNamed P.seen running.now }
+    ensures owners { EachSwitchedOwnerIsSwitched P.seen running.now }
 {
     let _ = running;
 }

@@ -2,7 +2,6 @@
 use Rattle.std.specs.Prelude.{◌≡◌, ℕ, ◌<◌, ◌^◌, Bool, List}
 use Rattle.std.specs.List.{AllZip}
 use Rattle.vx_mask.specs.Mask.{has}
-use Rattle.vx_picker.specs.declared.picker.Policy.TheVariants.{Round}
 use Rattle.vx_layout.specs.declared.layout.Layout.{Layout}
 use Rattle.vx_config_parts.specs.declared.plex.Plex.{Plex}
 use Rattle.vx_config_parts.specs.declared.vol.Vol.{Vol}
@@ -35,7 +34,6 @@ pub record IsShapeOf (c : Config) (good : ℕ) (v : Vol) (shape : VolumeShape) :
   pub on : IsMaskOf (maps_of (on_plexes c good v.name)) shape.on
   pub off : IsMaskOf (maps_of (off_plexes c good v.name)) shape.off
   pub snaps : IsMaskOf (relation_maps c.snaps v.name) shape.snaps
-  pub in_turn : shape.policy ≡ Round
 
 -- the form has that shape; the maps and layouts of the plexes of which all disks are good; and the layouts of the logs that are used
 pub record IsFormOf (c : Config) (good : ℕ) (v : Vol) (fresh : Bool) (form : VolumeForm) : Type 0 where

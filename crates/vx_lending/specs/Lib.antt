@@ -1,6 +1,7 @@
 pub mod RegionPieces
 pub mod RegionsTaken
 pub mod RegionLaws
+pub mod Policy
 pub mod Form
 pub mod FormLaws
 pub mod Pieces

@@ -2,15 +2,18 @@ ghost use Rattle.std.specs.Prelude.{◌≡◌, IfOk};
 ghost use Rattle.std.specs.List.{All};
 ghost use Rattle.vx_image.specs.Lies.{IsPlexOf};
 ghost use Rattle.vx_lending.specs.Form.{AreLayouts, IsFormOf};
+ghost use Rattle.vx_lending.specs.Policy.{policy_of};
 ghost use Rattle.vx_image.specs.UsedPlexes.{IsVolOf};
 
 use crate::masks::shape_of;
 use crate::plexes::{held_plexes, maps_of, used_logs};
+use crate::policy::policy_of;
 use std::alloc::Global;
 use vx_base::OutOfMemory;
 use vx_image::layout_of;
 use vx_layout::Layout;
 use vx_objects::{Config, Plex, Vol};
+use vx_picker::Policy;
 use vx_volume::VolumeShape;
 
 /// How a volume of a configuration is started: its regions and masks, and where the plexes and logs lie of which all disks
@@ -18,7 +21,7 @@ use vx_volume::VolumeShape;
 #[derive(Drop)]
 pub struct VolumeForm {
     /// The blocks of the volume and of a region; the maps of the plexes that are read and written (all disks good, and in a
-    /// state that is available); those of the other data plexes; those of its relations in its own log; reads in turn.
+    /// state that is available); those of the other data plexes; those of its relations in its own log.
     pub shape: VolumeShape,
     /// The map of each data plex whose disks are all good, in the order of the configuration's records; 0 where it has none.
     pub maps: Vec<u8>,
@@ -26,6 +29,8 @@ pub struct VolumeForm {
     pub layouts: Vec<Layout>,
     /// How each log plex lies that is used and whose disks are all good, in the order of the configuration's records.
     pub logs: Vec<Layout>,
+    /// How reads choose among the plexes that may serve them, as the volume is opened.
+    pub policy: Policy,
 }
 
 /// The form of a volume, by the slots whose disks are good. A start from EMPTY is `fresh`: it uses log plexes in state EMPTY
@@ -38,7 +43,8 @@ pub fn form_of(
     fresh: bool,
 ) -> Result<VolumeForm, OutOfMemory>
     requires { IsVolOf config.now vol.now }
-    ensures { IfOk result (λ form. IsFormOf config.now good vol.now fresh form) }
+    ensures form { IfOk result (λ form. IsFormOf config.now good vol.now fresh form) }
+    ensures policy { IfOk result (λ form. form.policy ≡ policy_of config.now vol.now) }
 {
     let shape = shape_of(alloc, config, good, vol)?;
     let held = held_plexes(alloc, config, good, &vol.name)?;
@@ -51,6 +57,7 @@ pub fn form_of(
         maps,
         layouts,
         logs,
+        policy: policy_of(config, vol),
     })
 }
 

@@ -2,7 +2,6 @@
 
 ghost use Rattle.std.specs.Prelude.{◌≡◌, ◌<◌, IfOk, IfSome};
 ghost use Rattle.std.specs.List.{All, filter_map};
-ghost use Rattle.vx_picker.specs.declared.picker.Policy.TheVariants as policy;
 ghost use Rattle.vx_image.specs.Bytes.{relation_maps};
 ghost use Rattle.vx_lending.specs.Form.{IsMaskOf, IsShapeOf};
 ghost use Rattle.vx_image.specs.UsedPlexes.{IsVolOf, maps_of, off_plexes, on_plexes, relation_map};
@@ -14,7 +13,6 @@ use vx_block::Geometry;
 use vx_config_parts::same;
 use vx_names::Name;
 use vx_objects::{Config, Snap, Vol};
-use vx_picker::Policy;
 use vx_volume::VolumeShape;
 
 /// The blocks and regions of a volume, and the masks of its plexes and relations.
@@ -37,7 +35,6 @@ pub(crate) fn shape_of(
         on: mask_of(&on),
         off: mask_of(&off),
         snaps: mask_of(&snaps),
-        policy: Policy::Round,
     })
 }
 

@@ -119,7 +119,7 @@ pub(crate) fn maps_of(alloc: Global, plexes: &[Plex]) -> Result<Vec<u8>, OutOfMe
     Ok(maps)
 }
 
-fn map_or_zero(map: Option<u8>) -> u8
+pub(crate) fn map_or_zero(map: Option<u8>) -> u8
     ensures { result ≡ map_or_zero map }
 {
     match map {

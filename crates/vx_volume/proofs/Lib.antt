@@ -22,5 +22,6 @@ pub mod Remarks
 pub mod Retellings
 pub mod Schedules
 pub mod Steps
+pub mod Switchings
 pub mod Volumes
 pub mod Wholes

@@ -23,7 +23,7 @@ use Rattle.vx_volume.proofs.Regions.{IsLeft}
 
 -- ---- the log goes on, and a region that had no call stays whole
 
-log_still : (old new : LogSeen) (index : ℕ) (stage : Stage) → KeepsLog old new → IsLogOf old index stage → IsLogOf new index stage
+pub log_still : (old new : LogSeen) (index : ℕ) (stage : Stage) → KeepsLog old new → IsLogOf old index stage → IsLogOf new index stage
 log_still old new index stage kept log =
     record {
       there = kept.there ∙ log.there;
@@ -32,7 +32,7 @@ log_still old new index stage kept log =
       dirty = omega (arith, kept.maps, log.dirty);
     }
 
-whole_still : (cell : CellSeen) (old new : LogSeen) → KeepsLog old new → IsWhole (with_log cell old) → IsWhole (with_log cell new)
+pub whole_still : (cell : CellSeen) (old new : LogSeen) → KeepsLog old new → IsWhole (with_log cell old) → IsWhole (with_log cell new)
 whole_still cell old new kept whole =
     record {
       formed = whole.formed;

@@ -34,6 +34,7 @@ use Rattle.vx_volume.specs.Calls.{ChangesRegion, ReadEnds, WriteEndsAll, bytes_o
 use Rattle.vx_volume.specs.Changing.{IsFreeIn, IsKnownMap, IsPlexFor, PutsPlex, SetsMap}
 use Rattle.vx_volume.specs.Logging.{ChangesLog, IsAlone, ShowsNothing}
 use Rattle.vx_volume.specs.Loop.{AreMade}
+use Rattle.vx_volume.specs.Switching.{CanSpare, Firms, HasPlex, IsSettled, IsTight, Switches}
 use Rattle.vx_volume.specs.Passes.{CopyEnds, IsClearedAt, IsCopiedAt, IsSettledAt, PassEnds}
 use Rattle.vx_volume.specs.Volume.{IsVolume, VolumeSeen, cell_at, region_at}
 
@@ -323,3 +324,31 @@ EachLogChangeStands =
 -- What is told stays told where the log tells.
 abbrev pub EachLogChangeTells : Type 0
 EachLogChangeTells = (log : LogSeen) (old new : VolumeSeen) → ChangesLog log old new → Tells log.told → AreTold old → AreTold new
+
+-- ---- loose marks, and a plex that goes on or off
+
+-- Where loose marks were written again, or that failed, each region goes on with its entries.
+abbrev pub EachFirmingGoesOn : Type 0
+EachFirmingGoesOn =
+    (result : Result (Unit {0}) MarkFault) (old new : VolumeSeen) → Firms result old new → AreTold old →
+    (fixed : ℕ → Fixed) (entries : ℕ → List Entry) → RegionsGoOn old new fixed entries entries
+
+-- After Ok none is loose.
+abbrev pub EachFirmingTightens : Type 0
+EachFirmingTightens = (old new : VolumeSeen) → Firms (Ok tt) old new → AreTold old → IsTight new
+
+-- What the regions stand for they stand for with a plex on that they have.
+abbrev pub EachPlexMayGoOn : Type 0
+EachPlexMayGoOn =
+    (map : ℕ) (old new : VolumeSeen) → Switches map true old new → IsVolume old →
+    (fixed : ℕ → Fixed) (entries : ℕ → List Entry) → ((r : ℕ) → r < length old.cells → (fixed r).held map ≡ true) → StandFor old fixed entries → StandFor new fixed entries
+
+-- So they do with one off that can be spared, where they are settled and no mark is loose.
+abbrev pub EachPlexMayGoOff : Type 0
+EachPlexMayGoOff =
+    (map : ℕ) (old new : VolumeSeen) → Switches map false old new → IsVolume old → HasPlex map old → CanSpare map old → IsSettled old → IsTight old →
+    (fixed : ℕ → Fixed) (entries : ℕ → List Entry) → StandFor old fixed entries → StandFor new fixed entries
+
+-- What is told stays told.
+abbrev pub EachSwitchTells : Type 0
+EachSwitchTells = (map : ℕ) (on : Bool) (old new : VolumeSeen) → Switches map on old new → AreTold old → AreTold new

@@ -10,5 +10,6 @@ pub mod Opening
 pub mod Arming
 pub mod Changing
 pub mod Logging
+pub mod Switching
 pub mod Laws
 pub mod Retelling

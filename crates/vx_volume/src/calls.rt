@@ -179,7 +179,7 @@ impl<P: Piece> Volume<P> {
     {
         let region = self.shape.geometry.region_of(span.start);
         let bytes = self.region_bytes(region as usize);
-        let policy = self.shape.policy;
+        let policy = self.policy;
         let cell = &mut self.cells[region as usize];
         let phase = cell.stage().phase;
         let outcome = read_cell(

@@ -1,7 +1,7 @@
 //! Laws of calls on volumes, each a function with an empty body whose contract states it.
 
 ghost use Rattle.vx_volume.specs.Calls.{IsRead, IsWritten};
-ghost use Rattle.vx_volume.specs.Laws.{CallOfRegionGoesOn, CalledGoesOn, CopyPassGoesOn, EachClearingGoesOn, EachClearingOfRegionGoesOn, EachCopyGoesOn, EachCopyOfRegionGoesOn, EachCourseIsNoted, EachGoingGoesOn, EachGoingIsScheduled, EachGoingStands, EachLogChangeStands, EachLogChangeTells, EachOtherGoesOn, EachPuttingStands, EachPuttingTells, EachReadOfVolumeGoesOn, EachSettingKnows, EachSettingMarks, EachSettingStands, EachSettingTells, EachSettlingGoesOn, EachSettlingOfRegionGoesOn, EachWriteOfVolumeGoesOn, MayTellRead, MayTellWrite, PassGoesOn};
+ghost use Rattle.vx_volume.specs.Laws.{CallOfRegionGoesOn, CalledGoesOn, CopyPassGoesOn, EachClearingGoesOn, EachClearingOfRegionGoesOn, EachCopyGoesOn, EachCopyOfRegionGoesOn, EachCourseIsNoted, EachFirmingGoesOn, EachFirmingTightens, EachGoingGoesOn, EachGoingIsScheduled, EachGoingStands, EachLogChangeStands, EachLogChangeTells, EachOtherGoesOn, EachPlexMayGoOff, EachPlexMayGoOn, EachPuttingStands, EachPuttingTells, EachReadOfVolumeGoesOn, EachSettingKnows, EachSettingMarks, EachSettingStands, EachSettingTells, EachSettlingGoesOn, EachSettlingOfRegionGoesOn, EachSwitchTells, EachWriteOfVolumeGoesOn, MayTellRead, MayTellWrite, PassGoesOn};
 ghost use Rattle.vx_volume.specs.Passes.{Clears, Settles};
 ghost use Rattle.vx_volume.specs.Retelling.{EachHistoryIsRetold};
 
@@ -81,4 +81,18 @@ pub fn each_putting_stands()
 pub fn each_log_change_stands()
     ensures stands { EachLogChangeStands }
     ensures told { EachLogChangeTells }
+{}
+
+/// Where loose marks of the log were written again, or that failed, each region goes on with its entries. After Ok none is loose.
+pub fn each_firming_goes_on()
+    ensures follows { EachFirmingGoesOn }
+    ensures tight { EachFirmingTightens }
+{}
+
+/// What the regions stand for they stand for with a plex on that they have, and with one off that can be spared, where they are settled
+/// and no mark is loose.
+pub fn each_plex_may_switch()
+    ensures on { EachPlexMayGoOn }
+    ensures off { EachPlexMayGoOff }
+    ensures told { EachSwitchTells }
 {}

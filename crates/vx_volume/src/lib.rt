@@ -17,6 +17,7 @@ mod opening;
 mod passes;
 mod receipt;
 mod setting;
+mod switching;
 mod volume;
 mod whole_maps;
 

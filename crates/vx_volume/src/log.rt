@@ -44,8 +44,9 @@ impl<P: LocalPiece> Marker for VolumeLog<P> {
 }
 
 impl<P: LocalPiece> VolumeLog<P> {
-    ghost use Rattle.std.specs.Prelude.{◌≡◌, ◌<◌, true};
-    ghost use Rattle.vx_marks.specs.Log.{KeepsLog, MarkHasCause};
+    ghost use Rattle.std.specs.Prelude.{◌≡◌, ◌<◌, ℕ, true};
+    ghost use Rattle.vx_marks.specs.Log.{KeepsLog, MarkHasCause, OnMarks};
+    ghost use Rattle.vx_pages.specs.Firm.{FirmsStore};
     ghost use Rattle.vx_pages.specs.Setting.{IsMapSet};
     ghost use Rattle.vx_volume.specs.Bytes.{map_bit};
     ghost use Rattle.vx_volume.specs.Log.{LogGoes, log_seen};
@@ -73,6 +74,20 @@ impl<P: LocalPiece> VolumeLog<P> {
         match self {
             VolumeLog::Absent => Ok(()),
             VolumeLog::Maps(store) => store.set_from(map, bits),
+        }
+    }
+
+    /// Writes again what failed calls have left open, page by page, and stops at the first page that fails. After Ok nothing is loose.
+    pub(crate) fn firm(&mut self) -> Result<(), MarkFault>
+        ensures kept { KeepsLog (log_seen P.seen self.old) (log_seen P.seen self.new) }
+        ensures told { OnMarks (FirmsStore result) (log_seen P.seen self.old).told (log_seen P.seen self.new).told }
+        ensures claims { (region map : ℕ) → (log_seen P.seen self.new).claims region map ≡ (log_seen P.seen self.old).claims region map }
+        ensures cause { MarkHasCause (log_seen P.seen self.old) (log_seen P.seen self.new) result }
+        ensures goes { LogGoes P.seen self.old self.new }
+    {
+        match self {
+            VolumeLog::Absent => Ok(()),
+            VolumeLog::Maps(store) => store.firm(),
         }
     }
 

@@ -16,6 +16,7 @@ use vx_cell::{Cell, Plex};
 use vx_core::{Phase, Stage};
 use vx_marks::Marker;
 use vx_pages::LocalPiece;
+use vx_picker::Policy;
 use vx_piece::Piece;
 
 /// The map of the dirty region log.
@@ -23,10 +24,12 @@ const DIRTY: u32 = 30;
 
 impl<P: Piece + Drop> Volume<P> {
     /// Opens a volume as a life begins: `regions` are the plexes of each region, in order, each of its sectors. A region is
-    /// unsettled where its dirty bit is set in the log, else settled. After a refusal all comes back as it was.
+    /// unsettled where its dirty bit is set in the log, else settled. Reads
+    /// choose among plexes by the policy. After a refusal all comes back as it was.
     pub fn open(
         alloc: Global,
         shape: VolumeShape,
+        policy: Policy,
         regions: Vec<Vec<Plex<P>>>,
         log: VolumeLog<P>,
     ) -> Result<Volume<P>, OpenRefused<P>>
@@ -48,6 +51,7 @@ impl<P: Piece + Drop> Volume<P> {
             Some(region) => Err(refused(OpenFault::NoCurrent(region), regions, log)),
             None => Ok(Volume {
                 shape,
+                policy,
                 cells: cells_of(&shape, cells, regions, &log),
                 log,
                 scratch,

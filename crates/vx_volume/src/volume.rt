@@ -19,13 +19,14 @@ pub struct VolumeShape {
     pub on: u64,
     pub off: u64,
     pub snaps: u64,
-    pub policy: Policy,
 }
 
 /// A started volume. No call on it is under way.
 #[derive(Drop)]
 pub struct Volume<P: LocalPiece> {
     pub(crate) shape: VolumeShape,
+    /// How reads choose among the plexes that may serve them.
+    pub(crate) policy: Policy,
     pub(crate) cells: Vec<Cell<P>>,
     pub(crate) log: VolumeLog<P>,
     /// The bytes of one region.
@@ -49,8 +50,22 @@ impl<P: Piece> Volume<P> {
         self.most
     }
 
+    /// How reads choose among the plexes that may serve them: in turn, unless it was set.
+    pub fn policy(&self) -> Policy {
+        self.policy
+    }
+
+    /// Makes reads choose so from now on. Whatever the policy, a read is served by a plex that may serve it.
+    pub fn set_policy(&mut self, policy: Policy)
+        ensures same { volume_seen P.seen self.new ≡ volume_seen P.seen self.old }
+        ensures shape { shape_of self.new ≡ shape_of self.old }
+        ensures log { log_of self.new ≡ log_of self.old }
+    {
+        self.policy = policy;
+    }
+
     /// The volume of these regions, one cell for each of the geometry's, in order; `scratch` has the bytes of one region, and
-    /// no number is above `most`.
+    /// no number is above `most`. Reads go in turn.
     pub fn from_cells(
         shape: VolumeShape,
         cells: Vec<Cell<P>>,
@@ -65,6 +80,7 @@ impl<P: Piece> Volume<P> {
     {
         Volume {
             shape,
+            policy: Policy::Round,
             cells,
             log,
             scratch,
@@ -80,6 +96,7 @@ impl<P: Piece> Volume<P> {
     {
         let Volume {
             shape,
+            policy: _,
             cells,
             log,
             scratch,

@@ -112,7 +112,6 @@ module _ (c0 : Config) (good : ℕ) (v0 : Vol) (fresh : Bool) (c : Config) (v : 
           on = mask_of (maps_of (on_plexes c0 good v0.name)) (maps_of (on_plexes c good v.name)) form.shape.on on_maps is.shape_is.on;
           off = mask_of (maps_of (off_plexes c0 good v0.name)) (maps_of (off_plexes c good v.name)) form.shape.off off_maps is.shape_is.off;
           snaps = mask_of (relation_maps c0.snaps v0.name) (relation_maps c.snaps v.name) form.shape.snaps (ap (λ ss. relation_maps ss v.name) keeps.snaps ∙ ap (λ (n : Word). relation_maps c0.snaps n) name_is) is.shape_is.snaps;
-          in_turn = is.shape_is.in_turn;
         };
         maps = is.maps ∙ sym held_maps;
         layouts = layouts_still c0 c (held_plexes c0 good v0.name) (held_plexes c good v.name) form.layouts.items (some_data (LiesStill c0 c) (is_held c0 good) (is_held c good) (λ p q r own. held_alike p q r) lies_alike) is.layouts;

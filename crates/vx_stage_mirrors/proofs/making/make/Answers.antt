@@ -30,19 +30,19 @@ form_of-requires g c =
 pub make_log-requires-clause-few : goal.make_log-requires-clause-few
 make_log-requires-clause-few g c κs within =
     let found : volume_in c.args.name.now c.args.next.now.volumes ≡ Some c.in-Some.vol = search rules in
-    let is = subst (λ n. IsFormOf c.args.next.now n c.in-Some.vol false c.in-Ok-form_of.form) c.good-good.ensures.just c.in-Ok-form_of.ensures in
+    let is = subst (λ n. IsFormOf c.args.next.now n c.in-Some.vol false c.in-Ok-form_of.form) c.good-good.ensures.just c.in-Ok-form_of.ensures.form in
     few g.P.Piece.seen c.args.name.now c.args.next.now c.args.group.now c.requires.next c.in-Some.vol found c.in-Ok-form_of.form is
 
 pub make_log-requires-clause-some : goal.make_log-requires-clause-some
 make_log-requires-clause-some g c κs within =
     let found : volume_in c.args.name.now c.args.next.now.volumes ≡ Some c.in-Some.vol = search rules in
-    let is = subst (λ n. IsFormOf c.args.next.now n c.in-Some.vol false c.in-Ok-form_of.form) c.good-good.ensures.just c.in-Ok-form_of.ensures in
+    let is = subst (λ n. IsFormOf c.args.next.now n c.in-Some.vol false c.in-Ok-form_of.form) c.good-good.ensures.just c.in-Ok-form_of.ensures.form in
     some g.P.Piece.seen c.args.name.now c.args.next.now c.args.group.now c.requires.next c.in-Some.vol found c.in-Ok-form_of.form is
 
 pub make_log-requires-clause-roomy : goal.make_log-requires-clause-roomy
 make_log-requires-clause-roomy g c κs within =
     let found : volume_in c.args.name.now c.args.next.now.volumes ≡ Some c.in-Some.vol = search rules in
-    let is = subst (λ n. IsFormOf c.args.next.now n c.in-Some.vol false c.in-Ok-form_of.form) c.good-good.ensures.just c.in-Ok-form_of.ensures in
+    let is = subst (λ n. IsFormOf c.args.next.now n c.in-Some.vol false c.in-Ok-form_of.form) c.good-good.ensures.just c.in-Ok-form_of.ensures.form in
     have_blocks g.P.Piece.seen c.args.name.now c.args.next.now c.args.group.now c.requires.next c.in-Some.vol found c.in-Ok-form_of.form is
 
 pub make_log-requires-clause-apart : goal.make_log-requires-clause-apart
@@ -53,7 +53,7 @@ make_log-requires-clause-apart g c κs within =
 pub make_log-requires-clause-plexes : goal.make_log-requires-clause-plexes
 make_log-requires-clause-plexes g c κs within =
     let found : volume_in c.args.name.now c.args.next.now.volumes ≡ Some c.in-Some.vol = search rules in
-    let is = subst (λ n. IsFormOf c.args.next.now n c.in-Some.vol false c.in-Ok-form_of.form) c.good-good.ensures.just c.in-Ok-form_of.ensures in
+    let is = subst (λ n. IsFormOf c.args.next.now n c.in-Some.vol false c.in-Ok-form_of.form) c.good-good.ensures.just c.in-Ok-form_of.ensures.form in
     let all : have_disks c.args.group.now.base.disks.items c.good-good.result c.args.next.now.disks ≡ true = search rules in
     let have = subst (λ n. have_disks c.args.group.now.base.disks.items n c.args.next.now.disks ≡ true) c.good-good.ensures.just all in
     let are = numbers_are g.P.Piece.seen c.args.group.now c.disks-2.result.now c.in-Ok.numbers.items c.deref.result.now c.disks-2.ensures c.deref.ensures.value c.in-Ok.ensures in
@@ -65,7 +65,7 @@ make_log-requires-clause-once g c κs within = pool_once g.P.Piece.seen c.args.g
 pub make_log-requires-clause-free : goal.make_log-requires-clause-free
 make_log-requires-clause-free g c κs within =
     let found : volume_in c.args.name.now c.args.next.now.volumes ≡ Some c.in-Some.vol = search rules in
-    let is = subst (λ n. IsFormOf c.args.next.now n c.in-Some.vol false c.in-Ok-form_of.form) c.good-good.ensures.just c.in-Ok-form_of.ensures in
+    let is = subst (λ n. IsFormOf c.args.next.now n c.in-Some.vol false c.in-Ok-form_of.form) c.good-good.ensures.just c.in-Ok-form_of.ensures.form in
     let all : have_disks c.args.group.now.base.disks.items c.good-good.result c.args.next.now.disks ≡ true = search rules in
     let have = subst (λ n. have_disks c.args.group.now.base.disks.items n c.args.next.now.disks ≡ true) c.good-good.ensures.just all in
     let are = numbers_are g.P.Piece.seen c.args.group.now c.disks-2.result.now c.in-Ok.numbers.items c.deref.result.now c.disks-2.ensures c.deref.ensures.value c.in-Ok.ensures in
@@ -74,13 +74,13 @@ make_log-requires-clause-free g c κs within =
 pub make_log-requires-clause-one : goal.make_log-requires-clause-one
 make_log-requires-clause-one g c κs within =
     let found : volume_in c.args.name.now c.args.next.now.volumes ≡ Some c.in-Some.vol = search rules in
-    let is = subst (λ n. IsFormOf c.args.next.now n c.in-Some.vol false c.in-Ok-form_of.form) c.good-good.ensures.just c.in-Ok-form_of.ensures in
+    let is = subst (λ n. IsFormOf c.args.next.now n c.in-Some.vol false c.in-Ok-form_of.form) c.good-good.ensures.just c.in-Ok-form_of.ensures.form in
     none_to_copy g.P.Piece.seen c.args.name.now c.args.next.now c.args.group.now c.requires.next c.in-Some.vol found c.in-Ok-form_of.form is
 
 pub returns-in-Ok-make_log : goal.returns-in-Ok-make_log
 returns-in-Ok-make_log g c =
     let found : volume_in c.args.name.now c.args.next.now.volumes ≡ Some c.in-Some.vol = search rules in
-    let is = subst (λ n. IsFormOf c.args.next.now n c.in-Some.vol false c.in-Ok-form_of.form) c.good-good.ensures.just c.in-Ok-form_of.ensures in
+    let is = subst (λ n. IsFormOf c.args.next.now n c.in-Some.vol false c.in-Ok-form_of.form) c.good-good.ensures.just c.in-Ok-form_of.ensures.form in
     let all : have_disks c.args.group.now.base.disks.items c.good-good.result c.args.next.now.disks ≡ true = search rules in
     let have = subst (λ n. have_disks c.args.group.now.base.disks.items n c.args.next.now.disks ≡ true) c.good-good.ensures.just all in
     let are = numbers_are g.P.Piece.seen c.args.group.now c.disks-2.result.now c.in-Ok.numbers.items c.deref.result.now c.disks-2.ensures c.deref.ensures.value c.in-Ok.ensures in
@@ -93,7 +93,7 @@ returns-in-Ok-make_log g c =
 pub returns : goal.returns
 returns g c =
     let found : volume_in c.args.name.now c.args.next.now.volumes ≡ Some c.in-Some.vol = search rules in
-    let is = subst (λ n. IsFormOf c.args.next.now n c.in-Some.vol false c.in-Ok-form_of.form) c.good-good.ensures.just c.in-Ok-form_of.ensures in
+    let is = subst (λ n. IsFormOf c.args.next.now n c.in-Some.vol false c.in-Ok-form_of.form) c.good-good.ensures.just c.in-Ok-form_of.ensures.form in
     let all : have_disks c.args.group.now.base.disks.items c.good-good.result c.args.next.now.disks ≡ true = search rules in
     let have = subst (λ n. have_disks c.args.group.now.base.disks.items n c.args.next.now.disks ≡ true) c.good-good.ensures.just all in
     let are = numbers_are g.P.Piece.seen c.args.group.now c.disks-2.result.now c.in-Ok.numbers.items c.deref.result.now c.disks-2.ensures c.deref.ensures.value c.in-Ok.ensures in

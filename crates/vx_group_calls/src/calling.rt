@@ -1,5 +1,5 @@
-ghost use Rattle.std.specs.Prelude.{◌≡◌, ◌≢◌, ℕ, List, ◌+◌, ◌*◌, ◌/◌, ◌%◌, ◌^◌, ◌<◌, ◌≤◌, true, length, replicate, IfOk, OnErr};
-ghost use Rattle.vx_mask.specs.Mask.{has};
+ghost use Rattle.std.specs.Prelude.{◌≡◌, ℕ, List, ◌+◌, ◌*◌, ◌/◌, ◌%◌, ◌^◌, ◌<◌, ◌≤◌, length, replicate, IfOk, OnErr};
+ghost use Rattle.vx_picker.specs.Picks.{PicksMember};
 ghost use Rattle.vx_piece.specs.Seen.{Keeps};
 ghost use Rattle.vx_runs.specs.Run.{EachPiece};
 ghost use Rattle.vx_lending.specs.Going.{GoTogether};
@@ -28,12 +28,15 @@ use vx_volume_laws::lives::each_call_runs_on;
 /// A volume of which a region may have drawn a number above this one serves no call: there is no memory for it.
 const MOST_NUMBERS: u64 = 1 << 61;
 
-/// Serves a call of a running volume whose blocks it keeps to. After a refusal of memory nothing has changed.
-pub fn serve<P: Piece + Drop>(
+/// Serves a call of a running volume whose blocks it keeps to. Where the volume's policy asks a function which plex serves a read, it
+/// is that of `pick`. After a refusal of memory nothing has changed.
+pub fn serve<P: Piece + Drop, F: Fn(u64, u64) -> u32>(
     alloc: Global,
     running: &mut Running<P>,
     call: &Call,
+    pick: &Picker<F>,
 ) -> Result<Served, OutOfMemory>
+    requires picks { PicksMember (F.pre pick.now.select) (F.post pick.now.select) }
     requires volume { IsVolume (volume_seen P.seen running.old.volume) }
     requires valid { IsWithinLimits call.now }
     requires within { start_of call.now + count_of call.now ≤ (volume_seen P.seen running.old.volume).length }
@@ -57,7 +60,13 @@ pub fn serve<P: Piece + Drop>(
         return Err(OutOfMemory);
     }
     match call {
-        Call::Read { start, count, .. } => read_blocks(alloc, &mut running.volume, *start, *count),
+        Call::Read { start, count, .. } => read_blocks(
+            alloc,
+            &mut running.volume,
+            *start,
+            *count,
+            pick,
+        ),
         Call::Fill {
             start,
             count,
@@ -74,12 +83,14 @@ pub fn serve<P: Piece + Drop>(
 }
 
 /// Reads blocks of a volume.
-fn read_blocks<P: Piece + Drop>(
+fn read_blocks<P: Piece + Drop, F: Fn(u64, u64) -> u32>(
     alloc: Global,
     volume: &mut Volume<P>,
     start: u64,
     count: u64,
+    pick: &Picker<F>,
 ) -> Result<Served, OutOfMemory>
+    requires picks { PicksMember (F.pre pick.now.select) (F.post pick.now.select) }
     requires whole { IsVolume (volume_seen P.seen volume.old) }
     requires some { 0 < count }
     requires few { count ≤ 2048 }
@@ -90,8 +101,7 @@ fn read_blocks<P: Piece + Drop>(
     ensures continues { Continues P.seen volume.old volume.new }
 {
     let mut receipt = Receipt::reserve(alloc, count)?;
-    let pick = Picker::new(lowest_member);
-    let outcome = volume.read(start, &pick, &mut receipt);
+    let outcome = volume.read(start, pick, &mut receipt);
     let Receipt { parts, blocks, .. } = receipt;
     Ok(ended(outcome, parts, blocks))
 }
@@ -160,11 +170,4 @@ fn write_bytes<P: Piece + Drop>(
     let outcome = volume.write(start, bytes, &mut receipt);
     let Receipt { parts, .. } = receipt;
     Ok(ended(outcome, parts, Vec::new(alloc)))
-}
-
-/// Answers a member of a mask that is not empty.
-fn lowest_member(mask: u64, _turn: u64) -> u32
-    ensures { mask ≢ 0 → has mask result ≡ true }
-{
-    vx_mask::first(mask)
 }

@@ -1,3 +1,4 @@
 mod Held
 mod Named
 mod Order
+pub mod SameRows

@@ -1,7 +1,7 @@
 -- The rows of the view: what each line shows, and where it stands.
-use Rattle.std.specs.Prelude.{◌++◌, ℕ, if◌then◌else◌, Bool, true, Option, None, Some, List, map, is_some}
+use Rattle.std.specs.Prelude.{◌++◌, ◌||◌, ℕ, if◌then◌else◌, Bool, true, Option, None, Some, List, map, is_some}
 use Rattle.std.specs.BTreeMap.{BTreeMap, get}
-use Rattle.std.specs.List.{filter_map, find}
+use Rattle.std.specs.List.{filter_map, find, list_any}
 use Rattle.std.specs.Option.{option_and_then, option_cmp, option_map}
 use Rattle.std.specs.Str.{bytes_eq}
 use Rattle.std.specs.Cmp.Lexicographic.{slice_cmp}
@@ -58,14 +58,28 @@ abbrev pub subdisk_row : (Word → Option Plex) → Subdisk → Option Row
 subdisk_row named s = option_and_then (subdisk_row_of named s) s.plex
 
 -- the rows of all volumes, of their plexes, and of the subdisks of these
-abbrev pub rows : Config → ℕ → (Word → Bool) → List Row
-rows c good started =
+abbrev pub rows : Config → (Plex → Bool) → (Word → Bool) → List Row
+rows c held started =
     map (volume_row started) c.volumes
-    ++ (filter_map (plex_row (objects_of c) (is_held c good) started) c.plexes ++ filter_map (subdisk_row (plex_named c.plexes)) c.subdisks)
+    ++ (filter_map (plex_row (objects_of c) held started) c.plexes ++ filter_map (subdisk_row (plex_named c.plexes)) c.subdisks)
 
--- the plex of a subdisk, where the subdisk's disk is not good
-abbrev pub lost_plex : List Disk → ℕ → Subdisk → Option Word
-lost_plex disks good s = if has good (slot_of disks s.disk) then None else s.plex
+-- ---- which plexes are held
+
+-- the plex is among those that started volumes have the pieces of
+abbrev pub is_lent : List Word → Word → Bool
+is_lent lent plex = list_any (λ n. bytes_eq n plex) lent
+
+-- all its disks are good, or a started volume has its pieces
+abbrev pub stays_held : Config → ℕ → List Word → Plex → Bool
+stays_held c good lent p = is_held c good p || is_lent lent p.name
+
+abbrev pub unless_lent : List Word → Option Word → Option Word
+unless_lent lent None = None
+unless_lent lent (Some plex) = if is_lent lent plex then None else Some plex
+
+-- the plex of a subdisk, where the subdisk's disk is not good and the plex's pieces are not lent
+abbrev pub lost_plex : List Disk → ℕ → List Word → Subdisk → Option Word
+lost_plex disks good lent s = if has good (slot_of disks s.disk) then None else unless_lent lent s.plex
 
 -- ---- where it stands
 

@@ -5,7 +5,7 @@ ghost use Rattle.std.specs.Option.{option_copied};
 ghost use Rattle.std.specs.Str.{bytes_eq};
 ghost use Rattle.vx_print.specs.Shown.{missing};
 ghost use Rattle.vx_hierarchy.specs.Hierarchy.{IsHierarchy};
-ghost use Rattle.vx_hierarchy.specs.Rows.{is_asked, is_started};
+ghost use Rattle.vx_hierarchy.specs.Rows.{is_asked, is_started, stays_held};
 
 use crate::lines::put_rows;
 use crate::row::Row;
@@ -20,17 +20,19 @@ use vx_print::PrintFault;
 
 /// Appends a line for each volume, or for the one that is asked for, behind it one for each of its plexes, and behind that
 /// one for each of the plex's subdisks. The good disks are a mask of slots, and a volume is started where the map has its
-/// name. Where no volume has the name that is asked for, nothing is appended; where memory is wanting, a part of the text
-/// may be.
+/// name. `lent` names the plexes that started volumes have the pieces of: they stay accessible where a disk of theirs is good
+/// no longer. Where no volume has the name that is asked for, nothing is appended; where memory is wanting, a part of the
+/// text may be.
 pub fn print_ht<T>(
     alloc: Global,
     config: &Config,
     good: u64,
+    lent: &[Name],
     started: &BTreeMap<Name, T>,
     only: Option<&Name>,
     out: &mut Vec<u8>,
 ) -> Result<(), PrintFault>
-    ensures ok { OnOk result (IsHierarchy config.now good (is_started started.now) (option_copied only.entry) out.old.items out.new.items) }
+    ensures ok { OnOk result (IsHierarchy config.now (stays_held config.now good lent.now) (is_started started.now) (option_copied only.entry) out.old.items out.new.items) }
     ensures no_object { IfSome (missing (option_copied only.entry) config.now) (λ vol. result ≡ Err (PrintFault.NoObject vol)) }
     ensures untouched { IfSome (missing (option_copied only.entry) config.now) (λ vol. out.new ≡ out.old) }
     ensures only { IfErr result (λ fault. (fault ≡ PrintFault.OutOfMemory) ⊎ MatchOption (missing (option_copied only.entry) config.now) ⊥ (λ vol. fault ≡ PrintFault.NoObject vol)) }
@@ -38,7 +40,7 @@ pub fn print_ht<T>(
     if let Some(vol) = missing(only, config) {
         return Err(PrintFault::NoObject(vol));
     }
-    match put_shown(alloc, config, good, started, only, out) {
+    match put_shown(alloc, config, good, lent, started, only, out) {
         Ok(()) => Ok(()),
         Err(_) => Err(PrintFault::OutOfMemory),
     }
@@ -74,13 +76,14 @@ fn put_shown<T>(
     alloc: Global,
     config: &Config,
     good: u64,
+    lent: &[Name],
     started: &BTreeMap<Name, T>,
     only: Option<&Name>,
     out: &mut Vec<u8>,
 ) -> Result<(), OutOfMemory>
-    ensures { OnOk result (IsHierarchy config.now good (is_started started.now) (option_copied only.entry) out.old.items out.new.items) }
+    ensures { OnOk result (IsHierarchy config.now (stays_held config.now good lent.now) (is_started started.now) (option_copied only.entry) out.old.items out.new.items) }
 {
-    let all = rows(alloc, config, good, started)?;
+    let all = rows(alloc, config, good, lent, started)?;
     let mut shown = asked(alloc, only, &all)?;
     shown.sort_by_key(|row| (row.volume(), row.plex(), row.piece()))?;
     put_rows(&shown, out)

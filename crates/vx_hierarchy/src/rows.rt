@@ -7,15 +7,15 @@ ghost use Rattle.std.specs.List.{filter_map};
 ghost use Rattle.std.specs.Option.{option_or};
 ghost use Rattle.std.specs.Ordering.{nat_cmp};
 ghost use Rattle.vx_base.specs.Named.{Word};
-ghost use Rattle.vx_image.specs.Bytes.{is_held};
 ghost use Rattle.vx_objects.specs.Config.{objects_of};
-ghost use Rattle.vx_hierarchy.specs.Rows.{is_started, lost_plex, plex_named, plex_row, rows, subdisk_row, volume_of, volume_row};
+ghost use Rattle.vx_hierarchy.specs.Rows.{is_lent, is_started, lost_plex, plex_named, plex_row, rows, stays_held, subdisk_row, unless_lent, volume_of, volume_row};
 
 use crate::kernel::Kernel;
 use crate::row::Row;
 use std::alloc::{AllocError, Global};
 use std::collections::{BTreeMap, BTreeSet};
 use vx_base::OutOfMemory;
+use vx_config_parts::same;
 use vx_image::slot_of;
 use vx_mask::contains;
 use vx_names::Name;
@@ -27,12 +27,13 @@ pub(crate) fn rows<T>(
     alloc: Global,
     config: &Config,
     good: u64,
+    lent: &[Name],
     started: &BTreeMap<Name, T>,
 ) -> Result<Vec<Row>, OutOfMemory>
-    ensures { IfOk result (λ v. v.items ≡ rows config.now good (is_started started.now)) }
+    ensures { IfOk result (λ v. v.items ≡ rows config.now (stays_held config.now good lent.now) (is_started started.now)) }
 {
     let mut all = volume_rows(alloc, config.volumes.as_slice(), started)?;
-    let plexes = plex_rows(alloc, config, good, started)?;
+    let plexes = plex_rows(alloc, config, good, lent, started)?;
     all.extend_from_slice(&plexes)?;
     let subdisks = subdisk_rows(alloc, config)?;
     all.extend_from_slice(&subdisks)?;
@@ -68,11 +69,12 @@ fn plex_rows<T>(
     alloc: Global,
     config: &Config,
     good: u64,
+    lent: &[Name],
     started: &BTreeMap<Name, T>,
 ) -> Result<Vec<Row>, OutOfMemory>
-    ensures { IfOk result (λ v. v.items ≡ filter_map (plex_row (objects_of config.now) (is_held config.now good) (is_started started.now)) config.now.plexes) }
+    ensures { IfOk result (λ v. v.items ≡ filter_map (plex_row (objects_of config.now) (stays_held config.now good lent.now) (is_started started.now)) config.now.plexes) }
 {
-    let lost = lost_plexes(alloc, config, good)?;
+    let lost = lost_plexes(alloc, config, good, lent)?;
     let all = config.objects(alloc)?;
     let pieces = Pieces::of(alloc, &all)?;
     let found = rows_of_plexes(alloc, config.plexes.as_slice(), &lost, &pieces, started)?;
@@ -112,28 +114,48 @@ fn plex_row<T>(
     }
 }
 
-/// The names of the plexes of which a disk is not good.
-fn lost_plexes(alloc: Global, config: &Config, good: u64) -> Result<BTreeSet<Name>, AllocError>
-    ensures { IfOk result (λ s. IsFromIterResult (slice_cmp nat_cmp) (filter_map (lost_plex config.now.disks good) config.now.subdisks) s) }
+/// The names of the plexes of which a disk is not good and whose pieces are not lent.
+fn lost_plexes(
+    alloc: Global,
+    config: &Config,
+    good: u64,
+    lent: &[Name],
+) -> Result<BTreeSet<Name>, AllocError>
+    ensures { IfOk result (λ s. IsFromIterResult (slice_cmp nat_cmp) (filter_map (lost_plex config.now.disks good lent.now) config.now.subdisks) s) }
 {
     let disks = config.disks.as_slice();
     config
         .subdisks
         .as_slice()
         .iter()
-        .filter_map(|subdisk| lost_plex(disks, good, subdisk))
+        .filter_map(|subdisk| lost_plex(disks, good, lent, subdisk))
         .collect(alloc)
 }
 
-/// The plex of the subdisk, where the subdisk's disk is not good.
-fn lost_plex(disks: &[Disk], good: u64, subdisk: &Subdisk) -> Option<Name>
-    ensures { result ≡ lost_plex disks.now good subdisk.now }
+/// The plex of the subdisk, where the subdisk's disk is not good and the plex's pieces are not lent.
+fn lost_plex(disks: &[Disk], good: u64, lent: &[Name], subdisk: &Subdisk) -> Option<Name>
+    ensures { result ≡ lost_plex disks.now good lent.now subdisk.now }
 {
     if contains(good, slot_of(disks, &subdisk.disk) as u32) {
         None
     } else {
-        subdisk.plex
+        unless_lent(lent, &subdisk.plex)
     }
+}
+
+fn unless_lent(lent: &[Name], plex: &Option<Name>) -> Option<Name>
+    ensures { result ≡ unless_lent lent.now plex.now }
+{
+    match plex {
+        Some(name) if !is_lent(lent, name) => Some(*name),
+        _ => None,
+    }
+}
+
+fn is_lent(lent: &[Name], plex: &Name) -> bool
+    ensures { result ≡ is_lent lent.now plex.now }
+{
+    lent.iter().any(|name| same(name, plex))
 }
 
 fn subdisk_rows(alloc: Global, config: &Config) -> Result<Vec<Row>, OutOfMemory>

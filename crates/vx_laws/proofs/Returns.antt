@@ -30,7 +30,7 @@ use Rattle.vx_stages.specs.Ends.{RefusedAsLong}
 use Rattle.vx_stages.specs.Stages.{Stops, IsBetween, IsImporting, ImportRefused}
 use Rattle.vx_plans.specs.Steps.{Runs, Serves, AreAsBefore}
 use Rattle.vx_plans.specs.Laws.{WentWell}
-use Rattle.vx_stages.specs.declared.stages.Finish.TheVariants.{Nothing}
+use Rattle.vx_plans.specs.declared.stages.Finish.TheVariants.{Nothing}
 use Rattle.vx_stages.specs.declared.stage.Stage.TheVariants.{Import}
 use Rattle.vx_plans.proofs.Calm.{calm, shelf_calm, powered, none_of, nowhere, well_after}
 use Rattle.vx_laws.specs.Returning.{HasSamePublic, IsKeptOn, nobody, IsOutdated, IsLeftBehind, IsFull, IsReturned, is_done, good_members, EachGroupReturns, IsWhole, EachWholeGroupComesBack, IsDeviceOf}

@@ -40,10 +40,10 @@ use Rattle.vx_plans.specs.Plans.{new_volume, plan_of, disks_of}
 use Rattle.vx_plans.specs.Steps.{Runs, Leaves, IsNotBuilt, DoesPlan, DoesForm, Step, IsTranscript}
 use Rattle.vx_stages.specs.declared.stage.Source.{Source}
 use Rattle.vx_stages.specs.declared.stage.Source.TheVariants as source
-use Rattle.vx_stages.specs.declared.stages.Finish.{Finish}
-use Rattle.vx_stages.specs.declared.stages.Finish.TheVariants.{Nothing}
+use Rattle.vx_plans.specs.declared.stages.Finish.{Finish}
+use Rattle.vx_plans.specs.declared.stages.Finish.TheVariants.{Nothing}
 use Rattle.vx_stages.specs.declared.test.Test.TheVariants as tests
-use Rattle.vx_stages.specs.declared.stages.Plan.{Plan}
+use Rattle.vx_plans.specs.declared.stages.Plan.{Plan}
 
 -- what holds on each device may have been held
 abbrev pub AreThere : Holding → World → Type 0
@@ -155,6 +155,8 @@ unfolding plan_of
 plan_shaped dg (form.AssistMake vol length attrs disks) other = cc
 plan_shaped dg (form.PrintM None) other = refl
 plan_shaped dg (form.PrintM (Some vol)) other = refl
+plan_shaped dg (form.PrintHt None) other = refl
+plan_shaped dg (form.PrintHt (Some vol)) other = refl
 plan_shaped dg (form.Rdpol vol words.Round) other = refl
 plan_shaped dg (form.Rdpol vol words.Select) other = refl
 plan_shaped dg (form.Rdpol vol (words.Prefer plex)) other = refl

@@ -30,11 +30,11 @@ use Rattle.vx_plans.specs.Steps.{CountsAfter, DoesForm, DoesPlan, IsNotBuilt, Le
 use Rattle.vx_stages.specs.declared.stage.Source.TheVariants as source
 use Rattle.vx_stages.specs.declared.stage.Stage.{Stage}
 use Rattle.vx_stages.specs.declared.stage.Stage.TheVariants as stage
-use Rattle.vx_stages.specs.declared.stages.Finish.{Finish}
-use Rattle.vx_stages.specs.declared.stages.Finish.TheVariants.{Nothing}
+use Rattle.vx_plans.specs.declared.stages.Finish.{Finish}
+use Rattle.vx_plans.specs.declared.stages.Finish.TheVariants.{Nothing}
 use Rattle.vx_stages.specs.declared.test.Test.{Test}
 use Rattle.vx_stages.specs.declared.test.Test.TheVariants as tests
-use Rattle.vx_stages.specs.declared.stages.Plan.{Plan}
+use Rattle.vx_plans.specs.declared.stages.Plan.{Plan}
 use Rattle.vx_plans.proofs.Complete.{keeps_world, kept_world}
 use Rattle.vx_plan_laws.specs.Keeping.{IsLeftAdded, IsLeftUnopened, RefusedLeaves}
 use Rattle.vx_plan_laws.proofs.NewVolumes.{added_there, is_opened, no_gate}
@@ -186,7 +186,8 @@ plan_plain dg (form.Rdpol vol (words.Prefer plex)) other = (refl, refl, (refl, r
 plan_plain dg (form.RemoveVolume vol) other = (refl, refl, (refl, refl, (refl, refl, (refl, refl, refl))))
 plan_plain dg (form.Stop vol) other = cc
 plan_plain dg (form.Start vol) other = cc
-plan_plain dg (form.PrintHt vol) other = tt
+plan_plain dg (form.PrintHt None) other = refl
+plan_plain dg (form.PrintHt (Some vol)) other = (refl, refl, refl)
 plan_plain dg (form.AssistMake vol length attrs disks) other = cc
 plan_plain dg (form.Mirror vol disks) other = cc
 plan_plain dg (form.PlexDis plex rm) other = tt

@@ -24,7 +24,7 @@ use Rattle.vx_moments.specs.Commit.{Writing}
 use Rattle.vx_moments.specs.Moment.{Moment}
 use Rattle.vx_moments.specs.World.{World, Group}
 use Rattle.vx_plans.specs.Laws.{WentWell, IsDoneOrRefused, HasCarriers}
-use Rattle.vx_plans.specs.Plans.{disks_of, new_volume, plan_of}
+use Rattle.vx_plans.specs.Plans.{disks_of, ending, new_volume, plan_of, plan_print}
 use Rattle.vx_stages.specs.Refusals.{refusal_from}
 use Rattle.vx_stages.specs.Ends.{IsChange, refused}
 use Rattle.vx_stages.specs.Stages.{IsDone, Stops, EditsStop, edits_of, joining_edit}
@@ -33,8 +33,9 @@ use Rattle.vx_stages.specs.declared.stage.Change.TheVariants as changes
 use Rattle.vx_stages.specs.declared.stage.Source.TheVariants as source
 use Rattle.vx_stages.specs.declared.stage.Stage.{Stage}
 use Rattle.vx_stages.specs.declared.stage.Stage.TheVariants as stage
-use Rattle.vx_stages.specs.declared.stages.Finish.{Finish}
-use Rattle.vx_stages.specs.declared.stages.Plan.{Plan}
+use Rattle.vx_plans.specs.declared.stages.Finish.{Finish}
+use Rattle.vx_plans.specs.declared.stages.Finish.TheVariants.{Hierarchy, Records}
+use Rattle.vx_plans.specs.declared.stages.Plan.{Plan}
 use Rattle.vx_stages.specs.declared.test.Test.TheVariants as tests
 use Rattle.vx_plans.proofs.Complete.{keeps_world, kept_world, each_plan_is_complete}
 use Rattle.vx_plan_laws.specs.Refusing.{IsDoneBy, IsPassed, IsTooLong, OfGroup, OneRefuses, Refuses}
@@ -159,10 +160,9 @@ policy_guarded dg vol words.Round w = (tt, (refl, λ here. (tt, (refl, λ has. (
 policy_guarded dg vol words.Select w = (tt, (refl, λ here. (tt, (refl, λ has. (group_here dg [] w here, has, tt)))))
 policy_guarded dg vol (words.Prefer plex) w = (tt, (refl, λ here. (tt, (refl, λ has. (tt, (refl, λ there. (group_here dg [] w here, has, there)))))))
 
-print_guarded : (dg vol : Option Word) (w : World) → IsGuarded (plan_of dg (form.PrintM vol)) [] w
-unfolding plan_of
-print_guarded dg None w = tt
-print_guarded dg (Some vol) w = (tt, (refl, λ here. tt))
+print_guarded : (dg vol : Option Word) (finish : Finish) (w : World) → IsGuarded (ending (plan_print dg vol) finish) [] w
+print_guarded dg None finish w = tt
+print_guarded dg (Some vol) finish w = (tt, (refl, λ here. tt))
 
 new_found : (n : NewVolume) (old mid : Moment) → IsDone (stage.Make (source.Volume n)) [] old mid → HasGroup mid.world × LetsThrough (tests.HasVolume n.vol) [] mid.world
 new_found n old mid is = let there = added_there n old mid is in ((there.0, there.1), let_through mid.world there.0 there.1 n.vol [] there.2)
@@ -174,7 +174,8 @@ plan_guarded dg (form.DgInit name disks) w = (tt, (refl, λ a. (tt, (refl, λ b.
 plan_guarded dg (form.DgAddDisk name disk) w = (tt, (refl, λ a. (tt, (refl, λ here. (tt, (refl, λ c. (tt, (refl, λ limits. (tt, (refl, λ e. (group_here (Some name) (disk ∷ []) w here, limits)))))))))))
 plan_guarded dg (form.DgDeport name) w = (tt, (refl, λ a. (tt, (refl, λ b. tt))))
 plan_guarded dg (form.DiskUnsetup device) w = (tt, (refl, λ a. (tt, (refl, λ b. tt))))
-plan_guarded dg (form.PrintM vol) w = print_guarded dg vol w
+plan_guarded dg (form.PrintM vol) w = print_guarded dg vol (Records vol) w
+plan_guarded dg (form.PrintHt vol) w = print_guarded dg vol (Hierarchy vol) w
 plan_guarded dg (form.Rdpol vol how) w = policy_guarded dg vol how w
 plan_guarded dg (form.RemoveVolume vol) w = (tt, (refl, λ here. (tt, (refl, λ has. (tt, (refl, λ stopped. (tt, (refl, λ free. (group_here dg [] w here, has, free)))))))))
 plan_guarded dg (form.VxMake text) w = (tt, (refl, λ here. group_here dg [] w here))

@@ -30,11 +30,11 @@ use Rattle.vx_stages.specs.declared.stage.Source.{Source}
 use Rattle.vx_stages.specs.declared.stage.Source.TheVariants as source
 use Rattle.vx_stages.specs.declared.stage.Stage.{Stage}
 use Rattle.vx_stages.specs.declared.stage.Stage.TheVariants as stage
-use Rattle.vx_stages.specs.declared.stages.Finish.{Finish}
-use Rattle.vx_stages.specs.declared.stages.Finish.TheVariants.{Nothing}
+use Rattle.vx_plans.specs.declared.stages.Finish.{Finish}
+use Rattle.vx_plans.specs.declared.stages.Finish.TheVariants.{Nothing}
 use Rattle.vx_stages.specs.declared.test.Test.{Test}
 use Rattle.vx_stages.specs.declared.test.Test.TheVariants as tests
-use Rattle.vx_stages.specs.declared.stages.Plan.{Plan}
+use Rattle.vx_plans.specs.declared.stages.Plan.{Plan}
 use Rattle.vx_plans.proofs.Complete.{refused_mirror, refused_prepare, refused_unprepare}
 use Rattle.vx_plan_laws.specs.Refusing.{IsDoneBy, TellsCopied, TellsMirrored}
 use Rattle.vx_plan_laws.proofs.Kept.{AreStill, IsStill, behind, ends_itself, mirror_gates, plan_still, start_gates}

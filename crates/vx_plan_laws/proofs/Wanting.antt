@@ -20,7 +20,7 @@ use Rattle.vx_plans.specs.Steps.{LeavesOff, RunsShort, WantsForm, WantsPlan}
 use Rattle.vx_stages.specs.declared.stage.Source.TheVariants as source
 use Rattle.vx_stages.specs.declared.stage.Stage.{Stage}
 use Rattle.vx_stages.specs.declared.stage.Stage.TheVariants as stage
-use Rattle.vx_stages.specs.declared.stages.Plan.{Plan}
+use Rattle.vx_plans.specs.declared.stages.Plan.{Plan}
 use Rattle.vx_stages.specs.declared.test.Test.{Test}
 use Rattle.vx_stages.specs.declared.test.Test.TheVariants as tests
 use Rattle.vx_plans.proofs.Complete.{kept_world}

@@ -41,7 +41,7 @@ use Rattle.vx_stages.specs.Tests.{volume_in}
 use Rattle.vx_stages.specs.declared.stage.Source.TheVariants as source
 use Rattle.vx_stages.specs.declared.stage.Stage.{Stage}
 use Rattle.vx_stages.specs.declared.stage.Stage.TheVariants as stage
-use Rattle.vx_stages.specs.declared.stages.Plan.{Plan}
+use Rattle.vx_plans.specs.declared.stages.Plan.{Plan}
 
 -- the imported group is such
 abbrev pub OfGroup : World → (Group → Type 0) → Type 0

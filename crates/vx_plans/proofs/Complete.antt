@@ -28,7 +28,7 @@ use Rattle.vx_stages.specs.Logging.{AreEditsRefused, IsPrepareRefused, IsUnprepa
 use Rattle.vx_stages.specs.Mirrored.{IsMirroredBy, MirrorEnds, MirrorStopsIn}
 use Rattle.vx_stages.specs.Mirroring.{IsMirrorRefused}
 use Rattle.vx_plans.specs.Laws.{WentWell, IsDoneOrRefused, HasCarriers}
-use Rattle.vx_plans.specs.Plans.{plan_of, disks_of}
+use Rattle.vx_plans.specs.Plans.{disks_of, ending, plan_of, plan_print}
 use Rattle.vx_stages.specs.Records.{devices_of}
 use Rattle.vx_stages.specs.Stages.{IsDone, Stops, DeviceEnds, FailsAt, TakingStops, LookingStops}
 use Rattle.vx_stages.specs.Starting.{CopyEnds, IsStartedBy, StopsIn, StopsOf, may_start}
@@ -36,8 +36,9 @@ use Rattle.vx_plans.specs.Steps.{Runs}
 use Rattle.vx_stages.specs.Stopping.{StopStops, runs_on_plexes}
 use Rattle.vx_stages.specs.Tests.{volume_in}
 use Rattle.vx_stages.specs.Touching.{PassHasCause}
-use Rattle.vx_stages.specs.declared.stages.Finish.{Finish}
-use Rattle.vx_stages.specs.declared.stages.Plan.{Plan}
+use Rattle.vx_plans.specs.declared.stages.Finish.{Finish}
+use Rattle.vx_plans.specs.declared.stages.Finish.TheVariants.{Hierarchy, Records}
+use Rattle.vx_plans.specs.declared.stages.Plan.{Plan}
 use Rattle.vx_stages.specs.declared.stage.Source.{Source}
 use Rattle.vx_stages.specs.declared.stage.Stage.{Stage}
 use Rattle.vx_stages.specs.declared.stage.Stage.TheVariants as stage
@@ -374,10 +375,9 @@ policy_shaped dg vol words.Round w c = (tt, (refl, (tt, (refl, c))))
 policy_shaped dg vol words.Select w c = (tt, (refl, (tt, (refl, c))))
 policy_shaped dg vol (words.Prefer plex) w c = (tt, (refl, (tt, (refl, (tt, (refl, c))))))
 
-print_shaped : (dg vol : Option Word) (w : World) → IsPlanShaped (plan_of dg (form.PrintM vol)) [] w
-unfolding plan_of
-print_shaped dg None w = tt
-print_shaped dg (Some vol) w = (tt, (refl, tt))
+print_shaped : (dg vol : Option Word) (finish : Finish) (w : World) → IsPlanShaped (ending (plan_print dg vol) finish) [] w
+print_shaped dg None finish w = tt
+print_shaped dg (Some vol) finish w = (tt, (refl, tt))
 
 plan_shaped : (dg : Option Word) (f : Form) (w : World) → HasCarriers f w → IsPlanShaped (plan_of dg f) (disks_of f) w
 unfolding plan_of
@@ -390,11 +390,11 @@ plan_shaped dg (form.DgDeport name) w has = (tt, (refl, (tt, (refl, tt))))
 plan_shaped dg (form.DiskUnsetup device) w has = (tt, (refl, (tt, (refl, tt))))
 plan_shaped dg (form.Start vol) w has = (tt, (refl, (tt, (refl, (tt, (refl, has.group))))))
 plan_shaped dg (form.Stop vol) w has = (tt, (refl, (tt, (refl, has.group))))
-plan_shaped dg (form.PrintM vol) w has = print_shaped dg vol w
+plan_shaped dg (form.PrintM vol) w has = print_shaped dg vol (Records vol) w
 plan_shaped dg (form.Rdpol vol how) w has = policy_shaped dg vol how w has.group
 plan_shaped dg (form.RemoveVolume vol) w has = (tt, (refl, (tt, (refl, (tt, (refl, (tt, (refl, has.group))))))))
 plan_shaped dg (form.VxMake text) w has = (tt, (refl, has.group))
-plan_shaped dg (form.PrintHt vol) w has = tt
+plan_shaped dg (form.PrintHt vol) w has = print_shaped dg vol (Hierarchy vol) w
 plan_shaped dg (form.AssistMake vol length attrs disks) w has = (tt, (refl, (has.group, λ v alive. (tt, (refl, alive)))))
 plan_shaped dg (form.Mirror vol disks) w has = (tt, (refl, has.group))
 plan_shaped dg (form.PlexDis plex rm) w has = tt

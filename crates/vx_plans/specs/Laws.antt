@@ -14,7 +14,7 @@ use Rattle.vx_moments.specs.World.{World, Device}
 use Rattle.vx_moments.specs.Moment.{Moment, IsQuiet}
 use Rattle.vx_plans.specs.Plans.{plan_of, disks_of}
 use Rattle.vx_plans.specs.Steps.{Runs}
-use Rattle.vx_stages.specs.declared.stages.Plan.{Plan}
+use Rattle.vx_plans.specs.declared.stages.Plan.{Plan}
 
 -- nothing failed, and the power stayed; no count stands at its type's end
 pub record WentWell (old new : Moment) : Type 0 where

@@ -10,9 +10,9 @@ use Rattle.vx_script_forms.specs.declared.form.WordLayout.{WordLayout}
 use Rattle.vx_script_forms.specs.declared.form.WordLayout.TheVariants as layout
 use Rattle.vx_script_forms.specs.declared.form.WordPolicy.{WordPolicy}
 use Rattle.vx_script_forms.specs.declared.form.WordPolicy.TheVariants as words
-use Rattle.vx_stages.specs.declared.stages.Finish.{Finish}
-use Rattle.vx_stages.specs.declared.stages.Finish.TheVariants.{Nothing, Records}
-use Rattle.vx_stages.specs.declared.stages.Plan.{Plan}
+use Rattle.vx_plans.specs.declared.stages.Finish.{Finish}
+use Rattle.vx_plans.specs.declared.stages.Finish.TheVariants.{Hierarchy, Nothing, Records}
+use Rattle.vx_plans.specs.declared.stages.Plan.{Plan}
 use Rattle.vx_new_volumes.specs.declared.logs.NewLogs.{NewLogs}
 use Rattle.vx_new_volumes.specs.declared.mirror.NewPlex.{NewPlex}
 use Rattle.vx_new_volumes.specs.declared.volume.NewVolume.{NewVolume}
@@ -135,7 +135,7 @@ plan_start dg vol =
 abbrev pub plan_stop : Option Word → Word → List Stage
 plan_stop dg vol = stage.Gate (tests.GroupIs dg) ∷ stage.Gate (tests.HasVolume vol) ∷ stage.Stop vol ∷ []
 
--- `vxprint -m [VOL]`
+-- `vxprint -m [VOL]` and `vxprint -ht [VOL]`
 abbrev pub plan_print : Option Word → Option Word → List Stage
 plan_print dg None = stage.Gate (tests.GroupIs dg) ∷ []
 plan_print dg (Some vol) = stage.Gate (tests.GroupIs dg) ∷ stage.Gate (tests.HasVolume vol) ∷ []
@@ -150,6 +150,7 @@ plan_of dg (form.DgImport name) = doing (stage.Import name ∷ [])
 plan_of dg (form.DgDeport name) = doing (plan_deport name)
 plan_of dg (form.DiskUnsetup device) = doing (plan_unsetup device)
 plan_of dg (form.PrintM vol) = ending (plan_print dg vol) (Records vol)
+plan_of dg (form.PrintHt vol) = ending (plan_print dg vol) (Hierarchy vol)
 plan_of dg (form.VxMake text) = doing (plan_make dg text)
 plan_of dg (form.AssistMake vol length attrs disks) = doing (plan_new dg (new_volume vol length attrs disks))
 plan_of dg (form.Rdpol vol words) = doing (plan_rdpol dg vol words)

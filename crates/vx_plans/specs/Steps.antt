@@ -18,12 +18,14 @@ use Rattle.vx_moments.specs.World.{World}
 use Rattle.vx_moments.specs.Moment.{Moment, AreLater, Counts}
 use Rattle.vx_moments.specs.Leaving.{PowerGoes, group_gone}
 use Rattle.vx_moments.specs.Lives.{GroupStands}
+use Rattle.vx_hierarchy.specs.Hierarchy.{IsHierarchy}
 use Rattle.vx_plans.specs.Serving.{CallRuns}
+use Rattle.vx_plans.specs.Showing.{is_held_in, is_running}
 use Rattle.vx_plans.specs.Plans.{plan_of, disks_of}
 use Rattle.vx_stages.specs.Stages.{IsDone, Stops, Wants}
-use Rattle.vx_stages.specs.declared.stages.Finish.{Finish}
-use Rattle.vx_stages.specs.declared.stages.Finish.TheVariants.{Nothing, Records}
-use Rattle.vx_stages.specs.declared.stages.Plan.{Plan}
+use Rattle.vx_plans.specs.declared.stages.Finish.{Finish}
+use Rattle.vx_plans.specs.declared.stages.Finish.TheVariants.{Hierarchy, Nothing, Records}
+use Rattle.vx_plans.specs.declared.stages.Plan.{Plan}
 use Rattle.vx_stages.specs.declared.stage.Stage.{Stage}
 use Rattle.vx_script_words.specs.declared.value.DiskAt.{DiskAt}
 use Rattle.vx_recovery.specs.Going.{Recovers, RecoversShort}
@@ -36,6 +38,7 @@ done = ends.Done None [] []
 abbrev pub Shows : Finish → World → List View → Type 0
 Shows Nothing w views = views ≡ []
 Shows (Records vol) w views = MatchOption w.group ⊥ (λ g. (text : List ℕ) × (views ≡ Text text ∷ []) × IsPrinted vol (objects_of g.config) [] text)
+Shows (Hierarchy vol) w views = MatchOption w.group ⊥ (λ g. (text : List ℕ) × (views ≡ Text text ∷ []) × IsHierarchy g.config (is_held_in w g) (is_running w) vol [] text)
 
 -- The stages are done one after the other, and the rest of the command follows; or one of them ends it.
 abbrev pub Runs : List DiskAt → List Stage → Finish → Moment → List View → End → Moment → Type 0

@@ -4,6 +4,8 @@
 
 mod laws;
 mod planning;
+mod stages;
 
 pub use laws::each_plan_is_complete;
 pub use planning::plan;
+pub use stages::{Finish, Plan, Stages};

@@ -1,10 +1,11 @@
 //! The plan of each form.
 ghost use Rattle.std.specs.Prelude.{◌≡◌, IfOk};
 ghost use Rattle.vx_plans.specs.Plans.{columns_of, doing, ending, logs_of, new_logs, new_volume, or_else, plan_add, plan_bare, plan_deport, plan_init, plan_make, plan_mirror, plan_new, plan_of, plan_prepare, plan_print, plan_rdpol, plan_remove, plan_start, plan_stop, plan_unprepare, plan_unsetup};
-ghost use Rattle.vx_stages.specs.declared.stages.Finish.TheVariants.{Records};
+ghost use Rattle.vx_plans.specs.declared.stages.Finish.TheVariants.{Hierarchy, Records};
 ghost use Rattle.vx_stages.specs.declared.stage.Change.TheVariants as changes;
 ghost use Rattle.vx_stages.specs.declared.stage.Stage.TheVariants as stages;
 
+use crate::stages::{Finish, Plan, Stages};
 use std::alloc::Global;
 use vx_base::OutOfMemory;
 use vx_config_parts::PolicyName;
@@ -13,7 +14,7 @@ use vx_new_volumes::{NewLogs, NewPlex, NewVolume, Request};
 use vx_objects::Listed;
 use vx_script_forms::{Form, MakeAttrs, WordLayout, WordPolicy};
 use vx_script_words::{Bytes, Names};
-use vx_stages::{Change, Finish, Plan, Source, Stage, Stages, Test};
+use vx_stages::{Change, Source, Stage, Test};
 
 /// The plan of a form, where it is built as one. The group is the word of `-g`.
 #[tactic(auto, unfolding(crate::specs::Plans::plan_of))]
@@ -32,7 +33,8 @@ pub fn plan(alloc: Global, group: Option<Name>, form: &Form) -> Result<Option<Pl
         Form::DgImport { dg } => doing(alloc, [Stage::Import(*dg)]),
         Form::DgDeport { dg } => deport(alloc, *dg),
         Form::DiskUnsetup { device } => unsetup(alloc, *device),
-        Form::PrintM { vol } => print(alloc, group, vol),
+        Form::PrintM { vol } => print(alloc, group, vol, Finish::Records(*vol)),
+        Form::PrintHt { vol } => print(alloc, group, vol, Finish::Hierarchy(*vol)),
         Form::VxMake { text } => make(alloc, group, text.as_slice()),
         Form::AssistMake {
             vol,
@@ -150,14 +152,15 @@ fn unsetup(alloc: Global, device: Name) -> Result<Option<Plan>, OutOfMemory>
     )
 }
 
+/// What is shown of the group, or of one of its volumes.
 fn print(
     alloc: Global,
     group: Option<Name>,
     vol: &Option<Name>,
+    finish: Finish,
 ) -> Result<Option<Plan>, OutOfMemory>
-    ensures { IfOk result (λ plan. plan ≡ ending (plan_print group vol.now) (Records vol.now)) }
+    ensures { IfOk result (λ plan. plan ≡ ending (plan_print group vol.now) finish) }
 {
-    let finish = Finish::Records(*vol);
     let here = Stage::Gate(Test::GroupIs(group));
     match vol {
         None => ending(alloc, [here], finish),

@@ -2,7 +2,9 @@
 use std::alloc::{AllocError, Global};
 use std::str;
 use vx_flow::{MemSink, MemSource};
+use vx_members::highest_member;
 use vx_names::Name;
+use vx_picker::Picker;
 use vx_piece::{Bad, MemPiece};
 use vx_power::Powered;
 use vx_run::run;
@@ -94,6 +96,7 @@ pub fn run_on(
         &mut powered,
         &mut source,
         &mut sink,
+        &Picker::new(|mask, turn| highest_member(mask, turn)),
     );
     let answers = Vec::from_slice(alloc, sink.bytes())?;
     Ok(Ran {

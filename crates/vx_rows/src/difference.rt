@@ -35,6 +35,10 @@ pub enum Difference {
         image: String,
         place: u64,
     },
+    /// An image ends otherwise where another function selects the plexes that serve reads.
+    Selected {
+        image: String,
+    },
 }
 
 impl fmt::Display for Difference {
@@ -57,6 +61,12 @@ impl fmt::Display for Difference {
                 write!(f, "sector {sector} of {image} holds something else")
             }
             Difference::Byte { image, place } => { write!(f, "byte {place} of {image} is another") }
+            Difference::Selected { image } => {
+                write!(
+                    f,
+                    "{image} ends otherwise where the lowest plex is selected"
+                )
+            }
         }
     }
 }

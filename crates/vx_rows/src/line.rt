@@ -31,6 +31,9 @@ pub enum Line<'a> {
         first: u64,
         last: u64,
     },
+    /// `either member`: the row is tried with a function that selects the lowest of the plexes that may serve a read too, and not only
+    /// with one that selects the highest.
+    Either,
     /// `heal`: no sector is bad any more as this run begins.
     Heal,
     /// `any`: any answers and any status of this run will do.
@@ -123,6 +126,7 @@ fn read_figure(text: &str) -> Option<Line<'_>> {
         "again" => return Some(Line::Again),
         "any" => return Some(Line::Any),
         "or" => return Some(Line::Or),
+        "either member" => return Some(Line::Either),
         "heal" => return Some(Line::Heal),
         _ => {}
     }

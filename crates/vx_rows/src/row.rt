@@ -18,6 +18,16 @@ pub struct Row {
     /// After how many of these writes all images fail for good: the row is tried with each number from the first to the
     /// last. What is left of the images is what a power cut there leaves.
     pub cuts: Option<(u64, u64)>,
+    /// Whether the row is tried with each function that may select among plexes, and not only with the program's.
+    pub either: bool,
+}
+
+/// The member that a function selects among the plexes that may serve a read.
+#[derive(Clone, Copy)]
+pub enum Member {
+    Lowest,
+    /// As `vxrun` has it.
+    Highest,
 }
 
 /// Calls of one kind on an image that fail, so many times from some call on.
@@ -204,6 +214,7 @@ impl Row {
             moving: None,
             order: Vec::new(alloc),
             cuts: None,
+            either: false,
         })
     }
 
@@ -237,6 +248,7 @@ impl Row {
             } => return Ok(self.move_fault(name, on_read, times)),
             Line::Order(names) => return self.set_order(names),
             Line::Cuts { first, last } => self.cuts = Some((first, last)),
+            Line::Either => self.either = true,
             Line::Again => self.runs.push(Run::new(alloc)?)?,
             other => return self.take_in_run(alloc, other),
         }

@@ -6,10 +6,12 @@ ghost use Rattle.vx_shelf.specs.OnShelf.{held_on};
 use crate::build::{bads_after, bads_from, devices, healed, no_bads};
 use crate::compare::compare;
 use crate::difference::Difference;
-use crate::row::{Byte, Content, Moving, Row, Run};
+use crate::row::{Byte, Content, Member, Moving, Row, Run};
 use std::alloc::{AllocError, Global};
 use vx_flow::{MemSink, MemSource};
+use vx_members::{highest_member, lowest_member};
 use vx_names::Name;
+use vx_picker::Picker;
 use vx_piece::{Bad, MemPiece, Piece};
 use vx_power::Powered;
 use vx_run::run;
@@ -69,12 +71,46 @@ fn try_cuts(
     Ok(None)
 }
 
-/// Runs the scripts of the row one after the other, and tells whether a fault fired.
+/// The devices behind the last run of a row, and whether a fault fired.
+#[derive(Drop)]
+struct Ended {
+    devices: Vec<(Name, MemPiece)>,
+    fired: bool,
+}
+
+/// Runs the scripts of the row, where it says so with each function that may select among plexes, and tells whether a fault fired. By
+/// another function the devices do not end otherwise.
 fn try_runs(
     alloc: Global,
     row: &Row,
     further: &[Bad],
 ) -> Result<Result<bool, Difference>, AllocError> {
+    let ended = match try_with(alloc, row, further, Member::Highest)? {
+        Ok(ended) => ended,
+        Err(difference) => return Ok(Err(difference)),
+    };
+    if row.either {
+        match try_with(alloc, row, further, Member::Lowest)? {
+            Err(difference) => return Ok(Err(difference)),
+            Ok(other) => if let Some(difference) = compare_images(
+                alloc,
+                ended.devices.as_slice(),
+                other.devices.as_slice(),
+            )? {
+                return Ok(Err(difference));
+            },
+        }
+    }
+    Ok(Ok(ended.fired))
+}
+
+/// Runs the scripts of the row one after the other, with a function that selects this member.
+fn try_with(
+    alloc: Global,
+    row: &Row,
+    further: &[Bad],
+    member: Member,
+) -> Result<Result<Ended, Difference>, AllocError> {
     let mut devices = devices(alloc, row.images.as_slice(), further)?;
     if devices.len() != row.images.len() {
         return Ok(Err(Difference::Images));
@@ -90,14 +126,33 @@ fn try_runs(
         if !MemShelf::accepts(here.as_slice()) {
             return Ok(Err(Difference::Images));
         }
-        let (difference, shelf) = try_on(alloc, run, MemShelf::new(here))?;
+        let (difference, shelf) = try_on(alloc, run, MemShelf::new(here), member)?;
         if let Some(difference) = difference {
             return Ok(Err(difference));
         }
         devices = collect(alloc, shelf, away)?;
         fired = fired || has_failed(devices.as_slice());
     }
-    Ok(Ok(fired))
+    Ok(Ok(Ended { devices, fired }))
+}
+
+/// The first image of which the bytes are not those of the other one.
+fn compare_images(
+    alloc: Global,
+    devices: &[(Name, MemPiece)],
+    others: &[(Name, MemPiece)],
+) -> Result<Option<Difference>, AllocError> {
+    if devices.len() != others.len() {
+        return Ok(Some(Difference::Images));
+    }
+    for (device, other) in devices.iter().zip(others) {
+        if device.1.bytes() != other.1.bytes() {
+            return Ok(Some(Difference::Selected {
+                image: word_of(alloc, &device.0)?,
+            }));
+        }
+    }
+    Ok(None)
 }
 
 /// Whether a call of some device has failed.
@@ -181,6 +236,7 @@ fn try_on(
     alloc: Global,
     row: &Run,
     shelf: MemShelf,
+    member: Member,
 ) -> Result<(Option<Difference>, MemShelf), AllocError>
     requires { (name : Word) → held_on shelf name ≡ None }
 {
@@ -193,13 +249,24 @@ fn try_on(
     let Ok(mut powered) = Powered::new(alloc, shelf) else {
         return Err(AllocError);
     };
-    let status = run(
-        alloc,
-        words.as_slice(),
-        &mut powered,
-        &mut source,
-        &mut sink,
-    );
+    let status = match member {
+        Member::Lowest => run(
+            alloc,
+            words.as_slice(),
+            &mut powered,
+            &mut source,
+            &mut sink,
+            &Picker::new(|mask, turn| lowest_member(mask, turn)),
+        ),
+        Member::Highest => run(
+            alloc,
+            words.as_slice(),
+            &mut powered,
+            &mut source,
+            &mut sink,
+            &Picker::new(|mask, turn| highest_member(mask, turn)),
+        ),
+    };
     let shelf = powered.into_shelf();
     let difference = judge(alloc, row, &shelf, status, sink.bytes())?;
     Ok((difference, shelf))

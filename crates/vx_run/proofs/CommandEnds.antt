@@ -1,12 +1,9 @@
 -- A command that is over, and what is left of it.
-use Rattle.std.proofs.Common.{◌≡◌, ◌∙◌, ◌≤◌, ◌<◌, ◌⊎◌, ℕ, List, [], ◌∷◌, Option, Some, None, refl, sym, ap, subst, arith, inl, inr}
+use Rattle.std.proofs.Common.{◌≡◌, ◌∙◌, ◌≤◌, ◌<◌, ◌⊎◌, ℕ, List, [], Option, Some, None, refl, sym, ap, subst, arith, inl, inr}
 use Rattle.std.specs.Prelude.{Result, Ok, Err, IfSome, IfOk, IfErr, OnOk, MatchOption}
 use Rattle.std.specs.List.Sorted.{IsStrictlySortedBy}
 use Rattle.std.specs.Map.{keys_of}
 use Rattle.vx_pages.specs.declared.local_piece.LocalPiece.{Ghosts}
-use Rattle.vx_objects.specs.Config.{objects_of}
-use Rattle.vx_print.specs.Shown.{IsPrinted}
-use Rattle.vx_answers.specs.declared.answer.View.TheVariants.{Text}
 use Rattle.std.proofs.lemmas.List.{append-nil}
 use Rattle.std.specs.BTreeMap.{BTreeMap, IsOrdered}
 use Rattle.std.specs.Cmp.Lexicographic.{slice_cmp}
@@ -27,8 +24,8 @@ use Rattle.vx_moments.specs.World.{World}
 use Rattle.vx_moments.specs.Leaving.{group_gone}
 use Rattle.vx_plans.specs.Steps.{Runs, RunsShort, Leaves, Shows, done}
 use Rattle.vx_stages.specs.declared.stage.Stage.{Stage}
-use Rattle.vx_stages.specs.declared.stages.Finish.{Finish}
-use Rattle.vx_stages.specs.declared.stages.Finish.TheVariants.{Nothing, Records}
+use Rattle.vx_plans.specs.declared.stages.Finish.{Finish}
+use Rattle.vx_plans.specs.declared.stages.Finish.TheVariants.{Hierarchy, Nothing, Records}
 use Rattle.vx_house.specs.Goes.{KeepsBy}
 use Rattle.vx_house.specs.Holders.{volume_at}
 use Rattle.vx_house.specs.Leaves.{StandsAt, IsLeft, IsLater, LeavesBoth, LeavesVolumes, LeavesNone, StaysBy}
@@ -45,16 +42,17 @@ use Rattle.vx_house.proofs.AfterLoss.{left as left_world}
 use Rattle.vx_house.proofs.AllLaws.{found_in}
 use Rattle.vx_house.proofs.Moments.{faults_trans, faults_moved, moment_moved}
 use Rattle.vx_house.proofs.Ends.{keeps_but_group, moment_but_group}
-use Rattle.vx_run.specs.Fed.{KeepToShow, KeepWorld, ShowsAfter, recent}
+use Rattle.vx_run.specs.Fed.{IsThereAfter, KeepToShow, KeepWorld, ShowsAfter, recent}
 use Rattle.vx_run.specs.Runs.{StagesGo, HasRun, IsMomentBy, HasEnded, HasRested}
 use Rattle.vx_run.specs.Serving.{CommandEnds, CommandGoes, IsHeldUp, IsRefused}
 use Rattle.vx_run.specs.declared.unserved.Unserved.{Unserved}
 use Rattle.vx_run.specs.declared.unserved.Unserved.TheVariants as unserved
-use Rattle.vx_run.specs.Shows.{CanShow, ShowsRecords}
+use Rattle.vx_run.specs.Shows.{CanShow, ShowsIn, ShowsText}
 use Rattle.vx_stages.specs.Tests.{fails, unless, is_here}
 use Rattle.vx_stages.specs.declared.test.Test.TheVariants as tests
 use Rattle.vx_stages.specs.declared.stage.Stage.TheVariants as stage
 use Rattle.vx_answers.specs.declared.refusal.Refusal.TheVariants as refusal
+use Rattle.vx_run.proofs.ShownWorld.{group_alive, shown_records, shown_volumes}
 use Rattle.vx_run.proofs.StageChains.{given_one}
 
 rose_more : (a b c : ℕ) → Rose a b → b ≤ c → Rose a c
@@ -183,15 +181,16 @@ module _ {P : Type 0} {ghosts : Ghosts P} (see : P → Seen) (disks : List DiskA
       (λ m is. let n = run.goes m is in (n.0, record { is = n.1.is; later = n.1.later; does = n.1.runs finish }))
       run.faults run.blamed gone
 
-  shown_there : (mid : View P ghosts) (n : Moment) (views : List Shown) → IsMoment see mid n → Shows finish (plain see mid.house) views → Shows finish n.world views
+  shown_there : (mid : View P ghosts) (n : Moment) (views : List Shown) → IsMoment see mid n → ShowsIn see finish mid.house views → Shows finish n.world views
   shown_there mid n views is shows = by finish shows
     where
-      by : (f : Finish) → Shows f (plain see mid.house) views → Shows f n.world views
+      by : (f : Finish) → ShowsIn see f mid.house views → Shows f n.world views
       by Nothing shows = shows
-      by (Records vol) shows = subst (λ g. MatchOption g ⊥ (λ x. (text : List ℕ) × (views ≡ Text text ∷ []) × IsPrinted vol (objects_of x.config) [] text)) (sym is.group_is) shows
+      by (Records vol) shows = shown_records see mid.house.group n.world.group vol views is.group_is shows
+      by (Hierarchy vol) shows = shown_volumes see mid.house.group n.world vol views is.group_is is.runs_are shows
 
   -- all stages are done, and this is shown
-  pub done_goes : (views : List Shown) (old mid new : View P ghosts) → HasRun see disks stages old mid → Shows finish (plain see mid.house) views → IsLeft see done mid new → CommandGoes see (λ m views end n. Runs disks stages finish m views end n) (One views done) old new
+  pub done_goes : (views : List Shown) (old mid new : View P ghosts) → HasRun see disks stages old mid → ShowsIn see finish mid.house views → IsLeft see done mid new → CommandGoes see (λ m views end n. Runs disks stages finish m views end n) (One views done) old new
   done_goes views old mid new run shows gone = record {
     keeps = both_kept see mid new gone.later gone.stays run.keeps;
     empty = gone.later.hand;
@@ -250,10 +249,15 @@ here_some {P = P} {ghosts = ghosts} see dg disks h is = by h.group is
     by None is = cc
     by (Some g) is = tt
 
-pub can_show : {P : Type 0} {ghosts : Ghosts P} (see : P → Seen) (disks : List DiskAt) (stages : List Stage) (finish : Finish) (old now : View P ghosts) → ShowsAfter (recent stages) finish → HasRun see disks stages old now → CanShow finish now.house
+-- once the test of the group is passed it is there
+there_after : {P : Type 0} {ghosts : Ghosts P} (see : P → Seen) (disks : List DiskAt) (stages : List Stage) (vol : Option Word) (old now : View P ghosts) → IsThereAfter (recent stages) vol → HasRun see disks stages old now → MatchOption now.house.group ⊥ (λ g. Unit {0})
+there_after see disks stages None old now there run = here_some see there.0 disks now.house (given_one see disks now.house (recent stages) (stage.Gate (tests.GroupIs there.0)) run.gives there.1)
+there_after see disks stages (Some vol) old now there run = here_some see there.0.0 disks now.house (given_one see disks now.house (recent stages) (stage.Gate (tests.GroupIs there.0.0)) run.gives there.0.1)
+
+pub can_show : {P : Type 0} {ghosts : Ghosts P} (see : P → Seen) (disks : List DiskAt) (stages : List Stage) (finish : Finish) (old now : View P ghosts) → ShowsAfter (recent stages) finish → HasRun see disks stages old now → CanShow see finish now.house
 can_show see disks stages Nothing old now shows run = tt
-can_show see disks stages (Records None) old now shows run = here_some see shows.0 disks now.house (given_one see disks now.house (recent stages) (stage.Gate (tests.GroupIs shows.0)) run.gives shows.1)
-can_show see disks stages (Records (Some vol)) old now shows run = here_some see shows.0.0 disks now.house (given_one see disks now.house (recent stages) (stage.Gate (tests.GroupIs shows.0.0)) run.gives shows.0.1)
+can_show see disks stages (Records vol) old now shows run = there_after see disks stages vol old now shows run
+can_show see disks stages (Hierarchy vol) old now shows run = group_alive see now.house.group run.keeps.house.group (there_after see disks stages vol old now shows run)
 
 module _ {P : Type 0} {ghosts : Ghosts P} (see : P → Seen) (disks : List DiskAt) (stages ss : List Stage) (same : ss ≡ stages) (old mid : View P ghosts) where
   pub ended_from : (stop : Stop) (end : End) → stop ≡ stops.Ended end → StagesGo see disks ss (Err stop) old mid → HasEnded see disks stages end old mid
@@ -267,6 +271,8 @@ module _ {P : Type 0} {ghosts : Ghosts P} (see : P → Seen) (disks : List DiskA
         faults = run.faults;
       }
 
--- where records are to be shown, the stages keep the world
-pub records_kept : (stages : List Stage) (finish : Finish) → ShowsRecords finish → KeepToShow stages finish → KeepWorld stages
-records_kept stages finish shows kept = subst (KeepToShow stages) shows.1 kept
+-- where something is to be shown, the stages keep the world
+pub world_kept : (stages : List Stage) (finish : Finish) → ShowsText finish → KeepToShow stages finish → KeepWorld stages
+world_kept stages Nothing shows kept = absurd shows
+world_kept stages (Records vol) shows kept = kept
+world_kept stages (Hierarchy vol) shows kept = kept

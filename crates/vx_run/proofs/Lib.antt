@@ -3,6 +3,8 @@ pub mod Tests
 pub mod Sound
 pub mod WorldLaws
 pub mod StageChains
+mod LentPlexes
+mod ShownWorld
 pub mod CommandEnds
 mod Among
 mod Told
@@ -14,6 +16,7 @@ pub mod RunningCalls
 pub mod CallLaws
 pub mod NoneRun
 pub mod GateStage
+mod FollowStage
 pub mod CommandRanges
 mod Recovered
 pub mod Powers

@@ -17,7 +17,7 @@ use Rattle.vx_house.specs.View.{IsGroupWhole, IsMoment, View}
 use Rattle.vx_house.specs.declared.stop.Stop.{Stop}
 use Rattle.vx_house.specs.declared.stop.Stop.TheVariants as stops
 use Rattle.vx_house.proofs.Ends.{keeps_but_group, whole_kept}
-use Rattle.vx_stages.specs.declared.stages.Finish.TheVariants.{Nothing}
+use Rattle.vx_plans.specs.declared.stages.Finish.TheVariants.{Nothing}
 use Rattle.vx_stage_recovery.specs.Steps.{StepGoes}
 use Rattle.vx_run.specs.Serving.{CommandGoes, IsRefused}
 use Rattle.vx_run.proofs.CommandEnds.{HasDone, over_goes, rested_goes}

@@ -51,6 +51,11 @@ unfolding plan_of
 print dg None = record { fed = ((λ is. cc, tt), tt); kept = (refl, tt); sized = (tt, tt); shows = (dg, inl refl) }
 print dg (Some vol) = record { fed = ((λ is. cc, tt), ((λ is. cc, tt), tt)); kept = (refl, (refl, tt)); sized = (tt, (tt, tt)); shows = ((dg, inl refl), inr (inl refl)) }
 
+hierarchy : (dg vol : Option Word) → IsSoundIfAny (plan_of dg (form.PrintHt vol))
+unfolding plan_of
+hierarchy dg None = record { fed = ((λ is. cc, tt), tt); kept = (refl, tt); sized = (tt, tt); shows = (dg, inl refl) }
+hierarchy dg (Some vol) = record { fed = ((λ is. cc, tt), ((λ is. cc, tt), tt)); kept = (refl, (refl, tt)); sized = (tt, (tt, tt)); shows = ((dg, inl refl), inr (inl refl)) }
+
 -- the plan of a form, where it has one
 pub plan_sound : (dg : Option Word) (f : Form) → HasFormSize f → IsSoundIfAny (plan_of dg f)
 unfolding plan_of
@@ -69,7 +74,7 @@ plan_sound dg (form.AssistMake vol length attrs disks) size = record { fed = ((�
 plan_sound dg (form.Start vol) size = record { fed = ((λ is. cc, tt), ((λ is. cc, tt), ((λ is. cc, tt), ((λ is. cc, (inr (inr (inl refl)), tt)), tt)))); kept = tt; sized = (tt, (tt, (tt, (tt, tt)))); shows = tt }
 plan_sound dg (form.Stop vol) size = record { fed = ((λ is. cc, tt), ((λ is. cc, tt), ((λ is. cc, tt), tt))); kept = tt; sized = (tt, (tt, (tt, tt))); shows = tt }
 plan_sound dg (form.Mirror vol disks) size = record { fed = ((λ is. cc, tt), ((λ is. cc, tt), tt)); kept = tt; sized = (tt, (tt, tt)); shows = tt }
-plan_sound dg (form.PrintHt vol) size = tt
+plan_sound dg (form.PrintHt vol) size = hierarchy dg vol
 plan_sound dg (form.PlexDis plex rm) size = tt
 plan_sound dg (form.Prepare vol ndcomirs region) size = record { fed = ((λ is. cc, tt), ((λ is. cc, tt), tt)); kept = tt; sized = (tt, (tt, tt)); shows = tt }
 plan_sound dg (form.Unprepare vol) size = record { fed = ((λ is. cc, tt), ((λ is. cc, tt), tt)); kept = tt; sized = (tt, (tt, tt)); shows = tt }

@@ -5,8 +5,8 @@ use Rattle.vx_base.specs.Named.{Word}
 use Rattle.vx_copies.specs.Lists.{AllOf, AnyOf}
 use Rattle.vx_stages.specs.declared.stage.Stage.{Stage}
 use Rattle.vx_stages.specs.declared.stage.Stage.TheVariants as stage
-use Rattle.vx_stages.specs.declared.stages.Finish.{Finish}
-use Rattle.vx_stages.specs.declared.stages.Finish.TheVariants.{Nothing, Records}
+use Rattle.vx_plans.specs.declared.stages.Finish.{Finish}
+use Rattle.vx_plans.specs.declared.stages.Finish.TheVariants.{Hierarchy, Nothing, Records}
 use Rattle.vx_stages.specs.declared.test.Test.TheVariants as tests
 use Rattle.vx_house.specs.Goes.{wanted, is_first}
 
@@ -42,18 +42,24 @@ abbrev pub AreFed : List Stage → List Stage → Type 0
 AreFed done [] = Unit {0}
 AreFed done (s ∷ ss) = ((is_first s ≡ true → done ≡ []) × AllOf (IsAmong (recent done)) (wanted s)) × AreFed (done ++ s ∷ []) ss
 
--- where records are shown at the end, each stage keeps the world
+-- where something is shown at the end, each stage keeps the world
 abbrev pub KeepToShow : List Stage → Finish → Type 0
 KeepToShow stages Nothing = Unit {0}
 KeepToShow stages (Records vol) = KeepWorld stages
+KeepToShow stages (Hierarchy vol) = KeepWorld stages
 
 -- a device is made of a size that the shelf takes
 abbrev pub HasSize : Stage → Type 0
 HasSize (stage.MakeImage name sectors) = (1 ≤ sectors) × (sectors ≤ 2 ^ 40)
 HasSize other = Unit {0}
 
--- the group is there by then, and the volume whose records are shown
+-- the group is there by then, and the volume that is named
+abbrev pub IsThereAfter : List Stage → Option Word → Type 0
+IsThereAfter done None = (dg : Option Word) × IsAmong done (stage.Gate (tests.GroupIs dg))
+IsThereAfter done (Some vol) = ((dg : Option Word) × IsAmong done (stage.Gate (tests.GroupIs dg))) × IsAmong done (stage.Gate (tests.HasVolume vol))
+
+-- what is to be shown is there by then
 abbrev pub ShowsAfter : List Stage → Finish → Type 0
 ShowsAfter done Nothing = Unit {0}
-ShowsAfter done (Records None) = (dg : Option Word) × IsAmong done (stage.Gate (tests.GroupIs dg))
-ShowsAfter done (Records (Some vol)) = ((dg : Option Word) × IsAmong done (stage.Gate (tests.GroupIs dg))) × IsAmong done (stage.Gate (tests.HasVolume vol))
+ShowsAfter done (Records vol) = IsThereAfter done vol
+ShowsAfter done (Hierarchy vol) = IsThereAfter done vol

@@ -1,12 +1,14 @@
 pub mod Fed
 pub mod Sound
 pub mod Runs
+pub mod Lent
 pub mod Shows
 pub mod Serving
 pub mod Calling
 pub mod Grouped
 pub mod Fine
 pub mod Powers
+pub mod Policies
 pub mod Run
 pub mod Stops
 pub mod Ends

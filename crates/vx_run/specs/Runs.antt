@@ -11,7 +11,7 @@ use Rattle.vx_moments.specs.Moment.{Moment, AreLater}
 use Rattle.vx_stages.specs.Stages.{Wants}
 use Rattle.vx_plans.specs.Steps.{Runs, RunsShort}
 use Rattle.vx_stages.specs.declared.stage.Stage.{Stage}
-use Rattle.vx_stages.specs.declared.stages.Finish.{Finish}
+use Rattle.vx_plans.specs.declared.stages.Finish.{Finish}
 use Rattle.vx_house.specs.Goes.{Goes, Gives, KeepsBy, StageGoes}
 use Rattle.vx_house.specs.Scene.{FaultsGoOn, IsBlamed}
 use Rattle.vx_house.specs.View.{View, Keeps, KeepsButGroup, IsMoment, IsMomentButGroup, scene}

@@ -3,7 +3,7 @@ use Rattle.std.specs.Prelude.{◌≤◌, ◌^◌, Option, Some, None, []}
 use Rattle.vx_copies.specs.Lists.{AllOf}
 use Rattle.vx_script_forms.specs.declared.form.Form.{Form}
 use Rattle.vx_script_forms.specs.declared.form.Form.TheVariants as form
-use Rattle.vx_stages.specs.declared.stages.Plan.{Plan}
+use Rattle.vx_plans.specs.declared.stages.Plan.{Plan}
 use Rattle.vx_run.specs.Fed.{AreFed, HasSize, KeepToShow, ShowsAfter, recent}
 
 -- Its stages find what they need, what is shown is there, and a plan that shows it changes nothing of the world.

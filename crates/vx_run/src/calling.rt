@@ -3,6 +3,7 @@ ghost use Rattle.std.specs.Prelude.{◌≡◌, ◌+◌, ◌≤◌, ℕ, [], IfOk
 ghost use Rattle.std.specs.BTreeMap.{get};
 ghost use Rattle.std.specs.Cmp.Lexicographic.{slice_cmp};
 ghost use Rattle.std.specs.Ordering.{nat_cmp};
+ghost use Rattle.vx_picker.specs.Picks.{PicksMember};
 ghost use Rattle.vx_started.specs.Stands.{IsSized};
 ghost use Rattle.vx_started.specs.declared.started.Started.{Started as StartedValue};
 ghost use Rattle.vx_stages.specs.Calls.{volume_of, start_of, count_of};
@@ -24,6 +25,7 @@ use vx_answers::{Answer, End, Refusal, Views};
 use vx_base::OutOfMemory;
 use vx_house::House;
 use vx_names::Name;
+use vx_picker::Picker;
 use vx_piece::Piece;
 use vx_script_forms::Call;
 use vx_shelf::Shelf;
@@ -33,30 +35,34 @@ use vx_started::Started;
 const MOST_NUMBERS: u64 = 1 << 61;
 
 /// Serves a read or a write of a started volume.
-pub fn serve_call<S: Shelf>(
+pub fn serve_call<S: Shelf, F: Fn(u64, u64) -> u32>(
     alloc: Global,
     house: &mut House<S::P>,
     shelf: &mut S,
     call: &Call,
+    select: &Picker<F>,
 ) -> Result<Answer, Unserved>
+    requires picks { PicksMember (F.pre select.now.select) (F.post select.now.select) }
     requires keeps { Keeps S.P.seen (at (shelved S.free S.held S.counted S.faults shelf.old) house.old) }
     requires empty { house.old.hand.items ≡ [] }
     requires valid { IsWithinLimits call.now }
     ensures goes { (place : ℕ) → CommandEnds S.P.seen (DoesCall place call.now) (λ m n. n.world ≡ m.world) result
         (at (shelved S.free S.held S.counted S.faults shelf.old) house.old) (at (shelved S.free S.held S.counted S.faults shelf.new) house.new) }
 {
-    match serve_any(alloc, house, call) {
+    match serve_any(alloc, house, call, select) {
         Ok(end) => over(alloc, house, shelf, Views::from_vec(Vec::new(alloc)), end),
         Err(_) => Err(Unserved::OutOfMemory),
     }
 }
 
 /// Serves a call of a volume on a whole device, and else of one of the group. After a refusal of memory nothing has changed.
-fn serve_any<P: Piece + Drop>(
+fn serve_any<P: Piece + Drop, F: Fn(u64, u64) -> u32>(
     alloc: Global,
     house: &mut House<P>,
     call: &Call,
+    select: &Picker<F>,
 ) -> Result<End, OutOfMemory>
+    requires picks { PicksMember (F.pre select.now.select) (F.post select.now.select) }
     requires valid { IsWithinLimits call.now }
     requires keeps { KeepsHouse P.seen house.old }
     ensures serves { IfOk result (ServesAny P.seen call.now house.old house.new) }
@@ -66,7 +72,7 @@ fn serve_any<P: Piece + Drop>(
         return serve_among(alloc, &mut house.volumes, call);
     }
     match &mut house.group {
-        Some(group) => serve_in_group(alloc, group, call),
+        Some(group) => serve_in_group(alloc, group, call, select),
         None => Ok(End::Refused(Refusal::NotStarted(volume_of(call)))),
     }
 }

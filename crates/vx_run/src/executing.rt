@@ -7,6 +7,7 @@ ghost use Rattle.vx_run.specs.Serving.{CommandEnds};
 ghost use Rattle.vx_run.specs.Sound.{HasFormSize};
 ghost use Rattle.vx_house.specs.Scene.{shelved};
 ghost use Rattle.vx_house.specs.View.{Keeps, at};
+ghost use Rattle.vx_picker.specs.Picks.{PicksMember};
 ghost use Rattle.vx_plans.specs.Plans.{disks_of, plan_of};
 ghost use Rattle.vx_plans.specs.Steps.{Does, DoesPlan, LeavesOff, WantsPlan};
 ghost use Rattle.vx_script.specs.Kept.{is_command};
@@ -20,6 +21,7 @@ use vx_answers::{Answer, End, Refusal, Views};
 use vx_base::OutOfMemory;
 use vx_house::House;
 use vx_names::Name;
+use vx_picker::Picker;
 use vx_plans::plan;
 use vx_script::Command;
 use vx_script_forms::{Form, name_in};
@@ -28,12 +30,14 @@ use vx_shelf::Shelf;
 
 /// Serves a command, whatever its word `cut=N` says. After a refusal of memory it is left as `LeavesOff` says: the world is as before, but
 /// where the records of a new volume were added, devices of a volume were called already, or volumes were recovered.
-pub fn execute<S: Shelf>(
+pub fn execute<S: Shelf, F: Fn(u64, u64) -> u32>(
     alloc: Global,
     house: &mut House<S::P>,
     shelf: &mut S,
     command: &Command,
+    select: &Picker<F>,
 ) -> Result<Answer, Unserved>
+    requires picks { PicksMember (F.pre select.now.select) (F.post select.now.select) }
     requires kept { IsTrue (is_command command.now) }
     requires keeps { Keeps S.P.seen (at (shelved S.free S.held S.counted S.faults shelf.old) house.old) }
     requires empty { house.old.hand.items ≡ [] }
@@ -41,7 +45,7 @@ pub fn execute<S: Shelf>(
         (at (shelved S.free S.held S.counted S.faults shelf.old) house.old) (at (shelved S.free S.held S.counted S.faults shelf.new) house.new) }
 {
     match &command.form {
-        Form::Calling(call) => serve_call(alloc, house, shelf, call),
+        Form::Calling(call) => serve_call(alloc, house, shelf, call, select),
         Form::Recover { vol } => serve_recovery(alloc, house, shelf, name_in(&command.group), *vol),
         form => serve_form(alloc, house, shelf, name_in(&command.group), form),
     }

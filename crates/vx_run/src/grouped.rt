@@ -5,6 +5,7 @@ ghost use Rattle.std.specs.Option.{option_map};
 ghost use Rattle.std.specs.BTreeMap.{get};
 ghost use Rattle.std.specs.Cmp.Lexicographic.{slice_cmp};
 ghost use Rattle.std.specs.Ordering.{nat_cmp};
+ghost use Rattle.vx_picker.specs.Picks.{PicksMember};
 ghost use Rattle.vx_stages.specs.Calls.{volume_of};
 ghost use Rattle.vx_lending.specs.Public.{running_at};
 ghost use Rattle.vx_house.specs.View.{IsGroupWhole};
@@ -21,15 +22,18 @@ use vx_group_calls::{Served, serve};
 use vx_house::Imported;
 use vx_lending::Running;
 use vx_names::Name;
+use vx_picker::Picker;
 use vx_piece::Piece;
 use vx_script_forms::Call;
 
 /// Serves a call of a volume of the group that runs. After a refusal of memory nothing has changed.
-pub(crate) fn serve_in_group<P: Piece + Drop>(
+pub(crate) fn serve_in_group<P: Piece + Drop, F: Fn(u64, u64) -> u32>(
     alloc: Global,
     group: &mut Imported<P>,
     call: &Call,
+    select: &Picker<F>,
 ) -> Result<End, OutOfMemory>
+    requires picks { PicksMember (F.pre select.now.select) (F.post select.now.select) }
     requires valid { IsWithinLimits call.now }
     requires whole { IsGroupWhole P.seen group.old }
     ensures serves { IfOk result (ServesInGroup P.seen call.now (running_at group.old.public (volume_of call.now)) group.old group.new) }
@@ -42,24 +46,26 @@ pub(crate) fn serve_in_group<P: Piece + Drop>(
             return Ok(End::Refused(Refusal::Range));
         },
     }
-    let served = serve_running(alloc, &mut group.public.running, &name, call)?;
+    let served = serve_running(alloc, &mut group.public.running, &name, call, select)?;
     Ok(told(group.base.disks(), served))
 }
 
 /// Serves a call of the running volume of the name, whose blocks it keeps to.
-fn serve_running<P: Piece + Drop>(
+fn serve_running<P: Piece + Drop, F: Fn(u64, u64) -> u32>(
     alloc: Global,
     running: &mut BTreeMap<Name, Running<P>>,
     name: &Name,
     call: &Call,
+    select: &Picker<F>,
 ) -> Result<Served, OutOfMemory>
+    requires picks { PicksMember (F.pre select.now.select) (F.post select.now.select) }
     requires valid { IsWithinLimits call.now }
     requires may { MayRunCall P.seen call.now (get (slice_cmp nat_cmp) running.old name.now) }
     ensures runs { IfOk result (λ served. RunsCall P.seen call.now name.now served running.old running.new) }
     ensures refused { OnErr result (running.new.entries ≡ running.old.entries) }
 {
     match running.get_mut(name) {
-        Some(one) => serve(alloc, one, call),
+        Some(one) => serve(alloc, one, call, select),
         None => unreachable!(),
     }
 }

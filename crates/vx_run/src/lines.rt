@@ -1,6 +1,7 @@
 //! Commands with the lines of their answers.
 ghost use Rattle.std.specs.Prelude.{◌≡◌, ◌+◌, ◌≤◌, ◌++◌, ℕ, List, length, IsTrue, ◌&&◌, IfOk, OnOk, OnErr, IsErrOf, IfSome, ◌⊎◌, Some, ◌∷◌, [], take};
 ghost use Rattle.vx_base.specs.Counts.{Rose};
+ghost use Rattle.vx_picker.specs.Picks.{PicksMember};
 ghost use Rattle.vx_script.specs.Kept.{is_command, is_kept};
 ghost use Rattle.vx_answers.specs.Lines.{lines_of};
 ghost use Rattle.vx_house.specs.Closing.{NoneHeld};
@@ -24,6 +25,7 @@ use vx_answers::{Answer, End, Parts, put_answer};
 use vx_base::OutOfMemory;
 use vx_flow::Sink;
 use vx_house::{House, leave};
+use vx_picker::Picker;
 use vx_power::PowerShelf;
 use vx_script::Command;
 use vx_shelf::Shelf;
@@ -83,14 +85,16 @@ impl From<Unserved> for ServeFault {
 
 /// Serves a command, and writes the line of its answer. No device is without its power for the switch by then: no fuse acts but in a command
 /// with a word `cut=N`. What stands between does not promise that, so it is looked at, and memory is said to be wanting where it is not so.
-fn one_line<S: PowerShelf, B: Sink>(
+fn one_line<S: PowerShelf, B: Sink, F: Fn(u64, u64) -> u32>(
     alloc: Global,
     house: &mut House<S::P>,
     shelf: &mut S,
     sink: &mut B,
     line: &mut Vec<u8>,
     command: &Command,
+    select: &Picker<F>,
 ) -> Result<bool, ServeFault>
+    requires picks { PicksMember (F.pre select.now.select) (F.post select.now.select) }
     requires kept { IsTrue (is_command command.now) }
     requires keeps { Keeps S.P.seen (at (shelved S.free S.held S.counted S.faults shelf.old) house.old) }
     requires empty { house.old.hand.items ≡ [] }
@@ -107,7 +111,7 @@ fn one_line<S: PowerShelf, B: Sink>(
     ensures quiet_refused { (IsErrOf result ServeFault.OutOfMemory ⊎ IsErrOf result ServeFault.HeldUp) → B.faults sink.new ≡ B.faults sink.old }
     ensures later { B.faults sink.old ≤ B.faults sink.new }
 {
-    let answer = serve(alloc, house, shelf, command)?;
+    let answer = serve(alloc, house, shelf, command, select)?;
     if shelf.has_gone() {
         return Err(ServeFault::OutOfMemory);
     }
@@ -121,13 +125,15 @@ fn both(one: bool, other: bool) -> bool
 }
 
 /// Serves all commands of a script, one after the other.
-fn all_lines<S: PowerShelf, B: Sink>(
+fn all_lines<S: PowerShelf, B: Sink, F: Fn(u64, u64) -> u32>(
     alloc: Global,
     house: &mut House<S::P>,
     shelf: &mut S,
     sink: &mut B,
     commands: &[Command],
+    select: &Picker<F>,
 ) -> Result<bool, ServeFault>
+    requires picks { PicksMember (F.pre select.now.select) (F.post select.now.select) }
     requires kept { IsTrue (is_kept commands.now) }
     requires keeps { Keeps S.P.seen (at (shelved S.free S.held S.counted S.faults shelf.old) house.old) }
     requires empty { house.old.hand.items ≡ [] }
@@ -146,7 +152,7 @@ fn all_lines<S: PowerShelf, B: Sink>(
     let mut fine = true;
     let mut line = Vec::new(alloc);
     for command in commands {
-        let this = one_line(alloc, house, shelf, sink, &mut line, command)?;
+        let this = one_line(alloc, house, shelf, sink, &mut line, command, select)?;
         fine = both(fine, this);
     }
     Ok(fine)
@@ -182,12 +188,14 @@ fn shut<S: PowerShelf>(
 
 /// Serves the commands of a script, and gives all devices back at the end; after an error those of a group may still be held, where
 /// there was no memory to join them. It tells whether all answers were fine.
-pub fn run_commands<S: PowerShelf, B: Sink>(
+pub fn run_commands<S: PowerShelf, B: Sink, F: Fn(u64, u64) -> u32>(
     alloc: Global,
     shelf: &mut S,
     sink: &mut B,
     commands: &[Command],
+    select: &Picker<F>,
 ) -> Result<bool, ServeFault>
+    requires picks { PicksMember (F.pre select.now.select) (F.post select.now.select) }
     requires kept { IsTrue (is_kept commands.now) }
     requires here { NoneHeld (S.held shelf.old) }
     ensures run { IfOk result (λ fine. CarriesOut commands.now
@@ -206,7 +214,7 @@ pub fn run_commands<S: PowerShelf, B: Sink>(
 {
     each_run_keeps_all_devices_sound();
     let mut house = House::new(alloc);
-    match all_lines(alloc, &mut house, shelf, sink, commands) {
+    match all_lines(alloc, &mut house, shelf, sink, commands, select) {
         Ok(fine) => match shut(alloc, &mut house, shelf) {
             Ok(()) => Ok(fine),
             Err(_) => Err(ServeFault::HeldUp),

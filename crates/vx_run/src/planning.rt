@@ -16,9 +16,9 @@ use crate::unserved::Unserved;
 use std::alloc::Global;
 use vx_answers::{Answer, Bytes, End, Parts, Views};
 use vx_house::{House, Stop, each_house_stands, give_hand, leave};
+use vx_plans::Plan;
 use vx_script_words::DiskAt;
 use vx_shelf::Shelf;
-use vx_stages::Plan;
 
 /// Serves a command by its plan. The disks are those that its words name.
 pub fn serve_plan<S: Shelf>(

@@ -6,12 +6,13 @@ ghost use Rattle.vx_house.specs.Scene.{Shelved, shelved};
 ghost use Rattle.vx_house.specs.View.{Keeps, at};
 ghost use Rattle.vx_stages.specs.declared.stage.Stage.TheVariants as stages;
 
+use crate::policies::change_and_follow;
 use std::alloc::Global;
 use vx_house::{House, Stop, give_group, refused, take, take_disks};
 use vx_piece::Piece;
 use vx_script_words::DiskAt;
 use vx_shelf::Shelf;
-use vx_stage_changes::{change, create, join, make};
+use vx_stage_changes::{create, join, make};
 use vx_stage_devices::{look_blank, look_disks, look_headed, make_image, search, start_bare, wipe};
 use vx_stage_gates::failing;
 use vx_stage_import::import;
@@ -43,7 +44,7 @@ pub(crate) fn run_stage<S: Shelf>(
         Stage::MakeImage { device, sectors } => make_image(alloc, house, shelf, device, *sectors),
         Stage::Wipe(device) => wipe(alloc, house, device, disks),
         Stage::StartBare { vol, device } => start_bare(alloc, house, vol, device, disks),
-        Stage::Change(edit) => change(alloc, house, *edit),
+        Stage::Change(edit) => change_and_follow(alloc, house, edit),
         Stage::Make(source) => make(alloc, house, source),
         Stage::Import(dg) => import(alloc, house, shelf, dg, disks),
         Stage::LetGo => let_go(alloc, house, shelf, disks),

@@ -1,5 +1,6 @@
 ghost use Rattle.std.specs.Prelude.{◌≡◌, ◌≢◌, ◌⊎◌, ◌↔◌, ◌+◌, ◌<◌, ◌≤◌, ℕ, List, true, false, Ok, Err, map, length, codes};
 ghost use Rattle.vx_base.specs.Counts.{Rose};
+ghost use Rattle.vx_picker.specs.Picks.{PicksMember};
 ghost use Rattle.vx_script.specs.Script.{Place, script_of};
 ghost use Rattle.vx_house.specs.Closing.{NoneHeld};
 ghost use Rattle.vx_house.specs.Scene.{shelved};
@@ -13,19 +14,23 @@ use crate::words::folder_of;
 use crate::{ServeFault, run_commands};
 use std::alloc::Global;
 use vx_flow::{Sink, Source};
+use vx_picker::Picker;
 use vx_power::PowerShelf;
 use vx_script::{ScriptFault, read};
 
 /// Runs the script of the source on the shelf, and writes the line of each answer to the sink. It answers the status:
 /// 0 all answers are fine, 1 the words are not `--images DIR`, 2 the bytes are no script, 3 the source failed, 4 the
-/// sink failed, 5 some answer is not fine, 6 memory was wanting, 7 the script has more than 16,777,216 bytes.
-pub fn run<S: PowerShelf, A: Source, B: Sink>(
+/// sink failed, 5 some answer is not fine, 6 memory was wanting, 7 the script has more than 16,777,216 bytes. A read of a
+/// volume with policy `select` asks the function of `select` which of the plexes that may serve it does.
+pub fn run<S: PowerShelf, A: Source, B: Sink, F: Fn(u64, u64) -> u32>(
     alloc: Global,
     words: &[&str],
     shelf: &mut S,
     source: &mut A,
     sink: &mut B,
+    select: &Picker<F>,
 ) -> u8
+    requires picks { PicksMember (F.pre select.now.select) (F.post select.now.select) }
     requires here { NoneHeld (S.held shelf.old) }
 
     // At 0 and 5, over a shelf, a source and a sink that tell what they hold: the source was read to its end, its bytes
@@ -79,7 +84,7 @@ pub fn run<S: PowerShelf, A: Source, B: Sink>(
         return 1;
     }
     match read_all(alloc, source) {
-        Ok(bytes) => run_bytes(alloc, shelf, sink, bytes.as_slice()),
+        Ok(bytes) => run_bytes(alloc, shelf, sink, bytes.as_slice(), select),
         Err(Unread::Failed) => 3,
         Err(Unread::TooLong) => 7,
         Err(Unread::OutOfMemory) => 6,
@@ -94,7 +99,14 @@ fn tell<B: Sink>(sink: &mut B, line: &[u8])
 }
 
 /// Runs the script that the bytes spell.
-fn run_bytes<S: PowerShelf, B: Sink>(alloc: Global, shelf: &mut S, sink: &mut B, bytes: &[u8]) -> u8
+fn run_bytes<S: PowerShelf, B: Sink, F: Fn(u64, u64) -> u32>(
+    alloc: Global,
+    shelf: &mut S,
+    sink: &mut B,
+    bytes: &[u8],
+    select: &Picker<F>,
+) -> u8
+    requires picks { PicksMember (F.pre select.now.select) (F.post select.now.select) }
     requires here { NoneHeld (S.held shelf.old) }
     ensures fine { result ≡ 0 → IsSpelledRun bytes.now
         (shelved S.free S.held S.counted S.faults shelf.old) (B.taken sink.old)
@@ -118,7 +130,7 @@ fn run_bytes<S: PowerShelf, B: Sink>(alloc: Global, shelf: &mut S, sink: &mut B,
     match read(alloc, bytes) {
         Err(ScriptFault::OutOfMemory) => 6,
         Err(ScriptFault::Script(line, column)) => tell_place(alloc, sink, line, column),
-        Ok(script) => match run_commands(alloc, shelf, sink, script.commands.as_slice()) {
+        Ok(script) => match run_commands(alloc, shelf, sink, script.commands.as_slice(), select) {
             Ok(true) => 0,
             Ok(false) => 5,
             Err(ServeFault::OutOfMemory | ServeFault::HeldUp) => 6,

@@ -10,7 +10,7 @@ use Rattle.vx_stages.specs.Records.{devices_of}
 use Rattle.vx_stages.specs.Stages.{IsFree, AreFree, HasNoHeader, HasHeader, AreBlank, IsDone, Stops, TakingStops}
 use Rattle.vx_plans.specs.Steps.{Runs}
 use Rattle.vx_stages.specs.Tests.{fails}
-use Rattle.vx_stages.specs.declared.stages.Finish.{Finish}
+use Rattle.vx_plans.specs.declared.stages.Finish.{Finish}
 use Rattle.vx_stages.specs.declared.stage.Stage.{Stage}
 use Rattle.vx_stages.specs.declared.stage.Stage.TheVariants as stage
 use Rattle.vx_sound.proofs.Joiners.{HasSearched}

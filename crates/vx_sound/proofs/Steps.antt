@@ -26,14 +26,14 @@ use Rattle.vx_moments.proofs.Lone.{none_lone}
 use Rattle.vx_moments.specs.Commit.{Writing}
 use Rattle.vx_new_volumes.specs.declared.logs.NewLogs.{NewLogs}
 use Rattle.vx_new_volumes.specs.declared.mirror.NewPlex.{NewPlex}
-use Rattle.vx_plans.specs.Plans.{new_logs, new_volume, plan_of}
+use Rattle.vx_plans.specs.Plans.{new_logs, new_volume, plan_of, plan_print}
 use Rattle.vx_stages.specs.Records.{devices_of}
 use Rattle.vx_stages.specs.Ends.{IsChange}
 use Rattle.vx_stages.specs.Stages.{IsDone, Stops, EditsStop, edits_of, joining_edit, IsJoining, IsCreating}
 use Rattle.vx_plans.specs.Steps.{Runs, Leaves, IsNotBuilt, DoesPlan, DoesForm, Does, Step, IsTranscript}
 use Rattle.vx_stages.specs.Tests.{fails, in_use, is_here, is_volume, unless}
-use Rattle.vx_stages.specs.declared.stages.Finish.{Finish}
-use Rattle.vx_stages.specs.declared.stages.Finish.TheVariants.{Nothing, Records}
+use Rattle.vx_plans.specs.declared.stages.Finish.{Finish}
+use Rattle.vx_plans.specs.declared.stages.Finish.TheVariants.{Hierarchy, Nothing, Records}
 use Rattle.vx_stages.specs.declared.stage.Change.{Change}
 use Rattle.vx_stages.specs.declared.stage.Change.TheVariants as changes
 use Rattle.vx_stages.specs.declared.stage.Source.{Source}
@@ -233,14 +233,13 @@ module _ (old : Moment) (views : List View) (end : End) (new : Moment) (s : IsSt
   not_built : IsNotBuilt old views end new → Ends end new.world
   not_built is = inl (subst (λ (n : Moment). IsStanding n.world) (sym is.2) s)
 
-  print_ends : (dg vol : Option Word) → DoesPlan [] (plan_of dg (form.PrintM vol)) old views end new → Ends end new.world
-  unfolding plan_of
-  print_ends dg None does = at_last (stage.Gate (tests.GroupIs dg) ∷ []) [] [] (Records None) old views end new s
-      (λ mid t passed runs. shown_ends views end new (Records None) mid t runs)
-      (runs_through (stage.Gate (tests.GroupIs dg) ∷ []) [] [] (Records None) old views end new (refl, tt) does)
-  print_ends dg (Some vol) does = at_last (stage.Gate (tests.GroupIs dg) ∷ stage.Gate (tests.HasVolume vol) ∷ []) [] [] (Records (Some vol)) old views end new s
-      (λ mid t passed runs. shown_ends views end new (Records (Some vol)) mid t runs)
-      (runs_through (stage.Gate (tests.GroupIs dg) ∷ stage.Gate (tests.HasVolume vol) ∷ []) [] [] (Records (Some vol)) old views end new (refl, (refl, tt)) does)
+  print_ends : (dg vol : Option Word) (finish : Finish) → Runs [] (plan_print dg vol) finish old views end new → Ends end new.world
+  print_ends dg None finish does = at_last (stage.Gate (tests.GroupIs dg) ∷ []) [] [] finish old views end new s
+      (λ mid t passed runs. shown_ends views end new finish mid t runs)
+      (runs_through (stage.Gate (tests.GroupIs dg) ∷ []) [] [] finish old views end new (refl, tt) does)
+  print_ends dg (Some vol) finish does = at_last (stage.Gate (tests.GroupIs dg) ∷ stage.Gate (tests.HasVolume vol) ∷ []) [] [] finish old views end new s
+      (λ mid t passed runs. shown_ends views end new finish mid t runs)
+      (runs_through (stage.Gate (tests.GroupIs dg) ∷ stage.Gate (tests.HasVolume vol) ∷ []) [] [] finish old views end new (refl, (refl, tt)) does)
 
   -- gates, and a change
   gated : (calm : List Stage) (change : Change) → AreCalm calm → Runs [] (calm ++ stage.Change change ∷ []) Nothing old views end new → Ends end new.world
@@ -272,7 +271,7 @@ module _ (old : Moment) (views : List View) (end : End) (new : Moment) (s : IsSt
   form_ends place dg (form.DiskUnsetup device) none does =
       let calm = stage.Take device ∷ stage.LookHeaded device ∷ [] in
       at_last calm (stage.Wipe device ∷ []) [] Nothing old views end new s (wipe_ends views end new device) (runs_through calm (stage.Wipe device ∷ []) [] Nothing old views end new (refl, (refl, tt)) does)
-  form_ends place dg (form.PrintM vol) none does = print_ends dg vol does
+  form_ends place dg (form.PrintM vol) none does = print_ends dg vol (Records vol) does
   form_ends place dg (form.Rdpol vol how) none does = policy_ends dg vol how does
   form_ends place dg (form.RemoveVolume vol) none does =
       gated (stage.Gate (tests.GroupIs dg) ∷ stage.Gate (tests.HasVolume vol) ∷ stage.Gate (tests.Stopped vol) ∷ stage.Gate (tests.Unrelated vol) ∷ []) (changes.Remove vol) (refl, (refl, (refl, (refl, tt)))) does
@@ -280,7 +279,7 @@ module _ (old : Moment) (views : List View) (end : End) (new : Moment) (s : IsSt
       let calm = stage.Gate (tests.GroupIs dg) ∷ [] in
       let from = source.Text text in
       at_last calm (stage.Make from ∷ []) [] Nothing old views end new s (λ mid t passed runs. make_ends from [] Nothing mid views end new t runs) (runs_through calm (stage.Make from ∷ []) [] Nothing old views end new (refl, tt) does)
-  form_ends place dg (form.PrintHt vol) none does = not_built does
+  form_ends place dg (form.PrintHt vol) none does = print_ends dg vol (Hierarchy vol) does
   form_ends place dg (form.AssistMake vol length attrs disks) none does =
       let from = source.Volume (new_volume vol length attrs disks) in
       let calm = stage.Gate (tests.GroupIs dg) ∷ [] in

@@ -16,7 +16,7 @@ use Rattle.vx_stages.specs.Stages.{IsDone, Wants}
 use Rattle.vx_plans.specs.Steps.{IsTranscript, LeavesOff, RunsShort, WantsForm, WantsPlan}
 use Rattle.vx_stages.specs.declared.stage.Stage.{Stage}
 use Rattle.vx_stages.specs.declared.stage.Stage.TheVariants as stage
-use Rattle.vx_stages.specs.declared.stages.Plan.{Plan}
+use Rattle.vx_plans.specs.declared.stages.Plan.{Plan}
 use Rattle.vx_plans.proofs.Complete.{keeps_world, kept_world}
 use Rattle.vx_sound.specs.Laws.{IsIdle, WriteNoHeader}
 use Rattle.vx_sound.specs.Sound.{AreSound}
@@ -64,6 +64,8 @@ pub plan_shaped : (dg : Option Word) (f : Form) → is_shaped (plan_of dg f) ≡
 unfolding plan_of
 plan_shaped dg (form.PrintM None) = refl
 plan_shaped dg (form.PrintM (Some vol)) = refl
+plan_shaped dg (form.PrintHt None) = refl
+plan_shaped dg (form.PrintHt (Some vol)) = refl
 plan_shaped dg (form.Rdpol vol words.Round) = refl
 plan_shaped dg (form.Rdpol vol words.Select) = refl
 plan_shaped dg (form.Rdpol vol (words.Prefer plex)) = refl

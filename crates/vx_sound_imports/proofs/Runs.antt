@@ -29,8 +29,8 @@ use Rattle.vx_plans.proofs.Complete.{kept_world}
 use Rattle.vx_stages.specs.Stages.{IsDone, Stops}
 use Rattle.vx_stages.specs.declared.stage.Stage.{Stage}
 use Rattle.vx_stages.specs.declared.stage.Stage.TheVariants as stage
-use Rattle.vx_stages.specs.declared.stages.Finish.TheVariants.{Nothing}
-use Rattle.vx_stages.specs.declared.stages.Plan.{Plan}
+use Rattle.vx_plans.specs.declared.stages.Finish.TheVariants.{Nothing}
+use Rattle.vx_plans.specs.declared.stages.Plan.{Plan}
 use Rattle.vx_sound.specs.Laws.{IsIdle, WriteNoHeader}
 use Rattle.vx_sound.proofs.Commits.{Ends}
 use Rattle.vx_sound.proofs.Fewer.{HadEach}

@@ -26,7 +26,7 @@ use Rattle.vx_moments.specs.Holding.{IsMemberDevice}
 use Rattle.vx_moments.specs.Leaving.{group_gone}
 use Rattle.vx_moments.specs.Moment.{Moment}
 use Rattle.vx_moments.specs.World.{Group, Volume, World}
-use Rattle.vx_plans.specs.Plans.{new_logs, new_volume, plan_of}
+use Rattle.vx_plans.specs.Plans.{new_logs, new_volume, plan_of, plan_print}
 use Rattle.vx_plans.specs.Steps.{DoesForm, DoesPlan, IsNotBuilt, Runs, done}
 use Rattle.vx_stages.specs.Ends.{IsChange}
 use Rattle.vx_stages.specs.Records.{devices_of}
@@ -38,8 +38,8 @@ use Rattle.vx_stages.specs.declared.stage.Source.{Source}
 use Rattle.vx_stages.specs.declared.stage.Source.TheVariants as source
 use Rattle.vx_stages.specs.declared.stage.Stage.{Stage}
 use Rattle.vx_stages.specs.declared.stage.Stage.TheVariants as stage
-use Rattle.vx_stages.specs.declared.stages.Finish.{Finish}
-use Rattle.vx_stages.specs.declared.stages.Finish.TheVariants.{Nothing, Records}
+use Rattle.vx_plans.specs.declared.stages.Finish.{Finish}
+use Rattle.vx_plans.specs.declared.stages.Finish.TheVariants.{Hierarchy, Nothing, Records}
 use Rattle.vx_stages.specs.declared.test.Test.TheVariants as tests
 use Rattle.vx_group_edits.proofs.NewNames.{unstarted}
 use Rattle.vx_sound.specs.Laws.{FormWritesNoHeader}
@@ -300,14 +300,13 @@ module _ (laws : StateLaws) (place : ℕ) (old : Moment) (views : List View) (en
   sound_still : (mid : Moment) → mid.world ≡ old.world → IsSoundBefore place mid.world
   sound_still mid same = subst (IsSoundBefore place) (sym same) sound
 
-  print_settles : (dg vol : Option Word) → DoesPlan [] (plan_of dg (form.PrintM vol)) old views end new → Settles Every end new.world
-  unfolding plan_of
-  print_settles dg None does = at_last (stage.Gate (tests.GroupIs dg) ∷ []) [] [] (Records None) old views end new k
-      (λ mid same t passed runs. shown_settles laws place views end new (Records None) mid t runs)
-      (runs_through (stage.Gate (tests.GroupIs dg) ∷ []) [] [] (Records None) old views end new (refl, tt) does)
-  print_settles dg (Some vol) does = at_last (stage.Gate (tests.GroupIs dg) ∷ stage.Gate (tests.HasVolume vol) ∷ []) [] [] (Records (Some vol)) old views end new k
-      (λ mid same t passed runs. shown_settles laws place views end new (Records (Some vol)) mid t runs)
-      (runs_through (stage.Gate (tests.GroupIs dg) ∷ stage.Gate (tests.HasVolume vol) ∷ []) [] [] (Records (Some vol)) old views end new (refl, (refl, tt)) does)
+  print_settles : (dg vol : Option Word) (finish : Finish) → Runs [] (plan_print dg vol) finish old views end new → Settles Every end new.world
+  print_settles dg None finish does = at_last (stage.Gate (tests.GroupIs dg) ∷ []) [] [] finish old views end new k
+      (λ mid same t passed runs. shown_settles laws place views end new finish mid t runs)
+      (runs_through (stage.Gate (tests.GroupIs dg) ∷ []) [] [] finish old views end new (refl, tt) does)
+  print_settles dg (Some vol) finish does = at_last (stage.Gate (tests.GroupIs dg) ∷ stage.Gate (tests.HasVolume vol) ∷ []) [] [] finish old views end new k
+      (λ mid same t passed runs. shown_settles laws place views end new finish mid t runs)
+      (runs_through (stage.Gate (tests.GroupIs dg) ∷ stage.Gate (tests.HasVolume vol) ∷ []) [] [] finish old views end new (refl, (refl, tt)) does)
 
   -- gates, and a change
   gated : (calm : List Stage) (change : Change) → AreCalm calm → Runs [] (calm ++ stage.Change change ∷ []) Nothing old views end new → Settles Every end new.world
@@ -339,7 +338,8 @@ module _ (laws : StateLaws) (place : ℕ) (old : Moment) (views : List View) (en
   form_settles dg (form.DiskUnsetup device) none does =
       let calm = stage.Take device ∷ stage.LookHeaded device ∷ [] in
       at_last calm (stage.Wipe device ∷ []) [] Nothing old views end new k (λ mid same. wipe_settles laws place views end new device mid) (runs_through calm (stage.Wipe device ∷ []) [] Nothing old views end new (refl, (refl, tt)) does)
-  form_settles dg (form.PrintM vol) none does = print_settles dg vol does
+  form_settles dg (form.PrintM vol) none does = print_settles dg vol (Records vol) does
+  form_settles dg (form.PrintHt vol) none does = print_settles dg vol (Hierarchy vol) does
   form_settles dg (form.Rdpol vol how) none does = policy_settles dg vol how does
   form_settles dg (form.RemoveVolume vol) none does =
       gated (stage.Gate (tests.GroupIs dg) ∷ stage.Gate (tests.HasVolume vol) ∷ stage.Gate (tests.Stopped vol) ∷ stage.Gate (tests.Unrelated vol) ∷ []) (changes.Remove vol) (refl, (refl, (refl, (refl, tt)))) does

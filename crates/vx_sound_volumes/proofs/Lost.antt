@@ -13,7 +13,7 @@ use Rattle.vx_moments.specs.World.{Group, World}
 use Rattle.vx_plans.specs.Plans.{plan_deport, plan_of}
 use Rattle.vx_plans.specs.Steps.{DoesForm, Leaves, Runs}
 use Rattle.vx_stages.specs.Tests.{fails}
-use Rattle.vx_stages.specs.declared.stages.Finish.TheVariants.{Nothing}
+use Rattle.vx_plans.specs.declared.stages.Finish.TheVariants.{Nothing}
 use Rattle.vx_stages.specs.declared.test.Test.TheVariants as tests
 use Rattle.vx_sound_volumes.specs.Laws.{EachStepLeavesVolumesSound}
 use Rattle.vx_sound_volumes.specs.Volumes.{AreSoundOn, HadGroup, IsSoundBefore}

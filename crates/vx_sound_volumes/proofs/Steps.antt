@@ -14,13 +14,14 @@ use Rattle.vx_answers.specs.declared.answer.View.{View}
 use Rattle.vx_moments.specs.Moment.{Moment}
 use Rattle.vx_moments.specs.World.{World}
 use Rattle.vx_moments.specs.Leaving.{grouped}
-use Rattle.vx_plans.specs.Plans.{disks_of, plan_of}
+use Rattle.vx_plans.specs.Plans.{disks_of, ending, plan_of, plan_print}
 use Rattle.vx_plans.specs.Steps.{DoesForm, DoesPlan, IsNotBuilt, IsTranscript, Leaves, Runs, RunsShort, WantsForm, WantsPlan, done}
 use Rattle.vx_stages.specs.Records.{devices_of}
 use Rattle.vx_stages.specs.Stages.{AreFree, IsDone, IsFree, Stops}
 use Rattle.vx_stages.specs.Tests.{fails}
-use Rattle.vx_stages.specs.declared.stages.Finish.{Finish}
-use Rattle.vx_stages.specs.declared.stages.Plan.{Plan}
+use Rattle.vx_plans.specs.declared.stages.Finish.{Finish}
+use Rattle.vx_plans.specs.declared.stages.Finish.TheVariants.{Hierarchy, Records}
+use Rattle.vx_plans.specs.declared.stages.Plan.{Plan}
 use Rattle.vx_stages.specs.declared.stage.Stage.{Stage}
 use Rattle.vx_stages.specs.declared.stage.Stage.TheVariants as stage
 use Rattle.vx_plans.proofs.Complete.{kept_world, keeps_world}
@@ -77,10 +78,9 @@ module _ (dg : Option Word) (w : World) (end : End) (new : World) where
   policy_ready vol words.Select = (refl, λ t. (refl, λ t. (tt, λ e. tt)))
   policy_ready vol (words.Prefer plex) = (refl, λ t. (refl, λ t. (refl, λ t. (tt, λ e. tt))))
 
-  print_ready : (vol : Option Word) → IsReady (plan_of dg (form.PrintM vol)) [] w end new
-  unfolding plan_of
-  print_ready None = (tt, λ e. tt)
-  print_ready (Some vol) = (refl, λ t. (tt, λ e. tt))
+  print_ready : (vol : Option Word) (finish : Finish) → IsReady (ending (plan_print dg vol) finish) [] w end new
+  print_ready None finish = (tt, λ e. tt)
+  print_ready (Some vol) finish = (refl, λ t. (tt, λ e. tt))
 
   plan_ready : (f : Form) → (end ≡ done → BringsSound f w new) → IsReady (plan_of dg f) (disks_of f) w end new
   unfolding plan_of
@@ -96,7 +96,8 @@ module _ (dg : Option Word) (w : World) (end : End) (new : World) where
   plan_ready (form.Prepare vol ndcomirs region) brings = (refl, λ t. (tt, λ e. tt))
   plan_ready (form.Unprepare vol) brings = (refl, λ t. (tt, λ e. tt))
   plan_ready (form.Stop vol) brings = (refl, λ t. (refl, λ t. (tt, λ e. tt)))
-  plan_ready (form.PrintM vol) brings = print_ready vol
+  plan_ready (form.PrintM vol) brings = print_ready vol (Records vol)
+  plan_ready (form.PrintHt vol) brings = print_ready vol (Hierarchy vol)
   plan_ready (form.Rdpol vol how) brings = policy_ready vol how
   plan_ready (form.RemoveVolume vol) brings = (refl, λ t. (refl, λ t. (refl, λ t. (refl, λ t. (tt, λ e. tt)))))
   plan_ready (form.VxMake text) brings = (refl, λ t. (tt, λ e. tt))

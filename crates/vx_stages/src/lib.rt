@@ -4,10 +4,8 @@
 
 mod refusals;
 mod stage;
-mod stages;
 mod test;
 
 pub use refusals::{refusal_by, refusal_from};
 pub use stage::{Change, Source, Stage};
-pub use stages::{Finish, Plan, Stages};
 pub use test::Test;

@@ -7,7 +7,9 @@ use crate::cut_shelf::CutShelf;
 use std::alloc::{AllocError, Global};
 use std::str;
 use vx_flow::{MemSink, MemSource};
+use vx_members::highest_member;
 use vx_names::Name;
+use vx_picker::Picker;
 use vx_piece::{Bad, MemPiece};
 use vx_power::Powered;
 use vx_run::run;
@@ -156,6 +158,7 @@ fn run_script<S: Shelf + Drop>(
         &mut powered,
         &mut source,
         &mut sink,
+        &Picker::new(|mask, turn| highest_member(mask, turn)),
     );
     let answers = Vec::from_slice(alloc, sink.bytes())?;
     Ok((powered.into_shelf(), answers, status))

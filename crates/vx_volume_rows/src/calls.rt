@@ -10,7 +10,9 @@ use crate::shown::show_served;
 use std::io;
 use vx_group_calls::serve;
 use vx_lending::Running;
+use vx_members::lowest_member;
 use vx_names::Name;
+use vx_picker::Picker;
 use vx_piece::MemPiece;
 use vx_script_forms::Call;
 
@@ -72,7 +74,8 @@ fn served(rt: &HostRuntime, running: &mut Running<MemPiece>, call: &Call) -> io:
     if !fits(call, running.volume.shape().geometry.length) {
         return println!(rt; " out of range");
     }
-    match serve(rt.alloc(), running, call) {
+    let pick = Picker::new(|mask, turn| lowest_member(mask, turn));
+    match serve(rt.alloc(), running, call, &pick) {
         Ok(served) => show_served(rt, &served),
         Err(_) => println!(rt; " no memory"),
     }

@@ -6,6 +6,8 @@ use std::process::ExitCode;
 use std::{env, io};
 use vx_files::FileShelf;
 use vx_flow::{ReaderSource, WriterSink};
+use vx_members::highest_member;
+use vx_picker::Picker;
 use vx_power::Powered;
 use vx_run::{folder, run};
 
@@ -29,12 +31,14 @@ fn served(rt: &HostRuntime) -> Result<u8, AllocError> {
     };
     let mut source = ReaderSource::new(rt.reader());
     let mut sink = WriterSink::new(io::writer(rt));
+    let select = Picker::new(|mask, turn| highest_member(mask, turn));
     Ok(run(
         rt.alloc(),
         texts.as_slice(),
         &mut shelf,
         &mut source,
         &mut sink,
+        &select,
     ))
 }
 

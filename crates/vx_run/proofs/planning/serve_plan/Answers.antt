@@ -1,6 +1,6 @@
 use Rattle.std.specs.Prelude.{◌≡◌, ◌⊎◌}
 use Rattle.vx_plans.specs.Steps.{Runs, RunsShort}
-use Rattle.vx_run.proofs.CommandEnds.{can_show, done_goes, ended_goes, ended_from, over_ends, rested_from, rested_goes, records_kept, unshown_goes}
+use Rattle.vx_run.proofs.CommandEnds.{can_show, done_goes, ended_goes, ended_from, over_ends, rested_from, rested_goes, world_kept, unshown_goes}
 use Rattle.vx_run.proofs.planning.serve_plan.Goals as goal
 
 pub show-requires-after_bounds : goal.show-requires-after_bounds
@@ -15,7 +15,7 @@ returns-in-Ok-show g c = record {
 pub returns-in-Err : goal.returns-in-Err
 returns-in-Err g c = record {
   goes = rw c.rest.ensures.refused
-      (unshown_goes g.S.P.Piece.seen c.args.disks.now c.args.plan.now.stages c.args.plan.now.finish _ _ _ (rw c.as_slice.ensures at c.in-Ok.ensures.go) (records_kept c.args.plan.now.stages c.args.plan.now.finish c.in-Err.ensures.wants c.requires.sound.kept) c.rest.ensures.left);
+      (unshown_goes g.S.P.Piece.seen c.args.disks.now c.args.plan.now.stages c.args.plan.now.finish _ _ _ (rw c.as_slice.ensures at c.in-Ok.ensures.go) (world_kept c.args.plan.now.stages c.args.plan.now.finish c.in-Err.ensures.wants c.requires.sound.kept) c.rest.ensures.left);
 }
 
 pub returns-in-Err-Ended : goal.returns-in-Err-Ended

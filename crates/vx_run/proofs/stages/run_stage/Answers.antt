@@ -21,7 +21,7 @@ pub returns-in-StartBare : goal.returns-in-StartBare
 returns-in-StartBare g c = record { goes = rw c.in-StartBare.is (stage_ends g.S.P.Piece.seen c.args.disks.now _ _ _ _ (c.start_bare.ensures.goes (shelved g.S.Shelf.free g.S.Shelf.held g.S.Shelf.counted g.S.Shelf.faults c.args.shelf.now) c.requires.keeps.devices)) }
 
 pub returns-in-Change : goal.returns-in-Change
-returns-in-Change g c = record { goes = rw c.in-Change.is (stage_ends g.S.P.Piece.seen c.args.disks.now _ _ _ _ (c.change.ensures.goes c.args.disks.now (shelved g.S.Shelf.free g.S.Shelf.held g.S.Shelf.counted g.S.Shelf.faults c.args.shelf.now) (rw c.in-Change.is at c.requires.ready) c.requires.keeps.devices)) }
+returns-in-Change g c = record { goes = rw c.in-Change.is (stage_ends g.S.P.Piece.seen c.args.disks.now _ _ _ _ (c.change_and_follow.ensures.goes c.args.disks.now (shelved g.S.Shelf.free g.S.Shelf.held g.S.Shelf.counted g.S.Shelf.faults c.args.shelf.now) (rw c.in-Change.is at c.requires.ready) c.requires.keeps.devices)) }
 
 pub returns-in-Make : goal.returns-in-Make
 returns-in-Make g c = record { goes = rw c.in-Make.is (stage_ends g.S.P.Piece.seen c.args.disks.now _ _ _ _ (c.make.ensures.goes c.args.disks.now (shelved g.S.Shelf.free g.S.Shelf.held g.S.Shelf.counted g.S.Shelf.faults c.args.shelf.now) c.requires.keeps.devices)) }

@@ -1,8 +1,8 @@
 ghost use Rattle.std.specs.Prelude.{◌≡◌};
 
-use crate::Stage;
 use std::marker::Model;
 use vx_names::Name;
+use vx_stages::Stage;
 
 /// Stages, in order.
 #[derive(Drop)]
@@ -39,6 +39,8 @@ pub enum Finish {
     Nothing,
     /// The records of the group, or of one of its volumes.
     Records(Option<Name>),
+    /// The volumes of the group with their plexes, subdisks and kernel states, or one of them.
+    Hierarchy(Option<Name>),
 }
 
 /// The plan of a command.

@@ -4,18 +4,12 @@ use Rattle.std.specs.Prelude.{IfSome, IsSome, is_some}
 use Rattle.vx_pages.specs.declared.local_piece.LocalPiece.{Ghosts}
 use Rattle.vx_base.specs.Named.{Word}
 use Rattle.vx_piece.specs.Seen.{Seen}
-use Rattle.vx_config_parts.specs.declared.plex.Plex.{Plex}
 use Rattle.vx_config_parts.specs.declared.state.VolState.TheVariants as vol
 use Rattle.vx_config_parts.specs.declared.vol.Vol.{Vol}
-use Rattle.vx_copies.specs.Commit.{HasRisen}
-use Rattle.vx_copies.specs.Disks.{IsCut}
-use Rattle.vx_copies.specs.Lists.{AnyOf, Each}
-use Rattle.vx_confdb.specs.Groups.{members}
 use Rattle.vx_objects.specs.declared.config.Config.{Config}
 use Rattle.vx_objects.specs.declared.edit.Edit.{Edit}
 use Rattle.vx_answers.specs.declared.answer.End.{End}
 use Rattle.vx_answers.specs.declared.answer.End.TheVariants as ends
-use Rattle.vx_image.specs.UsedPlexes.{IsVolOf}
 use Rattle.vx_state_edits.specs.Edits.{recovery_edits}
 use Rattle.vx_state_edits.specs.Laws.{EachRecoveryRestates, Restates, in_state}
 use Rattle.vx_group_edits.proofs.Restated.{restated_untouched}
@@ -23,12 +17,10 @@ use Rattle.vx_group_edits.proofs.Untouched.{stays}
 use Rattle.vx_lending.specs.Public.{running_at}
 use Rattle.vx_lending.specs.declared.public.Running.{Running}
 use Rattle.vx_moments.specs.Moment.{AreLater, Moment}
-use Rattle.vx_moments.specs.World.{Group}
 use Rattle.vx_stages.specs.Tests.{volume_in}
-use Rattle.vx_house.specs.Goes.{GoesBy}
 use Rattle.vx_house.specs.Holders.{AreHeld, holders}
 use Rattle.vx_house.specs.Plain.{plain}
-use Rattle.vx_house.specs.Scene.{FaultsGoOn, IsBlamed, Shelved}
+use Rattle.vx_house.specs.Scene.{Shelved}
 use Rattle.vx_house.specs.View.{IsGroupKept, IsMoment, IsMomentButGroup, Keeps, KeepsHouse, at, group_of, scene}
 use Rattle.vx_house.specs.declared.house.House.{House}
 use Rattle.vx_house.specs.declared.house.Imported.{Imported}
@@ -43,7 +35,7 @@ use Rattle.vx_stage_volumes.proofs.HeldStart.{world_of}
 use Rattle.vx_stage_volumes.proofs.Named.{found_in_state, found_name, found_recorded}
 use Rattle.vx_recovery.specs.Recovering.{IsOf, StopsAtBegin, is_recovered}
 use Rattle.vx_recovery.specs.Steps.{HasBegun}
-use Rattle.vx_stage_recovery.specs.Beginning.{BeginEnds, BeginsIn}
+use Rattle.vx_stage_recovery.specs.Beginning.{BeginEnds}
 use Rattle.vx_stage_recovery.specs.Steps.{IsUnchanged, StepGoes}
 use Rattle.vx_stage_recovery.proofs.NotStarted.{absent_in, none_in}
 

@@ -1,5 +1,5 @@
 -- The command, in the moments of a house.
-use Rattle.std.proofs.Common.{◌≡◌, ◌∙◌, ◌⊎◌, ℕ, List, [], Option, Some, None, Result, Ok, Err, refl, sym, ap, subst, inl, inr}
+use Rattle.std.proofs.Common.{◌≡◌, ◌∙◌, List, [], Option, Result, Ok, Err, refl, sym, subst, inl, inr}
 use Rattle.vx_pages.specs.declared.local_piece.LocalPiece.{Ghosts}
 use Rattle.vx_base.specs.Named.{Word}
 use Rattle.vx_piece.specs.Seen.{Seen}
@@ -21,10 +21,9 @@ use Rattle.vx_house.specs.declared.stop.Stop.{Stop}
 use Rattle.vx_house.specs.declared.stop.Stop.TheVariants as stops
 use Rattle.vx_recovery.specs.Edits.{AreShort, AreTooLong}
 use Rattle.vx_recovery.specs.Going.{Recovers, RecoversShort, Sees, SeesShort, all_done, at_rest, refusal_of}
-use Rattle.vx_stage_recovery.specs.Planning.{Fits, IsPlanned, IsUnfit, IsUnplanned}
+use Rattle.vx_stage_recovery.specs.Planning.{Fits, IsPlanned, IsUnplanned}
 use Rattle.vx_stage_recovery.proofs.ByMoment.{refusal_there, rest_there}
 use Rattle.vx_stage_recovery.proofs.Sees.{all}
-use Rattle.vx_stage_recovery.specs.Steps.{StepGoes}
 use Rattle.vx_stage_recovery.proofs.StepChains.{Doing, Does, done_as, stop_as}
 
 abbrev command : Option Word → Option Word → List Shown → Doing (Unit {0})

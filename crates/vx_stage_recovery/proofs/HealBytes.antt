@@ -71,7 +71,7 @@ module _ {P : Type 0} {ghosts : Ghosts P} (alike : (p q : P) → is_some (ghosts
   pub goes : GoesOn see running.volume after.volume
   goes = laws.goes running.volume after.volume healed.result healed.heals.heals healed.heals.follows
 
-  heals_by : IsHealedBy see mid.config (good_of see mid) v opens.numbers mid.public opened.public running after healed.result
+  pub heals_by : IsHealedBy see mid.config (good_of see mid) v opens.numbers mid.public opened.public running after healed.result
   heals_by = record {
     of = of;
     state = ap is_recovered sync;
@@ -119,7 +119,7 @@ module _ {P : Type 0} {ghosts : Ghosts P} (alike : (p q : P) → is_some (ghosts
         (moment_but_group see (at shelf (h2 alike shelf h keeps has parts room of sync opens healed goes)) then (at2 alike shelf h keeps has parts room of sync opens healed goes m at_m))
         (g2 alike shelf h keeps has parts room of sync opens healed goes) refl opened.public.stuck.items after refl
 
-    around : AreSectorsAround see (good_of see mid) opens.numbers mid.public after before behind
+    pub around : AreSectorsAround see (good_of see mid) opens.numbers mid.public after before behind
     around = record {
       contents = contents;
       held = hold_still see pieces.ends pieces.counts (at shelf (hk alike shelf h keeps has parts room of sync opens healed goes))

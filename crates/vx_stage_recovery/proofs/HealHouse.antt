@@ -1,8 +1,9 @@
 -- A volume was opened out of the pieces of its group, healed, and put back. In between it is held among those that could not be put back: as it was
 -- opened, and then healed. The house keeps what it did, and each moment goes to one in which sectors of the volume alone have changed.
-use Rattle.std.proofs.Common.{◌≡◌, ◌∙◌, ℕ, suc, ◌+◌, ◌<◌, ◌≤◌, true, List, [], ◌∷◌, ◌++◌, Some, Result, refl, sym, ap, subst, arith, append_assoc}
+use Rattle.std.proofs.Common.{◌≡◌, ◌∙◌, ℕ, suc, ◌<◌, ◌≤◌, true, List, [], ◌∷◌, ◌++◌, Some, Result, refl, sym, ap, subst, arith, append_assoc}
 use Rattle.std.specs.Prelude.{is_some}
-use Rattle.std.specs.BTreeMap.{BTreeMap, get}
+use Rattle.std.specs.BTreeMap.{is_at}
+use Rattle.std.specs.Map.{lookup}
 use Rattle.std.specs.Cmp.Lexicographic.{slice_cmp}
 use Rattle.std.specs.List.{All, flat_map}
 use Rattle.std.specs.Ordering.{nat_cmp}
@@ -71,7 +72,7 @@ use Rattle.vx_stage_recovery.proofs.HealRuns.{own}
 use Rattle.vx_stage_recovery.proofs.HealTouches.{blamed_since, failed_since, fails_since, touched_then}
 
 -- what holds of all, and of one behind them
-all_end : {X : Type 0} (Q : X → Type 0) (xs : List X) (x : X) → AllOf Q xs → Q x → AllOf Q (xs ++ x ∷ [])
+pub all_end : {X : Type 0} (Q : X → Type 0) (xs : List X) (x : X) → AllOf Q xs → Q x → AllOf Q (xs ++ x ∷ [])
 all_end Q [] x all one = (one, tt)
 all_end Q (y ∷ ys) x all one = (all.0, all_end Q ys x all.1 one)
 
@@ -225,9 +226,9 @@ module _ {P : Type 0} {ghosts : Ghosts P} (alike : (p q : P) → is_some (ghosts
   hs = members see mid.base
 
   entries3 : new.public.running.entries ≡ opened.public.running.entries
-  entries3 i = (healed.back.running i).entries
+  entries3 = healed.back.entries
 
-  kept3 : IsGroupKept see g3
+  pub kept3 : IsGroupKept see g3
   kept3 = record {
     named = kept2.named;
     text = kept2.text;
@@ -289,7 +290,7 @@ module _ {P : Type 0} {ghosts : Ghosts P} (alike : (p q : P) → is_some (ghosts
     runs3 : AreRuns see (Some g3) n.world.group n.world.volumes
     runs3 x =
         subst (λ r. IsAtRun see hs n.world.group x r (grouped (n.world.volumes x)))
-        (ap (λ (r : BTreeMap Word (Running P ghosts)). get (slice_cmp nat_cmp) r x) (sym healed.back.running)) (at2.runs_are x)
+        (ap (λ (es : List (Word × Running P ghosts)). lookup (is_at (slice_cmp nat_cmp x)) es) (sym healed.back.entries)) (at2.runs_are x)
 
     -- so it is once it is put back
     pub at3 : IsMoment see (at shelf h3) n

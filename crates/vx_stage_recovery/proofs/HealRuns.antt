@@ -85,7 +85,7 @@ states_stay c good v = record { vol = refl; disks = refl; subdisks = refl; snaps
 pub sync_filled : (s : VolState) → s ≡ vol.Sync → IsFilled s
 sync_filled s is = subst IsFilled (sym is) tt
 
-sync_old : (s : VolState) → s ≡ vol.Sync → is_fresh s ≡ false
+pub sync_old : (s : VolState) → s ≡ vol.Sync → is_fresh s ≡ false
 sync_old s is = ap is_fresh is
 
 -- the volume v of the group, over its configuration and good disks, opened out of `old`
@@ -146,7 +146,7 @@ module _ {P : Type 0} {ghosts : Ghosts P} (g : Group) (v : Vol) (of : IsVolOf g.
   abbrev pub owners : Word → TrackOwner
   owners = owners_of g v.name names
 
-  same_names : names ≡ opened_plexes opened_by
+  pub same_names : names ≡ opened_plexes opened_by
   same_names = ap (λ b. map (λ (p : Plex). p.name) (held_plexes g.config g.good v.name) ++ map (λ (p : Plex). p.name) (used_logs v.dco g.config g.good b v.name)) (new_is_fresh v.state)
 
   module _ (bytes : Sectors) where

@@ -3,11 +3,11 @@ pub mod NotStarted
 pub mod BeginStage
 pub mod Opens
 pub mod Recovered
-pub mod EndGroup
 pub mod EndPrepared
 pub mod EndFree
 pub mod EndSteps
-pub mod EndUnopened
+pub mod EndRuns
+pub mod EndHealed
 pub mod EndUnrecorded
 pub mod EndRunning
 pub mod EndStage
@@ -19,6 +19,9 @@ pub mod HealRuns
 pub mod HealTouches
 pub mod HealHouse
 pub mod HealLaws
+pub mod Bare
+pub mod HealExact
+pub mod HealBegins
 pub mod HealBytes
 pub mod HealStage
 pub mod ByMoment

@@ -1,20 +1,18 @@
 -- One volume seen to after the other.
-use Rattle.std.proofs.Common.{◌≡◌, ◌∙◌, ◌-◌, ◌<◌, ◌≤◌, ℕ, arith, true, false, List, [], ◌∷◌, ◌++◌, length, take, drop, get_or, Result, Ok, Err, refl, sym, ap, subst, inl, inr}
+use Rattle.std.proofs.Common.{◌≡◌, ◌∙◌, ◌-◌, ◌<◌, ◌≤◌, arith, List, [], ◌∷◌, ◌++◌, length, take, drop, get_or, Result, Ok, Err, refl, sym, ap, subst, inl, inr}
 use Rattle.std.proofs.lemmas.List.{take_all}
 use Rattle.vx_pages.specs.declared.local_piece.LocalPiece.{Ghosts}
 use Rattle.vx_base.specs.Named.{Word}
 use Rattle.vx_piece.specs.Seen.{Seen}
 use Rattle.vx_answers.specs.declared.answer.End.{End}
 use Rattle.vx_answers.specs.declared.answer.View.{View as Shown}
-use Rattle.vx_answers.specs.declared.answer.View.TheVariants as view
 use Rattle.vx_moments.specs.Moment.{AreLater, Moment}
 use Rattle.vx_house.specs.View.{Keeps, View, scene}
 use Rattle.vx_house.proofs.Moments.{faults_refl, later_refl}
 use Rattle.vx_house.specs.declared.stop.Stop.{Stop}
 use Rattle.vx_recovery.specs.Going.{Begin, Heal, Need, Pass, Sees, SeesOne, SeesShort, SeesShortOne, all_done, need_of}
 use Rattle.vx_stage_recovery.specs.Seeing.{LeavesBy, SeesBy, SeesLeft, SeesStep, SeesStop, StopsBy}
-use Rattle.vx_stage_recovery.specs.Steps.{StepGoes}
-use Rattle.vx_stage_recovery.proofs.StepChains.{Doing, Does, Via, behind, done_as, stop_as, via}
+use Rattle.vx_stage_recovery.proofs.StepChains.{Doing, Does, behind, done_as, stop_as, via}
 
 abbrev pub one : Word → List Shown → Doing (Unit {0})
 one name told = record { done = λ none. SeesStep name told; ends = SeesStop name told; left = SeesLeft name }

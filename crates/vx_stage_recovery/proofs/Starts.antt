@@ -11,7 +11,6 @@ use Rattle.vx_moments.specs.Moment.{Moment}
 use Rattle.vx_moments.specs.World.{World}
 use Rattle.vx_stages.specs.Tests.{fails, recorded, state_of}
 use Rattle.vx_stages.specs.declared.stage.Stage.TheVariants as stage
-use Rattle.vx_stages.specs.declared.test.Test.TheVariants as tests
 use Rattle.vx_house.specs.Goes.{IsReady, StageGoes}
 use Rattle.vx_house.specs.Plain.{plain}
 use Rattle.vx_house.specs.Scene.{Shelved}

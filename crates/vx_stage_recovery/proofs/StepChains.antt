@@ -1,5 +1,5 @@
 -- One step after the other, on a house and in its moments.
-use Rattle.std.proofs.Common.{◌≡◌, Result, Ok, Err}
+use Rattle.std.proofs.Common.{Result, Ok, Err}
 use Rattle.vx_pages.specs.declared.local_piece.LocalPiece.{Ghosts}
 use Rattle.vx_piece.specs.Seen.{Seen}
 use Rattle.vx_answers.specs.declared.answer.End.{End}
@@ -7,12 +7,11 @@ use Rattle.vx_answers.specs.declared.answer.End.TheVariants as ends
 use Rattle.vx_moments.specs.Moment.{AreLater, Moment}
 use Rattle.vx_house.proofs.Moments.{faults_trans, later_trans}
 use Rattle.vx_house.proofs.Takes.{blamed_later}
-use Rattle.vx_house.specs.Goes.{OnEnded}
-use Rattle.vx_house.specs.Scene.{FaultsGoOn, IsBlamed}
+use Rattle.vx_house.specs.Scene.{FaultsGoOn}
 use Rattle.vx_house.specs.View.{IsMoment, View, scene}
 use Rattle.vx_house.specs.declared.stop.Stop.{Stop}
 use Rattle.vx_house.specs.declared.stop.Stop.TheVariants as stops
-use Rattle.vx_stage_recovery.specs.Steps.{StepGoes}
+use Rattle.vx_stage_recovery.specs.Steps.{StepGoes, Via}
 
 -- what a step does, how it ends the command, and what want of memory leaves
 pub record Doing (T : Type 0) : Type 1 where
@@ -24,10 +23,6 @@ pub record Doing (T : Type 0) : Type 1 where
 pub record SaysMore {T U : Type 0} (At : Moment → Type 0) (d : Doing T) (e : Doing U) : Type 0 where
   pub ends : (m : Moment) → At m → (end : End) (n : Moment) → AreLater m.counts n.counts → d.ends m end n → e.ends m end n
   pub left : (m : Moment) → At m → (n : Moment) → d.left m n → e.left m n
-
--- a step was done before, by way of a moment
-abbrev pub Via : (Moment → Moment → Type 0) → (Moment → Moment → Type 0) → Moment → Moment → Type 0
-Via First R m n = (a : Moment) × AreLater m.counts a.counts × First m a × AreLater a.counts n.counts × R a n
 
 abbrev pub via : {T : Type 0} → (Moment → Moment → Type 0) → Doing T → Doing T
 via First d = record { done = λ told. Via First (d.done told); ends = λ m end n. Via First (λ a w. d.ends a end w) m n; left = Via First d.left }

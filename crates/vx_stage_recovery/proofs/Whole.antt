@@ -1,5 +1,5 @@
 -- The recovery of a volume is its three steps, one after the other.
-use Rattle.std.proofs.Common.{◌≡◌, ◌∙◌, ◌⊎◌, ℕ, Some, None, Result, Ok, Err, refl, sym, ap, subst, inl, inr}
+use Rattle.std.proofs.Common.{◌≡◌, ◌∙◌, ◌⊎◌, ℕ, Some, None, sym, ap, subst, inl, inr}
 use Rattle.vx_base.specs.Named.{Word}
 use Rattle.vx_config_parts.specs.declared.vol.Vol.{Vol}
 use Rattle.vx_answers.specs.declared.answer.End.{End}
@@ -10,7 +10,7 @@ use Rattle.vx_house.proofs.Moments.{later_trans}
 use Rattle.vx_stages.specs.Starting.{StopsUnopened, refusal_at_once}
 use Rattle.vx_stages.specs.Tests.{volume_in}
 use Rattle.vx_recovery.specs.Healing.{IsHealed}
-use Rattle.vx_recovery.specs.Recovering.{EndWants, HealingWants, IsOf, IsRecovered, IsRecoveryBegun, IsRecoveryEnded, IsRefusedBegun, RecoveryStops, RecoveryWants, StopsAtBegin, StopsAtEnd, StopsBegun, StopsHealed, StopsHealing}
+use Rattle.vx_recovery.specs.Recovering.{EndWants, HealingWants, IsOf, IsRecovered, IsRecoveryBegun, IsRecoveryEnded, IsRefusedBegun, RecoveryStops, RecoveryWants, StopsAtEnd, StopsBegun, StopsHealed, StopsHealing}
 use Rattle.vx_recovery.specs.Steps.{EndLeft, EndStops, HasBegun, HasEnded, HasHealed, HealLeft, HealStops, OfBegun}
 
 some_one : {X : Type 0} (x y : X) → Some x ≡ Some y → x ≡ y

@@ -1,5 +1,5 @@
 -- How the commit that begins a recovery ends, on the group.
-use Rattle.std.specs.Prelude.{◌≡◌, true, Some, Result, Ok, Err}
+use Rattle.std.specs.Prelude.{◌≡◌, true, Some, Result, Err}
 use Rattle.vx_base.specs.Named.{Word}
 use Rattle.vx_pages.specs.declared.local_piece.LocalPiece.{Ghosts}
 use Rattle.vx_piece.specs.Seen.{Seen}

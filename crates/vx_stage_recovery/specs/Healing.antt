@@ -1,16 +1,14 @@
 -- How the healing of a volume ends, on its group.
-use Rattle.std.specs.Prelude.{◌≡◌, ◌⊎◌, ◌++◌, None, Result, Ok, Err}
+use Rattle.std.specs.Prelude.{◌≡◌, ◌⊎◌, ◌++◌, Result, Ok, Err}
 use Rattle.vx_base.specs.Named.{Word}
 use Rattle.vx_pages.specs.declared.local_piece.LocalPiece.{Ghosts}
 use Rattle.vx_piece.specs.Seen.{Seen}
 use Rattle.vx_carve.specs.Together.{SameSectors}
 use Rattle.vx_config_parts.specs.declared.vol.Vol.{Vol}
-use Rattle.vx_copies.specs.declared.disk.Disk.{Disk}
 use Rattle.vx_volume.specs.declared.fault.IoFault.{IoFault}
 use Rattle.vx_volume.specs.Log.{LogGoes}
 use Rattle.vx_volume.specs.Volume.{IsVolume, log_of, shape_of, volume_seen}
 use Rattle.vx_lending.specs.Left.{held_pieces}
-use Rattle.vx_lending.specs.declared.public.Public.{Public}
 use Rattle.vx_lending.specs.declared.public.Running.{Running}
 use Rattle.vx_group_recover.specs.Healing.{Heals}
 use Rattle.vx_group_recover.specs.declared.healing.Healed.{Healed}
@@ -32,7 +30,7 @@ pub record HealsTo {P : Type 0} {ghosts : Ghosts P} (see : P → Seen) (running 
 -- its pieces are back among those of the group, of which nothing else has changed
 pub record IsPutBack {P : Type 0} {ghosts : Ghosts P} (see : P → Seen) (after : Running P ghosts) (old new : Imported P ghosts) : Type 0 where
   pub same : new ≡ record old { public = new.public }
-  pub running : new.public.running ≡ old.public.running
+  pub entries : new.public.running.entries ≡ old.public.running.entries
   pub stuck : AreStuckVolumes see new.public.stuck.items
   pub together : SameSectors (held_pieces see after.volume ++ public_pieces see old.public) (public_pieces see new.public)
 

@@ -1,11 +1,11 @@
 -- What is done for one volume, in the moments of the world.
-use Rattle.std.specs.Prelude.{◌≡◌, ◌⊎◌, ℕ, true, false, List, [], ◌∷◌, Result, Ok, Err}
+use Rattle.std.specs.Prelude.{◌≡◌, ℕ, true, false, List, [], ◌∷◌, Result, Ok, Err}
 use Rattle.vx_base.specs.Named.{Word}
 use Rattle.vx_answers.specs.declared.answer.End.{End}
 use Rattle.vx_answers.specs.declared.answer.End.TheVariants as ends
 use Rattle.vx_answers.specs.declared.answer.View.{View}
 use Rattle.vx_answers.specs.declared.answer.View.TheVariants as view
-use Rattle.vx_moments.specs.Moment.{AreLater, Moment}
+use Rattle.vx_moments.specs.Moment.{Moment}
 use Rattle.vx_stages.specs.Starting.{StartStops, StartWants}
 use Rattle.vx_house.specs.declared.stop.Stop.{Stop}
 use Rattle.vx_house.specs.declared.stop.Stop.TheVariants as stops

@@ -1,74 +1,65 @@
 //! The end of a recovery is recorded, and the volume runs.
-ghost use Rattle.std.specs.Prelude.{◌≡◌, ℕ, is_some};
-ghost use Rattle.vx_house.specs.Holders.{holders, AreHeld};
-ghost use Rattle.vx_house.specs.Scene.{Shelved};
-ghost use Rattle.vx_house.specs.View.{KeepsHouse, IsGroupKept, at};
-ghost use Rattle.vx_recovery.specs.Steps.{EndLeft, EndStops, HasEnded};
+ghost use Rattle.std.specs.Prelude.{◌≡◌, ◌<◌, ◌≤◌, length, IfOk, None, vec_len, vec_capacity};
+ghost use Rattle.vx_confdb.specs.Groups.{IsAlive};
+ghost use Rattle.vx_group_start.specs.Laying.{AreStuckVolumes};
+ghost use Rattle.vx_lending.specs.Public.{running_at};
+ghost use Rattle.vx_stage_changes.specs.Planning.{IsPlanned};
 ghost use Rattle.vx_stage_recovery.specs.Ending.{EndEnds};
-ghost use Rattle.vx_stage_recovery.specs.Steps.{StepGoes};
+ghost use Rattle.vx_state_edits.specs.Edits.{recovered_edits};
+ghost use Rattle.vx_volume.specs.Volume.{IsVolume, volume_seen};
 
-use crate::opening::{begun, open};
 use std::alloc::Global;
-use vx_house::{House, Imported, Stop};
-use vx_image::each_image_is_sound_or_not;
+use vx_base::OutOfMemory;
+use vx_group_recover::Healed;
+use vx_house::{Imported, Stop};
+use vx_lending::Running;
 use vx_names::Name;
+use vx_objects::{Config, Vol};
 use vx_piece::Piece;
-use vx_stage_changes::planned;
-use vx_stage_gates::is_started;
-use vx_stage_volumes::{each_piece_ends, record_start};
-use vx_state_edits::laws::each_change_restates;
+use vx_stage_changes::{NextConfig, planned};
+use vx_stage_volumes::{put_back, record_start};
 use vx_state_edits::recovered_edits;
-use vx_volume_laws::each_empty_begins;
-use vx_volume_laws::lives::{each_left_volume_stands, each_opening_runs, each_running_forgets};
 
-/// Opens the volume of the name over what was healed, records the end of its recovery by these marks, and so it runs. Where a volume of the name is
-/// started, memory is said to be wanting.
-pub(crate) fn end<P: Piece + Drop>(
-    alloc: Global,
-    house: &mut House<P>,
-    name: &Name,
-    marks: u64,
-) -> Result<(), Stop>
-    requires keeps { KeepsHouse P.seen house.old }
-    requires alike { (p q : P) → is_some (P.seen p).told ≡ is_some (P.seen q).told }
-    ensures goes { (shelf : Shelved) → AreHeld shelf.held (holders P.seen house.old) → StepGoes P.seen (λ told. HasEnded name.now marks) (EndStops name.now marks) (EndLeft name.now) result (at shelf house.old) (at shelf house.new) }
-{
-    each_piece_ends::<P>();
-    each_change_restates();
-    each_image_is_sound_or_not();
-    each_empty_begins();
-    each_opening_runs();
-    each_left_volume_stands();
-    each_running_forgets();
-    if is_started(house, name) {
-        return Err(Stop::OutOfMemory);
-    }
-    match &mut house.group {
-        None => Err(Stop::OutOfMemory),
-        Some(group) => end_in(alloc, group, name, marks),
-    }
-}
-
-/// A text that would be too long is not found here, since the longest was tested before; were it, memory is said to be wanting.
-fn end_in<P: Piece + Drop>(
+/// Records the end of the recovery of an open volume, by what was told as it was healed; so it runs. Where memory is wanting before
+/// anything is written its pieces are put back.
+pub(crate) fn end_open<P: Piece + Drop>(
     alloc: Global,
     group: &mut Imported<P>,
-    name: &Name,
-    marks: u64,
-) -> Result<(), Stop>
-    requires kept { IsGroupKept P.seen group.old }
-    requires alike { (p q : P) → is_some (P.seen p).told ≡ is_some (P.seen q).told }
-    ensures ends { EndEnds P.seen name.now marks result group.old group.new }
+    name: Name,
+    vol: &Vol,
+    running: Running<P>,
+    healed: Healed,
+) -> Result<Healed, Stop>
+    requires whole { IsVolume (volume_seen P.seen running.volume) }
+    requires stuck { AreStuckVolumes P.seen group.old.public.stuck.items }
+    requires place { vec_len group.old.public.stuck < vec_capacity group.old.public.stuck }
+    requires alive { IsAlive P.seen group.old.base }
+    requires going { group.old.base.lost ≡ None }
+    requires absent { running_at group.old.public name ≡ None }
+    ensures ends { EndEnds P.seen name vol.now running healed result group.old group.new }
 {
-    let Some(vol) = begun(group, name) else {
+    let Ok(next) = planned_end(alloc, &group.config, vol, healed.marks) else {
+        put_back(alloc, &mut group.public, running);
         return Err(Stop::OutOfMemory);
     };
-    let Ok(edits) = recovered_edits(alloc, &group.config, &vol, marks) else {
-        return Err(Stop::OutOfMemory);
-    };
-    let Ok(next) = planned(alloc, &group.config, &edits) else {
-        return Err(Stop::OutOfMemory);
-    };
-    let running = open(alloc, group, &vol)?;
-    record_start(alloc, group, *name, running, next)
+    record_start(alloc, group, name, running, next)?;
+    Ok(healed)
+}
+
+/// What the end records, by these marks. A text that would be too long is not found here, since the longest was tested before; were it,
+/// memory is said to be wanting.
+fn planned_end(
+    alloc: Global,
+    config: &Config,
+    vol: &Vol,
+    marks: u64,
+) -> Result<NextConfig, OutOfMemory>
+    ensures planned { IfOk result (IsPlanned (recovered_edits config.now vol.now marks) config.now) }
+    ensures short { IfOk result (λ next. length next.text.items ≤ 522240) }
+{
+    let edits = recovered_edits(alloc, config, vol, marks)?;
+    match planned(alloc, config, &edits) {
+        Ok(next) => Ok(next),
+        Err(_) => Err(OutOfMemory),
+    }
 }

@@ -7,7 +7,6 @@ ghost use Rattle.vx_recovery.specs.Recovering.{IsRecovered, RecoveryStops, Recov
 ghost use Rattle.vx_stage_recovery.specs.Steps.{IsHeld, StepGoes};
 
 use crate::beginning::begin;
-use crate::ending::end;
 use crate::healing::heal_volume;
 use std::alloc::Global;
 use vx_group_recover::Healed;
@@ -27,7 +26,5 @@ pub(crate) fn recover_volume<P: Piece + Drop>(
     ensures goes { (shelf : Shelved) → AreHeld shelf.held (holders P.seen house.old) → StepGoes P.seen (λ healed. IsRecovered name.now healed.dirty healed.copied) (RecoveryStops name.now) (RecoveryWants name.now) result (at shelf house.old) (at shelf house.new) }
 {
     begin(alloc, house, name)?;
-    let healed = heal_volume(alloc, house, name)?;
-    end(alloc, house, name, healed.marks)?;
-    Ok(healed)
+    heal_volume(alloc, house, name)
 }

@@ -1,7 +1,5 @@
-use Rattle.std.proofs.Common.{◌∙◌, ◌++◌, [], sym, ap, subst}
+use Rattle.std.proofs.Common.{◌∙◌, ◌++◌, ap}
 use Rattle.std.proofs.lemmas.Result.{err_from_is_err_and}
-use Rattle.vx_house.specs.View.{at}
-use Rattle.vx_stage_recovery.specs.Steps.{StepGoes}
 use Rattle.vx_stage_recovery.proofs.Goes.{refused_goes, seen_told}
 use Rattle.vx_stage_recovery.proofs.going.recover.Goals as goal
 

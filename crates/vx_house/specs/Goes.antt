@@ -81,6 +81,8 @@ Gives see (stage.Start vol) disks h = Unit {0}
 Gives see (stage.Mirror mirror) disks h = Unit {0}
 Gives see (stage.Prepare logs) disks h = Unit {0}
 Gives see (stage.Unprepare vol) disks h = Unit {0}
+Gives see (stage.Detach plex) disks h = Unit {0}
+Gives see (stage.Attach vol plex) disks h = Unit {0}
 Gives see (stage.Stop vol) disks h = Unit {0}
 
 -- the stages of a command that must be done before this one
@@ -110,6 +112,8 @@ wanted (stage.Start vol) = stage.Gate (tests.Stopped vol) ∷ []
 wanted (stage.Mirror mirror) = []
 wanted (stage.Prepare logs) = []
 wanted (stage.Unprepare vol) = []
+wanted (stage.Detach plex) = []
+wanted (stage.Attach vol plex) = []
 wanted (stage.Stop vol) = []
 
 -- the stage takes devices into an empty hand

@@ -23,8 +23,10 @@ use Rattle.vx_objects.specs.declared.edit.Edit.{Edit}
 use Rattle.vx_new_volumes.specs.declared.logs.NewLogs.{NewLogs}
 use Rattle.vx_state_edits.specs.Edits.{is_new}
 use Rattle.vx_answers.specs.declared.refusal.Refusal.TheVariants as refusal
-use Rattle.vx_moments.specs.World.{World, Group}
+use Rattle.vx_moments.specs.World.{World, Group, Volume}
 use Rattle.vx_config_parts.specs.declared.vol.Vol.{Vol}
+use Rattle.vx_stages.specs.Attached.{AttachEnds, AttachStopsIn}
+use Rattle.vx_stages.specs.Detached.{DetachStopsIn}
 use Rattle.vx_stages.specs.Starting.{CopyEnds, StopsIn, StopsOf, may_start, regions_copied}
 use Rattle.vx_stages.specs.Logged.{IsLogWritten, PrepareStopsIn, UnprepareStopsIn, by_config}
 use Rattle.vx_stages.specs.Mirrored.{MirrorEnds, MirrorStopsIn}
@@ -37,7 +39,7 @@ use Rattle.vx_plans.specs.declared.stages.Finish.TheVariants.{Nothing}
 use Rattle.vx_stages.specs.declared.stage.Stage.{Stage}
 use Rattle.vx_stages.specs.declared.stage.Stage.TheVariants as stage
 use Rattle.vx_plans.proofs.Calm.{calm, well_after}
-use Rattle.vx_plans.proofs.Complete.{refused_mirror, refused_prepare, refused_unprepare, runs_later}
+use Rattle.vx_plans.proofs.Complete.{refused_attach, refused_detach, refused_mirror, refused_prepare, refused_unprepare, runs_later}
 use Rattle.vx_laws.specs.Returning.{IsOf, is_done}
 
 -- ---- a stage that ends the command
@@ -48,10 +50,12 @@ IsNotDone (ends.Done None parts blocks) = ⊥
 IsNotDone (ends.Done (Some copied) parts blocks) = Unit {0}
 IsNotDone other = Unit {0}
 
--- the stage starts or stops a volume of the group, or mirrors it
+-- the stage starts or stops a volume of the group, or mirrors it, or a plex of it goes out of use or into use
 abbrev pub runs_volume : Stage → Bool
 runs_volume (stage.Start vol) = true
 runs_volume (stage.Mirror mirror) = true
+runs_volume (stage.Detach plex) = true
+runs_volume (stage.Attach vol plex) = true
 runs_volume (stage.Stop vol) = true
 runs_volume other = false
 
@@ -170,9 +174,11 @@ module _ (old new : Moment) (end : End) where
   has_stopped (stage.Mirror mirror) disks other stops = cc
   has_stopped (stage.Prepare logs) disks other stops = preparing logs old.world.group stops
   has_stopped (stage.Unprepare vol) disks other stops = unpreparing vol old.world.group stops
+  has_stopped (stage.Detach plex) disks other stops = cc
+  has_stopped (stage.Attach vol plex) disks other stops = cc
   has_stopped (stage.Stop vol) disks other stops = cc
 
-  -- ---- a start, a mirror and a stop
+  -- ---- a start, a mirror, plexes that go out of use and into use, and a stop
 
   told : (e : End) → IsNotDone e → end ≡ e → IsNotDone end
   told e other is = subst IsNotDone (sym is) other
@@ -232,16 +238,46 @@ module _ (old new : Moment) (end : End) where
   mirror_stops name named None ends = (denied _ ends).not_done
   mirror_stops name named (Some g) stops = mirror_in g name named stops
 
+  detach_in : (g : Group) (name : Word) → DetachStopsIn g name old end new → IsNotDone end
+  detach_in g name (inl (refused, rests)) = let is = refused_detach (runs_on_plexes old.world) g name end refused in told (ends.Refused is.0) tt is.1
+  detach_in g name (inr (inl u)) = passing u.stops.rest.group u.volume.name old end u.stops.cause
+  detach_in g name (inr (inr (inl n))) = told (ends.Refused (refusal.OnlyPlex name)) tt n.end_is
+  detach_in g name (inr (inr (inr c))) = committing c.stops.0 c.mid c.stops.2
+
+  detach_stops : (name : Word) (o : Option Group) → MatchOption o (EndsIn (refusal.NoGroup None) old end new) (λ g. DetachStopsIn g name old end new) → IsNotDone end
+  detach_stops name None ends = (denied _ ends).not_done
+  detach_stops name (Some g) stops = detach_in g name stops
+
+  copying_attach : (now : Group) (vol : Word) (before : Volume) (plex : Word) (from : Moment) (e : End) → AttachEnds now vol before plex from.counts new.counts e → IsNotDone e
+  copying_attach now vol before plex from (ends.Done None parts blocks) ((count, is, some), none, bare) = let no : None ≡ Some count = is in cc
+  copying_attach now vol before plex from (ends.Done (Some copied) parts blocks) tells = tt
+  copying_attach now vol before plex from (ends.Fault told device parts) tells = tt
+  copying_attach now vol before plex from (ends.Lost parts) tells = tt
+  copying_attach now vol before plex from (ends.Refused r) tells = tt
+  copying_attach now vol before plex from ends.ShelfFailed tells = tt
+  copying_attach now vol before plex from ends.GroupLost tells = tt
+
+  attach_in : (g : Group) (vol name : Word) → AttachStopsIn g vol name old end new → IsNotDone end
+  attach_in g vol name (inl (refused, rests)) = let is = refused_attach (runs_on_plexes old.world vol) g vol name end refused in told (ends.Refused is.0) tt is.1
+  attach_in g vol name (inr (inl c)) = committing c.stops.0 old c.stops.2
+  attach_in g vol name (inr (inr a)) = copying_attach a.copied.group a.is.volume.name a.is.goes.volume name a.attached end a.copied.ends
+
+  attach_stops : (vol name : Word) (o : Option Group) → MatchOption o (EndsIn (refusal.NoGroup None) old end new) (λ g. AttachStopsIn g vol name old end new) → IsNotDone end
+  attach_stops vol name None ends = (denied _ ends).not_done
+  attach_stops vol name (Some g) stops = attach_in g vol name stops
+
   stop_stops : (name : Word) → StopStops name old end new → IsNotDone end
   stop_stops name (inl (inl (r, e, is), rests)) = told (ends.Refused r) tt is
   stop_stops name (inl (inr (g, here, none, (v, found, (next, edited, (text, printed, long, is)))), rests)) = told (ends.Refused _) tt is
   stop_stops name (inr (inl r)) = passing r.rest.group name old end r.cause
   stop_stops name (inr (inr b)) = committing b.writing b.mid b.stopped
 
-  -- a stage that ends the command has not done it, but that a start and a mirror tell of their regions
+  -- a stage that ends the command has not done it, but that a start, a mirror and a plex that goes into use tell of their regions
   not_done : (s : Stage) (disks : List DiskAt) → Stops s disks old end new → IsNotDone end
   not_done (stage.Start vol) disks stops = start_stops vol old.world.group stops
   not_done (stage.Mirror mirror) disks stops = mirror_stops mirror.vol mirror.disks old.world.group stops
+  not_done (stage.Detach plex) disks stops = detach_stops plex old.world.group stops
+  not_done (stage.Attach vol plex) disks stops = attach_stops vol plex old.world.group stops
   not_done (stage.Stop vol) disks stops = stop_stops vol stops
   not_done other disks stops = (has_stopped other disks refl stops).not_done
 

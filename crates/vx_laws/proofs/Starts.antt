@@ -1,5 +1,5 @@
--- A start begins a life over what the volume's bytes are read as, and neither copying, a plex that joins, another log nor coming to rest is
--- anything to its history.
+-- A start begins a life over what the volume's bytes are read as, and neither copying, a plex that joins or goes out of use or into use, another
+-- log nor coming to rest is anything to its history.
 use Rattle.std.proofs.Common.{◌≡◌, ◌∙◌, Bool, true, false, cond, List, [], ◌∷◌, ◌++◌, Option, Some, None, MatchBool, MatchOption, refl, sym, ap, subst, inl, inr}
 use Rattle.std.specs.Str.{bytes_eq}
 use Rattle.vx_base.specs.Named.{Word, put}
@@ -22,6 +22,8 @@ use Rattle.vx_moments.specs.Group.{image_on}
 use Rattle.vx_moments.specs.Lives.{volume_by, volume_copied}
 use Rattle.vx_moments.specs.Owners.{owners_of}
 use Rattle.vx_moments.specs.Tracks.{volume_failed}
+use Rattle.vx_stages.specs.Attached.{AttachCopiesTo, AttachStops, AttachStopsIn, IsAttachCopied, IsAttachedBy, volume_unsure}
+use Rattle.vx_stages.specs.Detached.{DetachStops, DetachStopsIn, IsDetached, IsRestedFor}
 use Rattle.vx_stages.specs.Ends.{EndsIn}
 use Rattle.vx_stages.specs.Logged.{IsLogWritten, IsPrepared, IsRelogged, IsUnprepared, log_names, volume_relogged}
 use Rattle.vx_stages.specs.Mirrored.{IsMirrorCopied, IsMirroredBy, MirrorCopiesTo, MirrorStops, MirrorStopsIn, volume_joined}
@@ -214,6 +216,76 @@ module _ (Held : Holding) (Read : Reading) where
 
     pub mirror_kept : (end : End) (new : Moment) → MirrorStops name disks old end new → HaveHistories Held Read new.world
     mirror_kept end new stops = mirror_by old.world.group end new stops
+
+  -- ---- a plex that goes out of use
+
+  module _ (old : Moment) (all : HaveHistories Held Read old.world) where
+    rested_for : (plex : Word) (mid : Moment) → IsRestedFor plex old mid → HaveHistories Held Read mid.world
+    rested_for plex mid r = rested r.volume.name old all mid r.rest
+
+    pub detach_done : (plex : Word) (new : Moment) → IsDetached plex old new → HaveHistories Held Read new.world
+    detach_done plex new d = same_volumes Held Read d.mid.world new.world d.committed.committing.volumes (rested_for plex d.mid d.rested)
+
+    detached : (g : Group) (plex : Word) (end : End) (new : Moment) → DetachStopsIn g plex old end new → HaveHistories Held Read new.world
+    detached g plex end new (inl (why, rests)) = same_volumes Held Read old.world new.world (volumes_of old.world new.world rests.stays.world) all
+    detached g plex end new (inr (inl u)) = rested u.volume.name old all new u.stops.rest
+    detached g plex end new (inr (inr (inl n))) = rested_for plex new n.rested
+    detached g plex end new (inr (inr (inr c))) = same_volumes Held Read c.mid.world new.world c.stops.2.committing.volumes (rested_for plex c.mid c.rested)
+
+    detach_by : (plex : Word) (o : Option Group) (end : End) (new : Moment) → MatchOption o (EndsIn (refusal.NoGroup None) old end new) (λ g. DetachStopsIn g plex old end new) → HaveHistories Held Read new.world
+    detach_by plex None end new ends = same_volumes Held Read old.world new.world (volumes_of old.world new.world ends.1.stays.world) all
+    detach_by plex (Some g) end new stops = detached g plex end new stops
+
+    pub detach_kept : (plex : Word) (end : End) (new : Moment) → DetachStops plex old end new → HaveHistories Held Read new.world
+    detach_kept plex end new stops = detach_by plex old.world.group end new stops
+
+  -- ---- a plex that goes into use
+
+  module _ (name plex : Word) (now : Group) (v : Vol) (plexes : List Word) (failed : Word → Bool) (old new : Counts) (run later : Volume) (own : IsHistoried Held Read name run) where
+    abbrev failing_now : Volume
+    failing_now = volume_failed (owners_of now v.name plexes) failed run
+
+    as_failing_now : later ≡ failing_now → IsHistoried Held Read name later
+    as_failing_now is = subst (IsHistoried Held Read name) (sym is) (failed_history name now v.name plexes failed run own)
+
+    attach_copies : (end : End) → AttachCopiesTo now v plex plexes failed old new end run later → IsHistoried Held Read name later
+    attach_copies (ends.Done count parts blocks) (inl is) = subst (IsHistoried Held Read name) (sym is) (copied_history name (bytes_eq plex) failing_now (failed_history name now v.name plexes failed run own))
+    attach_copies (ends.Done count parts blocks) (inr (log, is)) = as_failing_now is
+    attach_copies (ends.Fault told device parts) is = as_failing_now is
+    attach_copies (ends.Lost parts) is = as_failing_now is
+    attach_copies (ends.Refused r) is = as_failing_now is
+    attach_copies ends.ShelfFailed is = as_failing_now is
+    attach_copies ends.GroupLost is = as_failing_now is
+
+  -- that nothing is sure of a plex is nothing to the history of its volume
+  unsure_history : (name plex : Word) (v : Volume) → IsHistoried Held Read name v → IsHistoried Held Read name (volume_unsure plex v)
+  unsure_history name plex v own = carried Held Read name v (volume_unsure plex v) refl refl refl (λ is. is) own
+
+  module _ (vol plex : Word) (old : Moment) (all : HaveHistories Held Read old.world) where
+    attached : (g : Group) (m : Moment) → IsAttachedBy g vol plex old m → HaveHistories Held Read m.world
+    attached g m b =
+        let recorded : HaveHistories Held Read b.recorded.world = same_volumes Held Read old.world b.recorded.world b.committed.committing.volumes all in
+        let run = volume_unsure plex b.goes.volume in
+        same_volumes Held Read (record b.recorded.world { volumes = put vol (Some run) b.recorded.world.volumes }) m.world (ap (λ (w : World). w.volumes) b.goes.world)
+        (put_history Held Read b.recorded.world vol run (unsure_history vol plex b.goes.volume (recorded vol b.goes.volume b.goes.was)) recorded)
+
+    attach_copied : (v : Vol) (before : Volume) (m : Moment) (end : End) (new : Moment) → HaveHistories Held Read m.world → IsAttachCopied v plex before m end new → HaveHistories Held Read new.world
+    attach_copied v before m end new have c =
+        same_volumes Held Read (record m.world { volumes = put v.name (Some c.later) m.world.volumes }) new.world (ap (λ (w : World). w.volumes) c.goes.world)
+        (put_history Held Read m.world v.name c.later
+        (attach_copies v.name plex c.group v c.plexes c.failed m.counts new.counts c.volume c.later (have v.name c.volume c.was) end c.becomes) have)
+
+    attach_in : (g : Group) (end : End) (new : Moment) → AttachStopsIn g vol plex old end new → HaveHistories Held Read new.world
+    attach_in g end new (inl (why, rests)) = same_volumes Held Read old.world new.world (volumes_of old.world new.world rests.stays.world) all
+    attach_in g end new (inr (inl c)) = same_volumes Held Read old.world new.world c.stops.2.committing.volumes all
+    attach_in g end new (inr (inr a)) = attach_copied a.is.volume a.is.goes.volume a.attached end new (attached g a.attached a.is) a.copied
+
+    attach_by : (o : Option Group) (end : End) (new : Moment) → MatchOption o (EndsIn (refusal.NoGroup None) old end new) (λ g. AttachStopsIn g vol plex old end new) → HaveHistories Held Read new.world
+    attach_by None end new ends = same_volumes Held Read old.world new.world (volumes_of old.world new.world ends.1.stays.world) all
+    attach_by (Some g) end new stops = attach_in g end new stops
+
+    pub attach_kept : (end : End) (new : Moment) → AttachStops vol plex old end new → HaveHistories Held Read new.world
+    attach_kept end new stops = attach_by old.world.group end new stops
 
   -- ---- logs that come and go
 

@@ -27,16 +27,18 @@ use Rattle.vx_image.specs.Meaning.{candidates_read}
 use Rattle.vx_moments.specs.Group.{image_on}
 use Rattle.vx_laws.specs.Histories.{FirstStartsNext, HasHealed, HasHistory, StartsNext, IsHistoried, IsHistoriedOn, HaveHistories, NoneStarted, WasRead, WasThere}
 use Rattle.vx_laws.proofs.Recoveries.{recover_kept}
-use Rattle.vx_laws.proofs.Starts.{AreRead, IsRead, mirror_kept, prepare_done, start_kept, stop_done, stop_kept, unprepare_done}
+use Rattle.vx_laws.proofs.Starts.{AreRead, IsRead, attach_kept, detach_done, detach_kept, mirror_kept, prepare_done, start_kept, stop_done, stop_kept, unprepare_done}
 use Rattle.vx_laws.proofs.Lives.{Holding, Reading, begun_history, put_history, goes_on_history, same_volumes, without_group, from_nothing}
 use Rattle.vx_base.specs.Blocks.{Contents}
+use Rattle.vx_script_forms.specs.declared.act.Act.{Act}
+use Rattle.vx_script_forms.specs.declared.act.Act.TheVariants as act
 use Rattle.vx_script_forms.specs.declared.form.Form.{Form}
 use Rattle.vx_script_forms.specs.declared.form.Form.TheVariants as form
 use Rattle.vx_script_forms.specs.declared.form.WordPolicy.TheVariants as words
 use Rattle.vx_script.specs.declared.command.Command.{Command}
 use Rattle.vx_answers.specs.declared.answer.Answer.{Answer}
 use Rattle.vx_answers.specs.declared.answer.View.{View}
-use Rattle.vx_plans.specs.Plans.{new_volume, plan_of, disks_of}
+use Rattle.vx_plans.specs.Plans.{new_volume, plan_of, plan_of_act, disks_of}
 use Rattle.vx_plans.specs.Steps.{Runs, Leaves, IsNotBuilt, DoesPlan, DoesForm, Step, IsTranscript}
 use Rattle.vx_stages.specs.declared.stage.Source.{Source}
 use Rattle.vx_stages.specs.declared.stage.Source.TheVariants as source
@@ -80,6 +82,8 @@ module _ (Held : Holding) (Read : Reading) (old new : Moment) (all : HaveHistori
   stage_kept (stage.Mirror mirror) disks there is = absurd is
   stage_kept (stage.Prepare logs) disks there is = prepare_done Held Read old all logs new is
   stage_kept (stage.Unprepare vol) disks there is = unprepare_done Held Read old all vol new is
+  stage_kept (stage.Detach plex) disks there is = detach_done Held Read old all plex new is
+  stage_kept (stage.Attach vol plex) disks there is = absurd is
   stage_kept (stage.Stop vol) disks there is = stop_done Held Read vol old all new is
   stage_kept other disks there is = same (kept_world other disks old new refl is)
 
@@ -87,6 +91,8 @@ module _ (Held : Holding) (Read : Reading) (old new : Moment) (all : HaveHistori
   ending_kept : (s : Stage) (disks : List DiskAt) (end : End) → AreKnown Held Read old.world → Stops s disks old end new → HaveHistories Held Read new.world
   ending_kept (stage.Start vol) disks end there stops = start_kept Held Read old new end all vol (there.1 vol) stops
   ending_kept (stage.Mirror mirror) disks end there stops = mirror_kept Held Read mirror.vol mirror.disks old all end new stops
+  ending_kept (stage.Detach plex) disks end there stops = detach_kept Held Read old all plex end new stops
+  ending_kept (stage.Attach vol plex) disks end there stops = attach_kept Held Read vol plex old all end new stops
   ending_kept (stage.Stop vol) disks end there stops = stop_kept Held Read vol old all end new stops
   ending_kept other disks end there stops = as_was (has_stopped old new end other disks refl stops).volumes
 
@@ -150,6 +156,11 @@ abbrev makes_volume : Form → Bool
 makes_volume (form.AssistMake vol length attrs disks) = true
 makes_volume other = false
 
+act_shaped : (dg : Option Word) (a : Act) → is_shaped (plan_of_act dg a) ≡ true
+act_shaped dg (act.PlexDet plex) = refl
+act_shaped dg (act.PlexAtt vol plex) = refl
+act_shaped dg other = refl
+
 plan_shaped : (dg : Option Word) (f : Form) → makes_volume f ≡ false → is_shaped (plan_of dg f) ≡ true
 unfolding plan_of
 plan_shaped dg (form.AssistMake vol length attrs disks) other = cc
@@ -160,6 +171,7 @@ plan_shaped dg (form.PrintHt (Some vol)) other = refl
 plan_shaped dg (form.Rdpol vol words.Round) other = refl
 plan_shaped dg (form.Rdpol vol words.Select) other = refl
 plan_shaped dg (form.Rdpol vol (words.Prefer plex)) other = refl
+plan_shaped dg (form.Acting act) other = act_shaped dg act
 plan_shaped dg f other = refl
 
 -- what is read of a volume that a command of this form starts next, or has healed

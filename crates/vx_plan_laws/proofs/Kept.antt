@@ -1,8 +1,10 @@
--- A stage that refuses its command leaves the world, but for a start that cannot open its volume.
+-- A stage that refuses its command leaves the world, but for a start that cannot open its volume, and a plex that does not go out of use as some
+-- region has no other.
 use Rattle.std.proofs.Common.{◌≡◌, ◌∙◌, ◌⊎◌, ℕ, ◌+◌, Bool, true, false, is_some, nat_lt, List, [], ◌∷◌, ◌++◌, Option, Some, None, MatchBool, MatchOption, refl, ap, subst, inl, inr}
 use Rattle.vx_base.specs.Named.{Word}
 use Rattle.vx_script_words.specs.declared.value.DiskAt.{DiskAt}
 use Rattle.vx_script_forms.specs.declared.call.Call.{Call}
+use Rattle.vx_script_forms.specs.declared.act.Act.TheVariants as act
 use Rattle.vx_script_forms.specs.declared.form.Form.{Form}
 use Rattle.vx_script_forms.specs.declared.form.Form.TheVariants as form
 use Rattle.vx_script_forms.specs.declared.form.WordPolicy.TheVariants as words
@@ -19,6 +21,7 @@ use Rattle.vx_moments.specs.World.{Group, Lies, OnDevice, OnPlexes, Volume}
 use Rattle.vx_new_volumes.specs.declared.mirror.NewPlex.{NewPlex}
 use Rattle.vx_new_volumes.specs.declared.volume.NewVolume.{NewVolume}
 use Rattle.vx_stages.specs.Calls.{count_of, start_of, volume_of}
+use Rattle.vx_stages.specs.Detached.{StopsNeeded}
 use Rattle.vx_stages.specs.Ends.{StopsBy, refused}
 use Rattle.vx_plans.specs.Plans.{disks_of, new_volume, plan_of}
 use Rattle.vx_stages.specs.Records.{devices_of}
@@ -39,14 +42,17 @@ use Rattle.vx_plans.proofs.Complete.{keeps_world, kept_world}
 use Rattle.vx_plan_laws.specs.Keeping.{IsLeftAdded, IsLeftUnopened, RefusedLeaves}
 use Rattle.vx_plan_laws.proofs.NewVolumes.{added_there, is_opened, no_gate}
 use Rattle.vx_plan_laws.proofs.Recoveries.{recover_left}
-use Rattle.vx_plan_laws.proofs.Volumes.{mirror_left, not_stopped, prepare_left, start_left, start_refuses, stop_left, unprepare_left}
+use Rattle.vx_plan_laws.proofs.Volumes.{attach_left, detach_left, mirror_left, not_stopped, prepare_left, start_left, start_refuses, stop_left, unprepare_left}
 
 -- ---- stages
 
--- the stage is a start or a mirror, which end their command themselves
+-- the stage is a start, a mirror or a plex that goes into use, which end their command themselves, or one that goes out of use, which may be
+-- refused once its volume has come to rest
 abbrev pub ends_itself : Stage → Bool
 ends_itself (stage.Start vol) = true
 ends_itself (stage.Mirror mirror) = true
+ends_itself (stage.Detach plex) = true
+ends_itself (stage.Attach vol plex) = true
 ends_itself other = false
 
 taking_kept : (taken names : List Word) (m : Moment) (end : End) (n : Moment) → TakingStops taken names m end n → n.world ≡ m.world
@@ -93,6 +99,8 @@ refused_kept (stage.Start vol) disks m r n other stops = cc
 refused_kept (stage.Mirror mirror) disks m r n other stops = cc
 refused_kept (stage.Prepare logs) disks m r n other stops = prepare_left m r n logs stops
 refused_kept (stage.Unprepare vol) disks m r n other stops = unprepare_left m r n vol stops
+refused_kept (stage.Detach plex) disks m r n other stops = cc
+refused_kept (stage.Attach vol plex) disks m r n other stops = cc
 refused_kept (stage.Stop vol) disks m r n other stops = stop_left m r n vol stops
 
 -- ---- plans
@@ -100,11 +108,13 @@ refused_kept (stage.Stop vol) disks m r n other stops = stop_left m r n vol stop
 not_done : (r : Refusal) → refused r ≡ done → ⊥
 not_done r e = cc
 
--- the stage is a start, a mirror or a stop, or writes a log
+-- the stage is a start, a mirror or a stop, or writes a log, or a plex goes out of use or into use by it
 abbrev pub calls_volume : Stage → Bool
 calls_volume (stage.Start vol) = true
 calls_volume (stage.Mirror mirror) = true
 calls_volume (stage.Prepare logs) = true
+calls_volume (stage.Detach plex) = true
+calls_volume (stage.Attach vol plex) = true
 calls_volume (stage.Stop vol) = true
 calls_volume other = false
 
@@ -118,6 +128,8 @@ not_itself : (s : Stage) → calls_volume s ≡ false → ends_itself s ≡ fals
 not_itself (stage.Start vol) e = cc
 not_itself (stage.Mirror mirror) e = cc
 not_itself (stage.Prepare logs) e = cc
+not_itself (stage.Detach plex) e = cc
+not_itself (stage.Attach vol plex) e = cc
 not_itself other e = refl
 
 pub none_itself : (stages : List Stage) → AreStill calls_volume stages → AreStill ends_itself stages
@@ -142,7 +154,7 @@ abbrev pub behind : List Test → Stage → List Stage
 behind [] s = s ∷ []
 behind (test ∷ gates) s = stage.Gate test ∷ behind gates s
 
--- the gates of a start, that of a mirror and of logs, and those of a stop
+-- the gates of a start, that of a mirror, of logs and of plexes, and those of a stop
 abbrev pub start_gates : Option Word → Word → List Test
 start_gates dg vol = tests.GroupIs dg ∷ tests.HasVolume vol ∷ tests.Stopped vol ∷ []
 
@@ -152,20 +164,24 @@ mirror_gates dg = tests.GroupIs dg ∷ []
 abbrev pub stop_gates : Option Word → Word → List Test
 stop_gates dg vol = tests.GroupIs dg ∷ tests.HasVolume vol ∷ []
 
--- the form starts, mirrors or stops a volume of the group, or gives it logs
+-- the form starts, mirrors or stops a volume of the group, gives it logs, or lets a plex of it go out of use or into use
 abbrev pub touches : Form → Bool
 touches (form.Start vol) = true
 touches (form.Stop vol) = true
 touches (form.Mirror vol disks) = true
 touches (form.Prepare vol ndcomirs region) = true
 touches (form.AssistMake vol length attrs disks) = true
+touches (form.Acting (act.PlexDet plex)) = true
+touches (form.Acting (act.PlexAtt vol plex)) = true
 touches other = false
 
--- the form is that of a start or of a mirror, or makes a volume and starts it
+-- the form is that of a start or of a mirror, makes a volume and starts it, or lets a plex go out of use or into use
 abbrev pub ends_so : Form → Bool
 ends_so (form.Start vol) = true
 ends_so (form.Mirror vol disks) = true
 ends_so (form.AssistMake vol length attrs disks) = true
+ends_so (form.Acting (act.PlexDet plex)) = true
+ends_so (form.Acting (act.PlexAtt vol plex)) = true
 ends_so other = false
 
 pub plan_plain : (dg : Option Word) (f : Form) → touches f ≡ false → IsPlain (plan_of dg f)
@@ -198,11 +214,16 @@ plan_plain dg (form.Dis snap) other = tt
 plan_plain dg (form.Split snap) other = tt
 plan_plain dg (form.PrintSnaps vol) other = tt
 plan_plain dg (form.Recover vol) other = tt
-plan_plain dg (form.Acting act) other = tt
+plan_plain dg (form.Acting (act.PlexDet plex)) other = cc
+plan_plain dg (form.Acting (act.PlexAtt vol plex)) other = cc
+plan_plain dg (form.Acting (act.SnapMake vol snap plex)) other = tt
+plan_plain dg (form.Acting (act.Reattach snap vol)) other = tt
+plan_plain dg (form.Acting (act.Restore vol snap)) other = tt
+plan_plain dg (form.Acting (act.Snapback snap from_replica)) other = tt
 plan_plain dg (form.Calling call) other = tt
 plan_plain dg (form.Sessions block) other = tt
 
--- no stage of the plan is a start or a mirror, and all but the last keep the world
+-- no stage of the plan is such a one, and all but the last keep the world
 abbrev pub IsStill : Option Plan → Type 0
 IsStill None = Unit {0}
 IsStill (Some plan) = AreStill ends_itself plan.stages
@@ -218,6 +239,8 @@ plan_still dg (form.Prepare vol ndcomirs region) other = (refl, refl, refl)
 plan_still dg (form.Start vol) other = cc
 plan_still dg (form.Mirror vol disks) other = cc
 plan_still dg (form.AssistMake vol length attrs disks) other = cc
+plan_still dg (form.Acting (act.PlexDet plex)) other = cc
+plan_still dg (form.Acting (act.PlexAtt vol plex)) other = cc
 plan_still dg f other = still_plan (plan_of dg f) (plan_plain dg f refl)
 
 -- ---- commands
@@ -244,6 +267,19 @@ module _ (old : Moment) (views : List View) (r : Refusal) (new : Moment) where
   mirroring_left [] mirror m (inr (none, later, stops)) = mirror_left m r new mirror.vol mirror.disks stops
   mirroring_left (test ∷ gates) mirror m (inl (mid, later, (passed, same), runs)) = mirroring_left gates mirror mid runs ∙ ap (λ (n : Moment). n.world) same
   mirroring_left (test ∷ gates) mirror m (inr (none, later, (s, fails, is, same))) = ap (λ (n : Moment). n.world) same
+
+  -- another stage behind gates ends the command, or one of them does
+  stopped_behind : (gates : List Test) (s : Stage) (m : Moment) → Runs [] (behind gates s) Nothing m views (refused r) new → (new.world ≡ m.world) ⊎ Stops s [] m (refused r) new
+  stopped_behind [] s m (inl (mid, later, is, (shows, over, stays))) = absurd (not_done r over)
+  stopped_behind [] s m (inr (none, later, stops)) = inr stops
+  stopped_behind (test ∷ gates) s m (inl (mid, later, (passed, same), runs)) = subst (λ (n : Moment). (new.world ≡ n.world) ⊎ Stops s [] n (refused r) new) same (stopped_behind gates s mid runs)
+  stopped_behind (test ∷ gates) s m (inr (none, later, (why, fails, is, same))) = inl (ap (λ (n : Moment). n.world) same)
+
+  detaching_left : (gates : List Test) (plex : Word) (m : Moment) → Runs [] (behind gates (stage.Detach plex)) Nothing m views (refused r) new → (new.world ≡ m.world) ⊎ StopsNeeded plex m (refused r) new
+  detaching_left gates plex m runs = elim (stopped_behind gates (stage.Detach plex) m runs) [ inl same ↦ inl same | inr stops ↦ detach_left m r new plex stops ]
+
+  attaching_left : (gates : List Test) (vol plex : Word) (m : Moment) → Runs [] (behind gates (stage.Attach vol plex)) Nothing m views (refused r) new → new.world ≡ m.world
+  attaching_left gates vol plex m runs = elim (stopped_behind gates (stage.Attach vol plex) m runs) [ inl same ↦ same | inr stops ↦ attach_left m r new vol plex stops ]
 
   -- a new volume: its records are refused, or it cannot be started
   abbrev Left : NewVolume → Moment → Type 0
@@ -291,6 +327,8 @@ module _ (old : Moment) (views : List View) (r : Refusal) (new : Moment) where
   form_left place dg (form.AssistMake vol length attrs disks) does = new_left dg (new_volume vol length attrs disks) does
   form_left place dg (form.Mirror vol disks) does = mirroring_left (mirror_gates dg) (record { vol = vol; disks = disks }) old does
   form_left place dg (form.Recover vol) does = recover_left r new dg vol old views does.1
+  form_left place dg (form.Acting (act.PlexDet plex)) does = detaching_left (mirror_gates dg) plex old does
+  form_left place dg (form.Acting (act.PlexAtt vol plex)) does = attaching_left (mirror_gates dg) vol plex old does
   form_left place dg other does = plan_left (disks_of other) (plan_of dg other) (plan_still dg other refl) does
 
 pub each_refusal_keeps_the_world : (place : ℕ) (c : Command) (old : Moment) (views : List View) (r : Refusal) (new : Moment) → Step place c old (One views (refused r)) new → (over : Moment) × (new.world ≡ over.world) × CountsAfter c.cut over.counts new.counts × RefusedLeaves c.form old r over

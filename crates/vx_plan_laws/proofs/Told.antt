@@ -1,11 +1,12 @@
--- What a command tells that is done: a start and a mirror how many regions they have copied, and another nothing.
-use Rattle.std.proofs.Common.{◌≡◌, ℕ, Bool, true, false, List, [], ◌∷◌, ◌++◌, Option, Some, None, MatchBool, MatchOption, refl, sym, ap, subst, inl, inr}
+-- What a command tells that is done: a start, a mirror and a plex that goes into use how many regions they have copied, and another nothing.
+use Rattle.std.proofs.Common.{◌≡◌, ℕ, Bool, true, false, List, [], ◌∷◌, ◌++◌, Option, Some, None, MatchBool, MatchOption, refl, sym, ◌∙◌, ◌⊎◌, ap, subst, inl, inr}
 use Rattle.vx_base.specs.Named.{Word}
 use Rattle.vx_config_parts.specs.declared.vol.Vol.{Vol}
 use Rattle.vx_objects.specs.declared.edit.Edit.{Edit}
 use Rattle.vx_new_volumes.specs.declared.logs.NewLogs.{NewLogs}
 use Rattle.vx_new_volumes.specs.declared.mirror.NewPlex.{NewPlex}
 use Rattle.vx_script_words.specs.declared.value.DiskAt.{DiskAt}
+use Rattle.vx_script_forms.specs.declared.act.Act.TheVariants as act
 use Rattle.vx_script_forms.specs.declared.form.Form.{Form}
 use Rattle.vx_script_forms.specs.declared.form.Form.TheVariants as form
 use Rattle.vx_answers.specs.declared.answer.End.{End}
@@ -15,7 +16,9 @@ use Rattle.vx_answers.specs.declared.refusal.Refusal.{Refusal}
 use Rattle.vx_answers.specs.declared.refusal.Refusal.TheVariants as refusal
 use Rattle.vx_moments.specs.Commit.{Writing, IsStopped}
 use Rattle.vx_moments.specs.Moment.{Moment}
-use Rattle.vx_moments.specs.World.{Group, World}
+use Rattle.vx_moments.specs.World.{Group, Volume, World}
+use Rattle.vx_stages.specs.Attached.{AttachStops, AttachStopsIn}
+use Rattle.vx_stages.specs.Detached.{DetachStopsIn}
 use Rattle.vx_stages.specs.Ends.{EndsIn, IsChange, fault_of, lost, refused}
 use Rattle.vx_plans.specs.Plans.{disks_of, new_volume, plan_of}
 use Rattle.vx_stages.specs.Records.{devices_of}
@@ -35,8 +38,8 @@ use Rattle.vx_plans.specs.declared.stages.Finish.TheVariants.{Nothing}
 use Rattle.vx_stages.specs.declared.test.Test.{Test}
 use Rattle.vx_stages.specs.declared.test.Test.TheVariants as tests
 use Rattle.vx_plans.specs.declared.stages.Plan.{Plan}
-use Rattle.vx_plans.proofs.Complete.{refused_mirror, refused_prepare, refused_unprepare}
-use Rattle.vx_plan_laws.specs.Refusing.{IsDoneBy, TellsCopied, TellsMirrored}
+use Rattle.vx_plans.proofs.Complete.{refused_attach, refused_detach, refused_mirror, refused_prepare, refused_unprepare}
+use Rattle.vx_plan_laws.specs.Refusing.{IsDoneBy, TellsAttached, TellsCopied, TellsMirrored}
 use Rattle.vx_plan_laws.proofs.Kept.{AreStill, IsStill, behind, ends_itself, mirror_gates, plan_still, start_gates}
 
 -- the command was done, and so many regions were copied
@@ -109,7 +112,14 @@ module _ (copied : Option ℕ) where
   unpreparing old new name (Some g) (inl (turned, rests)) = let is = refused_unprepare g name (all_done copied) turned in no_refusal is.0 is.1
   unpreparing old new name (Some g) (inr c) = not_stopped old new c.stops.0 c.stops.2
 
-  -- no stage but a start and a mirror is done where it ends the command
+  detaching : (old new : Moment) (name : Word) (o : Option Group) → MatchOption o (EndsIn (refusal.NoGroup None) old (all_done copied) new) (λ g. DetachStopsIn g name old (all_done copied) new) → ⊥
+  detaching old new name None ends = denied old new _ ends
+  detaching old new name (Some g) (inl (turned, rests)) = let is = refused_detach (runs_on_plexes old.world) g name (all_done copied) turned in no_refusal is.0 is.1
+  detaching old new name (Some g) (inr (inl u)) = u.stops.cause
+  detaching old new name (Some g) (inr (inr (inl n))) = no_refusal _ n.end_is
+  detaching old new name (Some g) (inr (inr (inr c))) = not_stopped c.mid new c.stops.0 c.stops.2
+
+  -- no stage but a start, a mirror and a plex that goes into use is done where it ends the command
   not_done : (s : Stage) (disks : List DiskAt) (old new : Moment) → ends_itself s ≡ false → Stops s disks old (all_done copied) new → ⊥
   not_done (stage.Gate test) disks old new other (r, fails, is, same) = no_refusal r is
   not_done (stage.Take name) disks old new other stops = taking old new [] (name ∷ []) stops
@@ -147,6 +157,8 @@ module _ (copied : Option ℕ) where
   not_done (stage.Mirror mirror) disks old new other stops = cc
   not_done (stage.Prepare logs) disks old new other stops = preparing old new logs old.world.group stops
   not_done (stage.Unprepare vol) disks old new other stops = unpreparing old new vol old.world.group stops
+  not_done (stage.Detach plex) disks old new other stops = detaching old new plex old.world.group stops
+  not_done (stage.Attach vol plex) disks old new other stops = cc
   not_done (stage.Stop vol) disks old new other stops = stopping old new vol stops
 
   -- ---- a start
@@ -201,6 +213,23 @@ module _ (copied : Option ℕ) where
       in_world None here ends = absurd (denied old new _ ends)
       in_world (Some g) here more = in_group g here more
 
+  -- ---- a plex that goes into use
+
+  attached : (vol plex : Word) (old new : Moment) → AttachStops vol plex old (all_done copied) new → TellsAttached vol plex old.world (all_done copied)
+  attached vol plex old new stops = in_world old.world.group stops
+    where
+      in_group : (g : Group) → AttachStopsIn g vol plex old (all_done copied) new → TellsAttached vol plex old.world (all_done copied)
+      in_group g (inl (turned, rests)) = let is = refused_attach (runs_on_plexes old.world vol) g vol plex (all_done copied) turned in absurd (no_refusal is.0 is.1)
+      in_group g (inr (inl c)) = absurd (not_stopped old new c.stops.0 c.stops.2)
+      in_group g (inr (inr a)) =
+          let told = a.copied.ends.0 in
+          let ran : old.world.volumes vol ≡ Some a.is.goes.volume = ap (λ (vs : Word → Option Volume). vs vol) (sym a.is.committed.committing.volumes) ∙ a.is.goes.was in
+          (a.is.goes.volume, ran, told.0, ap (λ (n : Option ℕ). all_done n) told.1, told.2)
+
+      in_world : (o : Option Group) → MatchOption o (EndsIn (refusal.NoGroup None) old (all_done copied) new) (λ g. AttachStopsIn g vol plex old (all_done copied) new) → TellsAttached vol plex old.world (all_done copied)
+      in_world None ends = absurd (denied old new _ ends)
+      in_world (Some g) more = in_group g more
+
   -- ---- plans
 
   still_done : (disks : List DiskAt) (stages : List Stage) (finish : Finish) (old : Moment) (views : List View) (new : Moment) → AreStill ends_itself stages → Runs disks stages finish old views (all_done copied) new → all_done copied ≡ done
@@ -232,6 +261,24 @@ module _ (copied : Option ℕ) where
   mirror_tells (test ∷ gates) mirror old views new (inl (mid, later, (passed, same), runs)) = subst (λ (m : Moment). TellsAll mirror.vol m.world) same (mirror_tells gates mirror mid views new runs)
   mirror_tells (test ∷ gates) mirror old views new (inr (none, later, (r, fails, is, same))) = absurd (no_refusal r is)
 
+  -- another stage behind gates is done, or ends the command
+  done_behind : (gates : List Test) (s : Stage) (old : Moment) (views : List View) (new : Moment) → Runs [] (behind gates s) Nothing old views (all_done copied) new → (all_done copied ≡ done) ⊎ Stops s [] old (all_done copied) new
+  done_behind [] s old views new (inl (mid, later, is, (shows, over, stays))) = inl over
+  done_behind [] s old views new (inr (none, later, stops)) = inr stops
+  done_behind (test ∷ gates) s old views new (inl (mid, later, (passed, same), runs)) = subst (λ (m : Moment). (all_done copied ≡ done) ⊎ Stops s [] m (all_done copied) new) same (done_behind gates s mid views new runs)
+  done_behind (test ∷ gates) s old views new (inr (none, later, (r, fails, is, same))) = absurd (no_refusal r is)
+
+  detach_tells : (gates : List Test) (plex : Word) (old : Moment) (views : List View) (new : Moment) → Runs [] (behind gates (stage.Detach plex)) Nothing old views (all_done copied) new → all_done copied ≡ done
+  detach_tells gates plex old views new runs = elim (done_behind gates (stage.Detach plex) old views new runs) [ inl over ↦ over | inr stops ↦ absurd (detaching old new plex old.world.group stops) ]
+
+  -- the plex that goes into use ends the command
+  attach_tells : (gates : List Test) (vol plex : Word) (old : Moment) (views : List View) (new : Moment) → Runs [] (behind gates (stage.Attach vol plex)) Nothing old views (all_done copied) new → TellsAttached vol plex old.world (all_done copied)
+  attach_tells [] vol plex old views new (inl (mid, later, is, runs)) = absurd is
+  attach_tells [] vol plex old views new (inr (none, later, stops)) = attached vol plex old new stops
+  attach_tells (test ∷ gates) vol plex old views new (inl (mid, later, (passed, same), runs)) =
+      subst (λ (m : Moment). TellsAttached vol plex m.world (all_done copied)) same (attach_tells gates vol plex mid views new runs)
+  attach_tells (test ∷ gates) vol plex old views new (inr (none, later, (r, fails, is, same))) = absurd (no_refusal r is)
+
   -- that of a new volume, behind the moment in which its records were added
   abbrev TellsAdded : Source → Word → Moment → Type 0
   TellsAdded from vol old = (mid : Moment) × IsDone (stage.Make from) [] old mid × Tells vol mid.world
@@ -250,6 +297,8 @@ module _ (copied : Option ℕ) where
   form_tells dg (form.Start vol) old views new runs = start_tells (start_gates dg vol) vol old views new runs
   form_tells dg (form.AssistMake vol length attrs disks) old views new runs = new_tells dg (source.Volume (new_volume vol length attrs disks)) vol old views new runs
   form_tells dg (form.Mirror vol disks) old views new runs = mirror_tells (mirror_gates dg) (record { vol = vol; disks = disks }) old views new runs
+  form_tells dg (form.Acting (act.PlexDet plex)) old views new runs = detach_tells (mirror_gates dg) plex old views new runs
+  form_tells dg (form.Acting (act.PlexAtt vol plex)) old views new runs = attach_tells (mirror_gates dg) vol plex old views new runs
   form_tells dg other old views new runs = still_plan (disks_of other) (plan_of dg other) old views new (plan_still dg other refl) runs
 
   pub tells_done : (dg : Option Word) (f : Form) (plan : Plan) (old : Moment) (views : List View) (new : Moment) → plan_of dg f ≡ Some plan → Runs (disks_of f) plan.stages plan.finish old views (all_done copied) new → IsDoneBy f old (all_done copied)

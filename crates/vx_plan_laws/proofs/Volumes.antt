@@ -1,4 +1,5 @@
--- Why a start, a mirror, logs that come or go, and a stop are refused for their volume, and what a start leaves then.
+-- Why a start, a mirror, logs that come or go, plexes that go out of use or into use, and a stop are refused for their volume, and what they leave
+-- then.
 use Rattle.std.proofs.Common.{◌≡◌, ◌⊎◌, ◌&&◌, ◌∙◌, Bool, true, false, MatchBool, MatchOption, Option, Some, None, List, [], is_some, if◌then◌else◌, refl, sym, ap, subst, inl, inr}
 use Rattle.vx_base.specs.Named.{Word}
 use Rattle.vx_config_parts.specs.declared.vol.Vol.{Vol}
@@ -9,16 +10,19 @@ use Rattle.vx_answers.specs.declared.refusal.Refusal.TheVariants as refusal
 use Rattle.vx_moments.specs.Commit.{Writing, IsStopped, CarriersFailed, parties}
 use Rattle.vx_moments.specs.Moment.{Moment, Rests}
 use Rattle.vx_moments.specs.World.{Group}
+use Rattle.vx_stages.specs.Attached.{AttachStops, AttachStopsIn}
+use Rattle.vx_stages.specs.Detached.{DetachStops, DetachStopsIn, StopsNeeded}
 use Rattle.vx_stages.specs.Ends.{EndsIn, refused}
 use Rattle.vx_new_volumes.specs.declared.logs.NewLogs.{NewLogs}
 use Rattle.vx_stages.specs.Logged.{PrepareStops, PrepareStopsIn, UnprepareStops, UnprepareStopsIn}
 use Rattle.vx_stages.specs.Logging.{IsPrepareRefused, IsUnprepareRefused}
 use Rattle.vx_stages.specs.Mirrored.{MirrorIsRefused, MirrorStops, MirrorStopsIn}
+use Rattle.vx_stages.specs.Plexes.{IsAttachRefused, IsDetachRefused}
 use Rattle.vx_stages.specs.Starting.{StartStops, StopsIn, StopsOf, StopsUnopened, may_start}
 use Rattle.vx_stages.specs.Stopping.{StopStops, is_active, refusal_by, runs_on_plexes, stop_refusal}
 use Rattle.vx_stages.specs.Tests.{volume_in}
 use Rattle.vx_plan_laws.specs.Keeping.{IsLeftUnopened}
-use Rattle.vx_plan_laws.specs.Refusing.{MirrorRefuses, OfGroup, OfVolume, OpeningRefuses, PrepareRefuses, StartRefuses, StopRefuses, UnprepareRefuses}
+use Rattle.vx_plan_laws.specs.Refusing.{AttachRefuses, DetachRefuses, MirrorRefuses, OfGroup, OfVolume, OpeningRefuses, PrepareRefuses, StartRefuses, StopRefuses, UnprepareRefuses}
 
 -- a commit that is stopped is no refusal
 pub not_stopped : (x : Writing) (old : Moment) (r : Refusal) (new : Moment) → IsStopped x old (refused r) new → ⊥
@@ -141,6 +145,45 @@ module _ (old : Moment) (r : Refusal) (new : Moment) where
       by : (o : Option Group) → MatchOption o (EndsIn (refusal.NoGroup None) old (refused r) new) (λ g. UnprepareStopsIn g name old (refused r) new) → new.world ≡ old.world
       by None ends = ends.1.stays.world
       by (Some g) more = (unprepare_refused g name more).1.stays.world
+
+  -- ---- plexes that go out of use and into use
+
+  detach_refused : (g : Group) (name : Word) → DetachStopsIn g name old (refused r) new → (IsDetachRefused (runs_on_plexes old.world) g name (refused r) × Rests old new) ⊎ StopsNeeded name old (refused r) new
+  detach_refused g name (inl is) = inl is
+  detach_refused g name (inr (inl u)) = absurd u.stops.cause
+  detach_refused g name (inr (inr (inl n))) = inr n
+  detach_refused g name (inr (inr (inr c))) = absurd (not_stopped c.stops.0 c.mid r new c.stops.2)
+
+  abbrev Detaches : Word → Option Group → Type 0
+  Detaches name o = MatchOption o (EndsIn (refusal.NoGroup None) old (refused r) new) (λ g. DetachStopsIn g name old (refused r) new)
+
+  pub detach_refuses : (name : Word) (g : Group) → old.world.group ≡ Some g → DetachStops name old (refused r) new → OfGroup old.world (λ g. DetachRefuses name g old r new)
+  detach_refuses name g here stops = (g, here, elim (detach_refused g name (subst (Detaches name) here stops)) [ inl why ↦ inl why.0 | inr needed ↦ inr needed ])
+
+  pub detach_left : (name : Word) → DetachStops name old (refused r) new → (new.world ≡ old.world) ⊎ StopsNeeded name old (refused r) new
+  detach_left name stops = by old.world.group stops
+    where
+      by : (o : Option Group) → Detaches name o → (new.world ≡ old.world) ⊎ StopsNeeded name old (refused r) new
+      by None ends = inl ends.1.stays.world
+      by (Some g) more = elim (detach_refused g name more) [ inl why ↦ inl why.1.stays.world | inr needed ↦ inr needed ]
+
+  attach_refused : (g : Group) (vol name : Word) → AttachStopsIn g vol name old (refused r) new → IsAttachRefused (runs_on_plexes old.world vol) g vol name (refused r) × Rests old new
+  attach_refused g vol name (inl is) = is
+  attach_refused g vol name (inr (inl c)) = absurd (not_stopped c.stops.0 old r new c.stops.2)
+  attach_refused g vol name (inr (inr a)) = absurd a.copied.ends
+
+  abbrev Attaches : (vol name : Word) → Option Group → Type 0
+  Attaches vol name o = MatchOption o (EndsIn (refusal.NoGroup None) old (refused r) new) (λ g. AttachStopsIn g vol name old (refused r) new)
+
+  pub attach_refuses : (vol name : Word) (g : Group) → old.world.group ≡ Some g → AttachStops vol name old (refused r) new → OfGroup old.world (λ g. AttachRefuses vol name g old.world r)
+  attach_refuses vol name g here stops = (g, here, (attach_refused g vol name (subst (Attaches vol name) here stops)).0)
+
+  pub attach_left : (vol name : Word) → AttachStops vol name old (refused r) new → new.world ≡ old.world
+  attach_left vol name stops = by old.world.group stops
+    where
+      by : (o : Option Group) → Attaches vol name o → new.world ≡ old.world
+      by None ends = ends.1.stays.world
+      by (Some g) more = (attach_refused g vol name more).1.stays.world
 
   -- ---- a stop
 

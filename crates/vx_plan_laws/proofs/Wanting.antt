@@ -1,11 +1,12 @@
--- Want of memory leaves the world as the command found it, but for the volume of a start, a mirror or a stop, the records of a new
--- volume, and the volumes of a recovery.
+-- Want of memory leaves the world as the command found it, but for the volume of a start, a mirror, a stop or a plex that goes out of use, the
+-- records of a new volume, and the volumes of a recovery.
 use Rattle.std.proofs.Common.{◌≡◌, ◌∙◌, ◌⊎◌, List, [], ◌∷◌, Option, Some, None, false, refl, subst, inl, inr}
 use Rattle.vx_base.specs.Named.{Word}
 use Rattle.vx_script_words.specs.declared.value.DiskAt.{DiskAt}
 use Rattle.vx_new_volumes.specs.declared.logs.NewLogs.{NewLogs}
 use Rattle.vx_new_volumes.specs.declared.mirror.NewPlex.{NewPlex}
 use Rattle.vx_new_volumes.specs.declared.volume.NewVolume.{NewVolume}
+use Rattle.vx_script_forms.specs.declared.act.Act.TheVariants as act
 use Rattle.vx_script_forms.specs.declared.form.Form.{Form}
 use Rattle.vx_script_forms.specs.declared.form.Form.TheVariants as form
 use Rattle.vx_script.specs.declared.command.Command.{Command}
@@ -13,6 +14,7 @@ use Rattle.vx_moments.specs.Moment.{Moment}
 use Rattle.vx_plans.specs.Plans.{disks_of, new_logs, new_volume, plan_of}
 use Rattle.vx_stages.specs.Stages.{Wants}
 use Rattle.vx_stages.specs.Starting.{StartWants}
+use Rattle.vx_stages.specs.Detached.{DetachWants}
 use Rattle.vx_stages.specs.Logged.{PrepareWants}
 use Rattle.vx_stages.specs.Mirrored.{MirrorWants}
 use Rattle.vx_stages.specs.Stopping.{StopWants}
@@ -31,6 +33,7 @@ wanting_kept : (s : Stage) (old new : Moment) → calls_volume s ≡ false → W
 wanting_kept (stage.Start vol) old new e wants = cc
 wanting_kept (stage.Mirror mirror) old new e wants = cc
 wanting_kept (stage.Prepare logs) old new e wants = cc
+wanting_kept (stage.Detach plex) old new e wants = cc
 wanting_kept (stage.Stop vol) old new e wants = cc
 wanting_kept other old new e wants = wants
 
@@ -69,6 +72,14 @@ stop_left : (gates : List Test) (vol : Word) (old new : Moment) → (new.world �
 stop_left gates vol old new (inl same) = inl same
 stop_left gates vol old new (inr short) = elim (short_behind gates (stage.Stop vol) old new short) [ inl same ↦ inl same | inr wants ↦ wants ]
 
+detach_left : (gates : List Test) (plex : Word) (old new : Moment) → (new.world ≡ old.world) ⊎ RunsShort [] (behind gates (stage.Detach plex)) old new → DetachWants plex old new
+detach_left gates plex old new (inl same) = inl same
+detach_left gates plex old new (inr short) = elim (short_behind gates (stage.Detach plex) old new short) [ inl same ↦ inl same | inr wants ↦ wants ]
+
+attach_left : (gates : List Test) (vol plex : Word) (old new : Moment) → (new.world ≡ old.world) ⊎ RunsShort [] (behind gates (stage.Attach vol plex)) old new → new.world ≡ old.world
+attach_left gates vol plex old new (inl same) = same
+attach_left gates vol plex old new (inr short) = elim (short_behind gates (stage.Attach vol plex) old new short) [ inl same ↦ same | inr same ↦ same ]
+
 -- a new volume: memory is wanting before its records are added, or behind that
 adding_left : (n : NewVolume) (old new : Moment) → RunsShort [] (stage.Make (source.Volume n) ∷ stage.Gate (tests.Stopped n.vol) ∷ stage.Start n.vol ∷ []) old new → (new.world ≡ old.world) ⊎ AddedWants n old new
 adding_left n old new (inl (mid, later, is, short)) = inr (mid, is, start_left (tests.Stopped n.vol ∷ []) n.vol mid new (inr short))
@@ -89,6 +100,8 @@ form_left dg (form.Prepare vol ndcomirs region) old new wants = prepare_left (mi
 form_left dg (form.Stop vol) old new wants = stop_left (stop_gates dg vol) vol old new wants
 form_left dg (form.AssistMake vol length attrs disks) old new wants = new_left dg (new_volume vol length attrs disks) old new wants
 form_left dg (form.Recover vol) old new wants = wants
+form_left dg (form.Acting (act.PlexDet plex)) old new wants = detach_left (mirror_gates dg) plex old new wants
+form_left dg (form.Acting (act.PlexAtt vol plex)) old new wants = attach_left (mirror_gates dg) vol plex old new wants
 form_left dg other old new wants = plan_kept (disks_of other) (plan_of dg other) old new (plan_plain dg other refl) wants
 
 pub each_want_keeps_the_world : (c : Command) (old new : Moment) → LeavesOff c old new → WantLeaves c.form old new

@@ -12,6 +12,7 @@ use Rattle.vx_objects.specs.declared.edit.Edit.TheVariants.{Make}
 use Rattle.vx_objects.specs.Applied.{IsEdited}
 use Rattle.vx_objects.specs.Config.{objects_of}
 use Rattle.vx_script_words.specs.declared.value.DiskAt.{DiskAt}
+use Rattle.vx_script_forms.specs.declared.act.Act.TheVariants as act
 use Rattle.vx_script_forms.specs.declared.form.Form.{Form}
 use Rattle.vx_script_forms.specs.declared.form.Form.TheVariants as form
 use Rattle.vx_answers.specs.declared.answer.End.{End}
@@ -19,7 +20,7 @@ use Rattle.vx_answers.specs.declared.answer.End.TheVariants as ends
 use Rattle.vx_answers.specs.declared.answer.View.{View}
 use Rattle.vx_answers.specs.declared.refusal.Refusal.{Refusal}
 use Rattle.vx_answers.specs.declared.refusal.Refusal.TheVariants as refusal
-use Rattle.vx_moments.specs.World.{World, Group}
+use Rattle.vx_moments.specs.World.{World, Group, Volume}
 use Rattle.vx_moments.specs.Moment.{Moment}
 use Rattle.vx_image.specs.Image.{IsFilled}
 use Rattle.vx_moments.specs.Group.{image_on}
@@ -29,6 +30,8 @@ use Rattle.vx_plans.specs.Laws.{WentWell, HasCarriers}
 use Rattle.vx_stages.specs.Making.{adding_refusal, is_started}
 use Rattle.vx_stages.specs.Sources.{AddsFrom, Denies, growth}
 use Rattle.vx_plans.specs.Plans.{disks_of, new_volume, plan_of}
+use Rattle.vx_stages.specs.Attached.{IsCopyCount}
+use Rattle.vx_stages.specs.Detached.{StopsNeeded}
 use Rattle.vx_stages.specs.Ends.{RefusedAsGrown, RefusedAsLong, refused}
 use Rattle.vx_stages.specs.Stages.{IsDone, OnlyDisk, Stops, edits_of, joining_edit}
 use Rattle.vx_stages.specs.Starting.{HasNoReadCopy, IsFirstMissed, may_start, refusal_at_once, regions_copied}
@@ -36,6 +39,7 @@ use Rattle.vx_plans.specs.Steps.{Runs, done}
 use Rattle.vx_new_volumes.specs.declared.logs.NewLogs.{NewLogs}
 use Rattle.vx_stages.specs.Logging.{IsPrepareRefused, IsUnprepareRefused}
 use Rattle.vx_stages.specs.Mirroring.{IsMirrorRefused}
+use Rattle.vx_stages.specs.Plexes.{IsAttachRefused, IsDetachRefused}
 use Rattle.vx_stages.specs.Stopping.{is_active, runs_on_plexes}
 use Rattle.vx_stages.specs.Tests.{volume_in}
 use Rattle.vx_stages.specs.declared.stage.Source.TheVariants as source
@@ -89,6 +93,15 @@ PrepareRefuses n g w r = IsPrepareRefused (runs_on_plexes w n.vol) g n (refused 
 abbrev pub UnprepareRefuses : Word → Group → Refusal → Type 0
 UnprepareRefuses name g r = IsUnprepareRefused g name (refused r)
 
+-- A plex does not go out of use: a test refuses that, or its edit breaks a rule, or the text would be too long; or its volume has come to rest, and
+-- some region has no other plex that is current.
+abbrev pub DetachRefuses : Word → Group → Moment → Refusal → Moment → Type 0
+DetachRefuses plex g old r new = IsDetachRefused (runs_on_plexes old.world) g plex (refused r) ⊎ StopsNeeded plex old (refused r) new
+
+-- A plex does not go into use: a test refuses that, or its edit breaks a rule, or the text would be too long.
+abbrev pub AttachRefuses : (vol plex : Word) → Group → World → Refusal → Type 0
+AttachRefuses vol plex g w r = IsAttachRefused (runs_on_plexes w vol) g vol plex (refused r)
+
 -- A volume is not stopped: it does not run, or its state does not fit; or the text would be too long.
 abbrev pub StopRefuses : Word → Group → Vol → World → Refusal → Type 0
 StopRefuses name g v w r =
@@ -99,8 +112,8 @@ StopRefuses name g v w r =
 
 -- A stage of a plan refuses its command. One that changes a configuration does so where the text would be too long; one that
 -- adds records, where there are none or a test of the records refuses them, too; one by which a disk joins, where the
--- disk's name is taken; and a start, a mirror, a stop and logs that come and go by what they find of their volume. Any other
--- stage has tests alone.
+-- disk's name is taken; and a start, a mirror, a stop, logs that come and go and plexes that go out of use and into use by what they
+-- find of their volume. Any other stage has tests alone.
 abbrev pub Refuses : Stage → List DiskAt → Moment → Refusal → Moment → Type 0
 Refuses (stage.Change change) disks old r new = OfGroup old.world (λ g. IsTooLong (edits_of change (Some g)) g r)
 Refuses (stage.Make from) disks old r new =
@@ -113,6 +126,8 @@ Refuses (stage.Start vol) disks old r new = OfGroup old.world (λ g. OfVolume vo
 Refuses (stage.Mirror mirror) disks old r new = OfGroup old.world (λ g. MirrorRefuses mirror.vol mirror.disks g old.world r)
 Refuses (stage.Prepare logs) disks old r new = OfGroup old.world (λ g. PrepareRefuses logs g old.world r)
 Refuses (stage.Unprepare vol) disks old r new = OfGroup old.world (λ g. UnprepareRefuses vol g r)
+Refuses (stage.Detach plex) disks old r new = OfGroup old.world (λ g. DetachRefuses plex g old r new)
+Refuses (stage.Attach vol plex) disks old r new = OfGroup old.world (λ g. AttachRefuses vol plex g old.world r)
 Refuses (stage.Stop vol) disks old r new = OfGroup old.world (λ g. OfVolume vol g (λ v. StopRefuses vol g v old.world r))
 Refuses other disks old r new = Stops other disks old (refused r) new
 
@@ -126,8 +141,8 @@ abbrev pub OneRefuses : List Stage → List DiskAt → Moment → Refusal → Mo
 OneRefuses [] disks old r new = ⊥
 OneRefuses (s ∷ ss) disks old r new = Refuses s disks old r new ⊎ ((mid : Moment) × IsPassed s disks old mid × OneRefuses ss disks mid r new)
 
--- no command of a plan is refused by a rule of a configuration behind its tests, but adddisk for a name, and a mirror and logs whose edits break
--- one
+-- no command of a plan is refused by a rule of a configuration behind its tests, but adddisk for a name, and a mirror, logs and the state of a
+-- plex whose edits break one
 abbrev pub EachRefusalIsTested : Type 0
 EachRefusalIsTested =
     (dg : Option Word) (f : Form) (plan : Plan) (old : Moment) (views : List View) (r : Refusal) (new : Moment)
@@ -142,13 +157,18 @@ TellsCopied vol w end = OfGroup w (λ g. OfVolume vol g (λ v. end ≡ ends.Done
 abbrev pub TellsMirrored : Word → World → End → Type 0
 TellsMirrored vol w end = OfGroup w (λ g. OfVolume vol g (λ v. end ≡ ends.Done (Some (region_count v.len v.region)) [] []))
 
+-- a plex that goes into use tells how many regions were copied: those that it missed, as its volume ran before
+abbrev pub TellsAttached : (vol plex : Word) → World → End → Type 0
+TellsAttached vol plex w end = (run : Volume) × (w.volumes vol ≡ Some run) × (count : ℕ) × (end ≡ ends.Done (Some count) [] []) × IsCopyCount run plex count
+
 -- all is done: a start tells how many regions it has copied, also that of a new volume, behind the moment in which its records are added,
--- and so does a mirror; and nothing else is told
+-- and so do a mirror and a plex that goes into use; and nothing else is told
 abbrev pub IsDoneBy : Form → Moment → End → Type 0
 IsDoneBy (form.Start vol) old end = TellsCopied vol old.world end
 IsDoneBy (form.AssistMake vol length attrs disks) old end =
     (mid : Moment) × IsDone (stage.Make (source.Volume (new_volume vol length attrs disks))) [] old mid × TellsCopied vol mid.world end
 IsDoneBy (form.Mirror vol disks) old end = TellsMirrored vol old.world end
+IsDoneBy (form.Acting (act.PlexAtt vol plex)) old end = TellsAttached vol plex old.world end
 IsDoneBy other old end = end ≡ done
 
 -- where nothing failed and the power stayed, all is done, or a stage has refused so

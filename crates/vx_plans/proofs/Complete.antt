@@ -1,6 +1,8 @@
 -- Where nothing failed and the power stayed, a plan is done, or a test has refused it.
 use Rattle.std.proofs.Common.{◌≡◌, ◌≢◌, ℕ, MatchOption, MatchBool, Bool, true, false, List, [], ◌∷◌, ◌++◌, Option, Some, None, refl, sym, ap, subst, inl, inr}
 use Rattle.vx_base.specs.Named.{Word}
+use Rattle.vx_script_forms.specs.declared.act.Act.{Act}
+use Rattle.vx_script_forms.specs.declared.act.Act.TheVariants as act
 use Rattle.vx_script_forms.specs.declared.form.Form.{Form}
 use Rattle.vx_script_forms.specs.declared.form.Form.TheVariants as form
 use Rattle.vx_script_forms.specs.declared.form.WordPolicy.{WordPolicy}
@@ -10,6 +12,7 @@ use Rattle.vx_answers.specs.declared.answer.End.{End}
 use Rattle.vx_answers.specs.declared.answer.End.TheVariants as ends
 use Rattle.vx_answers.specs.declared.refusal.Refusal.{Refusal}
 use Rattle.vx_answers.specs.declared.refusal.Refusal.TheVariants as refusal
+use Rattle.vx_config_parts.specs.declared.state.PlexState.TheVariants as plex_state
 use Rattle.vx_config_parts.specs.declared.vol.Vol.{Vol}
 use Rattle.vx_objects.specs.declared.config.Config.{Config}
 use Rattle.vx_objects.specs.declared.edit.Edit.{Edit}
@@ -21,14 +24,17 @@ use Rattle.vx_mask.specs.Mask.{has}
 use Rattle.vx_answers.specs.declared.answer.View.{View}
 use Rattle.vx_moments.specs.Commit.{Writing, IsStopped, is_written_slot, parties}
 use Rattle.vx_moments.specs.Moment.{Moment, AreLater, Counts, HasFailed}
-use Rattle.vx_moments.specs.World.{Group, Member, World}
+use Rattle.vx_moments.specs.World.{Group, Member, Volume, World}
+use Rattle.vx_stages.specs.Attached.{AttachEnds, AttachStopsIn, IsAttachedBy}
+use Rattle.vx_stages.specs.Detached.{DetachStopsIn}
 use Rattle.vx_stages.specs.Ends.{EndsIn}
 use Rattle.vx_stages.specs.Logged.{IsLogWritten, PrepareStopsIn, UnprepareStopsIn, by_config}
 use Rattle.vx_stages.specs.Logging.{AreEditsRefused, IsPrepareRefused, IsUnprepareRefused}
 use Rattle.vx_stages.specs.Mirrored.{IsMirroredBy, MirrorEnds, MirrorStopsIn}
 use Rattle.vx_stages.specs.Mirroring.{IsMirrorRefused}
 use Rattle.vx_plans.specs.Laws.{WentWell, IsDoneOrRefused, HasCarriers}
-use Rattle.vx_plans.specs.Plans.{disks_of, ending, plan_of, plan_print}
+use Rattle.vx_plans.specs.Plans.{disks_of, ending, plan_of, plan_of_act, plan_print}
+use Rattle.vx_stages.specs.Plexes.{IsAttachRefused, IsDetachRefused, state_edits}
 use Rattle.vx_stages.specs.Records.{devices_of}
 use Rattle.vx_stages.specs.Stages.{IsDone, Stops, DeviceEnds, FailsAt, TakingStops, LookingStops}
 use Rattle.vx_stages.specs.Starting.{CopyEnds, IsStartedBy, StopsIn, StopsOf, may_start}
@@ -59,6 +65,8 @@ IsCarried (stage.Start vol) disks w = IsAlive w
 IsCarried (stage.Mirror mirror) disks w = IsAlive w
 IsCarried (stage.Prepare logs) disks w = IsAlive w
 IsCarried (stage.Unprepare vol) disks w = IsAlive w
+IsCarried (stage.Detach plex) disks w = IsAlive w
+IsCarried (stage.Attach vol plex) disks w = IsAlive w
 IsCarried (stage.Stop vol) disks w = IsAlive w
 IsCarried other disks w = Unit {0}
 
@@ -115,6 +123,14 @@ module _ (old new : Moment) (well : WentWell old new) where
   copying_mirror now v ends.ShelfFailed cause = absurd cause
   copying_mirror now v ends.GroupLost cause = absurd cause
 
+  copying_attach : (now : Group) (vol : Word) (before : Volume) (plex : Word) (end : End) → AttachEnds now vol before plex old.counts new.counts end → IsDoneOrRefused end
+  copying_attach now vol before plex (ends.Done copied parts blocks) (count, none, bare) = inl (copied, tells copied parts blocks none bare)
+  copying_attach now vol before plex (ends.Fault told device parts) cause = absurd (passing now vol (ends.Fault told device parts) cause)
+  copying_attach now vol before plex (ends.Lost parts) cause = absurd (passing now vol (ends.Lost parts) cause)
+  copying_attach now vol before plex (ends.Refused r) cause = absurd cause
+  copying_attach now vol before plex ends.ShelfFailed cause = absurd cause
+  copying_attach now vol before plex ends.GroupLost cause = absurd cause
+
 -- a mirror that is refused ends by a refusal
 pub refused_mirror : (runs : Bool) (g : Group) (name : Word) (named : List Word) (end : End) → IsMirrorRefused runs g name named end → (r : Refusal) × (end ≡ ends.Refused r)
 refused_mirror runs g name named end (inl (r, unfit, is)) = (r, is)
@@ -137,6 +153,16 @@ refused_prepare runs g n end (inr (v, found, fits, inr (plex, added, edits, laid
 pub refused_unprepare : (g : Group) (name : Word) (end : End) → IsUnprepareRefused g name end → (r : Refusal) × (end ≡ ends.Refused r)
 refused_unprepare g name end (inl (r, unfit, is)) = (r, is)
 refused_unprepare g name end (inr (v, plex, edits, loses, why)) = edits_refused g.config edits end why
+
+-- .. and what refuses a plex that is to go out of use, ..
+pub refused_detach : (runs : Word → Bool) (g : Group) (name : Word) (end : End) → IsDetachRefused runs g name end → (r : Refusal) × (end ≡ ends.Refused r)
+refused_detach runs g name end (inl (r, unfit, is)) = (r, is)
+refused_detach runs g name end (inr (v, p, may, why)) = edits_refused g.config (state_edits v.name p plex_state.Stale) end why
+
+-- .. or into use
+pub refused_attach : (runs : Bool) (g : Group) (vol name : Word) (end : End) → IsAttachRefused runs g vol name end → (r : Refusal) × (end ≡ ends.Refused r)
+refused_attach runs g vol name end (inl (r, unfit, is)) = (r, is)
+refused_attach runs g vol name end (inr (v, p, may, why)) = edits_refused g.config (state_edits v.name p plex_state.Active) end why
 
 -- a group that has a good disk has it still
 alive_still : (old new : World) → new.group ≡ old.group → IsAlive old → IsAlive new
@@ -217,6 +243,31 @@ module _ (old new : Moment) (well : WentWell old new) (alive : IsAlive old.world
   unprepares name end None ends = inr (_, ends.0)
   unprepares name end (Some g) stops = unprepares_in g name end stops
 
+  detaches_in : (g : Group) (name : Word) (end : End) → DetachStopsIn g name old end new → IsDoneOrRefused end
+  detaches_in g name end (inl (refused, rests)) = inr (refused_detach (runs_on_plexes old.world) g name end refused)
+  detaches_in g name end (inr (inl u)) = absurd (passing old new well u.stops.rest.group u.volume.name end u.stops.cause)
+  detaches_in g name end (inr (inr (inl n))) = inr (_, n.end_is)
+  detaches_in g name end (inr (inr (inr c))) =
+      stopping c.mid new (well_after old c.mid new c.rested.rest.later c.rest well) c.stops.0 end
+      (by_group c.mid.world c.stops.0 c.stops.1.group c.stops.1.carriers (alive_still old.world c.mid.world (ap (λ (w : World). w.group) c.rested.rest.goes.world) alive)) c.stops.2
+
+  detaches : (name : Word) (end : End) (o : Option Group) → MatchOption o (EndsIn (refusal.NoGroup None) old end new) (λ g. DetachStopsIn g name old end new) → IsDoneOrRefused end
+  detaches name end None ends = inr (_, ends.0)
+  detaches name end (Some g) stops = detaches_in g name end stops
+
+  attached_later : (g : Group) (vol name : Word) (attached : Moment) → IsAttachedBy g vol name old attached → AreLater old.counts attached.counts
+  attached_later g vol name attached s = subst (λ (c : Counts). AreLater old.counts c) (sym s.goes.counts) s.rest
+
+  attaches_in : (g : Group) (vol name : Word) (end : End) → AttachStopsIn g vol name old end new → IsDoneOrRefused end
+  attaches_in g vol name end (inl (refused, rests)) = inr (refused_attach (runs_on_plexes old.world vol) g vol name end refused)
+  attaches_in g vol name end (inr (inl c)) = stopping old new well c.stops.0 end (by_group old.world c.stops.0 c.stops.1.group c.stops.1.carriers alive) c.stops.2
+  attaches_in g vol name end (inr (inr a)) =
+      copying_attach a.attached new (well_after old a.attached new (attached_later g vol name a.attached a.is) a.rest well) a.copied.group a.is.volume.name a.is.goes.volume name end a.copied.ends
+
+  attaches : (vol name : Word) (end : End) (o : Option Group) → MatchOption o (EndsIn (refusal.NoGroup None) old end new) (λ g. AttachStopsIn g vol name old end new) → IsDoneOrRefused end
+  attaches vol name end None ends = inr (_, ends.0)
+  attaches vol name end (Some g) stops = attaches_in g vol name end stops
+
   ends_stop : (name : Word) (end : End) → StopStops name old end new → IsDoneOrRefused end
   ends_stop name end (inl (inl (r, e, is), rests)) = inr (r, is)
   ends_stop name end (inl (inr (g, here, none, (v, found, (next, edited, (text, printed, long, is)))), rests)) = inr (_, is)
@@ -270,6 +321,8 @@ stops_well (stage.Start vol) disks old new end well carried stops = starts old n
 stops_well (stage.Mirror mirror) disks old new end well carried stops = mirrors old new well carried mirror.vol mirror.disks end old.world.group stops
 stops_well (stage.Prepare logs) disks old new end well carried stops = prepares old new well carried logs end old.world.group stops
 stops_well (stage.Unprepare vol) disks old new end well carried stops = unprepares old new well carried vol end old.world.group stops
+stops_well (stage.Detach plex) disks old new end well carried stops = detaches old new well carried plex end old.world.group stops
+stops_well (stage.Attach vol plex) disks old new end well carried stops = attaches old new well carried vol plex end old.world.group stops
 stops_well (stage.Stop vol) disks old new end well carried stops = ends_stop old new well carried vol end stops
 
 -- the stage changes nothing of the world
@@ -304,6 +357,8 @@ kept_world (stage.Start vol) disks old mid keeps done = cc
 kept_world (stage.Mirror mirror) disks old mid keeps done = cc
 kept_world (stage.Prepare logs) disks old mid keeps done = cc
 kept_world (stage.Unprepare vol) disks old mid keeps done = cc
+kept_world (stage.Detach plex) disks old mid keeps done = cc
+kept_world (stage.Attach vol plex) disks old mid keeps done = cc
 kept_world (stage.Stop vol) disks old mid keeps done = cc
 
 -- behind a stage this holds of the world: one that adds records leaves any in which the group has a good disk, each other one keeps the world
@@ -345,6 +400,8 @@ behind (stage.Start vol) disks old mid Holds is done = cc
 behind (stage.Mirror mirror) disks old mid Holds is done = cc
 behind (stage.Prepare logs) disks old mid Holds is done = cc
 behind (stage.Unprepare vol) disks old mid Holds is done = cc
+behind (stage.Detach plex) disks old mid Holds is done = cc
+behind (stage.Attach vol plex) disks old mid Holds is done = cc
 behind (stage.Stop vol) disks old mid Holds is done = cc
 
 pub runs_later : (disks : List DiskAt) (stages : List Stage) (finish : Finish) (old : Moment) (views : List View) (end : End) (new : Moment) → Runs disks stages finish old views end new → AreLater old.counts new.counts
@@ -379,6 +436,14 @@ print_shaped : (dg vol : Option Word) (finish : Finish) (w : World) → IsPlanSh
 print_shaped dg None finish w = tt
 print_shaped dg (Some vol) finish w = (tt, (refl, tt))
 
+act_shaped : (dg : Option Word) (a : Act) (w : World) → IsAlive w → IsPlanShaped (plan_of_act dg a) [] w
+act_shaped dg (act.PlexDet plex) w alive = (tt, (refl, alive))
+act_shaped dg (act.PlexAtt vol plex) w alive = (tt, (refl, alive))
+act_shaped dg (act.SnapMake vol snap plex) w alive = tt
+act_shaped dg (act.Reattach snap vol) w alive = tt
+act_shaped dg (act.Restore vol snap) w alive = tt
+act_shaped dg (act.Snapback snap from) w alive = tt
+
 plan_shaped : (dg : Option Word) (f : Form) (w : World) → HasCarriers f w → IsPlanShaped (plan_of dg f) (disks_of f) w
 unfolding plan_of
 plan_shaped dg (form.MkImage device length) w has = tt
@@ -405,7 +470,7 @@ plan_shaped dg (form.Dis snap) w has = tt
 plan_shaped dg (form.Split snap) w has = tt
 plan_shaped dg (form.PrintSnaps vol) w has = tt
 plan_shaped dg (form.Recover vol) w has = tt
-plan_shaped dg (form.Acting act) w has = tt
+plan_shaped dg (form.Acting act) w has = act_shaped dg act w has.group
 plan_shaped dg (form.Calling call) w has = tt
 plan_shaped dg (form.Sessions block) w has = tt
 

@@ -3,6 +3,8 @@ use Rattle.std.specs.Prelude.{ℕ, nat_lt, min, if◌then◌else◌, Option, Som
 use Rattle.vx_base.specs.Named.{Word}
 use Rattle.vx_config_parts.specs.declared.vol.PolicyName.TheVariants as policy
 use Rattle.vx_script_words.specs.declared.value.DiskAt.{DiskAt}
+use Rattle.vx_script_forms.specs.declared.act.Act.{Act}
+use Rattle.vx_script_forms.specs.declared.act.Act.TheVariants as act
 use Rattle.vx_script_forms.specs.declared.form.Form.{Form}
 use Rattle.vx_script_forms.specs.declared.form.Form.TheVariants as form
 use Rattle.vx_script_forms.specs.declared.form.MakeAttrs.{MakeAttrs}
@@ -120,6 +122,14 @@ plan_prepare dg logs = stage.Gate (tests.GroupIs dg) ∷ stage.Prepare logs ∷ 
 abbrev pub plan_unprepare : Option Word → Word → List Stage
 plan_unprepare dg vol = stage.Gate (tests.GroupIs dg) ∷ stage.Unprepare vol ∷ []
 
+-- `vxplex det PLEX`
+abbrev pub plan_detach : Option Word → Word → List Stage
+plan_detach dg plex = stage.Gate (tests.GroupIs dg) ∷ stage.Detach plex ∷ []
+
+-- `vxplex att VOL PLEX`: it ends the command
+abbrev pub plan_attach : Option Word → (vol plex : Word) → List Stage
+plan_attach dg vol plex = stage.Gate (tests.GroupIs dg) ∷ stage.Attach vol plex ∷ []
+
 -- `vxassist remove volume VOL`
 abbrev pub plan_remove : Option Word → Word → List Stage
 plan_remove dg vol =
@@ -139,6 +149,12 @@ plan_stop dg vol = stage.Gate (tests.GroupIs dg) ∷ stage.Gate (tests.HasVolume
 abbrev pub plan_print : Option Word → Option Word → List Stage
 plan_print dg None = stage.Gate (tests.GroupIs dg) ∷ []
 plan_print dg (Some vol) = stage.Gate (tests.GroupIs dg) ∷ stage.Gate (tests.HasVolume vol) ∷ []
+
+-- the plan of an act, where it is built
+abbrev pub plan_of_act : Option Word → Act → Option Plan
+plan_of_act dg (act.PlexDet plex) = doing (plan_detach dg plex)
+plan_of_act dg (act.PlexAtt vol plex) = doing (plan_attach dg vol plex)
+plan_of_act dg other = None
 
 -- the plan of a form, where it is built as one; the word is that of `-g`
 unfoldable pub plan_of : Option Word → Form → Option Plan
@@ -160,6 +176,7 @@ plan_of dg (form.Unprepare vol) = doing (plan_unprepare dg vol)
 plan_of dg (form.Mirror vol disks) = doing (plan_mirror dg (record { vol = vol; disks = disks }))
 plan_of dg (form.Start vol) = doing (plan_start dg vol)
 plan_of dg (form.Stop vol) = doing (plan_stop dg vol)
+plan_of dg (form.Acting act) = plan_of_act dg act
 plan_of dg other = None
 
 -- the disks that a form names

@@ -1,6 +1,6 @@
 //! The plan of each form.
 ghost use Rattle.std.specs.Prelude.{◌≡◌, IfOk};
-ghost use Rattle.vx_plans.specs.Plans.{columns_of, doing, ending, logs_of, new_logs, new_volume, or_else, plan_add, plan_bare, plan_deport, plan_init, plan_make, plan_mirror, plan_new, plan_of, plan_prepare, plan_print, plan_rdpol, plan_remove, plan_start, plan_stop, plan_unprepare, plan_unsetup};
+ghost use Rattle.vx_plans.specs.Plans.{columns_of, doing, ending, logs_of, new_logs, new_volume, or_else, plan_add, plan_attach, plan_bare, plan_deport, plan_detach, plan_init, plan_make, plan_mirror, plan_new, plan_of, plan_of_act, plan_prepare, plan_print, plan_rdpol, plan_remove, plan_start, plan_stop, plan_unprepare, plan_unsetup};
 ghost use Rattle.vx_plans.specs.declared.stages.Finish.TheVariants.{Hierarchy, Records};
 ghost use Rattle.vx_stages.specs.declared.stage.Change.TheVariants as changes;
 ghost use Rattle.vx_stages.specs.declared.stage.Stage.TheVariants as stages;
@@ -12,7 +12,7 @@ use vx_config_parts::PolicyName;
 use vx_names::Name;
 use vx_new_volumes::{NewLogs, NewPlex, NewVolume, Request};
 use vx_objects::Listed;
-use vx_script_forms::{Form, MakeAttrs, WordLayout, WordPolicy};
+use vx_script_forms::{Act, Form, MakeAttrs, WordLayout, WordPolicy};
 use vx_script_words::{Bytes, Names};
 use vx_stages::{Change, Source, Stage, Test};
 
@@ -57,6 +57,18 @@ pub fn plan(alloc: Global, group: Option<Name>, form: &Form) -> Result<Option<Pl
         Form::Unprepare { vol } => unprepare(alloc, group, *vol),
         Form::Start { vol } => start(alloc, group, *vol),
         Form::Stop { vol } => stop(alloc, group, *vol),
+        Form::Acting(act) => plan_of_act(alloc, group, act),
+        _ => Ok(None),
+    }
+}
+
+/// The plan of an act, where it is built.
+fn plan_of_act(alloc: Global, group: Option<Name>, act: &Act) -> Result<Option<Plan>, OutOfMemory>
+    ensures { IfOk result (λ plan. plan ≡ plan_of_act group act.now) }
+{
+    match act {
+        Act::PlexDet { plex } => detach(alloc, group, *plex),
+        Act::PlexAtt { vol, plex } => attach(alloc, group, *vol, *plex.get()),
         _ => Ok(None),
     }
 }
@@ -328,6 +340,32 @@ fn unprepare(alloc: Global, group: Option<Name>, vol: Name) -> Result<Option<Pla
     doing(
         alloc,
         [Stage::Gate(Test::GroupIs(group)), Stage::Unprepare(vol)],
+    )
+}
+
+fn detach(alloc: Global, group: Option<Name>, plex: Name) -> Result<Option<Plan>, OutOfMemory>
+    ensures { IfOk result (λ plan. plan ≡ doing (plan_detach group plex)) }
+{
+    doing(
+        alloc,
+        [Stage::Gate(Test::GroupIs(group)), Stage::Detach(plex)],
+    )
+}
+
+fn attach(
+    alloc: Global,
+    group: Option<Name>,
+    vol: Name,
+    plex: Name,
+) -> Result<Option<Plan>, OutOfMemory>
+    ensures { IfOk result (λ plan. plan ≡ doing (plan_attach group vol plex)) }
+{
+    doing(
+        alloc,
+        [
+            Stage::Gate(Test::GroupIs(group)),
+            Stage::Attach { vol, plex },
+        ],
     )
 }
 

@@ -2,6 +2,7 @@
 use Rattle.std.proofs.Common.{◌≤◌, ◌^◌, ℕ, List, Option, Some, None, refl, inl, inr}
 use Rattle.vx_base.specs.Named.{Word}
 use Rattle.vx_script_words.specs.declared.value.DiskAt.{DiskAt}
+use Rattle.vx_script_forms.specs.declared.act.Act.TheVariants as act
 use Rattle.vx_script_forms.specs.declared.form.Form.{Form}
 use Rattle.vx_script_forms.specs.declared.form.Form.TheVariants as form
 use Rattle.vx_script_forms.specs.declared.form.WordPolicy.{WordPolicy}
@@ -83,6 +84,11 @@ plan_sound dg (form.Dis snap) size = tt
 plan_sound dg (form.Split snap) size = tt
 plan_sound dg (form.PrintSnaps vol) size = tt
 plan_sound dg (form.Recover vol) size = tt
-plan_sound dg (form.Acting act) size = tt
+plan_sound dg (form.Acting (act.SnapMake vol snap plex)) size = tt
+plan_sound dg (form.Acting (act.Reattach snap vol)) size = tt
+plan_sound dg (form.Acting (act.Restore vol snap)) size = tt
+plan_sound dg (form.Acting (act.Snapback snap from)) size = tt
+plan_sound dg (form.Acting (act.PlexDet plex)) size = record { fed = ((λ is. cc, tt), ((λ is. cc, tt), tt)); kept = tt; sized = (tt, (tt, tt)); shows = tt }
+plan_sound dg (form.Acting (act.PlexAtt vol plex)) size = record { fed = ((λ is. cc, tt), ((λ is. cc, tt), tt)); kept = tt; sized = (tt, (tt, tt)); shows = tt }
 plan_sound dg (form.Calling call) size = tt
 plan_sound dg (form.Sessions block) size = tt

@@ -95,6 +95,8 @@ module _ {P : Type 0} {ghosts : Ghosts P} (see : P → Seen) (disks : List DiskA
       by (stage.Mirror mirror) keeps first still = cc
       by (stage.Prepare logs) keeps first still = cc
       by (stage.Unprepare vol) keeps first still = cc
+      by (stage.Detach plex) keeps first still = cc
+      by (stage.Attach vol plex) keeps first still = cc
       by (stage.Stop vol) keeps first still = cc
 
   -- what is given behind a stage: all that was, or where it changed the world, nothing

@@ -134,4 +134,6 @@ module _ {P : Type 0} {ghosts : Ghosts P} (see : P → Seen) (h k : House P ghos
   gives_still (stage.Mirror mirror) disks gives = tt
   gives_still (stage.Prepare logs) disks gives = tt
   gives_still (stage.Unprepare vol) disks gives = tt
+  gives_still (stage.Detach plex) disks gives = tt
+  gives_still (stage.Attach vol plex) disks gives = tt
   gives_still (stage.Stop vol) disks gives = tt

@@ -28,4 +28,6 @@ world_kept (stage.Start vol) disks m n keeps done = cc
 world_kept (stage.Mirror mirror) disks m n keeps done = cc
 world_kept (stage.Prepare logs) disks m n keeps done = cc
 world_kept (stage.Unprepare vol) disks m n keeps done = cc
+world_kept (stage.Detach plex) disks m n keeps done = cc
+world_kept (stage.Attach vol plex) disks m n keeps done = cc
 world_kept (stage.Stop vol) disks m n keeps done = cc

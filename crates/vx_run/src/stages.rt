@@ -16,7 +16,7 @@ use vx_stage_changes::{create, join, make};
 use vx_stage_devices::{look_blank, look_disks, look_headed, make_image, search, start_bare, wipe};
 use vx_stage_gates::failing;
 use vx_stage_import::import;
-use vx_stage_mirrors::{mirror, prepare, unprepare};
+use vx_stage_mirrors::{attach, detach, mirror, prepare, unprepare};
 use vx_stage_volumes::{start, stop};
 use vx_stages::{Stage, Test};
 
@@ -54,6 +54,8 @@ pub(crate) fn run_stage<S: Shelf>(
         Stage::Mirror(new) => mirror(alloc, house, new),
         Stage::Prepare(new) => prepare(alloc, house, new),
         Stage::Unprepare(vol) => unprepare(alloc, house, vol),
+        Stage::Detach(plex) => detach(alloc, house, plex),
+        Stage::Attach { vol, plex } => attach(alloc, house, vol, plex),
         Stage::Stop(vol) => stop(alloc, house, vol),
     }
 }

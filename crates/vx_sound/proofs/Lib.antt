@@ -20,6 +20,7 @@ pub mod Commits
 pub mod Running
 pub mod Recoveries
 pub mod Logs
+pub mod Plexes
 pub mod Runs
 pub mod Steps
 pub mod Wants

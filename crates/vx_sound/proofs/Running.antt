@@ -49,7 +49,7 @@ standing_touched g name old new t s =
     (λ other lent. lent) refl s s.names s.volumes)
 
 -- the started volume is another, on plexes
-standing_run : (g : Group) (name : Word) (later : Volume) (plexes : List Word) (old new : Moment) → later.lies ≡ OnPlexes plexes → lone (old.world.volumes name) ≡ None → VolumeGoes g name later old new → IsStanding old.world → IsStanding new.world
+pub standing_run : (g : Group) (name : Word) (later : Volume) (plexes : List Word) (old new : Moment) → later.lies ≡ OnPlexes plexes → lone (old.world.volumes name) ≡ None → VolumeGoes g name later old new → IsStanding old.world → IsStanding new.world
 standing_run g name later plexes old new lies was goes s =
     subst IsStanding (sym goes.world)
     (standing_goes name new.world.devices (Some later) old.world was (lone_plexes later plexes lies) (λ other. behind_private g name other (old.world.devices other) (new.world.devices other) (goes.changes other)) s)

@@ -8,6 +8,7 @@ use Rattle.vx_mask.proofs.Tests.{or_neither}
 use Rattle.vx_config_parts.specs.declared.vol.PolicyName.TheVariants as policy
 use Rattle.vx_objects.specs.declared.edit.Edit.{Edit}
 use Rattle.vx_script_words.specs.declared.value.DiskAt.{DiskAt}
+use Rattle.vx_script_forms.specs.declared.act.Act.TheVariants as act
 use Rattle.vx_script_forms.specs.declared.form.Form.{Form}
 use Rattle.vx_script_forms.specs.declared.form.Form.TheVariants as form
 use Rattle.vx_script_forms.specs.declared.form.WordPolicy.{WordPolicy}
@@ -54,6 +55,7 @@ use Rattle.vx_sound.proofs.Runs.{AreCalm, AllPassed, Through, runs_through}
 use Rattle.vx_sound.proofs.Settlement.{settled, standing_gone, standing_left}
 use Rattle.vx_sound.proofs.Names.{IsApart, create_apart}
 use Rattle.vx_sound.proofs.Logs.{prepare_done, prepare_ends, unprepare_done, unprepare_ends}
+use Rattle.vx_sound.proofs.Plexes.{attach_ends, detach_done, detach_ends}
 use Rattle.vx_sound.proofs.Running.{mirror_ends, start_ends, stop_done, stop_ends}
 use Rattle.vx_sound.proofs.Volumes.{standing_bare, standing_served}
 
@@ -224,6 +226,12 @@ module _ (views : List View) (end : End) (new : Moment) where
   unpreparing_ends : (vol : Word) (mid : Moment) → IsStanding mid.world → Runs [] (stage.Unprepare vol ∷ []) Nothing mid views end new → Ends end new.world
   unpreparing_ends vol mid s runs = one_stage (stage.Unprepare vol) [] Nothing mid views end new (λ m done. unprepare_done mid s vol m done) (λ stops. unprepare_ends mid s end new vol stops) runs
 
+  detaching_ends : (plex : Word) (mid : Moment) → IsStanding mid.world → Runs [] (stage.Detach plex ∷ []) Nothing mid views end new → Ends end new.world
+  detaching_ends plex mid s runs = one_stage (stage.Detach plex) [] Nothing mid views end new (λ m done. detach_done mid s plex m done) (λ stops. detach_ends mid s end new plex stops) runs
+
+  attaching_ends : (vol plex : Word) (mid : Moment) → IsStanding mid.world → Runs [] (stage.Attach vol plex ∷ []) Nothing mid views end new → Ends end new.world
+  attaching_ends vol plex mid s runs = one_stage (stage.Attach vol plex) [] Nothing mid views end new (λ m done. absurd done) (λ stops. attach_ends mid s vol plex end new stops) runs
+
   shown_ends : (finish : Finish) (mid : Moment) → IsStanding mid.world → Runs [] [] finish mid views end new → Ends end new.world
   shown_ends finish mid s runs = inl (subst (λ (n : Moment). IsStanding n.world) (sym runs.2) s)
 
@@ -308,7 +316,16 @@ module _ (old : Moment) (views : List View) (end : End) (new : Moment) (s : IsSt
   form_ends place dg (form.Split snap) none does = not_built does
   form_ends place dg (form.PrintSnaps vol) none does = not_built does
   form_ends place dg (form.Recover vol) none does = recover_ends dg vol old views end new s does.1
-  form_ends place dg (form.Acting act) none does = not_built does
+  form_ends place dg (form.Acting (act.PlexDet plex)) none does =
+      let calm = stage.Gate (tests.GroupIs dg) ∷ [] in
+      at_last calm (stage.Detach plex ∷ []) [] Nothing old views end new s (λ mid t passed runs. detaching_ends views end new plex mid t runs) (runs_through calm (stage.Detach plex ∷ []) [] Nothing old views end new (refl, tt) does)
+  form_ends place dg (form.Acting (act.PlexAtt vol plex)) none does =
+      let calm = stage.Gate (tests.GroupIs dg) ∷ [] in
+      at_last calm (stage.Attach vol plex ∷ []) [] Nothing old views end new s (λ mid t passed runs. attaching_ends views end new vol plex mid t runs) (runs_through calm (stage.Attach vol plex ∷ []) [] Nothing old views end new (refl, tt) does)
+  form_ends place dg (form.Acting (act.SnapMake vol snap plex)) none does = not_built does
+  form_ends place dg (form.Acting (act.Reattach snap vol)) none does = not_built does
+  form_ends place dg (form.Acting (act.Restore vol snap)) none does = not_built does
+  form_ends place dg (form.Acting (act.Snapback snap from_replica)) none does = not_built does
   form_ends place dg (form.Sessions block) none does = not_built does
 
   pub command_ends : (place : ℕ) (c : Command) → FormWritesNoHeader c.form → Does place c old views end new → Ends end new.world

@@ -3,6 +3,7 @@ use Rattle.std.proofs.Common.{◌≡◌, ◌&&◌, ℕ, Bool, true, List, [], �
 use Rattle.std.proofs.lemmas.Bool.{and_parts}
 use Rattle.vx_base.specs.Named.{Word}
 use Rattle.vx_script_words.specs.declared.value.DiskAt.{DiskAt}
+use Rattle.vx_script_forms.specs.declared.act.Act.TheVariants as act
 use Rattle.vx_script_forms.specs.declared.form.Form.{Form}
 use Rattle.vx_script_forms.specs.declared.form.Form.TheVariants as form
 use Rattle.vx_script_forms.specs.declared.form.WordPolicy.TheVariants as words
@@ -22,6 +23,7 @@ use Rattle.vx_sound.specs.Laws.{IsIdle, WriteNoHeader}
 use Rattle.vx_sound.specs.Sound.{AreSound}
 use Rattle.vx_sound.specs.Standing.{IsStanding}
 use Rattle.vx_sound.proofs.Logs.{prepare_wants}
+use Rattle.vx_sound.proofs.Plexes.{detach_wants}
 use Rattle.vx_sound.proofs.Recoveries.{recover_left}
 use Rattle.vx_sound.proofs.Running.{rested, standing_touched}
 use Rattle.vx_sound.proofs.Settlement.{settled, standing_left}
@@ -36,6 +38,7 @@ wants_stand (stage.Start vol) old new s (inr (g, v, here, found, may, touched, n
 wants_stand (stage.Mirror mirror) old new s (inl same) = same_stands old.world new.world same s
 wants_stand (stage.Mirror mirror) old new s (inr rest) = rested mirror.vol old s new rest
 wants_stand (stage.Prepare logs) old new s wants = prepare_wants old s logs new wants
+wants_stand (stage.Detach plex) old new s wants = detach_wants old s plex new wants
 wants_stand (stage.Stop vol) old new s (inl same) = same_stands old.world new.world same s
 wants_stand (stage.Stop vol) old new s (inr rest) = rested vol old s new rest
 wants_stand other old new s same = same_stands old.world new.world same s
@@ -69,6 +72,8 @@ plan_shaped dg (form.PrintHt (Some vol)) = refl
 plan_shaped dg (form.Rdpol vol words.Round) = refl
 plan_shaped dg (form.Rdpol vol words.Select) = refl
 plan_shaped dg (form.Rdpol vol (words.Prefer plex)) = refl
+plan_shaped dg (form.Acting (act.PlexDet plex)) = refl
+plan_shaped dg (form.Acting (act.PlexAtt vol plex)) = refl
 plan_shaped dg other = refl
 
 short_stands : (disks : List DiskAt) (stages : List Stage) (old new : Moment) → all_keep_but_last stages ≡ true → IsStanding old.world → RunsShort disks stages old new → IsStanding new.world

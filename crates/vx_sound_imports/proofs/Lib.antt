@@ -18,6 +18,8 @@ pub mod Volumes
 pub mod Logs
 pub mod Starts
 pub mod Mirrors
+pub mod Switched
+pub mod Plexes
 pub mod Recoveries
 pub mod Steps
 pub mod Runs

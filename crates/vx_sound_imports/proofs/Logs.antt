@@ -35,7 +35,7 @@ use Rattle.vx_sound.specs.Standing.{IsOwn, IsStanding}
 use Rattle.vx_sound.proofs.Logs.{log_group, own_ready, prepare_recorded, unprepare_recorded}
 use Rattle.vx_sound.proofs.Running.{standing_touched}
 use Rattle.vx_sound_volumes.proofs.Logs.{own_back}
-use Rattle.vx_sound_volumes.proofs.Parts.{Every, some_same}
+use Rattle.vx_sound_volumes.proofs.Parts.{Besides, Every, some_same}
 use Rattle.vx_sound_volumes.proofs.Running.{found_there}
 use Rattle.vx_sound_imports.specs.Offered.{HaveSoundOffers}
 use Rattle.vx_sound_imports.specs.Left.{LiesWithin}
@@ -46,17 +46,18 @@ use Rattle.vx_sound_imports.proofs.Stages.{Settles, committed_known, imported_aw
 use Rattle.vx_sound_imports.proofs.Volumes.{IsKnown, known_settles, lent_offers, still_settles}
 use Rattle.vx_sound_imports.proofs.Writings.{HasWhole}
 
--- edits of one volume, as which the volume is sound
-own_safe : (w : World) (x : Writing) → IsStanding w → (g : Group) → w.group ≡ Some g → HasWhole w → (vol : Word) (edits : List Edit) → AreEditsOf g.config vol edits → IsChange edits w x → IsSoundAs g x.config vol w → KeepsOwn x w vol → IsSafe Every x w
-own_safe w x s g here whole vol edits of is sound_as keeps =
+-- edits of one volume, as which the volume is sound: the others are kept, ..
+pub own_besides : (w : World) (x : Writing) → IsStanding w → (g : Group) → w.group ≡ Some g → HasWhole w → (vol : Word) (edits : List Edit) → AreEditsOf g.config vol edits → IsChange edits w x → IsSoundAs g x.config vol w → IsSafe (Besides vol) x w
+own_besides w x s g here whole vol edits of is sound_as =
     let same = some_same g x.group (sym here ∙ is.group) in
     let mine = subst (λ (h : Group). AreEditsOf h.config vol edits) same of in
-    let ready = own_ready w x s g here vol edits of is in
-    let all = whole x.group is.group in
-    whole_safe x w ready all is.joiners g same vol sound_as
-    (recorded_safe x w ready all is.joiners g same vol sound_as (λ u. u.name ≢ vol) (own_edit_keeps_others x.group.config x.config vol edits mine is.edited)
-    (λ u one other started. own_back x.group.config x.config vol edits mine is.edited u one other))
-    keeps
+    recorded_safe x w (own_ready w x s g here vol edits of is) (whole x.group is.group) is.joiners g same vol sound_as (λ u. u.name ≢ vol) (own_edit_keeps_others x.group.config x.config vol edits mine is.edited)
+    (λ u one other started. own_back x.group.config x.config vol edits mine is.edited u one other)
+
+-- .. and all are where it is kept too
+pub own_safe : (w : World) (x : Writing) → IsStanding w → (g : Group) → w.group ≡ Some g → HasWhole w → (vol : Word) (edits : List Edit) → AreEditsOf g.config vol edits → IsChange edits w x → IsSoundAs g x.config vol w → KeepsOwn x w vol → IsSafe Every x w
+own_safe w x s g here whole vol edits of is sound_as keeps =
+    whole_safe x w (own_ready w x s g here vol edits of is) (whole x.group is.group) is.joiners g (some_same g x.group (sym here ∙ is.group)) vol sound_as (own_besides w x s g here whole vol edits of is sound_as) keeps
 
 -- a volume of one plex is kept as it gets logs or loses them
 lone_kept : (w : World) (x : Writing) (g : Group) → g ≡ x.group → (v : Vol) → IsIn g.config.volumes v → (v' : Vol) (p p' : Plex) → ChangesDco g.config v x.config v' p p' → KeepsOwn x w v.name
@@ -106,7 +107,7 @@ module _ (old : Moment) (k : IsKnown old.world) where
     written_known m false writes = log_known v.name m writes.0.log
 
   -- the commit of edits of one volume
-  recorded_known : (m : Moment) → IsKnown m.world → (g : Group) → m.world.group ≡ Some g → (vol : Word) (edits : List Edit) → AreEditsOf g.config vol edits → (x : Writing) → IsChange edits m.world x →
+  pub recorded_known : (m : Moment) → IsKnown m.world → (g : Group) → m.world.group ≡ Some g → (vol : Word) (edits : List Edit) → AreEditsOf g.config vol edits → (x : Writing) → IsChange edits m.world x →
       (after : Moment) → IsCommitted x m after → HaveSoundOffers after.world × HasWhole after.world
   recorded_known m known g here vol edits of x is after committed =
       let ready = own_ready m.world x known.standing g here vol edits of is in

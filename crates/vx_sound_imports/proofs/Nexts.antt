@@ -147,6 +147,20 @@ module _ (x : Writing) (w : World) (ready : IsReady x w) (whole : IsWholeGroup x
         })
         as_recorded
 
+    -- it lies within what it lies within by all disks that are good, whichever of them stay so
+    pub next_within : (devices : Word → Option Device) (u : Candidates) (good : ℕ) → AreWritten x good → (v : Vol) → Contains x.config.volumes v → is_new v.state ≡ false →
+        LiesWithin (image_of x.config x.group.good (sectors_of devices x.group.members) v) u → LiesWithin (image_of x.config good (sectors_of devices x.group.members) v) u
+    next_within devices u good few v there started lies =
+        let bytes = sectors_of devices x.group.members in
+        let records = IsPermutation-refl (objects_of x.config) in
+        fewer_within (image_of x.config x.group.good bytes v) (image_of x.config good bytes v)
+        (less_image x.config x.config v x.group.good good bytes bytes records (record { good = λ place of at. alone_few x alone good few place.disk at; same = λ place of at. refl }))
+        (reading_plexes x.config x.config v x.group.good good bytes bytes records) (some_blocks x.config v (vol_of x.config v (is_in x.config.volumes v there))) u started lies
+
+    -- all that are good
+    pub all_written : AreWritten x x.group.good
+    all_written slot at = or_from_left (has x.group.good slot) (is_slot_of x.joiners slot) at
+
     -- the volume of a name is sound as it is recorded, and the others are kept
     pub recorded_safe : (g : Group) → g ≡ x.group → (name : Word) → IsSoundAs g x.config name w → (These : Vol → Type 0) → EachStays These x.group.config x.config →
         ((v : Vol) → IsIn x.config.volumes v → v.name ≢ name → is_new v.state ≡ false → HasCome x These v) → IsSafe (Besides name) x w
@@ -174,13 +188,8 @@ module _ (x : Writing) (w : World) (ready : IsReady x w) (whole : IsWholeGroup x
       next = others.next;
       stands = λ devices same n u p holds good few v there named started. elim (name_cases v.name name) [
         | inl is ↦
-            let bytes = sectors_of devices x.group.members in
-            let records = IsPermutation-refl (objects_of x.config) in
-            let all : AreWritten x x.group.good = λ slot at. or_from_left (has x.group.good slot) (is_slot_of x.joiners slot) at in
-            fewer_within (image_of x.config x.group.good bytes v) (image_of x.config good bytes v)
-            (less_image x.config x.config v x.group.good good bytes bytes records (record { good = λ place of at. alone_few x alone good few place.disk at; same = λ place of at. refl }))
-            (reading_plexes x.config x.config v x.group.good good bytes bytes records) (some_blocks x.config v (vol_of x.config v (is_in x.config.volumes v there))) u started
-            (keeps devices same u (λ y one at. holds y one (at ∙ sym is ∙ named)) v there is started (own_next g own name sound_as devices same x.group.good all v there is))
+            next_within devices u good few v there started
+            (keeps devices same u (λ y one at. holds y one (at ∙ sym is ∙ named)) v there is started (own_next g own name sound_as devices same x.group.good all_written v there is))
         | inr other ↦ others.stands devices same n u (λ same_name. not_both (subst (λ m. bytes_eq v.name m ≡ true) (named ∙ same_name) (bytes_eq_self v.name)) other) holds good few v there named started
       ];
     }

@@ -31,7 +31,7 @@ use Rattle.vx_sound_imports.proofs.Fewer.{AreReadSound, fewer_read, fewer_sound}
 use Rattle.vx_sound_imports.proofs.Writings.{HasWhole}
 use Rattle.vx_sound_imports.specs.Left.{HoldWithin, IsLeft}
 use Rattle.vx_sound_imports.proofs.Leading.{leading_read}
-use Rattle.vx_sound_imports.proofs.Left.{AreReadAs, commit_left, fewer_as, leading_as}
+use Rattle.vx_sound_imports.proofs.Left.{AreReadAs, IsNextAs, commit_left, fewer_as, leading_as}
 use Rattle.vx_sound_imports.proofs.Nexts.{IsSafe}
 
 -- the group, or the power, is lost by this end
@@ -152,11 +152,18 @@ module _ (P : Word → Type 0) (x : Writing) (old : Moment) (s : IsStanding old.
       (subst (λ dg. AreReadSound new.world.devices dg old.world) (one_named here) (leading_read old.world x.group (leads old.world x.group s here) (s.copies x.group.config.group) safe.whole new.world.devices sound))
       (safe.next new.world.devices (public_stays x stopped.last old new c) sound) safe.far
 
-  own_left : old.world.group ≡ Some x.group → (name : Word) (u : Candidates) → P name → HoldWithin new.world.devices x.group name u → IsLeft x.config.group new.world name u
-  own_left here name u p stands =
+  own_left : old.world.group ≡ Some x.group → (name : Word) (u : Candidates) → HoldWithin new.world.devices x.group name u → IsNextAs x new.world.devices name u → IsLeft x.config.group new.world name u
+  own_left here name u stands next =
       commit_left x stopped.last old new c safe.ready s.copies safe.whole name u
       (subst (λ dg. AreReadAs new.world.devices dg old.world name u) (one_named here) (leading_as old.world x.group (leads old.world x.group s here) (s.copies x.group.config.group) safe.whole name u new.world.devices stands))
-      (safe.stands new.world.devices (public_stays x stopped.last old new c) name u p stands) safe.far
+      next safe.far
+
+  -- what the bytes of a volume lie within is left, where they do so as it is to be recorded too
+  pub stopped_left : old.world.group ≡ Some x.group → (g : Group) → new.world.group ≡ Some g → (name : Word) (u : Candidates) → HoldWithin new.world.devices g name u → IsNextAs x new.world.devices name u → IsLeft g.config.group new.world name u
+  stopped_left here g at name u stands next =
+      let same : x.group ≡ g = some_same x.group g (sym here ∙ sym stopped.group ∙ at) in
+      subst (λ (h : Group). IsLeft h.config.group new.world name u) same
+      (subst (λ dg. IsLeft dg new.world name u) (sym (one_named here)) (own_left here name u (subst (λ (h : Group). HoldWithin new.world.devices h name u) (sym same) stands) next))
 
   -- of the imported group
   pub stopped_settles : old.world.group ≡ Some x.group → HasWhole old.world → HaveSoundOffers old.world → Settles P end new.world
@@ -171,8 +178,8 @@ module _ (P : Word → Type 0) (x : Writing) (old : Moment) (s : IsStanding old.
         (subst (λ dg. HasSoundOffer dg new.world) (sym (one_named here)) (own_offers here (subst (AreSoundOn new.world.devices) (sym same) sound)));
     left = λ g at lost name u p runs stands.
         let same : x.group ≡ g = some_same x.group g (sym here ∙ sym stopped.group ∙ at) in
-        subst (λ (h : Group). IsLeft h.config.group new.world name u.life.candidates) same
-        (subst (λ dg. IsLeft dg new.world name u.life.candidates) (sym (one_named here)) (own_left here name u.life.candidates p (subst (λ (h : Group). HoldWithin new.world.devices h name u.life.candidates) (sym same) stands)));
+        stopped_left here g at name u.life.candidates stands
+        (safe.stands new.world.devices (public_stays x stopped.last old new c) name u.life.candidates p (subst (λ (h : Group). HoldWithin new.world.devices h name u.life.candidates) (sym same) stands));
   }
 
   -- of a group that is not imported

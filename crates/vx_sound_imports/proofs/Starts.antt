@@ -1,4 +1,4 @@
--- A start and a stop of a volume of the imported group, and what want of memory leaves of them, and of a mirror.
+-- A start and a stop of a volume of the imported group, and what want of memory leaves of them, of a mirror and of a plex that goes out of use.
 use Rattle.std.proofs.Common.{◌≡◌, ◌∙◌, ℕ, Bool, true, false, Option, Some, None, MatchBool, MatchOption, refl, sym, ap, subst, inl, inr}
 use Rattle.vx_base.specs.Named.{Word, put}
 use Rattle.vx_base.proofs.NamedLemmas.{put_same}
@@ -162,6 +162,8 @@ wants_known laws place (stage.Start vol) old new k sound (inr (g, v, here, found
 wants_known laws place (stage.Mirror mirror) old new k sound (inl same) = subst IsKnown (sym same) k
 wants_known laws place (stage.Mirror mirror) old new k sound (inr rest) = rested_known laws place mirror.vol old k sound new rest
 wants_known laws place (stage.Prepare logs) old new k sound wants = prepare_wants old k logs new wants
+wants_known laws place (stage.Detach plex) old new k sound (inl same) = subst IsKnown (sym same) k
+wants_known laws place (stage.Detach plex) old new k sound (inr r) = rested_known laws place r.volume.name old k sound new r.rest
 wants_known laws place (stage.Stop vol) old new k sound (inl same) = subst IsKnown (sym same) k
 wants_known laws place (stage.Stop vol) old new k sound (inr rest) = rested_known laws place vol old k sound new rest
 wants_known laws place other old new k sound same = subst IsKnown (sym same) k

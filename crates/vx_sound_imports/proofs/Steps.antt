@@ -14,6 +14,7 @@ use Rattle.vx_new_volumes.specs.declared.logs.NewLogs.{NewLogs}
 use Rattle.vx_new_volumes.specs.declared.mirror.NewPlex.{NewPlex}
 use Rattle.vx_new_volumes.specs.declared.volume.NewVolume.{NewVolume}
 use Rattle.vx_script_words.specs.declared.value.DiskAt.{DiskAt}
+use Rattle.vx_script_forms.specs.declared.act.Act.TheVariants as act
 use Rattle.vx_script_forms.specs.declared.form.Form.{Form}
 use Rattle.vx_script_forms.specs.declared.form.Form.TheVariants as form
 use Rattle.vx_script_forms.specs.declared.form.WordPolicy.{WordPolicy}
@@ -64,6 +65,7 @@ use Rattle.vx_sound_imports.proofs.Nexts.{IsSafe}
 use Rattle.vx_sound_imports.proofs.Stages.{IsLostBy, Settles, committed_known, imported_away, leads, settles_some, stopped_settles, unknown_settles}
 use Rattle.vx_sound_imports.proofs.Logs.{prepare_known, prepare_settles, unprepare_known, unprepare_settles}
 use Rattle.vx_sound_imports.proofs.Mirrors.{mirror_settles}
+use Rattle.vx_sound_imports.proofs.Plexes.{attach_settles, detach_known, detach_settles}
 use Rattle.vx_sound_imports.proofs.Recoveries.{recover_settles}
 use Rattle.vx_sound_imports.proofs.Starts.{start_settles, stop_done_known, stop_settles}
 use Rattle.vx_sound_imports.proofs.Volumes.{IsKnown, call_settles, known_settles, still_settles}
@@ -288,6 +290,14 @@ module _ (laws : StateLaws) (place : ℕ) (views : List View) (end : End) (new :
   unpreparing_settles vol mid k runs =
       one_stage (stage.Unprepare vol) [] Nothing mid views end new (λ m is. unprepare_known mid k vol m is) (λ stops. unprepare_settles mid k end new vol stops) runs
 
+  detaching_settles : (plex : Word) (mid : Moment) → IsKnown mid.world → IsSoundBefore place mid.world → Runs [] (stage.Detach plex ∷ []) Nothing mid views end new → Settles Every end new.world
+  detaching_settles plex mid k sound runs =
+      one_stage (stage.Detach plex) [] Nothing mid views end new (λ m is. detach_known laws place mid k sound plex m is) (λ stops. detach_settles laws place mid k sound end new plex stops) runs
+
+  attaching_settles : (vol plex : Word) (mid : Moment) → IsKnown mid.world → IsSoundBefore place mid.world → Runs [] (stage.Attach vol plex ∷ []) Nothing mid views end new → Settles Every end new.world
+  attaching_settles vol plex mid k sound runs =
+      one_stage (stage.Attach vol plex) [] Nothing mid views end new (λ m is. absurd is) (λ stops. attach_settles laws place mid k sound vol plex end new stops) runs
+
   shown_settles : (finish : Finish) (mid : Moment) → IsKnown mid.world → Runs [] [] finish mid views end new → Settles Every end new.world
   shown_settles finish mid k runs = still_settles end mid.world new.world (ap (λ (m : Moment). m.world) runs.2) k
 
@@ -370,4 +380,10 @@ module _ (laws : StateLaws) (place : ℕ) (old : Moment) (views : List View) (en
       let calm = stage.Gate (tests.GroupIs dg) ∷ stage.Gate (tests.HasVolume vol) ∷ [] in
       at_last calm (stage.Stop vol ∷ []) [] Nothing old views end new k (λ mid same t passed runs. stopping_settles laws place views end new vol mid t (sound_still mid same) runs) (runs_through calm (stage.Stop vol ∷ []) [] Nothing old views end new (refl, (refl, tt)) does)
   form_settles dg (form.Recover vol) none does = recover_settles laws place dg vol old views end new (record { known = k; kept = keeps_all place old.world sound }) does.1
+  form_settles dg (form.Acting (act.PlexDet plex)) none does =
+      let calm = stage.Gate (tests.GroupIs dg) ∷ [] in
+      at_last calm (stage.Detach plex ∷ []) [] Nothing old views end new k (λ mid same t passed runs. detaching_settles laws place views end new plex mid t (sound_still mid same) runs) (runs_through calm (stage.Detach plex ∷ []) [] Nothing old views end new (refl, tt) does)
+  form_settles dg (form.Acting (act.PlexAtt vol plex)) none does =
+      let calm = stage.Gate (tests.GroupIs dg) ∷ [] in
+      at_last calm (stage.Attach vol plex ∷ []) [] Nothing old views end new k (λ mid same t passed runs. attaching_settles laws place views end new vol plex mid t (sound_still mid same) runs) (runs_through calm (stage.Attach vol plex ∷ []) [] Nothing old views end new (refl, tt) does)
   form_settles dg other none does = not_built does

@@ -7,6 +7,7 @@ mod Lives
 pub mod Running
 pub mod Mirrors
 pub mod Logs
+mod Plexes
 pub mod Devices
 pub mod Joiners
 pub mod Stages

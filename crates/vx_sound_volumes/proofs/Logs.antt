@@ -176,11 +176,11 @@ module _ (place : ℕ) (old : Moment) (k : Keeps place Every old.world) where
     touched_kept m log = log_kept m (subst (λ name. IsLogTouched g next name old m) (sym there.1) log)
 
   -- the group of a writing is the one that was there before
-  own_edits : (w : World) (g : Group) → w.group ≡ Some g → (vol : Word) (edits : List Edit) → AreEditsOf g.config vol edits → (x : Writing) → IsChange edits w x → AreEditsOf x.group.config vol edits
+  pub own_edits : (w : World) (g : Group) → w.group ≡ Some g → (vol : Word) (edits : List Edit) → AreEditsOf g.config vol edits → (x : Writing) → IsChange edits w x → AreEditsOf x.group.config vol edits
   own_edits w g here vol edits of x is = subst (λ (h : Group). AreEditsOf h.config vol edits) (some_same g x.group (sym here ∙ is.group)) of
 
   -- a commit of edits of one volume keeps the others
-  others_kept : (vol : Word) (edits : List Edit) (x : Writing) (m : Moment) (is : IsChange edits m.world x) → AreEditsOf x.group.config vol edits → Keeps place Every m.world →
+  pub others_kept : (vol : Word) (edits : List Edit) (x : Writing) (m : Moment) (is : IsChange edits m.world x) → AreEditsOf x.group.config vol edits → Keeps place Every m.world →
       (after : Moment) → IsCommitted x m after → Keeps place (Besides vol) after.world
   others_kept vol edits x m is of kept after committed =
       change_kept place (Besides vol) edits x m is (fewer_names place m.world vol kept) (λ u. u.name ≢ vol) after committed

@@ -2,6 +2,7 @@
 use Rattle.std.proofs.Common.{◌≡◌, ◌∙◌, ℕ, ◌+◌, true, List, [], ◌∷◌, Option, Some, None, refl, sym, ap, subst, inl, inr}
 use Rattle.vx_base.specs.Named.{Word}
 use Rattle.vx_script_words.specs.declared.value.DiskAt.{DiskAt}
+use Rattle.vx_script_forms.specs.declared.act.Act.TheVariants as act
 use Rattle.vx_script_forms.specs.declared.form.Form.{Form}
 use Rattle.vx_script_forms.specs.declared.form.Form.TheVariants as form
 use Rattle.vx_script_forms.specs.declared.form.WordPolicy.{WordPolicy}
@@ -102,6 +103,8 @@ module _ (dg : Option Word) (w : World) (end : End) (new : World) where
   plan_ready (form.RemoveVolume vol) brings = (refl, λ t. (refl, λ t. (refl, λ t. (refl, λ t. (tt, λ e. tt)))))
   plan_ready (form.VxMake text) brings = (refl, λ t. (tt, λ e. tt))
   plan_ready (form.AssistMake vol length attrs disks) brings = (refl, λ t mid. (refl, λ u. (tt, λ e. tt)))
+  plan_ready (form.Acting (act.PlexDet plex)) brings = (refl, λ t. (tt, λ e. tt))
+  plan_ready (form.Acting (act.PlexAtt vol plex)) brings = (refl, λ t. (tt, λ e. tt))
   plan_ready other brings = tt
 
 module _ (laws : StateLaws) (place : ℕ) where

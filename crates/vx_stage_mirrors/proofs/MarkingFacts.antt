@@ -39,7 +39,7 @@ use Rattle.vx_stage_mirrors.specs.declared.marking.Unmarked.TheVariants as unmar
 use Rattle.vx_stage_mirrors.proofs.MarkingMoments.{PassFacts, pass_blamed, pass_house, pass_stops, rested_at}
 use Rattle.vx_stage_mirrors.proofs.MarkedVolume.{SettingLaws, exact_on, fault_reason, goes_on, runs_on}
 
-any_disk : {P : Type 0} (see : P → Seen) (number : ℕ) (ds : List (Disk P)) → AnyOf (λ h. h.seen.device ≡ number) (map (disk_seen see) ds) → AnyOf (λ d. (see d.piece).device ≡ number) ds
+pub any_disk : {P : Type 0} (see : P → Seen) (number : ℕ) (ds : List (Disk P)) → AnyOf (λ h. h.seen.device ≡ number) (map (disk_seen see) ds) → AnyOf (λ d. (see d.piece).device ≡ number) ds
 any_disk see number [] any = any
 any_disk see number (d ∷ ds) (inl is) = inl is
 any_disk see number (d ∷ ds) (inr more) = inr (any_disk see number ds more)

@@ -124,7 +124,7 @@ opened_relogged before c good v now same Q then here slot there = elim (opened_o
 
 -- ---- in the house
 
-still_on : (hs ks : List DiskSeen) → AreStillDisks hs ks → (numbers : List ℕ) (slot : ℕ) → IsOnDisk numbers hs slot → IsOnDisk numbers ks slot
+pub still_on : (hs ks : List DiskSeen) → AreStillDisks hs ks → (numbers : List ℕ) (slot : ℕ) → IsOnDisk numbers hs slot → IsOnDisk numbers ks slot
 still_on hs ks same numbers slot n =
     let k = same n.disk n.there in
     record { disk = k.0; there = k.1; slot_is = k.4 ∙ n.slot_is; number_is = n.number_is ∙ sym k.3 }

@@ -19,3 +19,8 @@ pub mod Making
 pub mod Relogging
 pub mod LogEnding
 pub mod LogMoments
+pub mod Switching
+pub mod SwitchMoments
+pub mod Attaching
+pub mod Settling
+pub mod Detaching

@@ -1,11 +1,17 @@
-//! The stages that give a volume of the imported group plexes or logs, or take logs away: a running volume gets a mirror; one of one plex gets
-//! logs, or loses them. Each is tested and planned before anything is touched. For a mirror the pieces of the new plex are taken, a free map is
-//! marked in each region, the plex joins the volume by a commit, and is copied to. For logs of a volume that was started before an empty log
-//! is written on the new plexes before these are recorded by a commit; a volume that runs goes on with the log, or without one.
+//! The stages that give a volume of the imported group plexes or logs, take logs away, or take a plex out of use and put one into use: a running
+//! volume gets a mirror; one of one plex gets logs, or loses them; a data plex of a running volume goes out of use, or into use. Each is tested and
+//! planned before anything is touched. For a mirror the pieces of the new plex are taken, a free map is marked in each region, the plex joins the
+//! volume by a commit, and is copied to. For logs of a volume that was started before an empty log is written on the new plexes before these are
+//! recorded by a commit; a volume that runs goes on with the log, or without one. A plex goes out of use once the volume has come to rest with its
+//! log made firm, and each region has another plex; one that goes into use is copied to; both by a commit with which it is switched off or on.
 #![tactic(auto)]
 
+mod att_testing;
+mod attaching;
 mod committing;
 mod copying;
+mod det_testing;
+mod detaching;
 mod join_laws;
 mod joining;
 mod laying;
@@ -20,13 +26,19 @@ mod mirroring;
 mod new_places;
 mod parking;
 mod planning;
+mod plex_states;
 mod powering;
 mod preparing;
 mod relogging;
+mod settling;
+mod switch_laws;
+mod switching;
 mod testing;
 mod unpreparing;
 
+pub use attaching::attach;
 pub use copying::{copy_plexes, each_copying_goes, each_marked_region_is_missed};
+pub use detaching::detach;
 pub use join_laws::{
     each_failed_join_stops, each_join_goes_on, each_joined_plex_is_in_place, each_joined_plex_runs,
     each_parked_plex_may_join, each_parking_parts,
@@ -42,5 +54,6 @@ pub use mirroring::mirror;
 pub use new_places::{each_held_plex_can_be_taken, each_new_plex_is_free};
 pub use planning::{PlannedMirror, planned_mirror};
 pub use preparing::prepare;
+pub use switch_laws::{each_switch_goes, each_switch_is_sound, each_switch_is_within};
 pub use testing::test_mirror;
 pub use unpreparing::unprepare;

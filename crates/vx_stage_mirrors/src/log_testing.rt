@@ -107,7 +107,7 @@ fn has_one_plex(plexes: &[Plex], vol: &Name) -> bool
         == 1
 }
 
-fn is_data_plex_of(plex: &Plex, vol: &Name) -> bool
+pub(crate) fn is_data_plex_of(plex: &Plex, vol: &Name) -> bool
     ensures { result ≡ is_data_plex_of vol.now plex.now }
 {
     refers(&plex.vol, vol) && plex.kind == PlexKind::Data

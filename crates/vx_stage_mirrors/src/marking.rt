@@ -58,7 +58,7 @@ pub fn mark_plex<P: Piece + Drop>(
 }
 
 /// The fault of the log as one of the volume.
-fn as_io(fault: MarkFault) -> IoFault
+pub(crate) fn as_io(fault: MarkFault) -> IoFault
     ensures { result ≡ as_io fault }
 {
     match fault {

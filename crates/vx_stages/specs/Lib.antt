@@ -15,5 +15,8 @@ pub mod Stopping
 pub mod Mirrored
 pub mod Logging
 pub mod Logged
+pub mod Plexes
+pub mod Detached
+pub mod Attached
 pub mod Stages
 pub mod Logs

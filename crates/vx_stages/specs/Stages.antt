@@ -27,6 +27,8 @@ use Rattle.vx_moments.specs.Moment.{Moment, Counts, AreLater, Rests, HasFailed, 
 use Rattle.vx_moments.specs.Holding.{IsHeld, is_among}
 use Rattle.vx_moments.specs.Leaving.{group_gone}
 use Rattle.vx_moments.specs.Commit.{Writing}
+use Rattle.vx_stages.specs.Attached.{AttachStops}
+use Rattle.vx_stages.specs.Detached.{DetachStops, DetachWants, IsDetached}
 use Rattle.vx_stages.specs.Ends.{fault_of, lost, refused, IsChange, RefusedAsGrown, RefusedAsLong, CommitsBy, EndsIn, StopsBy}
 use Rattle.vx_stages.specs.Finding.{Found, Finds, group_found, import_records, import_sectors}
 use Rattle.vx_stages.specs.Making.{adding_refusal, is_started}
@@ -236,7 +238,7 @@ abbrev pub AreBlank : World → List Word → Type 0
 AreBlank w [] = Unit {0}
 AreBlank w (name ∷ names) = HasNoHeader w name × AreBlank w names
 
--- what a stage does; a start and a mirror end their command themselves
+-- what a stage does; a start, a mirror and a plex that goes into use end their command themselves
 abbrev pub IsDone : Stage → List DiskAt → Moment → Moment → Type 0
 IsDone (stage.Gate test) disks old new = (fails test disks old.world ≡ None) × (new ≡ old)
 IsDone (stage.Take name) disks old new = IsFree old.world [] name × Rests old new
@@ -258,6 +260,8 @@ IsDone (stage.Start vol) disks old new = ⊥
 IsDone (stage.Mirror mirror) disks old new = ⊥
 IsDone (stage.Prepare logs) disks old new = IsPrepared logs old new
 IsDone (stage.Unprepare vol) disks old new = IsUnprepared vol old new
+IsDone (stage.Detach plex) disks old new = IsDetached plex old new
+IsDone (stage.Attach vol plex) disks old new = ⊥
 IsDone (stage.Stop vol) disks old new = IsStopDone vol old new
 
 -- a device in hand ends the command: it has failed, or its power is gone
@@ -334,6 +338,8 @@ Stops (stage.Start vol) disks old end new = StartStops vol old end new
 Stops (stage.Mirror mirror) disks old end new = MirrorStops mirror.vol mirror.disks old end new
 Stops (stage.Prepare logs) disks old end new = PrepareStops logs old end new
 Stops (stage.Unprepare vol) disks old end new = UnprepareStops vol old end new
+Stops (stage.Detach plex) disks old end new = DetachStops plex old end new
+Stops (stage.Attach vol plex) disks old end new = AttachStops vol plex old end new
 Stops (stage.Stop vol) disks old end new = StopStops vol old end new
 
 -- what want of memory leaves of a stage: the world as it was, but where devices of a volume were called before
@@ -341,5 +347,6 @@ abbrev pub Wants : Stage → Moment → Moment → Type 0
 Wants (stage.Start vol) old new = StartWants vol old new
 Wants (stage.Mirror mirror) old new = MirrorWants mirror.vol old new
 Wants (stage.Prepare logs) old new = PrepareWants logs old new
+Wants (stage.Detach plex) old new = DetachWants plex old new
 Wants (stage.Stop vol) old new = StopWants vol old new
 Wants other old new = new.world ≡ old.world

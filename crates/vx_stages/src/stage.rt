@@ -66,6 +66,11 @@ pub enum Stage {
     Prepare(NewLogs),
     /// The volume of the imported group loses its logs by a commit, and where it runs it goes on without one.
     Unprepare(Name),
+    /// The volume of the data plex comes to rest, and the plex is recorded as out of use by a commit: it is not written to any more.
+    Detach(Name),
+    /// The data plex of the running volume is recorded as in use by a commit, it is written to, and what it misses is copied to it; this ends
+    /// the command.
+    Attach { vol: Name, plex: Name },
     /// The volume of the imported group comes to rest, its states are recorded, and it runs no more.
     Stop(Name),
 }

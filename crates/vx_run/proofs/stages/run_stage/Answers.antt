@@ -64,3 +64,9 @@ returns-in-Prepare g c = record { goes = rw c.in-Prepare.is (stage_ends g.S.P.Pi
 
 pub returns-in-Unprepare : goal.returns-in-Unprepare
 returns-in-Unprepare g c = record { goes = rw c.in-Unprepare.is (stage_ends g.S.P.Piece.seen c.args.disks.now _ _ _ _ (c.unprepare.ensures.goes c.args.disks.now (shelved g.S.Shelf.free g.S.Shelf.held g.S.Shelf.counted g.S.Shelf.faults c.args.shelf.now) (rw c.in-Unprepare.is at c.requires.ready) c.requires.keeps.devices)) }
+
+pub returns-in-Detach : goal.returns-in-Detach
+returns-in-Detach g c = record { goes = rw c.in-Detach.is (stage_ends g.S.P.Piece.seen c.args.disks.now _ _ _ _ (c.detach.ensures.goes c.args.disks.now (shelved g.S.Shelf.free g.S.Shelf.held g.S.Shelf.counted g.S.Shelf.faults c.args.shelf.now) (rw c.in-Detach.is at c.requires.ready) c.requires.keeps.devices)) }
+
+pub returns-in-Attach : goal.returns-in-Attach
+returns-in-Attach g c = record { goes = rw c.in-Attach.is (stage_ends g.S.P.Piece.seen c.args.disks.now _ _ _ _ (c.attach.ensures.goes c.args.disks.now (shelved g.S.Shelf.free g.S.Shelf.held g.S.Shelf.counted g.S.Shelf.faults c.args.shelf.now) (rw c.in-Attach.is at c.requires.ready) c.requires.keeps.devices)) }

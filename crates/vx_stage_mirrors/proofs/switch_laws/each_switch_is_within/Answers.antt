@@ -1,0 +1,5 @@
+use Rattle.vx_stage_mirrors.proofs.SwitchSound.{switch_within}
+use Rattle.vx_stage_mirrors.proofs.switch_laws.each_switch_is_within.Goals as goal
+
+pub returns : goal.returns
+returns g c = switch_within g.P.Piece.seen c.each_left_volume_stands.ensures.leaving c.each_left_volume_stands.ensures.stop c.args.running.now

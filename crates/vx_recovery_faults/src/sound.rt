@@ -77,9 +77,11 @@ fn look_by(seen: &Seen<'_>, region: u64, marks: u64) -> Result<(), Finding> {
     }
 }
 
-/// The volume is empty, or it was started and the region is dirty.
+/// The volume is empty, or it was started, the region is dirty, and no plex that is out of use lies on good disks and is not among these marks.
 fn may_differ(seen: &Seen<'_>, marks: u64) -> bool {
-    seen.state == Some(VolumeState::Empty) || (seen.was_started() && has(marks, DIRTY))
+    let is_stale = |one: &SeenPlex<'_>| !one.state.is_available() && is_unmarked(one, marks);
+    seen.state == Some(VolumeState::Empty)
+        || (seen.was_started() && has(marks, DIRTY) && !seen.plexes.iter().any(is_stale))
 }
 
 /// Whether the plexes on good disks that are not among these marks hold the same in a region, byte by byte.

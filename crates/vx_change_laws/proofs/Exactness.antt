@@ -1,5 +1,5 @@
 -- The log of a volume stays exact when a map of it is set, and when a plex joins.
-use Rattle.std.proofs.Common.{◌≡◌, ◌≢◌, ℕ, ◌<◌, Bool, true, false, if◌then◌else◌, refl, sym, ◌∙◌, ap, subst, inl, inr, arith, length, Option, Some, None, Result, Ok, Err}
+use Rattle.std.proofs.Common.{◌≡◌, ◌≢◌, ℕ, ◌<◌, Bool, true, false, refl, sym, ◌∙◌, ap, subst, inl, inr, length, Option, Some, None, Ok, Err}
 use Rattle.std.specs.Prelude.{◌==◌, ◌&&◌, not}
 use Rattle.std.proofs.lemmas.Bool.{cases_eq}
 use Rattle.vx_mask.specs.Mask.{has}
@@ -7,17 +7,15 @@ use Rattle.vx_mask.specs.Marks.{Marks}
 use Rattle.vx_mask.proofs.Tests.{not_both}
 use Rattle.vx_core.specs.declared.stage.Phase.TheVariants.{Dead}
 use Rattle.vx_marks.specs.Log.{LogSeen, OnMarks}
-use Rattle.vx_marks.specs.declared.marker.MarkFault.{MarkFault}
 use Rattle.vx_marks.specs.declared.marker.MarkFault.TheVariants.{Failed, PowerLost, Busy}
 use Rattle.vx_pages.specs.Setting.{AllShow, Done, MarksBy}
 use Rattle.vx_cell.specs.Changes.{CellSeen}
 use Rattle.vx_cell.specs.Region.{Tells, marks_or}
 use Rattle.vx_cell.proofs.Changes.{other_number, same_test}
-use Rattle.vx_volume.specs.Changing.{IsFreeIn, SetsMap, with_mark}
-use Rattle.vx_volume.specs.Laws.{AreTold, EachSettingMarks}
-use Rattle.vx_volume.specs.Volume.{IsVolume, VolumeSeen, cell_at}
+use Rattle.vx_volume.specs.Laws.{EachSettingMarks}
+use Rattle.vx_volume.specs.Volume.{VolumeSeen, cell_at}
 use Rattle.vx_volume.proofs.Remarks.{known_region}
-use Rattle.vx_volume_laws.specs.Exact.{IsExactVolume, LogIsWell, ShowsExactly}
+use Rattle.vx_volume_laws.specs.Exact.{ShowsExactly}
 use Rattle.vx_change_laws.specs.Laws.{EachJoiningStaysExact, EachSettingStaysExact}
 use Rattle.vx_change_laws.proofs.Masks.{but_none, mark_other}
 

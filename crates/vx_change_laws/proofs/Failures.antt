@@ -1,21 +1,18 @@
 -- A volume of which devices have failed, and a map that is that of no plex.
-use Rattle.std.proofs.Common.{◌≡◌, ◌≢◌, ℕ, ◌/◌, ◌<◌, ◌≤◌, ◌-◌, ◌+◌, Bool, true, false, refl, sym, ◌∙◌, ap, subst, inl, inr, cond, arith, List, length}
-use Rattle.std.specs.Prelude.{◌&&◌, ◌||◌, Contains}
+use Rattle.std.proofs.Common.{◌≡◌, ℕ, ◌/◌, ◌<◌, Bool, true, false, sym, ◌∙◌, ap, inl, inr, cond, arith, List, length}
+use Rattle.std.specs.Prelude.{◌&&◌, ◌||◌}
 use Rattle.vx_base.specs.Named.{Word}
 use Rattle.vx_mask.specs.Mask.{has}
 use Rattle.vx_mask.proofs.Tests.{not_both, or_from_right}
 use Rattle.vx_block.specs.Regions.{region_count}
 use Rattle.vx_core.specs.Region.{RegionState}
-use Rattle.vx_volume.specs.Changing.{IsFreeIn}
 use Rattle.vx_volume.specs.Volume.{IsVolume, VolumeSeen, cell_at}
 use Rattle.vx_moments.specs.World.{Track, Volume}
 use Rattle.vx_image.specs.Image.{PlexImage}
 use Rattle.vx_moments.specs.Tracks.{TrackOwner, has_failed, volume_failed, was_unsettled}
 use Rattle.vx_moments.proofs.Blocks.{below_count}
-use Rattle.vx_volume_laws.specs.RunLaws.{OwnersFit}
 use Rattle.vx_volume_laws.specs.Running.{RegionRunsAs, RunsAsVolume, state_at}
 use Rattle.vx_volume_laws.specs.Tracks.{GoesAt}
-use Rattle.vx_change_laws.specs.Joining.{IsMapOfNone}
 use Rattle.vx_change_laws.specs.Laws.{EachFailureIsNoted, EachFreeMapIsNew, RunsStill}
 
 -- ---- failures

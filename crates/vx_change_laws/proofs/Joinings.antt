@@ -1,14 +1,14 @@
 -- A volume runs on as the one that a plex has joined.
-use Rattle.std.proofs.Common.{◌≡◌, ◌≢◌, ℕ, ◌<◌, ◌⊎◌, Bool, true, false, if◌then◌else◌, refl, sym, ◌∙◌, ap, subst, inl, inr, arith, List, [], ◌∷◌, ◌++◌, length}
+use Rattle.std.proofs.Common.{◌≡◌, ◌≢◌, ℕ, ◌<◌, Bool, true, false, if◌then◌else◌, refl, sym, ◌∙◌, ap, subst, inl, inr, arith, List, [], ◌∷◌, ◌++◌, length}
 use Rattle.std.proofs.lemmas.Bool.{cases_eq}
 use Rattle.std.specs.Prelude.{◌==◌, ◌||◌, Contains}
 use Rattle.std.specs.Str.{bytes_eq}
 use Rattle.vx_base.specs.Named.{Word}
 use Rattle.vx_base.proofs.NamedLemmas.{bytes_eq_same, bytes_eq_self}
 use Rattle.vx_life.specs.Entry.{Entry}
-use Rattle.vx_mask.specs.Mask.{has, only, union, without}
+use Rattle.vx_mask.specs.Mask.{has, only, union}
 use Rattle.vx_mask.proofs.MaskLemmas.{has-only_other, has-only_same}
-use Rattle.vx_mask.proofs.Sets.{in_union, in_without, out_of, out_union, union_cases, without_parts}
+use Rattle.vx_mask.proofs.Sets.{in_union, out_union}
 use Rattle.vx_mask.proofs.Tests.{not_both, true_or_false}
 use Rattle.vx_core.specs.declared.stage.Stage.{Stage}
 use Rattle.vx_core.specs.History.{NoCall}
@@ -25,16 +25,14 @@ use Rattle.vx_cell.specs.Region.{state_of}
 use Rattle.vx_cell.proofs.Changes.{other_number, same_test}
 use Rattle.vx_volume.specs.Changing.{IsFreeIn, IsPlexFor, PutsPlex}
 use Rattle.vx_volume.specs.Laws.{EachPuttingStands, EachPuttingTells, with_plex}
-use Rattle.vx_volume.specs.Volume.{IsVolume, VolumeSeen, cell_at, no_cell, with_log}
+use Rattle.vx_volume.specs.Volume.{IsVolume, VolumeSeen, cell_at, with_log}
 use Rattle.vx_moments.specs.World.{Track, Volume}
 use Rattle.vx_image.specs.Image.{PlexImage}
 use Rattle.vx_moments.specs.Tracks.{TrackOwner}
-use Rattle.vx_volume_laws.specs.Exact.{IsExactVolume, ShowsExactly}
-use Rattle.vx_volume_laws.specs.RunLaws.{OwnersFit}
 use Rattle.vx_volume_laws.specs.Running.{IsSureOfOthers, RegionRunsAs, RunsAsVolume, entries_in}
 use Rattle.vx_volume_laws.specs.Tracks.{GoesAt, HasMap}
-use Rattle.vx_change_laws.specs.Joining.{AreJoinedBy, IsMapOfNone, IsNameOfNone, OwnersJoined, joined_track, volume_joined}
-use Rattle.vx_change_laws.specs.Laws.{EachJoiningFits, EachJoiningRunsOn, EachJoiningStaysExact, RunsStill}
+use Rattle.vx_change_laws.specs.Joining.{AreJoinedBy, IsMapOfNone, IsNameOfNone, joined_track, volume_joined}
+use Rattle.vx_change_laws.specs.Laws.{EachJoiningFits, EachJoiningRunsOn, RunsStill}
 
 -- ---- the plexes
 

@@ -1,6 +1,5 @@
 -- What stays of a volume when a map of its log is set, and when a plex joins.
 use Rattle.std.proofs.Common.{◌≡◌, ℕ, ◌<◌, Bool, refl, sym, ◌∙◌, ap, subst, inl, inr, List, [], ◌∷◌, ◌++◌, length, Result, Ok, Err}
-use Rattle.vx_core.specs.declared.stage.Phase.TheVariants.{Dead}
 use Rattle.vx_core.specs.Follow.{SameMasks}
 use Rattle.vx_marks.specs.Log.{LogSeen}
 use Rattle.vx_marks.specs.declared.marker.MarkFault.{MarkFault}
@@ -12,7 +11,7 @@ use Rattle.vx_volume.specs.Changing.{IsFreeOf, SetsMap}
 use Rattle.vx_volume.specs.Volume.{VolumeSeen, cell_at, region_at, with_log}
 use Rattle.vx_volume_laws.specs.Calls.{StayPlexes}
 use Rattle.vx_volume_laws.proofs.Stays.{stay_same}
-use Rattle.vx_change_laws.specs.Laws.{EachJoiningStaysCut, EachSettingKeepsPlaces, EachSettingLeavesFree, EachSettingStaysCut, IsCutIfDead}
+use Rattle.vx_change_laws.specs.Laws.{EachJoiningStaysCut, EachSettingKeepsPlaces, EachSettingLeavesFree, EachSettingStaysCut}
 
 -- ---- a map is set
 

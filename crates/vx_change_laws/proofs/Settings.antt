@@ -1,6 +1,6 @@
 -- A volume runs on as the same one when a free map of its log was set.
-use Rattle.std.proofs.Common.{◌≡◌, ◌≢◌, ℕ, ◌<◌, ◌⊎◌, Bool, true, false, if◌then◌else◌, refl, sym, ◌∙◌, ap, subst, inl, inr, arith, List, length, Option, Some, None, Result, Ok, Err}
-use Rattle.std.specs.Prelude.{◌==◌, ◌&&◌, ◌||◌, Contains, OnErr}
+use Rattle.std.proofs.Common.{◌≡◌, ◌≢◌, ℕ, ◌<◌, ◌⊎◌, Bool, true, false, if◌then◌else◌, sym, ◌∙◌, ap, subst, inl, inr, arith, List, length, Option, Some, None, Result, Ok, Err}
+use Rattle.std.specs.Prelude.{◌&&◌, OnErr}
 use Rattle.vx_life.specs.Entry.{Entry}
 use Rattle.vx_mask.specs.Mask.{has}
 use Rattle.vx_mask.specs.Marks.{Marks}
@@ -8,28 +8,25 @@ use Rattle.vx_mask.proofs.MaskLemmas.{has-zero}
 use Rattle.vx_mask.proofs.Tests.{not_both, or_cases}
 use Rattle.vx_core.specs.declared.stage.Phase.{Phase}
 use Rattle.vx_core.specs.declared.stage.Phase.TheVariants.{Dead, Unsettled}
-use Rattle.vx_core.specs.declared.stage.Stage.{Stage}
 use Rattle.vx_core.specs.History.{NoCall}
 use Rattle.vx_core.specs.Region.{Fixed, RegionState}
 use Rattle.vx_core.specs.Schedule.{IsIdle}
 use Rattle.vx_core_laws.specs.Course.{IsKeptState}
 use Rattle.vx_core_laws.specs.Tracking.{IsSeen}
-use Rattle.vx_marks.specs.Log.{KeepsLog, LogSeen, OnMarks}
+use Rattle.vx_marks.specs.Log.{LogSeen, OnMarks}
 use Rattle.vx_marks.specs.declared.marker.MarkFault.{MarkFault}
 use Rattle.vx_pages.specs.Setting.{Begun, Come, Done, IsMapSet, MarksBy, Still, Torn, come_to, differ}
 use Rattle.vx_cell.specs.Changes.{CellSeen}
 use Rattle.vx_cell.specs.Plexes.{holds}
 use Rattle.vx_cell.specs.Region.{Tells, marks_or, state_of}
 use Rattle.vx_cell.proofs.Changes.{other_number}
-use Rattle.vx_volume.specs.Changing.{IsFreeIn, IsFreeOf, IsKnownMap, SetsMap, is_lost, with_mark}
+use Rattle.vx_volume.specs.Changing.{IsFreeIn, IsKnownMap, SetsMap, is_lost, with_mark}
 use Rattle.vx_volume.specs.Laws.{EachSettingStands, EachSettingTells}
 use Rattle.vx_volume.specs.Volume.{IsVolume, VolumeSeen, cell_at, with_log}
 use Rattle.vx_volume.proofs.Remarks.{known_region}
 use Rattle.vx_volume.proofs.Wholes.{idle_freeing}
 use Rattle.vx_moments.specs.World.{Track, Volume}
 use Rattle.vx_image.specs.Image.{PlexImage}
-use Rattle.vx_moments.specs.Tracks.{was_unsettled}
-use Rattle.vx_volume_laws.specs.RunLaws.{OwnersFit}
 use Rattle.vx_volume_laws.specs.Running.{IsSureOfOthers, RegionRunsAs, RunsAsVolume, entries_in}
 use Rattle.vx_volume_laws.specs.Tracks.{GoesAt, HasMap}
 use Rattle.vx_change_laws.specs.Joining.{IsMapOfNone}

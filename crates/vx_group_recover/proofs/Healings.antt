@@ -1,32 +1,27 @@
 -- A recovery that is done: what each of its passes leaves of a region.
-use Rattle.std.proofs.Common.{◌≡◌, ℕ, zero, suc, ◌<◌, Bool, true, false, not, refl, sym, ◌∙◌, ap, subst, inl, inr, cond, List, [], ◌∷◌, length, Option, None, Result, Ok, Err, arith}
-use Rattle.std.specs.Prelude.{◌&&◌, ◌||◌}
+use Rattle.std.proofs.Common.{◌≡◌, ℕ, zero, suc, ◌<◌, Bool, true, false, refl, sym, ◌∙◌, ap, subst, inl, inr, List, [], ◌∷◌, length, Option, None, Result, Ok, Err, arith}
+use Rattle.std.specs.Prelude.{◌||◌}
 use Rattle.std.specs.List.{list_any}
 use Rattle.std.proofs.lemmas.Bool.{cases_eq}
-use Rattle.vx_mask.specs.Mask.{has, only, without}
-use Rattle.vx_mask.proofs.MaskLemmas.{has-without}
+use Rattle.vx_mask.specs.Mask.{has}
 use Rattle.vx_mask.proofs.Tests.{true_or_false}
-use Rattle.vx_core.specs.declared.stage.Job.TheVariants.{Copy as CopyJob}
-use Rattle.vx_core.specs.declared.stage.Phase.TheVariants.{Dead, Settled}
+use Rattle.vx_core.specs.declared.stage.Phase.TheVariants.{Settled}
 use Rattle.vx_core.specs.declared.stage.Stage.{Stage}
 use Rattle.vx_cell.specs.declared.fault.CellFault.{CellFault}
 use Rattle.vx_cell.specs.declared.fault.CellFault.TheVariants as cell
-use Rattle.vx_cell.specs.Calls.{LeavesMarks}
 use Rattle.vx_cell.specs.Changes.{CellSeen}
 use Rattle.vx_cell.specs.Region.{RegionSeen}
 use Rattle.vx_pages.specs.Items.{item_at}
 use Rattle.vx_volume.specs.Loop.{AreDone, stop_of}
-use Rattle.vx_volume.specs.Passes.{Clears, CopiesTo, Copying, IsClearedAt, IsCopiedAt, Settles}
+use Rattle.vx_volume.specs.Passes.{Clears, CopiesTo, Copying, IsClearedAt, IsCopiedAt}
 use Rattle.vx_volume.specs.Volume.{VolumeSeen, cell_at, no_cell, region_at}
 use Rattle.vx_group_start.specs.Copying.{CopiesMap}
 use Rattle.vx_group_stop.specs.Laws.{AreClean, AreSettled, SamePlexMarks}
-use Rattle.vx_group_stop.specs.Stops.{is_marked}
 use Rattle.vx_group_stop.proofs.Passes.{clear_leaves_rest, settles_count, settling_settles}
 use Rattle.vx_group_volumes.specs.Copies.{IsUnmarkedAt}
 use Rattle.vx_group_volumes.proofs.Copied.{copy_unmarks_all, still_by}
 use Rattle.vx_group_volumes.proofs.Tight.{copy_alive, copy_settles, done_of, pass_done}
-use Rattle.vx_group_recover.specs.Healing.{IsHealed}
-use Rattle.vx_group_recover.specs.Laws.{EachHealingHeals, IsWhole}
+use Rattle.vx_group_recover.specs.Laws.{EachHealingHeals}
 
 -- ---- a region that is copied
 

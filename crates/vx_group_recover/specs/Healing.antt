@@ -1,5 +1,5 @@
 -- What a recovery makes of an open volume, as far as its own devices go.
-use Rattle.std.specs.Prelude.{◌≡◌, ◌⊎◌, ℕ, Bool, count_by, Result, Ok, Err}
+use Rattle.std.specs.Prelude.{◌≡◌, ◌⊎◌, ℕ, count_by, Result, Ok, Err}
 use Rattle.vx_mask.specs.Mask.{has}
 use Rattle.vx_cell.specs.Changes.{CellSeen}
 use Rattle.vx_group_recover.specs.declared.healing.Healed.{Healed}

@@ -1,5 +1,5 @@
 -- A group of which no disk is parted.
-use Rattle.std.proofs.Common.{◌≡◌, ◌≢◌, ◌∙◌, ℕ, ◌+◌, ◌==◌, ◌≤◌, Bool, true, false, if◌then◌else◌, List, [], ◌∷◌, ◌++◌, map, Option, Some, None, refl, sym, ap, subst, arith}
+use Rattle.std.proofs.Common.{◌≡◌, ◌≢◌, ◌∙◌, ℕ, ◌+◌, ◌==◌, ◌≤◌, Bool, true, false, if◌then◌else◌, List, [], ◌∷◌, ◌++◌, map, Option, refl, sym, ap, subst, arith}
 use Rattle.std.specs.Str.{bytes_eq}
 use Rattle.std.specs.List.{sum_by}
 use Rattle.std.proofs.lemmas.List.Sums.{sum_by-cons}
@@ -8,9 +8,8 @@ use Rattle.vx_pages.specs.declared.local_piece.LocalPiece.{Ghosts}
 use Rattle.vx_base.specs.Named.{Word}
 use Rattle.vx_piece.specs.Seen.{Seen}
 use Rattle.vx_carve.specs.Together.{AreOnce, covers, has, owners}
-use Rattle.vx_copies.specs.Disks.{DiskSeen, disk_seen}
+use Rattle.vx_copies.specs.Disks.{DiskSeen}
 use Rattle.vx_copies.specs.Lists.{AllOf}
-use Rattle.vx_copies.specs.declared.disk.Disk.{Disk}
 use Rattle.vx_confdb.specs.Groups.{members}
 use Rattle.vx_fronts.specs.Parted.{AreParted, IsFront, fronts_of}
 use Rattle.vx_fronts.specs.Parted.{IsWhole as IsWholeDisk}
@@ -20,7 +19,7 @@ use Rattle.vx_fronts.proofs.Sectors.{other_lacks}
 use Rattle.vx_lending.specs.Public.{lent_pieces, still_pieces}
 use Rattle.vx_shelf.specs.Shelf.{Held, AreNumbered, held_as}
 use Rattle.vx_house.specs.Holders.{Holder, AreApart, IsTakenFrom, holder_in}
-use Rattle.vx_house.specs.View.{AreSized, IsGroupIdle, IsGroupParted, IsGroupWhole}
+use Rattle.vx_house.specs.View.{AreSized, IsGroupIdle, IsGroupWhole}
 use Rattle.vx_house.specs.declared.house.Imported.{Imported}
 use Rattle.vx_group_start.specs.Laying.{AreRunningVolumes, AreStuckVolumes}
 

@@ -1,7 +1,6 @@
 -- The group's devices, of which some or all are joined again.
 use Rattle.std.proofs.Common.{◌≡◌, ◌≢◌, ◌∙◌, Bool, true, false, List, [], ◌∷◌, ◌++◌, map, Option, Some, None, refl, sym, ap, subst}
-use Rattle.std.specs.Prelude.{ℕ, ◌==◌, is_some, length}
-use Rattle.std.specs.List.{flat_map}
+use Rattle.std.specs.Prelude.{◌==◌, is_some, length}
 use Rattle.std.specs.Global.{Vec}
 use Rattle.std.specs.BTreeMap.{BTreeMap}
 use Rattle.std.proofs.lemmas.List.{append-nil}
@@ -15,13 +14,12 @@ use Rattle.vx_copies.specs.Lists.{AllOf, Each}
 use Rattle.vx_copies.specs.declared.disk.Disk.{Disk}
 use Rattle.vx_confdb.specs.Groups.{members}
 use Rattle.vx_confdb.specs.declared.group.Group.{Group}
-use Rattle.vx_fronts.specs.Fronts.{Rest, Rests, whole_told, with_device, whole_disk}
+use Rattle.vx_fronts.specs.Fronts.{Rest, Rests, whole_told, with_device}
 use Rattle.vx_fronts.specs.Laws.{whole_disks}
 use Rattle.vx_fronts.specs.Parted.{AreParted, AreSameWhole, IsSameDisk, fronts_of}
 use Rattle.vx_fronts.specs.Rests.{AllTell, IsTelling, rests_of, untold}
-use Rattle.vx_lending.specs.Public.{lent_pieces, running_pieces, still_pieces}
-use Rattle.vx_house.specs.Holders.{disk_holder, group_holders, holder_in, whole_members}
-use Rattle.vx_moments.specs.World.{Member}
+use Rattle.vx_lending.specs.Public.{lent_pieces}
+use Rattle.vx_house.specs.Holders.{disk_holder, group_holders, holder_in}
 use Rattle.vx_house.specs.View.{IsGroupIdle, IsGroupWhole, group_of, member_in, member_of}
 use Rattle.vx_house.specs.declared.house.Imported.{Imported}
 use Rattle.vx_house.proofs.Wholes.{mapped_holders, mapped_members, still_idle, lent_idle, rests_idle}

@@ -11,7 +11,7 @@ use Rattle.vx_confdb.specs.Groups.{members}
 use Rattle.vx_fronts.specs.Fronts.{Rest, Rests, with_device}
 use Rattle.vx_fronts.specs.Laws.{whole_disks}
 use Rattle.vx_fronts.specs.Parted.{AreParted, fronts_of}
-use Rattle.vx_fronts.specs.Rests.{AllTell, bare, rests_of, untold}
+use Rattle.vx_fronts.specs.Rests.{bare, rests_of, untold}
 use Rattle.vx_fronts.proofs.Behind.{rests_counted, rests_stay}
 use Rattle.vx_fronts.proofs.Joined.{parts_once}
 use Rattle.vx_fronts.proofs.Parted.{parted_once, parted_stay}

@@ -1,5 +1,5 @@
 -- The bytes of a group's devices stand for the volumes that run on its plexes, while no call is under way.
-use Rattle.std.proofs.Common.{◌≡◌, ◌∙◌, ◌⊎◌, ℕ, ◌+◌, ◌==◌, Bool, true, false, cond, List, [], ◌∷◌, ◌++◌, map, Option, Some, None, MatchOption, refl, sym, ap, subst, inl, inr}
+use Rattle.std.proofs.Common.{◌≡◌, ◌∙◌, ℕ, ◌+◌, ◌==◌, Bool, true, false, cond, List, [], ◌∷◌, ◌++◌, map, Option, Some, None, MatchOption, refl, sym, ap, subst, inl, inr}
 use Rattle.std.specs.Prelude.{IfSome, Contains, is_some, slice_index}
 use Rattle.std.specs.List.{All, flat_map}
 use Rattle.std.proofs.lemmas.List.{append-nil}
@@ -11,13 +11,13 @@ use Rattle.vx_mask.specs.Mask.{has}
 use Rattle.vx_piece.specs.Seen.{Seen, EndsThere, AreCounts}
 use Rattle.vx_config_parts.specs.declared.vol.Vol.{Vol}
 use Rattle.vx_config_parts.specs.declared.object.Object.{Object}
-use Rattle.vx_config_parts.specs.declared.object.Object.TheVariants.{GroupRecord, DiskRecord, SubdiskRecord, PlexRecord, VolRecord, DcoRecord, SnapRecord}
+use Rattle.vx_config_parts.specs.declared.object.Object.TheVariants.{DiskRecord, SubdiskRecord, PlexRecord, VolRecord, DcoRecord, SnapRecord}
 use Rattle.vx_objects.specs.declared.config.Config.{Config}
 use Rattle.vx_objects.specs.Config.{objects_of}
 use Rattle.vx_image.specs.Once.{IsOneOf}
 use Rattle.vx_image.proofs.PlexMembers.{IsIn, from_map, in_either, one_in}
 use Rattle.vx_image.proofs.Members.{contains}
-use Rattle.vx_carve.specs.Together.{AreOnce, Holds}
+use Rattle.vx_carve.specs.Together.{Holds}
 use Rattle.vx_copies.specs.Disks.{DiskSeen, disk_seen}
 use Rattle.vx_copies.specs.Lists.{AllOf, AnyOf}
 use Rattle.vx_copies.specs.declared.disk.Disk.{Disk}
@@ -29,9 +29,8 @@ use Rattle.vx_fronts.specs.Rests.{AllTell, IsTelling, rests_of, sector_in}
 use Rattle.vx_fronts.proofs.Devices.{whole_is}
 use Rattle.vx_fronts.proofs.Parted.{all_by, all_fronts, all_parts, parted_once}
 use Rattle.vx_fronts.proofs.Sectors.{own_told}
-use Rattle.vx_layout.specs.declared.place.Place.{Place}
 use Rattle.vx_image.specs.Bytes.{Sectors, image_of}
-use Rattle.vx_image.specs.Own.{IsOfVolume, SameInside}
+use Rattle.vx_image.specs.Own.{SameInside}
 use Rattle.vx_image.proofs.Own.{image_own}
 use Rattle.vx_volume_laws.specs.Contents.{AreSectorsOf}
 use Rattle.vx_lending.specs.Left.{held_pieces}
@@ -44,14 +43,13 @@ use Rattle.vx_moments.specs.Volumes.{StandsForVolume}
 use Rattle.vx_group_volumes.proofs.Leavings.{leaving_stands}
 use Rattle.vx_moments.specs.Leaving.{grouped}
 use Rattle.vx_moments.specs.Moment.{Moment}
-use Rattle.vx_moments.specs.World.{Device, Group, Member, Volume, World}
-use Rattle.vx_house.specs.Holders.{Holder, group_holders, group_rests, hand_holder, held_as, holder_in, holders, volume_holder, whole_members}
+use Rattle.vx_moments.specs.World.{Device, Group, Member, Volume}
+use Rattle.vx_house.specs.Holders.{group_holders, group_rests, hand_holder, held_as, holder_in, holders, volume_holder, whole_members}
 use Rattle.vx_house.specs.Leaves.{StandsAt}
 use Rattle.vx_moments.specs.Owners.{device_at}
 use Rattle.vx_house.specs.Runs.{IsAtRun, IsRunOf, fronts_in, run_in}
 use Rattle.vx_house.specs.Scene.{seen_in, seen_at}
-use Rattle.vx_house.specs.View.{View, scene, is_lent, IsDeviceOf, IsGroupWhole, IsMomentButGroup, KeepsButGroup}
-use Rattle.vx_house.specs.declared.house.House.{House}
+use Rattle.vx_house.specs.View.{View, scene, is_lent, IsGroupWhole, IsMomentButGroup, KeepsButGroup}
 use Rattle.vx_house.specs.declared.house.Imported.{Imported}
 use Rattle.vx_house.proofs.AllLaws.{all_back, all_front, all_two, all_unmapped, found_by_one, held_each}
 use Rattle.vx_house.proofs.Hands.{IsInWorld, in_world, volumes_apart}

@@ -1,18 +1,16 @@
 -- The disks of a group with their whole devices.
-use Rattle.std.proofs.Common.{◌≡◌, ◌∙◌, List, [], ◌∷◌, ◌++◌, map, Option, Some, None, refl, sym, ap, subst}
+use Rattle.std.proofs.Common.{◌≡◌, ◌∙◌, List, [], ◌∷◌, ◌++◌, map, Option, Some, None, refl, sym, ap}
 use Rattle.std.specs.List.{flat_map}
 use Rattle.std.proofs.lemmas.List.{append-nil}
 use Rattle.vx_pages.specs.declared.local_piece.LocalPiece.{Ghosts}
-use Rattle.vx_base.specs.Named.{Word}
 use Rattle.vx_piece.specs.Seen.{Seen}
 use Rattle.vx_copies.specs.Disks.{DiskSeen, disk_seen}
 use Rattle.vx_copies.specs.declared.disk.Disk.{Disk}
 use Rattle.vx_confdb.specs.Groups.{members}
-use Rattle.vx_fronts.specs.Fronts.{Rest, Rests, with_device, whole_disk}
+use Rattle.vx_fronts.specs.Fronts.{Rest, Rests, with_device}
 use Rattle.vx_fronts.specs.Laws.{whole_disks}
 use Rattle.vx_fronts.specs.Rests.{rests_of}
 use Rattle.vx_lending.specs.Public.{lent_pieces, remaining_pieces, running_pieces, still_pieces, stuck_pieces}
-use Rattle.vx_moments.specs.World.{Member}
 use Rattle.vx_house.specs.Holders.{disk_holder, group_holders, group_rests, holder_in, whole_members}
 use Rattle.vx_house.specs.View.{IsGroupIdle, member_in, member_of}
 use Rattle.vx_house.specs.declared.house.Imported.{Imported}

@@ -1,17 +1,16 @@
 -- Where no device of the log of a called volume has failed, no count of the log rose; so the log stays exact.
-use Rattle.std.proofs.Common.{◌≡◌, ℕ, ◌+◌, ◌-◌, ◌^◌, ◌<◌, min, Bool, true, false, List, [], ◌∷◌, ◌++◌, length, refl, sym, ◌∙◌, ap, subst, arith, length-append}
-use Rattle.std.specs.List.{All, sum_by}
+use Rattle.std.proofs.Common.{◌≡◌, ℕ, ◌+◌, ◌-◌, ◌^◌, min, Bool, true, false, List, [], ◌∷◌, ◌++◌, length, refl, sym, ◌∙◌, subst, arith, length-append}
+use Rattle.std.specs.List.{All}
 use Rattle.vx_base.specs.Counts.{Rose}
 use Rattle.vx_base.specs.Named.{Word}
 use Rattle.vx_piece.specs.Seen.{Keeps, Seen}
 use Rattle.vx_runs.specs.Run.{EachPiece}
-use Rattle.vx_carve.specs.Together.{HasSome, faults_of, faults_on}
+use Rattle.vx_carve.specs.Together.{HasSome}
 use Rattle.vx_pages.specs.declared.local_piece.LocalPiece.{Ghosts}
 use Rattle.vx_cell.specs.Region.{LogRose}
 use Rattle.vx_copies.specs.Disks.{DiskSeen}
 use Rattle.vx_moments.specs.Moment.{Moment}
 use Rattle.vx_moments.specs.Moment.{HasFailed as FailsAt}
-use Rattle.vx_moments.specs.World.{Volume as WorldVolume}
 use Rattle.vx_volume.specs.declared.volume.Volume.{Volume}
 use Rattle.vx_volume.specs.Log.{LogGoes}
 use Rattle.vx_volume.specs.Volume.{VolumeSeen, log_of, volume_seen}

@@ -15,7 +15,7 @@ use Rattle.vx_config_parts.specs.declared.disk.Disk.{Disk}
 use Rattle.vx_config_parts.specs.declared.plex.Plex.{Plex}
 use Rattle.vx_config_parts.specs.Objects.{is_subdisk, is_disk, refers, name_of}
 use Rattle.vx_rules.specs.Columns as extents
-use Rattle.vx_rules.specs.Columns.{is_in_column, piece_follows, piece_is_good, all_pieces_good, end_with}
+use Rattle.vx_rules.specs.Columns.{is_in_column, piece_follows, all_pieces_good, end_with}
 use Rattle.vx_rules.specs.Limits.{is_short, fits_byte, fits_word}
 use Rattle.vx_rules.specs.Rules.{first_broken}
 use Rattle.vx_rules.specs.Space.{has_room}

@@ -5,7 +5,6 @@ use Rattle.std.specs.List.{filter}
 use Rattle.std.proofs.lemmas.Bool.{and_from, false_from_ne_true}
 use Rattle.std.proofs.lemmas.List.{append-nil, map-append}
 use Rattle.vx_base.specs.Named.{Word}
-use Rattle.vx_mask.specs.Mask.{has}
 use Rattle.vx_piece.specs.Seen.{Seen}
 use Rattle.vx_layout.specs.declared.layout.Layout.{Layout}
 use Rattle.vx_pages.specs.declared.local_piece.LocalPiece.{Ghosts}

@@ -1,5 +1,5 @@
 -- What the group's leaving keeps: a volume on a whole device is there as before.
-use Rattle.std.proofs.Common.{◌≡◌, Option, Some, None, refl, sym, ◌∙◌, ap, subst}
+use Rattle.std.proofs.Common.{◌≡◌, Option, Some, None, refl, ◌∙◌, ap}
 use Rattle.vx_base.specs.Named.{Word}
 use Rattle.vx_moments.specs.World.{World, Volume, Lies, OnDevice, OnPlexes}
 use Rattle.vx_moments.specs.Holding.{IsLent, HasDevice}

@@ -1,8 +1,8 @@
 -- What entries and failures leave of a started volume.
-use Rattle.std.proofs.Common.{◌≡◌, ◌∙◌, ℕ, Bool, List, [], ◌∷◌, refl}
+use Rattle.std.proofs.Common.{◌≡◌, List, [], ◌∷◌, refl}
 use Rattle.vx_base.specs.Named.{Word}
 use Rattle.vx_life.specs.Entry.{Entry}
-use Rattle.vx_moments.specs.World.{Lies, Volume}
+use Rattle.vx_moments.specs.World.{Volume}
 use Rattle.vx_moments.specs.Tracks.{TrackOwner, volume_after, volume_goes}
 
 -- entries change tracks and dirty regions alone

@@ -1,5 +1,5 @@
 -- The tests of a new volume before it is planned, in their order.
-use Rattle.std.specs.Prelude.{ℕ, ◌&&◌, ◌||◌, not, nat_lt, nat_le, Bool, true, Option, Some, None, List, [], ◌∷◌}
+use Rattle.std.specs.Prelude.{◌&&◌, ◌||◌, not, nat_lt, nat_le, Bool, true, Option, Some, None, List, [], ◌∷◌}
 use Rattle.std.specs.List.{count_by}
 use Rattle.vx_base.specs.Named.{Word}
 use Rattle.vx_block.specs.Geometry.{is_region_size, is_geometry}

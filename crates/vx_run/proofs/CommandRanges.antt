@@ -1,5 +1,5 @@
 -- What is asked of calls and forms holds of a command of a script.
-use Rattle.std.proofs.Common.{◌≡◌, ◌%◌, ◌<◌, ◌≤◌, ◌^◌, ◌==◌, ℕ, eqb-true, nat_lt, nat_le, true, false, ◌&&◌, List, length, arith, Option, Some, None, refl, sym, subst}
+use Rattle.std.proofs.Common.{◌≡◌, ◌%◌, ◌<◌, ◌≤◌, ◌^◌, ◌==◌, ℕ, eqb-true, nat_lt, nat_le, true, ◌&&◌, List, length, arith, Option, refl, subst}
 use Rattle.std.proofs.lemmas.Bool.{and_parts, leb-true, ltb-true}
 use Rattle.vx_base.specs.Named.{Word}
 use Rattle.vx_names.specs.Form.{is_name}
@@ -9,7 +9,6 @@ use Rattle.vx_script_forms.specs.declared.call.Call.TheVariants as calls
 use Rattle.vx_script_forms.specs.declared.form.Form.{Form}
 use Rattle.vx_script_forms.specs.declared.form.Form.TheVariants as form
 use Rattle.vx_script.specs.Kept.{is_said}
-use Rattle.vx_script.specs.declared.command.Command.{Command}
 use Rattle.vx_script.proofs.Calls.{read_range, fill_range}
 use Rattle.vx_script_words.specs.Fits.{are_blocks, is_between, of_item}
 use Rattle.vx_script_words.specs.declared.class.Item.TheVariants as item

@@ -1,6 +1,6 @@
 -- Power that comes back to devices of a shelf, and the house over it.
 use Rattle.std.proofs.Common.{◌≡◌, ◌≤◌, ℕ, Bool, true, false, Option, Some, None, Result, Ok, Err, refl, sym, ap, subst, ◌∙◌, arith}
-use Rattle.std.specs.Prelude.{IfSome, IsSome}
+use Rattle.std.specs.Prelude.{IsSome}
 use Rattle.vx_pages.specs.declared.local_piece.LocalPiece.{Ghosts}
 use Rattle.vx_base.specs.Named.{Word}
 use Rattle.vx_piece.specs.Seen.{Seen}
@@ -8,20 +8,19 @@ use Rattle.vx_power.specs.Returned.{AreReturned, HasPower, IsReturned}
 use Rattle.vx_script.specs.declared.command.Command.{Command}
 use Rattle.vx_answers.specs.declared.answer.Answer.{Answer}
 use Rattle.vx_answers.specs.declared.answer.Answer.TheVariants.{One, Block}
-use Rattle.vx_answers.specs.declared.answer.End.{End}
 use Rattle.vx_moments.specs.Moment.{AreLater, Counts, Moment}
 use Rattle.vx_moments.specs.World.{Device}
 use Rattle.vx_plans.specs.Steps.{AreAsBefore, CountsAfter, Does, LeavesOff, PowerReturns, Serves}
 use Rattle.vx_house.specs.Holders.{AreHeld, held_as, holders}
 use Rattle.vx_shelf.specs.Shelf.{Held}
-use Rattle.vx_house.specs.Scene.{AreCountsOf, FaultsGoOn, Scene, Shelved, shelved, count_in, counts_of, faults_at, faults_in, seen_at, seen_in}
+use Rattle.vx_house.specs.Scene.{FaultsGoOn, Scene, Shelved, shelved, count_in, counts_of, faults_at, faults_in, seen_at, seen_in}
 use Rattle.vx_house.specs.View.{IsDeviceOf, IsMoment, Keeps, KeepsButGroup, View, at, scene}
 use Rattle.vx_house.specs.declared.house.House.{House}
 use Rattle.vx_house.proofs.Holders.{same_held}
 use Rattle.vx_house.proofs.Moments.{faults_trans}
 use Rattle.vx_run.specs.Ends.{IsShelfOf, bare}
-use Rattle.vx_run.specs.Powers.{FaultsAreLater, AreGoneFree, GetsPower, GoesOn, IsLeftOff, IsOffBy, StepEnds, StepGoes}
-use Rattle.vx_run.specs.Serving.{AnswerBlamed, CommandEnds, CommandGoes, IsHeldUp, IsRefused}
+use Rattle.vx_run.specs.Powers.{FaultsAreLater, GetsPower, StepEnds}
+use Rattle.vx_run.specs.Serving.{AnswerBlamed, CommandEnds}
 use Rattle.vx_run.specs.declared.unserved.Unserved.{Unserved}
 use Rattle.vx_run.specs.declared.unserved.Unserved.TheVariants as unserved
 use Rattle.vx_run.proofs.CommandEnds.{blamed_on}

@@ -10,7 +10,6 @@ use Rattle.vx_script.specs.declared.command.Command.{Command}
 use Rattle.vx_answers.specs.Lines.{lines_of}
 use Rattle.vx_answers.specs.declared.answer.Answer.{Answer}
 use Rattle.vx_answers.specs.declared.answer.Answer.TheVariants.{One, Block}
-use Rattle.vx_answers.specs.declared.answer.End.{End}
 use Rattle.vx_moments.specs.Moment.{Counts, Moment}
 use Rattle.vx_plans.specs.Steps.{IsTranscript}
 use Rattle.vx_house.specs.Scene.{Scene, FaultsGoOn}
@@ -25,7 +24,7 @@ use Rattle.vx_run.specs.declared.unserved.Unserved.TheVariants as unserved
 use Rattle.vx_run.proofs.CommandEnds.{blamed_on}
 use Rattle.vx_run.specs.Fine.{is_fine, are_fine}
 use Rattle.vx_run.specs.Run.{AreBlamed, HasRun, HasRunPartly, HoldsButLast, RestsIn, text_of}
-use Rattle.vx_run.specs.Stops.{IsKept, IsKeptButGroup, LeftBy, OnShort, fault_of}
+use Rattle.vx_run.specs.Stops.{LeftBy, OnShort, fault_of}
 use Rattle.vx_run.specs.declared.lines.ServeFault.{ServeFault}
 use Rattle.vx_run.specs.declared.lines.ServeFault.TheVariants as stops
 

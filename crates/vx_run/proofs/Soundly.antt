@@ -1,7 +1,5 @@
 -- A run over sound copies leaves them sound, and one over sound volumes leaves those sound.
-use Rattle.std.proofs.Common.{◌≡◌, ℕ, Bool, List, [], ◌∷◌, ◌++◌, Option, Result, Ok, Err, sym, subst, inl, inr}
-use Rattle.std.specs.Prelude.{IfOk, OnErr}
-use Rattle.vx_copies.specs.Lists.{AllOf}
+use Rattle.std.proofs.Common.{ℕ, Bool, List, [], ◌∷◌, ◌++◌, Option, subst, inl, inr}
 use Rattle.vx_script.specs.declared.command.Command.{Command}
 use Rattle.vx_moments.specs.Leaving.{PowerGoes}
 use Rattle.vx_moments.specs.Lives.{GroupStands}
@@ -9,7 +7,7 @@ use Rattle.vx_moments.specs.World.{World}
 use Rattle.vx_answers.specs.declared.answer.Answer.{Answer}
 use Rattle.vx_moments.specs.Moment.{Moment}
 use Rattle.vx_plans.specs.Steps.{IsTranscript}
-use Rattle.vx_sound.specs.Laws.{FormWritesNoHeader, IsIdle, WriteNoHeader}
+use Rattle.vx_sound.specs.Laws.{IsIdle, WriteNoHeader}
 use Rattle.vx_sound.specs.Sound.{AreSound}
 use Rattle.vx_sound.proofs.Steps.{each_run_keeps_devices_sound}
 use Rattle.vx_sound.proofs.Wants.{each_run_left_off_keeps_devices_sound}

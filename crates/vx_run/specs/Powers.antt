@@ -1,5 +1,5 @@
 -- A command that is served while a power switch may be set, and the power that comes back behind it.
-use Rattle.std.specs.Prelude.{◌≡◌, ◌≤◌, ℕ, [], Bool, false, true, Option, Some, None, Result, Ok, Err}
+use Rattle.std.specs.Prelude.{◌≡◌, ◌≤◌, ℕ, [], Bool, false, true, Option, None, Result, Ok, Err}
 use Rattle.vx_pages.specs.declared.local_piece.LocalPiece.{Ghosts}
 use Rattle.vx_base.specs.Named.{Word, SameUnder}
 use Rattle.vx_piece.specs.Seen.{Seen}

@@ -9,7 +9,7 @@ use Rattle.vx_piece.specs.Seen.{Seen}
 use Rattle.vx_copies.specs.Chain.{AreInOrder}
 use Rattle.vx_copies.specs.Commit.{HasRisen}
 use Rattle.vx_copies.specs.Config.{GivesNew}
-use Rattle.vx_copies.specs.Disks.{DiskSeen, HasSlot, IsCut, NamesHalf, Drops, good_mask}
+use Rattle.vx_copies.specs.Disks.{DiskSeen, HasSlot, IsCut, NamesHalf, good_mask}
 use Rattle.vx_copies.specs.Lists.{AllOf, AnyOf, Each}
 use Rattle.vx_copies.specs.Written.{Touches, IsQuiet, WritesJust, CarriesIfGood, sectors_of}
 use Rattle.vx_copies.specs.Written.{IsMaskOf as IsMaskIn}

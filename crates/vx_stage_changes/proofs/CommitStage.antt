@@ -1,5 +1,5 @@
 -- A commit to disks as a stage of a command: it is done, or the group or the power is lost.
-use Rattle.std.proofs.Common.{◌≡◌, ◌∙◌, ◌<◌, false, List, [], Some, None, Ok, Err, refl, sym, ap, subst}
+use Rattle.std.proofs.Common.{◌≡◌, ◌∙◌, ◌<◌, false, List, [], Some, Ok, Err, refl, sym, ap, subst}
 use Rattle.std.specs.Prelude.{IfSome}
 use Rattle.std.specs.BTreeMap.{IsOrdered}
 use Rattle.std.specs.Cmp.Lexicographic.{slice_cmp}

@@ -1,5 +1,5 @@
 -- A commit that is done, and one that is stopped.
-use Rattle.std.proofs.Common.{◌≡◌, ◌∙◌, inl, inr, ℕ, ◌+◌, ◌≤◌, ◌<◌, Option, None, ◌==◌, ◌||◌, ◌&&◌, Bool, true, false, cond, List, [], ◌∷◌, ◌++◌, map, Some, refl, sym, ap, subst, arith}
+use Rattle.std.proofs.Common.{◌≡◌, ◌∙◌, inl, inr, ℕ, ◌+◌, ◌≤◌, ◌<◌, Option, None, Bool, true, false, cond, List, [], ◌∷◌, ◌++◌, map, Some, refl, sym, ap, subst, arith}
 use Rattle.std.specs.Prelude.{IsTrue, MatchOption}
 use Rattle.std.proofs.lemmas.List.{map-append}
 use Rattle.vx_base.specs.Counts.{Rose, later_count}
@@ -7,10 +7,9 @@ use Rattle.vx_base.specs.Named.{Word}
 use Rattle.vx_base.proofs.NamedLemmas.{bytes_eq_self}
 use Rattle.vx_mask.specs.Mask.{has}
 use Rattle.vx_header.specs.Named.{header_of}
-use Rattle.vx_piece.specs.Seen.{Seen}
 use Rattle.vx_copies.specs.Config.{configuration, IsReadableGood, GivesNew}
 use Rattle.vx_copies.specs.Image.{Offer, names_group}
-use Rattle.vx_copies.specs.Disks.{DiskSeen, IsNew, IsMember, HasSlot, Drops, is_good_slot, good_mask, good_count, IsCut}
+use Rattle.vx_copies.specs.Disks.{DiskSeen, IsNew, IsMember, HasSlot, good_mask, good_count, IsCut}
 use Rattle.vx_copies.specs.Commit.{HasRisen}
 use Rattle.vx_copies.specs.Lists.{AllOf, AnyOf, Each}
 use Rattle.vx_copies.specs.Written.{IsQuiet, WritesJust, CarriesIfGood}

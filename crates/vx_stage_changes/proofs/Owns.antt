@@ -1,5 +1,5 @@
 -- Running volumes of a group through a commit: they run by the configuration that was written, on the same disks.
-use Rattle.std.proofs.Common.{◌≡◌, ◌∙◌, ℕ, Bool, true, false, cond, List, [], ◌∷◌, ◌++◌, Option, Some, None, refl, sym, ap, subst, inl, inr}
+use Rattle.std.proofs.Common.{◌≡◌, ◌∙◌, ℕ, Bool, true, false, cond, List, [], ◌∷◌, Option, Some, None, refl, sym, ap, subst}
 use Rattle.std.specs.Prelude.{Contains, IsSome, is_some}
 use Rattle.std.proofs.lemmas.Bool.{and_parts}
 use Rattle.std.specs.BTreeMap.{is_at}
@@ -7,19 +7,16 @@ use Rattle.std.specs.Cmp.Lexicographic.{slice_cmp}
 use Rattle.std.specs.Ordering.{nat_cmp}
 use Rattle.vx_pages.specs.declared.local_piece.LocalPiece.{Ghosts}
 use Rattle.vx_base.specs.Named.{Word}
-use Rattle.vx_mask.specs.Mask.{has}
 use Rattle.vx_piece.specs.Seen.{Seen}
 use Rattle.vx_copies.specs.Disks.{DiskSeen, good_mask}
 use Rattle.vx_copies.specs.Lists.{AllOf, AnyOf}
 use Rattle.vx_config_parts.specs.declared.plex.Plex.{Plex}
 use Rattle.vx_config_parts.specs.declared.vol.Vol.{Vol}
 use Rattle.vx_config_parts.specs.Objects.{is_log, is_log_plex_of, refers}
-use Rattle.vx_image.specs.Bytes.{Sectors, image_of}
+use Rattle.vx_image.specs.Bytes.{image_of}
 use Rattle.vx_objects.specs.declared.config.Config.{Config}
-use Rattle.vx_image.specs.Image.{PlexImage, IsFilled, WasStarted}
-use Rattle.vx_image.specs.Own.{IsOfVolume}
+use Rattle.vx_image.specs.Image.{PlexImage, WasStarted}
 use Rattle.vx_image.proofs.Imports.{filled}
-use Rattle.vx_layout.specs.declared.place.Place.{Place}
 use Rattle.vx_moments.specs.World.{Group, Member, Volume}
 use Rattle.vx_lending.specs.declared.public.Public.{Public}
 use Rattle.vx_lending.specs.declared.public.Running.{Running}

@@ -1,10 +1,9 @@
 -- The running volumes of the imported group, whose disks a commit has written, where none joins by it.
-use Rattle.std.proofs.Common.{◌≡◌, ◌∙◌, ℕ, ◌+◌, true, List, [], ◌∷◌, map, Option, Some, refl, sym, ap, subst, inl, inr}
+use Rattle.std.proofs.Common.{◌≡◌, ◌∙◌, ℕ, ◌+◌, List, [], ◌∷◌, map, Some, refl, sym, ap, subst, inl, inr}
 use Rattle.vx_pages.specs.declared.local_piece.LocalPiece.{Ghosts}
-use Rattle.vx_base.specs.Named.{Word}
 use Rattle.vx_piece.specs.Seen.{Seen}
 use Rattle.vx_copies.specs.Disks.{DiskSeen, disk_seen, CommitGoes, good_mask}
-use Rattle.vx_copies.specs.Lists.{AnyOf, Each}
+use Rattle.vx_copies.specs.Lists.{Each}
 use Rattle.vx_copies.specs.declared.disk.Disk.{Disk}
 use Rattle.vx_confdb.specs.Groups.{members}
 use Rattle.vx_moments.specs.World.{Group}

@@ -57,7 +57,6 @@ use Rattle.vx_lending.specs.declared.public.Running.{Running}
 use Rattle.vx_house.specs.Runs.{AreRuns, IsAtRun, fronts_in, run_in}
 use Rattle.vx_house.proofs.Recorded.{run_recorded, unrecorded_rests}
 use Rattle.vx_house.proofs.Runs.{none_at}
-use Rattle.vx_house.proofs.Ends.{whole_kept}
 
 -- the names of volumes
 recorded_same : {P : Type 0} {ghosts : Ghosts P} (see : P → Seen) (o : Option (Imported P ghosts)) (vol : Word) → has_volume (group_of see o) vol ≡ is_recorded o vol

@@ -77,7 +77,6 @@ use Rattle.vx_house.specs.Unmoved.{Unmoved}
 use Rattle.vx_house.proofs.Readings.{stays_device, stays_place, only_trans, only_unmoved}
 use Rattle.vx_house.specs.Runs.{AreRuns, run_in}
 use Rattle.vx_house.proofs.Runs.{idle_runs, none_in_place, none_still, all_alone}
-use Rattle.vx_house.proofs.Ends.{whole_kept}
 use Rattle.vx_group_start.specs.Laying.{AreRunningVolumes, AreStuckVolumes}
 
 -- the disks beside a house without a group and with an empty hand are held as those of its group

@@ -1,7 +1,7 @@
 -- Copies of the log of a volume were called among the pieces of its group: the image of the volume is what it was, or its copies have come nearer
 -- to one another.
-use Rattle.std.proofs.Common.{◌≡◌, ◌∙◌, inl, inr, ℕ, zero, suc, ◌+◌, ◌≤◌, ◌==◌, ◌||◌, Bool, true, false, cond, List, [], ◌∷◌, ◌++◌, map, Option, Some, None, refl, sym, ap, subst, arith}
-use Rattle.std.specs.Prelude.{IfSome, slice_index, Contains}
+use Rattle.std.proofs.Common.{◌≡◌, ◌∙◌, inl, inr, ℕ, ◌+◌, ◌≤◌, ◌==◌, Bool, true, false, cond, List, [], ◌∷◌, ◌++◌, map, Option, Some, None, refl, sym, ap, subst, arith}
+use Rattle.std.specs.Prelude.{IfSome}
 use Rattle.std.specs.List.{All, list_any}
 use Rattle.std.specs.Str.{bytes_eq}
 use Rattle.std.proofs.lemmas.Bool.{eqb-true, false≢true}
@@ -23,10 +23,9 @@ use Rattle.vx_copies.specs.Disks.{DiskSeen, disk_seen, good_mask}
 use Rattle.vx_copies.specs.Lists.{AllOf, AnyOf}
 use Rattle.vx_copies.specs.declared.disk.Disk.{Disk}
 use Rattle.vx_confdb.specs.Groups.{members}
-use Rattle.vx_cut.proofs.Parts.{all_parts}
 use Rattle.vx_fronts.specs.Fronts.{Rests, whole_disk}
 use Rattle.vx_fronts.specs.Laws.{whole_disks}
-use Rattle.vx_fronts.specs.Parted.{AreParted, fronts_of}
+use Rattle.vx_fronts.specs.Parted.{fronts_of}
 use Rattle.vx_fronts.specs.Rests.{AllTell, IsTelling, sector_in}
 use Rattle.vx_fronts.proofs.Behind.{turned}
 use Rattle.vx_fronts.proofs.Parted.{parted_once}
@@ -42,7 +41,7 @@ use Rattle.vx_moments.specs.World.{Device, Group, Member}
 use Rattle.vx_moments.specs.Group.{image_on, public_of, sectors_of}
 use Rattle.vx_moments.specs.Owners.{device_at}
 use Rattle.vx_lending.specs.Form.{IsFormOf}
-use Rattle.vx_lending.specs.FormLaws.{AreNumbered, good_disks}
+use Rattle.vx_lending.specs.FormLaws.{AreNumbered}
 use Rattle.vx_lending.specs.declared.form.VolumeForm.{VolumeForm}
 use Rattle.vx_volume_laws.specs.Contents.{AreSectorsOf}
 use Rattle.vx_lending.specs.RegionPieces.{all_pieces}

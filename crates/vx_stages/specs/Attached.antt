@@ -1,6 +1,6 @@
 -- How `vxplex att` goes in the world and ends its command: the plex is recorded as in use by a commit, the running volume writes to it, and
 -- what it misses is copied to it.
-use Rattle.std.specs.Prelude.{◌≡◌, ◌⊎◌, ℕ, ◌<◌, Bool, true, false, if◌then◌else◌, None, Some, MatchOption, Contains, List, []}
+use Rattle.std.specs.Prelude.{◌≡◌, ◌⊎◌, ℕ, Bool, true, false, if◌then◌else◌, None, Some, MatchOption, Contains, List, []}
 use Rattle.std.specs.Str.{bytes_eq}
 use Rattle.vx_base.specs.Named.{Word, put}
 use Rattle.vx_block.specs.Regions.{region_count}

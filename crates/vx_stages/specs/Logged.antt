@@ -20,7 +20,7 @@ use Rattle.vx_moments.specs.Moment.{AreLater, Moment, Rests}
 use Rattle.vx_moments.specs.Commit.{IsCommitted, Writing}
 use Rattle.vx_moments.specs.Group.{image_on}
 use Rattle.vx_stages.specs.Ends.{EndsIn, IsChange, StopsBy}
-use Rattle.vx_stages.specs.Logging.{AreLogsLaid, IsPrepareRefused, IsUnprepareRefused, MayLoseLog, log_plexes_of, prepare_refusal}
+use Rattle.vx_stages.specs.Logging.{AreLogsLaid, IsPrepareRefused, IsUnprepareRefused, MayLoseLog, prepare_refusal}
 use Rattle.vx_stages.specs.Recorded.{IsSoundAs}
 use Rattle.vx_stages.specs.Stopping.{runs_on_plexes}
 use Rattle.vx_stages.specs.Tests.{volume_in}

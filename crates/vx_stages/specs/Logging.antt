@@ -1,5 +1,5 @@
 -- `vxsnap prepare` and `vxsnap unprepare`: the tests in their order, what is changed in the group, and why the commands are refused.
-use Rattle.std.specs.Prelude.{◌≡◌, ◌⊎◌, ℕ, ◌==◌, ◌&&◌, ◌||◌, not, Bool, true, false, Option, Some, None, Ok, Err, List, [], ◌∷◌, ◌++◌, length, map}
+use Rattle.std.specs.Prelude.{◌≡◌, ◌⊎◌, ℕ, ◌==◌, ◌&&◌, ◌||◌, not, Bool, true, false, Option, Some, None, Ok, List, [], ◌∷◌, ◌++◌, length, map}
 use Rattle.std.specs.List.{filter, list_any}
 use Rattle.std.specs.Str.{bytes_eq}
 use Rattle.vx_base.specs.Named.{Word}
@@ -30,7 +30,7 @@ use Rattle.vx_answers.specs.declared.answer.End.{End}
 use Rattle.vx_answers.specs.declared.refusal.Refusal.{Refusal}
 use Rattle.vx_answers.specs.declared.refusal.Refusal.TheVariants as refusal
 use Rattle.vx_moments.specs.World.{Group}
-use Rattle.vx_stages.specs.Ends.{RefusedAsLong, refused}
+use Rattle.vx_stages.specs.Ends.{RefusedAsLong}
 use Rattle.vx_stages.specs.Mirroring.{HasNoPlan, RefusedFor}
 use Rattle.vx_stages.specs.Refusals.{refusal_from}
 use Rattle.vx_stages.specs.Tests.{unless, volume_in, where_}

@@ -5,13 +5,12 @@ use Rattle.std.specs.Prelude.{◌==◌, not}
 use Rattle.std.specs.List.{list_any}
 use Rattle.vx_life.specs.Entry.{Entry}
 use Rattle.vx_mask.specs.Mask.{has, lowest, only, union, without}
-use Rattle.vx_mask.specs.Marks.{Marks, MayTidy}
+use Rattle.vx_mask.specs.Marks.{Marks}
 use Rattle.vx_mask.proofs.MaskLemmas.{has-lt, has-only_same, lowest_there, same_as_only, some_from_test, without-lt}
 use Rattle.vx_mask.proofs.Sets.{in_union, in_without, union_cases, without_parts}
 use Rattle.vx_mask.proofs.Tests.{not_both, or_cases, or_neither}
 use Rattle.vx_core.specs.declared.stage.Stage.{Stage}
 use Rattle.vx_core.specs.declared.stage.Phase.{Phase}
-use Rattle.vx_core.specs.declared.stage.Phase.TheVariants.{Settled}
 use Rattle.vx_core.specs.Form.{IsFormed, IsStage}
 use Rattle.vx_core.specs.History.{NoCall}
 use Rattle.vx_core.specs.Kept.{IsKept}
@@ -28,14 +27,14 @@ use Rattle.vx_piece.specs.Seen.{Seen}
 use Rattle.vx_cell.specs.declared.cell.Cell.{Cell}
 use Rattle.vx_cell.specs.Changes.{CellSeen, cell_seen, has_other, stage_with}
 use Rattle.vx_cell.specs.Plexes.{holds}
-use Rattle.vx_cell.specs.Region.{IsLogOf, IsTold, IsWhole, RegionSeen, StandsFor, Tells, TidiesOthers, marks_or, state_of}
-use Rattle.vx_volume.specs.Laws.{AreTold, EachFirmingGoesOn, EachFirmingTightens, EachPlexMayGoOff, EachPlexMayGoOn, EachSwitchTells, GoesOn}
+use Rattle.vx_cell.specs.Region.{IsLogOf, IsTold, IsWhole, StandsFor, Tells, TidiesOthers, marks_or, state_of}
+use Rattle.vx_volume.specs.Laws.{EachFirmingGoesOn, EachFirmingTightens, EachPlexMayGoOff, EachPlexMayGoOn, EachSwitchTells, GoesOn}
 use Rattle.std.specs.Global.{Vec}
 use Rattle.vx_pages.specs.declared.local_piece.LocalPiece.{Ghosts}
 use Rattle.vx_volume.specs.declared.log.VolumeLog.{VolumeLog}
 use Rattle.vx_volume.specs.declared.volume.VolumeShape.{VolumeShape}
 use Rattle.vx_volume.specs.Log.{log_seen}
-use Rattle.vx_volume.specs.Switching.{CanSpare, Firms, HasPlex, IsSwitched, shape_with}
+use Rattle.vx_volume.specs.Switching.{CanSpare, HasPlex, IsSwitched, shape_with}
 use Rattle.vx_volume.specs.Volume.{IsCellOf, IsVolume, VolumeSeen, cell_at, cells_seen, no_cell, region_at, seen_of, with_log}
 use Rattle.vx_volume.proofs.Histories.{other_goes}
 use Rattle.vx_volume.proofs.Steps.{whole_still}

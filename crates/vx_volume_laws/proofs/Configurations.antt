@@ -1,19 +1,14 @@
 -- What keeps volumes, one configuration after another.
-use Rattle.std.proofs.Common.{◌≡◌, ℕ, Bool, true, false, Option, Some, None, List, [], ◌∷◌, refl, sym, ap, ◌∙◌}
-use Rattle.std.specs.Prelude.{◌&&◌}
+use Rattle.std.proofs.Common.{◌≡◌, false, List, [], ◌∷◌, refl, sym, ap, ◌∙◌}
 use Rattle.std.specs.List.{AllZip}
-use Rattle.std.proofs.lemmas.Bool.{and_parts, and_from, false≢true}
-use Rattle.vx_base.specs.Named.{Word}
 use Rattle.vx_config_parts.specs.declared.plex.Plex.{Plex}
 use Rattle.vx_config_parts.specs.declared.state.PlexState.{PlexState}
 use Rattle.vx_config_parts.specs.declared.state.PlexState.TheVariants as plex
-use Rattle.vx_config_parts.specs.Objects.{is_data_plex_of, is_log_plex_of}
+use Rattle.vx_config_parts.specs.Objects.{is_data_plex_of}
 use Rattle.vx_objects.specs.declared.config.Config.{Config}
-use Rattle.vx_image.proofs.PlexMembers.{IsIn}
 use Rattle.vx_image.specs.Image.{PlexImage}
-use Rattle.vx_image.specs.Bytes.{is_active, is_held, plex_image}
-use Rattle.vx_image.proofs.Members.{contains, is_in}
-use Rattle.vx_image.specs.UsedPlexes.{is_used_log, is_used_state, used_logs}
+use Rattle.vx_image.specs.Bytes.{is_active, plex_image}
+use Rattle.vx_image.specs.UsedPlexes.{is_used_state}
 use Rattle.vx_lending.proofs.Bits.{kept}
 use Rattle.vx_lending.proofs.Distinct.{filtered}
 use Rattle.vx_volume_laws.proofs.Held.{in_image, of_image}

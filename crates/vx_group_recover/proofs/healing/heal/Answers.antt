@@ -1,7 +1,4 @@
-use Rattle.std.proofs.Common.{◌∙◌, ap, inl, inr, List}
-use Rattle.vx_mask.specs.Mask.{has}
 use Rattle.vx_volume.specs.Log.{log_kept_on}
-use Rattle.vx_volume.specs.Volume.{volume_seen}
 use Rattle.vx_group_recover.proofs.healing.heal.Goals as goal
 
 pub returns-in_err-copied-clause-follows : goal.returns-in_err-copied-clause-follows

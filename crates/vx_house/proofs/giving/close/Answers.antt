@@ -1,1 +1,0 @@
-use Rattle.vx_house.proofs.giving.close.Goals as goal

@@ -1,4 +1,4 @@
-use Rattle.std.proofs.Common.{◌≡◌, ◌∙◌, Some, map, sym, ap}
+use Rattle.std.proofs.Common.{◌∙◌, Some, map, sym, ap}
 use Rattle.vx_house.specs.Holders.{disk_holder, group_holders}
 use Rattle.vx_house.proofs.Returns.{disks_each, disks_apart}
 use Rattle.vx_house.proofs.giving.give_group.Goals as goal

@@ -1,7 +1,7 @@
 use Rattle.std.proofs.Common.{Bool}
 use Rattle.std.proofs.lemmas.Result.{err_from_is_err_and, on_err_weaker}
 use Rattle.vx_house.proofs.Ends.{keeps_but_group}
-use Rattle.vx_run.proofs.Runs.{both_ok, not_sink, on_short, one_run, one_partly, served_left, unserved_left, unserved_partly, unwritten_partly}
+use Rattle.vx_run.proofs.Runs.{both_ok, on_short, one_run, one_partly, served_left, unserved_left, unserved_partly, unwritten_partly}
 use Rattle.vx_run.proofs.lines.one_line.Goals as goal
 
 pub returns-in_err-answer-clause-keeps : goal.returns-in_err-answer-clause-keeps

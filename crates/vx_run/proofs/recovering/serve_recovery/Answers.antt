@@ -1,4 +1,3 @@
-use Rattle.std.specs.Prelude.{◌≡◌}
 use Rattle.vx_plans.specs.Steps.{DoesRecover}
 use Rattle.vx_recovery.specs.Going.{RecoversShort}
 use Rattle.vx_house.specs.Scene.{shelved}

@@ -1,10 +1,7 @@
 -- A plex is needed in some region, or can be spared in each.
-use Rattle.std.proofs.Common.{◌≡◌, Bool, true, false, sym, ◌∙◌, ap, subst}
-use Rattle.std.specs.Prelude.{not, MatchBool}
+use Rattle.std.proofs.Common.{◌≡◌, Bool, true, false, sym, ◌∙◌, ap}
+use Rattle.std.specs.Prelude.{MatchBool}
 use Rattle.std.specs.List.{list_any}
-use Rattle.vx_piece.specs.Seen.{Seen}
-use Rattle.vx_cell.specs.declared.cell.Cell.{Cell}
-use Rattle.vx_cell.specs.Changes.{cell_seen, has_other}
 use Rattle.vx_volume.specs.Switching.{CanSpare, Needs}
 use Rattle.vx_volume.specs.Volume.{volume_seen}
 use Rattle.vx_volume.proofs.Switchings.{needed_at, needs, spared_at}

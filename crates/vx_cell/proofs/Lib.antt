@@ -6,6 +6,7 @@ pub mod EndPhases
 pub mod LogLaws
 pub mod Measure
 pub mod Members
+pub mod Partings
 pub mod Rises
 pub mod Scratch
 pub mod Stands

@@ -6,10 +6,11 @@ ghost use Rattle.vx_core.specs.Table.{next_of};
 ghost use Rattle.vx_core.specs.Plexes.{put_in};
 ghost use Rattle.vx_cell.specs.Plexes.{holds, plexes_seen};
 ghost use Rattle.vx_cell.specs.Changes.{CellArmed, HasRoom, IsRenewed, IsSet, Leaves, cell_seen, has_other};
+ghost use Rattle.vx_cell.specs.Parting.{LosesPlex, pieces_of};
 ghost use Rattle.vx_cell.specs.declared.fault.CellFault.TheVariants.{Only};
 
 use crate::fault::CellFault;
-use crate::plex::{Plex, arm_plexes, find, first_to_zero};
+use crate::plex::{Plex, arm_plexes, find, first_to_zero, take_first};
 use std::alloc::Global;
 use vx_base::OutOfMemory;
 use vx_block::Span;
@@ -186,6 +187,18 @@ impl<P: Piece> Cell<P> {
                 Ok(pieces)
             }
         }
+    }
+
+    /// Takes a plex out of the cell, whether it is on or off, and answers its pieces. Where the cell has none of this map, as that of a plex
+    /// that the volume was opened without, the map is no plex's then, and there are no pieces.
+    pub fn lose_plex(&mut self, map: u8) -> Vec<P>
+        ensures loses { LosesPlex map (cell_seen P.seen self.old) (cell_seen P.seen self.new) }
+        ensures pieces { map_of P.seen result.items ≡ pieces_of map (cell_seen P.seen self.old).plexes }
+    {
+        let mask = vx_mask::of(map as u32);
+        self.stage.on = vx_mask::less(self.stage.on, mask);
+        self.stage.off = vx_mask::less(self.stage.off, mask);
+        take_first(&mut self.plexes, map)
     }
 
     /// Makes room for one plex more.

@@ -1,6 +1,7 @@
-ghost use Rattle.std.specs.Prelude.{◌≡◌, ◌+◌, ◌*◌, ◌/◌, ◌%◌, ◌^◌, ◌<◌, ◌≤◌, true, false, length, MatchOption};
+ghost use Rattle.std.specs.Prelude.{◌≡◌, ◌+◌, ◌*◌, ◌/◌, ◌%◌, ◌^◌, ◌<◌, ◌≤◌, true, false, length, map as map_of, MatchOption};
 ghost use Rattle.vx_cell.specs.Plexes.{AllCover, ChangesPlex, IsFirst, holds, plexes_seen};
 ghost use Rattle.vx_cell.specs.Changes.{AreArmed, first_as_zero};
+ghost use Rattle.vx_cell.specs.Parting.{pieces_of, without_plex};
 ghost use Rattle.vx_cell.specs.Acts.{IsPlexRead, IsPlexWritten, IsRange};
 
 use vx_piece::Piece;
@@ -94,5 +95,19 @@ pub fn first_to_zero<P: Piece>(plexes: &mut Vec<Plex<P>>)
     if !plexes.is_empty() {
         let plex = &mut plexes[0];
         plex.map = 0;
+    }
+}
+
+/// Takes the first plex with the map out, and answers its pieces; there are none where no plex has it.
+pub fn take_first<P: Piece>(plexes: &mut Vec<Plex<P>>, map: u8) -> Vec<P>
+    ensures left { plexes_seen P.seen plexes.new.items ≡ without_plex map (plexes_seen P.seen plexes.old.items) }
+    ensures pieces { map_of P.seen result.items ≡ pieces_of map (plexes_seen P.seen plexes.old.items) }
+{
+    match find(plexes.as_slice(), map as u32) {
+        None => Vec::new(*plexes.allocator()),
+        Some(index) => {
+            let Plex { map: _, pieces } = plexes.remove(index);
+            pieces
+        }
     }
 }

@@ -13,6 +13,7 @@ pub mod Masks
 pub mod Notes
 pub mod Openings
 pub mod PartEntries
+pub mod Partings
 pub mod Parts
 pub mod PassHistories
 pub mod Puttings

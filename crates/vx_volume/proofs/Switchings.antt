@@ -99,7 +99,7 @@ by_test true test = cc
 by_test false test = refl
 
 -- another current plex
-other_of : (s : Stage) (map : ℕ) → s.on < 2 ^ 64 → has_other s map ≡ true → (j : ℕ) × (has s.on j ≡ true) × (has s.bits j ≡ false) × (has (only map) j ≡ false)
+pub other_of : (s : Stage) (map : ℕ) → s.on < 2 ^ 64 → has_other s map ≡ true → (j : ℕ) × (has s.on j ≡ true) × (has s.bits j ≡ false) × (has (only map) j ≡ false)
 other_of s map fits there =
     let mask : ℕ = without (current s) (only map) in
     let some : mask ≢ 0 = some_from_test mask (by_test (mask == 0) there) in
@@ -108,10 +108,10 @@ other_of s map fits there =
     let on = without_parts s.on s.bits (lowest mask) out.0 in
     (lowest mask, on.0, on.1, out.1)
 
-apart_from : (map j : ℕ) → map < 64 → has (only map) j ≡ false → j ≢ map
+pub apart_from : (map j : ℕ) → map < 64 → has (only map) j ≡ false → j ≢ map
 apart_from map j low out e = not_both (has-only_same map low) (subst (λ (n : ℕ). has (only map) n ≡ false) e out)
 
-low_by : (s : Stage) (held : ℕ → Bool) (map : ℕ) → IsStage s held → held map ≡ true → map < 64
+pub low_by : (s : Stage) (held : ℕ → Bool) (map : ℕ) → IsStage s held → held map ≡ true → map < 64
 low_by s held map stage there = elim (stage.plexes map there) [ inl on ↦ has-lt s.on map stage.on_fits on | inr off ↦ has-lt s.off map stage.off_fits off ]
 
 -- ---- the stage

@@ -1,5 +1,5 @@
 -- What calls on a volume mean for the histories of its regions.
-use Rattle.std.specs.Prelude.{◌≡◌, ◌≢◌, ◌⊎◌, ◌||◌, ℕ, ◌+◌, ◌/◌, ◌<◌, ◌≤◌, ◌==◌, Bool, true, false, if◌then◌else◌, List, [], ◌∷◌, ◌++◌, length, map, Option, Some, None, Result, Ok, Err, OnErr}
+use Rattle.std.specs.Prelude.{◌≡◌, ◌≢◌, ◌⊎◌, ◌&&◌, ◌||◌, not, ℕ, ◌+◌, ◌/◌, ◌<◌, ◌≤◌, ◌==◌, Bool, true, false, if◌then◌else◌, List, [], ◌∷◌, ◌++◌, length, map, Option, Some, None, Result, Ok, Err, OnErr}
 use Rattle.vx_base.specs.Blocks.{Contents}
 use Rattle.vx_block.specs.declared.geometry.Span.{Span}
 use Rattle.vx_block.specs.Regions.{part_at}
@@ -34,6 +34,7 @@ use Rattle.vx_volume.specs.Calls.{ChangesRegion, ReadEnds, WriteEndsAll, bytes_o
 use Rattle.vx_volume.specs.Changing.{IsFreeIn, IsKnownMap, IsPlexFor, PutsPlex, SetsMap}
 use Rattle.vx_volume.specs.Logging.{ChangesLog, IsAlone, ShowsNothing}
 use Rattle.vx_volume.specs.Loop.{AreMade}
+use Rattle.vx_volume.specs.Parting.{LosesPlexes}
 use Rattle.vx_volume.specs.Switching.{CanSpare, Firms, HasPlex, IsSettled, IsTight, Switches}
 use Rattle.vx_volume.specs.Passes.{CopyEnds, IsClearedAt, IsCopiedAt, IsSettledAt, PassEnds}
 use Rattle.vx_volume.specs.Volume.{IsVolume, VolumeSeen, cell_at, region_at}
@@ -352,3 +353,19 @@ EachPlexMayGoOff =
 -- What is told stays told.
 abbrev pub EachSwitchTells : Type 0
 EachSwitchTells = (map : ℕ) (on : Bool) (old new : VolumeSeen) → Switches map on old new → AreTold old → AreTold new
+
+-- ---- a plex that leaves
+
+-- what is fixed, without the plex
+abbrev pub without_held : ℕ → Fixed → Fixed
+without_held map fixed = record fixed { held = λ k. fixed.held k && not (has (only map) k) }
+
+-- What the regions stand for they stand for without a plex that can be spared, where they are settled and no mark is loose.
+abbrev pub EachPlexMayLeave : Type 0
+EachPlexMayLeave =
+    (map : ℕ) (old new : VolumeSeen) → LosesPlexes map old new → IsVolume old → CanSpare map old → IsSettled old → IsTight old →
+    (fixed : ℕ → Fixed) (entries : ℕ → List Entry) → StandFor old fixed entries → StandFor new (λ r. without_held map (fixed r)) entries
+
+-- What is told stays told.
+abbrev pub EachLeavingTells : Type 0
+EachLeavingTells = (map : ℕ) (old new : VolumeSeen) → LosesPlexes map old new → AreTold old → AreTold new

@@ -11,5 +11,6 @@ pub mod Arming
 pub mod Changing
 pub mod Logging
 pub mod Switching
+pub mod Parting
 pub mod Laws
 pub mod Retelling

@@ -1,7 +1,7 @@
 //! Laws of calls on volumes, each a function with an empty body whose contract states it.
 
 ghost use Rattle.vx_volume.specs.Calls.{IsRead, IsWritten};
-ghost use Rattle.vx_volume.specs.Laws.{CallOfRegionGoesOn, CalledGoesOn, CopyPassGoesOn, EachClearingGoesOn, EachClearingOfRegionGoesOn, EachCopyGoesOn, EachCopyOfRegionGoesOn, EachCourseIsNoted, EachFirmingGoesOn, EachFirmingTightens, EachGoingGoesOn, EachGoingIsScheduled, EachGoingStands, EachLogChangeStands, EachLogChangeTells, EachOtherGoesOn, EachPlexMayGoOff, EachPlexMayGoOn, EachPuttingStands, EachPuttingTells, EachReadOfVolumeGoesOn, EachSettingKnows, EachSettingMarks, EachSettingStands, EachSettingTells, EachSettlingGoesOn, EachSettlingOfRegionGoesOn, EachSwitchTells, EachWriteOfVolumeGoesOn, MayTellRead, MayTellWrite, PassGoesOn};
+ghost use Rattle.vx_volume.specs.Laws.{CallOfRegionGoesOn, CalledGoesOn, CopyPassGoesOn, EachClearingGoesOn, EachClearingOfRegionGoesOn, EachCopyGoesOn, EachCopyOfRegionGoesOn, EachCourseIsNoted, EachFirmingGoesOn, EachFirmingTightens, EachGoingGoesOn, EachGoingIsScheduled, EachGoingStands, EachLeavingTells, EachLogChangeStands, EachLogChangeTells, EachOtherGoesOn, EachPlexMayGoOff, EachPlexMayGoOn, EachPlexMayLeave, EachPuttingStands, EachPuttingTells, EachReadOfVolumeGoesOn, EachSettingKnows, EachSettingMarks, EachSettingStands, EachSettingTells, EachSettlingGoesOn, EachSettlingOfRegionGoesOn, EachSwitchTells, EachWriteOfVolumeGoesOn, MayTellRead, MayTellWrite, PassGoesOn};
 ghost use Rattle.vx_volume.specs.Passes.{Clears, Settles};
 ghost use Rattle.vx_volume.specs.Retelling.{EachHistoryIsRetold};
 
@@ -95,4 +95,10 @@ pub fn each_plex_may_switch()
     ensures on { EachPlexMayGoOn }
     ensures off { EachPlexMayGoOff }
     ensures told { EachSwitchTells }
+{}
+
+/// What the regions stand for they stand for without a plex that can be spared, where they are settled and no mark is loose.
+pub fn each_plex_may_leave()
+    ensures stands { EachPlexMayLeave }
+    ensures told { EachLeavingTells }
 {}

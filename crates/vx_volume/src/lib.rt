@@ -14,6 +14,7 @@ mod log;
 mod logging;
 pub mod map_laws;
 mod opening;
+mod parting;
 mod passes;
 mod receipt;
 mod setting;

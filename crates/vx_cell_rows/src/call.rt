@@ -26,6 +26,8 @@ pub enum Call {
     Off(u8),
     /// Plex 1 is taken out.
     Take,
+    /// The plex leaves, if there is one.
+    Lose(u8),
     Kill,
 }
 
@@ -58,7 +60,7 @@ pub fn perform(
             Ok(0)
         }
         Call::WriteDirty => cell.write_dirty(0, into, scratch, log),
-        Call::Off(_) | Call::Take | Call::Kill => change(cell, kind),
+        Call::Off(_) | Call::Take | Call::Lose(_) | Call::Kill => change(cell, kind),
     }
 }
 
@@ -72,6 +74,7 @@ fn change(cell: &mut Cell<RowPiece>, kind: Call) -> Result<u64, CellFault>
             Ok(0)
         }
         Call::Take => Ok(cell.take_plex(1)?.len() as u64),
+        Call::Lose(map) => Ok(cell.lose_plex(map).len() as u64),
         _ => {
             cell.kill();
             Ok(0)

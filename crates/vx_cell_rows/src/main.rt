@@ -381,7 +381,13 @@ fn marks(rt: &HostRuntime) -> io::Result<()> {
         marked(Call::Off(0)),
     )?;
     row(rt, "the marked plex is set off", marked(Call::Off(1)))?;
-    row(rt, "plex 1 is taken out", settled(Call::Take))
+    row(rt, "plex 1 is taken out", settled(Call::Take))?;
+    row(rt, "plex 1 leaves", settled(Call::Lose(1)))?;
+    row(
+        rt,
+        "plex 2 leaves, of which the region has no pieces",
+        settled(Call::Lose(2)),
+    )
 }
 
 fn main(rt: HostRuntime) -> io::Result<()> {

@@ -6,6 +6,7 @@
 
 mod calls;
 mod group;
+mod leaving;
 mod matching;
 mod parted;
 mod passes;

@@ -8,6 +8,7 @@ ghost use Rattle.vx_image.specs.UsedPlexes.{IsVolOf};
 ghost use Rattle.vx_group_start.specs.GroupDisks.{AreGroupDisks};
 
 use crate::group::group;
+use crate::leaving::left;
 use crate::matching::{are_group_disks, differ, first_volume, numbers_of};
 use crate::running::ran;
 use crate::shown::show_fault;
@@ -25,22 +26,39 @@ use vx_objects::{Config, Vol};
 use vx_piece::{Bad, MemPiece};
 use vx_record::read;
 
+/// What is done with a volume.
+#[derive(Clone, Copy)]
+enum Way {
+    /// Calls are made on it, and before them its plexes are copied to or not.
+    Called { copies: bool },
+    /// Its second plex leaves it. `good` are the slots whose disks are good as it is opened.
+    Left { good: u32 },
+}
+
+const CALLED: Way = Way::Called { copies: false };
+
+const COPIED: Way = Way::Called { copies: true };
+
 pub fn show(rt: &HostRuntime) -> io::Result<()> {
     println!(rt; "one plex on the first disk, no log")?;
-    row(rt, false, ALONE, Vec::new(rt.alloc()))?;
+    row(rt, CALLED, ALONE, Vec::new(rt.alloc()))?;
     println!(rt; "the same, and a write of one of its sectors fails")?;
     let bad = vec![in rt.alloc(); failing(2186)]?;
-    row(rt, false, ALONE, bad)?;
+    row(rt, CALLED, ALONE, bad)?;
     println!(rt; "a plex and a log on each disk")?;
-    row(rt, false, TWICE, Vec::new(rt.alloc()))?;
+    row(rt, CALLED, TWICE, Vec::new(rt.alloc()))?;
     println!(rt; "the same, and a write of a sector of the first plex fails")?;
     let bad = vec![in rt.alloc(); failing(2186)]?;
-    row(rt, false, TWICE, bad)?;
+    row(rt, CALLED, TWICE, bad)?;
     println!(rt; "a plex and a log on each disk, and the second plex is copied to")?;
-    row(rt, true, TWICE, Vec::new(rt.alloc()))?;
+    row(rt, COPIED, TWICE, Vec::new(rt.alloc()))?;
     println!(rt; "the same, and a write of a sector of the first plex fails")?;
     let bad = vec![in rt.alloc(); failing(2186)]?;
-    row(rt, true, TWICE, bad)
+    row(rt, COPIED, TWICE, bad)?;
+    println!(rt; "a plex and a log on each disk, of which the second plex is taken out")?;
+    row(rt, Way::Left { good: 3 }, TWICE, Vec::new(rt.alloc()))?;
+    println!(rt; "the same, opened while the second disk is not good")?;
+    row(rt, Way::Left { good: 1 }, TWICE, Vec::new(rt.alloc()))
 }
 
 /// A sector whose first write fails.
@@ -55,12 +73,12 @@ fn failing(sector: u64) -> Bad {
     }
 }
 
-fn row(rt: &HostRuntime, copies: bool, text: &[u8], bad: Vec<Bad>) -> io::Result<()> {
+fn row(rt: &HostRuntime, way: Way, text: &[u8], bad: Vec<Bad>) -> io::Result<()> {
     let Some(config) = config_of(rt.alloc(), text) else {
         return println!(rt; "  no configuration");
     };
     match group(rt.alloc(), bad) {
-        Some(group) => opened(rt, copies, &config, group),
+        Some(group) => opened(rt, way, &config, group),
         None => println!(rt; "  no group"),
     }
 }
@@ -71,7 +89,7 @@ fn config_of(alloc: Global, text: &[u8]) -> Option<Config> {
 }
 
 /// Parts the devices of a group.
-fn opened(rt: &HostRuntime, copies: bool, config: &Config, group: Group<MemPiece>) -> io::Result<()>
+fn opened(rt: &HostRuntime, way: Way, config: &Config, group: Group<MemPiece>) -> io::Result<()>
     requires { AreParted (members mem_seen group) [] }
 {
     let mut group = group;
@@ -86,13 +104,13 @@ fn opened(rt: &HostRuntime, copies: bool, config: &Config, group: Group<MemPiece
     if !differ(&numbers) || !are_group_disks(config, &numbers, &group) {
         return println!(rt; "  other disks");
     }
-    started(rt, copies, config, &vol, &numbers, group, pool)
+    started(rt, way, config, &vol, &numbers, group, pool)
 }
 
-/// Opens a volume over parted devices, of which all are good.
+/// Opens a volume over parted devices.
 fn started(
     rt: &HostRuntime,
-    copies: bool,
+    way: Way,
     config: &Config,
     vol: &Vol,
     numbers: &[u32],
@@ -112,8 +130,19 @@ fn started(
         running: BTreeMap::new(rt.alloc()),
         stuck: Vec::new(rt.alloc()),
     };
-    match open_volume(rt.alloc(), config, 3, vol, numbers, &mut public) {
-        Ok(running) => ran(rt, copies, vol.name, group, public, running),
+    match open_volume(rt.alloc(), config, good_of(way), vol, numbers, &mut public) {
+        Ok(running) => match way {
+            Way::Called { copies } => ran(rt, copies, vol.name, group, public, running),
+            Way::Left { .. } => left(rt, vol.name, running),
+        },
         Err(fault) => show_fault(rt, fault),
+    }
+}
+
+/// The slots whose disks are good.
+fn good_of(way: Way) -> u32 {
+    match way {
+        Way::Called { .. } => 3,
+        Way::Left { good } => good,
     }
 }

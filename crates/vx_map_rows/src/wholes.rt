@@ -1,5 +1,6 @@
 //! Rows of a map that is set over two pages: the write of one page on one copy fails, and each row tells the answer, the regions
-//! that the store lists then, what each copy holds of the pages, and how many sectors were written since the store was created.
+//! that the store lists then, what each copy holds of the pages, and how many sectors were written since the store was created. And how
+//! many sectors are read as such a store is loaded.
 
 use crate::clock::Clock;
 use crate::copies::{Copies, Held, are_copies, build, page_of};
@@ -17,16 +18,16 @@ use vx_piece::Piece;
 use vx_volume::WholeMaps;
 
 /// The map that is set.
-const MAP: u32 = 5;
+pub const MAP: u32 = 5;
 
 /// A volume of 5,000 regions: each map has two pages, and its plex is as large as that of a small volume.
-fn shape() -> Option<DcoShape> {
+pub fn shape() -> Option<DcoShape> {
     let geometry = Geometry::new(320_000, 64)?;
     DcoShape::of(&geometry, 32)
 }
 
 /// A set has four writes: page 0 on each copy, and then page 1.
-fn fault_at(step: u64) -> Option<Fault> {
+pub fn fault_at(step: u64) -> Option<Fault> {
     if step >= 4 {
         return None;
     }
@@ -49,7 +50,40 @@ pub fn rows(rt: &HostRuntime) -> io::Result<()> {
         println!(rt; "set over two pages, write {step} fails, then clear")?;
         row(rt, &shape, fault_at(step), true)?;
     }
+    for second in [false, true] {
+        println!(rt; "two pages loaded, copies: {}", 1 + u32::from(second))?;
+        load_row(rt, &shape, second)?;
+    }
     Ok(())
+}
+
+/// A store of which nothing is marked is loaded from one copy or two. Of the page of which all regions are the volume's the copy that is
+/// read is not read again.
+fn load_row(rt: &HostRuntime, shape: &DcoShape, second: bool) -> io::Result<()> {
+    let alloc = rt.alloc();
+    let clock = Arc::new(alloc, Clock::new(None, None))?;
+    let held = Held {
+        headed: true,
+        maps: NO_MARKS,
+    };
+    let start = Copies {
+        first: held,
+        second: if second { Some(held) } else { None },
+    };
+    let copies = build(alloc, shape, &start, &clock)?;
+    if shape.map_bytes != 8192 || !are_copies(&copies, 16) {
+        return Ok(());
+    }
+    clock.set();
+    let Ok(store) = MapStore::load(alloc, *shape, copies) else {
+        return Ok(());
+    };
+    let reads = clock.calls().saturating_sub(clock.writes());
+    println!(rt; "  {reads} reads, {} writes", clock.writes())?;
+    let Ok(listed) = store.list(alloc, MAP) else {
+        return Ok(());
+    };
+    show_list(rt, &listed)
 }
 
 fn row(rt: &HostRuntime, shape: &DcoShape, fault: Option<Fault>, cleared: bool) -> io::Result<()> {
@@ -75,7 +109,7 @@ fn row(rt: &HostRuntime, shape: &DcoShape, fault: Option<Fault>, cleared: bool) 
 }
 
 /// A store of two copies of which nothing is marked.
-fn create(
+pub fn create(
     alloc: Global,
     shape: &DcoShape,
     clock: &Arc<Clock, Global>,
@@ -99,14 +133,14 @@ fn create(
 }
 
 /// Regions 7 and 4,103: the highest bit of the first byte of each page.
-fn marks(alloc: Global) -> Result<Vec<u8>, AllocError> {
+pub fn marks(alloc: Global) -> Result<Vec<u8>, AllocError> {
     let mut bytes = vec![in alloc; 0u8; 625]?;
     bytes[0] = 0x80;
     bytes[512] = 0x80;
     Ok(bytes)
 }
 
-fn show_list(rt: &HostRuntime, listed: &Vec<u8>) -> io::Result<()> {
+pub fn show_list(rt: &HostRuntime, listed: &Vec<u8>) -> io::Result<()> {
     let count = listed.len();
     print!(rt; "  {count} bytes list")?;
     for place in 0..listed.len() {
@@ -121,16 +155,21 @@ fn show_list(rt: &HostRuntime, listed: &Vec<u8>) -> io::Result<()> {
 fn show(rt: &HostRuntime, copies: &Vec<Vec<RowPiece>>) -> io::Result<()> {
     let mut number: u64 = 0;
     for pieces in copies {
-        let mut at: u64 = 0;
-        print!(rt; "  copy {number} holds")?;
-        for piece in pieces {
-            show_piece(rt, piece, at)?;
-            at = at.saturating_add(piece.sectors());
-        }
-        println!(rt; "")?;
+        show_copy(rt, number, pieces)?;
         number = number.saturating_add(1);
     }
     Ok(())
+}
+
+/// What a copy holds of the pages of the map.
+pub fn show_copy(rt: &HostRuntime, number: u64, pieces: &Vec<RowPiece>) -> io::Result<()> {
+    let mut at: u64 = 0;
+    print!(rt; "  copy {number} holds")?;
+    for piece in pieces {
+        show_piece(rt, piece, at)?;
+        at = at.saturating_add(piece.sectors());
+    }
+    println!(rt; "")
 }
 
 /// The first bytes of the pages of the map that lie in a piece, which begins at this sector of its copy.

@@ -9,6 +9,7 @@ use Rattle.vx_runs.specs.Part.{told_or}
 use Rattle.vx_marks.specs.declared.marker.MarkFault.{MarkFault}
 use Rattle.vx_marks.specs.declared.marker.MarkFault.TheVariants.{Failed, PowerLost, Busy}
 use Rattle.vx_pages.specs.Sector.{Copies, HasCause, SectorSeen, held, is_cut, second_cut, tells}
+use Rattle.vx_pages.proofs.Telling.{each_tells}
 use Rattle.vx_maps.specs.Slots.{MovedBoth, MovedSecond, SheetsSeen, filled, part_at, slot_at}
 use Rattle.vx_maps.specs.Heads.{ArePut}
 use Rattle.vx_maps.specs.Copies.{copies_list}
@@ -54,7 +55,7 @@ pub heads_begin : (size : ℕ) (grid : List (List SectorSeen)) (bytes : List ℕ
 heads_begin size grid bytes old new (Err fault) p = tt
 heads_begin size grid bytes old new (Ok u) p =
     begins_both size grid new.first new.second p.between.second p.after.first p.after.second bytes p.back.first.was p.back.second
-    (λ told n. p.put.holds (sym p.put.kept.tells ∙ told) n)
+    (λ told n. p.put.holds n (each_tells p.before (sym p.put.kept.tells ∙ told) n))
 
 -- ---- power and counts
 

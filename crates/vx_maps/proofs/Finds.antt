@@ -1,18 +1,18 @@
 -- Which copy is found, by what is found of each.
-use Rattle.std.proofs.Common.{inl, inr, ℕ, zero, suc, ◌*◌, ◌-◌, ◌<◌, ◌≤◌, Bool, ◌∙◌, ap, arith, List, length, false, Option, Some, None, Result, Ok, Err}
+use Rattle.std.proofs.Common.{inl, inr, ℕ, zero, suc, ◌*◌, ◌-◌, ◌<◌, ◌≤◌, Bool, ◌∙◌, sym, ap, subst, arith, List, length, false, Option, Some, None, Result, Ok, Err}
 use Rattle.std.specs.Prelude.{is_some, ◌&&◌, ◌%◌, nat_lt}
 use Rattle.vx_base.specs.Counts.{Rose}
 use Rattle.vx_mapfmt.specs.Bits.{bit_in}
 use Rattle.vx_piece.specs.Seen.{Seen}
 use Rattle.vx_runs.specs.Part.{told_or}
-use Rattle.vx_pages.specs.Reading.{ReadsSector}
+use Rattle.vx_pages.specs.Reading.{AreKnownOn, AreOfCopy, ReadsSector}
 use Rattle.vx_pages.specs.Sector.{SectorSeen}
 use Rattle.vx_pages.specs.Page.{EachSector}
 use Rattle.vx_maps.specs.declared.fault.StoreFault.{StoreFault}
 use Rattle.vx_maps.specs.declared.fault.StoreFault.TheVariants.{OutOfMemory, NoCopy, Failed, PowerLost}
 use Rattle.vx_maps.specs.Copies.{copies_list}
 use Rattle.vx_maps.specs.Going.{CopiesGo, ReadsPiece}
-use Rattle.vx_maps.specs.Loading.{AreClipped, GiveRows, GridReads, IsFoundFrom, IsHeadAs, IsHeaded, IsPassedBy, images_at}
+use Rattle.vx_maps.specs.Loading.{AreClipped, AreReadRows, GiveRows, GridReads, IsFoundFrom, IsHeadAs, IsHeaded, IsKnownCopy, IsPassedBy, images_at}
 use Rattle.std.specs.Option.{option_map}
 use Rattle.vx_maps.specs.Slots.{SheetsSeen, filled, row_at}
 use Rattle.vx_maps.specs.Wholes.{whole_copies}
@@ -47,13 +47,41 @@ headed_back header copies copies' n go headed t =
     let one = copy_goes ReadsPiece copies copies' n go in begins_back header _ _ one (headed (tells_head _ _ one ∙ t))
 
 clipped_back : (n inside : ℕ) (images : List (List ℕ)) (xs ys : List SectorSeen) → EachSector (λ m. ReadsSector) xs ys → AreClipped n inside images ys → AreClipped n inside images xs
-clipped_back n inside images xs ys each clipped m lt told region =
-    let same = (each.each m lt).copies.told n in
-    clipped m (let s = each.size in omega (arith, s, lt)) (ap (λ t. is_some t) same ∙ told) region
-    ∙ ap (λ t. bit_in (told_or t 0) region && nat_lt (region % 4096) inside) same
+clipped_back n inside images xs ys each clipped =
+    record {
+      bits = λ m lt told region.
+          let same = (each.each m lt).copies.told n in
+          clipped.bits m (let s = each.size in omega (arith, s, lt)) (ap (λ t. is_some t) same ∙ told) region
+          ∙ ap (λ t. bit_in (told_or t 0) region && nat_lt (region % 4096) inside) same;
+      whole = λ all m lt told.
+          let same = (each.each m lt).copies.told n in
+          clipped.whole all m (let s = each.size in omega (arith, s, lt)) (ap (λ t. is_some t) same ∙ told) ∙ ap (λ t. told_or t 0) same;
+    }
+
+clipped_on : (n inside : ℕ) (images : List (List ℕ)) (xs ys : List SectorSeen) → EachSector (λ m. ReadsSector) xs ys → AreClipped n inside images xs → AreClipped n inside images ys
+clipped_on n inside images xs ys each clipped =
+    record {
+      bits = λ m lt told region.
+          let at : m < length xs = let s = each.size in omega (arith, s, lt) in
+          let same = (each.each m at).copies.told n in
+          clipped.bits m at (ap (λ t. is_some t) (sym same) ∙ told) region ∙ ap (λ t. bit_in (told_or t 0) region && nat_lt (region % 4096) inside) (sym same);
+      whole = λ all m lt told.
+          let at : m < length xs = let s = each.size in omega (arith, s, lt) in
+          let same = (each.each m at).copies.told n in
+          clipped.whole all m at (ap (λ t. is_some t) (sym same) ∙ told) ∙ ap (λ t. told_or t 0) (sym same);
+    }
 
 rows_back : (n regions : ℕ) (rows : List (List (List ℕ))) (grid grid' : List (List SectorSeen)) → GridReads grid grid' → GiveRows {T = Unit {0}} n regions rows grid' (Ok tt) → GiveRows {T = Unit {0}} n regions rows grid (Ok tt)
 rows_back n regions rows grid grid' go gives i lt = clipped_back n (regions - 4096 * i) (images_at rows i) (row_at grid i) (row_at grid' i) (go.each i lt) (gives i (let s = go.size in omega (arith, s, lt)))
+
+-- a page of which nothing was taken away is known on the copy that was read
+pub known_row : (chosen inside : ℕ) (images : List (List ℕ)) (row : List SectorSeen) (known : Option ℕ) → IsKnownCopy chosen inside known → AreClipped chosen inside images row → AreKnownOn known images row
+known_row chosen inside images row None is clipped = tt
+known_row chosen inside images row (Some n) is clipped = subst (λ (k : ℕ). AreOfCopy k images row) (sym is.0) (clipped.whole is.1)
+
+pub rows_on : (n regions : ℕ) (rows : List (List (List ℕ))) (grid grid' : List (List SectorSeen)) → GridReads grid grid' → AreReadRows n regions rows grid → AreReadRows n regions rows grid'
+rows_on n regions rows grid grid' go gives i lt =
+    let at : i < length grid = let s = go.size in omega (arith, s, lt) in clipped_on n (regions - 4096 * i) (images_at rows i) (row_at grid i) (row_at grid' i) (go.each i at) (gives i at)
 
 module _ (header : List ℕ) (regions : ℕ) (old mid new : ℕ → ℕ → ℕ) (copies copies' : List (List Seen)) (rows : List (List (List ℕ))) (grid grid' : List (List SectorSeen))
     (low : (copy device : ℕ) → old copy device ≤ mid copy device) (high : (copy device : ℕ) → mid copy device ≤ new copy device) (go : CopiesGo ReadsPiece copies copies') (reads : GridReads grid grid') (first : IsPassedBy header old mid copies 0) where

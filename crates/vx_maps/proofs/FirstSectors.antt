@@ -12,6 +12,7 @@ use Rattle.vx_marks.specs.declared.marker.MarkFault.{MarkFault}
 use Rattle.vx_pages.specs.Sector.{Copies, Holds, KeepsPiece, SectorSeen, copy_of, held, or_first, tells}
 use Rattle.vx_pages.specs.Reading.{IsCopyOf, IsMended}
 use Rattle.vx_pages.specs.Stays.{piece_same}
+use Rattle.vx_pages.proofs.Telling.{each_tells}
 use Rattle.vx_maps.specs.Copies.{copies_list}
 use Rattle.vx_maps.specs.Creating.{AllTell, BeginsWith, head_tells}
 use Rattle.vx_maps.specs.Going.{SecondGoes, SheetsGo, SlotGoes}
@@ -42,7 +43,7 @@ heads_changed fact old new p =
     subst (λ (c : Copies). fact c (heads_of new)) (sym (heads_are p.before old p.between p.out)) (subst (λ (c : Copies). fact p.before c) (sym (heads_are p.after new p.between p.back)) p.change)
 
 pub heads_mended : (bytes : List ℕ) (old new : SheetsSeen) (result : Result (Unit {0}) MarkFault) → AreChanged (λ before after. IsMended bytes before after result) old new → MayHold bytes (heads_of old) (heads_of new)
-heads_mended bytes old new result p = λ t n. by result (held (heads_of old) n) (held (heads_of new) n) ((heads_changed (λ before after. IsMended bytes before after result) old new p).holds t n)
+heads_mended bytes old new result p = λ t n. by result (held (heads_of old) n) (held (heads_of new) n) ((heads_changed (λ before after. IsMended bytes before after result) old new p).holds n (each_tells (heads_of old) t n))
   where
     by : (result : Result (Unit {0}) MarkFault) (a b : List ℕ) → Holds bytes a b result → (b ≡ a) ⊎ (b ≡ bytes)
     by (Ok u) a b h = inr h
@@ -56,7 +57,7 @@ heads_blanked asked bytes old new result on is p = by (heads_of old) (heads_of n
     first (Err fault) a b h = elim h [ inl e ↦ inl e | inr e ↦ inr (on, e ∙ is) ]
 
     by : (a b : Copies) → IsPutFirst bytes a b result → MayBlank asked a b
-    by a b put = record { first = λ t. first result _ _ (put.0.holds (ap (λ (x : Bool). x && true) t) 0); second = put.1 }
+    by a b put = record { first = λ t. first result _ _ (put.0.holds 0 t); second = put.1 }
 
 pub blank_none : (asked : Bool) (c : Copies) → MayBlank asked c c
 blank_none asked c = record { first = λ t. inl refl; second = refl }

@@ -18,6 +18,7 @@ use Rattle.vx_maps.specs.Copies.{copies_list}
 use Rattle.vx_maps.specs.Loading.{IsHeadAs, copy_at}
 use Rattle.vx_maps.specs.Wholes.{second_faults, sheet_faults, whole_copies}
 use Rattle.vx_pages.specs.Sector.{second_faults as piece_faults}
+use Rattle.vx_pages.proofs.Telling.{each_tells}
 use Rattle.vx_maps.proofs.Beginnings.{begins_both, begins_one, heads_cut, tells_one}
 use Rattle.vx_maps.proofs.Steps.{reads_same, sheets_changed}
 
@@ -102,7 +103,7 @@ risen_of old new cut (Err Busy) cause = cause
 pub mended_heads : (size : ℕ) (grid : List (List SectorSeen)) (bytes : List ℕ) (old new : SheetsSeen) (result : Result (Unit {0}) MarkFault) → AreChanged (λ before after. IsMended bytes before after result) old new → OnOk result (AllBeginWith bytes (whole_copies size grid new))
 mended_heads size grid bytes old new (Err fault) p = tt
 mended_heads size grid bytes old new (Ok u) p =
-    begins_both size grid new.first new.second p.between.second p.after.first p.after.second bytes p.back.first.was p.back.second (λ told n. p.change.holds (sym p.change.kept.tells ∙ told) n)
+    begins_both size grid new.first new.second p.between.second p.after.first p.after.second bytes p.back.first.was p.back.second (λ told n. p.change.holds n (each_tells p.before (sym p.change.kept.tells ∙ told) n))
 
 -- ---- the first copy alone
 

@@ -20,7 +20,10 @@ pub mod Heads
 pub mod Loads
 pub mod Moves
 pub mod Narrowed
+pub mod OnlyCopies
+pub mod OnlyPieces
 pub mod PageRows
+pub mod Partings
 pub mod PlaceLaws
 pub mod Places
 pub mod Quiet

@@ -173,7 +173,7 @@ module _ {P : Type 0} {ghosts : Ghosts P} (store : MapStore P ghosts) where
       let size = grid_size store.pages.items in
       let lt : region / 4096 < length (grid_seen ghosts.seen store.pages.items) = omega (arith, total, page) in
       let row = rows_of store.pages.items (region / 4096) (omega (arith, size, lt)) in
-      gives (region / 4096) lt map (omega (arith, row, low)) (store_tells store from (region / 4096) map at page low tell) region
+      (gives (region / 4096) lt).bits map (omega (arith, row, low)) (store_tells store from (region / 4096) map at page low tell) region
       ∙ and_true _ _ (lt-ltb (region % 4096) (store.base.shape.regions - 4096 * (region / 4096)) (omega (arith, in')))
 
 module _ {P : Type 0} {ghosts : Ghosts P} (old new : MapStore P ghosts) (go : StoreGoes ghosts.seen KeepsPiece old new) (header : List ℕ) (from : ℕ) (rows : List (List (List ℕ))) (inside : from < length (store_copies ghosts.seen old)) (headed : IsHeaded header (store_copies ghosts.seen old) from)

@@ -199,7 +199,7 @@ open_formed c sure loose sectors none all = record {
   sectors = sectors;
   sure = ap (λ (bytes : List ℕ). length bytes) none ∙ zero_size;
   loose = ap (λ (bytes : List ℕ). length bytes) all ∙ full_size;
-  shows = λ told n region.
+  shows = λ n told region.
       ap (λ (b : Bool). shown c n region && not b) (ap (λ (bytes : List ℕ). bit_in bytes region) all ∙ full_bit region) ∙ and_none (shown c n region) ∙ sym (ap (λ (bytes : List ℕ). bit_in bytes region) none ∙ no_bit region);
 }
 

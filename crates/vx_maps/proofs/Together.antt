@@ -15,7 +15,7 @@ use Rattle.vx_maps.specs.declared.joining.Spares.{Spares}
 use Rattle.vx_maps.proofs.Fills.{filled_size, grid_none}
 use Rattle.vx_maps.proofs.SlotRuns.{filled_in}
 
-full_of : (size copy : ℕ) (whole : Whole) (slots : List (Option Seen)) → HasCut size copy [] whole slots → AreFull slots
+pub full_of : (size copy : ℕ) (whole : Whole) (slots : List (Option Seen)) → HasCut size copy [] whole slots → AreFull slots
 full_of size copy whole slots cut k lt = cut.holed.holes k lt ∙ ap (λ (x : Option SectorSeen). not (is_some x)) (grid_none size k)
 
 full_second : (size : ℕ) (whole : Option Whole) (second : Option (List (Option Seen))) → HasCutSecond size [] whole second → AreAllFull second
@@ -26,7 +26,7 @@ full_second size (Some whole) (Some slots) cut = full_of size 1 whole slots cut
 pub all_full : (size : ℕ) (wholes : Wholes) (sheets : SheetsSeen) → HasCuts size [] wholes sheets → AreFull sheets.first × AreAllFull sheets.second
 all_full size wholes sheets cuts = (full_of size 0 wholes.first sheets.first cuts.first, full_second size wholes.second sheets.second cuts.second)
 
-same_size : (size copy : ℕ) (pages grid : List (List SectorSeen)) (old slots : List (Option Seen)) → HasCut size copy pages (whole_of size copy grid old) slots → length slots ≡ length old
+pub same_size : (size copy : ℕ) (pages grid : List (List SectorSeen)) (old slots : List (Option Seen)) → HasCut size copy pages (whole_of size copy grid old) slots → length slots ≡ length old
 same_size size copy pages grid old slots cut = sym (filled_size size copy pages 0 slots) ∙ ap (λ (xs : List Seen). length xs) cut.pieces ∙ filled_size size copy grid 0 old
 
 module _ {P : Type 0} where

@@ -7,6 +7,7 @@ pub mod Heads
 pub mod Loading
 pub mod Narrowing
 pub mod Onward
+pub mod Parting
 pub mod Sheets
 pub mod Slots
 pub mod Spares

@@ -1,5 +1,5 @@
 -- What it is to load the maps of a volume from its copies.
-use Rattle.std.specs.Prelude.{◌≡◌, ℕ, ◌%◌, ◌<◌, ◌≤◌, ◌&&◌, nat_lt, ◌-◌, ◌*◌, ◌⊎◌, Bool, true, false, is_some, List, [], length, map, Option, Some, None, Result, Ok, Err}
+use Rattle.std.specs.Prelude.{◌≡◌, ℕ, ◌%◌, ◌<◌, ◌≤◌, ◌&&◌, nat_lt, ◌-◌, ◌*◌, ◌⊎◌, Bool, true, false, is_some, List, [], length, map, Option, Some, None, MatchOption, Result, Ok, Err}
 use Rattle.std.specs.Global.{Vec}
 use Rattle.vx_base.specs.Counts.{Rose}
 use Rattle.vx_mask.specs.Marks.{Marks}
@@ -15,7 +15,7 @@ use Rattle.vx_pages.specs.Images.{images_seen}
 use Rattle.vx_pages.specs.Items.{EachItem, item_at}
 use Rattle.vx_pages.specs.Sector.{SectorSeen, IsOpen, copy_of}
 use Rattle.vx_pages.specs.Page.{AreAll, EachSector, sector_at}
-use Rattle.vx_pages.specs.Reading.{AreImages, IsCopyOf, IsSettled, MaySettle, ReadsSector, image_at}
+use Rattle.vx_pages.specs.Reading.{AreImages, AreOfCopy, IsCopyOf, IsSettled, MaySettle, ReadsSector, image_at}
 use Rattle.vx_maps.specs.declared.fault.StoreFault.{StoreFault}
 use Rattle.vx_maps.specs.declared.fault.StoreFault.TheVariants.{OutOfMemory, NoCopy, Failed, PowerLost}
 use Rattle.vx_maps.specs.Copies.{SameRuns}
@@ -38,10 +38,12 @@ pub record AreRows (pages : ℕ) (rows : List (List (List ℕ))) : Type 0 where
   pub count : length rows ≡ pages
   pub each : (i : ℕ) → i < pages → AreImages (images_at rows i)
 
--- Each image has the bits that the copy shows of the first so many regions of its page, and no others, if the copy tells.
-abbrev pub AreClipped : ℕ → ℕ → List (List ℕ) → List SectorSeen → Type 0
-AreClipped n inside images sectors = (m : ℕ) → m < length sectors → is_some (copy_of (sector_at sectors m).copies n).told ≡ true →
-    (region : ℕ) → bit_in (image_at images m) region ≡ (bit_in (told_or (copy_of (sector_at sectors m).copies n).told 0) region && nat_lt (region % 4096) inside)
+-- Each image has the bits that the copy shows of the first so many regions of its page, and no others, if the copy tells. Where these are
+-- all of the page, it is what the copy holds.
+pub record AreClipped (n inside : ℕ) (images : List (List ℕ)) (sectors : List SectorSeen) : Type 0 where
+  pub bits : (m : ℕ) → m < length sectors → is_some (copy_of (sector_at sectors m).copies n).told ≡ true →
+      (region : ℕ) → bit_in (image_at images m) region ≡ (bit_in (told_or (copy_of (sector_at sectors m).copies n).told 0) region && nat_lt (region % 4096) inside)
+  pub whole : 4096 ≤ inside → AreOfCopy n images sectors
 
 abbrev pub GiveClipped : {T : Type 0} → ℕ → ℕ → List (List ℕ) → List SectorSeen → Result T MarkFault → Type 0
 GiveClipped n inside images sectors (Ok u) = AreClipped n inside images sectors
@@ -55,6 +57,13 @@ AreCopied n grid = (i : ℕ) → i < length grid → AreAll (λ s. IsCopyOf n s.
 abbrev pub GiveRows : {T : Type 0} → ℕ → ℕ → List (List (List ℕ)) → List (List SectorSeen) → Result T MarkFault → Type 0
 GiveRows n regions rows grid (Ok u) = (i : ℕ) → i < length grid → AreClipped n (regions - 4096 * i) (images_at rows i) (row_at grid i)
 GiveRows n regions rows grid (Err fault) = Unit {0}
+
+abbrev pub AreReadRows : ℕ → ℕ → List (List (List ℕ)) → List (List SectorSeen) → Type 0
+AreReadRows n regions rows grid = GiveRows {T = Unit {0}} n regions rows grid (Ok tt)
+
+-- no bit of a page was taken away of which so many regions are the volume's, and then the copy that was read is known to hold its images
+abbrev pub IsKnownCopy : (chosen inside : ℕ) → Option ℕ → Type 0
+IsKnownCopy chosen inside known = MatchOption known (Unit {0}) (λ n. (n ≡ chosen) × (4096 ≤ inside))
 
 -- the sectors of each page were read
 abbrev pub GridReads : List (List SectorSeen) → List (List SectorSeen) → Type 0

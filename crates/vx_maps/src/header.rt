@@ -54,7 +54,7 @@ pub fn mend_heads<P: LocalPiece + Drop>(
     ensures { AreChanged (λ before after. IsMended sector.now before after result) (sheets_seen P.seen sheets.old) (sheets_seen P.seen sheets.new) }
 {
     let (mut first, mut second) = take_both(sheets, 0);
-    let result = mend(&mut first, &mut second, sector);
+    let result = mend(&mut first, &mut second, sector, None);
     put_both(sheets, 0, first, second);
     result
 }

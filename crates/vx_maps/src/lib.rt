@@ -12,6 +12,7 @@ mod joining;
 mod loading;
 mod pages;
 mod paging;
+mod parting;
 mod reading;
 mod runs;
 mod showing;

@@ -9,7 +9,7 @@ ghost use Rattle.vx_maps.specs.Copies.{AreCopies};
 ghost use Rattle.vx_maps.specs.Creating.{AllBeginWith, AllTell};
 ghost use Rattle.vx_maps.specs.Cutness.{store_cut};
 ghost use Rattle.vx_maps.specs.Going.{CopiesGo, CutCopiesGo, StoreGoes, places_of};
-ghost use Rattle.vx_maps.specs.Loading.{AreOpen, AreRows, FilledAt, GridSettled, IsFilledAs, IsLoaded, IsNotLoaded, IsSettledAs, IsUnfilledAs, header_of, rows_seen};
+ghost use Rattle.vx_maps.specs.Loading.{AreOpen, AreReadRows, AreRows, FilledAt, GridSettled, IsFilledAs, IsKnownCopy, IsLoaded, IsNotLoaded, IsSettledAs, IsUnfilledAs, header_of, rows_seen};
 ghost use Rattle.vx_maps.specs.Narrowing.{AreNarrowed};
 ghost use Rattle.vx_maps.specs.Sheets.{sheets_seen};
 ghost use Rattle.vx_maps.specs.Spares.{HasRoom, copies_seen};
@@ -29,39 +29,53 @@ use vx_marks::MarkFault;
 use vx_pages::{LocalPiece, Page};
 use vx_piece::Piece;
 
-/// Makes each copy of each page hold its images, and stops at the first write that fails.
+/// Makes each copy of each page hold its images, which were read of the chosen one, and stops at the first write that fails.
 fn settle_pages<P: LocalPiece>(
     pages: &mut Vec<Page<P>>,
     images: &Vec<Vec<Vec<u8>>>,
+    chosen: u8,
+    regions: u64,
 ) -> Result<(), MarkFault>
     requires open { AreOpen (grid_seen P.seen pages.old.items) }
+    requires count { length pages.old.items ≡ page_count regions }
     requires images { AreRows (length pages.old.items) (rows_seen images.now.items) }
+    requires read { AreReadRows chosen regions (rows_seen images.now.items) (grid_seen P.seen pages.old.items) }
     ensures places { places_of pages.new.items ≡ places_of pages.old.items }
     ensures settled { IsSettledAs (rows_seen images.now.items) (grid_seen P.seen pages.old.items) (grid_seen P.seen pages.new.items) result }
     ensures cause { HasRisen (pages_faults (pages_seen P.seen pages.old.items)) (pages_faults (pages_seen P.seen pages.new.items)) (pages_cut (pages_seen P.seen pages.new.items)) result }
 {
     for index in 0..pages.len() {
         let page = &mut pages[index];
-        if let Err(fault) = page.settle(&images[index]) {
+        let known = known_copy(chosen, regions - 4096 * index as u64);
+        if let Err(fault) = page.settle(&images[index], known) {
             return Err(fault);
         }
     }
     Ok(())
 }
 
-/// Makes each copy of each page of a store hold its images.
+/// The copy that was read, where no bit was taken away of what it holds of a page of which so many regions are the volume's.
+fn known_copy(chosen: u8, inside: u64) -> Option<u8>
+    ensures { IsKnownCopy chosen inside result }
+{
+    if inside < 4096 { None } else { Some(chosen) }
+}
+
+/// Makes each copy of each page of a store hold its images, which were read of the chosen one.
 fn settle_store<P: LocalPiece + Drop>(
     store: &mut MapStore<P>,
     images: &Vec<Vec<Vec<u8>>>,
+    chosen: u8,
 ) -> Result<(), MarkFault>
     requires open { AreOpen (grid_seen P.seen store.old.pages.items) }
     requires images { AreRows (page_count store.old.base.shape.regions) (rows_seen images.now.items) }
+    requires read { AreReadRows chosen store.old.base.shape.regions (rows_seen images.now.items) (grid_seen P.seen store.old.pages.items) }
     ensures goes { StoreGoes P.seen KeepsPiece store.old store.new }
     ensures base { store.new.base ≡ store.old.base }
     ensures settled { IsSettledAs (rows_seen images.now.items) (grid_seen P.seen store.old.pages.items) (grid_seen P.seen store.new.pages.items) result }
     ensures cause { HasRisen (store_faults P.seen store.old) (store_faults P.seen store.new) (store_cut P.seen store.new) result }
 {
-    settle_pages(&mut store.pages, images)
+    settle_pages(&mut store.pages, images, chosen, store.base.shape.regions)
 }
 
 /// Makes the first sector of each copy the header.
@@ -91,8 +105,8 @@ fn blank_if<P: LocalPiece + Drop>(store: &mut MapStore<P>, asked: bool) -> Resul
     }
 }
 
-/// Makes each copy hold the images, and then the header. The first copy has no header meanwhile, if it was passed over: so no
-/// copy with a header has maps of which a part was read of another one that it was not read with.
+/// Makes each copy hold the images, which were read of the chosen one, and then the header. The first copy has no header meanwhile, if it
+/// was passed over: so no copy with a header has maps of which a part was read of another one that it was not read with.
 fn write_copies<P: LocalPiece + Drop>(
     store: &mut MapStore<P>,
     chosen: u8,
@@ -100,6 +114,7 @@ fn write_copies<P: LocalPiece + Drop>(
 ) -> Result<(), MarkFault>
     requires open { AreOpen (grid_seen P.seen store.old.pages.items) }
     requires images { AreRows (page_count store.old.base.shape.regions) (rows_seen images.now.items) }
+    requires read { AreReadRows chosen store.old.base.shape.regions (rows_seen images.now.items) (grid_seen P.seen store.old.pages.items) }
     ensures goes { StoreGoes P.seen KeepsPiece store.old store.new }
     ensures settled { OnOk result (GridSettled (rows_seen images.now.items) (grid_seen P.seen store.old.pages.items) (grid_seen P.seen store.new.pages.items)) }
     ensures heads { OnOk result (AllBeginWith (header_of store.old.base.shape) (store_copies P.seen store.new)) }
@@ -109,7 +124,7 @@ fn write_copies<P: LocalPiece + Drop>(
     if let Err(fault) = blank_if(store, chosen != 0) {
         return Err(fault);
     }
-    if let Err(fault) = settle_store(store, images) {
+    if let Err(fault) = settle_store(store, images, chosen) {
         return Err(fault);
     }
     mend_store(store)
@@ -165,7 +180,8 @@ impl<P: Piece + Drop> MapStore<P> {
     /// copy mark that. A copy can be read where it begins with the header and no call on it fails. Each copy has to have the size
     /// of the shape, and no piece of it is empty.
     ///
-    /// A sector of another copy is written where it differs or cannot be read, and the header is written last. A copy before the
+    /// What a copy is known to hold, as it was read, is not read again. A sector of another one is written where it differs or cannot be read,
+    /// and the header is written last. A copy before the
     /// one that was read has its first sector blanked until then: it counts for nothing while it has a part of its old maps and
     /// a part of the new ones. A copy behind it keeps a header that it has: it counts as before, and each of its sectors is the old
     /// one or that of the copy that was read, so what all copies mark, and what some mark, come closer to that copy with each write.

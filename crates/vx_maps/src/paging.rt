@@ -18,7 +18,7 @@ use vx_base::OutOfMemory;
 use vx_pages::{LocalPiece, MapSector, empty_page, full_page};
 
 /// The place of a page's sector of a map, where each slot has so many sectors.
-fn place_of(size: u64, map: u64, page: u64) -> usize
+pub fn place_of(size: u64, map: u64, page: u64) -> usize
     requires map { map < 32 }
     requires page { 1 + page < size }
     requires fits { 35 * size < 2 ^ 64 }

@@ -64,7 +64,9 @@ fn fetch_page<P: LocalPiece>(
     if let Err(fault) = page.fetch(copy, row) {
         return Err(fault);
     }
-    clip_all(row, inside);
+    if inside < 4096 {
+        clip_all(row, inside);
+    }
     Ok(())
 }
 

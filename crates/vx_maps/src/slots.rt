@@ -27,7 +27,7 @@ fn take<P: LocalPiece + Drop>(slots: &mut Vec<Option<P>>, at: usize) -> P
 }
 
 /// Puts a piece into a hole.
-fn put<P: LocalPiece + Drop>(slots: &mut Vec<Option<P>>, at: usize, piece: P)
+pub fn put<P: LocalPiece + Drop>(slots: &mut Vec<Option<P>>, at: usize, piece: P)
     requires inside { at < length slots.old.items }
     requires hole { slot_at (slots_seen P.seen slots.old.items) at ≡ None }
     ensures { Moved at (P.seen piece) (slots_seen P.seen slots.new.items) (slots_seen P.seen slots.old.items) }

@@ -2,6 +2,7 @@ pub mod Bits
 pub mod Clips
 pub mod Differences
 pub mod Steps
+pub mod Telling
 pub mod Hands
 pub mod Items
 pub mod SameCopies
@@ -11,6 +12,7 @@ pub mod Masks
 pub mod Repairs
 pub mod OpenBits
 pub mod Pairs
+pub mod Partings
 pub mod Puts
 pub mod Rounds
 pub mod Sets

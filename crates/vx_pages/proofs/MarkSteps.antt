@@ -15,6 +15,7 @@ use Rattle.vx_pages.specs.Firm.{FirmsAll}
 use Rattle.vx_pages.specs.Sector.{SectorSeen, KeepsSector, Goes, HasCause, SameBits, Swept, MaySweep, NoneLoose, BitOpened, BitSet, ShownSet, BitLeft, ShownLeft, tells, shown, is_loose, is_sure}
 use Rattle.vx_pages.specs.Page.{no_sector, sector_at, faults_in, cut_in, all_tell, EachSector, asked, has_region, marks_of, page_log, AllSet, AllLeft, IsFirmed, IsMarkedIn, IsUnmarkedIn}
 use Rattle.vx_pages.proofs.Bits.{empty_bit}
+use Rattle.vx_pages.proofs.Telling.{each_tells}
 
 -- ---- what the page keeps
 
@@ -108,7 +109,7 @@ module _ (f : ℕ → ℕ → Bool → Bool → Bool → Bool → Type 0) (u : �
       u map region (shown (sector_at xs map).copies n region) (is_loose (sector_at xs map) region) (shown (sector_at ys map).copies n region)
   shows_at t none map n region =
       elim (cases_lt map 32) [
-        | inl lt ↦ (goes.each map (omega (arith, size))).shows (tells_at xs map (omega (arith, size)) t) n region
+        | inl lt ↦ (goes.each map (omega (arith, size))).shows n (each_tells _ (tells_at xs map (omega (arith, size)) t) n) region
         | inr le ↦
             let e = goes.size in
             rw (beyond xs map (omega (arith, size)), beyond ys map (omega (arith, size, e)), nothing_shown n region, empty_bit region) (none map region le)

@@ -1,6 +1,6 @@
 -- How a sector is written on one copy after the other.
 use Rattle.std.proofs.Common.{◌≡◌, ◌≢◌, ◌⊎◌, inl, inr, ℕ, zero, suc, ◌≤◌, Bool, true, false, refl, sym, ◌∙◌, subst, arith, List, length, Option, Some, None, Result, Ok, Err}
-use Rattle.std.specs.Prelude.{◌+◌, ◌/◌, ◌==◌, ◌&&◌, ◌||◌, is_some, if◌then◌else◌}
+use Rattle.std.specs.Prelude.{◌+◌, ◌/◌, ◌==◌, ◌||◌, is_some, if◌then◌else◌}
 use Rattle.std.proofs.lemmas.List.{take_all}
 use Rattle.std.proofs.lemmas.Bool.{cond-true, cond-false, eq-eqb, ne_eqb}
 use Rattle.vx_base.specs.Counts.{Rose, later_count}
@@ -12,7 +12,7 @@ use Rattle.vx_piece.specs.declared.piece.PieceFault.TheVariants as piece
 use Rattle.vx_runs.specs.Part.{told_or}
 use Rattle.vx_marks.specs.declared.marker.MarkFault.{MarkFault}
 use Rattle.vx_marks.specs.declared.marker.MarkFault.TheVariants.{Failed, PowerLost, Busy}
-use Rattle.vx_pages.specs.Sector.{KeepsPiece, copy_of, held, faults_on, faults_at, is_cut, KeepsCopies, RiseAt, HasCause, Holds, IsPut, SectorHands}
+use Rattle.vx_pages.specs.Sector.{KeepsPiece, copy_of, copy_tells, held, faults_on, faults_at, is_cut, KeepsCopies, RiseAt, HasCause, Holds, IsPut, SectorHands}
 use Rattle.vx_pages.specs.Counts.{Hands}
 use Rattle.vx_pages.specs.Pieces.{PieceCause, IsPutOn}
 use Rattle.vx_pages.specs.Stays.{piece_same}
@@ -253,33 +253,25 @@ both_hands f f' p q result one two = record { each = each; idle = λ e. absurd (
 
 -- ---- the whole
 
-pub and_first : (x y : Bool) → (x && y) ≡ true → x ≡ true
-and_first true y h = refl
-and_first false y h = h
-
-pub and_second : (x y : Bool) → (x && y) ≡ true → y ≡ true
-and_second true y h = h
-and_second false y h = cc
-
 pub put_stops : (bytes : List ℕ) (f f' : Seen) (s : Option Seen) (fault : MarkFault) → IsPutOn {T = Unit {0}} 0 bytes f f' (Err fault) →
     IsPut {T = Unit {0}} bytes (record { first = f; second = s }) (record { first = f'; second = s }) (Err fault)
 put_stops bytes f f' s fault h =
     let step : KeepsPiece f f' = steps_of 0 bytes f f' (Err fault) h in
-    record { kept = keeps_pair f f' s s step (no_second_step s); holds = λ t n. holds s (and_first _ _ t) n; cause = first_cause f f' s fault step h.cause; counts = first_hands f f' s fault h.counts }
+    record { kept = keeps_pair f f' s s step (no_second_step s); holds = λ n t. holds s n t; cause = first_cause f f' s fault step h.cause; counts = first_hands f f' s fault h.counts }
   where
-    holds : (s : Option Seen) → is_some f.told ≡ true → (n : ℕ) → Holds {T = Unit {0}} bytes (held (record { first = f; second = s }) n) (held (record { first = f'; second = s }) n) (Err fault)
-    holds s t zero = h.holds t
-    holds None t (suc n) = h.holds t
-    holds (Some p) t (suc n) = inl refl
+    holds : (s : Option Seen) (n : ℕ) → copy_tells (record { first = f; second = s }) n ≡ true → Holds {T = Unit {0}} bytes (held (record { first = f; second = s }) n) (held (record { first = f'; second = s }) n) (Err fault)
+    holds s zero t = h.holds t
+    holds None (suc n) t = h.holds t
+    holds (Some p) (suc n) t = inl refl
 
 pub put_only : (bytes : List ℕ) (f f' : Seen) → IsPutOn {T = Unit {0}} 0 bytes f f' (Ok tt) → IsPut {T = Unit {0}} bytes (record { first = f; second = None }) (record { first = f'; second = None }) (Ok tt)
 put_only bytes f f' h =
     let step : KeepsPiece f f' = steps_of {T = Unit {0}} 0 bytes f f' (Ok tt) h in
-    record { kept = keeps_pair f f' None None step tt; holds = λ t n. holds (and_first _ _ t) n; cause = same step; counts = only_hands f f' h.counts }
+    record { kept = keeps_pair f f' None None step tt; holds = λ n t. holds n t; cause = same step; counts = only_hands f f' h.counts }
   where
-    holds : is_some f.told ≡ true → (n : ℕ) → held (record { first = f'; second = None }) n ≡ bytes
-    holds t zero = h.holds t
-    holds t (suc n) = h.holds t
+    holds : (n : ℕ) → copy_tells (record { first = f; second = None }) n ≡ true → held (record { first = f'; second = None }) n ≡ bytes
+    holds zero t = h.holds t
+    holds (suc n) t = h.holds t
 
     same : KeepsPiece f f' → (copy device : ℕ) → faults_at (record { first = f'; second = None }) copy device ≡ faults_at (record { first = f; second = None }) copy device
     same step zero device = faults_same f f' device step h.cause
@@ -293,14 +285,14 @@ put_both bytes f f' p q result one two =
     let second : KeepsPiece p q = steps_of 1 bytes p q result two in
     record {
       kept = keeps_pair f f' (Some p) (Some q) first second;
-      holds = λ t n. holds result (and_first _ _ t) two.holds (and_second _ _ t) n;
+      holds = λ n t. holds result two.holds n t;
       cause = second_cause f f' p q result first one.cause second two.cause;
       counts = both_hands f f' p q result one.counts two.counts;
     }
   where
-    holds : (result : Result (Unit {0}) MarkFault) → is_some f.told ≡ true → (is_some p.told ≡ true → Holds bytes (told_or p.told 0) (told_or q.told 0) result) → is_some p.told ≡ true → (n : ℕ) →
+    holds : (result : Result (Unit {0}) MarkFault) → (is_some p.told ≡ true → Holds bytes (told_or p.told 0) (told_or q.told 0) result) → (n : ℕ) → copy_tells (record { first = f; second = Some p }) n ≡ true →
         Holds bytes (held (record { first = f; second = Some p }) n) (held (record { first = f'; second = Some q }) n) result
-    holds (Ok u) t h t' zero = one.holds t
-    holds (Err fault) t h t' zero = inr (one.holds t)
-    holds (Ok u) t h t' (suc n) = h t'
-    holds (Err fault) t h t' (suc n) = h t'
+    holds (Ok u) h zero t = one.holds t
+    holds (Err fault) h zero t = inr (one.holds t)
+    holds (Ok u) h (suc n) t = h t
+    holds (Err fault) h (suc n) t = h t

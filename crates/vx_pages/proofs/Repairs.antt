@@ -7,11 +7,11 @@ use Rattle.vx_piece.specs.Seen.{Seen, Keeps, IsRead, HasCause as HasPieceCause}
 use Rattle.vx_runs.specs.Part.{told_or}
 use Rattle.vx_marks.specs.declared.marker.MarkFault.{MarkFault}
 use Rattle.vx_marks.specs.declared.marker.MarkFault.TheVariants.{Failed, PowerLost, Busy}
-use Rattle.vx_pages.specs.Sector.{KeepsPiece, copy_of, held, faults_at, is_cut, HasCause, Holds}
+use Rattle.vx_pages.specs.Sector.{KeepsPiece, copy_of, copy_tells, held, faults_at, is_cut, HasCause, Holds}
 use Rattle.vx_pages.specs.Pieces.{PieceCause}
 use Rattle.vx_pages.specs.Reading.{HasRisen, IsFaultAt, IsGot, IsGotOn, IsMended, IsMendedOn, IsWhatIs, PieceRisen}
 use Rattle.vx_pages.specs.Stays.{piece_same}
-use Rattle.vx_pages.proofs.Puts.{keeps_pair, no_second_step, first_cause, second_cause, faults_same, rose_on, and_first, and_second, whole_block}
+use Rattle.vx_pages.proofs.Puts.{keeps_pair, no_second_step, first_cause, second_cause, faults_same, rose_on, whole_block}
 
 -- ---- one copy is read
 
@@ -85,35 +85,35 @@ second_risen f f' p q (Err Busy) h cause = cause
 
 pub mend_stops : (bytes : List ℕ) (f f' : Seen) (s : Option Seen) (fault : MarkFault) → IsMendedOn {T = Unit {0}} 0 bytes f f' (Err fault) →
     IsMended {T = Unit {0}} bytes (record { first = f; second = s }) (record { first = f'; second = s }) (Err fault)
-mend_stops bytes f f' s fault h = record { kept = keeps_pair f f' s s h.kept (no_second_step s); holds = λ t n. holds s (and_first _ _ t) n; cause = first_risen f f' s fault h.kept h.cause }
+mend_stops bytes f f' s fault h = record { kept = keeps_pair f f' s s h.kept (no_second_step s); holds = λ n t. holds s n t; cause = first_risen f f' s fault h.kept h.cause }
   where
-    holds : (s : Option Seen) → is_some f.told ≡ true → (n : ℕ) → Holds {T = Unit {0}} bytes (held (record { first = f; second = s }) n) (held (record { first = f'; second = s }) n) (Err fault)
-    holds s t zero = h.holds t
-    holds None t (suc n) = h.holds t
-    holds (Some p) t (suc n) = inl refl
+    holds : (s : Option Seen) (n : ℕ) → copy_tells (record { first = f; second = s }) n ≡ true → Holds {T = Unit {0}} bytes (held (record { first = f; second = s }) n) (held (record { first = f'; second = s }) n) (Err fault)
+    holds s zero t = h.holds t
+    holds None (suc n) t = h.holds t
+    holds (Some p) (suc n) t = inl refl
 
 pub mend_only : (bytes : List ℕ) (f f' : Seen) → IsMendedOn {T = Unit {0}} 0 bytes f f' (Ok tt) → IsMended {T = Unit {0}} bytes (record { first = f; second = None }) (record { first = f'; second = None }) (Ok tt)
-mend_only bytes f f' h = record { kept = keeps_pair f f' None None h.kept tt; holds = λ t n. holds (and_first _ _ t) n; cause = tt }
+mend_only bytes f f' h = record { kept = keeps_pair f f' None None h.kept tt; holds = λ n t. holds n t; cause = tt }
   where
-    holds : is_some f.told ≡ true → (n : ℕ) → held (record { first = f'; second = None }) n ≡ bytes
-    holds t zero = h.holds t
-    holds t (suc n) = h.holds t
+    holds : (n : ℕ) → copy_tells (record { first = f; second = None }) n ≡ true → held (record { first = f'; second = None }) n ≡ bytes
+    holds zero t = h.holds t
+    holds (suc n) t = h.holds t
 
 pub mend_both : (bytes : List ℕ) (f f' p q : Seen) (result : Result (Unit {0}) MarkFault) → IsMendedOn {T = Unit {0}} 0 bytes f f' (Ok tt) → IsMendedOn 1 bytes p q result →
     IsMended bytes (record { first = f; second = Some p }) (record { first = f'; second = Some q }) result
 mend_both bytes f f' p q result one two =
     record {
       kept = keeps_pair f f' (Some p) (Some q) one.kept two.kept;
-      holds = λ t n. holds result (and_first _ _ t) two.holds (and_second _ _ t) n;
+      holds = λ n t. holds result two.holds n t;
       cause = second_risen f f' p q result two.kept two.cause;
     }
   where
-    holds : (result : Result (Unit {0}) MarkFault) → is_some f.told ≡ true → (is_some p.told ≡ true → Holds bytes (told_or p.told 0) (told_or q.told 0) result) → is_some p.told ≡ true → (n : ℕ) →
+    holds : (result : Result (Unit {0}) MarkFault) → (is_some p.told ≡ true → Holds bytes (told_or p.told 0) (told_or q.told 0) result) → (n : ℕ) → copy_tells (record { first = f; second = Some p }) n ≡ true →
         Holds bytes (held (record { first = f; second = Some p }) n) (held (record { first = f'; second = Some q }) n) result
-    holds (Ok u) t h t' zero = one.holds t
-    holds (Ok u) t h t' (suc n) = h t'
-    holds (Err fault) t h t' zero = inr (one.holds t)
-    holds (Err fault) t h t' (suc n) = h t'
+    holds (Ok u) h zero t = one.holds t
+    holds (Ok u) h (suc n) t = h t
+    holds (Err fault) h zero t = inr (one.holds t)
+    holds (Err fault) h (suc n) t = h t
 
 -- ---- one piece is read
 

@@ -31,8 +31,8 @@ module _ (c : Copies) (sure loose image : List ℕ) (formed : IsFormed (seen c s
       record {
         kept = copies_kept c c' sure loose sure' loose' put.kept;
         bits = λ region. (fewer region, opened region);
-        shows = λ t n region.
-            elim (torn_page _ _ _ region (put.holds t n)) [
+        shows = λ n t region.
+            elim (torn_page _ _ _ region (put.holds n t)) [
               | inl same ↦ inl (same ∙ sym (none_lost (shown c n region) (bit_in loose region) (clean region)))
               | inr is ↦ inr (refl, is)
             ];
@@ -44,10 +44,10 @@ module _ (c : Copies) (sure loose image : List ℕ) (formed : IsFormed (seen c s
         sectors = put.kept.sectors formed.sectors;
         sure = len;
         loose = len';
-        shows = λ t n region.
-            let t' = sym put.kept.tells ∙ t in
+        shows = λ n t region.
+            let t' = sym (put.kept.each n).tells ∙ t in
             ap (λ (l : Bool). shown c' n region && not l) (opened region)
-            ∙ in_both _ _ _ _ (firm_shows c sure loose formed clean t' n region) (torn_page _ _ _ region (put.holds t' n)) ∙ sym (fewer region);
+            ∙ in_both _ _ _ _ (firm_shows c sure loose formed clean n t' region) (torn_page _ _ _ region (put.holds n t')) ∙ sym (fewer region);
       }
     where
       in_both : (x x' s i : Bool) → x ≡ s → (x' ≡ x) ⊎ (x' ≡ i) → (x' && not (differ s i)) ≡ (s && i)
@@ -82,8 +82,8 @@ set_after at bits result xs ys zs first last = in_all result (each_then (λ m. G
 
 -- a sector of another map of which nothing is loose
 set_none : (bits : ℕ → Bool) (result : Result (Unit {0}) MarkFault) (a : SectorSeen) → ((region : ℕ) → is_loose a region ≡ false) → SetsBits false bits result a a
-set_none bits (Ok u) a clean = record { kept = keeps_none a; bits = λ region. (refl, clean region); shows = λ t n region. sym (none_lost _ _ (clean region)) }
-set_none bits (Err fault) a clean = record { kept = keeps_none a; bits = λ region. (refl, clean region); shows = λ t n region. inl (sym (none_lost _ _ (clean region))) }
+set_none bits (Ok u) a clean = record { kept = keeps_none a; bits = λ region. (refl, clean region); shows = λ n t region. sym (none_lost _ _ (clean region)) }
+set_none bits (Err fault) a clean = record { kept = keeps_none a; bits = λ region. (refl, clean region); shows = λ n t region. inl (sym (none_lost _ _ (clean region))) }
 
 module _ {T : Type 0} (see : T → SectorSeen) (at : ℕ) (xs : List T) (p : T) (lt : at < length xs) (is : p ≡ get_or xs at p) where
   here_is : sector_at (map see xs) at ≡ see p

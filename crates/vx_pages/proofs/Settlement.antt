@@ -1,11 +1,12 @@
 -- How a page is read from one copy, made what its images are, and armed.
-use Rattle.std.proofs.Common.{◌≡◌, inl, inr, ℕ, zero, suc, ◌+◌, ◌<◌, Bool, true, false, refl, sym, ◌∙◌, ap, subst, arith, List, [], ◌∷◌, length, map, get_or, set, Option, Some, None, Ok}
+use Rattle.std.proofs.Common.{◌≡◌, inl, inr, ℕ, zero, suc, ◌+◌, ◌<◌, Bool, true, false, refl, sym, ◌∙◌, ap, subst, arith, List, [], ◌∷◌, length, map, get_or, set, Option, Some, None, Ok, Err}
 use Rattle.std.specs.Prelude.{◌&&◌, not, is_some, if◌then◌else◌}
 use Rattle.std.specs.Global.{Vec}
 use Rattle.std.proofs.lemmas.Bool.{cases_order}
 use Rattle.std.proofs.lemmas.List.{length-map}
 use Rattle.vx_mapfmt.specs.Bits.{bit_in}
 use Rattle.vx_sector.specs.Fields.{zeros}
+use Rattle.vx_marks.specs.declared.marker.MarkFault.{MarkFault}
 use Rattle.vx_piece.specs.Seen.{Seen}
 use Rattle.vx_runs.specs.Part.{told_or}
 use Rattle.std.specs.Option.{option_map}
@@ -13,11 +14,13 @@ use Rattle.vx_pages.specs.Arming.{armed, armed_sector, armed_sectors}
 use Rattle.vx_pages.specs.Page.{ArePairedAlike, sector_at}
 use Rattle.vx_pages.specs.Images.{images_seen}
 use Rattle.vx_pages.specs.Items.{EachItem, item_at}
-use Rattle.vx_pages.specs.Reading.{AreImages, IsMended, IsSettled, IsWhatIs, MaySettle, ReadsSector, image_at}
-use Rattle.vx_pages.specs.Sector.{Copies, SectorSeen, AreSectors, IsFormed, copy_of, shown, tells}
+use Rattle.vx_pages.specs.Reading.{AreImages, AreKnownOn, IsKnownOn, IsMended, IsSettled, IsWhatIs, MaySettle, ReadsSector, image_at}
+use Rattle.vx_pages.specs.Sector.{Copies, SectorSeen, AreSectors, IsFormed, copy_of, shown}
 use Rattle.vx_pages.proofs.Bits.{no_bit}
 use Rattle.vx_pages.proofs.Items.{at_set, at_other, set_size}
 use Rattle.vx_pages.proofs.SameCopies.{copies_same}
+use Rattle.vx_pages.proofs.Steps.{kept_of}
+use Rattle.vx_pages.proofs.Telling.{each_tells}
 use Rattle.vx_pages.proofs.OpenBits.{zero_size}
 use Rattle.vx_pages.proofs.Ways.{keeps_none}
 
@@ -34,10 +37,24 @@ settled_formed c c' image sure loose sectors len is none mended =
       sectors = mended.kept.sectors sectors;
       sure = ap (λ (x : List ℕ). length x) is ∙ len;
       loose = ap (λ (x : List ℕ). length x) none ∙ zero_size;
-      shows = λ t n region.
+      shows = λ n t region.
           none_loose (shown c' n region) (bit_in loose region) (ap (λ (x : List ℕ). bit_in x region) none ∙ no_bit region)
-          ∙ ap (λ (x : List ℕ). bit_in x region) (mended.holds (sym mended.kept.tells ∙ t) n) ∙ ap (λ (x : List ℕ). bit_in x region) (sym is);
+          ∙ ap (λ (x : List ℕ). bit_in x region) (mended.holds n (sym (mended.kept.each n).tells ∙ t)) ∙ ap (λ (x : List ℕ). bit_in x region) (sym is);
     }
+
+-- what was mended, settles
+pub settles : (c c' : Copies) (image sure loose sure' loose' : List ℕ) → sure' ≡ image → loose' ≡ zeros 512 → IsMended {T = Unit {0}} image c c' (Ok tt) →
+    IsSettled image (record { copies = c; sure = sure; loose = loose }) (record { copies = c'; sure = sure'; loose = loose' })
+settles c c' image sure loose sure' loose' is none mended = record { kept = kept_of c c' sure loose sure' loose' mended.kept; holds = λ t n. mended.holds n (each_tells c t n); sure = is; loose = none }
+
+pub settles_part : (c c' : Copies) (image sure loose : List ℕ) (fault : MarkFault) → IsMended {T = Unit {0}} image c c' (Err fault) →
+    MaySettle image (record { copies = c; sure = sure; loose = loose }) (record { copies = c'; sure = sure; loose = loose })
+settles_part c c' image sure loose fault mended = record { kept = kept_of c c' sure loose sure loose mended.kept; holds = λ t n. mended.holds n (each_tells c t n) }
+
+-- what is known of each sector of a page is known of one
+pub known_at : (known : Option ℕ) (images : List (List ℕ)) (sectors : List SectorSeen) (m : ℕ) → m < length sectors → AreKnownOn known images sectors → IsKnownOn known (image_at images m) (sector_at sectors m).copies
+known_at None images sectors m lt all = tt
+known_at (Some n) images sectors m lt all = all m lt
 
 -- nothing is read
 pub reads_none : (s : SectorSeen) → ReadsSector s s
@@ -60,14 +77,14 @@ pub sectors_if : (b : Bool) (stop : Option ℕ) (p : Seen) → (if b then p else
 sectors_if true stop p = refl
 sectors_if false stop p = refl
 
-same_formed : (c c' : Copies) (sure loose : List ℕ) → ((n : ℕ) → (copy_of c' n).told ≡ (copy_of c n).told) → ((n : ℕ) → (copy_of c' n).sectors ≡ (copy_of c n).sectors) → tells c' ≡ tells c →
+same_formed : (c c' : Copies) (sure loose : List ℕ) → ((n : ℕ) → (copy_of c' n).told ≡ (copy_of c n).told) → ((n : ℕ) → (copy_of c' n).sectors ≡ (copy_of c n).sectors) →
     IsFormed (record { copies = c; sure = sure; loose = loose }) → IsFormed (record { copies = c'; sure = sure; loose = loose })
-same_formed c c' sure loose told sectors tell formed =
+same_formed c c' sure loose told sectors formed =
     record {
       sectors = λ n. sectors n ∙ formed.sectors n;
       sure = formed.sure;
       loose = formed.loose;
-      shows = λ t n region. ap (λ t. bit_in (told_or t 0) region && not (bit_in loose region)) (told n) ∙ formed.shows (sym tell ∙ t) n region;
+      shows = λ n t region. ap (λ t. bit_in (told_or t 0) region && not (bit_in loose region)) (told n) ∙ formed.shows n (sym (ap (λ t. is_some t) (told n)) ∙ t) region;
     }
 
 pub armed_one : (stop : Option ℕ) (f f' : Seen) (sure loose : List ℕ) → f' ≡ armed stop f → IsFormed (record { copies = record { first = f; second = None }; sure = sure; loose = loose }) →
@@ -75,7 +92,7 @@ pub armed_one : (stop : Option ℕ) (f f' : Seen) (sure loose : List ℕ) → f'
 armed_one stop f f' sure loose is formed =
     let same : f'.told ≡ f.told = ap (λ (x : Seen). x.told) is ∙ told_if f.cut stop f in
     let size : f'.sectors ≡ f.sectors = ap (λ (x : Seen). x.sectors) is ∙ sectors_if f.cut stop f in
-    same_formed _ _ sure loose (told same) (sectors size) (ap (λ t. is_some t && true) same) formed
+    same_formed _ _ sure loose (told same) (sectors size) formed
   where
     told : f'.told ≡ f.told → (n : ℕ) → (copy_of (record { first = f'; second = None }) n).told ≡ (copy_of (record { first = f; second = None }) n).told
     told same zero = same
@@ -92,7 +109,7 @@ armed_pair stop f f' p q sure loose one two formed =
     let size : f'.sectors ≡ f.sectors = ap (λ (x : Seen). x.sectors) one ∙ sectors_if f.cut stop f in
     let same' : q.told ≡ p.told = ap (λ (x : Seen). x.told) two ∙ told_if p.cut stop p in
     let size' : q.sectors ≡ p.sectors = ap (λ (x : Seen). x.sectors) two ∙ sectors_if p.cut stop p in
-    same_formed _ _ sure loose (told same same') (sectors size size') (ap (λ t. is_some t && is_some q.told) same ∙ ap (λ t. is_some f.told && is_some t) same') formed
+    same_formed _ _ sure loose (told same same') (sectors size size') formed
   where
     told : f'.told ≡ f.told → q.told ≡ p.told → (n : ℕ) → (copy_of (record { first = f'; second = Some q }) n).told ≡ (copy_of (record { first = f; second = Some p }) n).told
     told a b zero = a

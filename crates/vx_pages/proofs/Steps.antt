@@ -6,8 +6,9 @@ use Rattle.vx_mapfmt.specs.Bits.{bit_in}
 use Rattle.vx_sector.specs.Fields.{zeros}
 use Rattle.vx_marks.specs.declared.marker.MarkFault.{MarkFault}
 use Rattle.vx_pages.specs.Bytes.{same_place}
-use Rattle.vx_pages.specs.Sector.{AreSectors, IsMade, Copies, SectorSeen, tells, held, shown, IsFormed, KeepsCopies, KeepsSector, Holds, IsPut, Goes, SameBits, Swept, IsTidied, IsFirm, Turns, NoneLoose, BitPut, BitMay, ShownPut, ShownMay, BitOpened, copy_of}
+use Rattle.vx_pages.specs.Sector.{AreSectors, IsMade, Copies, SectorSeen, copy_tells, held, shown, IsFormed, KeepsCopies, KeepsSector, Holds, IsPut, Goes, SameBits, Swept, IsTidied, IsFirm, Turns, NoneLoose, BitPut, BitMay, ShownPut, ShownMay, BitOpened, copy_of}
 use Rattle.vx_pages.proofs.Bits.{no_bit}
+use Rattle.vx_pages.proofs.Telling.{each_tells}
 use Rattle.vx_pages.specs.Stays.{piece_same}
 
 abbrev pub seen : Copies → List ℕ → List ℕ → SectorSeen
@@ -47,7 +48,7 @@ tidy_none c sure loose none =
     record {
       kept = kept_same c sure loose sure loose;
       bits = λ region. (refl, refl);
-      shows = λ t n region. sym (ap (λ (l : Bool). shown c n region && not l) (ap (λ (page : List ℕ). bit_in page region) none ∙ no_bit region) ∙ and_all _);
+      shows = λ n t region. sym (ap (λ (l : Bool). shown c n region && not l) (ap (λ (page : List ℕ). bit_in page region) none ∙ no_bit region) ∙ and_all _);
     }
 
 pub tidied : (c c' : Copies) (sure loose : List ℕ) (result : Result (Unit {0}) MarkFault) → IsFormed (seen c sure loose) → IsPut sure c c' result → IsTidied result (seen c sure loose) (seen c' sure loose)
@@ -55,16 +56,16 @@ tidied c c' sure loose (Ok u) formed put =
     record {
       kept = kept_of c c' sure loose sure loose put.kept;
       bits = λ region. (refl, refl);
-      shows = λ t n region. ap (λ (page : List ℕ). bit_in page region) (put.holds t n) ∙ sym (formed.shows t n region);
+      shows = λ n t region. ap (λ (page : List ℕ). bit_in page region) (put.holds n t) ∙ sym (formed.shows n t region);
     }
 tidied c c' sure loose (Err fault) formed put =
     record {
       kept = kept_of c c' sure loose sure loose put.kept;
       bits = λ region. (refl, refl);
-      shows = λ t n region.
-          elim (put.holds t n) [
+      shows = λ n t region.
+          elim (put.holds n t) [
             | inl same ↦ inl (ap (λ (page : List ℕ). bit_in page region) same)
-            | inr is ↦ swept_or_not _ _ _ (ap (λ (page : List ℕ). bit_in page region) is ∙ sym (formed.shows t n region))
+            | inr is ↦ swept_or_not _ _ _ (ap (λ (page : List ℕ). bit_in page region) is ∙ sym (formed.shows n t region))
           ];
     }
 
@@ -80,7 +81,7 @@ tidy_formed c c' sure loose result formed put =
       sectors = put.kept.sectors formed.sectors;
       sure = formed.sure;
       loose = formed.loose;
-      shows = λ t n region. let t' = sym put.kept.tells ∙ t in still_sure _ _ _ _ (formed.shows t' n region) (shows result n region (put.holds t' n));
+      shows = λ n t region. let t' = sym (put.kept.each n).tells ∙ t in still_sure _ _ _ _ (formed.shows n t' region) (shows result n region (put.holds n t'));
     }
   where
     shows : (result : Result (Unit {0}) MarkFault) (n region : ℕ) → Holds sure (held c n) (held c' n) result → (shown c' n region ≡ shown c n region) ⊎ (shown c' n region ≡ bit_in sure region)
@@ -102,7 +103,7 @@ forget_formed c sure loose loose' len none firm formed =
       sectors = formed.sectors;
       sure = formed.sure;
       loose = len;
-      shows = λ t n region. shown_sure _ _ _ _ (formed.shows t n region) (firm t n region) (none_in loose' region none);
+      shows = λ n t region. shown_sure _ _ _ _ (formed.shows n t region) (firm n t region) (none_in loose' region none);
     }
   where
     shown_sure : (x l s l' : Bool) → (x && not l) ≡ s → (x && l) ≡ false → l' ≡ false → (x && not l') ≡ s
@@ -116,9 +117,9 @@ forget_formed c sure loose loose' len none firm formed =
 abbrev pub WithBit : ℕ → Bool → List ℕ → List ℕ → Type 0
 WithBit region on old new = (other : ℕ) → bit_in new other ≡ (if same_place region other then on else bit_in old other)
 
-pub firm_shows : (c : Copies) (sure loose : List ℕ) → IsFormed (seen c sure loose) → ((other : ℕ) → bit_in loose other ≡ false) → tells c ≡ true → (n region : ℕ) → shown c n region ≡ bit_in sure region
-firm_shows c sure loose formed clean t n region =
-    sym (and_all _) ∙ ap (λ (l : Bool). shown c n region && not l) (sym (clean region)) ∙ formed.shows t n region
+pub firm_shows : (c : Copies) (sure loose : List ℕ) → IsFormed (seen c sure loose) → ((other : ℕ) → bit_in loose other ≡ false) → (n : ℕ) → copy_tells c n ≡ true → (region : ℕ) → shown c n region ≡ bit_in sure region
+firm_shows c sure loose formed clean n t region =
+    sym (and_all _) ∙ ap (λ (l : Bool). shown c n region && not l) (sym (clean region)) ∙ formed.shows n t region
 
 pub bit_put : (c c' : Copies) (sure loose sure' : List ℕ) (region : ℕ) (on : Bool) → IsFormed (seen c sure loose) → ((other : ℕ) → bit_in loose other ≡ false) → WithBit region on sure sure' →
     IsPut {T = Unit {0}} sure' c c' (Ok tt) → Goes (BitPut (same_place region) on) (ShownPut (same_place region) on) (seen c sure loose) (seen c' sure' loose)
@@ -126,20 +127,20 @@ bit_put c c' sure loose sure' region on formed clean bits put =
     record {
       kept = kept_of c c' sure loose sure' loose put.kept;
       bits = λ other. (bits other, refl);
-      shows = λ t n other.
-          ap (λ (page : List ℕ). bit_in page other) (put.holds t n) ∙ bits other
-          ∙ ap (λ (x : Bool). if same_place region other then on else x) (sym (firm_shows c sure loose formed clean t n other));
+      shows = λ n t other.
+          ap (λ (page : List ℕ). bit_in page other) (put.holds n t) ∙ bits other
+          ∙ ap (λ (x : Bool). if same_place region other then on else x) (sym (firm_shows c sure loose formed clean n t other));
     }
 
-pub put_formed : (c c' : Copies) (sure loose sure' : List ℕ) (region : ℕ) (on : Bool) → IsFormed (seen c sure loose) → ((other : ℕ) → bit_in loose other ≡ false) → length sure' ≡ 512 →
+pub put_formed : (c c' : Copies) (sure loose sure' : List ℕ) → IsFormed (seen c sure loose) → ((other : ℕ) → bit_in loose other ≡ false) → length sure' ≡ 512 →
     IsPut {T = Unit {0}} sure' c c' (Ok tt) → IsFormed (seen c' sure' loose)
-put_formed c c' sure loose sure' region on formed clean len put =
+put_formed c c' sure loose sure' formed clean len put =
     record {
       sectors = put.kept.sectors formed.sectors;
       sure = len;
       loose = formed.loose;
-      shows = λ t n other.
-          ap (λ (l : Bool). shown c' n other && not l) (clean other) ∙ and_all _ ∙ ap (λ (page : List ℕ). bit_in page other) (put.holds (sym put.kept.tells ∙ t) n);
+      shows = λ n t other.
+          ap (λ (l : Bool). shown c' n other && not l) (clean other) ∙ and_all _ ∙ ap (λ (page : List ℕ). bit_in page other) (put.holds n (sym (put.kept.each n).tells ∙ t));
     }
 
 -- one bit that was to be put may be there or not
@@ -163,7 +164,7 @@ module _ (c c' : Copies) (sure loose sure' sure'' loose' : List ℕ) (region : �
       record {
         kept = kept_of c c' sure loose sure'' loose' put.kept;
         bits = λ other out. (not_asked _ _ _ _ (later other) out ∙ not_asked _ _ _ _ (first other) out, not_asked _ _ _ _ (opened other) out);
-        shows = λ t n other. torn_bit _ _ _ _ _ _ (firm_shows c sure loose formed clean t n other) (first other) (torn_page _ _ _ other (put.holds t n));
+        shows = λ n t other. torn_bit _ _ _ _ _ _ (firm_shows c sure loose formed clean n t other) (first other) (torn_page _ _ _ other (put.holds n t));
       }
 
   pub failed_formed : length sure'' ≡ 512 → length loose' ≡ 512 → IsFormed (seen c' sure'' loose')
@@ -172,9 +173,9 @@ module _ (c c' : Copies) (sure loose sure' sure'' loose' : List ℕ) (region : �
         sectors = put.kept.sectors formed.sectors;
         sure = len;
         loose = len';
-        shows = λ t n other.
-            let t' = sym put.kept.tells ∙ t in
-            left _ _ _ _ _ _ _ _ _ (firm_shows c sure loose formed clean t' n other) (clean other) (first other) (later other) (opened other) (torn_page _ _ _ other (put.holds t' n));
+        shows = λ n t other.
+            let t' = sym (put.kept.each n).tells ∙ t in
+            left _ _ _ _ _ _ _ _ _ (firm_shows c sure loose formed clean n t' other) (clean other) (first other) (later other) (opened other) (torn_page _ _ _ other (put.holds n t'));
       }
     where
       left : (a on x s l x' s' s'' l' : Bool) → x ≡ s → l ≡ false → s' ≡ (if a then on else s) → s'' ≡ (if a then false else s') → l' ≡ (if a then true else l) → (x' ≡ x) ⊎ (x' ≡ s') → (x' && not l') ≡ s''
@@ -195,7 +196,7 @@ opens c sure loose sure' loose' region is unsure = record { copies = refl; bits 
 pub open_formed : (c : Copies) (sure loose sure' loose' : List ℕ) (region : ℕ) → length sure' ≡ 512 → length loose' ≡ 512 → WithBit region false sure sure' → WithBit region true loose loose' →
     IsFormed (seen c sure loose) → IsFormed (seen c sure' loose')
 open_formed c sure loose sure' loose' region len len' is unsure formed =
-    record { sectors = formed.sectors; sure = len; loose = len'; shows = λ t n other. left _ _ _ _ _ _ (formed.shows t n other) (is other) (unsure other) }
+    record { sectors = formed.sectors; sure = len; loose = len'; shows = λ n t other. left _ _ _ _ _ _ (formed.shows n t other) (is other) (unsure other) }
   where
     left : (a x l s l' s' : Bool) → (x && not l) ≡ s → s' ≡ (if a then false else s) → l' ≡ (if a then true else l) → (x && not l') ≡ s'
     left true x l s l' s' h is unsure = rw (unsure, is) (and_none x)
@@ -209,9 +210,9 @@ made_formed c c' sure loose sectors len len' none put =
       sectors = put.kept.sectors sectors;
       sure = len;
       loose = len';
-      shows = λ t n region.
-          ap (λ (l : Bool). shown c' n region && not l) (none_in loose region none) ∙ and_all _ ∙ ap (λ (page : List ℕ). bit_in page region) (put.holds (sym put.kept.tells ∙ t) n);
+      shows = λ n t region.
+          ap (λ (l : Bool). shown c' n region && not l) (none_in loose region none) ∙ and_all _ ∙ ap (λ (page : List ℕ). bit_in page region) (put.holds n (sym (put.kept.each n).tells ∙ t));
     }
 
 pub made : (c c' : Copies) (sure loose : List ℕ) → loose ≡ zeros 512 → IsPut {T = Unit {0}} sure c c' (Ok tt) → IsMade sure c (seen c' sure loose)
-made c c' sure loose none put = record { kept = put.kept; holds = put.holds; sure = refl; loose = λ region. none_in loose region none; quiet = put.cause }
+made c c' sure loose none put = record { kept = put.kept; holds = λ t n. put.holds n (each_tells c t n); sure = refl; loose = λ region. none_in loose region none; quiet = put.cause }

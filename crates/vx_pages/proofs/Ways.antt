@@ -17,10 +17,10 @@ may_sweep true false x' e = inl e
 may_sweep false l x' e = inl e
 
 pub tidied_may : (fault : MarkFault) (a b : SectorSeen) → Goes SameBits Swept a b → Goes SameBits MaySweep a b
-tidied_may fault a b h = record { kept = h.kept; bits = h.bits; shows = λ t n region. may_sweep _ _ _ (h.shows t n region) }
+tidied_may fault a b h = record { kept = h.kept; bits = h.bits; shows = λ n t region. may_sweep _ _ _ (h.shows n t region) }
 
 pub tidied_none : (fault : MarkFault) (a : SectorSeen) → Goes SameBits MaySweep a a
-tidied_none fault a = record { kept = keeps_none a; bits = λ region. (refl, refl); shows = λ t n region. inl refl }
+tidied_none fault a = record { kept = keeps_none a; bits = λ region. (refl, refl); shows = λ n t region. inl refl }
 
 -- ---- a bit is put
 
@@ -37,11 +37,11 @@ put_may want on fault a b h =
     record {
       kept = h.kept;
       bits = λ region. may_bits _ _ _ _ _ _ (h.bits region).0 (h.bits region).1;
-      shows = λ t n region. may_show _ _ _ _ (h.shows t n region);
+      shows = λ n t region. may_show _ _ _ _ (h.shows n t region);
     }
 
 pub put_none : (want : ℕ → Bool) (on : Bool) (fault : MarkFault) (a : SectorSeen) → Goes (BitMay want) (ShownMay want on) a a
-put_none want on fault a = record { kept = keeps_none a; bits = λ region out. (refl, refl); shows = λ t n region. inl refl }
+put_none want on fault a = record { kept = keeps_none a; bits = λ region out. (refl, refl); shows = λ n t region. inl refl }
 
 -- ---- one call after another
 
@@ -72,7 +72,7 @@ module _ (f g h : ℕ → Bool → Bool → Bool → Bool → Type 0) (u v w : �
       record {
         kept = keeps_on a b c first.kept last.kept;
         bits = λ r. bits r _ _ _ _ _ _ (first.bits r) (last.bits r);
-        shows = λ t n r. shows r _ _ _ _ _ _ _ (first.bits r) (first.shows t n r) (last.shows (first.kept.tells ∙ t) n r);
+        shows = λ n t r. shows r _ _ _ _ _ _ _ (first.bits r) (first.shows n t r) (last.shows n ((first.kept.each n).tells ∙ t) r);
       }
 
 module _ (f g h : ℕ → Bool → Bool → Bool → Bool → Type 0) (u : ℕ → Bool → Bool → Bool → Type 0) (a b c : SectorSeen) where
@@ -82,7 +82,7 @@ module _ (f g h : ℕ → Bool → Bool → Bool → Bool → Type 0) (u : ℕ �
       record {
         kept = keeps_on a b c first.kept (turned_kept b c last.copies);
         bits = λ r. bits r _ _ _ _ _ _ (first.bits r) (last.bits r);
-        shows = λ t n r. subst (λ (x : Copies). u r (shown a.copies n r) (is_loose a r) (shown x n r)) (sym last.copies) (first.shows t n r);
+        shows = λ n t r. subst (λ (x : Copies). u r (shown a.copies n r) (is_loose a r) (shown x n r)) (sym last.copies) (first.shows n t r);
       }
 
 none_bits : (r : ℕ) (s l s' l' s'' l'' : Bool) → SameBits r s l s' l' → NoneLoose r s' l' s'' l'' → NoneLoose r s l s'' l''
@@ -93,7 +93,7 @@ firms a b c first last = goes_turns SameBits NoneLoose NoneLoose Swept a b c non
 
 -- what was tidied shows no loose mark
 pub tidied_firm : (a b : SectorSeen) → Goes SameBits Swept a b → IsFirm b
-tidied_firm a b h t n region = gone _ _ _ _ (h.shows (sym h.kept.tells ∙ t) n region) (h.bits region).1
+tidied_firm a b h n t region = gone _ _ _ _ (h.shows n (sym (h.kept.each n).tells ∙ t) region) (h.bits region).1
   where
     gone : (x l x' l' : Bool) → x' ≡ (x && not l) → l' ≡ l → (x' && l') ≡ false
     gone true true x' l' is same = rw is refl

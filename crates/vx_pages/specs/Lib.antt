@@ -6,6 +6,7 @@ pub mod Images
 pub mod Items
 pub mod Page
 pub mod Pages
+pub mod Parting
 pub mod Pieces
 pub mod Reading
 pub mod Sector

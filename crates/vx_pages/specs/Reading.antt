@@ -1,5 +1,5 @@
 -- What it is to read a sector of one copy, and to make each copy hold what was read.
-use Rattle.std.specs.Prelude.{◌≡◌, ◌⊎◌, ℕ, ◌<◌, Bool, true, is_some, if◌then◌else◌, List, [], length, Result, Ok, Err}
+use Rattle.std.specs.Prelude.{◌≡◌, ◌⊎◌, ℕ, ◌<◌, Bool, true, is_some, if◌then◌else◌, List, [], length, Option, Some, None, Result, Ok, Err}
 use Rattle.vx_base.specs.Counts.{Rose}
 use Rattle.vx_sector.specs.Fields.{zeros}
 use Rattle.vx_piece.specs.Seen.{Seen}
@@ -7,7 +7,7 @@ use Rattle.vx_runs.specs.Part.{told_or}
 use Rattle.vx_marks.specs.declared.marker.MarkFault.{MarkFault}
 use Rattle.vx_marks.specs.declared.marker.MarkFault.TheVariants.{Failed, PowerLost, Busy}
 use Rattle.vx_pages.specs.Items.{item_at}
-use Rattle.vx_pages.specs.Sector.{Copies, SectorSeen, Holds, HasCause, KeepsCopies, KeepsPiece, KeepsSector, copy_of, faults_at, held, is_cut, tells}
+use Rattle.vx_pages.specs.Sector.{Copies, SectorSeen, Holds, HasCause, KeepsCopies, KeepsPiece, KeepsSector, copy_of, copy_tells, faults_at, held, is_cut, tells}
 use Rattle.vx_pages.specs.Pieces.{PieceCause}
 use Rattle.vx_pages.specs.Page.{EachSector, sector_at}
 
@@ -25,6 +25,11 @@ IsFaultAt n (Err Busy) = Unit {0}
 -- the bytes are the sector, if the piece tells what it holds
 abbrev pub IsWhatIs : List ℕ → Seen → Type 0
 IsWhatIs bytes p = is_some p.told ≡ true → bytes ≡ told_or p.told 0
+
+-- the copy that is named, if one is, is known to hold the bytes
+abbrev pub IsKnownOn : Option ℕ → List ℕ → Copies → Type 0
+IsKnownOn None bytes c = Unit {0}
+IsKnownOn (Some n) bytes c = IsWhatIs bytes (copy_of c n)
 
 abbrev pub Gives : {T : Type 0} → List ℕ → Seen → Result T MarkFault → Type 0
 Gives bytes p (Ok u) = IsWhatIs bytes p
@@ -77,7 +82,7 @@ pub record IsMendedOn {T : Type 0} (number : ℕ) (bytes : List ℕ) (old new : 
 -- each copy is made to hold the bytes, in turn, up to the first whose write fails
 pub record IsMended {T : Type 0} (bytes : List ℕ) (old new : Copies) (result : Result T MarkFault) : Type 0 where
   pub kept : KeepsCopies old new
-  pub holds : tells old ≡ true → (n : ℕ) → Holds bytes (held old n) (held new n) result
+  pub holds : (n : ℕ) → copy_tells old n ≡ true → Holds bytes (held old n) (held new n) result
   pub cause : HasRisen (faults_at old) (faults_at new) (is_cut new) result
 
 -- each copy holds the bytes, they are sure, and nothing is loose
@@ -109,6 +114,11 @@ pub record AreImages (images : List (List ℕ)) : Type 0 where
 -- each image is what the copy holds of its map, if it tells
 abbrev pub AreOfCopy : ℕ → List (List ℕ) → List SectorSeen → Type 0
 AreOfCopy n images sectors = (map : ℕ) → map < length sectors → IsWhatIs (image_at images map) (copy_of (sector_at sectors map).copies n)
+
+-- the copy that is named, if one is, is known to hold each image
+abbrev pub AreKnownOn : Option ℕ → List (List ℕ) → List SectorSeen → Type 0
+AreKnownOn None images sectors = Unit {0}
+AreKnownOn (Some n) images sectors = AreOfCopy n images sectors
 
 abbrev pub GiveCopy : {T : Type 0} → ℕ → List (List ℕ) → List SectorSeen → Result T MarkFault → Type 0
 GiveCopy n images sectors (Ok u) = AreOfCopy n images sectors

@@ -41,6 +41,10 @@ second_tells (Some p) = is_some p.told
 abbrev pub tells : Copies → Bool
 tells c = is_some c.first.told && second_tells c.second
 
+-- the copy tells what it holds
+abbrev pub copy_tells : Copies → ℕ → Bool
+copy_tells c n = is_some (copy_of c n).told
+
 -- the sector that a copy holds
 abbrev pub held : Copies → ℕ → List ℕ
 held c n = told_or (copy_of c n).told 0
@@ -114,7 +118,7 @@ pub record SectorHands {T : Type 0} (n : ℕ) (result : Result T MarkFault) (old
 -- the bytes are written on each copy in turn, up to the first that fails
 pub record IsPut {T : Type 0} (bytes : List ℕ) (old new : Copies) (result : Result T MarkFault) : Type 0 where
   pub kept : KeepsCopies old new
-  pub holds : tells old ≡ true → (n : ℕ) → Holds bytes (held old n) (held new n) result
+  pub holds : (n : ℕ) → copy_tells old n ≡ true → Holds bytes (held old n) (held new n) result
   pub cause : HasCause (faults_at old) (faults_at new) (is_cut new) result
   pub counts : SectorHands 1 result old new
 
@@ -124,12 +128,12 @@ is_sure s region = bit_in s.sure region
 abbrev pub is_loose : SectorSeen → ℕ → Bool
 is_loose s region = bit_in s.loose region
 
--- a copy shows what is sure, and of the loose marks what it may
+-- a copy that tells shows what is sure, and of the loose marks what it may
 pub record IsFormed (s : SectorSeen) : Type 0 where
   pub sectors : AreSectors s.copies
   pub sure : length s.sure ≡ 512
   pub loose : length s.loose ≡ 512
-  pub shows : tells s.copies ≡ true → (n region : ℕ) → (shown s.copies n region && not (is_loose s region)) ≡ is_sure s region
+  pub shows : (n : ℕ) → copy_tells s.copies n ≡ true → (region : ℕ) → (shown s.copies n region && not (is_loose s region)) ≡ is_sure s region
 
 -- what a call keeps of a sector
 pub record KeepsSector (old new : SectorSeen) : Type 0 where
@@ -140,20 +144,20 @@ pub record KeepsSector (old new : SectorSeen) : Type 0 where
   pub cut : is_cut old.copies ≡ true → is_cut new.copies ≡ true
 
 -- How a sector goes on: `fact` says of a region what was sure and loose, and what is; `showing` says what a copy showed of it,
--- whether that was loose, and what it shows, where the copies tell.
+-- whether that was loose, and what it shows, where the copy tells.
 pub record Goes (fact : ℕ → Bool → Bool → Bool → Bool → Type 0) (showing : ℕ → Bool → Bool → Bool → Type 0) (old new : SectorSeen) : Type 0 where
   pub kept : KeepsSector old new
   pub bits : (region : ℕ) → fact region (is_sure old region) (is_loose old region) (is_sure new region) (is_loose new region)
-  pub shows : tells old.copies ≡ true → (n region : ℕ) → showing region (shown old.copies n region) (is_loose old region) (shown new.copies n region)
+  pub shows : (n : ℕ) → copy_tells old.copies n ≡ true → (region : ℕ) → showing region (shown old.copies n region) (is_loose old region) (shown new.copies n region)
 
 -- a sector goes on in memory alone
 pub record Turns (fact : ℕ → Bool → Bool → Bool → Bool → Type 0) (old new : SectorSeen) : Type 0 where
   pub copies : new.copies ≡ old.copies
   pub bits : (region : ℕ) → fact region (is_sure old region) (is_loose old region) (is_sure new region) (is_loose new region)
 
--- no copy shows a loose mark
+-- no copy that tells shows a loose mark
 abbrev pub IsFirm : SectorSeen → Type 0
-IsFirm s = tells s.copies ≡ true → (n region : ℕ) → (shown s.copies n region && is_loose s region) ≡ false
+IsFirm s = (n : ℕ) → copy_tells s.copies n ≡ true → (region : ℕ) → (shown s.copies n region && is_loose s region) ≡ false
 
 abbrev pub SameBits : ℕ → Bool → Bool → Bool → Bool → Type 0
 SameBits region sure loose sure' loose' = (sure' ≡ sure) × (loose' ≡ loose)

@@ -1,10 +1,10 @@
 //! The pieces of one sector, one on each copy.
 
-ghost use Rattle.std.specs.Prelude.{◌≡◌, true, length};
+ghost use Rattle.std.specs.Prelude.{◌≡◌, true, length, Some};
 ghost use Rattle.vx_piece.specs.Seen.{Keeps};
 ghost use Rattle.vx_pages.specs.Sector.{AreSectors, IsPut};
 ghost use Rattle.vx_pages.specs.Pieces.{IsPutOn, copies_of};
-ghost use Rattle.vx_pages.specs.Reading.{IsCopyOf, IsGot, IsGotOn, IsMended, IsMendedOn, IsWhatIs};
+ghost use Rattle.vx_pages.specs.Reading.{IsCopyOf, IsGot, IsGotOn, IsKnownOn, IsMended, IsMendedOn, IsWhatIs};
 
 use crate::local_piece::LocalPiece;
 use vx_marks::MarkFault;
@@ -85,32 +85,53 @@ fn get_one<P: LocalPiece>(piece: &mut P, copy: u8, into: &mut [u8]) -> Result<()
     }
 }
 
-/// Makes each copy hold the sector: reads its piece, and writes it where it differs or cannot be read. Stops at the first
-/// write that fails.
+/// Makes each copy hold the sector: reads its piece, and writes it where it differs or cannot be read. A copy that is known to
+/// hold it is not called. Stops at the first write that fails.
 pub fn mend<P: LocalPiece>(
     first: &mut P,
     second: &mut Option<P>,
     sector: &[u8],
+    known: Option<u8>,
 ) -> Result<(), MarkFault>
     requires whole { length sector.now ≡ 512 }
     requires sectors { AreSectors (copies_of P.seen first.old second.old) }
+    requires known { IsKnownOn known sector.now (copies_of P.seen first.old second.old) }
     ensures { IsMended sector.now (copies_of P.seen first.old second.old) (copies_of P.seen first.new second.new) result }
 {
-    if let Err(fault) = mend_one(first, 0, sector) {
+    if let Err(fault) = mend_one(first, 0, sector, is_copy(known, 0)) {
         return Err(fault);
     }
     match second {
-        Some(piece) => mend_one(piece, 1, sector),
+        Some(piece) => mend_one(piece, 1, sector, is_copy(known, 1)),
         None => Ok(()),
     }
 }
 
-/// Makes the piece of one copy hold the sector.
-fn mend_one<P: LocalPiece>(piece: &mut P, copy: u8, sector: &[u8]) -> Result<(), MarkFault>
+/// Whether it is this copy that is known.
+fn is_copy(known: Option<u8>, copy: u8) -> bool
+    ensures { result ≡ true → known ≡ Some copy }
+{
+    match known {
+        Some(other) => other == copy,
+        None => false,
+    }
+}
+
+/// Makes the piece of one copy hold the sector, unless it is known to hold it.
+fn mend_one<P: LocalPiece>(
+    piece: &mut P,
+    copy: u8,
+    sector: &[u8],
+    known: bool,
+) -> Result<(), MarkFault>
     requires whole { length sector.now ≡ 512 }
     requires sector { (P.seen piece.old).sectors ≡ 1 }
+    requires known { known ≡ true → IsWhatIs sector.now (P.seen piece.old) }
     ensures { IsMendedOn copy sector.now (P.seen piece.old) (P.seen piece.new) result }
 {
+    if known {
+        return Ok(());
+    }
     if is_held(piece, sector) {
         return Ok(());
     }

@@ -5,7 +5,7 @@ ghost use Rattle.vx_pages.specs.Page.{ArePairedAlike};
 use crate::local_piece::LocalPiece;
 use crate::sector::MapSector;
 use crate::sectors::{
-    arm_all, fetch_all, firm_all, mark_all, marks_at, set_all, settle_all, unmark_all,
+    arm_all, fetch_all, firm_all, give_up_all, mark_all, marks_at, set_all, settle_all, unmark_all,
 };
 use vx_marks::{MarkFault, Marker};
 
@@ -86,7 +86,7 @@ impl<P: LocalPiece> Page<P> {
     ghost use Rattle.vx_pages.specs.Page.{AreAll, EachSector, cut_in, faults_in};
     ghost use Rattle.vx_pages.specs.Pages.{SamePage};
     ghost use Rattle.vx_pages.specs.Sector.{HasCause, IsOpen};
-    ghost use Rattle.vx_pages.specs.Reading.{AreImages, AreSettled, GiveCopy, HasRisen, IsCopyOf, IsFaultAt, ReadsSector};
+    ghost use Rattle.vx_pages.specs.Reading.{AreImages, AreKnownOn, AreSettled, GiveCopy, HasRisen, IsCopyOf, IsFaultAt, ReadsSector};
 
     /// Reads the page of each map from one copy, 0 or 1, and stops at the first that fails.
     pub fn fetch(&mut self, copy: u8, images: &mut Vec<Vec<u8>>) -> Result<(), MarkFault>
@@ -102,15 +102,17 @@ impl<P: LocalPiece> Page<P> {
         fetch_all(&mut self.sectors, copy, images)
     }
 
-    /// Makes each copy of a page of which nothing is known hold these images, by their maps. After Ok they are sure.
-    pub fn settle(&mut self, images: &Vec<Vec<u8>>) -> Result<(), MarkFault>
+    /// Makes each copy of a page of which nothing is sure hold these images, by their maps. A copy that is known to hold them is
+    /// not called. After Ok they are sure.
+    pub fn settle(&mut self, images: &Vec<Vec<u8>>, known: Option<u8>) -> Result<(), MarkFault>
         requires open { AreAll IsOpen (sectors_seen P.seen self.old.sectors.items) }
         requires images { AreImages (images_seen images.now.items) }
+        requires known { AreKnownOn known (images_seen images.now.items) (sectors_seen P.seen self.old.sectors.items) }
         ensures page { SamePage self.old self.new }
         ensures settled { AreSettled (images_seen images.now.items) (sectors_seen P.seen self.old.sectors.items) (sectors_seen P.seen self.new.sectors.items) result }
         ensures cause { HasRisen (faults_in (sectors_seen P.seen self.old.sectors.items)) (faults_in (sectors_seen P.seen self.new.sectors.items)) (cut_in (sectors_seen P.seen self.new.sectors.items)) result }
     {
-        settle_all(&mut self.sectors, images)
+        settle_all(&mut self.sectors, images, known)
     }
 
     /// Sets when a power switch is to act on its pieces.
@@ -119,6 +121,27 @@ impl<P: LocalPiece> Page<P> {
         ensures armed { sectors_seen P.seen self.new.sectors.items ≡ armed_sectors stop (sectors_seen P.seen self.old.sectors.items) }
     {
         arm_all(&mut self.sectors, stop);
+    }
+}
+
+impl<P: LocalPiece> Page<P> {
+    ghost use Rattle.std.specs.Prelude.{◌-◌, ◌<◌, ◌≤◌, [], map as map_of, vec_capacity};
+    ghost use Rattle.vx_pages.specs.Page.{ArePaired};
+    ghost use Rattle.vx_pages.specs.Pages.{SamePage, sectors_of};
+    ghost use Rattle.vx_pages.specs.Parting.{only_sectors, pieces_on};
+
+    /// Gives up its pieces on one of two copies, 0 or 1. They come into `gone`, in the order of the maps.
+    pub fn give_up(&mut self, copy: u8, gone: &mut Vec<P>)
+        requires some { copy < 2 }
+        requires pairs { ArePaired true (sectors_of P.seen self.old) }
+        requires empty { gone.old.items ≡ [] }
+        requires room { 32 ≤ vec_capacity gone.old }
+        ensures page { SamePage self.old self.new }
+        ensures left { sectors_of P.seen self.new ≡ only_sectors (1 - copy) (sectors_of P.seen self.old) }
+        ensures gone { map_of P.seen gone.new.items ≡ pieces_on copy (sectors_of P.seen self.old) }
+        ensures capacity { vec_capacity gone.new ≡ vec_capacity gone.old }
+    {
+        give_up_all(&mut self.sectors, copy, gone);
     }
 }
 

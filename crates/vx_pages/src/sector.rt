@@ -5,6 +5,7 @@ ghost use Rattle.vx_pages.specs.Pieces.{sector_of};
 use crate::bytes::{copy_page, has_bit, open_differing, put_bit, put_none};
 use crate::copies::{get, mend, put};
 use crate::local_piece::LocalPiece;
+use std::mem;
 use vx_marks::MarkFault;
 use vx_sector::{first_difference, is_zero};
 
@@ -167,7 +168,7 @@ impl<P: LocalPiece> MapSector<P> {
     ghost use Rattle.vx_pages.specs.Arming.{armed_sector};
     ghost use Rattle.vx_pages.specs.Sectors.{sector_seen};
     ghost use Rattle.vx_pages.specs.Sector.{HasCause, IsOpen, copy_of, faults_at, is_cut};
-    ghost use Rattle.vx_pages.specs.Reading.{Gives, HasRisen, IsCopyOf, IsFaultAt, ReadsSector, Settles};
+    ghost use Rattle.vx_pages.specs.Reading.{Gives, HasRisen, IsCopyOf, IsFaultAt, IsKnownOn, ReadsSector, Settles};
 
     /// Reads the sector of one copy, 0 or 1.
     pub fn fetch(&mut self, copy: u8, into: &mut Vec<u8>) -> Result<(), MarkFault>
@@ -182,15 +183,16 @@ impl<P: LocalPiece> MapSector<P> {
         get(&mut self.first, &mut self.second, copy, into)
     }
 
-    /// Makes each copy of a sector of which nothing is known hold these bytes: a piece that is read and holds them is not
-    /// written. After Ok they are sure, and nothing is loose.
-    pub fn settle(&mut self, image: &[u8]) -> Result<(), MarkFault>
+    /// Makes each copy of a sector of which nothing is sure hold these bytes: a piece that is read and holds them is not
+    /// written, and a copy that is known to hold them is not called. After Ok they are sure, and nothing is loose.
+    pub fn settle(&mut self, image: &[u8], known: Option<u8>) -> Result<(), MarkFault>
         requires whole { length image.now ≡ 512 }
+        requires known { IsKnownOn known image.now (sector_seen P.seen self.old).copies }
         requires open { IsOpen (sector_seen P.seen self.old) }
         ensures settles { Settles image.now (sector_seen P.seen self.old) (sector_seen P.seen self.new) result }
         ensures cause { HasRisen (faults_at (sector_seen P.seen self.old).copies) (faults_at (sector_seen P.seen self.new).copies) (is_cut (sector_seen P.seen self.new).copies) result }
     {
-        if let Err(fault) = mend(&mut self.first, &mut self.second, image) {
+        if let Err(fault) = mend(&mut self.first, &mut self.second, image, known) {
             return Err(fault);
         }
         copy_page(&mut self.sure, image);
@@ -205,6 +207,28 @@ impl<P: LocalPiece> MapSector<P> {
         self.first.arm(stop);
         if let Some(piece) = &mut self.second {
             piece.arm(stop);
+        }
+    }
+}
+
+impl<P: LocalPiece> MapSector<P> {
+    ghost use Rattle.std.specs.Prelude.{◌-◌, ◌<◌, is_some, true};
+    ghost use Rattle.vx_pages.specs.Parting.{only_sector};
+    ghost use Rattle.vx_pages.specs.Sectors.{sector_seen};
+    ghost use Rattle.vx_pages.specs.Sector.{copy_of};
+
+    /// Gives up its piece on one of two copies, 0 or 1. The other copy is its only one then.
+    pub fn give_up(&mut self, copy: u8) -> P
+        requires some { copy < 2 }
+        requires pair { is_some (sector_seen P.seen self.old).copies.second ≡ true }
+        ensures left { sector_seen P.seen self.new ≡ only_sector (1 - copy) (sector_seen P.seen self.old) }
+        ensures gone { P.seen result ≡ copy_of (sector_seen P.seen self.old).copies copy }
+    {
+        let second = self.second.take().unwrap();
+        if copy == 0 {
+            mem::replace(&mut self.first, second)
+        } else {
+            second
         }
     }
 }

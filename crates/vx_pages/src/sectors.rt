@@ -1,16 +1,17 @@
 //! The sectors of a page, one for each map.
 
-ghost use Rattle.std.specs.Prelude.{◌≡◌, ℕ, ◌<◌, ◌==◌, ◌&&◌, ◌||◌, length, OnOk};
+ghost use Rattle.std.specs.Prelude.{◌≡◌, ℕ, ◌-◌, ◌<◌, ◌≤◌, ◌==◌, ◌&&◌, ◌||◌, [], true, length, map as map_of, vec_capacity, OnOk};
 ghost use Rattle.vx_mask.specs.Mask.{has};
 ghost use Rattle.vx_pages.specs.Sector.{BitOpened, HasCause, IsBitPut, IsFirm, IsTidied, NoneLoose, Turns, is_loose, is_sure};
 ghost use Rattle.vx_pages.specs.Page.{AreClean, EachSector, IsChanged, IsFirmed, IsMarkedIn, IsUnmarkedIn, asked, cut_in, faults_in, sector_at, sectors_seen};
 ghost use Rattle.vx_pages.specs.Arming.{armed_sectors};
 ghost use Rattle.vx_pages.specs.Images.{images_seen};
-ghost use Rattle.vx_pages.specs.Reading.{AreImages, AreSettled, GiveCopy, HasRisen, IsCopyOf, IsFaultAt, ReadsSector};
+ghost use Rattle.vx_pages.specs.Reading.{AreImages, AreKnownOn, AreSettled, GiveCopy, HasRisen, IsCopyOf, IsFaultAt, ReadsSector};
 ghost use Rattle.vx_mapfmt.specs.Bits.{bit_in};
 ghost use Rattle.vx_pages.specs.Sector.{IsOpen};
 ghost use Rattle.vx_pages.specs.Setting.{IsSetIn, SetEach};
-ghost use Rattle.vx_pages.specs.Page.{AreAll};
+ghost use Rattle.vx_pages.specs.Page.{AreAll, ArePaired};
+ghost use Rattle.vx_pages.specs.Parting.{only_sectors, pieces_on};
 ghost use Rattle.vx_pages.specs.Writes.{IsShut, PageHands, is_open, once_if, writes_of};
 
 use crate::local_piece::LocalPiece;
@@ -232,20 +233,23 @@ pub fn fetch_all<P: LocalPiece>(
     Ok(())
 }
 
-/// Makes each copy of each sector hold its image, and stops at the first that fails.
+/// Makes each copy of each sector hold its image, and stops at the first that fails. A copy that is known to hold them is not
+/// called.
 pub fn settle_all<P: LocalPiece>(
     sectors: &mut Vec<MapSector<P>>,
     images: &Vec<Vec<u8>>,
+    known: Option<u8>,
 ) -> Result<(), MarkFault>
     requires maps { length sectors.old.items ≡ 32 }
     requires open { AreAll IsOpen (sectors_seen P.seen sectors.old.items) }
     requires images { AreImages (images_seen images.now.items) }
+    requires known { AreKnownOn known (images_seen images.now.items) (sectors_seen P.seen sectors.old.items) }
     ensures settled { AreSettled (images_seen images.now.items) (sectors_seen P.seen sectors.old.items) (sectors_seen P.seen sectors.new.items) result }
     ensures cause { HasRisen (faults_in (sectors_seen P.seen sectors.old.items)) (faults_in (sectors_seen P.seen sectors.new.items)) (cut_in (sectors_seen P.seen sectors.new.items)) result }
 {
     for map in 0..32 {
         let sector = &mut sectors[map];
-        if let Err(fault) = sector.settle(&images[map]) {
+        if let Err(fault) = sector.settle(&images[map], known) {
             return Err(fault);
         }
     }
@@ -259,5 +263,21 @@ pub fn arm_all<P: LocalPiece>(sectors: &mut Vec<MapSector<P>>, stop: Option<u64>
     for map in 0..sectors.len() {
         let sector = &mut sectors[map];
         sector.arm(stop);
+    }
+}
+
+/// Each sector gives up its piece on one of two copies, 0 or 1. They come into `gone`, in order.
+pub fn give_up_all<P: LocalPiece>(sectors: &mut Vec<MapSector<P>>, copy: u8, gone: &mut Vec<P>)
+    requires some { copy < 2 }
+    requires pairs { ArePaired true (sectors_seen P.seen sectors.old.items) }
+    requires empty { gone.old.items ≡ [] }
+    requires room { length sectors.old.items ≤ vec_capacity gone.old }
+    ensures left { sectors_seen P.seen sectors.new.items ≡ only_sectors (1 - copy) (sectors_seen P.seen sectors.old.items) }
+    ensures gone { map_of P.seen gone.new.items ≡ pieces_on copy (sectors_seen P.seen sectors.old.items) }
+    ensures capacity { vec_capacity gone.new ≡ vec_capacity gone.old }
+{
+    for map in 0..sectors.len() {
+        let sector = &mut sectors[map];
+        gone.push_reserved(sector.give_up(copy));
     }
 }

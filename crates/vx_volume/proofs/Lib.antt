@@ -26,3 +26,4 @@ pub mod Steps
 pub mod Switchings
 pub mod Volumes
 pub mod Wholes
+pub mod Yieldings

@@ -60,7 +60,7 @@ tidies result region (Some a) None h = h
 tidies (Ok u) region (Some a) (Some b) h = λ other apart. inr (h other)
 tidies (Err fault) region (Some a) (Some b) h = λ other apart. h other
 
-told_on : (F : (ℕ → Marks) → (ℕ → Marks) → Type 0) (a b : Option (ℕ → Marks)) → OnMarks F a b → Tells a → Tells b
+pub told_on : (F : (ℕ → Marks) → (ℕ → Marks) → Type 0) (a b : Option (ℕ → Marks)) → OnMarks F a b → Tells a → Tells b
 told_on F None b h tells = absurd tells
 told_on F (Some a) None h tells = h
 told_on F (Some a) (Some b) h tells = tt

@@ -38,6 +38,7 @@ use Rattle.vx_volume.specs.Parting.{LosesPlexes}
 use Rattle.vx_volume.specs.Switching.{CanSpare, Firms, HasPlex, IsSettled, IsTight, Switches}
 use Rattle.vx_volume.specs.Passes.{CopyEnds, IsClearedAt, IsCopiedAt, IsSettledAt, PassEnds}
 use Rattle.vx_volume.specs.Volume.{IsVolume, VolumeSeen, cell_at, region_at}
+use Rattle.vx_volume.specs.Yielding.{YieldsCopy}
 
 -- ---- one region
 
@@ -369,3 +370,15 @@ EachPlexMayLeave =
 -- What is told stays told.
 abbrev pub EachLeavingTells : Type 0
 EachLeavingTells = (map : ℕ) (old new : VolumeSeen) → LosesPlexes map old new → AreTold old → AreTold new
+
+-- ---- a copy of the log that goes
+
+-- What the regions stand for on two copies of the log they stand for on the one that is left.
+abbrev pub EachCopyMayGo : Type 0
+EachCopyMayGo =
+    (copy : ℕ) (old new : VolumeSeen) → YieldsCopy copy old new → AreTold old →
+    (fixed : ℕ → Fixed) (entries : ℕ → List Entry) → ((r : ℕ) → r < length old.cells → (fixed r).copies ≡ old.log.copies) → StandFor old fixed entries → StandFor new (λ r. record (fixed r) { copies = 1 }) entries
+
+-- What is told stays told.
+abbrev pub EachYieldingTells : Type 0
+EachYieldingTells = (copy : ℕ) (old new : VolumeSeen) → YieldsCopy copy old new → AreTold old → AreTold new

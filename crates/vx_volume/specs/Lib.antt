@@ -2,6 +2,7 @@ pub mod Bytes
 pub mod MapLaws
 pub mod Log
 pub mod Volume
+pub mod Yielding
 pub mod Loop
 pub mod Receipts
 pub mod Calls

@@ -1,7 +1,7 @@
 //! Laws of calls on volumes, each a function with an empty body whose contract states it.
 
 ghost use Rattle.vx_volume.specs.Calls.{IsRead, IsWritten};
-ghost use Rattle.vx_volume.specs.Laws.{CallOfRegionGoesOn, CalledGoesOn, CopyPassGoesOn, EachClearingGoesOn, EachClearingOfRegionGoesOn, EachCopyGoesOn, EachCopyOfRegionGoesOn, EachCourseIsNoted, EachFirmingGoesOn, EachFirmingTightens, EachGoingGoesOn, EachGoingIsScheduled, EachGoingStands, EachLeavingTells, EachLogChangeStands, EachLogChangeTells, EachOtherGoesOn, EachPlexMayGoOff, EachPlexMayGoOn, EachPlexMayLeave, EachPuttingStands, EachPuttingTells, EachReadOfVolumeGoesOn, EachSettingKnows, EachSettingMarks, EachSettingStands, EachSettingTells, EachSettlingGoesOn, EachSettlingOfRegionGoesOn, EachSwitchTells, EachWriteOfVolumeGoesOn, MayTellRead, MayTellWrite, PassGoesOn};
+ghost use Rattle.vx_volume.specs.Laws.{CallOfRegionGoesOn, CalledGoesOn, CopyPassGoesOn, EachClearingGoesOn, EachClearingOfRegionGoesOn, EachCopyGoesOn, EachCopyMayGo, EachCopyOfRegionGoesOn, EachCourseIsNoted, EachFirmingGoesOn, EachFirmingTightens, EachGoingGoesOn, EachGoingIsScheduled, EachGoingStands, EachLeavingTells, EachLogChangeStands, EachLogChangeTells, EachOtherGoesOn, EachPlexMayGoOff, EachPlexMayGoOn, EachPlexMayLeave, EachPuttingStands, EachPuttingTells, EachReadOfVolumeGoesOn, EachSettingKnows, EachSettingMarks, EachSettingStands, EachSettingTells, EachSettlingGoesOn, EachSettlingOfRegionGoesOn, EachSwitchTells, EachWriteOfVolumeGoesOn, EachYieldingTells, MayTellRead, MayTellWrite, PassGoesOn};
 ghost use Rattle.vx_volume.specs.Passes.{Clears, Settles};
 ghost use Rattle.vx_volume.specs.Retelling.{EachHistoryIsRetold};
 
@@ -101,4 +101,10 @@ pub fn each_plex_may_switch()
 pub fn each_plex_may_leave()
     ensures stands { EachPlexMayLeave }
     ensures told { EachLeavingTells }
+{}
+
+/// What the regions stand for they stand for when the log gives up one of its two copies.
+pub fn each_copy_may_go()
+    ensures stands { EachCopyMayGo }
+    ensures told { EachYieldingTells }
 {}

@@ -21,6 +21,7 @@ mod setting;
 mod switching;
 mod volume;
 mod whole_maps;
+mod yielding;
 
 pub use fault::{IoFault, OpenFault, OpenRefused};
 pub use log::VolumeLog;

@@ -1,12 +1,13 @@
-use Rattle.std.proofs.Common.{subst, Err}
+use Rattle.std.proofs.Common.{subst, sym, Err}
 use Rattle.vx_mapfmt.specs.declared.shape.DcoShape.{DcoShape}
 use Rattle.vx_pages.specs.Pages.{grid_seen}
 use Rattle.vx_pages.specs.Sector.{KeepsPiece}
 use Rattle.vx_maps.specs.Creating.{AllBeginWith}
 use Rattle.vx_maps.specs.Cutness.{store_cut}
 use Rattle.vx_maps.specs.Going.{ReadsPiece}
-use Rattle.vx_maps.specs.Loading.{header_of, rows_seen}
+use Rattle.vx_maps.specs.Loading.{AreReadRows, header_of, rows_seen}
 use Rattle.vx_maps.specs.Wholes.{store_copies, store_faults}
+use Rattle.vx_maps.proofs.Finds.{rows_on}
 use Rattle.vx_maps.proofs.Growth.{faults_grow}
 use Rattle.vx_maps.proofs.Heads.{risen_after}
 use Rattle.vx_maps.proofs.Loads.{filled_failed, filled_none, found_later, settled_on, taken_of}
@@ -14,6 +15,11 @@ use Rattle.vx_maps.proofs.CopyLaws.{store_goes}
 use Rattle.vx_maps.proofs.Narrowed.{narrowed_filled, narrowed_read}
 use Rattle.vx_maps.proofs.Steps.{keeps_reads, reads_same, store_keeps, store_then}
 use Rattle.vx_maps.proofs.loading.fill_store.Goals as goal
+
+pub write_copies-requires-clause-read : goal.write_copies-requires-clause-read
+write_copies-requires-clause-read g c =
+    subst (λ (shape : DcoShape). AreReadRows c.in-Ok.chosen shape.regions (rows_seen c.find_copy.new.images.items) (grid_seen g.P.LocalPiece.seen c.find_copy.new.store.pages.items)) (sym c.find_copy.ensures.goes.shape)
+    (rows_on c.in-Ok.chosen c.args.store.now.base.shape.regions (rows_seen c.find_copy.new.images.items) _ _ c.find_copy.ensures.grid c.in-Ok.ensures.found.gives)
 
 pub returns-in-Ok-write_copies-clause-filled : goal.returns-in-Ok-write_copies-clause-filled
 returns-in-Ok-write_copies-clause-filled g c = record {

@@ -3,11 +3,12 @@ use Rattle.vx_marks.specs.declared.marker.MarkFault.{MarkFault}
 use Rattle.vx_pages.specs.Images.{images_seen}
 use Rattle.vx_pages.specs.Page.{AreAll, EachSector, no_sector}
 use Rattle.vx_pages.specs.Pages.{page_seen, sectors_of}
-use Rattle.vx_pages.specs.Reading.{AreImages, AreSettled, IsSettled, MaySettle, image_at}
+use Rattle.vx_pages.specs.Reading.{AreImages, AreKnownOn, AreSettled, IsSettled, MaySettle, image_at}
 use Rattle.vx_pages.specs.Sector.{SectorSeen, IsOpen}
 use Rattle.vx_pages.proofs.Rounds.{goes_on, inside_old, still, stops}
 use Rattle.vx_pages.proofs.Settlement.{settled_may}
 use Rattle.vx_maps.specs.Loading.{images_at, rows_seen}
+use Rattle.vx_maps.proofs.Finds.{known_row}
 use Rattle.vx_maps.proofs.Firmness.{grown_on, risen_on}
 use Rattle.vx_maps.proofs.PageRows.{places_set, row_settled_none, row_grows}
 use Rattle.vx_maps.proofs.FetchRows.{row_is, rows_count}
@@ -26,6 +27,16 @@ settle-requires-clause-images g c =
     let at : c.loop-index.index < length c.args.pages.now.items = omega (arith, c.len-index-end.ensures, c.args.pages.now.ok.0) in
     let in' : c.loop-index.index < length c.args.images.now.items = omega (arith, n, at) in
     subst AreImages (row_is c.args.images.now.items c.loop-index.index c.index.result.now in' c.index.ensures) (c.requires.images.each c.loop-index.index at)
+
+pub settle-requires-clause-known : goal.settle-requires-clause-known
+settle-requires-clause-known g c =
+    let lt : c.loop-index.index < length c.loop-index.pages.items = let f = c.loop-index.invariant.size in omega (arith, c.len-index-end.ensures, f, c.args.pages.now.ok.0) in
+    let n = rows_count _ c.args.images.now.items c.requires.images in
+    let at : c.loop-index.index < length c.args.pages.now.items = omega (arith, c.len-index-end.ensures, c.args.pages.now.ok.0) in
+    let in' : c.loop-index.index < length c.args.images.now.items = omega (arith, n, at) in
+    subst (λ (images : List (List ℕ)). AreKnownOn c.known_copy-known.result images (sectors_of g.P.LocalPiece.seen c.index_mut-page.result.now)) (row_is c.args.images.now.items c.loop-index.index c.index.result.now in' c.index.ensures)
+    (subst (AreKnownOn c.known_copy-known.result (images_at (rows_seen c.args.images.now.items) c.loop-index.index)) (sym (still [] (sectors_of g.P.LocalPiece.seen) _ _ c.loop-index.pages.items c.loop-index.index c.index_mut-page.result.now lt c.index_mut-page.ensures.value c.loop-index.invariant.went))
+    (known_row c.args.chosen _ _ _ c.known_copy-known.result c.known_copy-known.ensures (c.requires.read c.loop-index.index (inside_old [] (sectors_of g.P.LocalPiece.seen) _ _ c.loop-index.pages.items c.loop-index.index lt c.loop-index.invariant.went))))
 
 pub returns-in-Err-clause-places : goal.returns-in-Err-clause-places
 returns-in-Err-clause-places g c = places_set c.loop-index.pages.items c.loop-index.index c.index_mut-page.result.now c.settle.new.self c.index_mut-page.ensures.value c.in-Err.ensures.page ∙ c.loop-index.invariant.places

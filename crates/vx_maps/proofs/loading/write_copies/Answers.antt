@@ -7,7 +7,7 @@ use Rattle.vx_pages.specs.Pages.{grid_seen}
 use Rattle.vx_pages.specs.Sector.{KeepsPiece}
 use Rattle.vx_pages.specs.Stays.{piece_then}
 use Rattle.vx_maps.specs.Cutness.{store_cut}
-use Rattle.vx_maps.specs.Loading.{GridMaySettle, GridSettled, IsSettledAs, header_of, rows_seen}
+use Rattle.vx_maps.specs.Loading.{AreReadRows, GridMaySettle, GridSettled, IsSettledAs, header_of, rows_seen}
 use Rattle.vx_maps.specs.Sheets.{sheets_seen}
 use Rattle.vx_maps.specs.Wholes.{store_faults}
 use Rattle.vx_maps.specs.Written.{AreWrittenFrom, MayHold, heads_of}
@@ -18,6 +18,11 @@ use Rattle.vx_maps.proofs.Heads.{risen_after}
 use Rattle.vx_maps.proofs.Steps.{store_then}
 use Rattle.vx_maps.proofs.Writings.{written_all, written_none, written_part}
 use Rattle.vx_maps.proofs.loading.write_copies.Goals as goal
+
+pub settle_store-requires-clause-read : goal.settle_store-requires-clause-read
+settle_store-requires-clause-read g c =
+    subst (λ (shape : DcoShape). AreReadRows c.args.chosen shape.regions (rows_seen c.args.images.now.items) (grid_seen g.P.LocalPiece.seen c.blank_if.new.store.pages.items)) (sym c.blank_if.ensures.goes.shape)
+    (subst (λ (pages : Vec (Page g.row.P.Denot g.P.LocalPiece)). AreReadRows c.args.chosen c.args.store.now.base.shape.regions (rows_seen c.args.images.now.items) (grid_seen g.P.LocalPiece.seen pages.items)) (sym c.blank_if.ensures.pages) c.requires.read)
 
 pub returns-in-Err-settle_store-clause-cause : goal.returns-in-Err-settle_store-clause-cause
 returns-in-Err-settle_store-clause-cause g c =

@@ -1,9 +1,9 @@
-use Rattle.std.proofs.Common.{subst, sym, Ok, Some, Result, Option}
+use Rattle.std.proofs.Common.{subst, sym, ℕ, Ok, Some, Result, Option}
 use Rattle.std.specs.Option.{option_map}
 use Rattle.vx_marks.specs.declared.marker.MarkFault.{MarkFault}
 use Rattle.vx_pages.specs.Sector.{AreSectors}
 use Rattle.vx_pages.specs.Pieces.{copies_of}
-use Rattle.vx_pages.specs.Reading.{IsMended, IsMendedOn}
+use Rattle.vx_pages.specs.Reading.{IsKnownOn, IsMended, IsMendedOn}
 use Rattle.vx_pages.proofs.Repairs.{mend_stops, mend_only, mend_both}
 use Rattle.vx_pages.proofs.copies.mend.Goals as goal
 
@@ -14,6 +14,17 @@ pub mend_one-requires-in-Some-clause-sector : goal.mend_one-requires-in-Some-cla
 mend_one-requires-in-Some-clause-sector g c =
     let h : AreSectors (copies_of g.P.LocalPiece.seen c.args.first.now (Some c.in-Some.piece)) =
     subst (λ (o : Option g.row.P.Denot). AreSectors (copies_of g.P.LocalPiece.seen c.args.first.now o)) c.in-Some.is c.requires.sectors in h 1
+
+pub mend_one-requires-clause-known : goal.mend_one-requires-clause-known
+mend_one-requires-clause-known g c is =
+    let h : IsKnownOn (Some 0) c.args.sector.now (copies_of g.P.LocalPiece.seen c.args.first.now c.args.second.now) =
+    subst (λ (known : Option ℕ). IsKnownOn known c.args.sector.now (copies_of g.P.LocalPiece.seen c.args.first.now c.args.second.now)) (c.is_copy.ensures is) c.requires.known in h
+
+pub mend_one-requires-in-Some-clause-known : goal.mend_one-requires-in-Some-clause-known
+mend_one-requires-in-Some-clause-known g c is =
+    let h : IsKnownOn (Some 1) c.args.sector.now (copies_of g.P.LocalPiece.seen c.args.first.now (Some c.in-Some.piece)) =
+    subst (λ (known : Option ℕ). IsKnownOn known c.args.sector.now (copies_of g.P.LocalPiece.seen c.args.first.now (Some c.in-Some.piece))) (c.is_copy-in-Some.ensures is)
+    (subst (λ (o : Option g.row.P.Denot). IsKnownOn c.args.known c.args.sector.now (copies_of g.P.LocalPiece.seen c.args.first.now o)) c.in-Some.is c.requires.known) in h
 
 pub returns-in-Err : goal.returns-in-Err
 returns-in-Err g c = mend_stops c.args.sector.now _ _ (option_map g.P.LocalPiece.seen c.args.second.now) c.in-Err.fault c.in-Err.ensures

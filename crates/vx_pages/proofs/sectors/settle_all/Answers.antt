@@ -1,11 +1,11 @@
 use Rattle.std.proofs.Common.{◌<◌, ◌∙◌, sym, ap, length, arith, rules, subst, List, ℕ, Result}
 use Rattle.vx_marks.specs.declared.marker.MarkFault.{MarkFault}
 use Rattle.vx_pages.specs.Images.{images_seen}
-use Rattle.vx_pages.specs.Reading.{IsSettled, MaySettle, Settles, image_at}
-use Rattle.vx_pages.specs.Sector.{IsOpen}
+use Rattle.vx_pages.specs.Reading.{IsKnownOn, IsSettled, MaySettle, Settles, image_at}
+use Rattle.vx_pages.specs.Sector.{SectorSeen, IsOpen}
 use Rattle.vx_pages.specs.Sectors.{sector_seen}
 use Rattle.vx_pages.proofs.Loops.{goes_on, stops, still, inside_old, grown_on, risen_on}
-use Rattle.vx_pages.proofs.Settlement.{image_is, images_count, settled_may, settled_none}
+use Rattle.vx_pages.proofs.Settlement.{image_is, images_count, known_at, settled_may, settled_none}
 use Rattle.vx_pages.proofs.sectors.settle_all.Goals as goal
 
 pub settle-requires-clause-whole : goal.settle-requires-clause-whole
@@ -20,6 +20,17 @@ settle-requires-clause-open g c =
     let lt : c.loop-map.map < length c.loop-map.sectors.items = let f = c.loop-map.invariant.size in omega (arith, f) in
     subst IsOpen (sym (still (sector_seen g.P.LocalPiece.seen) _ _ c.loop-map.sectors.items c.loop-map.map c.index_mut-sector.result.now lt c.index_mut-sector.ensures.value c.loop-map.invariant.went))
     (c.requires.open c.loop-map.map (inside_old (sector_seen g.P.LocalPiece.seen) _ _ c.loop-map.sectors.items c.loop-map.map lt c.loop-map.invariant.went))
+
+pub settle-requires-clause-known : goal.settle-requires-clause-known
+settle-requires-clause-known g c =
+    let lt : c.loop-map.map < length c.loop-map.sectors.items = let f = c.loop-map.invariant.size in omega (arith, f) in
+    let n = images_count c.args.images.now.items c.requires.images in
+    let in' : c.loop-map.map < length c.args.images.now.items = omega (arith, n) in
+    let image = c.deref.ensures.value ∙ sym (image_is c.args.images.now.items c.loop-map.map c.index.result.now in' c.index.ensures) in
+    subst (λ (x : List ℕ). IsKnownOn c.args.known x (sector_seen g.P.LocalPiece.seen c.index_mut-sector.result.now).copies) (sym image)
+    (subst (λ (s : SectorSeen). IsKnownOn c.args.known (image_at (images_seen c.args.images.now.items) c.loop-map.map) s.copies)
+    (sym (still (sector_seen g.P.LocalPiece.seen) _ _ c.loop-map.sectors.items c.loop-map.map c.index_mut-sector.result.now lt c.index_mut-sector.ensures.value c.loop-map.invariant.went))
+    (known_at c.args.known _ _ c.loop-map.map (inside_old (sector_seen g.P.LocalPiece.seen) _ _ c.loop-map.sectors.items c.loop-map.map lt c.loop-map.invariant.went) c.requires.known))
 
 pub returns-in-Err-clause-settled : goal.returns-in-Err-clause-settled
 returns-in-Err-clause-settled g c =

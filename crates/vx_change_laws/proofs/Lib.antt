@@ -6,3 +6,5 @@ pub mod Exactness
 pub mod Places
 pub mod Loggings
 pub mod Switchings
+pub mod Partings
+pub mod Yieldings

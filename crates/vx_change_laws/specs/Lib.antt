@@ -2,3 +2,5 @@ pub mod Joining
 pub mod Laws
 pub mod Logging
 pub mod Switching
+pub mod Parting
+pub mod Yielding

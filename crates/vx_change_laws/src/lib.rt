@@ -1,14 +1,16 @@
-//! What becomes of a running volume of the world where a map of its log is set, its log is made firm, a plex joins it, goes on or off, or it
-//! gets another log: laws, as functions that do nothing and promise them.
+//! What becomes of a running volume of the world where a map of its log is set, its log is made firm, a plex joins it, goes on or off, or
+//! leaves it, it gets another log, or that gives up a copy: laws, as functions that do nothing and promise them.
 #![tactic(auto)]
 
 ghost use Rattle.vx_change_laws.specs.Laws.{EachFailureIsNoted, EachFreeMapIsNew, EachJoiningFits, EachJoiningRunsOn, EachJoiningStaysCut, EachJoiningStaysExact, EachSettingFits, EachSettingIsQuiet, EachSettingKeepsPlaces, EachSettingLeavesFree, EachSettingRunsOn, EachSettingStaysCut, EachSettingStaysExact};
 ghost use Rattle.vx_change_laws.specs.Switching.{EachFirmingFits, EachFirmingKeepsPlaces, EachFirmingRunsOn, EachFirmingStaysCut, EachFirmingStaysExact, EachPlexOffRunsOn, EachPlexOnRunsOn, EachSwitchFits, EachSwitchStaysCut, EachSwitchStaysExact};
+ghost use Rattle.vx_change_laws.specs.Parting.{EachPartingFits, EachPartingRunsOn, EachPartingStaysCut, EachPartingStaysExact};
 ghost use Rattle.vx_change_laws.specs.Logging.{EachLogChangeFits, EachLogChangeIsExact, EachLogChangeRunsOn, EachLogChangeStaysCut};
+ghost use Rattle.vx_change_laws.specs.Yielding.{EachCopyGivenUpFits, EachCopyGivenUpKeepsPlaces, EachCopyGivenUpRunsElsewhere, EachCopyGivenUpRunsOn, EachCopyGivenUpStaysCut, EachCopyGivenUpStaysExact};
 
 use vx_volume::laws::{
-    each_firming_goes_on, each_history_goes_on, each_plex_may_switch, each_putting_stands,
-    each_setting_stands,
+    each_copy_may_go, each_firming_goes_on, each_history_goes_on, each_plex_may_leave,
+    each_plex_may_switch, each_putting_stands, each_setting_stands,
 };
 
 /// A volume that runs also runs as one of which some devices have failed too.
@@ -119,4 +121,35 @@ pub fn each_switch_keeps()
     ensures fits { EachSwitchFits }
     ensures exact { EachSwitchStaysExact }
     ensures cut { EachSwitchStaysCut }
+{}
+
+/// After a plex has left that can be spared, a volume runs as the one that it has left, with the plexes that are there then.
+pub fn each_parting_runs_on()
+    ensures { EachPartingRunsOn }
+{
+    each_plex_may_leave();
+}
+
+/// The owners of tracks fit then, the log stays exact, and no region is dead where all were settled.
+pub fn each_parting_keeps()
+    ensures fits { EachPartingFits }
+    ensures exact { EachPartingStaysExact }
+    ensures cut { EachPartingStaysCut }
+{}
+
+/// After its log gave up one of two copies, a volume runs as the same one, also where it is said to lie on other plexes.
+pub fn each_copy_given_up_runs_on()
+    ensures runs { EachCopyGivenUpRunsOn }
+    ensures elsewhere { EachCopyGivenUpRunsElsewhere }
+{
+    each_copy_may_go();
+}
+
+/// The owners of tracks fit then, its log stays exact, it lies where it lay, and its regions are dead only where they are cut, if none was
+/// before.
+pub fn each_copy_given_up_keeps()
+    ensures fits { EachCopyGivenUpFits }
+    ensures exact { EachCopyGivenUpStaysExact }
+    ensures places { EachCopyGivenUpKeepsPlaces }
+    ensures cut { EachCopyGivenUpStaysCut }
 {}

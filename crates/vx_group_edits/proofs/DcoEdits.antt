@@ -41,7 +41,7 @@ use Rattle.vx_stages.specs.Logging.{found_for_logs, has_other_region, log_plexes
 use Rattle.vx_stages.specs.Refusals.{refusal_by, refusal_from}
 use Rattle.vx_stages.specs.Tests.{where_}
 use Rattle.vx_group_edits.specs.DcoLaws.{EachFittingLogHasNoFault, EachOwnEditKeepsGroup, EachPreparingIsOwn, EachUnpreparingIsOwn}
-use Rattle.vx_group_edits.specs.OfVolume.{AreEditsOf, IsDcoNameOf, IsPlexNameOf}
+use Rattle.vx_group_edits.specs.OfVolume.{AreEditsOf, IsDcoNameOf, IsPlexNameOf, NamesNoOther}
 use Rattle.vx_group_edits.proofs.Added.{IsAnswered, first_answered}
 use Rattle.vx_group_edits.proofs.ByKind.{dco_in, plex_recorded, records_vol}
 use Rattle.vx_group_edits.proofs.Commands.{found_there}
@@ -56,9 +56,17 @@ use Rattle.vx_group_edits.proofs.OwnEdits.{disks_same, group_same, vol_known}
 pub own_plex : (c : Config) (vol : Word) (p : Plex) → lowest_plex vol (objects_of c) ≡ Some p → IsIn c.plexes p × (is_data_plex_of vol p ≡ true)
 own_plex c vol p e = let r = lowest_in vol (objects_of c) p e in (plex_recorded c p r.0, r.1)
 
--- a plex of the volume has a name that no other plex has
-own_name : (c : Config) (vol : Word) (p : Plex) → IsIn c.plexes p → refers p.vol vol ≡ true → IsPlexNameOf c vol p.name
-own_name c vol p there own q here same = subst (λ (x : Plex). refers x.vol vol ≡ true) (one_plex c p q there (is_in c.plexes q here) (sym same)) own
+-- what is of the volume names no other
+names_it : (vol : Word) (to : Option Word) → refers to vol ≡ true → NamesNoOther vol to
+names_it vol None own = absurd (false≢true own)
+names_it vol (Some n) own = bytes_eq_same n vol own
+
+-- a plex of no other volume has a name that no other plex has
+pub no_other_name : (c : Config) (vol : Word) (p : Plex) → IsIn c.plexes p → NamesNoOther vol p.vol → IsPlexNameOf c vol p.name
+no_other_name c vol p there own q here same = subst (λ (x : Plex). NamesNoOther vol x.vol) (one_plex c p q there (is_in c.plexes q here) (sym same)) own
+
+pub own_name : (c : Config) (vol : Word) (p : Plex) → IsIn c.plexes p → refers p.vol vol ≡ true → IsPlexNameOf c vol p.name
+own_name c vol p there own = no_other_name c vol p there (names_it vol p.vol own)
 
 data_name : (c : Config) (vol : Word) (p : Plex) → lowest_plex vol (objects_of c) ≡ Some p → IsPlexNameOf c vol p.name
 data_name c vol p e = let r = own_plex c vol p e in own_name c vol p r.0 (and_parts (refers p.vol vol) (is_data p.kind) r.1).0

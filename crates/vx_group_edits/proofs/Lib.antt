@@ -26,6 +26,7 @@ pub mod Each
 pub mod LogRecords
 pub mod DcoEdits
 pub mod EditSteps
+pub mod PlexEdits
 pub mod LonePlexes
 pub mod DcosGiven
 pub mod DcosTaken

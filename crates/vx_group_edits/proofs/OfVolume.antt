@@ -90,11 +90,15 @@ module _ (c : Config) (v : Vol) (here : IsVolOf c v) (vol : Word) (other : v.nam
 
   -- ---- its plexes
 
+  off : (to : Option Word) → NamesNoOther vol to → refers to v.name ≡ false
+  off None rest = refl
+  off (Some n) rest = false_from_ne_true (bytes_eq n v.name) (λ h. other (sym (bytes_eq_same n v.name h) ∙ rest))
+
   -- a plex that is named to be changed or removed is none of its own
   not_its_plex : (plex : Word) → IsPlexNameOf c vol plex → (p : Plex) → IsIn (plexes_of c v.name) p → plex ≢ p.name
   not_its_plex plex of p own same =
       let mine = filtered (λ p. refers p.vol v.name) c.plexes p own in
-      false≢true (sym (names_one p.vol vol v.name (of p (contains c.plexes p mine.0) (sym same)) (λ e. other (sym e))) ∙ mine.1)
+      false≢true (sym (off p.vol (of p (contains c.plexes p mine.0) (sym same))) ∙ mine.1)
 
   leaves : (p : Plex) → IsIn (plexes_of c v.name) p → (e : Edit) → IsEditOf c vol e → LeavesName p.name e
   leaves p own (edit.RemovePlex plex) of = not_its_plex plex of p own
@@ -103,10 +107,6 @@ module _ (c : Config) (v : Vol) (here : IsVolOf c v) (vol : Word) (other : v.nam
   leave : (p : Plex) → IsIn (plexes_of c v.name) p → (es : List Edit) → AreEditsOf c vol es → LeaveName p.name es
   leave p own [] of = tt
   leave p own (e ∷ es) of = (leaves p own e of.0, leave p own es of.1)
-
-  off : (to : Option Word) → NamesNoOther vol to → refers to v.name ≡ false
-  off None rest = refl
-  off (Some n) rest = false_from_ne_true (bytes_eq n v.name) (λ h. other (sym (bytes_eq_same n v.name h) ∙ rest))
 
   module _ (all : List Object) (keeps : Keeps c v all) where
     -- a plex of that name among the records is none of the volume's

@@ -28,9 +28,9 @@ abbrev pub NamesNoOther : Word → Option Word → Type 0
 NamesNoOther vol None = Unit {0}
 NamesNoOther vol (Some name) = name ≡ vol
 
--- what the configuration has of plexes of that name is of the volume
+-- what the configuration has of plexes of that name is of no other volume
 abbrev pub IsPlexNameOf : Config → Word → Word → Type 0
-IsPlexNameOf c vol plex = (p : Plex) → Contains c.plexes p → p.name ≡ plex → refers p.vol vol ≡ true
+IsPlexNameOf c vol plex = (p : Plex) → Contains c.plexes p → p.name ≡ plex → NamesNoOther vol p.vol
 
 -- the DCO of that name is the volume's: no other volume names it, and what the configuration has of DCOs of that name is of the volume
 pub record IsDcoNameOf (c : Config) (vol dco : Word) : Type 0 where

@@ -18,3 +18,9 @@ pub mod SwitchForms
 pub mod SwitchRuns
 pub mod SwitchPlexes
 pub mod SwitchNamed
+pub mod PartLists
+pub mod PartEdits
+pub mod PartForms
+pub mod PartRegions
+pub mod PartRuns
+pub mod PartNamed

@@ -50,7 +50,7 @@ run_at m (run ∷ runs) (suc r) lt = run_at m runs r (omega (arith, lt))
 
 -- ---- the plexes of a region
 
-holds_among : (ps : List PlexSeen) (k : ℕ) → holds ps k ≡ is_among k (map own_map ps)
+pub holds_among : (ps : List PlexSeen) (k : ℕ) → holds ps k ≡ is_among k (map own_map ps)
 holds_among [] k = refl
 holds_among (p ∷ ps) k = ap (λ b. (p.map == k) || b) (holds_among ps k)
 

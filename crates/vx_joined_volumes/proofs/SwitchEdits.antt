@@ -31,6 +31,7 @@ use Rattle.vx_volume_laws.specs.Keeping.{LiesStill}
 use Rattle.vx_volume_laws.proofs.Restated.{columns_same}
 use Rattle.vx_group_edits.specs.OfVolume.{AreEditsOf}
 use Rattle.vx_group_edits.proofs.ByKind.{plexes_are, plexes_own, subdisks_are, subdisks_own, vol_is}
+use Rattle.vx_group_edits.proofs.DcoEdits.{own_name}
 use Rattle.vx_group_edits.proofs.EditSteps.{as_set, plexes_set, stays_set, subdisks_set}
 use Rattle.vx_group_edits.proofs.LonePlexes.{refers_is}
 use Rattle.vx_group_edits.proofs.OwnEdits.{disks_same, snaps_same}
@@ -54,10 +55,7 @@ module _ (c c' : Config) (v : Vol) (p : Plex) (next : PlexState) (sets : SetsSta
   own = (and_parts (refers p.vol v.name) (is_data p.kind) sets.data_is).0
 
   of_volume : AreEditsOf c v.name edits
-  of_volume = (
-    (refl, λ q there same. subst (λ (x : Plex). refers x.vol v.name ≡ true) (one_plex c p q p_there (is_in c.plexes q there) (sym same)) own),
-    tt,
-  )
+  of_volume = ((refl, own_name c v.name p p_there own), tt)
 
   -- ---- the records of each kind
 

@@ -47,7 +47,7 @@ module _ {P : Type 0} {ghosts : Ghosts P} (see : P → Seen) (running : Running 
   by_map : (p : Plex) → IsIn c.plexes p → is_data_plex_of v.name p ≡ true → (x : PlexImage) (q : IsNow c v x) → x.map ≡ map_or_zero p.map → q.plex ≡ p
   by_map p there own x q same = one_of_map c v placed.runs.recorded q.plex p q.there there q.own own (q.map ∙ same)
 
-  named : (p : Plex) → IsIn c.plexes p → is_data_plex_of v.name p ≡ true → IsNamed (map_or_zero p.map) p.name plexes
+  pub named : (p : Plex) → IsIn c.plexes p → is_data_plex_of v.name p ≡ true → IsNamed (map_or_zero p.map) p.name plexes
   named p there own x here =
       let q = image_now see running c good numbers v placed plexes were x here in (
         λ same. sym q.name ∙ ap name_of_plex (by_map p there own x q same),

@@ -4,3 +4,5 @@ pub mod Relogged
 pub mod RelogLaws
 pub mod Switched
 pub mod SwitchLaws
+pub mod Parted
+pub mod PartLaws

@@ -1,8 +1,9 @@
-//! A running volume of a group that a plex joins, that is given another log, or of which a plex goes on or off, runs in its place by the
-//! new configuration, as if it had been opened by that. Laws, as functions that do nothing and promise them.
+//! A running volume of a group that a plex joins or leaves, that is given another log, or of which a plex goes on or off, runs in its place
+//! by the new configuration, as if it had been opened by that. Laws, as functions that do nothing and promise them.
 #![tactic(auto)]
 
 ghost use Rattle.vx_joined_volumes.specs.RelogLaws.{EachLonePlexIsAlone, EachReloggedFormIsItsOwn, EachReloggedVolumeIsNamed, EachReloggedVolumeRunsInPlace};
+ghost use Rattle.vx_joined_volumes.specs.PartLaws.{EachLeavingIsOfItsVolume, EachLeavingKeepsOthers, EachPartedFormIsItsOwn, EachPartedOwnerIsKept, EachPartedVolumeIsNamed, EachPartedVolumeRunsInPlace, EachPlexIsTakenOut};
 ghost use Rattle.vx_joined_volumes.specs.SwitchLaws.{EachPlexLeftOutIsOff, EachStateIsSet, EachSwitchedFormIsItsOwn, EachSwitchedOwnerIsSwitched, EachSwitchedVolumeIsNamed, EachSwitchedVolumeRunsInPlace, EachTakenPlexIsThere};
 ghost use Rattle.vx_joined_volumes.specs.Laws.{EachJoinedFormIsItsOwn, EachJoinedVolumeIsNamed, EachJoinedVolumeRunsInPlace, EachNumberingAgrees};
 
@@ -107,6 +108,40 @@ pub fn each_switched_volume_runs_in_place<P: Piece + Drop>(running: &Running<P>,
 pub fn each_switched_volume_is_named<P: Piece + Drop>(running: &Running<P>)
     ensures names { EachSwitchedVolumeIsNamed P.seen running.now }
     ensures owners { EachSwitchedOwnerIsSwitched P.seen running.now }
+{
+    let _ = running;
+}
+
+/// The edit of a plex that leaves its volume takes that plex out alone.
+pub fn each_plex_is_taken_out()
+    ensures { EachPlexIsTakenOut }
+{}
+
+/// The edit of a plex that leaves its volume is of that volume alone, and keeps every other one.
+pub fn each_leaving_keeps_others()
+    ensures own { EachLeavingIsOfItsVolume }
+    ensures others { EachLeavingKeepsOthers }
+{}
+
+/// The form without a plex is that of the volume by the new configuration.
+pub fn each_parted_form_is_its_own<P: Piece + Drop>(running: &Running<P>)
+    ensures { EachPartedFormIsItsOwn P.seen running.now }
+{
+    let _ = running;
+}
+
+/// A volume that a plex has left runs in its place by the new configuration.
+pub fn each_parted_volume_runs_in_place<P: Piece + Drop>(running: &Running<P>, later: &Running<P>)
+    ensures { EachPartedVolumeRunsInPlace P.seen running.now later.now }
+{
+    let _ = running;
+    let _ = later;
+}
+
+/// It counts as opened with the plexes that it had but for that one, by their names and maps. The owners of their tracks are as they were.
+pub fn each_parted_volume_is_named<P: Piece + Drop>(running: &Running<P>)
+    ensures names { EachPartedVolumeIsNamed P.seen running.now }
+    ensures owners { EachPartedOwnerIsKept P.seen running.now }
 {
     let _ = running;
 }

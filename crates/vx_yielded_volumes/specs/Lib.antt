@@ -1,0 +1,2 @@
+pub mod Yielded
+pub mod YieldLaws

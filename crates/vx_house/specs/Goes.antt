@@ -83,6 +83,7 @@ Gives see (stage.Prepare logs) disks h = Unit {0}
 Gives see (stage.Unprepare vol) disks h = Unit {0}
 Gives see (stage.Detach plex) disks h = Unit {0}
 Gives see (stage.Attach vol plex) disks h = Unit {0}
+Gives see (stage.Dissociate plex remove) disks h = Unit {0}
 Gives see (stage.Stop vol) disks h = Unit {0}
 
 -- the stages of a command that must be done before this one
@@ -114,6 +115,7 @@ wanted (stage.Prepare logs) = []
 wanted (stage.Unprepare vol) = []
 wanted (stage.Detach plex) = []
 wanted (stage.Attach vol plex) = []
+wanted (stage.Dissociate plex remove) = []
 wanted (stage.Stop vol) = []
 
 -- the stage takes devices into an empty hand

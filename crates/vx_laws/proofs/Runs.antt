@@ -24,14 +24,17 @@ use Rattle.vx_new_volumes.specs.declared.logs.NewLogs.{NewLogs}
 use Rattle.vx_state_edits.specs.Edits.{is_new}
 use Rattle.vx_answers.specs.declared.refusal.Refusal.TheVariants as refusal
 use Rattle.vx_moments.specs.World.{World, Group, Volume}
+use Rattle.vx_config_parts.specs.declared.plex.Plex.{Plex}
 use Rattle.vx_config_parts.specs.declared.vol.Vol.{Vol}
 use Rattle.vx_stages.specs.Attached.{AttachEnds, AttachStopsIn}
 use Rattle.vx_stages.specs.Detached.{DetachStopsIn}
+use Rattle.vx_stages.specs.Leaving.{ByLog, ByRecord, FromLog, FromRest, Way, way_of}
+use Rattle.vx_stages.specs.Left.{LeavingStopsIn, LeavingStopsOf, StopsUnreadied, UnaskedBy}
 use Rattle.vx_stages.specs.Starting.{CopyEnds, StopsIn, StopsOf, may_start, regions_copied}
 use Rattle.vx_stages.specs.Logged.{IsLogWritten, PrepareStopsIn, UnprepareStopsIn, by_config}
 use Rattle.vx_stages.specs.Mirrored.{MirrorEnds, MirrorStopsIn}
 use Rattle.vx_stages.specs.Stopping.{StopStops, runs_on_plexes}
-use Rattle.vx_stages.specs.Tests.{volume_in}
+use Rattle.vx_stages.specs.Tests.{is_data, volume_in}
 use Rattle.vx_stages.specs.Touching.{PassHasCause}
 use Rattle.vx_plans.specs.Steps.{AreAsBefore, CountsAfter, DoesForm, Leaves, Runs, Serves, Step, done}
 use Rattle.vx_plans.specs.declared.stages.Finish.{Finish}
@@ -39,7 +42,7 @@ use Rattle.vx_plans.specs.declared.stages.Finish.TheVariants.{Nothing}
 use Rattle.vx_stages.specs.declared.stage.Stage.{Stage}
 use Rattle.vx_stages.specs.declared.stage.Stage.TheVariants as stage
 use Rattle.vx_plans.proofs.Calm.{calm, well_after}
-use Rattle.vx_plans.proofs.Complete.{refused_attach, refused_detach, refused_mirror, refused_prepare, refused_unprepare, runs_later}
+use Rattle.vx_plans.proofs.Complete.{refused_attach, refused_detach, refused_leaving, refused_mirror, refused_prepare, refused_unprepare, runs_later}
 use Rattle.vx_laws.specs.Returning.{IsOf, is_done}
 
 -- ---- a stage that ends the command
@@ -50,12 +53,13 @@ IsNotDone (ends.Done None parts blocks) = ⊥
 IsNotDone (ends.Done (Some copied) parts blocks) = Unit {0}
 IsNotDone other = Unit {0}
 
--- the stage starts or stops a volume of the group, or mirrors it, or a plex of it goes out of use or into use
+-- the stage starts or stops a volume of the group, or mirrors it, or a plex of it goes out of use or into use, or leaves it
 abbrev pub runs_volume : Stage → Bool
 runs_volume (stage.Start vol) = true
 runs_volume (stage.Mirror mirror) = true
 runs_volume (stage.Detach plex) = true
 runs_volume (stage.Attach vol plex) = true
+runs_volume (stage.Dissociate plex remove) = true
 runs_volume (stage.Stop vol) = true
 runs_volume other = false
 
@@ -176,9 +180,10 @@ module _ (old new : Moment) (end : End) where
   has_stopped (stage.Unprepare vol) disks other stops = unpreparing vol old.world.group stops
   has_stopped (stage.Detach plex) disks other stops = cc
   has_stopped (stage.Attach vol plex) disks other stops = cc
+  has_stopped (stage.Dissociate plex remove) disks other stops = cc
   has_stopped (stage.Stop vol) disks other stops = cc
 
-  -- ---- a start, a mirror, plexes that go out of use and into use, and a stop
+  -- ---- a start, a mirror, plexes that go out of use and into use and that leave, and a stop
 
   told : (e : End) → IsNotDone e → end ≡ e → IsNotDone end
   told e other is = subst IsNotDone (sym is) other
@@ -266,6 +271,31 @@ module _ (old new : Moment) (end : End) where
   attach_stops vol name None ends = (denied _ ends).not_done
   attach_stops vol name (Some g) stops = attach_in g vol name stops
 
+  unasked : (g : Group) (v : Vol) → UnaskedBy g v old end new → IsNotDone end
+  unasked g v (inl (is, none)) = told (ends.Refused (refusal.NoLog v.name)) tt is
+  unasked g v (inr (inl (disk, device, is, fails))) = told (ends.Fault disk device []) tt is
+  unasked g v (inr (inr (is, cut))) = told lost tt is
+
+  unreadied : (way : Way) (g : Group) (v : Vol) → StopsUnreadied way g v old end new → IsNotDone end
+  unreadied ByRecord g v stops = absurd stops
+  unreadied FromLog g v stops = absurd stops
+  unreadied FromRest g v stops = passing stops.rest.group v.name old end stops.cause
+  unreadied ByLog g v (touched, narrows, why) = unasked g v why
+
+  leaves_of : (remove : Bool) (g : Group) (p : Plex) (o : Option Word) → LeavingStopsOf remove g p o old end new → IsNotDone end
+  leaves_of remove g p None stops = committing stops.0 old stops.2
+  leaves_of remove g p (Some vol) (v, is, inl u) = unreadied (way_of (is_data p.kind) (runs_on_plexes old.world v.name) v) g v u
+  leaves_of remove g p (Some vol) (v, is, inr (inl kept)) = told (ends.Refused (refusal.OnlyPlex p.name)) tt kept.end_is
+  leaves_of remove g p (Some vol) (v, is, inr (inr c)) = committing c.stops.0 c.mid c.stops.2
+
+  leaves_in : (g : Group) (remove : Bool) (name : Word) → LeavingStopsIn g remove name old end new → IsNotDone end
+  leaves_in g remove name (inl (refused, rests)) = let is = refused_leaving (runs_on_plexes old.world) g remove name end refused in told (ends.Refused is.0) tt is.1
+  leaves_in g remove name (inr (p, may, stops)) = leaves_of remove g p p.vol stops
+
+  leaves_stops : (remove : Bool) (name : Word) (o : Option Group) → MatchOption o (EndsIn (refusal.NoGroup None) old end new) (λ g. LeavingStopsIn g remove name old end new) → IsNotDone end
+  leaves_stops remove name None ends = (denied _ ends).not_done
+  leaves_stops remove name (Some g) stops = leaves_in g remove name stops
+
   stop_stops : (name : Word) → StopStops name old end new → IsNotDone end
   stop_stops name (inl (inl (r, e, is), rests)) = told (ends.Refused r) tt is
   stop_stops name (inl (inr (g, here, none, (v, found, (next, edited, (text, printed, long, is)))), rests)) = told (ends.Refused _) tt is
@@ -278,6 +308,7 @@ module _ (old new : Moment) (end : End) where
   not_done (stage.Mirror mirror) disks stops = mirror_stops mirror.vol mirror.disks old.world.group stops
   not_done (stage.Detach plex) disks stops = detach_stops plex old.world.group stops
   not_done (stage.Attach vol plex) disks stops = attach_stops vol plex old.world.group stops
+  not_done (stage.Dissociate plex remove) disks stops = leaves_stops remove plex old.world.group stops
   not_done (stage.Stop vol) disks stops = stop_stops vol stops
   not_done other disks stops = (has_stopped other disks refl stops).not_done
 

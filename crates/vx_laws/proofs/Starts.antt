@@ -1,10 +1,11 @@
--- A start begins a life over what the volume's bytes are read as, and neither copying, a plex that joins or goes out of use or into use, another
--- log nor coming to rest is anything to its history.
+-- A start begins a life over what the volume's bytes are read as, and neither copying, a plex that joins or leaves or goes out of use or into
+-- use, another log nor coming to rest is anything to its history.
 use Rattle.std.proofs.Common.{◌≡◌, ◌∙◌, Bool, true, false, cond, List, [], ◌∷◌, ◌++◌, Option, Some, None, MatchBool, MatchOption, refl, sym, ap, subst, inl, inr}
 use Rattle.std.specs.Str.{bytes_eq}
 use Rattle.vx_base.specs.Named.{Word, put}
 use Rattle.vx_base.proofs.NamedLemmas.{bytes_eq_same}
 use Rattle.vx_life.specs.Life.{begun_from}
+use Rattle.vx_config_parts.specs.declared.plex.Plex.{Plex}
 use Rattle.vx_config_parts.specs.declared.state.VolState.{VolState}
 use Rattle.vx_config_parts.specs.declared.state.VolState.TheVariants as vol
 use Rattle.vx_config_parts.specs.declared.vol.Vol.{Vol}
@@ -25,11 +26,13 @@ use Rattle.vx_moments.specs.Tracks.{volume_failed}
 use Rattle.vx_stages.specs.Attached.{AttachCopiesTo, AttachStops, AttachStopsIn, IsAttachCopied, IsAttachedBy, volume_unsure}
 use Rattle.vx_stages.specs.Detached.{DetachStops, DetachStopsIn, IsDetached, IsRestedFor}
 use Rattle.vx_stages.specs.Ends.{EndsIn}
+use Rattle.vx_stages.specs.Leaving.{ByLog, ByRecord, FromLog, FromRest, Way, way_of}
+use Rattle.vx_stages.specs.Left.{GoesOnBy, GoesOnWithout, IsDissociated, IsReadied, Leaves, LeavingStops, LeavingStopsIn, LeavingStopsOf, StopsUnreadied, volume_left}
 use Rattle.vx_stages.specs.Logged.{IsLogWritten, IsPrepared, IsRelogged, IsUnprepared, log_names, volume_relogged}
 use Rattle.vx_stages.specs.Mirrored.{IsMirrorCopied, IsMirroredBy, MirrorCopiesTo, MirrorStops, MirrorStopsIn, volume_joined}
 use Rattle.vx_stages.specs.Starting.{BecomesBy, CopiesTo, IsCopied, IsStartedBy, StartStops, StopsIn, StopsOf, is_copied, may_start, plexes_started, volume_started}
 use Rattle.vx_stages.specs.Stopping.{ComesToRest, IsStopDone, StopStops, rested_volume, runs_on_plexes, without_volume}
-use Rattle.vx_stages.specs.Tests.{volume_in}
+use Rattle.vx_stages.specs.Tests.{is_data, volume_in}
 use Rattle.vx_laws.specs.Histories.{HasHistory, HaveHistories, IsHistoried, IsHistoriedOn}
 use Rattle.vx_laws.proofs.Lives.{Holding, Reading, begun_history, carried, put_history, same_volumes, taken_history}
 use Rattle.vx_laws.proofs.Runs.{volumes_of}
@@ -286,6 +289,64 @@ module _ (Held : Holding) (Read : Reading) where
 
     pub attach_kept : (end : End) (new : Moment) → AttachStops vol plex old end new → HaveHistories Held Read new.world
     attach_kept end new stops = attach_by old.world.group end new stops
+
+  -- ---- a plex that leaves
+
+  -- that it lies on fewer plexes is nothing to the history of a volume
+  left_history : (name vol : Word) (g : Group) (p : Plex) (plexes : List Word) (v : Volume) → v.lies ≡ OnPlexes plexes → IsHistoried Held Read name v → IsHistoried Held Read name (volume_left g vol p plexes v)
+  left_history name vol g p plexes v on own = subst (λ l. IsHistoriedOn Held Read name l v) on own
+
+  goes_without : (g : Group) (vol : Word) (p : Plex) (m n : Moment) → HaveHistories Held Read m.world → GoesOnWithout g vol p m n → HaveHistories Held Read n.world
+  goes_without g vol p m n have w =
+      let run = volume_left g vol p w.plexes w.volume in
+      same_volumes Held Read (record m.world { volumes = put vol (Some run) m.world.volumes }) n.world (ap (λ (x : World). x.volumes) w.world)
+      (put_history Held Read m.world vol run (left_history vol vol g p w.plexes w.volume w.lies (have vol w.volume w.was)) have)
+
+  goes_by : (way : Way) (g : Group) (vol : Word) (p : Plex) (m n : Moment) → HaveHistories Held Read m.world → GoesOnBy way g vol p m n → HaveHistories Held Read n.world
+  goes_by ByRecord g vol p m n have same = subst (λ (x : Moment). HaveHistories Held Read x.world) (sym same) have
+  goes_by FromLog g vol p m n have w = goes_without g vol p m n have w
+  goes_by FromRest g vol p m n have w = goes_without g vol p m n have w
+  goes_by ByLog g vol p m n have same = subst (λ (x : Moment). HaveHistories Held Read x.world) (sym same) have
+
+  module _ (old : Moment) (all : HaveHistories Held Read old.world) where
+    readied : (way : Way) (g : Group) (v : Vol) (mid : Moment) → IsReadied way g v old mid → HaveHistories Held Read mid.world
+    readied ByRecord g v mid same = subst (λ (x : Moment). HaveHistories Held Read x.world) (sym same) all
+    readied FromLog g v mid same = subst (λ (x : Moment). HaveHistories Held Read x.world) (sym same) all
+    readied FromRest g v mid rest = rested v.name old all mid rest
+    readied ByLog g v mid asked = same_volumes Held Read old.world mid.world (ap (λ (w : World). w.volumes) asked.touched.world) all
+
+    unreadied : (way : Way) (g : Group) (v : Vol) (end : End) (new : Moment) → StopsUnreadied way g v old end new → HaveHistories Held Read new.world
+    unreadied ByRecord g v end new stops = absurd stops
+    unreadied FromLog g v end new stops = absurd stops
+    unreadied FromRest g v end new stops = rested v.name old all new stops.rest
+    unreadied ByLog g v end new stops = same_volumes Held Read old.world new.world (ap (λ (w : World). w.volumes) stops.0.world) all
+
+    left : (remove : Bool) (g : Group) (p : Plex) (o : Option Word) (new : Moment) → Leaves remove g p o old new → HaveHistories Held Read new.world
+    left remove g p None new d = same_volumes Held Read old.world new.world d.commits.2.committing.volumes all
+    left remove g p (Some vol) new (v, is, d) =
+        let way = way_of (is_data p.kind) (runs_on_plexes old.world v.name) v in
+        goes_by way g v.name p d.recorded new (same_volumes Held Read d.mid.world d.recorded.world d.committed.committing.volumes (readied way g v d.mid d.readied)) d.goes
+
+    pub leaving_done : (remove : Bool) (name : Word) (new : Moment) → IsDissociated remove name old new → HaveHistories Held Read new.world
+    leaving_done remove name new d = left remove d.group d.plex d.plex.vol new d.leaves
+
+    left_kept : (remove : Bool) (g : Group) (p : Plex) (o : Option Word) (end : End) (new : Moment) → LeavingStopsOf remove g p o old end new → HaveHistories Held Read new.world
+    left_kept remove g p None end new stops = same_volumes Held Read old.world new.world stops.2.committing.volumes all
+    left_kept remove g p (Some vol) end new (v, is, inl u) = unreadied (way_of (is_data p.kind) (runs_on_plexes old.world v.name) v) g v end new u
+    left_kept remove g p (Some vol) end new (v, is, inr (inl kept)) = readied (way_of (is_data p.kind) (runs_on_plexes old.world v.name) v) g v new kept.readied
+    left_kept remove g p (Some vol) end new (v, is, inr (inr c)) =
+        same_volumes Held Read c.mid.world new.world c.stops.2.committing.volumes (readied (way_of (is_data p.kind) (runs_on_plexes old.world v.name) v) g v c.mid c.readied)
+
+    leaving_in : (remove : Bool) (name : Word) (g : Group) (end : End) (new : Moment) → LeavingStopsIn g remove name old end new → HaveHistories Held Read new.world
+    leaving_in remove name g end new (inl (why, rests)) = same_volumes Held Read old.world new.world (volumes_of old.world new.world rests.stays.world) all
+    leaving_in remove name g end new (inr (p, may, stops)) = left_kept remove g p p.vol end new stops
+
+    leaving_by : (remove : Bool) (name : Word) (o : Option Group) (end : End) (new : Moment) → MatchOption o (EndsIn (refusal.NoGroup None) old end new) (λ g. LeavingStopsIn g remove name old end new) → HaveHistories Held Read new.world
+    leaving_by remove name None end new ends = same_volumes Held Read old.world new.world (volumes_of old.world new.world ends.1.stays.world) all
+    leaving_by remove name (Some g) end new stops = leaving_in remove name g end new stops
+
+    pub leaving_kept : (remove : Bool) (name : Word) (end : End) (new : Moment) → LeavingStops remove name old end new → HaveHistories Held Read new.world
+    leaving_kept remove name end new stops = leaving_by remove name old.world.group end new stops
 
   -- ---- logs that come and go
 

@@ -27,7 +27,7 @@ use Rattle.vx_image.specs.Meaning.{candidates_read}
 use Rattle.vx_moments.specs.Group.{image_on}
 use Rattle.vx_laws.specs.Histories.{FirstStartsNext, HasHealed, HasHistory, StartsNext, IsHistoried, IsHistoriedOn, HaveHistories, NoneStarted, WasRead, WasThere}
 use Rattle.vx_laws.proofs.Recoveries.{recover_kept}
-use Rattle.vx_laws.proofs.Starts.{AreRead, IsRead, attach_kept, detach_done, detach_kept, mirror_kept, prepare_done, start_kept, stop_done, stop_kept, unprepare_done}
+use Rattle.vx_laws.proofs.Starts.{AreRead, IsRead, attach_kept, detach_done, detach_kept, leaving_done, leaving_kept, mirror_kept, prepare_done, start_kept, stop_done, stop_kept, unprepare_done}
 use Rattle.vx_laws.proofs.Lives.{Holding, Reading, begun_history, put_history, goes_on_history, same_volumes, without_group, from_nothing}
 use Rattle.vx_base.specs.Blocks.{Contents}
 use Rattle.vx_script_forms.specs.declared.act.Act.{Act}
@@ -84,6 +84,7 @@ module _ (Held : Holding) (Read : Reading) (old new : Moment) (all : HaveHistori
   stage_kept (stage.Unprepare vol) disks there is = unprepare_done Held Read old all vol new is
   stage_kept (stage.Detach plex) disks there is = detach_done Held Read old all plex new is
   stage_kept (stage.Attach vol plex) disks there is = absurd is
+  stage_kept (stage.Dissociate plex remove) disks there is = leaving_done Held Read old all remove plex new is
   stage_kept (stage.Stop vol) disks there is = stop_done Held Read vol old all new is
   stage_kept other disks there is = same (kept_world other disks old new refl is)
 
@@ -93,6 +94,7 @@ module _ (Held : Holding) (Read : Reading) (old new : Moment) (all : HaveHistori
   ending_kept (stage.Mirror mirror) disks end there stops = mirror_kept Held Read mirror.vol mirror.disks old all end new stops
   ending_kept (stage.Detach plex) disks end there stops = detach_kept Held Read old all plex end new stops
   ending_kept (stage.Attach vol plex) disks end there stops = attach_kept Held Read vol plex old all end new stops
+  ending_kept (stage.Dissociate plex remove) disks end there stops = leaving_kept Held Read old all remove plex end new stops
   ending_kept (stage.Stop vol) disks end there stops = stop_kept Held Read vol old all end new stops
   ending_kept other disks end there stops = as_was (has_stopped old new end other disks refl stops).volumes
 

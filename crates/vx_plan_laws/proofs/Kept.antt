@@ -1,5 +1,5 @@
--- A stage that refuses its command leaves the world, but for a start that cannot open its volume, and a plex that does not go out of use as some
--- region has no other.
+-- A stage that refuses its command leaves the world, but for a start that cannot open its volume, and a plex that does not go out of use or leave
+-- as some region has no other.
 use Rattle.std.proofs.Common.{◌≡◌, ◌∙◌, ◌⊎◌, ℕ, ◌+◌, Bool, true, false, is_some, nat_lt, List, [], ◌∷◌, ◌++◌, Option, Some, None, MatchBool, MatchOption, refl, ap, subst, inl, inr}
 use Rattle.vx_base.specs.Named.{Word}
 use Rattle.vx_script_words.specs.declared.value.DiskAt.{DiskAt}
@@ -23,6 +23,7 @@ use Rattle.vx_new_volumes.specs.declared.volume.NewVolume.{NewVolume}
 use Rattle.vx_stages.specs.Calls.{count_of, start_of, volume_of}
 use Rattle.vx_stages.specs.Detached.{StopsNeeded}
 use Rattle.vx_stages.specs.Ends.{StopsBy, refused}
+use Rattle.vx_stages.specs.Left.{StopsLate}
 use Rattle.vx_plans.specs.Plans.{disks_of, new_volume, plan_of}
 use Rattle.vx_stages.specs.Records.{devices_of}
 use Rattle.vx_plans.specs.Serving.{CallRuns, ServesOn}
@@ -42,17 +43,18 @@ use Rattle.vx_plans.proofs.Complete.{keeps_world, kept_world}
 use Rattle.vx_plan_laws.specs.Keeping.{IsLeftAdded, IsLeftUnopened, RefusedLeaves}
 use Rattle.vx_plan_laws.proofs.NewVolumes.{added_there, is_opened, no_gate}
 use Rattle.vx_plan_laws.proofs.Recoveries.{recover_left}
-use Rattle.vx_plan_laws.proofs.Volumes.{attach_left, detach_left, mirror_left, not_stopped, prepare_left, start_left, start_refuses, stop_left, unprepare_left}
+use Rattle.vx_plan_laws.proofs.Volumes.{attach_left, detach_left, leaving_left, mirror_left, not_stopped, prepare_left, start_left, start_refuses, stop_left, unprepare_left}
 
 -- ---- stages
 
--- the stage is a start, a mirror or a plex that goes into use, which end their command themselves, or one that goes out of use, which may be
--- refused once its volume has come to rest
+-- the stage is a start, a mirror or a plex that goes into use, which end their command themselves, or one that goes out of use or leaves, which may
+-- be refused once its volume has come to rest
 abbrev pub ends_itself : Stage → Bool
 ends_itself (stage.Start vol) = true
 ends_itself (stage.Mirror mirror) = true
 ends_itself (stage.Detach plex) = true
 ends_itself (stage.Attach vol plex) = true
+ends_itself (stage.Dissociate plex remove) = true
 ends_itself other = false
 
 taking_kept : (taken names : List Word) (m : Moment) (end : End) (n : Moment) → TakingStops taken names m end n → n.world ≡ m.world
@@ -101,6 +103,7 @@ refused_kept (stage.Prepare logs) disks m r n other stops = prepare_left m r n l
 refused_kept (stage.Unprepare vol) disks m r n other stops = unprepare_left m r n vol stops
 refused_kept (stage.Detach plex) disks m r n other stops = cc
 refused_kept (stage.Attach vol plex) disks m r n other stops = cc
+refused_kept (stage.Dissociate plex remove) disks m r n other stops = cc
 refused_kept (stage.Stop vol) disks m r n other stops = stop_left m r n vol stops
 
 -- ---- plans
@@ -115,6 +118,7 @@ calls_volume (stage.Mirror mirror) = true
 calls_volume (stage.Prepare logs) = true
 calls_volume (stage.Detach plex) = true
 calls_volume (stage.Attach vol plex) = true
+calls_volume (stage.Dissociate plex remove) = true
 calls_volume (stage.Stop vol) = true
 calls_volume other = false
 
@@ -130,6 +134,7 @@ not_itself (stage.Mirror mirror) e = cc
 not_itself (stage.Prepare logs) e = cc
 not_itself (stage.Detach plex) e = cc
 not_itself (stage.Attach vol plex) e = cc
+not_itself (stage.Dissociate plex remove) e = cc
 not_itself other e = refl
 
 pub none_itself : (stages : List Stage) → AreStill calls_volume stages → AreStill ends_itself stages
@@ -164,22 +169,24 @@ mirror_gates dg = tests.GroupIs dg ∷ []
 abbrev pub stop_gates : Option Word → Word → List Test
 stop_gates dg vol = tests.GroupIs dg ∷ tests.HasVolume vol ∷ []
 
--- the form starts, mirrors or stops a volume of the group, gives it logs, or lets a plex of it go out of use or into use
+-- the form starts, mirrors or stops a volume of the group, gives it logs, lets a plex of it go out of use or into use, or takes one out
 abbrev pub touches : Form → Bool
 touches (form.Start vol) = true
 touches (form.Stop vol) = true
 touches (form.Mirror vol disks) = true
 touches (form.Prepare vol ndcomirs region) = true
 touches (form.AssistMake vol length attrs disks) = true
+touches (form.PlexDis plex rm) = true
 touches (form.Acting (act.PlexDet plex)) = true
 touches (form.Acting (act.PlexAtt vol plex)) = true
 touches other = false
 
--- the form is that of a start or of a mirror, makes a volume and starts it, or lets a plex go out of use or into use
+-- the form is that of a start or of a mirror, makes a volume and starts it, lets a plex go out of use or into use, or takes one out
 abbrev pub ends_so : Form → Bool
 ends_so (form.Start vol) = true
 ends_so (form.Mirror vol disks) = true
 ends_so (form.AssistMake vol length attrs disks) = true
+ends_so (form.PlexDis plex rm) = true
 ends_so (form.Acting (act.PlexDet plex)) = true
 ends_so (form.Acting (act.PlexAtt vol plex)) = true
 ends_so other = false
@@ -206,7 +213,7 @@ plan_plain dg (form.PrintHt None) other = refl
 plan_plain dg (form.PrintHt (Some vol)) other = (refl, refl, refl)
 plan_plain dg (form.AssistMake vol length attrs disks) other = cc
 plan_plain dg (form.Mirror vol disks) other = cc
-plan_plain dg (form.PlexDis plex rm) other = tt
+plan_plain dg (form.PlexDis plex rm) other = cc
 plan_plain dg (form.Prepare vol ndcomirs region) other = cc
 plan_plain dg (form.Unprepare vol) other = (refl, refl, refl)
 plan_plain dg (form.AddMir vol disks) other = tt
@@ -239,6 +246,7 @@ plan_still dg (form.Prepare vol ndcomirs region) other = (refl, refl, refl)
 plan_still dg (form.Start vol) other = cc
 plan_still dg (form.Mirror vol disks) other = cc
 plan_still dg (form.AssistMake vol length attrs disks) other = cc
+plan_still dg (form.PlexDis plex rm) other = cc
 plan_still dg (form.Acting (act.PlexDet plex)) other = cc
 plan_still dg (form.Acting (act.PlexAtt vol plex)) other = cc
 plan_still dg f other = still_plan (plan_of dg f) (plan_plain dg f refl)
@@ -274,6 +282,9 @@ module _ (old : Moment) (views : List View) (r : Refusal) (new : Moment) where
   stopped_behind [] s m (inr (none, later, stops)) = inr stops
   stopped_behind (test ∷ gates) s m (inl (mid, later, (passed, same), runs)) = subst (λ (n : Moment). (new.world ≡ n.world) ⊎ Stops s [] n (refused r) new) same (stopped_behind gates s mid runs)
   stopped_behind (test ∷ gates) s m (inr (none, later, (why, fails, is, same))) = inl (ap (λ (n : Moment). n.world) same)
+
+  leaving_behind : (gates : List Test) (remove : Bool) (plex : Word) (m : Moment) → Runs [] (behind gates (stage.Dissociate plex remove)) Nothing m views (refused r) new → (new.world ≡ m.world) ⊎ StopsLate remove plex m (refused r) new
+  leaving_behind gates remove plex m runs = elim (stopped_behind gates (stage.Dissociate plex remove) m runs) [ inl same ↦ inl same | inr stops ↦ leaving_left m r new remove plex stops ]
 
   detaching_left : (gates : List Test) (plex : Word) (m : Moment) → Runs [] (behind gates (stage.Detach plex)) Nothing m views (refused r) new → (new.world ≡ m.world) ⊎ StopsNeeded plex m (refused r) new
   detaching_left gates plex m runs = elim (stopped_behind gates (stage.Detach plex) m runs) [ inl same ↦ inl same | inr stops ↦ detach_left m r new plex stops ]
@@ -327,6 +338,7 @@ module _ (old : Moment) (views : List View) (r : Refusal) (new : Moment) where
   form_left place dg (form.AssistMake vol length attrs disks) does = new_left dg (new_volume vol length attrs disks) does
   form_left place dg (form.Mirror vol disks) does = mirroring_left (mirror_gates dg) (record { vol = vol; disks = disks }) old does
   form_left place dg (form.Recover vol) does = recover_left r new dg vol old views does.1
+  form_left place dg (form.PlexDis plex rm) does = leaving_behind (mirror_gates dg) rm plex old does
   form_left place dg (form.Acting (act.PlexDet plex)) does = detaching_left (mirror_gates dg) plex old does
   form_left place dg (form.Acting (act.PlexAtt vol plex)) does = attaching_left (mirror_gates dg) vol plex old does
   form_left place dg other does = plan_left (disks_of other) (plan_of dg other) (plan_still dg other refl) does

@@ -45,7 +45,7 @@ use Rattle.vx_plan_laws.proofs.Told.{tells_done}
 use Rattle.vx_plan_laws.specs.Unbroken.{LetsThrough, PrefersItsPlex}
 use Rattle.vx_plan_laws.proofs.Makings.{making_kept}
 use Rattle.vx_plan_laws.proofs.Tests.{group_here, let_through, policy_law, removal_law, joining_law, volume_there}
-use Rattle.vx_plan_laws.proofs.Volumes.{attach_refuses, detach_refuses, mirror_refuses, not_stopped, prepare_refuses, same_refusal, start_refuses, stop_refuses, unprepare_refuses}
+use Rattle.vx_plan_laws.proofs.Volumes.{attach_refuses, detach_refuses, leaving_refuses, mirror_refuses, not_stopped, prepare_refuses, same_refusal, start_refuses, stop_refuses, unprepare_refuses}
 
 -- ---- what a stage needs of those before it
 
@@ -64,6 +64,7 @@ Finds (stage.Prepare logs) disks w = HasGroup w
 Finds (stage.Unprepare vol) disks w = HasGroup w
 Finds (stage.Detach plex) disks w = HasGroup w
 Finds (stage.Attach vol plex) disks w = HasGroup w
+Finds (stage.Dissociate plex remove) disks w = HasGroup w
 Finds (stage.Stop vol) disks w = HasGroup w × LetsThrough (tests.HasVolume vol) [] w
 Finds other disks w = Unit {0}
 
@@ -115,6 +116,7 @@ module _ (old : Moment) (r : Refusal) (new : Moment) where
   refuses (stage.Unprepare vol) disks (g, here) stops = unprepare_refuses old r new vol g here stops
   refuses (stage.Detach plex) disks (g, here) stops = detach_refuses old r new plex g here stops
   refuses (stage.Attach vol plex) disks (g, here) stops = attach_refuses old r new vol plex g here stops
+  refuses (stage.Dissociate plex remove) disks (g, here) stops = leaving_refuses old r new remove plex g here stops
   refuses (stage.Stop vol) disks ((g, here), there) stops = stop_refuses old r new vol g here (volume_there old.world g here vol [] there) stops
   refuses s disks finds stops = stops
 
@@ -189,6 +191,7 @@ plan_guarded dg (form.Start vol) w = (tt, (refl, λ here. (tt, (refl, λ has. (t
 plan_guarded dg (form.Mirror vol disks) w = (tt, (refl, λ here. group_here dg [] w here))
 plan_guarded dg (form.Prepare vol ndcomirs region) w = (tt, (refl, λ here. group_here dg [] w here))
 plan_guarded dg (form.Unprepare vol) w = (tt, (refl, λ here. group_here dg [] w here))
+plan_guarded dg (form.PlexDis plex rm) w = (tt, (refl, λ here. group_here dg [] w here))
 plan_guarded dg (form.Stop vol) w = (tt, (refl, λ here. (tt, (refl, λ has. (group_here dg [] w here, has)))))
 plan_guarded dg (form.Acting (act.PlexDet plex)) w = (tt, (refl, λ here. group_here dg [] w here))
 plan_guarded dg (form.Acting (act.PlexAtt vol plex)) w = (tt, (refl, λ here. group_here dg [] w here))

@@ -1,6 +1,7 @@
 -- What a command tells that is done: a start, a mirror and a plex that goes into use how many regions they have copied, and another nothing.
 use Rattle.std.proofs.Common.{◌≡◌, ℕ, Bool, true, false, List, [], ◌∷◌, ◌++◌, Option, Some, None, MatchBool, MatchOption, refl, sym, ◌∙◌, ◌⊎◌, ap, subst, inl, inr}
 use Rattle.vx_base.specs.Named.{Word}
+use Rattle.vx_config_parts.specs.declared.plex.Plex.{Plex}
 use Rattle.vx_config_parts.specs.declared.vol.Vol.{Vol}
 use Rattle.vx_objects.specs.declared.edit.Edit.{Edit}
 use Rattle.vx_new_volumes.specs.declared.logs.NewLogs.{NewLogs}
@@ -24,11 +25,13 @@ use Rattle.vx_plans.specs.Plans.{disks_of, new_volume, plan_of}
 use Rattle.vx_stages.specs.Records.{devices_of}
 use Rattle.vx_stages.specs.Stages.{DeviceEnds, EditsStop, FailsAt, IsDone, IsJoining, LookingStops, Stops, TakingStops, edits_of, joining_edit}
 use Rattle.vx_stages.specs.Starting.{StartStops, StopsIn, StopsOf, may_start, regions_copied}
+use Rattle.vx_stages.specs.Leaving.{ByLog, ByRecord, FromLog, FromRest, Way, way_of}
+use Rattle.vx_stages.specs.Left.{LeavingStopsIn, LeavingStopsOf, StopsUnreadied}
 use Rattle.vx_stages.specs.Logged.{PrepareStopsIn, UnprepareStopsIn}
 use Rattle.vx_stages.specs.Mirrored.{MirrorStops, MirrorStopsIn}
 use Rattle.vx_stages.specs.Stopping.{StopStops, runs_on_plexes}
 use Rattle.vx_plans.specs.Steps.{Runs, done}
-use Rattle.vx_stages.specs.Tests.{volume_in}
+use Rattle.vx_stages.specs.Tests.{is_data, volume_in}
 use Rattle.vx_stages.specs.declared.stage.Source.{Source}
 use Rattle.vx_stages.specs.declared.stage.Source.TheVariants as source
 use Rattle.vx_stages.specs.declared.stage.Stage.{Stage}
@@ -38,7 +41,7 @@ use Rattle.vx_plans.specs.declared.stages.Finish.TheVariants.{Nothing}
 use Rattle.vx_stages.specs.declared.test.Test.{Test}
 use Rattle.vx_stages.specs.declared.test.Test.TheVariants as tests
 use Rattle.vx_plans.specs.declared.stages.Plan.{Plan}
-use Rattle.vx_plans.proofs.Complete.{refused_attach, refused_detach, refused_mirror, refused_prepare, refused_unprepare}
+use Rattle.vx_plans.proofs.Complete.{refused_attach, refused_detach, refused_leaving, refused_mirror, refused_prepare, refused_unprepare}
 use Rattle.vx_plan_laws.specs.Refusing.{IsDoneBy, TellsAttached, TellsCopied, TellsMirrored}
 use Rattle.vx_plan_laws.proofs.Kept.{AreStill, IsStill, behind, ends_itself, mirror_gates, plan_still, start_gates}
 
@@ -119,6 +122,25 @@ module _ (copied : Option ℕ) where
   detaching old new name (Some g) (inr (inr (inl n))) = no_refusal _ n.end_is
   detaching old new name (Some g) (inr (inr (inr c))) = not_stopped c.mid new c.stops.0 c.stops.2
 
+  unreadied : (way : Way) (g : Group) (v : Vol) (old new : Moment) → StopsUnreadied way g v old (all_done copied) new → ⊥
+  unreadied ByRecord g v old new stops = stops
+  unreadied FromLog g v old new stops = stops
+  unreadied FromRest g v old new stops = stops.cause
+  unreadied ByLog g v old new (touched, narrows, inl (is, none)) = no_refusal _ is
+  unreadied ByLog g v old new (touched, narrows, inr (inl (disk, device, is, fails))) = cc
+  unreadied ByLog g v old new (touched, narrows, inr (inr (is, cut))) = cc
+
+  leaving_of : (old new : Moment) (remove : Bool) (g : Group) (p : Plex) (o : Option Word) → LeavingStopsOf remove g p o old (all_done copied) new → ⊥
+  leaving_of old new remove g p None stops = not_stopped old new stops.0 stops.2
+  leaving_of old new remove g p (Some vol) (v, is, inl u) = unreadied (way_of (is_data p.kind) (runs_on_plexes old.world v.name) v) g v old new u
+  leaving_of old new remove g p (Some vol) (v, is, inr (inl kept)) = no_refusal _ kept.end_is
+  leaving_of old new remove g p (Some vol) (v, is, inr (inr c)) = not_stopped c.mid new c.stops.0 c.stops.2
+
+  leaving : (old new : Moment) (remove : Bool) (name : Word) (o : Option Group) → MatchOption o (EndsIn (refusal.NoGroup None) old (all_done copied) new) (λ g. LeavingStopsIn g remove name old (all_done copied) new) → ⊥
+  leaving old new remove name None ends = denied old new _ ends
+  leaving old new remove name (Some g) (inl (turned, rests)) = let is = refused_leaving (runs_on_plexes old.world) g remove name (all_done copied) turned in no_refusal is.0 is.1
+  leaving old new remove name (Some g) (inr (p, may, stops)) = leaving_of old new remove g p p.vol stops
+
   -- no stage but a start, a mirror and a plex that goes into use is done where it ends the command
   not_done : (s : Stage) (disks : List DiskAt) (old new : Moment) → ends_itself s ≡ false → Stops s disks old (all_done copied) new → ⊥
   not_done (stage.Gate test) disks old new other (r, fails, is, same) = no_refusal r is
@@ -159,6 +181,7 @@ module _ (copied : Option ℕ) where
   not_done (stage.Unprepare vol) disks old new other stops = unpreparing old new vol old.world.group stops
   not_done (stage.Detach plex) disks old new other stops = detaching old new plex old.world.group stops
   not_done (stage.Attach vol plex) disks old new other stops = cc
+  not_done (stage.Dissociate plex remove) disks old new other stops = leaving old new remove plex old.world.group stops
   not_done (stage.Stop vol) disks old new other stops = stopping old new vol stops
 
   -- ---- a start
@@ -271,6 +294,9 @@ module _ (copied : Option ℕ) where
   detach_tells : (gates : List Test) (plex : Word) (old : Moment) (views : List View) (new : Moment) → Runs [] (behind gates (stage.Detach plex)) Nothing old views (all_done copied) new → all_done copied ≡ done
   detach_tells gates plex old views new runs = elim (done_behind gates (stage.Detach plex) old views new runs) [ inl over ↦ over | inr stops ↦ absurd (detaching old new plex old.world.group stops) ]
 
+  leaving_tells : (gates : List Test) (remove : Bool) (plex : Word) (old : Moment) (views : List View) (new : Moment) → Runs [] (behind gates (stage.Dissociate plex remove)) Nothing old views (all_done copied) new → all_done copied ≡ done
+  leaving_tells gates remove plex old views new runs = elim (done_behind gates (stage.Dissociate plex remove) old views new runs) [ inl over ↦ over | inr stops ↦ absurd (leaving old new remove plex old.world.group stops) ]
+
   -- the plex that goes into use ends the command
   attach_tells : (gates : List Test) (vol plex : Word) (old : Moment) (views : List View) (new : Moment) → Runs [] (behind gates (stage.Attach vol plex)) Nothing old views (all_done copied) new → TellsAttached vol plex old.world (all_done copied)
   attach_tells [] vol plex old views new (inl (mid, later, is, runs)) = absurd is
@@ -297,6 +323,7 @@ module _ (copied : Option ℕ) where
   form_tells dg (form.Start vol) old views new runs = start_tells (start_gates dg vol) vol old views new runs
   form_tells dg (form.AssistMake vol length attrs disks) old views new runs = new_tells dg (source.Volume (new_volume vol length attrs disks)) vol old views new runs
   form_tells dg (form.Mirror vol disks) old views new runs = mirror_tells (mirror_gates dg) (record { vol = vol; disks = disks }) old views new runs
+  form_tells dg (form.PlexDis plex rm) old views new runs = leaving_tells (mirror_gates dg) rm plex old views new runs
   form_tells dg (form.Acting (act.PlexDet plex)) old views new runs = detach_tells (mirror_gates dg) plex old views new runs
   form_tells dg (form.Acting (act.PlexAtt vol plex)) old views new runs = attach_tells (mirror_gates dg) vol plex old views new runs
   form_tells dg other old views new runs = still_plan (disks_of other) (plan_of dg other) old views new (plan_still dg other refl) runs

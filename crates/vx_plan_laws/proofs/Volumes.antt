@@ -1,7 +1,8 @@
--- Why a start, a mirror, logs that come or go, plexes that go out of use or into use, and a stop are refused for their volume, and what they leave
--- then.
+-- Why a start, a mirror, logs that come or go, plexes that go out of use or into use or leave, and a stop are refused for their volume, and what
+-- they leave then.
 use Rattle.std.proofs.Common.{◌≡◌, ◌⊎◌, ◌&&◌, ◌∙◌, Bool, true, false, MatchBool, MatchOption, Option, Some, None, List, [], is_some, if◌then◌else◌, refl, sym, ap, subst, inl, inr}
 use Rattle.vx_base.specs.Named.{Word}
+use Rattle.vx_config_parts.specs.declared.plex.Plex.{Plex}
 use Rattle.vx_config_parts.specs.declared.vol.Vol.{Vol}
 use Rattle.vx_copies.specs.Lists.{AnyOf}
 use Rattle.vx_answers.specs.declared.answer.End.TheVariants as ends
@@ -14,6 +15,8 @@ use Rattle.vx_stages.specs.Attached.{AttachStops, AttachStopsIn}
 use Rattle.vx_stages.specs.Detached.{DetachStops, DetachStopsIn, StopsNeeded}
 use Rattle.vx_stages.specs.Ends.{EndsIn, refused}
 use Rattle.vx_new_volumes.specs.declared.logs.NewLogs.{NewLogs}
+use Rattle.vx_stages.specs.Leaving.{IsLeavingRefused, MayLeave}
+use Rattle.vx_stages.specs.Left.{LeavingStops, LeavingStopsIn, LeavingStopsOf, StopsLate}
 use Rattle.vx_stages.specs.Logged.{PrepareStops, PrepareStopsIn, UnprepareStops, UnprepareStopsIn}
 use Rattle.vx_stages.specs.Logging.{IsPrepareRefused, IsUnprepareRefused}
 use Rattle.vx_stages.specs.Mirrored.{MirrorIsRefused, MirrorStops, MirrorStopsIn}
@@ -22,7 +25,7 @@ use Rattle.vx_stages.specs.Starting.{StartStops, StopsIn, StopsOf, StopsUnopened
 use Rattle.vx_stages.specs.Stopping.{StopStops, is_active, refusal_by, runs_on_plexes, stop_refusal}
 use Rattle.vx_stages.specs.Tests.{volume_in}
 use Rattle.vx_plan_laws.specs.Keeping.{IsLeftUnopened}
-use Rattle.vx_plan_laws.specs.Refusing.{AttachRefuses, DetachRefuses, MirrorRefuses, OfGroup, OfVolume, OpeningRefuses, PrepareRefuses, StartRefuses, StopRefuses, UnprepareRefuses}
+use Rattle.vx_plan_laws.specs.Refusing.{AttachRefuses, DetachRefuses, LeavingRefuses, MirrorRefuses, OfGroup, OfVolume, OpeningRefuses, PrepareRefuses, StartRefuses, StopRefuses, UnprepareRefuses}
 
 -- a commit that is stopped is no refusal
 pub not_stopped : (x : Writing) (old : Moment) (r : Refusal) (new : Moment) → IsStopped x old (refused r) new → ⊥
@@ -166,6 +169,34 @@ module _ (old : Moment) (r : Refusal) (new : Moment) where
       by : (o : Option Group) → Detaches name o → (new.world ≡ old.world) ⊎ StopsNeeded name old (refused r) new
       by None ends = inl ends.1.stays.world
       by (Some g) more = elim (detach_refused g name more) [ inl why ↦ inl why.1.stays.world | inr needed ↦ inr needed ]
+
+  -- ---- a plex that leaves
+
+  abbrev LeavesNot : (remove : Bool) → Word → Group → Type 0
+  LeavesNot remove name g = (IsLeavingRefused (runs_on_plexes old.world) g remove name (refused r) × Rests old new) ⊎ StopsLate remove name old (refused r) new
+
+  leaving_late : (g : Group) → old.world.group ≡ Some g → (remove : Bool) (name : Word) (p : Plex) → MayLeave (runs_on_plexes old.world) g remove name p → (o : Option Word) → p.vol ≡ o → LeavingStopsOf remove g p o old (refused r) new → LeavesNot remove name g
+  leaving_late g here remove name p may None own stops = absurd (not_stopped stops.0 old r new stops.2)
+  leaving_late g here remove name p may (Some vol) own (v, is, inr (inr c)) = absurd (not_stopped c.stops.0 c.mid r new c.stops.2)
+  leaving_late g here remove name p may (Some vol) own (v, is, inl u) = inr (record { from = record { group = g; here = here; plex = p; may = may; vol = vol; own = own; volume = v; there = is }; stops = inl u })
+  leaving_late g here remove name p may (Some vol) own (v, is, inr (inl kept)) = inr (record { from = record { group = g; here = here; plex = p; may = may; vol = vol; own = own; volume = v; there = is }; stops = inr kept })
+
+  leaving_refused : (g : Group) → old.world.group ≡ Some g → (remove : Bool) (name : Word) → LeavingStopsIn g remove name old (refused r) new → LeavesNot remove name g
+  leaving_refused g here remove name (inl is) = inl is
+  leaving_refused g here remove name (inr (p, may, stops)) = leaving_late g here remove name p may p.vol refl stops
+
+  abbrev Dissociates : (remove : Bool) → Word → Option Group → Type 0
+  Dissociates remove name o = MatchOption o (EndsIn (refusal.NoGroup None) old (refused r) new) (λ g. LeavingStopsIn g remove name old (refused r) new)
+
+  pub leaving_refuses : (remove : Bool) (name : Word) (g : Group) → old.world.group ≡ Some g → LeavingStops remove name old (refused r) new → OfGroup old.world (λ g. LeavingRefuses remove name g old r new)
+  leaving_refuses remove name g here stops = (g, here, elim (leaving_refused g here remove name (subst (Dissociates remove name) here stops)) [ inl why ↦ inl why.0 | inr late ↦ inr late ])
+
+  pub leaving_left : (remove : Bool) (name : Word) → LeavingStops remove name old (refused r) new → (new.world ≡ old.world) ⊎ StopsLate remove name old (refused r) new
+  leaving_left remove name stops = by old.world.group refl stops
+    where
+      by : (o : Option Group) → old.world.group ≡ o → Dissociates remove name o → (new.world ≡ old.world) ⊎ StopsLate remove name old (refused r) new
+      by None here ends = inl ends.1.stays.world
+      by (Some g) here more = elim (leaving_refused g here remove name more) [ inl why ↦ inl why.1.stays.world | inr late ↦ inr late ]
 
   attach_refused : (g : Group) (vol name : Word) → AttachStopsIn g vol name old (refused r) new → IsAttachRefused (runs_on_plexes old.world vol) g vol name (refused r) × Rests old new
   attach_refused g vol name (inl is) = is

@@ -1,6 +1,6 @@
 -- Want of memory leaves the world as the command found it, but for the volume of a start, a mirror, a stop or a plex that goes out of use, the
 -- records of a new volume, and the volumes of a recovery.
-use Rattle.std.proofs.Common.{◌≡◌, ◌∙◌, ◌⊎◌, List, [], ◌∷◌, Option, Some, None, false, refl, subst, inl, inr}
+use Rattle.std.proofs.Common.{◌≡◌, ◌∙◌, ◌⊎◌, Bool, List, [], ◌∷◌, Option, Some, None, false, refl, subst, inl, inr}
 use Rattle.vx_base.specs.Named.{Word}
 use Rattle.vx_script_words.specs.declared.value.DiskAt.{DiskAt}
 use Rattle.vx_new_volumes.specs.declared.logs.NewLogs.{NewLogs}
@@ -15,6 +15,7 @@ use Rattle.vx_plans.specs.Plans.{disks_of, new_logs, new_volume, plan_of}
 use Rattle.vx_stages.specs.Stages.{Wants}
 use Rattle.vx_stages.specs.Starting.{StartWants}
 use Rattle.vx_stages.specs.Detached.{DetachWants}
+use Rattle.vx_stages.specs.Left.{LeavingWants}
 use Rattle.vx_stages.specs.Logged.{PrepareWants}
 use Rattle.vx_stages.specs.Mirrored.{MirrorWants}
 use Rattle.vx_stages.specs.Stopping.{StopWants}
@@ -34,6 +35,7 @@ wanting_kept (stage.Start vol) old new e wants = cc
 wanting_kept (stage.Mirror mirror) old new e wants = cc
 wanting_kept (stage.Prepare logs) old new e wants = cc
 wanting_kept (stage.Detach plex) old new e wants = cc
+wanting_kept (stage.Dissociate plex remove) old new e wants = cc
 wanting_kept (stage.Stop vol) old new e wants = cc
 wanting_kept other old new e wants = wants
 
@@ -76,6 +78,10 @@ detach_left : (gates : List Test) (plex : Word) (old new : Moment) → (new.worl
 detach_left gates plex old new (inl same) = inl same
 detach_left gates plex old new (inr short) = elim (short_behind gates (stage.Detach plex) old new short) [ inl same ↦ inl same | inr wants ↦ wants ]
 
+leaving_left : (gates : List Test) (remove : Bool) (plex : Word) (old new : Moment) → (new.world ≡ old.world) ⊎ RunsShort [] (behind gates (stage.Dissociate plex remove)) old new → LeavingWants remove plex old new
+leaving_left gates remove plex old new (inl same) = inl same
+leaving_left gates remove plex old new (inr short) = elim (short_behind gates (stage.Dissociate plex remove) old new short) [ inl same ↦ inl same | inr wants ↦ wants ]
+
 attach_left : (gates : List Test) (vol plex : Word) (old new : Moment) → (new.world ≡ old.world) ⊎ RunsShort [] (behind gates (stage.Attach vol plex)) old new → new.world ≡ old.world
 attach_left gates vol plex old new (inl same) = same
 attach_left gates vol plex old new (inr short) = elim (short_behind gates (stage.Attach vol plex) old new short) [ inl same ↦ same | inr same ↦ same ]
@@ -100,6 +106,7 @@ form_left dg (form.Prepare vol ndcomirs region) old new wants = prepare_left (mi
 form_left dg (form.Stop vol) old new wants = stop_left (stop_gates dg vol) vol old new wants
 form_left dg (form.AssistMake vol length attrs disks) old new wants = new_left dg (new_volume vol length attrs disks) old new wants
 form_left dg (form.Recover vol) old new wants = wants
+form_left dg (form.PlexDis plex rm) old new wants = leaving_left (mirror_gates dg) rm plex old new wants
 form_left dg (form.Acting (act.PlexDet plex)) old new wants = detach_left (mirror_gates dg) plex old new wants
 form_left dg (form.Acting (act.PlexAtt vol plex)) old new wants = attach_left (mirror_gates dg) vol plex old new wants
 form_left dg other old new wants = plan_kept (disks_of other) (plan_of dg other) old new (plan_plain dg other refl) wants

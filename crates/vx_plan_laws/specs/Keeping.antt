@@ -14,6 +14,7 @@ use Rattle.vx_moments.specs.Moment.{Moment}
 use Rattle.vx_moments.specs.World.{Group}
 use Rattle.vx_stages.specs.Detached.{DetachWants, StopsNeeded}
 use Rattle.vx_stages.specs.Ends.{refused}
+use Rattle.vx_stages.specs.Left.{LeavingWants, StopsLate}
 use Rattle.vx_stages.specs.Stages.{IsDone}
 use Rattle.vx_stages.specs.Starting.{StartWants, may_start, refusal_at_once}
 use Rattle.vx_stages.specs.Logged.{PrepareWants}
@@ -63,12 +64,13 @@ IsLeftRecovering vol old r new = (name : Word) × (mid : Moment) × HasComeTo vo
 
 -- What a refused command of this form leaves: the world as it began. A start may have called the log of its volume, where it cannot be opened;
 -- where a new volume cannot be started its records stay; where a plex does not go out of use, as some region has no other, its volume has come to
--- rest; and where a recovery is refused for a volume, those before it were seen to, and its own recovery may be recorded as begun.
+-- rest; where one does not leave behind the tests, its volume has come to rest or its log was read; and where a recovery is refused for a volume, those before it were seen to, and its own recovery may be recorded as begun.
 abbrev pub RefusedLeaves : Form → Moment → Refusal → Moment → Type 0
 RefusedLeaves (form.Start vol) old r new = (new.world ≡ old.world) ⊎ IsLeftUnopened vol old r new
 RefusedLeaves (form.AssistMake vol length attrs disks) old r new = (new.world ≡ old.world) ⊎ IsLeftAdded (new_volume vol length attrs disks) old r new
 RefusedLeaves (form.Recover vol) old r new = (new.world ≡ old.world) ⊎ IsLeftRecovering vol old r new
 RefusedLeaves (form.Acting (act.PlexDet plex)) old r new = (new.world ≡ old.world) ⊎ StopsNeeded plex old (refused r) new
+RefusedLeaves (form.PlexDis plex rm) old r new = (new.world ≡ old.world) ⊎ StopsLate rm plex old (refused r) new
 RefusedLeaves other old r new = new.world ≡ old.world
 
 -- each command that is refused leaves so much of the world, at the moment at which it was over; behind it nothing changes but counts, and those
@@ -83,8 +85,9 @@ abbrev pub AddedWants : NewVolume → Moment → Moment → Type 0
 AddedWants n old new = (mid : Moment) × IsDone (stage.Make (source.Volume n)) [] old mid × StartWants n.vol mid new
 
 -- What want of memory leaves of a command of this form: the world as the command found it. A start may have called the log of its volume,
--- also of a new one whose records were added, a mirror, a stop and a plex that goes out of use may have let their volume come to rest, where a
--- volume was to get logs these may have been written, and a recovery may have seen to some volumes, and begun with one.
+-- also of a new one whose records were added, a mirror, a stop and a plex that goes out of use or leaves may have let their volume come to rest,
+-- or have read its log, where a volume was to get logs these may have been written, and a recovery may have seen to some volumes, and begun
+-- with one.
 abbrev pub WantLeaves : Form → Moment → Moment → Type 0
 WantLeaves (form.Start vol) old new = StartWants vol old new
 WantLeaves (form.Mirror vol disks) old new = MirrorWants vol old new
@@ -93,6 +96,7 @@ WantLeaves (form.Stop vol) old new = StopWants vol old new
 WantLeaves (form.AssistMake vol length attrs disks) old new = (new.world ≡ old.world) ⊎ AddedWants (new_volume vol length attrs disks) old new
 WantLeaves (form.Recover vol) old new = RecoversShort vol old new
 WantLeaves (form.Acting (act.PlexDet plex)) old new = DetachWants plex old new
+WantLeaves (form.PlexDis plex rm) old new = LeavingWants rm plex old new
 WantLeaves other old new = new.world ≡ old.world
 
 -- want of memory leaves so much of the world

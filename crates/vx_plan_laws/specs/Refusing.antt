@@ -1,6 +1,6 @@
 -- Why a command of a plan is refused: by a test, as its text is too long, as a new volume or a mirror has no plan, as a mirror's records break a
 -- rule, or as the name of a disk is taken.
-use Rattle.std.specs.Prelude.{◌≡◌, ◌⊎◌, ℕ, ◌&&◌, true, false, is_some, Option, Some, None, List, [], ◌∷◌}
+use Rattle.std.specs.Prelude.{◌≡◌, ◌⊎◌, Bool, ℕ, ◌&&◌, true, false, is_some, Option, Some, None, List, [], ◌∷◌}
 use Rattle.vx_base.specs.Named.{Word}
 use Rattle.vx_block.specs.Regions.{region_count}
 use Rattle.vx_config_parts.specs.declared.object.Object.{Object}
@@ -37,6 +37,8 @@ use Rattle.vx_stages.specs.Stages.{IsDone, OnlyDisk, Stops, edits_of, joining_ed
 use Rattle.vx_stages.specs.Starting.{HasNoReadCopy, IsFirstMissed, may_start, refusal_at_once, regions_copied}
 use Rattle.vx_plans.specs.Steps.{Runs, done}
 use Rattle.vx_new_volumes.specs.declared.logs.NewLogs.{NewLogs}
+use Rattle.vx_stages.specs.Leaving.{IsLeavingRefused}
+use Rattle.vx_stages.specs.Left.{StopsLate}
 use Rattle.vx_stages.specs.Logging.{IsPrepareRefused, IsUnprepareRefused}
 use Rattle.vx_stages.specs.Mirroring.{IsMirrorRefused}
 use Rattle.vx_stages.specs.Plexes.{IsAttachRefused, IsDetachRefused}
@@ -102,6 +104,11 @@ DetachRefuses plex g old r new = IsDetachRefused (runs_on_plexes old.world) g pl
 abbrev pub AttachRefuses : (vol plex : Word) → Group → World → Refusal → Type 0
 AttachRefuses vol plex g w r = IsAttachRefused (runs_on_plexes w vol) g vol plex (refused r)
 
+-- A plex does not leave its volume: a test refuses that, or its edit breaks a rule, or the text would be too long; or behind the tests no copy of its
+-- log can be read, or it cannot be spared.
+abbrev pub LeavingRefuses : (remove : Bool) → Word → Group → Moment → Refusal → Moment → Type 0
+LeavingRefuses remove plex g old r new = IsLeavingRefused (runs_on_plexes old.world) g remove plex (refused r) ⊎ StopsLate remove plex old (refused r) new
+
 -- A volume is not stopped: it does not run, or its state does not fit; or the text would be too long.
 abbrev pub StopRefuses : Word → Group → Vol → World → Refusal → Type 0
 StopRefuses name g v w r =
@@ -112,8 +119,8 @@ StopRefuses name g v w r =
 
 -- A stage of a plan refuses its command. One that changes a configuration does so where the text would be too long; one that
 -- adds records, where there are none or a test of the records refuses them, too; one by which a disk joins, where the
--- disk's name is taken; and a start, a mirror, a stop, logs that come and go and plexes that go out of use and into use by what they
--- find of their volume. Any other stage has tests alone.
+-- disk's name is taken; and a start, a mirror, a stop, logs that come and go, and plexes that go out of use and into use or leave by what
+-- they find of their volume. Any other stage has tests alone.
 abbrev pub Refuses : Stage → List DiskAt → Moment → Refusal → Moment → Type 0
 Refuses (stage.Change change) disks old r new = OfGroup old.world (λ g. IsTooLong (edits_of change (Some g)) g r)
 Refuses (stage.Make from) disks old r new =
@@ -128,6 +135,7 @@ Refuses (stage.Prepare logs) disks old r new = OfGroup old.world (λ g. PrepareR
 Refuses (stage.Unprepare vol) disks old r new = OfGroup old.world (λ g. UnprepareRefuses vol g r)
 Refuses (stage.Detach plex) disks old r new = OfGroup old.world (λ g. DetachRefuses plex g old r new)
 Refuses (stage.Attach vol plex) disks old r new = OfGroup old.world (λ g. AttachRefuses vol plex g old.world r)
+Refuses (stage.Dissociate plex remove) disks old r new = OfGroup old.world (λ g. LeavingRefuses remove plex g old r new)
 Refuses (stage.Stop vol) disks old r new = OfGroup old.world (λ g. OfVolume vol g (λ v. StopRefuses vol g v old.world r))
 Refuses other disks old r new = Stops other disks old (refused r) new
 
@@ -141,8 +149,8 @@ abbrev pub OneRefuses : List Stage → List DiskAt → Moment → Refusal → Mo
 OneRefuses [] disks old r new = ⊥
 OneRefuses (s ∷ ss) disks old r new = Refuses s disks old r new ⊎ ((mid : Moment) × IsPassed s disks old mid × OneRefuses ss disks mid r new)
 
--- no command of a plan is refused by a rule of a configuration behind its tests, but adddisk for a name, and a mirror, logs and the state of a
--- plex whose edits break one
+-- no command of a plan is refused by a rule of a configuration behind its tests, but adddisk for a name, and a mirror, logs, and the state or the
+-- leaving of a plex whose edits break one
 abbrev pub EachRefusalIsTested : Type 0
 EachRefusalIsTested =
     (dg : Option Word) (f : Form) (plan : Plan) (old : Moment) (views : List View) (r : Refusal) (new : Moment)

@@ -12,6 +12,7 @@ use Rattle.vx_answers.specs.declared.answer.End.{End}
 use Rattle.vx_answers.specs.declared.answer.End.TheVariants as ends
 use Rattle.vx_answers.specs.declared.refusal.Refusal.{Refusal}
 use Rattle.vx_answers.specs.declared.refusal.Refusal.TheVariants as refusal
+use Rattle.vx_config_parts.specs.declared.plex.Plex.{Plex}
 use Rattle.vx_config_parts.specs.declared.state.PlexState.TheVariants as plex_state
 use Rattle.vx_config_parts.specs.declared.vol.Vol.{Vol}
 use Rattle.vx_objects.specs.declared.config.Config.{Config}
@@ -28,6 +29,8 @@ use Rattle.vx_moments.specs.World.{Group, Member, Volume, World}
 use Rattle.vx_stages.specs.Attached.{AttachEnds, AttachStopsIn, IsAttachedBy}
 use Rattle.vx_stages.specs.Detached.{DetachStopsIn}
 use Rattle.vx_stages.specs.Ends.{EndsIn}
+use Rattle.vx_stages.specs.Leaving.{ByLog, ByRecord, FromLog, FromRest, IsLeavingRefused, Way, leaving_edits, way_of}
+use Rattle.vx_stages.specs.Left.{IsReadied, LeavingStopsIn, LeavingStopsOf, StopsUnreadied, UnaskedBy, VolumeStops}
 use Rattle.vx_stages.specs.Logged.{IsLogWritten, PrepareStopsIn, UnprepareStopsIn, by_config}
 use Rattle.vx_stages.specs.Logging.{AreEditsRefused, IsPrepareRefused, IsUnprepareRefused}
 use Rattle.vx_stages.specs.Mirrored.{IsMirroredBy, MirrorEnds, MirrorStopsIn}
@@ -40,7 +43,7 @@ use Rattle.vx_stages.specs.Stages.{IsDone, Stops, DeviceEnds, FailsAt, TakingSto
 use Rattle.vx_stages.specs.Starting.{CopyEnds, IsStartedBy, StopsIn, StopsOf, may_start}
 use Rattle.vx_plans.specs.Steps.{Runs}
 use Rattle.vx_stages.specs.Stopping.{StopStops, runs_on_plexes}
-use Rattle.vx_stages.specs.Tests.{volume_in}
+use Rattle.vx_stages.specs.Tests.{is_data, volume_in}
 use Rattle.vx_stages.specs.Touching.{PassHasCause}
 use Rattle.vx_plans.specs.declared.stages.Finish.{Finish}
 use Rattle.vx_plans.specs.declared.stages.Finish.TheVariants.{Hierarchy, Records}
@@ -67,6 +70,7 @@ IsCarried (stage.Prepare logs) disks w = IsAlive w
 IsCarried (stage.Unprepare vol) disks w = IsAlive w
 IsCarried (stage.Detach plex) disks w = IsAlive w
 IsCarried (stage.Attach vol plex) disks w = IsAlive w
+IsCarried (stage.Dissociate plex remove) disks w = IsAlive w
 IsCarried (stage.Stop vol) disks w = IsAlive w
 IsCarried other disks w = Unit {0}
 
@@ -163,6 +167,24 @@ refused_detach runs g name end (inr (v, p, may, why)) = edits_refused g.config (
 pub refused_attach : (runs : Bool) (g : Group) (vol name : Word) (end : End) → IsAttachRefused runs g vol name end → (r : Refusal) × (end ≡ ends.Refused r)
 refused_attach runs g vol name end (inl (r, unfit, is)) = (r, is)
 refused_attach runs g vol name end (inr (v, p, may, why)) = edits_refused g.config (state_edits v.name p plex_state.Active) end why
+
+-- .. and what refuses a plex that is to leave its volume
+pub refused_leaving : (runs : Word → Bool) (g : Group) (remove : Bool) (name : Word) (end : End) → IsLeavingRefused runs g remove name end → (r : Refusal) × (end ≡ ends.Refused r)
+refused_leaving runs g remove name end (inl (r, unfit, is)) = (r, is)
+refused_leaving runs g remove name end (inr (p, may, why)) = edits_refused g.config (leaving_edits remove p) end why
+
+-- what is done before a plex leaves is later, and of the same group
+readied_later : (way : Way) (g : Group) (v : Vol) (old mid : Moment) → IsReadied way g v old mid → AreLater old.counts mid.counts
+readied_later ByRecord g v old mid same = subst (λ (m : Moment). AreLater old.counts m.counts) (sym same) (later_self old.counts)
+readied_later FromLog g v old mid same = subst (λ (m : Moment). AreLater old.counts m.counts) (sym same) (later_self old.counts)
+readied_later FromRest g v old mid rest = rest.later
+readied_later ByLog g v old mid asked = asked.later
+
+readied_group : (way : Way) (g : Group) (v : Vol) (old mid : Moment) → IsReadied way g v old mid → mid.world.group ≡ old.world.group
+readied_group ByRecord g v old mid same = ap (λ (m : Moment). m.world.group) same
+readied_group FromLog g v old mid same = ap (λ (m : Moment). m.world.group) same
+readied_group FromRest g v old mid rest = ap (λ (w : World). w.group) rest.goes.world
+readied_group ByLog g v old mid asked = ap (λ (w : World). w.group) asked.touched.world
 
 -- a group that has a good disk has it still
 alive_still : (old new : World) → new.group ≡ old.group → IsAlive old → IsAlive new
@@ -268,6 +290,37 @@ module _ (old new : Moment) (well : WentWell old new) (alive : IsAlive old.world
   attaches vol name end None ends = inr (_, ends.0)
   attaches vol name end (Some g) stops = attaches_in g vol name end stops
 
+  unasked : (g : Group) (v : Vol) (end : End) → UnaskedBy g v old end new → IsDoneOrRefused end
+  unasked g v end (inl (is, none)) = inr (_, is)
+  unasked g v end (inr (inl (told, device, is, fails))) = absurd (calm old new well device fails.failed)
+  unasked g v end (inr (inr (is, (device, own, cut)))) = absurd (powered old new well device cut)
+
+  unreadied : (way : Way) (g : Group) (v : Vol) (end : End) → StopsUnreadied way g v old end new → IsDoneOrRefused end
+  unreadied ByRecord g v end stops = absurd stops
+  unreadied FromLog g v end stops = absurd stops
+  unreadied FromRest g v end stops = absurd (passing old new well stops.rest.group v.name end stops.cause)
+  unreadied ByLog g v end (touched, narrows, why) = unasked g v end why
+
+  leaves_volume : (remove : Bool) (g : Group) (v : Vol) (p : Plex) (end : End) → VolumeStops remove g v p old end new → IsDoneOrRefused end
+  leaves_volume remove g v p end (inl stops) = unreadied (way_of (is_data p.kind) (runs_on_plexes old.world v.name) v) g v end stops
+  leaves_volume remove g v p end (inr (inl kept)) = inr (_, kept.end_is)
+  leaves_volume remove g v p end (inr (inr c)) =
+      let way : Way = way_of (is_data p.kind) (runs_on_plexes old.world v.name) v in
+      stopping c.mid new (well_after old c.mid new (readied_later way g v old c.mid c.readied) c.rest well) c.stops.0 end
+      (by_group c.mid.world c.stops.0 c.stops.1.group c.stops.1.carriers (alive_still old.world c.mid.world (readied_group way g v old c.mid c.readied) alive)) c.stops.2
+
+  leaves_of : (remove : Bool) (g : Group) (p : Plex) (o : Option Word) (end : End) → LeavingStopsOf remove g p o old end new → IsDoneOrRefused end
+  leaves_of remove g p None end stops = stopping old new well stops.0 end (by_group old.world stops.0 stops.1.group stops.1.carriers alive) stops.2
+  leaves_of remove g p (Some vol) end (v, found, stops) = leaves_volume remove g v p end stops
+
+  leaves_in : (g : Group) (remove : Bool) (name : Word) (end : End) → LeavingStopsIn g remove name old end new → IsDoneOrRefused end
+  leaves_in g remove name end (inl (refused, rests)) = inr (refused_leaving (runs_on_plexes old.world) g remove name end refused)
+  leaves_in g remove name end (inr (p, may, stops)) = leaves_of remove g p p.vol end stops
+
+  leaves : (remove : Bool) (name : Word) (end : End) (o : Option Group) → MatchOption o (EndsIn (refusal.NoGroup None) old end new) (λ g. LeavingStopsIn g remove name old end new) → IsDoneOrRefused end
+  leaves remove name end None ends = inr (_, ends.0)
+  leaves remove name end (Some g) stops = leaves_in g remove name end stops
+
   ends_stop : (name : Word) (end : End) → StopStops name old end new → IsDoneOrRefused end
   ends_stop name end (inl (inl (r, e, is), rests)) = inr (r, is)
   ends_stop name end (inl (inr (g, here, none, (v, found, (next, edited, (text, printed, long, is)))), rests)) = inr (_, is)
@@ -323,6 +376,7 @@ stops_well (stage.Prepare logs) disks old new end well carried stops = prepares 
 stops_well (stage.Unprepare vol) disks old new end well carried stops = unprepares old new well carried vol end old.world.group stops
 stops_well (stage.Detach plex) disks old new end well carried stops = detaches old new well carried plex end old.world.group stops
 stops_well (stage.Attach vol plex) disks old new end well carried stops = attaches old new well carried vol plex end old.world.group stops
+stops_well (stage.Dissociate plex remove) disks old new end well carried stops = leaves old new well carried remove plex end old.world.group stops
 stops_well (stage.Stop vol) disks old new end well carried stops = ends_stop old new well carried vol end stops
 
 -- the stage changes nothing of the world
@@ -359,6 +413,7 @@ kept_world (stage.Prepare logs) disks old mid keeps done = cc
 kept_world (stage.Unprepare vol) disks old mid keeps done = cc
 kept_world (stage.Detach plex) disks old mid keeps done = cc
 kept_world (stage.Attach vol plex) disks old mid keeps done = cc
+kept_world (stage.Dissociate plex remove) disks old mid keeps done = cc
 kept_world (stage.Stop vol) disks old mid keeps done = cc
 
 -- behind a stage this holds of the world: one that adds records leaves any in which the group has a good disk, each other one keeps the world
@@ -402,6 +457,7 @@ behind (stage.Prepare logs) disks old mid Holds is done = cc
 behind (stage.Unprepare vol) disks old mid Holds is done = cc
 behind (stage.Detach plex) disks old mid Holds is done = cc
 behind (stage.Attach vol plex) disks old mid Holds is done = cc
+behind (stage.Dissociate plex remove) disks old mid Holds is done = cc
 behind (stage.Stop vol) disks old mid Holds is done = cc
 
 pub runs_later : (disks : List DiskAt) (stages : List Stage) (finish : Finish) (old : Moment) (views : List View) (end : End) (new : Moment) → Runs disks stages finish old views end new → AreLater old.counts new.counts
@@ -462,7 +518,7 @@ plan_shaped dg (form.VxMake text) w has = (tt, (refl, has.group))
 plan_shaped dg (form.PrintHt vol) w has = print_shaped dg vol (Hierarchy vol) w
 plan_shaped dg (form.AssistMake vol length attrs disks) w has = (tt, (refl, (has.group, λ v alive. (tt, (refl, alive)))))
 plan_shaped dg (form.Mirror vol disks) w has = (tt, (refl, has.group))
-plan_shaped dg (form.PlexDis plex rm) w has = tt
+plan_shaped dg (form.PlexDis plex rm) w has = (tt, (refl, has.group))
 plan_shaped dg (form.Prepare vol ndcomirs region) w has = (tt, (refl, has.group))
 plan_shaped dg (form.Unprepare vol) w has = (tt, (refl, has.group))
 plan_shaped dg (form.AddMir vol disks) w has = tt

@@ -1,5 +1,5 @@
 -- The plan of each command: its stages in order, and what it shows at the end.
-use Rattle.std.specs.Prelude.{ℕ, nat_lt, min, if◌then◌else◌, Option, Some, None, List, [], ◌∷◌}
+use Rattle.std.specs.Prelude.{ℕ, nat_lt, min, Bool, if◌then◌else◌, Option, Some, None, List, [], ◌∷◌}
 use Rattle.vx_base.specs.Named.{Word}
 use Rattle.vx_config_parts.specs.declared.vol.PolicyName.TheVariants as policy
 use Rattle.vx_script_words.specs.declared.value.DiskAt.{DiskAt}
@@ -130,6 +130,10 @@ plan_detach dg plex = stage.Gate (tests.GroupIs dg) ∷ stage.Detach plex ∷ []
 abbrev pub plan_attach : Option Word → (vol plex : Word) → List Stage
 plan_attach dg vol plex = stage.Gate (tests.GroupIs dg) ∷ stage.Attach vol plex ∷ []
 
+-- `vxplex [-o rm] dis PLEX`
+abbrev pub plan_dissociate : Option Word → Word → (remove : Bool) → List Stage
+plan_dissociate dg plex remove = stage.Gate (tests.GroupIs dg) ∷ stage.Dissociate plex remove ∷ []
+
 -- `vxassist remove volume VOL`
 abbrev pub plan_remove : Option Word → Word → List Stage
 plan_remove dg vol =
@@ -171,6 +175,7 @@ plan_of dg (form.VxMake text) = doing (plan_make dg text)
 plan_of dg (form.AssistMake vol length attrs disks) = doing (plan_new dg (new_volume vol length attrs disks))
 plan_of dg (form.Rdpol vol words) = doing (plan_rdpol dg vol words)
 plan_of dg (form.RemoveVolume vol) = doing (plan_remove dg vol)
+plan_of dg (form.PlexDis plex rm) = doing (plan_dissociate dg plex rm)
 plan_of dg (form.Prepare vol ndcomirs region) = doing (plan_prepare dg (new_logs vol ndcomirs region))
 plan_of dg (form.Unprepare vol) = doing (plan_unprepare dg vol)
 plan_of dg (form.Mirror vol disks) = doing (plan_mirror dg (record { vol = vol; disks = disks }))

@@ -1,6 +1,6 @@
 //! The plan of each form.
 ghost use Rattle.std.specs.Prelude.{◌≡◌, IfOk};
-ghost use Rattle.vx_plans.specs.Plans.{columns_of, doing, ending, logs_of, new_logs, new_volume, or_else, plan_add, plan_attach, plan_bare, plan_deport, plan_detach, plan_init, plan_make, plan_mirror, plan_new, plan_of, plan_of_act, plan_prepare, plan_print, plan_rdpol, plan_remove, plan_start, plan_stop, plan_unprepare, plan_unsetup};
+ghost use Rattle.vx_plans.specs.Plans.{columns_of, doing, ending, logs_of, new_logs, new_volume, or_else, plan_add, plan_attach, plan_bare, plan_deport, plan_detach, plan_dissociate, plan_init, plan_make, plan_mirror, plan_new, plan_of, plan_of_act, plan_prepare, plan_print, plan_rdpol, plan_remove, plan_start, plan_stop, plan_unprepare, plan_unsetup};
 ghost use Rattle.vx_plans.specs.declared.stages.Finish.TheVariants.{Hierarchy, Records};
 ghost use Rattle.vx_stages.specs.declared.stage.Change.TheVariants as changes;
 ghost use Rattle.vx_stages.specs.declared.stage.Stage.TheVariants as stages;
@@ -48,6 +48,7 @@ pub fn plan(alloc: Global, group: Option<Name>, form: &Form) -> Result<Option<Pl
         ),
         Form::Rdpol { vol, policy } => rdpol(alloc, group, *vol, *policy),
         Form::RemoveVolume { vol } => remove(alloc, group, *vol),
+        Form::PlexDis { plex, rm } => dissociate(alloc, group, *plex, *rm),
         Form::Mirror { vol, disks } => mirror(alloc, group, new_plex(alloc, *vol, disks)?),
         Form::Prepare {
             vol,
@@ -365,6 +366,23 @@ fn attach(
         [
             Stage::Gate(Test::GroupIs(group)),
             Stage::Attach { vol, plex },
+        ],
+    )
+}
+
+fn dissociate(
+    alloc: Global,
+    group: Option<Name>,
+    plex: Name,
+    remove: bool,
+) -> Result<Option<Plan>, OutOfMemory>
+    ensures { IfOk result (λ plan. plan ≡ doing (plan_dissociate group plex remove)) }
+{
+    doing(
+        alloc,
+        [
+            Stage::Gate(Test::GroupIs(group)),
+            Stage::Dissociate { plex, remove },
         ],
     )
 }

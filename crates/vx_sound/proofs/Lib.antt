@@ -21,6 +21,7 @@ pub mod Running
 pub mod Recoveries
 pub mod Logs
 pub mod Plexes
+pub mod Leaving
 pub mod Runs
 pub mod Steps
 pub mod Wants

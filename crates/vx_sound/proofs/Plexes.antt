@@ -13,9 +13,7 @@ use Rattle.vx_config_parts.specs.declared.vol.Vol.{Vol}
 use Rattle.vx_config_parts.specs.Objects.{is_data, is_data_plex_of, refers}
 use Rattle.vx_objects.specs.declared.config.Config.{Config}
 use Rattle.vx_image.specs.Bytes.{is_held}
-use Rattle.vx_image.proofs.Members.{is_in}
 use Rattle.vx_image.proofs.PlexMembers.{IsIn}
-use Rattle.vx_lending.proofs.Rules.{one_plex}
 use Rattle.vx_answers.specs.declared.answer.End.{End}
 use Rattle.vx_answers.specs.declared.answer.End.TheVariants as ends
 use Rattle.vx_answers.specs.declared.refusal.Refusal.{Refusal}
@@ -25,6 +23,7 @@ use Rattle.vx_moments.specs.Moment.{Counts, Moment}
 use Rattle.vx_moments.specs.World.{Group, Volume, World}
 use Rattle.vx_group_edits.specs.OfVolume.{AreEditsOf}
 use Rattle.vx_group_edits.proofs.Commands.{found_there}
+use Rattle.vx_group_edits.proofs.DcoEdits.{own_name}
 use Rattle.vx_stages.specs.Attached.{AttachCopiesTo, AttachStops, AttachStopsIn, IsAttachCopied, IsAttachedBy, volume_unsure}
 use Rattle.vx_stages.specs.Detached.{DetachStops, DetachStopsIn, DetachWants, IsDetached, IsRestedFor}
 use Rattle.vx_stages.specs.Ends.{EndsIn}
@@ -82,7 +81,7 @@ attach_tested runs c good vol name v p may =
 -- ---- the edit is of the volume alone
 
 pub state_own : (c : Config) (vol : Word) (p : Plex) (next : PlexState) → IsIn c.plexes p → refers p.vol vol ≡ true → AreEditsOf c vol (state_edits vol p next)
-state_own c vol p next there own = ((refl, λ q here same. subst (λ (x : Plex). refers x.vol vol ≡ true) (one_plex c p q there (is_in c.plexes q here) (sym same)) own), tt)
+state_own c vol p next there own = ((refl, own_name c vol p there own), tt)
 
 pub detach_own : (runs : Word → Bool) (c : Config) (name : Word) (v : Vol) (p : Plex) → MayDetach runs c name v p → AreEditsOf c v.name (state_edits v.name p plex_state.Stale)
 detach_own runs c name v p may = state_own c v.name p plex_state.Stale (plex_found name c.plexes p may.found).0 (ap (λ (o : Option Word). refers o v.name) may.own ∙ bytes_eq_self v.name)

@@ -39,6 +39,7 @@ Passed (stage.Prepare logs) disks w = ⊥
 Passed (stage.Unprepare vol) disks w = ⊥
 Passed (stage.Detach plex) disks w = ⊥
 Passed (stage.Attach vol plex) disks w = ⊥
+Passed (stage.Dissociate plex remove) disks w = ⊥
 Passed (stage.Stop vol) disks w = ⊥
 
 -- the stage leaves the world
@@ -65,6 +66,7 @@ leaves_world (stage.Prepare logs) = false
 leaves_world (stage.Unprepare vol) = false
 leaves_world (stage.Detach plex) = false
 leaves_world (stage.Attach vol plex) = false
+leaves_world (stage.Dissociate plex remove) = false
 leaves_world (stage.Stop vol) = false
 
 -- such a stage that is done
@@ -91,6 +93,7 @@ calm_done (stage.Prepare logs) disks old new calm done = cc
 calm_done (stage.Unprepare vol) disks old new calm done = cc
 calm_done (stage.Detach plex) disks old new calm done = cc
 calm_done (stage.Attach vol plex) disks old new calm done = cc
+calm_done (stage.Dissociate plex remove) disks old new calm done = cc
 calm_done (stage.Stop vol) disks old new calm done = cc
 
 taking_stays : (taken names : List Word) (old : Moment) (end : End) (new : Moment) → TakingStops taken names old end new → new.world ≡ old.world
@@ -123,6 +126,7 @@ calm_stops (stage.Prepare logs) disks old end new calm stops = cc
 calm_stops (stage.Unprepare vol) disks old end new calm stops = cc
 calm_stops (stage.Detach plex) disks old end new calm stops = cc
 calm_stops (stage.Attach vol plex) disks old end new calm stops = cc
+calm_stops (stage.Dissociate plex remove) disks old end new calm stops = cc
 calm_stops (stage.Stop vol) disks old end new calm stops = cc
 
 abbrev pub AreCalm : List Stage → Type 0

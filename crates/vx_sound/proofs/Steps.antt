@@ -55,6 +55,7 @@ use Rattle.vx_sound.proofs.Runs.{AreCalm, AllPassed, Through, runs_through}
 use Rattle.vx_sound.proofs.Settlement.{settled, standing_gone, standing_left}
 use Rattle.vx_sound.proofs.Names.{IsApart, create_apart}
 use Rattle.vx_sound.proofs.Logs.{prepare_done, prepare_ends, unprepare_done, unprepare_ends}
+use Rattle.vx_sound.proofs.Leaving.{leaving_done, leaving_ends}
 use Rattle.vx_sound.proofs.Plexes.{attach_ends, detach_done, detach_ends}
 use Rattle.vx_sound.proofs.Running.{mirror_ends, start_ends, stop_done, stop_ends}
 use Rattle.vx_sound.proofs.Volumes.{standing_bare, standing_served}
@@ -229,6 +230,10 @@ module _ (views : List View) (end : End) (new : Moment) where
   detaching_ends : (plex : Word) (mid : Moment) → IsStanding mid.world → Runs [] (stage.Detach plex ∷ []) Nothing mid views end new → Ends end new.world
   detaching_ends plex mid s runs = one_stage (stage.Detach plex) [] Nothing mid views end new (λ m done. detach_done mid s plex m done) (λ stops. detach_ends mid s end new plex stops) runs
 
+  dissociating_ends : (remove : Bool) (plex : Word) (mid : Moment) → IsStanding mid.world → Runs [] (stage.Dissociate plex remove ∷ []) Nothing mid views end new → Ends end new.world
+  dissociating_ends remove plex mid s runs =
+      one_stage (stage.Dissociate plex remove) [] Nothing mid views end new (λ m done. leaving_done mid s remove plex m done) (λ stops. leaving_ends mid s end new remove plex stops) runs
+
   attaching_ends : (vol plex : Word) (mid : Moment) → IsStanding mid.world → Runs [] (stage.Attach vol plex ∷ []) Nothing mid views end new → Ends end new.world
   attaching_ends vol plex mid s runs = one_stage (stage.Attach vol plex) [] Nothing mid views end new (λ m done. absurd done) (λ stops. attach_ends mid s vol plex end new stops) runs
 
@@ -303,7 +308,9 @@ module _ (old : Moment) (views : List View) (end : End) (new : Moment) (s : IsSt
   form_ends place dg (form.Stop vol) none does =
       let calm = stage.Gate (tests.GroupIs dg) ∷ stage.Gate (tests.HasVolume vol) ∷ [] in
       at_last calm (stage.Stop vol ∷ []) [] Nothing old views end new s (stopping_ends views end new dg vol) (runs_through calm (stage.Stop vol ∷ []) [] Nothing old views end new (refl, (refl, tt)) does)
-  form_ends place dg (form.PlexDis plex rm) none does = not_built does
+  form_ends place dg (form.PlexDis plex rm) none does =
+      let calm = stage.Gate (tests.GroupIs dg) ∷ [] in
+      at_last calm (stage.Dissociate plex rm ∷ []) [] Nothing old views end new s (λ mid t passed runs. dissociating_ends views end new rm plex mid t runs) (runs_through calm (stage.Dissociate plex rm ∷ []) [] Nothing old views end new (refl, tt) does)
   form_ends place dg (form.Prepare vol ndcomirs region) none does =
       let logs = new_logs vol ndcomirs region in
       let calm = stage.Gate (tests.GroupIs dg) ∷ [] in

@@ -23,6 +23,7 @@ use Rattle.vx_sound.specs.Laws.{IsIdle, WriteNoHeader}
 use Rattle.vx_sound.specs.Sound.{AreSound}
 use Rattle.vx_sound.specs.Standing.{IsStanding}
 use Rattle.vx_sound.proofs.Logs.{prepare_wants}
+use Rattle.vx_sound.proofs.Leaving.{leaving_wants}
 use Rattle.vx_sound.proofs.Plexes.{detach_wants}
 use Rattle.vx_sound.proofs.Recoveries.{recover_left}
 use Rattle.vx_sound.proofs.Running.{rested, standing_touched}
@@ -39,6 +40,7 @@ wants_stand (stage.Mirror mirror) old new s (inl same) = same_stands old.world n
 wants_stand (stage.Mirror mirror) old new s (inr rest) = rested mirror.vol old s new rest
 wants_stand (stage.Prepare logs) old new s wants = prepare_wants old s logs new wants
 wants_stand (stage.Detach plex) old new s wants = detach_wants old s plex new wants
+wants_stand (stage.Dissociate plex remove) old new s wants = leaving_wants old s remove plex new wants
 wants_stand (stage.Stop vol) old new s (inl same) = same_stands old.world new.world same s
 wants_stand (stage.Stop vol) old new s (inr rest) = rested vol old s new rest
 wants_stand other old new s same = same_stands old.world new.world same s

@@ -20,6 +20,7 @@ pub mod Starts
 pub mod Mirrors
 pub mod Switched
 pub mod Plexes
+pub mod Leaving
 pub mod Recoveries
 pub mod Steps
 pub mod Runs

@@ -39,7 +39,7 @@ use Rattle.vx_sound_volumes.proofs.Parts.{Besides, Every, some_same}
 use Rattle.vx_sound_volumes.proofs.Running.{found_there}
 use Rattle.vx_sound_imports.specs.Offered.{HaveSoundOffers}
 use Rattle.vx_sound_imports.specs.Left.{LiesWithin}
-use Rattle.vx_sound_imports.proofs.Nexts.{IsSafe, KeepsOwn, recorded_safe, whole_safe}
+use Rattle.vx_sound_imports.proofs.Nexts.{IsSafe, IsSoundIfStarted, KeepsOwn, recorded_safe, whole_safe}
 use Rattle.vx_sound_imports.proofs.Lone.{lone_within}
 use Rattle.vx_sound_imports.proofs.Places.{had_elsewhere, lent_on_plexes}
 use Rattle.vx_sound_imports.proofs.Stages.{Settles, committed_known, imported_away, leads, offers_kept, stopped_settles, whole_before}
@@ -47,7 +47,7 @@ use Rattle.vx_sound_imports.proofs.Volumes.{IsKnown, known_settles, lent_offers,
 use Rattle.vx_sound_imports.proofs.Writings.{HasWhole}
 
 -- edits of one volume, as which the volume is sound: the others are kept, ..
-pub own_besides : (w : World) (x : Writing) → IsStanding w → (g : Group) → w.group ≡ Some g → HasWhole w → (vol : Word) (edits : List Edit) → AreEditsOf g.config vol edits → IsChange edits w x → IsSoundAs g x.config vol w → IsSafe (Besides vol) x w
+pub own_besides : (w : World) (x : Writing) → IsStanding w → (g : Group) → w.group ≡ Some g → HasWhole w → (vol : Word) (edits : List Edit) → AreEditsOf g.config vol edits → IsChange edits w x → IsSoundIfStarted g x.config vol w → IsSafe (Besides vol) x w
 own_besides w x s g here whole vol edits of is sound_as =
     let same = some_same g x.group (sym here ∙ is.group) in
     let mine = subst (λ (h : Group). AreEditsOf h.config vol edits) same of in
@@ -55,7 +55,7 @@ own_besides w x s g here whole vol edits of is sound_as =
     (λ u one other started. own_back x.group.config x.config vol edits mine is.edited u one other)
 
 -- .. and all are where it is kept too
-pub own_safe : (w : World) (x : Writing) → IsStanding w → (g : Group) → w.group ≡ Some g → HasWhole w → (vol : Word) (edits : List Edit) → AreEditsOf g.config vol edits → IsChange edits w x → IsSoundAs g x.config vol w → KeepsOwn x w vol → IsSafe Every x w
+pub own_safe : (w : World) (x : Writing) → IsStanding w → (g : Group) → w.group ≡ Some g → HasWhole w → (vol : Word) (edits : List Edit) → AreEditsOf g.config vol edits → IsChange edits w x → IsSoundIfStarted g x.config vol w → KeepsOwn x w vol → IsSafe Every x w
 own_safe w x s g here whole vol edits of is sound_as keeps =
     whole_safe x w (own_ready w x s g here vol edits of is) (whole x.group is.group) is.joiners g (some_same g x.group (sym here ∙ is.group)) vol sound_as (own_besides w x s g here whole vol edits of is sound_as) keeps
 
@@ -139,7 +139,7 @@ module _ (old : Moment) (k : IsKnown old.world) where
         let fits = fits_logs (runs_on_plexes old.world n.vol) g.config n c.volume c.logs.found c.logs.fits in
         let changes = preparing_changes g.config g.good c.volume n c.logs.plex c.logs.added c.edits (vol_of g.config c.volume found.0) fits c.logs.laid x.config edited in
         stopped_settles Every x c.written written.standing
-        (own_safe c.written.world x written.standing g group written.whole c.volume.name c.edits own c.stops.1 (subst (λ vol. IsSoundAs g x.config vol c.written.world) (sym found.1) c.sound)
+        (own_safe c.written.world x written.standing g group written.whole c.volume.name c.edits own c.stops.1 (λ v there is started. subst (λ vol. IsSoundAs g x.config vol c.written.world) (sym found.1) c.sound v there is)
         (lone_kept c.written.world x g same c.volume found.0 changes.0 c.logs.plex changes.1 changes.2))
         end new c.stops.2 c.stops.1.group written.whole written.offers
 
@@ -166,7 +166,7 @@ module _ (old : Moment) (k : IsKnown old.world) where
         let edited = subst (λ (h : Group). IsEdited c.edits h.config x.config) (sym same) c.stops.1.edited in
         let changes = unpreparing_changes g.config name c.volume c.plex c.edits c.loses x.config edited in
         stopped_settles Every x old k.standing
-        (own_safe old.world x k.standing g here k.whole c.volume.name c.edits own c.stops.1 (subst (λ vol. IsSoundAs g x.config vol old.world) (sym found.1) c.sound)
+        (own_safe old.world x k.standing g here k.whole c.volume.name c.edits own c.stops.1 (λ v there is started. subst (λ vol. IsSoundAs g x.config vol old.world) (sym found.1) c.sound v there is)
         (lone_kept old.world x g same c.volume found.0 changes.0 c.plex changes.1 changes.2))
         end new c.stops.2 c.stops.1.group k.whole k.offers
 

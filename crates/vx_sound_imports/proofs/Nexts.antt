@@ -12,6 +12,7 @@ use Rattle.vx_mask.proofs.MaskLemmas.{has-only_same, has-zero, same_as_only}
 use Rattle.vx_mask.proofs.Tests.{not_both, or_cases, or_from_left}
 use Rattle.vx_layout.specs.declared.place.Place.{Place}
 use Rattle.vx_config_parts.specs.declared.vol.Vol.{Vol}
+use Rattle.vx_objects.specs.declared.config.Config.{Config}
 use Rattle.vx_objects.specs.Config.{objects_of}
 use Rattle.vx_image.proofs.PlexMembers.{IsIn, any_in}
 use Rattle.vx_image.specs.Bytes.{image_of}
@@ -24,7 +25,6 @@ use Rattle.vx_moments.specs.World.{Device, Group, Member, World}
 use Rattle.vx_moments.specs.Group.{image_on, public_of, sectors_of}
 use Rattle.vx_group_edits.specs.Stays.{AreFewer, EachStays, has_disk_in}
 use Rattle.vx_group_edits.proofs.ByKind.{vol_recorded}
-use Rattle.vx_stages.specs.Recorded.{IsSoundAs}
 use Rattle.vx_sound.proofs.Ready.{IsReady}
 use Rattle.vx_readings.proofs.Images.{less_image, reading_sound}
 use Rattle.vx_sound_volumes.specs.Volumes.{AreSoundOn}
@@ -50,6 +50,10 @@ pub record IsSafe (P : Word → Type 0) (x : Writing) (w : World) : Type 0 where
   pub far : IsFar x
   pub next : (devices : Word → Option Device) → SamePublic w.devices devices → AreSoundOn devices x.group → IsNextSound x devices
   pub stands : (devices : Word → Option Device) → SamePublic w.devices devices → (name : Word) (u : Candidates) → P name → HoldWithin devices x.group name u → IsNextAs x devices name u
+
+-- As this configuration records it, the volume of the name is sound by what the devices hold, if it was started before.
+abbrev pub IsSoundIfStarted : Group → Config → Word → World → Type 0
+IsSoundIfStarted g next name w = (v : Vol) → Contains next.volumes v → v.name ≡ name → is_new v.state ≡ false → IsSoundImage (image_on w.devices (record g { config = next }) v)
 
 -- what the bytes of the volume of a name lie within they lie within as it is recorded too, if it is sound so
 abbrev pub KeepsOwn : Writing → World → Word → Type 0
@@ -136,10 +140,11 @@ module _ (x : Writing) (w : World) (ready : IsReady x w) (whole : IsWholeGroup x
   -- no disk joins
   module _ (alone : x.joiners ≡ []) where
     -- the volume of the name, as it is recorded
-    pub own_next : (g : Group) → g ≡ x.group → (name : Word) → IsSoundAs g x.config name w → (devices : Word → Option Device) → SamePublic w.devices devices → (good : ℕ) → AreWritten x good → (v : Vol) → Contains x.config.volumes v → v.name ≡ name → IsSoundImage (image_of x.config good (sectors_of devices x.group.members) v)
-    own_next g own name sound_as devices same good few v there is =
+    pub own_next : (g : Group) → g ≡ x.group → (name : Word) → IsSoundIfStarted g x.config name w → (devices : Word → Option Device) → SamePublic w.devices devices → (good : ℕ) → AreWritten x good →
+        (v : Vol) → Contains x.config.volumes v → v.name ≡ name → is_new v.state ≡ false → IsSoundImage (image_of x.config good (sectors_of devices x.group.members) v)
+    own_next g own name sound_as devices same good few v there is started =
         let bytes = sectors_of w.devices x.group.members in
-        let as_recorded : IsSoundImage (image_of x.config x.group.good bytes v) = subst (λ (h : Group). IsSoundImage (image_on w.devices (record h { config = x.config }) v)) own (sound_as v there is) in
+        let as_recorded : IsSoundImage (image_of x.config x.group.good bytes v) = subst (λ (h : Group). IsSoundImage (image_on w.devices (record h { config = x.config }) v)) own (sound_as v there is started) in
         reading_sound x.config x.config v x.group.good good bytes (sectors_of devices x.group.members) (vol_of x.config v (is_in x.config.volumes v there)) (IsPermutation-refl (objects_of x.config))
         (record {
           good = λ place of at. alone_few x alone good few place.disk at;
@@ -162,14 +167,14 @@ module _ (x : Writing) (w : World) (ready : IsReady x w) (whole : IsWholeGroup x
     all_written slot at = or_from_left (has x.group.good slot) (is_slot_of x.joiners slot) at
 
     -- the volume of a name is sound as it is recorded, and the others are kept
-    pub recorded_safe : (g : Group) → g ≡ x.group → (name : Word) → IsSoundAs g x.config name w → (These : Vol → Type 0) → EachStays These x.group.config x.config →
+    pub recorded_safe : (g : Group) → g ≡ x.group → (name : Word) → IsSoundIfStarted g x.config name w → (These : Vol → Type 0) → EachStays These x.group.config x.config →
         ((v : Vol) → IsIn x.config.volumes v → v.name ≢ name → is_new v.state ≡ false → HasCome x These v) → IsSafe (Besides name) x w
     recorded_safe g own name sound_as These stays back = record {
       ready = ready;
       whole = whole;
       far = λ v there started place of joins. none_joins x alone place.disk joins;
       next = λ devices same sound good few v there started. elim (name_cases v.name name) [
-        | inl is ↦ own_next g own name sound_as devices same good few v there is
+        | inl is ↦ own_next g own name sound_as devices same good few v there is started
         | inr other ↦
             let one = is_in x.config.volumes v there in
             one_next x These stays (none_vacant x alone) v one (back v one (λ is. not_both (subst (λ n. bytes_eq v.name n ≡ true) is (bytes_eq_self v.name)) other) started) devices sound good few started
@@ -180,7 +185,7 @@ module _ (x : Writing) (w : World) (ready : IsReady x w) (whole : IsWholeGroup x
     }
 
     -- so it is for all names where the volume is kept too
-    pub whole_safe : (g : Group) → g ≡ x.group → (name : Word) → IsSoundAs g x.config name w → IsSafe (Besides name) x w → KeepsOwn x w name → IsSafe Every x w
+    pub whole_safe : (g : Group) → g ≡ x.group → (name : Word) → IsSoundIfStarted g x.config name w → IsSafe (Besides name) x w → KeepsOwn x w name → IsSafe Every x w
     whole_safe g own name sound_as others keeps = record {
       ready = others.ready;
       whole = others.whole;
@@ -189,7 +194,7 @@ module _ (x : Writing) (w : World) (ready : IsReady x w) (whole : IsWholeGroup x
       stands = λ devices same n u p holds good few v there named started. elim (name_cases v.name name) [
         | inl is ↦
             next_within devices u good few v there started
-            (keeps devices same u (λ y one at. holds y one (at ∙ sym is ∙ named)) v there is started (own_next g own name sound_as devices same x.group.good all_written v there is))
+            (keeps devices same u (λ y one at. holds y one (at ∙ sym is ∙ named)) v there is started (own_next g own name sound_as devices same x.group.good all_written v there is started))
         | inr other ↦ others.stands devices same n u (λ same_name. not_both (subst (λ m. bytes_eq v.name m ≡ true) (named ∙ same_name) (bytes_eq_self v.name)) other) holds good few v there named started
       ];
     }

@@ -90,7 +90,7 @@ module _ (laws : StateLaws) (place : ℕ) (old : Moment) (k : IsKnown old.world)
         let of = detach_own (runs_on_plexes old.world) r.group.config plex r.volume r.plex r.may in
         let sound_as = subst (λ (h : Group). IsSoundAs h c.stops.0.config name c.mid.world) rests (c.sound (was_sound laws place name old k sound c.mid r.rest)) in
         stopped_settles Every c.stops.0 c.mid known.standing
-        (own_safe c.mid.world c.stops.0 known.standing r.group (detach_group old k.standing plex c.mid r) known.whole name (state_edits name r.plex plex_state.Stale) of c.stops.1 sound_as (detach_kept plex c))
+        (own_safe c.mid.world c.stops.0 known.standing r.group (detach_group old k.standing plex c.mid r) known.whole name (state_edits name r.plex plex_state.Stale) of c.stops.1 (λ v there is started. sound_as v there is) (detach_kept plex c))
         end new c.stops.2 c.stops.1.group known.whole known.offers
 
     detach_in : (plex : Word) (g : Group) → DetachStopsIn g plex old end new → Settles Every end new.world
@@ -165,7 +165,7 @@ module _ (laws : StateLaws) (place : ℕ) (old : Moment) (k : IsKnown old.world)
         whole = k.whole c.stops.0.group c.stops.1.group
 
         others_safe : IsSafe (Besides name) c.stops.0 old.world
-        others_safe = own_besides old.world c.stops.0 k.standing g here k.whole name (state_edits name c.plex plex_state.Active) of c.stops.1 sound_as
+        others_safe = own_besides old.world c.stops.0 k.standing g here k.whole name (state_edits name c.plex plex_state.Active) of c.stops.1 (λ v there is started. sound_as v there is)
 
         others : Settles (Besides name) end new.world
         others = stopped_settles (Besides name) c.stops.0 old k.standing others_safe end new c.stops.2 c.stops.1.group k.whole k.offers
@@ -179,7 +179,7 @@ module _ (laws : StateLaws) (place : ℕ) (old : Moment) (k : IsKnown old.world)
             let before : StandsForCandidates (image_on old.world.devices (record x.group { config = x.config }) v) c.running.life.candidates =
             subst (λ (h : Group). StandsForCandidates (image_on old.world.devices (record h { config = x.config }) v) c.running.life.candidates) own_group (c.within ran_sound v there (is ∙ named)) in
             record {
-              sound = own_next x old.world ready whole c.stops.1.joiners g own_group name sound_as new.world.devices stays x.group.good (all_written x old.world ready whole c.stops.1.joiners) v there is;
+              sound = own_next x old.world ready whole c.stops.1.joiners g own_group name (λ u one at before. sound_as u one at) new.world.devices stays x.group.good (all_written x old.world ready whole c.stops.1.joiners) v there is started;
               among = subst (λ (i : Image). StandsForCandidates i c.running.life.candidates) (sym (image_same (record x.group { config = x.config }) old.world.devices new.world.devices (λ m one n. stays m.device n) v)) before;
             }
 

@@ -56,7 +56,7 @@ use Rattle.vx_sound_imports.proofs.Writings.{HasWhole}
 states_safe : (w : World) (x : Writing) → IsStanding w → (g : Group) → w.group ≡ Some g → HasWhole w → (next : VolState) (after : Plex → PlexState) (v : Vol) → (is : IsChange (state_edits next after g.config v) w x) →
     Restates v.name next after x.group.config x.config → IsSoundAs g x.config v.name w → IsSafe (Besides v.name) x w
 states_safe w x s g here whole next after v is r sound_as =
-    recorded_safe x w (states_ready w x s g here next after v is) (whole x.group is.group) is.joiners g (some_same g x.group (sym here ∙ is.group)) v.name sound_as (λ u. u.name ≢ v.name)
+    recorded_safe x w (states_ready w x s g here next after v is) (whole x.group is.group) is.joiners g (some_same g x.group (sym here ∙ is.group)) v.name (λ y there is started. sound_as y there is) (λ u. u.name ≢ v.name)
     (restated_keeps x.group.config x.config v next after r) (λ u one other started. restated_back x.group.config x.config u v.name next after r other one)
 
 -- what is known of a moment

@@ -1,4 +1,5 @@
--- A start and a stop of a volume of the imported group, and what want of memory leaves of them, of a mirror and of a plex that goes out of use.
+-- A start and a stop of a volume of the imported group, and what want of memory leaves of them, of a mirror and of a plex that goes out of use or
+-- leaves its volume.
 use Rattle.std.proofs.Common.{◌≡◌, ◌∙◌, ℕ, Bool, true, false, Option, Some, None, MatchBool, MatchOption, refl, sym, ap, subst, inl, inr}
 use Rattle.vx_base.specs.Named.{Word, put}
 use Rattle.vx_base.proofs.NamedLemmas.{put_same}
@@ -16,6 +17,8 @@ use Rattle.vx_moments.specs.Moment.{Moment}
 use Rattle.vx_moments.specs.World.{Group, Volume, World}
 use Rattle.vx_moments.specs.Group.{image_on}
 use Rattle.vx_stages.specs.Ends.{EndsIn, IsChange}
+use Rattle.vx_stages.specs.Leaving.{ByLog, ByRecord, FromLog, FromRest, Way}
+use Rattle.vx_stages.specs.Left.{IsReadied, way_in}
 use Rattle.vx_stages.specs.Stages.{Wants}
 use Rattle.vx_stages.specs.Starting.{IsStartedBy, StartStops, StopsIn, StopsOf, may_start, plexes_started, volume_started}
 use Rattle.vx_stages.specs.Stopping.{ComesToRest, IsStopBroken, IsStopDone, StopStops, is_active, rested_volume, without_volume}
@@ -154,6 +157,14 @@ module _ (laws : StateLaws) (place : ℕ) (name : Word) (old : Moment) (k : IsKn
   stop_settles end new (inr (inl r)) = known_settles end new.world (rested_known new r.rest)
   stop_settles end new (inr (inr b)) = broken_settles end new b
 
+-- ---- what is done before a plex leaves its volume
+
+pub readied_known : (laws : StateLaws) (place : ℕ) (old : Moment) → IsKnown old.world → IsSoundBefore place old.world → (way : Way) (g : Group) (v : Vol) (mid : Moment) → old.world.group ≡ Some g → IsReadied way g v old mid → IsKnown mid.world
+readied_known laws place old k sound ByRecord g v mid here same = subst (λ (m : Moment). IsKnown m.world) (sym same) k
+readied_known laws place old k sound FromLog g v mid here same = subst (λ (m : Moment). IsKnown m.world) (sym same) k
+readied_known laws place old k sound FromRest g v mid here rest = rested_known laws place v.name old k sound mid rest
+readied_known laws place old k sound ByLog g v mid here asked = touched_known g v.name old mid here asked.touched k
+
 -- ---- want of memory
 
 pub wants_known : (laws : StateLaws) (place : ℕ) (s : Stage) (old new : Moment) → IsKnown old.world → IsSoundBefore place old.world → Wants s old new → IsKnown new.world
@@ -164,6 +175,8 @@ wants_known laws place (stage.Mirror mirror) old new k sound (inr rest) = rested
 wants_known laws place (stage.Prepare logs) old new k sound wants = prepare_wants old k logs new wants
 wants_known laws place (stage.Detach plex) old new k sound (inl same) = subst IsKnown (sym same) k
 wants_known laws place (stage.Detach plex) old new k sound (inr r) = rested_known laws place r.volume.name old k sound new r.rest
+wants_known laws place (stage.Dissociate plex remove) old new k sound (inl same) = subst IsKnown (sym same) k
+wants_known laws place (stage.Dissociate plex remove) old new k sound (inr (from, readied)) = readied_known laws place old k sound (way_in from) from.group from.volume new from.here readied
 wants_known laws place (stage.Stop vol) old new k sound (inl same) = subst IsKnown (sym same) k
 wants_known laws place (stage.Stop vol) old new k sound (inr rest) = rested_known laws place vol old k sound new rest
 wants_known laws place other old new k sound same = subst IsKnown (sym same) k

@@ -1,5 +1,5 @@
 -- What each command leaves as it is over, by its last stage.
-use Rattle.std.proofs.Common.{◌≡◌, ◌∙◌, ℕ, true, List, [], ◌∷◌, ◌++◌, Option, Some, None, refl, sym, ap, subst, inl, inr}
+use Rattle.std.proofs.Common.{◌≡◌, ◌∙◌, ℕ, Bool, true, List, [], ◌∷◌, ◌++◌, Option, Some, None, refl, sym, ap, subst, inl, inr}
 use Rattle.std.specs.Prelude.{if◌then◌else◌, is_some, replicate}
 use Rattle.std.specs.Str.{bytes_eq}
 use Rattle.vx_base.specs.Blocks.{IsTorn}
@@ -65,6 +65,7 @@ use Rattle.vx_sound_imports.proofs.Nexts.{IsSafe}
 use Rattle.vx_sound_imports.proofs.Stages.{IsLostBy, Settles, committed_known, imported_away, leads, settles_some, stopped_settles, unknown_settles}
 use Rattle.vx_sound_imports.proofs.Logs.{prepare_known, prepare_settles, unprepare_known, unprepare_settles}
 use Rattle.vx_sound_imports.proofs.Mirrors.{mirror_settles}
+use Rattle.vx_sound_imports.proofs.Leaving.{leaving_known, leaving_settles}
 use Rattle.vx_sound_imports.proofs.Plexes.{attach_settles, detach_known, detach_settles}
 use Rattle.vx_sound_imports.proofs.Recoveries.{recover_settles}
 use Rattle.vx_sound_imports.proofs.Starts.{start_settles, stop_done_known, stop_settles}
@@ -294,6 +295,10 @@ module _ (laws : StateLaws) (place : ℕ) (views : List View) (end : End) (new :
   detaching_settles plex mid k sound runs =
       one_stage (stage.Detach plex) [] Nothing mid views end new (λ m is. detach_known laws place mid k sound plex m is) (λ stops. detach_settles laws place mid k sound end new plex stops) runs
 
+  dissociating_settles : (remove : Bool) (plex : Word) (mid : Moment) → IsKnown mid.world → IsSoundBefore place mid.world → Runs [] (stage.Dissociate plex remove ∷ []) Nothing mid views end new → Settles Every end new.world
+  dissociating_settles remove plex mid k sound runs =
+      one_stage (stage.Dissociate plex remove) [] Nothing mid views end new (λ m is. leaving_known laws place mid k sound remove plex m is) (λ stops. leaving_settles laws place mid k sound end new remove plex stops) runs
+
   attaching_settles : (vol plex : Word) (mid : Moment) → IsKnown mid.world → IsSoundBefore place mid.world → Runs [] (stage.Attach vol plex ∷ []) Nothing mid views end new → Settles Every end new.world
   attaching_settles vol plex mid k sound runs =
       one_stage (stage.Attach vol plex) [] Nothing mid views end new (λ m is. absurd is) (λ stops. attach_settles laws place mid k sound vol plex end new stops) runs
@@ -376,6 +381,9 @@ module _ (laws : StateLaws) (place : ℕ) (old : Moment) (views : List View) (en
   form_settles dg (form.Unprepare vol) none does =
       let calm = stage.Gate (tests.GroupIs dg) ∷ [] in
       at_last calm (stage.Unprepare vol ∷ []) [] Nothing old views end new k (λ mid same t passed runs. unpreparing_settles laws place views end new vol mid t runs) (runs_through calm (stage.Unprepare vol ∷ []) [] Nothing old views end new (refl, tt) does)
+  form_settles dg (form.PlexDis plex rm) none does =
+      let calm = stage.Gate (tests.GroupIs dg) ∷ [] in
+      at_last calm (stage.Dissociate plex rm ∷ []) [] Nothing old views end new k (λ mid same t passed runs. dissociating_settles laws place views end new rm plex mid t (sound_still mid same) runs) (runs_through calm (stage.Dissociate plex rm ∷ []) [] Nothing old views end new (refl, tt) does)
   form_settles dg (form.Stop vol) none does =
       let calm = stage.Gate (tests.GroupIs dg) ∷ stage.Gate (tests.HasVolume vol) ∷ [] in
       at_last calm (stage.Stop vol ∷ []) [] Nothing old views end new k (λ mid same t passed runs. stopping_settles laws place views end new vol mid t (sound_still mid same) runs) (runs_through calm (stage.Stop vol ∷ []) [] Nothing old views end new (refl, (refl, tt)) does)

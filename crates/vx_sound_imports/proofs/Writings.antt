@@ -120,7 +120,7 @@ module _ (w : World) (x : Writing) (s : IsStanding w) (g : Group) (here : w.grou
       let own = own_group is.group in
       let mine = subst (λ (h : Group). IsIn h.config.volumes v) own there in
       let edited : IsEdited (start_edits x.group.config v) x.group.config x.config = subst (λ (h : Group). IsEdited (start_edits h.config v) x.group.config x.config) own is.edited in
-      recorded_safe x w (start_ready w x s g here v is) (whole x.group is.group) is.joiners g own v.name sound_as (λ u. u.name ≢ v.name)
+      recorded_safe x w (start_ready w x s g here v is) (whole x.group is.group) is.joiners g own v.name (λ y there is started. sound_as y there is) (λ u. u.name ≢ v.name)
       (keeps x.group.config x.config v (vol_of x.group.config v mine) edited)
       (λ u one other started_before.
       restated_back x.group.config x.config u v.name vol.Active (started (is_new v.state))
@@ -135,10 +135,10 @@ module _ (w : World) (x : Writing) (s : IsStanding w) (g : Group) (here : w.grou
       let r = restates x.group.config v marks (among (objects_of x.group.config) (VolRecord v) (records_vol x.group.config v mine)) x.config edited in
       let ready = stop_ready w x s g here v marks (stop_edits g.config v marks) refl is in
       let all = whole x.group is.group in
-      let others = recorded_safe x w ready all is.joiners g own v.name sound_as (λ u. u.name ≢ v.name)
+      let others = recorded_safe x w ready all is.joiners g own v.name (λ y there is started. sound_as y there is) (λ u. u.name ≢ v.name)
       (keeps x.group.config x.config v marks (vol_of x.group.config v mine) edited)
       (λ u one other started_before. restated_back x.group.config x.config u v.name vol.Clean (stopped marks) r other one) in
-      whole_safe x w ready all is.joiners g own v.name sound_as others
+      whole_safe x w ready all is.joiners g own v.name (λ y there is started. sound_as y there is) others
       (λ devices same candidates holds y one at before sound.
       let bytes = sectors_of devices x.group.members in
       let is_now : y ≡ record v { state = vol.Clean } = own_now x.group.config x.config v mine vol.Clean (stopped marks) r y (is_in x.config.volumes y one) at in
@@ -153,7 +153,7 @@ added_safe w x s g here whole name added of is sound_as keeps =
     let ready = added_ready added w x s is in
     let all = whole x.group is.group in
     let own = some_same g x.group (sym here ∙ is.group) in
-    whole_safe x w ready all is.joiners g own name sound_as
-    (recorded_safe x w ready all is.joiners g own name sound_as (λ u. u.name ≢ name) (plex_keeps_others x.group.config x.config name added of is.edited)
+    whole_safe x w ready all is.joiners g own name (λ y there is started. sound_as y there is)
+    (recorded_safe x w ready all is.joiners g own name (λ y there is started. sound_as y there is) (λ u. u.name ≢ name) (plex_keeps_others x.group.config x.config name added of is.edited)
     (λ u one other started_before. (u, parts_back x.group.config x.config u name added of is.edited one, refl, other)))
     keeps

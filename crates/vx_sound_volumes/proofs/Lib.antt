@@ -8,6 +8,7 @@ pub mod Running
 pub mod Mirrors
 pub mod Logs
 mod Plexes
+pub mod Leaving
 pub mod Devices
 pub mod Joiners
 pub mod Stages

@@ -24,7 +24,7 @@ use Rattle.vx_sound_volumes.proofs.Parts.{Besides, Every, Keeps, grouped_runs, n
 use Rattle.vx_sound_volumes.proofs.Running.{IsSameRun, found_there, goes_kept, one_more, rested, same_run}
 
 -- a volume that runs needs not be sound by its bytes
-runs_too : (place : ℕ) (w : World) (vol : Word) (run : Volume) → grouped (w.volumes vol) ≡ Some run → Keeps place (Besides vol) w → Keeps place Every w
+pub runs_too : (place : ℕ) (w : World) (vol : Word) (run : Volume) → grouped (w.volumes vol) ≡ Some run → Keeps place (Besides vol) w → Keeps place Every w
 runs_too place w vol run is k = one_more place w vol (λ g here v there same started idle. not_none run (sym idle ∙ subst (λ n. grouped (w.volumes n) ≡ Some run) (sym same) is)) k
 
 module _ (place : ℕ) (old : Moment) (k : Keeps place Every old.world) where

@@ -33,6 +33,7 @@ use Rattle.vx_sound_volumes.proofs.Logs.{prepare_done, prepare_ends, prepare_wan
 use Rattle.vx_sound_volumes.proofs.Mirrors.{mirror_ends}
 use Rattle.vx_sound_volumes.proofs.Named.{change_back, make_back}
 use Rattle.vx_sound_volumes.proofs.Parts.{Every, Keeps, group_goes, some_same}
+use Rattle.vx_sound_volumes.proofs.Leaving.{leaving_done, leaving_ends, leaving_wants}
 use Rattle.vx_sound_volumes.proofs.Plexes.{attach_ends, detach_done, detach_ends, detach_wants}
 use Rattle.vx_sound_volumes.proofs.Running.{rested, start_ends, start_wants, stop_done, stop_ends}
 
@@ -94,6 +95,7 @@ module _ (laws : StateLaws) (place : ℕ) (old new : Moment) (k : Keeps place Ev
   stage_done (stage.Mirror mirror) disks needs brings is = absurd is
   stage_done (stage.Prepare logs) disks needs brings is = prepare_done place old k logs new is
   stage_done (stage.Unprepare vol) disks needs brings is = unprepare_done place old k vol new is
+  stage_done (stage.Dissociate plex remove) disks needs brings is = leaving_done place old k remove plex new is
   stage_done (stage.Detach plex) disks needs brings is = detach_done place old k plex new is
   stage_done (stage.Attach vol plex) disks needs brings is = absurd is
   stage_done (stage.Stop vol) disks needs brings is = stop_done place vol old k laws.stop_restates laws.stop_keeps new is
@@ -148,6 +150,7 @@ module _ (laws : StateLaws) (place : ℕ) (old new : Moment) (k : Keeps place Ev
   stage_stops (stage.Mirror mirror) disks end needs stops = mirror_ends place mirror.vol mirror.disks old k end new stops
   stage_stops (stage.Prepare logs) disks end needs stops = prepare_ends place old k end new logs stops
   stage_stops (stage.Unprepare vol) disks end needs stops = unprepare_ends place old k end new vol stops
+  stage_stops (stage.Dissociate plex remove) disks end needs stops = leaving_ends place old k end new remove plex stops
   stage_stops (stage.Detach plex) disks end needs stops = detach_ends place old k end new plex stops
   stage_stops (stage.Attach vol plex) disks end needs stops = attach_ends place old k vol plex end new stops
   stage_stops (stage.Stop vol) disks end needs stops = stop_ends place vol old k end new stops
@@ -161,6 +164,7 @@ stage_wants place (stage.Start vol) old new k (inr (g, v, here, found, may, touc
 stage_wants place (stage.Mirror mirror) old new k (inl same) = subst (Keeps place Every) (sym same) k
 stage_wants place (stage.Mirror mirror) old new k (inr rest) = rested place mirror.vol old k new rest
 stage_wants place (stage.Prepare logs) old new k wants = prepare_wants place old k logs new wants
+stage_wants place (stage.Dissociate plex remove) old new k wants = leaving_wants place old k remove plex new wants
 stage_wants place (stage.Detach plex) old new k wants = detach_wants place old k plex new wants
 stage_wants place (stage.Stop vol) old new k (inl same) = subst (Keeps place Every) (sym same) k
 stage_wants place (stage.Stop vol) old new k (inr rest) = rested place vol old k new rest

@@ -96,6 +96,7 @@ module _ (dg : Option Word) (w : World) (end : End) (new : World) where
   plan_ready (form.Mirror vol disks) brings = (refl, λ t. (tt, λ e. tt))
   plan_ready (form.Prepare vol ndcomirs region) brings = (refl, λ t. (tt, λ e. tt))
   plan_ready (form.Unprepare vol) brings = (refl, λ t. (tt, λ e. tt))
+  plan_ready (form.PlexDis plex rm) brings = (refl, λ t. (tt, λ e. tt))
   plan_ready (form.Stop vol) brings = (refl, λ t. (refl, λ t. (tt, λ e. tt)))
   plan_ready (form.PrintM vol) brings = print_ready vol (Records vol)
   plan_ready (form.PrintHt vol) brings = print_ready vol (Hierarchy vol)

@@ -18,5 +18,7 @@ pub mod Logged
 pub mod Plexes
 pub mod Detached
 pub mod Attached
+pub mod Leaving
+pub mod Left
 pub mod Stages
 pub mod Logs

@@ -32,6 +32,7 @@ use Rattle.vx_stages.specs.Detached.{DetachStops, DetachWants, IsDetached}
 use Rattle.vx_stages.specs.Ends.{fault_of, lost, refused, IsChange, RefusedAsGrown, RefusedAsLong, CommitsBy, EndsIn, StopsBy}
 use Rattle.vx_stages.specs.Finding.{Found, Finds, group_found, import_records, import_sectors}
 use Rattle.vx_stages.specs.Making.{adding_refusal, is_started}
+use Rattle.vx_stages.specs.Left.{IsDissociated, LeavingStops, LeavingWants}
 use Rattle.vx_stages.specs.Logged.{IsPrepared, IsUnprepared, PrepareStops, PrepareWants, UnprepareStops}
 use Rattle.vx_stages.specs.Mirrored.{MirrorStops, MirrorWants}
 use Rattle.vx_stages.specs.Records.{devices_of, sectors_at, disk_record, member_at, next_slot, new_records, new_members}
@@ -262,6 +263,7 @@ IsDone (stage.Prepare logs) disks old new = IsPrepared logs old new
 IsDone (stage.Unprepare vol) disks old new = IsUnprepared vol old new
 IsDone (stage.Detach plex) disks old new = IsDetached plex old new
 IsDone (stage.Attach vol plex) disks old new = ⊥
+IsDone (stage.Dissociate plex remove) disks old new = IsDissociated remove plex old new
 IsDone (stage.Stop vol) disks old new = IsStopDone vol old new
 
 -- a device in hand ends the command: it has failed, or its power is gone
@@ -340,6 +342,7 @@ Stops (stage.Prepare logs) disks old end new = PrepareStops logs old end new
 Stops (stage.Unprepare vol) disks old end new = UnprepareStops vol old end new
 Stops (stage.Detach plex) disks old end new = DetachStops plex old end new
 Stops (stage.Attach vol plex) disks old end new = AttachStops vol plex old end new
+Stops (stage.Dissociate plex remove) disks old end new = LeavingStops remove plex old end new
 Stops (stage.Stop vol) disks old end new = StopStops vol old end new
 
 -- what want of memory leaves of a stage: the world as it was, but where devices of a volume were called before
@@ -348,5 +351,6 @@ Wants (stage.Start vol) old new = StartWants vol old new
 Wants (stage.Mirror mirror) old new = MirrorWants mirror.vol old new
 Wants (stage.Prepare logs) old new = PrepareWants logs old new
 Wants (stage.Detach plex) old new = DetachWants plex old new
+Wants (stage.Dissociate plex remove) old new = LeavingWants remove plex old new
 Wants (stage.Stop vol) old new = StopWants vol old new
 Wants other old new = new.world ≡ old.world

@@ -71,6 +71,9 @@ pub enum Stage {
     /// The data plex of the running volume is recorded as in use by a commit, it is written to, and what it misses is copied to it; this ends
     /// the command.
     Attach { vol: Name, plex: Name },
+    /// The plex leaves its volume, which comes to rest first where that is needed, and is recorded as one of none, or is removed with its
+    /// subdisks. A running volume goes on without it.
+    Dissociate { plex: Name, remove: bool },
     /// The volume of the imported group comes to rest, its states are recorded, and it runs no more.
     Stop(Name),
 }

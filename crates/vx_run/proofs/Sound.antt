@@ -76,7 +76,7 @@ plan_sound dg (form.Start vol) size = record { fed = ((λ is. cc, tt), ((λ is. 
 plan_sound dg (form.Stop vol) size = record { fed = ((λ is. cc, tt), ((λ is. cc, tt), ((λ is. cc, tt), tt))); kept = tt; sized = (tt, (tt, (tt, tt))); shows = tt }
 plan_sound dg (form.Mirror vol disks) size = record { fed = ((λ is. cc, tt), ((λ is. cc, tt), tt)); kept = tt; sized = (tt, (tt, tt)); shows = tt }
 plan_sound dg (form.PrintHt vol) size = hierarchy dg vol
-plan_sound dg (form.PlexDis plex rm) size = tt
+plan_sound dg (form.PlexDis plex rm) size = record { fed = ((λ is. cc, tt), ((λ is. cc, tt), tt)); kept = tt; sized = (tt, (tt, tt)); shows = tt }
 plan_sound dg (form.Prepare vol ndcomirs region) size = record { fed = ((λ is. cc, tt), ((λ is. cc, tt), tt)); kept = tt; sized = (tt, (tt, tt)); shows = tt }
 plan_sound dg (form.Unprepare vol) size = record { fed = ((λ is. cc, tt), ((λ is. cc, tt), tt)); kept = tt; sized = (tt, (tt, tt)); shows = tt }
 plan_sound dg (form.AddMir vol disks) size = tt

@@ -97,6 +97,7 @@ module _ {P : Type 0} {ghosts : Ghosts P} (see : P → Seen) (disks : List DiskA
       by (stage.Unprepare vol) keeps first still = cc
       by (stage.Detach plex) keeps first still = cc
       by (stage.Attach vol plex) keeps first still = cc
+      by (stage.Dissociate plex remove) keeps first still = cc
       by (stage.Stop vol) keeps first still = cc
 
   -- what is given behind a stage: all that was, or where it changed the world, nothing

@@ -136,4 +136,5 @@ module _ {P : Type 0} {ghosts : Ghosts P} (see : P → Seen) (h k : House P ghos
   gives_still (stage.Unprepare vol) disks gives = tt
   gives_still (stage.Detach plex) disks gives = tt
   gives_still (stage.Attach vol plex) disks gives = tt
+  gives_still (stage.Dissociate plex remove) disks gives = tt
   gives_still (stage.Stop vol) disks gives = tt

@@ -30,4 +30,5 @@ world_kept (stage.Prepare logs) disks m n keeps done = cc
 world_kept (stage.Unprepare vol) disks m n keeps done = cc
 world_kept (stage.Detach plex) disks m n keeps done = cc
 world_kept (stage.Attach vol plex) disks m n keeps done = cc
+world_kept (stage.Dissociate plex remove) disks m n keeps done = cc
 world_kept (stage.Stop vol) disks m n keeps done = cc

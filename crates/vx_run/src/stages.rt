@@ -14,6 +14,7 @@ use vx_script_words::DiskAt;
 use vx_shelf::Shelf;
 use vx_stage_changes::{create, join, make};
 use vx_stage_devices::{look_blank, look_disks, look_headed, make_image, search, start_bare, wipe};
+use vx_stage_dissociation::dissociate;
 use vx_stage_gates::failing;
 use vx_stage_import::import;
 use vx_stage_mirrors::{attach, detach, mirror, prepare, unprepare};
@@ -56,6 +57,7 @@ pub(crate) fn run_stage<S: Shelf>(
         Stage::Unprepare(vol) => unprepare(alloc, house, vol),
         Stage::Detach(plex) => detach(alloc, house, plex),
         Stage::Attach { vol, plex } => attach(alloc, house, vol, plex),
+        Stage::Dissociate { plex, remove } => dissociate(alloc, house, plex, *remove),
         Stage::Stop(vol) => stop(alloc, house, vol),
     }
 }

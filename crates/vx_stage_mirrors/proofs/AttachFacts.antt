@@ -15,14 +15,15 @@ use Rattle.vx_confdb.specs.Groups.{IsAlive, members}
 use Rattle.vx_copies.specs.Disks.{good_mask}
 use Rattle.vx_image.specs.Bytes.{is_held, map_or_zero}
 use Rattle.vx_image.specs.UsedPlexes.{IsVolOf}
-use Rattle.vx_image.proofs.Members.{contains, is_in}
+use Rattle.vx_image.proofs.Members.{contains}
 use Rattle.vx_image.proofs.PlexMembers.{IsIn}
-use Rattle.vx_lending.proofs.Rules.{one_plex, plex_low}
+use Rattle.vx_lending.proofs.Rules.{plex_low}
 use Rattle.vx_lending.specs.Public.{running_at}
 use Rattle.vx_lending.specs.declared.public.Running.{Running}
 use Rattle.vx_answers.specs.declared.refusal.Refusal.{Refusal}
 use Rattle.vx_answers.specs.declared.refusal.Refusal.TheVariants as refusal
 use Rattle.vx_group_edits.specs.OfVolume.{AreEditsOf}
+use Rattle.vx_group_edits.proofs.DcoEdits.{own_name}
 use Rattle.vx_joined_volumes.specs.Switched.{SetsState, WasTaken}
 use Rattle.vx_joined_volumes.specs.SwitchLaws.{IsKnownPlex}
 use Rattle.vx_joined_volumes.proofs.SwitchPlexes.{each_plex_known}
@@ -144,7 +145,7 @@ module _ {P : Type 0} {ghosts : Ghosts P} (see : P → Seen) (g : Imported P gho
 
     edits_own : AreEditsOf g.config v.name (state_edits v.name p plex_state.Active)
     edits_own = (
-      (refl, λ q here same. subst (λ (x : Plex). refers x.vol v.name ≡ true) (one_plex g.config p q plex_there (is_in g.config.plexes q here) (sym same)) refers_own),
+      (refl, own_name g.config v.name p plex_there refers_own),
       tt,
     )
 

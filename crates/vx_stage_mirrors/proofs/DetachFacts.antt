@@ -21,7 +21,7 @@ use Rattle.vx_objects.specs.declared.config.Config.{Config}
 use Rattle.vx_objects.specs.Config.{objects_of}
 use Rattle.vx_answers.specs.declared.refusal.Refusal.TheVariants as refusal
 use Rattle.vx_image.specs.UsedPlexes.{IsVolOf}
-use Rattle.vx_image.proofs.Members.{contains, is_in}
+use Rattle.vx_image.proofs.Members.{contains}
 use Rattle.vx_image.proofs.PlexMembers.{IsIn, one_named}
 use Rattle.vx_image.proofs.Plexes.{config_valid}
 use Rattle.vx_rules.proofs.InOrder.{names_differ}
@@ -30,7 +30,7 @@ use Rattle.vx_lending.specs.declared.public.Running.{Running}
 use Rattle.vx_group_volumes.specs.Places.{RunsInPlace}
 use Rattle.vx_group_edits.proofs.ByKind.{records_vol, vol_recorded}
 use Rattle.vx_group_edits.specs.OfVolume.{AreEditsOf}
-use Rattle.vx_lending.proofs.Rules.{one_plex}
+use Rattle.vx_group_edits.proofs.DcoEdits.{own_name}
 use Rattle.vx_stages.specs.Plexes.{detach_refusal, detach_refusal_of, found_to_detach, is_in_use, plex_in, state_edits}
 use Rattle.vx_stages.specs.Tests.{is_data, unless, volume_in}
 use Rattle.vx_house.specs.Runs.{IsInPlace}
@@ -80,7 +80,7 @@ module _ (runs : Word → Bool) (c : Config) (name vol : Word) (p : Plex) (found
 
   -- the edits are of the volume alone
   pub edits_own : (next : PlexState) → AreEditsOf c vol (state_edits vol p next)
-  edits_own next = ((refl, λ q there same. subst (λ (x : Plex). refers x.vol vol ≡ true) (one_plex c p q (found_plex name c.plexes p found).0 (is_in c.plexes q there) (sym same)) plex_own), tt)
+  edits_own next = ((refl, own_name c vol p (found_plex name c.plexes p found).0 plex_own), tt)
 
 -- ---- a volume under its name
 

@@ -37,14 +37,14 @@ pub mod Plans
 pub mod Goes
 pub mod Stage
 pub mod Staged
-mod SlotNumbers
+pub mod SlotNumbers
 mod Geometries
-mod LogGoing
+pub mod LogGoing
 mod PrepareGoes
 mod UnprepareGoes
 mod LogFacts
-mod Recorded
-mod Unrecorded
+pub mod Recorded
+pub mod Unrecorded
 pub mod SoundLogs
 pub mod RelogPlans
 pub mod LogTouches

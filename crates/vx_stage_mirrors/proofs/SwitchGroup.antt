@@ -18,9 +18,8 @@ use Rattle.vx_fronts.proofs.Parted.{private_parted}
 use Rattle.vx_moments.specs.Copies.{IsTextOf}
 use Rattle.vx_lending.specs.Public.{lent_pieces, still_pieces}
 use Rattle.vx_lending.specs.declared.public.Running.{Running}
-use Rattle.vx_lending.proofs.Rules.{one_plex}
 use Rattle.vx_group_edits.specs.OfVolume.{AreEditsOf}
-use Rattle.vx_group_edits.proofs.DcoEdits.{own_group}
+use Rattle.vx_group_edits.proofs.DcoEdits.{own_group, own_name}
 use Rattle.vx_group_edits.proofs.OfVolume.{own_edit_keeps_others}
 use Rattle.vx_house.specs.Holders.{AreHeld, group_holders, hand_holder, holders, volume_holder}
 use Rattle.vx_house.specs.Runs.{AllInPlace, IsInPlace}
@@ -75,13 +74,7 @@ module _ {P : Type 0} {ghosts : Ghosts P} {shelf : Shelved} {h : House P ghosts}
 
   -- it is of the volume alone
   pub own : AreEditsOf g.config v.name (state_edits v.name p state)
-  own = (
-    (
-      refl,
-      λ q there same. subst (λ (x : Plex). refers x.vol v.name ≡ true) (one_plex g.config p q (is_in g.config.plexes p it.plan.sets.there) (is_in g.config.plexes q there) (sym same)) (and_parts (refers p.vol v.name) (is_data p.kind) it.plan.sets.data_is).0,
-    ),
-    tt,
-  )
+  own = ((refl, own_name g.config v.name p (is_in g.config.plexes p it.plan.sets.there) (and_parts (refers p.vol v.name) (is_data p.kind) it.plan.sets.data_is).0), tt)
 
   pub group_same : next.config.group ≡ g.config.group
   group_same = (own_group g.config next.config v.name (state_edits v.name p state) own it.plan.sets.edited).0

@@ -64,7 +64,7 @@ fn may_be_used(state: PlexState) -> bool
 }
 
 /// All disks of the plex are good.
-fn is_held(config: &Config, good: u32, plex: &Plex) -> bool
+pub fn is_held(config: &Config, good: u32, plex: &Plex) -> bool
     ensures { result ≡ is_held config.now good plex.now }
 {
     config.subdisks.as_slice().iter().all(|subdisk| !refers(&subdisk.plex, &plex.name)

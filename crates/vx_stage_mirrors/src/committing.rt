@@ -9,7 +9,7 @@ use vx_piece::Piece;
 use vx_stage_changes::{NextConfig, commit};
 
 /// Writes the text of the configuration to the good disks of the group, which has that configuration then.
-pub(crate) fn commit_next<P: Piece>(
+pub fn commit_next<P: Piece>(
     alloc: Global,
     group: &mut Imported<P>,
     next: NextConfig,

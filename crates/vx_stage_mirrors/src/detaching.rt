@@ -75,7 +75,7 @@ fn detach_in<P: Piece + Drop>(
 }
 
 /// Whether some region of the running volume of the name has no other plex that is current.
-fn needs_plex<P: Piece>(running: &BTreeMap<Name, Running<P>>, name: &Name, map: u8) -> bool
+pub fn needs_plex<P: Piece>(running: &BTreeMap<Name, Running<P>>, name: &Name, map: u8) -> bool
     ensures { IfSome (get (slice_cmp nat_cmp) running.now name.now) (λ r. MatchBool result (Needs map (volume_seen P.seen r.volume)) (CanSpare map (volume_seen P.seen r.volume))) }
 {
     match running.get(name) {

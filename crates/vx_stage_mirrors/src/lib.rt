@@ -36,9 +36,11 @@ mod switching;
 mod testing;
 mod unpreparing;
 
+pub use att_testing::is_held;
 pub use attaching::attach;
+pub use committing::commit_next;
 pub use copying::{copy_plexes, each_copying_goes, each_marked_region_is_missed};
-pub use detaching::detach;
+pub use detaching::{detach, needs_plex};
 pub use join_laws::{
     each_failed_join_stops, each_join_goes_on, each_joined_plex_is_in_place, each_joined_plex_runs,
     each_parked_plex_may_join, each_parking_parts,
@@ -48,12 +50,15 @@ pub use log_laws::{
     each_failed_record_stops, each_log_is_made, each_log_is_unmade, each_record_goes,
     each_relog_goes,
 };
+pub use log_testing::{is_data_plex_of, is_log_plex_of};
 pub use marked::{each_mark_is_shown, each_marked_volume_is_sound, each_shown_plex_is_sound};
 pub use marking::{Unmarked, each_free_map_is_free, each_marking_rests, mark_plex};
 pub use mirroring::mirror;
 pub use new_places::{each_held_plex_can_be_taken, each_new_plex_is_free};
 pub use planning::{PlannedMirror, planned_mirror};
+pub use plex_states::{map_or_zero, plex_in};
 pub use preparing::prepare;
+pub use settling::settle;
 pub use switch_laws::{each_switch_goes, each_switch_is_sound, each_switch_is_within};
 pub use testing::test_mirror;
-pub use unpreparing::unprepare;
+pub use unpreparing::{unprepare, widen};

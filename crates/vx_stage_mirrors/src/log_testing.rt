@@ -107,13 +107,13 @@ fn has_one_plex(plexes: &[Plex], vol: &Name) -> bool
         == 1
 }
 
-pub(crate) fn is_data_plex_of(plex: &Plex, vol: &Name) -> bool
+pub fn is_data_plex_of(plex: &Plex, vol: &Name) -> bool
     ensures { result ≡ is_data_plex_of vol.now plex.now }
 {
     refers(&plex.vol, vol) && plex.kind == PlexKind::Data
 }
 
-fn is_log_plex_of(plex: &Plex, vol: &Name) -> bool
+pub fn is_log_plex_of(plex: &Plex, vol: &Name) -> bool
     ensures { result ≡ is_log_plex_of vol.now plex.now }
 {
     refers(&plex.vol, vol) && plex.kind == PlexKind::Log

@@ -14,7 +14,7 @@ use vx_objects::{Config, Edit, Plex};
 use vx_stage_changes::{NextConfig, planned};
 
 /// The plex of the name in a list of them.
-pub(crate) fn plex_in(plexes: &[Plex], name: &Name) -> Option<Plex>
+pub fn plex_in(plexes: &[Plex], name: &Name) -> Option<Plex>
     ensures { result ≡ plex_in name.now plexes.now }
 {
     plexes.iter().find(|plex| same(&plex.name, name)).copied()
@@ -41,7 +41,7 @@ pub(crate) fn planned_state(
 }
 
 /// The map of a plex; that of the plex of a volume without a log is 0.
-pub(crate) fn map_or_zero(map: Option<u8>) -> u8
+pub fn map_or_zero(map: Option<u8>) -> u8
     ensures { result ≡ map_or_zero map }
 {
     map.unwrap_or(0)

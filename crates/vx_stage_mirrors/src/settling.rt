@@ -22,7 +22,7 @@ use vx_volume::{IoFault, Volume};
 
 /// Settles each region of the running volume of the name, and then writes again what failed writes to its log have left open. The first
 /// device that fails ends it.
-pub(crate) fn settle<P: Piece + Drop>(
+pub fn settle<P: Piece + Drop>(
     alloc: Global,
     group: &mut Imported<P>,
     name: &Name,

@@ -70,7 +70,7 @@ fn unprepare_in<P: Piece + Drop>(
 }
 
 /// What is left over goes into a list with room for one more. It takes no memory.
-fn widen<P: Piece + Drop>(left: &mut Vec<Remains<P>>, room: Vec<Remains<P>>)
+pub fn widen<P: Piece + Drop>(left: &mut Vec<Remains<P>>, room: Vec<Remains<P>>)
     requires none { room.items ≡ [] }
     requires enough { vec_len left.old + 1 ≤ vec_capacity room }
     ensures items { left.new.items ≡ left.old.items }

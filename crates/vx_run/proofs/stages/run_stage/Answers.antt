@@ -70,3 +70,6 @@ returns-in-Detach g c = record { goes = rw c.in-Detach.is (stage_ends g.S.P.Piec
 
 pub returns-in-Attach : goal.returns-in-Attach
 returns-in-Attach g c = record { goes = rw c.in-Attach.is (stage_ends g.S.P.Piece.seen c.args.disks.now _ _ _ _ (c.attach.ensures.goes c.args.disks.now (shelved g.S.Shelf.free g.S.Shelf.held g.S.Shelf.counted g.S.Shelf.faults c.args.shelf.now) (rw c.in-Attach.is at c.requires.ready) c.requires.keeps.devices)) }
+
+pub returns-in-Dissociate : goal.returns-in-Dissociate
+returns-in-Dissociate g c = record { goes = rw c.in-Dissociate.is (stage_ends g.S.P.Piece.seen c.args.disks.now _ _ _ _ (c.dissociate.ensures.goes c.args.disks.now (shelved g.S.Shelf.free g.S.Shelf.held g.S.Shelf.counted g.S.Shelf.faults c.args.shelf.now) (rw c.in-Dissociate.is at c.requires.ready) c.requires.keeps.devices)) }

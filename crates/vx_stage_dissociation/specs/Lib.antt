@@ -1,0 +1,9 @@
+pub mod Ways
+pub mod Planned
+pub mod Taking
+pub mod Rested
+pub mod Yielding
+pub mod PartMoments
+pub mod Asking
+pub mod Going
+pub mod Ending
